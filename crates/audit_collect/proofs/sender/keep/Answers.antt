@@ -1,0 +1,8 @@
+use Rattle.std.proofs.Common.{rules}
+use Rattle.audit_collect.proofs.Lookups.{answer_at-waits, on_ok}
+use Rattle.audit_collect.proofs.sender.keep.Goals as goal
+
+pub returns-else-number-len-clause-ok : goal.returns-else-number-len-clause-ok
+returns-else-number-len-clause-ok c =
+    on_ok c.wait.result c.wait.ensures.ok
+    (answer_at-waits c.args.released.now.items c.args.waiting.now.entries c.wait.new.waiting.entries c.args.answer.request.number c.args.answer (search rules))

@@ -1,0 +1,41 @@
+-- What `expand` prints. cvtsudoers(1), aliases written out.
+use Rattle.std.specs.Prelude.{◌≡◌, ℕ, List, [], ◌∷◌, ◌++◌, Option, Some, flat_map, ⊤}
+use Rattle.std.specs.Io.KnownBytes.{Appends}
+use Rattle.sudo_tree.specs.declared.kind.Kind.{Kind}
+use Rattle.sudo_tree.specs.declared.kind.Member.{Member}
+use Rattle.sudo_tree.specs.declared.kind.Signed.{Signed}
+use Rattle.sudo_tree.specs.declared.policy.Policy.{Policy}
+use Rattle.sudo_parser.specs.Texts.{text_of}
+use Rattle.sudo_policy.specs.Checking.{Passes}
+use Rattle.sudo_policy.specs.Definitions.{in_force}
+use Rattle.sudo_policy.specs.Written.{Written}
+use Rattle.sudo_audit.specs.Loading.{IsLoaded}
+use Rattle.sudo_audit.specs.declared.expand.Printed.{Printed}
+use Rattle.sudo_audit.specs.declared.expand.Printed.TheVariants as printed
+
+-- the line of a member
+abbrev pub line_of : Signed → List ℕ
+line_of member = text_of member ++ 10 ∷ []
+
+-- These are the lines of an alias of a policy: its definition in force, written out.
+abbrev pub AreAliasLines : Policy → Kind → List ℕ → List ℕ → Type 0
+AreAliasLines policy kind name lines =
+    (members : List Member) × (atoms : List Signed) × (in_force kind policy name ≡ Some members)
+    × Written kind policy members atoms × (lines ≡ flat_map line_of atoms)
+
+-- The policy passes the check, and these are the lines of its alias.
+abbrev pub IsPrintedOf : Policy → Kind → List ℕ → Printed → Type 0
+IsPrintedOf policy kind name (printed.Members lines) = Passes policy × AreAliasLines policy kind name lines.items
+IsPrintedOf policy kind name (printed.Errors lines) = ⊤
+
+-- The lines of an alias of the policy that the file of a path, with all that it includes, unfolds to.
+abbrev pub AreLines : List ℕ → Kind → List ℕ → List ℕ → Type 0
+AreLines path kind name lines = (policy : Policy) × IsLoaded path policy × Passes policy × AreAliasLines policy kind name lines
+
+abbrev pub IsPrinted : List ℕ → Kind → List ℕ → Printed → Type 0
+IsPrinted path kind name (printed.Members lines) = AreLines path kind name lines.items
+IsPrinted path kind name (printed.Errors lines) = ⊤
+
+-- The writer got the lines of the alias and nothing else.
+abbrev pub Prints : List ℕ → Kind → List ℕ → Option (List ℕ) → Option (List ℕ) → Type 0
+Prints path kind name old new = (lines : List ℕ) × AreLines path kind name lines × Appends old new lines

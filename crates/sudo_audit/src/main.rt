@@ -1,0 +1,75 @@
+//! An auditor of sudoers policies.
+#![tactic(auto)]
+
+mod check;
+mod expand;
+mod fault;
+mod files;
+mod lines;
+mod loading;
+#[cfg(test)]
+mod tests;
+
+use audit_device::Device;
+pub use audit_words::{Asked, asked};
+pub use check::check_run;
+use clap::Error;
+use clap::error::ErrorKind;
+pub use expand::expand_run;
+use fault::{Fault, complain};
+use files::Disk;
+pub use files::{Files, FilesFault};
+use std::env;
+use std::process::ExitCode;
+
+/// Does what the words ask for, and gives the exit status.
+fn run(rt: &HostRuntime, asked: Asked<'_>) -> u8 {
+    let alloc = rt.alloc();
+    let mut out = Device::new(rt.stdout());
+    let mut err = Device::new(rt.stderr());
+    let mut disk = Disk::new(rt);
+    match asked {
+        Asked::Check { file } => check_run(alloc, file.as_bytes(), &mut disk, &mut out, &mut err),
+        Asked::Expand { file, kind, name } => expand_run(
+            alloc,
+            file.as_bytes(),
+            &mut disk,
+            kind,
+            name.as_bytes(),
+            &mut out,
+            &mut err,
+        ),
+    }
+}
+
+/// Prints the text of `clap`, and gives the exit status: help that was asked for goes to standard output, with status
+/// 0, and a mistake in the words to standard error, with status 2.
+fn refuse(rt: &HostRuntime, error: &Error) -> u8 {
+    if error.kind() == ErrorKind::OutOfMemory {
+        let mut err = Device::new(rt.stderr());
+        return complain(rt.alloc(), &Fault::Memory, &mut err);
+    }
+    let printed = error.print(rt);
+    if error.use_stderr() {
+        2
+    } else if printed.is_ok() {
+        0
+    } else {
+        4
+    }
+}
+
+fn main(rt: HostRuntime) -> ExitCode {
+    let alloc = rt.alloc();
+    let mut err = Device::new(rt.stderr());
+    let Ok(arguments) = env::args(&rt) else {
+        return ExitCode::from(complain(alloc, &Fault::Memory, &mut err));
+    };
+    let Ok(words) = arguments.collect::<Vec<String>>(alloc) else {
+        return ExitCode::from(complain(alloc, &Fault::Memory, &mut err));
+    };
+    match asked(alloc, words.as_slice()) {
+        Ok(asked) => ExitCode::from(run(&rt, asked)),
+        Err(error) => ExitCode::from(refuse(&rt, &error)),
+    }
+}

@@ -1,0 +1,9 @@
+pub mod Complete
+pub mod Unique
+pub mod Sound
+pub mod Limits
+pub mod Stops
+pub mod OneFault
+pub mod Vectors
+pub mod SyntaxWords
+pub mod Standing

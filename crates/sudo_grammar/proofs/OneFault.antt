@@ -1,0 +1,101 @@
+-- A line has one fault or is one entry; and a place means the forms that are left there.
+use Rattle.std.proofs.Common.{cond, inl, inr, ◌⊎◌, ◌≡◌, List, [], ◌∷◌, ◌++◌, length, refl, ap, sym, ◌∙◌, append-nil, le-ltb, ltb, Option, None, Some, Result, Ok, Err, false}
+use Rattle.sudo_text.specs.declared.token.Token.{Token}
+use Rattle.sudo_tree.specs.declared.policy.EntryBody.{EntryBody}
+use Rattle.sudo_grammar.specs.Forms.{Writes}
+use Rattle.sudo_grammar.specs.Places.{Place, Start, AliasName, AfterName, Room, at_alias_name, step, ended, place_after}
+use Rattle.sudo_grammar.specs.Reading.{entry_or_stop, reading, stop_at, Stop}
+use Rattle.sudo_grammar.specs.Remaining.{GoesOn}
+use Rattle.sudo_grammar.specs.Faults.{Begins, IsOneTooMany, IsStuck, IsGrammarFault, WritesWithin}
+use Rattle.sudo_grammar.proofs.Complete.{entry-read}
+use Rattle.sudo_grammar.proofs.Limits.{reading-stops, room-kept}
+use Rattle.sudo_grammar.proofs.Sound.{sound, some-injective}
+use Rattle.sudo_grammar.proofs.Stops.{begins, reading-front, form-front, with_room, goes_on-back, leftmost, IsHalted, err-injective}
+
+-- one token more
+pub place_after-step : (room : Room) (place q next : Place) (front : List Token) (t : Token)
+    → place_after room place front ≡ Some q → step room q t ≡ Some next → place_after room place (front ++ t ∷ []) ≡ Some next
+place_after-step room place q next [] t reached is = rw (some-injective reached, is, place_after) refl
+place_after-step room place q next (u ∷ us) t reached is =
+    go (step room place u) refl reached (λ later. place_after-step room later q next us t)
+  where
+    go : (r : Option Place) → step room place u ≡ r
+        → elim r as (λ _. Option Place) [ Some later ↦ place_after room later us | None ↦ None ] ≡ Some q
+        → ((later : Place) → place_after room later us ≡ Some q → step room q t ≡ Some next
+        → place_after room later (us ++ t ∷ []) ≡ Some next)
+        → place_after room place (u ∷ us ++ t ∷ []) ≡ Some next
+    go (Some later) taken h hyp = rw (taken, place_after) (hyp later h is)
+    go None taken h hyp = cc
+
+-- a name one too many is not taken
+full-stops : (room : Room) (place : Place) (front : List Token) (t : Token) → place_after room Start front ≡ Some place
+    → IsOneTooMany room front t → step room place t ≡ None
+full-stops room place front t reached (k, (d, (w, (named, is, full)))) =
+    let here : place ≡ AliasName k d = some-injective (sym reached ∙ named) in
+    let over : ltb (length d) (room k) ≡ false = le-ltb (length d) (room k) full in
+    ap (λ p. step room p t) here ∙ ap (at_alias_name room k d) is ∙ ap (λ b. cond b (Some (AfterName k d w)) None) over
+
+-- where a line is stuck, no step leads on
+stuck-halted : (room : Room) (place : Place) (front rest : List Token) → place_after room Start front ≡ Some place
+    → IsStuck room front rest → IsHalted room place rest
+stuck-halted room place front [] reached stuck = go (ended place) refl
+  where
+    go : (r : Option EntryBody) → ended place ≡ r → ended place ≡ None
+    go None is = is
+    go (Some e) is =
+        let read : reading room Start (front ++ []) ≡ Ok e =
+        reading-front room Start place front [] reached ∙ ap (entry_or_stop place) is in
+        absurd (stuck e (sound room Start front e (ap (reading room Start) (sym (append-nil front)) ∙ read)))
+stuck-halted room place front (t ∷ ts) reached stuck = go (step room place t) refl stuck
+  where
+    go : (r : Option Place) → step room place t ≡ r → (Begins (front ++ t ∷ []) → ⊥) ⊎ IsOneTooMany room front t
+        → step room place t ≡ None
+    go None is h = is
+    go (Some next) is (inl dead) = absurd (dead (begins room (front ++ t ∷ []) next (place_after-step room Start place next front t reached is)))
+    go (Some next) is (inr full) = full-stops room place front t reached full
+
+halted-stops : (room : Room) (place : Place) (rest : List Token) → IsHalted room place rest
+    → reading room place rest ≡ Err (stop_at place rest)
+halted-stops room place [] h = ap (entry_or_stop place) h
+halted-stops room place (t ∷ ts) h = reading-stops room place t ts h
+
+-- the reading stops at a line's fault
+pub fault-read : (room : Room) (ts : List Token) (stop : Stop) → IsGrammarFault room ts stop → reading room Start ts ≡ Err stop
+fault-read room ts stop f =
+    let halted : IsHalted room f.place stop.rest = stuck-halted room f.place f.front stop.rest f.reached f.stuck in
+    let same : ◌≡◌ {A = Stop} (stop_at f.place stop.rest) stop = ap (λ r. record { rest = stop.rest; refusal = r }) (sym f.refusal) in
+    ap (reading room Start) f.whole ∙ reading-front room Start f.place f.front stop.rest f.reached
+    ∙ halted-stops room f.place stop.rest halted ∙ ap Err same
+
+pub one-fault : (room : Room) (ts : List Token) (x y : Stop) → IsGrammarFault room ts x → IsGrammarFault room ts y → x ≡ y
+one-fault room ts x y f g = err-injective (sym (fault-read room ts x f) ∙ fault-read room ts y g)
+
+-- a faulty line is no entry within the limits
+pub faulty-unwritten : (room : Room) (ts : List Token) (stop : Stop) (e : EntryBody) → IsGrammarFault room ts stop
+    → WritesWithin room e ts → ⊥
+faulty-unwritten room ts stop e f w =
+    let same : ◌≡◌ {A = Result EntryBody Stop} (Ok e) (Err stop) = sym (entry-read room e ts w.0 w.1) ∙ fault-read room ts stop f in
+    cc
+
+-- what is read is written within the limits
+pub read-within : (room : Room) (ts : List Token) (e : EntryBody) → reading room Start ts ≡ Ok e → WritesWithin room e ts
+read-within room ts e h = (sound room Start ts e h, room-kept room e e ts (sound room Start ts e h) h)
+
+-- a line without a fault is an entry within the limits
+pub faulty-or-written : (room : Room) (ts : List Token)
+    → ((e : EntryBody) × WritesWithin room e ts) ⊎ ((stop : Stop) × IsGrammarFault room ts stop)
+faulty-or-written room ts = go (reading room Start ts) refl
+  where
+    go : (r : Result EntryBody Stop) → reading room Start ts ≡ r
+        → ((e : EntryBody) × WritesWithin room e ts) ⊎ ((stop : Stop) × IsGrammarFault room ts stop)
+    go (Ok e) is = inl (e, read-within room ts e is)
+    go (Err stop) is = inr (stop, leftmost room ts stop is)
+
+-- the forms that are left at a place are those of the entries that begin so
+pub place-left : (room : Room) (front : List Token) (place : Place) (e : EntryBody) (ts : List Token)
+    → place_after room Start front ≡ Some place → Writes e (front ++ ts) → GoesOn place e ts
+place-left room front place e ts reached w = sound (with_room room e) place ts e (form-front room place front ts e reached w)
+
+pub place-whole : (room : Room) (front : List Token) (place : Place) (e : EntryBody) (ts : List Token)
+    → place_after room Start front ≡ Some place → GoesOn place e ts → Writes e (front ++ ts)
+place-whole room front place e ts reached g = goes_on-back room Start place front ts e reached g

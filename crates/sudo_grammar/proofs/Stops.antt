@@ -1,0 +1,310 @@
+-- Where a line is no entry, the reading stops at its grammar fault. From each place a line can go on, so that the tokens
+-- up to it begin a form; and no form begins with a further token that no step takes, since reading stops there whatever
+-- follows.
+use Rattle.std.specs.Prelude.{codes, map}
+use Rattle.std.proofs.Common.{cond, inl, inr, ◌⊎◌, ◌≡◌, ℕ, suc, ◌+◌, ◌≤◌, ◌<◌, List, [], ◌∷◌, ◌++◌, length, refl, ap, sym, ◌∙◌, subst, append_assoc, append-nil, arith, ltb, ltb-true, lt-ltb, ltb-false, Option, None, Some, Result, Ok, Err, true, false, Bool}
+use Rattle.sudo_text.specs.declared.token.Mark.{Mark}
+use Rattle.sudo_text.specs.declared.token.Mark.TheVariants as marks
+use Rattle.sudo_text.specs.declared.token.Token.{Token}
+use Rattle.sudo_text.specs.declared.token.TokenKind.TheVariants as tokens
+use Rattle.sudo_tree.specs.declared.kind.Kind.{Kind}
+use Rattle.sudo_tree.specs.declared.kind.Member.{Member}
+use Rattle.sudo_tree.specs.declared.policy.Definition.{Definition}
+use Rattle.sudo_tree.specs.declared.policy.EntryBody.{EntryBody}
+use Rattle.sudo_tree.specs.declared.policy.EntryBody.TheVariants as entries
+use Rattle.sudo_grammar.specs.Words.{name_of}
+use Rattle.sudo_grammar.specs.Forms.{Writes}
+use Rattle.sudo_grammar.specs.Places.{Purpose, Defines, Users, Hosts, RunasUsers, RunasGroups, Binds, Place, Start, AliasName, AfterName, Item, AfterItem, Command, AfterCommand, RunasStart, GroupsStart, DefaultsStart, AtParameter, AfterSwitch, AtValue, AfterValue, Included, Room, at_alias_name, step, ended, place_after}
+use Rattle.sudo_grammar.specs.Refusals.{refused_at}
+use Rattle.sudo_grammar.specs.Reading.{entry_or_stop, reading, stop_at, Stop}
+use Rattle.sudo_grammar.specs.Remaining.{GoesOn}
+use Rattle.sudo_grammar.specs.Faults.{HasRoom, Begins, IsStuck, IsGrammarFault}
+use Rattle.sudo_grammar.proofs.Complete.{entry-read, reading-step}
+use Rattle.sudo_grammar.proofs.Unique.{count}
+use Rattle.sudo_grammar.proofs.Limits.{reading-stops}
+use Rattle.sudo_grammar.proofs.Sound.{backward, sound, some-injective}
+
+-- `ALL`
+abbrev all : Token
+all = record { kind = tokens.Word false (map (λ b. record { byte = b; escaped = false }) (codes "ALL")); start = 0; end = 3 }
+
+-- `A`
+abbrev a : Token
+a = record { kind = tokens.Word false (record { byte = 65; escaped = false } ∷ []); start = 0; end = 1 }
+
+abbrev the_mark : Mark → Token
+the_mark m = record { kind = tokens.Mark m; start = 0; end = 1 }
+
+-- tokens by which a line can go on to its end, after a list and from a place
+abbrev finish_list : Purpose → List Token
+finish_list (Defines k d w) = []
+finish_list Users = all ∷ the_mark marks.Equals ∷ all ∷ []
+finish_list (Hosts us ss) = the_mark marks.Equals ∷ all ∷ []
+finish_list (RunasUsers g) = the_mark marks.RightParen ∷ all ∷ []
+finish_list (RunasGroups g us) = the_mark marks.RightParen ∷ all ∷ []
+finish_list (Binds k) = all ∷ []
+
+abbrev finish : Place → List Token
+finish Start = all ∷ all ∷ the_mark marks.Equals ∷ all ∷ []
+finish (AliasName k d) = a ∷ the_mark marks.Equals ∷ all ∷ []
+finish (AfterName k d w) = the_mark marks.Equals ∷ all ∷ []
+finish (Item p n d) = all ∷ finish_list p
+finish (AfterItem p d) = finish_list p
+finish (Command g r d n) = all ∷ []
+finish (AfterCommand g s) = []
+finish (RunasStart g) = the_mark marks.RightParen ∷ all ∷ []
+finish (GroupsStart g us) = the_mark marks.RightParen ∷ all ∷ []
+finish DefaultsStart = all ∷ []
+finish (AtParameter b d n) = all ∷ []
+finish (AfterSwitch b d n name) = []
+finish (AtValue b d name operator) = all ∷ []
+finish (AfterValue b d) = []
+finish (Included folder hash path) = []
+
+-- some entry goes on so
+abbrev IsLive : Place → List Token → Type 0
+IsLive place ts = (room : Room) × ((e : EntryBody) × (reading room place ts ≡ Ok e))
+
+abbrev none : Room
+none k = 0
+
+live-list : (p : Purpose) (n : ℕ) (d : List Member) → IsLive (Item p n d) (all ∷ finish_list p)
+live-list (Defines k done w) n d = (none, (_, refl))
+live-list Users n d = (none, (_, refl))
+live-list (Hosts us ss) n d = (none, (_, refl))
+live-list (RunasUsers g) n d = (none, (_, refl))
+live-list (RunasGroups g us) n d = (none, (_, refl))
+live-list (Binds k) n d = (none, (_, refl))
+
+live-after : (p : Purpose) (d : List Member) → IsLive (AfterItem p d) (finish_list p)
+live-after (Defines k done w) d = (none, (_, refl))
+live-after Users d = (none, (_, refl))
+live-after (Hosts us ss) d = (none, (_, refl))
+live-after (RunasUsers g) d = (none, (_, refl))
+live-after (RunasGroups g us) d = (none, (_, refl))
+live-after (Binds k) d = (none, (_, refl))
+
+-- from each place a line can go on
+live : (place : Place) → IsLive place (finish place)
+live Start = (none, (_, refl))
+live (AliasName k d) =
+    let wide : Room = λ k. suc (length d) in
+    let taken : step wide (AliasName k d) a ≡ Some (AfterName k d (65 ∷ [])) =
+    rw (lt-ltb (length d) (suc (length d)) (omega arith)) refl in
+    (wide, (_, reading-step wide (AliasName k d) (AfterName k d (65 ∷ [])) a (the_mark marks.Equals ∷ all ∷ []) taken))
+live (AfterName k d w) = (none, (_, refl))
+live (Item p n d) = live-list p n d
+live (AfterItem p d) = live-after p d
+live (Command g r d n) = (none, (_, refl))
+live (AfterCommand g s) = (none, (_, refl))
+live (RunasStart g) = (none, (_, refl))
+live (GroupsStart g us) = (none, (_, refl))
+live DefaultsStart = (none, (_, refl))
+live (AtParameter b d n) = (none, (_, refl))
+live (AfterSwitch b d n name) = (none, (_, refl))
+live (AtValue b d name operator) = (none, (_, refl))
+live (AfterValue b d) = (none, (_, refl))
+live (Included folder hash path) = (none, (_, refl))
+
+-- what goes on from a place that was reached goes on from the place before
+pub goes_on-back : (room : Room) (place q : Place) (front more : List Token) (e : EntryBody)
+    → place_after room place front ≡ Some q → GoesOn q e more → GoesOn place e (front ++ more)
+goes_on-back room place q [] more e h g = subst (λ x. GoesOn x e more) (sym (some-injective h)) g
+goes_on-back room place q (t ∷ ts) more e h g = go (step room place t) refl h (λ next h. goes_on-back room next q ts more e h g)
+  where
+    go : (r : Option Place) → step room place t ≡ r
+        → elim r as (λ _. Option Place) [ Some next ↦ place_after room next ts | None ↦ None ] ≡ Some q
+        → ((next : Place) → place_after room next ts ≡ Some q → GoesOn next e (ts ++ more))
+        → GoesOn place e (t ∷ ts ++ more)
+    go (Some next) is h hyp = backward room place next t (ts ++ more) e is (hyp next h)
+    go None is h hyp = cc
+
+-- a form begins with the tokens that lead to a place
+pub begins : (room : Room) (front : List Token) (q : Place) → place_after room Start front ≡ Some q → Begins front
+begins room front q h = go (live q)
+  where
+    go : IsLive q (finish q) → Begins front
+    go (wide, (e, read)) = (e, finish q, goes_on-back room Start q front (finish q) e h (sound wide q (finish q) e read))
+
+-- the reading of a front and more is that of what is left, from the place after the front
+pub reading-front : (room : Room) (place q : Place) (front more : List Token) → place_after room place front ≡ Some q
+    → reading room place (front ++ more) ≡ reading room q more
+reading-front room place q [] more h = rw (some-injective h) refl
+reading-front room place q (t ∷ ts) more h = go (step room place t) refl h (λ next. reading-front room next q ts more)
+  where
+    go : (r : Option Place) → step room place t ≡ r
+        → elim r as (λ _. Option Place) [ Some next ↦ place_after room next ts | None ↦ None ] ≡ Some q
+        → ((next : Place) → place_after room next ts ≡ Some q → reading room next (ts ++ more) ≡ reading room q more)
+        → reading room place (t ∷ ts ++ more) ≡ reading room q more
+    go (Some next) is h hyp = reading-step room place next t (ts ++ more) is ∙ hyp next h
+    go None is h hyp = cc
+
+-- one room has all that another has
+abbrev pub Covers : Room → Room → Type 0
+Covers room wide = (k : Kind) → room k ≤ wide k
+
+name-wide : (room wide : Room) → Covers room wide → (k : Kind) (d : List Definition) (w : Option (List ℕ)) (next : Place)
+    → at_alias_name room k d w ≡ Some next → at_alias_name wide k d w ≡ Some next
+name-wide room wide covers k d None next h = cc
+name-wide room wide covers k d (Some w) next h = go (ltb (length d) (room k)) refl h
+  where
+    go : (b : Bool) → ltb (length d) (room k) ≡ b → cond b (Some (AfterName k d w)) None ≡ Some next
+        → at_alias_name wide k d (Some w) ≡ Some next
+    go false is h = cc
+    go true is h =
+        let fits : length d < room k = ltb-true (length d) (room k) is in
+        let wider : room k ≤ wide k = covers k in
+        let still : length d < wide k = omega arith in
+        rw (lt-ltb (length d) (wide k) still) h
+
+step-wide : (room wide : Room) → Covers room wide → (place next : Place) (t : Token)
+    → step room place t ≡ Some next → step wide place t ≡ Some next
+step-wide room wide covers (AliasName k d) next t h = name-wide room wide covers k d (name_of t.kind) next h
+step-wide room wide covers _ next t h = h
+
+pub place_after-wide : (room wide : Room) → Covers room wide → (place q : Place) (ts : List Token)
+    → place_after room place ts ≡ Some q → place_after wide place ts ≡ Some q
+place_after-wide room wide covers place q [] h = h
+place_after-wide room wide covers place q (t ∷ ts) h =
+    go (step room place t) refl h (λ next. place_after-wide room wide covers next q ts)
+  where
+    go : (r : Option Place) → step room place t ≡ r
+        → elim r as (λ _. Option Place) [ Some next ↦ place_after room next ts | None ↦ None ] ≡ Some q
+        → ((next : Place) → place_after room next ts ≡ Some q → place_after wide next ts ≡ Some q)
+        → place_after wide place (t ∷ ts) ≡ Some q
+    go (Some next) is h hyp = rw (step-wide room wide covers place next t is, place_after) (hyp next h)
+    go None is h hyp = cc
+
+-- no room makes the step
+abbrev NoStep : Room → Place → Token → Type 0
+NoStep room place t = (wide : Room) → Covers room wide → step wide place t ≡ None
+
+name-none : (room : Room) (k : Kind) (d : List Definition) (w : Option (List ℕ))
+    → at_alias_name room k d w ≡ None
+    → ((wide : Room) → Covers room wide → at_alias_name wide k d w ≡ None)
+    ⊎ ((v : List ℕ) × ((w ≡ Some v) × (room k ≤ length d)))
+name-none room k d None h = inl (λ wide covers. refl)
+name-none room k d (Some w) h = go (ltb (length d) (room k)) refl h
+  where
+    go : (b : Bool) → ltb (length d) (room k) ≡ b → cond b (Some (AfterName k d w)) None ≡ None
+        → ((wide : Room) → Covers room wide → at_alias_name wide k d (Some w) ≡ None)
+        ⊎ ((v : List ℕ) × ((Some w ≡ Some v) × (room k ≤ length d)))
+    go true is h = cc
+    go false is h = inr (w, (refl, ltb-false (length d) (room k) is))
+
+-- room enough for the entry as well
+abbrev pub with_room : Room → EntryBody → Room
+with_room room e k = room k + count e
+
+has_room : (room : Room) (e : EntryBody) → HasRoom (with_room room e) e
+has_room room (entries.Aliases k ds) = omega arith
+has_room room _ = tt
+
+-- a form that begins with tokens that lead to a place is read on from there
+pub form-front : (room : Room) (place : Place) (front more : List Token) (e : EntryBody)
+    → place_after room Start front ≡ Some place → Writes e (front ++ more) → reading (with_room room e) place more ≡ Ok e
+form-front room place front more e reached w =
+    let wide : Room = with_room room e in
+    let covers : Covers room wide = λ k. omega arith in
+    sym (reading-front wide Start place front more (place_after-wide room wide covers Start place front reached))
+    ∙ entry-read wide e (front ++ more) w (has_room room e)
+
+-- no form begins with a front and a token that no step takes
+dead : (room : Room) (place : Place) (t : Token) (front : List Token) → place_after room Start front ≡ Some place
+    → NoStep room place t → Begins (front ++ t ∷ []) → ⊥
+dead room place t front reached none (e, rest, w) =
+    let covers : Covers room (with_room room e) = λ k. omega arith in
+    let whole : (front ++ t ∷ []) ++ rest ≡ front ++ t ∷ rest = rw append_assoc refl in
+    let read : reading (with_room room e) place (t ∷ rest) ≡ Ok e =
+    form-front room place front (t ∷ rest) e reached (subst (λ x. Writes e x) whole w) in
+    let same : ◌≡◌ {A = Result EntryBody Stop} (Ok e) (Err (stop_at place (t ∷ rest))) =
+    sym read ∙ reading-stops (with_room room e) place t rest (none (with_room room e) covers) in
+    cc
+
+-- nor is a front a form where the line can't end
+dead-end : (room : Room) (place : Place) (front : List Token) → place_after room Start front ≡ Some place
+    → ended place ≡ None → (e : EntryBody) → Writes e front → ⊥
+dead-end room place front reached none e w =
+    let read : reading (with_room room e) place [] ≡ Ok e =
+    form-front room place front [] e reached (subst (λ x. Writes e x) (sym (append-nil front)) w) in
+    let stops : reading (with_room room e) place [] ≡ Err (stop_at place []) = ap (entry_or_stop place) none in
+    let same : ◌≡◌ {A = Result EntryBody Stop} (Ok e) (Err (stop_at place [])) = sym read ∙ stops in
+    cc
+
+stuck : (room : Room) (place : Place) (t : Token) (front ts : List Token) → place_after room Start front ≡ Some place
+    → step room place t ≡ None → IsStuck room front (t ∷ ts)
+stuck room (AliasName k d) t front ts reached none = go (name-none room k d (name_of t.kind) none)
+  where
+    go : ((wide : Room) → Covers room wide → at_alias_name wide k d (name_of t.kind) ≡ None)
+        ⊎ ((v : List ℕ) × ((name_of t.kind ≡ Some v) × (room k ≤ length d)))
+        → IsStuck room front (t ∷ ts)
+    go (inl all) = inl (dead room (AliasName k d) t front reached all)
+    go (inr (v, (is, full))) = inr (k, (d, (v, (reached, is, full))))
+stuck room place t front ts reached none = inl (dead room place t front reached (λ wide covers. none))
+
+-- no step leads on, or the line can't end
+abbrev pub IsHalted : Room → Place → List Token → Type 0
+IsHalted room place [] = ended place ≡ None
+IsHalted room place (t ∷ ts) = step room place t ≡ None
+
+-- Reading stops at a place that the tokens before lead to, and from which no step leads on.
+record Halts (room : Room) (place : Place) (ts : List Token) (stop : Stop) : Type 0 where
+  front : List Token
+  whole : ts ≡ front ++ stop.rest
+  last : Place
+  reached : place_after room place front ≡ Some last
+  refusal : stop.refusal ≡ refused_at last stop.rest
+  halted : IsHalted room last stop.rest
+
+pub err-injective : {A B : Type 0} {x y : B} → ◌≡◌ {A = Result A B} (Err x) (Err y) → x ≡ y
+err-injective h = cc
+
+-- a halt one token on
+halts-back : (room : Room) (place next : Place) (t : Token) (ts : List Token) (stop : Stop)
+    → step room place t ≡ Some next → Halts room next ts stop → Halts room place (t ∷ ts) stop
+halts-back room place next t ts stop is h = record {
+  front = t ∷ h.front;
+  whole = ap (λ x. t ∷ x) h.whole;
+  last = h.last;
+  reached = rw (is, place_after) h.reached;
+  refusal = h.refusal;
+  halted = h.halted;
+}
+
+halts : (room : Room) (place : Place) (ts : List Token) (stop : Stop) → reading room place ts ≡ Err stop
+    → Halts room place ts stop
+halts room place [] stop h = go (ended place) refl h
+  where
+    go : (r : Option EntryBody) → ended place ≡ r → entry_or_stop place r ≡ Err stop → Halts room place [] stop
+    go (Some x) is h = cc
+    go None is h = subst (λ x. Halts room place [] x) (err-injective h)
+        (record { front = []; whole = refl; last = place; reached = refl; refusal = refl; halted = is })
+halts room place (t ∷ ts) stop h = go (step room place t) refl h (λ next. halts room next ts stop)
+  where
+    go : (r : Option Place) → step room place t ≡ r
+        → elim r as (λ _. Result EntryBody Stop) [ Some next ↦ reading room next ts | None ↦ Err (stop_at place (t ∷ ts)) ] ≡ Err stop
+        → ((next : Place) → reading room next ts ≡ Err stop → Halts room next ts stop)
+        → Halts room place (t ∷ ts) stop
+    go (Some next) is h hyp = halts-back room place next t ts stop is (hyp next h)
+    go None is h hyp = subst (λ x. Halts room place (t ∷ ts) x) (err-injective h)
+        (record { front = []; whole = refl; last = place; reached = refl; refusal = refl; halted = is })
+
+halted-stuck : (room : Room) (front rest : List Token) (place : Place) → place_after room Start front ≡ Some place
+    → IsHalted room place rest → IsStuck room front rest
+halted-stuck room front [] place reached none = dead-end room place front reached none
+halted-stuck room front (t ∷ ts) place reached none = stuck room place t front ts reached none
+
+pub leftmost : (room : Room) (ts : List Token) (stop : Stop) → reading room Start ts ≡ Err stop
+    → IsGrammarFault room ts stop
+leftmost room ts stop h = go (halts room Start ts stop h)
+  where
+    go : Halts room Start ts stop → IsGrammarFault room ts stop
+    go x = record {
+      front = x.front;
+      whole = x.whole;
+      begins = begins room x.front x.last x.reached;
+      stuck = halted-stuck room x.front stop.rest x.last x.reached x.halted;
+      place = x.last;
+      reached = x.reached;
+      refusal = x.refusal;
+    }

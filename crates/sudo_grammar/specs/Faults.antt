@@ -1,0 +1,48 @@
+-- The grammar fault of a line: where it stands is said by prefixes of forms alone, and what was expected there by
+-- `Refusals`.
+use Rattle.std.specs.Prelude.{◌≡◌, ℕ, ◌≤◌, List, [], ◌∷◌, ◌++◌, length, Some, ◌⊎◌}
+use Rattle.sudo_text.specs.declared.token.Token.{Token}
+use Rattle.sudo_tree.specs.declared.kind.Kind.{Kind}
+use Rattle.sudo_tree.specs.declared.policy.Definition.{Definition}
+use Rattle.sudo_tree.specs.declared.policy.EntryBody.{EntryBody}
+use Rattle.sudo_tree.specs.declared.policy.EntryBody.TheVariants as entries
+use Rattle.sudo_grammar.specs.Words.{name_of}
+use Rattle.sudo_grammar.specs.Forms.{Writes}
+use Rattle.sudo_grammar.specs.Places.{Room, Place, Start, AliasName, place_after}
+use Rattle.sudo_grammar.specs.Refusals.{refused_at}
+use Rattle.sudo_grammar.specs.Reading.{Stop}
+
+-- A form of some entry begins so.
+abbrev pub Begins : List Token → Type 0
+Begins front = (e : EntryBody) × (rest : List Token) × Writes e (front ++ rest)
+
+-- within the limits of definitions
+abbrev pub HasRoom : Room → EntryBody → Type 0
+HasRoom room (entries.Aliases kind ds) = length ds ≤ room kind
+HasRoom room _ = Unit {0}
+
+-- the entry that the tokens write, within the limits
+abbrev pub WritesWithin : Room → EntryBody → List Token → Type 0
+WritesWithin room e ts = Writes e ts × HasRoom room e
+
+-- the name after these tokens would be that of a definition over the limit
+abbrev pub IsOneTooMany : Room → List Token → Token → Type 0
+IsOneTooMany room front t = (kind : Kind) × ((done : List Definition) × ((w : List ℕ) ×
+    ((place_after room Start front ≡ Some (AliasName kind done)) × (name_of t.kind ≡ Some w) × (room kind ≤ length done))))
+
+-- The line can't go on after the front with the next token, or end there.
+abbrev pub IsStuck : Room → List Token → List Token → Type 0
+IsStuck room front [] = (e : EntryBody) → Writes e front → ⊥
+IsStuck room front (t ∷ ts) = (Begins (front ++ t ∷ []) → ⊥) ⊎ IsOneTooMany room front t
+
+-- The line's fault: it stands at the first of the tokens up to which no form begins so, or which is the name of a
+-- definition over the limit, or at the end of the line; and the place decides what is refused there. (An option such as
+-- `CWD=` stands at its `=`; it is refused without a column.)
+pub record IsGrammarFault (room : Room) (ts : List Token) (stop : Stop) : Type 0 where
+  pub front : List Token
+  pub whole : ts ≡ front ++ stop.rest
+  pub begins : Begins front
+  pub stuck : IsStuck room front stop.rest
+  pub place : Place
+  pub reached : place_after room Start front ≡ Some place
+  pub refusal : stop.refusal ≡ refused_at place stop.rest

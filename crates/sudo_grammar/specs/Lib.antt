@@ -1,0 +1,10 @@
+pub mod Words
+pub mod Members
+pub mod Openings
+pub mod Forms
+pub mod Places
+pub mod Refusals
+pub mod Reading
+pub mod Remaining
+pub mod Faults
+pub mod Standing

@@ -1,0 +1,35 @@
+-- What each `expected` of a syntax error promises: whatever is of that sort could have stood there, after the tokens up to
+-- the fault; and the line could have ended where its end was expected. It is said by prefixes of forms alone.
+use Rattle.std.specs.Prelude.{◌≡◌, ℕ, List, [], ◌∷◌, ◌++◌, Some, Ok, Bool, true, false}
+use Rattle.sudo_text.specs.declared.token.Ch.{Ch}
+use Rattle.sudo_text.specs.declared.token.Mark.TheVariants as marks
+use Rattle.sudo_text.specs.declared.token.Token.{Token}
+use Rattle.sudo_text.specs.declared.token.TokenKind.TheVariants as tokens
+use Rattle.sudo_tree.specs.declared.kind.Kind.{Kind}
+use Rattle.sudo_tree.specs.declared.kind.Kind.TheVariants as kinds
+use Rattle.sudo_tree.specs.declared.kind.Atom.{Atom}
+use Rattle.sudo_tree.specs.declared.policy.EntryBody.{EntryBody}
+use Rattle.sudo_tree.specs.declared.fault.Expected.{Expected}
+use Rattle.sudo_tree.specs.declared.fault.Expected.TheVariants as wants
+use Rattle.sudo_grammar.specs.Words.{name_of}
+use Rattle.sudo_grammar.specs.Members.{atom_of}
+use Rattle.sudo_grammar.specs.Openings.{opening_of, is_direct, is_word, Directive}
+use Rattle.sudo_grammar.specs.Forms.{Writes}
+use Rattle.sudo_grammar.specs.Faults.{Begins}
+
+-- each member of lists of the kind
+abbrev pub MembersStand : Kind → List Token → Type 0
+MembersStand kind front = (t : Token) (a : Atom) → atom_of kind t.kind ≡ Ok a → Begins (front ++ t ∷ [])
+
+abbrev pub CanStand : Expected → List Token → Type 0
+CanStand wants.AliasName front = (t : Token) (w : List ℕ) → name_of t.kind ≡ Some w → Begins (front ++ t ∷ [])
+CanStand wants.Equals front = (t : Token) → t.kind ≡ tokens.Mark marks.Equals → Begins (front ++ t ∷ [])
+CanStand wants.Member front = (kind : Kind) × ((kind ≡ kinds.Cmnd → ⊥) × MembersStand kind front)
+CanStand wants.Command front = MembersStand kinds.Cmnd front
+CanStand wants.RightParen front = (t : Token) → t.kind ≡ tokens.Mark marks.RightParen → Begins (front ++ t ∷ [])
+CanStand wants.Parameter front =
+    (t : Token) → is_word t.kind ≡ true → is_direct t ≡ false → Begins (front ++ t ∷ [])
+CanStand wants.Value front = (t : Token) → is_word t.kind ≡ true → Begins (front ++ t ∷ [])
+CanStand wants.Path front = (t : Token) (folder hash : Bool) (path : List Ch)
+    → opening_of t.kind ≡ Directive folder hash path → Begins (front ++ t ∷ [])
+CanStand wants.EndOfLine front = (e : EntryBody) × Writes e front

@@ -1,0 +1,232 @@
+-- What is loaded stands in the files that were read, and has no include line; and so does a fault.
+use Rattle.std.proofs.Common.{◌≡◌, ℕ, zero, suc, ◌+◌, ◌<◌, ◌≤◌, Bool, true, false, List, [], ◌∷◌, ◌++◌, length, Option, None, Some, Result, Ok, Err, refl, sym, ◌∙◌, ap, subst, arith, length-append}
+use Rattle.std.specs.Prelude.{⊤, IsTrue, not, nat_lt, map, ◌&&◌, ◌⊎◌, if◌then◌else◌}
+use Rattle.std.specs.List.{list_all}
+use Rattle.std.proofs.lemmas.Bool.Decides.{nat_tests}
+use Rattle.sudo_text.specs.declared.line.Line.{Line}
+use Rattle.sudo_text.specs.declared.line.Place.{Place}
+use Rattle.sudo_text.specs.declared.fault.TextFault.{TextFault}
+use Rattle.sudo_text.specs.declared.fault.TextFault.TheVariants as texts
+use Rattle.sudo_text.specs.Lines.{runs, is_cut_short, line_of, with_front, numbered, lines_of, physical_lines}
+use Rattle.sudo_tree.specs.declared.policy.Entry.{Entry}
+use Rattle.sudo_tree.specs.declared.policy.EntryBody.{EntryBody}
+use Rattle.sudo_tree.specs.declared.policy.EntryBody.TheVariants as bodies
+use Rattle.sudo_tree.specs.declared.fault.ParseFault.{ParseFault}
+use Rattle.sudo_tree.specs.Includes.{is_include}
+use Rattle.sudo_parser.specs.Parsed.{AreEntriesAfter, AreEntries, entry_of, Says}
+use Rattle.sudo_load.specs.declared.fault.LoadFault.{LoadFault}
+use Rattle.sudo_load.specs.declared.loading.Loaded.{Loaded}
+use Rattle.sudo_load.specs.declared.supply.Supply.{Supply}
+use Rattle.sudo_load.specs.Files.{Reads}
+use Rattle.sudo_load.specs.Load.{IsLoad}
+use Rattle.sudo_load.specs.Fine.{placed_in, followed_all, Fine}
+use Rattle.sudo_load.specs.Supplies.{supplied_file, supplied_folder}
+use Rattle.sudo_load.specs.Paths.{in_folder}
+use Rattle.sudo_load.specs.Unfolding.{Refusal, Outcome, Inclusion, with_file, with_folder, with_entry, Then, IfElse, FilesLoad, NamesLoad, FolderLoads, IncludeLoads, EntryLoadsBy, EntryLoads, EntriesLoad, LinesLoad, TextLoads, SuppliedLoads, FileLoads, followed, Unfolds, nothing}
+
+-- Each of the lines stands in the file.
+abbrev pub InFile : ℕ → List Line → Type 0
+InFile file [] = ⊤
+InFile file (line ∷ lines) = (line.first.file ≡ file) × InFile file lines
+
+InResult : ℕ → Result (List Line) TextFault → Type 0
+InResult file (Ok lines) = InFile file lines
+InResult file (Err fault) = ⊤
+
+in_front : (file : ℕ) (line : Line) (r : Result (List Line) TextFault) → line.first.file ≡ file → InResult file r → InResult file (with_front (line ∷ []) r)
+unfolding InResult
+in_front file line (Ok lines) at rest = (at, rest)
+in_front file line (Err fault) at rest = tt
+
+numbered_in : (file : ℕ) (short : Bool) (number : ℕ) (rs : List (List (List ℕ))) → InResult file (numbered file short number rs)
+unfolding InResult
+numbered_in file short number [] = tt
+numbered_in file true number (run ∷ []) = tt
+numbered_in file false number (run ∷ []) = (refl, tt)
+numbered_in file short number (run ∷ next ∷ rest) =
+    in_front file (line_of file number run) (numbered file short (number + length run) (next ∷ rest)) refl (numbered_in file short (number + length run) (next ∷ rest))
+
+lines_are_in : (file : ℕ) (text : List ℕ) → InResult file (lines_of file text)
+unfolding InResult
+lines_are_in file text =
+    elim (nat_lt 16777216 (length text)) as (λ b. InResult file (if b then Err (texts.TooLong file) else numbered file (is_cut_short false (physical_lines text)) 1 (runs false (physical_lines text))))
+    [ true ↦ tt | false ↦ numbered_in file (is_cut_short false (physical_lines text)) 1 (runs false (physical_lines text)) ]
+
+lines_in : (file : ℕ) (text : List ℕ) (lines : List Line) → lines_of file text ≡ Ok lines → InFile file lines
+unfolding InResult
+lines_in file text lines is = subst (InResult file) is (lines_are_in file text)
+
+-- Each of the entries stands in the file.
+abbrev pub EntriesIn : ℕ → List Entry → Type 0
+EntriesIn file [] = ⊤
+EntriesIn file (entry ∷ entries) = (entry.place.file ≡ file) × EntriesIn file entries
+
+said_in : (file : ℕ) (line : Line) (said : Option EntryBody) (rest : List Entry) → line.first.file ≡ file → EntriesIn file rest → EntriesIn file (entry_of line said ++ rest)
+said_in file line None rest at more = more
+said_in file line (Some body) rest at more = (at, more)
+
+entries_in : (file : ℕ) (before : List Entry) (lines : List Line) (entries : List Entry) → InFile file lines → AreEntriesAfter before lines entries → EntriesIn file entries
+entries_in file before [] entries at are = subst (EntriesIn file) (sym are) tt
+entries_in file before (line ∷ lines) entries at (said, rest, says, are, whole) =
+    subst (EntriesIn file) (sym whole) (said_in file line said rest at.0 (entries_in file (before ++ entry_of line said) lines rest at.1 are))
+
+-- What the file of this number says stands in it.
+pub read_in : (file : ℕ) (text : List ℕ) (entries : List Entry) → Reads file text (Ok entries) → EntriesIn file entries
+read_in file text entries (lines, is, are) = entries_in file [] lines entries (lines_in file text lines is) are
+
+lt_more : (n m k : ℕ) → n ≤ m → nat_lt k n ≡ true → nat_lt k m ≡ true
+lt_more n m k le h = grind (arith, nat_tests)
+
+and_both : (a b : Bool) → a ≡ true → b ≡ true → (a && b) ≡ true
+and_both true b x y = y
+and_both false b x y = absurd cc
+
+and_first : (a b : Bool) → (a && b) ≡ true → a ≡ true
+and_first true b x = refl
+and_first false b x = x
+
+and_second : (a b : Bool) → (a && b) ≡ true → b ≡ true
+and_second true b x = x
+and_second false b x = absurd cc
+
+placed_more : (n m : ℕ) (entries : List Entry) → n ≤ m → placed_in n entries ≡ true → placed_in m entries ≡ true
+placed_more n m [] le h = refl
+placed_more n m (e ∷ es) le h =
+    and_both (nat_lt e.place.file m) (placed_in m es) (lt_more n m e.place.file le (and_first (nat_lt e.place.file n) (placed_in n es) h))
+    (placed_more n m es le (and_second (nat_lt e.place.file n) (placed_in n es) h))
+
+all_push : (p : Entry → Bool) (entries : List Entry) (entry : Entry) → list_all p entries ≡ true → p entry ≡ true → list_all p (entries ++ entry ∷ []) ≡ true
+all_push p [] entry h k = and_both (p entry) true k refl
+all_push p (e ∷ es) entry h k = and_both (p e) (list_all p (es ++ entry ∷ [])) (and_first (p e) (list_all p es) h) (all_push p es entry (and_second (p e) (list_all p es) h) k)
+
+fine_file : (loaded : Loaded) (path : List ℕ) → Fine loaded → Fine (with_file loaded path)
+fine_file loaded path fine = record {
+  placed = placed_more (length loaded.files) (length (loaded.files ++ path ∷ [])) loaded.entries (omega (arith, length-append loaded.files (path ∷ []))) fine.placed;
+  unfolded = fine.unfolded;
+}
+
+fine_folder : (loaded : Loaded) → Fine loaded → Fine (with_folder loaded)
+fine_folder loaded fine = record { placed = fine.placed; unfolded = fine.unfolded }
+
+fine_entry : (loaded : Loaded) (entry : Entry) → Fine loaded → entry.place.file < length loaded.files → is_include entry.body ≡ false → Fine (with_entry loaded entry)
+fine_entry loaded entry fine at no_include =
+    let test : nat_lt entry.place.file (length loaded.files) ≡ true = grind (arith, nat_tests) in
+    record {
+      placed = all_push (λ e. nat_lt e.place.file (length loaded.files)) loaded.entries entry fine.placed test;
+      unfolded = all_push (λ e. not (is_include e.body)) loaded.entries entry fine.unfolded (ap not no_include);
+    }
+
+-- After this many files at the least, all is fine.
+abbrev pub FineAfter : ℕ → Outcome → Type 0
+FineAfter n (Ok loaded) = Fine loaded × (n ≤ length loaded.files)
+FineAfter n (Err refusal) = ⊤
+
+fine_later : (n m : ℕ) (outcome : Outcome) → n ≤ m → FineAfter m outcome → FineAfter n outcome
+fine_later n m (Ok loaded) le fine = (fine.0, omega (arith, fine.1))
+fine_later n m (Err refusal) le fine = tt
+
+-- An inclusion keeps all fine.
+abbrev pub Keeps : Inclusion → Type 0
+Keeps include = (loaded : Loaded) (place : Place) (path : List ℕ) (outcome : Outcome) → Fine loaded → include loaded place path outcome → FineAfter (length loaded.files) outcome
+
+then_fine : (n : ℕ) (first : Outcome) (next : Loaded → Outcome → Type 0) (outcome : Outcome) → FineAfter n first → Then first next outcome
+    → ((after : Loaded) → Fine after → n ≤ length after.files → next after outcome → FineAfter (length after.files) outcome) → FineAfter n outcome
+then_fine n (Ok after) next outcome fine onward goes = fine_later n (length after.files) outcome fine.1 (goes after fine.0 fine.1 onward)
+then_fine n (Err refusal) next outcome fine onward goes = subst (FineAfter n) (sym onward) tt
+
+ends_fine : (loaded : Loaded) (outcome : Outcome) → Fine loaded → outcome ≡ Ok loaded → FineAfter (length loaded.files) outcome
+ends_fine loaded outcome fine is = subst (FineAfter (length loaded.files)) (sym is) (fine, omega arith)
+
+refused_fine : (n : ℕ) (refusal : Refusal) (outcome : Outcome) → outcome ≡ Err refusal → FineAfter n outcome
+refused_fine n refusal outcome is = subst (FineAfter n) (sym is) tt
+
+files_keep : (include : Inclusion) → Keeps include → (loaded : Loaded) (place : Place) (paths : List (List ℕ)) (outcome : Outcome) → Fine loaded
+    → FilesLoad include loaded place paths outcome → FineAfter (length loaded.files) outcome
+files_keep include keeps loaded place [] outcome fine loads = ends_fine loaded outcome fine loads
+files_keep include keeps loaded place (path ∷ paths) outcome fine (first, loads, onward) =
+    then_fine (length loaded.files) first (λ after. FilesLoad include after place paths) outcome (keeps loaded place path first fine loads) onward
+    (λ after good more goes. files_keep include keeps after place paths outcome good goes)
+
+names_keep : (include : Inclusion) → Keeps include → (loaded : Loaded) (place : Place) (path : List ℕ) (names : Option (List (List ℕ))) (outcome : Outcome) → Fine loaded
+    → NamesLoad include loaded place path names outcome → FineAfter (length loaded.files) outcome
+names_keep include keeps loaded place path None outcome fine loads = refused_fine (length loaded.files) _ outcome loads
+names_keep include keeps loaded place path (Some names) outcome fine (ordered, order, loads) =
+    files_keep include keeps (with_folder loaded) place (map (in_folder path) ordered) outcome (fine_folder loaded fine) loads
+
+if_fine : (n : ℕ) (b : Bool) (A B : Type 0) (outcome : Outcome) → IfElse b A B → (A → FineAfter n outcome) → (B → FineAfter n outcome) → FineAfter n outcome
+if_fine n true A B outcome h f g = f h
+if_fine n false A B outcome h f g = g h
+
+folder_keeps : (include : Inclusion) → Keeps include → (supplies : List Supply) (loaded : Loaded) (place : Place) (path : List ℕ) (outcome : Outcome) → Fine loaded
+    → FolderLoads include supplies loaded place path outcome → FineAfter (length loaded.files) outcome
+folder_keeps include keeps supplies loaded place path outcome fine loads =
+    if_fine (length loaded.files) (nat_lt loaded.folders 1024) (NamesLoad include loaded place path (supplied_folder supplies path) outcome) _ outcome loads
+    (λ h. names_keep include keeps loaded place path (supplied_folder supplies path) outcome fine h) (λ h. refused_fine (length loaded.files) _ outcome h)
+
+include_keeps : (include : Inclusion) → Keeps include → (supplies : List Supply) (loaded : Loaded) (place : Place) (folder : Bool) (path : List ℕ) (outcome : Outcome) → Fine loaded
+    → IncludeLoads include supplies loaded place folder path outcome → FineAfter (length loaded.files) outcome
+include_keeps include keeps supplies loaded place true path outcome fine loads = folder_keeps include keeps supplies loaded place path outcome fine loads
+include_keeps include keeps supplies loaded place false path outcome fine loads = keeps loaded place path outcome fine loads
+
+entry_keeps : (include : Inclusion) → Keeps include → (supplies : List Supply) (file : List ℕ) (loaded : Loaded) (place : Place) (body : EntryBody) (outcome : Outcome) → Fine loaded
+    → place.file < length loaded.files → EntryLoadsBy include supplies loaded (record { place = place; body = body }) (followed file body) outcome → FineAfter (length loaded.files) outcome
+entry_keeps include keeps supplies file loaded place (bodies.Aliases kind ds) outcome fine at loads = ends_fine (with_entry loaded (record { place = place; body = bodies.Aliases kind ds })) outcome (fine_entry loaded _ fine at refl) loads
+entry_keeps include keeps supplies file loaded place (bodies.Defaults b ps) outcome fine at loads = ends_fine (with_entry loaded (record { place = place; body = bodies.Defaults b ps })) outcome (fine_entry loaded _ fine at refl) loads
+entry_keeps include keeps supplies file loaded place (bodies.Rule us ss) outcome fine at loads = ends_fine (with_entry loaded (record { place = place; body = bodies.Rule us ss })) outcome (fine_entry loaded _ fine at refl) loads
+entry_keeps include keeps supplies file loaded place (bodies.Include folder hash path) outcome fine at loads =
+    include_keeps include keeps supplies loaded place folder _ outcome fine loads
+
+entries_keep : (include : Inclusion) → Keeps include → (supplies : List Supply) (file : List ℕ) (number : ℕ) (loaded : Loaded) (entries : List Entry) (outcome : Outcome) → Fine loaded
+    → number < length loaded.files → EntriesIn number entries → EntriesLoad include supplies file loaded entries outcome → FineAfter (length loaded.files) outcome
+entries_keep include keeps supplies file number loaded [] outcome fine at ins loads = ends_fine loaded outcome fine loads
+entries_keep include keeps supplies file number loaded (entry ∷ entries) outcome fine at ins (first, loads, onward) =
+    then_fine (length loaded.files) first (λ after. EntriesLoad include supplies file after entries) outcome
+    (entry_keeps include keeps supplies file loaded entry.place entry.body first fine (omega (arith, ins.0, at)) loads) onward
+    (λ after good more goes. entries_keep include keeps supplies file number after entries outcome good (omega (arith, at, more)) ins.1 goes)
+
+lines_keep : (include : Inclusion) → Keeps include → (supplies : List Supply) (file : List ℕ) (number : ℕ) (text : List ℕ) (loaded : Loaded) (read : Result (List Entry) ParseFault) (outcome : Outcome) → Fine loaded
+    → number < length loaded.files → Reads number text read → LinesLoad include supplies file loaded read outcome → FineAfter (length loaded.files) outcome
+lines_keep include keeps supplies file number text loaded (Ok entries) outcome fine at reads loads =
+    entries_keep include keeps supplies file number loaded entries outcome fine at (read_in number text entries reads) loads
+lines_keep include keeps supplies file number text loaded (Err fault) outcome fine at reads loads = refused_fine (length loaded.files) _ outcome loads
+
+pub text_keeps : (include : Inclusion) → Keeps include → (supplies : List Supply) (loaded : Loaded) (path text : List ℕ) (outcome : Outcome) → Fine loaded
+    → TextLoads include supplies loaded path text outcome → FineAfter (length loaded.files) outcome
+text_keeps include keeps supplies loaded path text outcome fine (read, reads, loads) =
+    let more : length (loaded.files ++ path ∷ []) ≡ length loaded.files + 1 = omega (arith, length-append loaded.files (path ∷ [])) in
+    fine_later (length loaded.files) (length (loaded.files ++ path ∷ [])) outcome (omega (arith, more))
+    (lines_keep include keeps supplies path (length loaded.files) text (with_file loaded path) read outcome (fine_file loaded path fine) (omega (arith, more)) reads loads)
+
+supplied_keeps : (include : Inclusion) → Keeps include → (supplies : List Supply) (loaded : Loaded) (place : Place) (path : List ℕ) (found : Option (Option (List ℕ))) (outcome : Outcome) → Fine loaded
+    → SuppliedLoads include supplies loaded place path found outcome → FineAfter (length loaded.files) outcome
+supplied_keeps include keeps supplies loaded place path None outcome fine loads = refused_fine (length loaded.files) _ outcome loads
+supplied_keeps include keeps supplies loaded place path (Some None) outcome fine loads = refused_fine (length loaded.files) _ outcome loads
+supplied_keeps include keeps supplies loaded place path (Some (Some text)) outcome fine loads = text_keeps include keeps supplies loaded path text outcome fine loads
+
+pub file_keeps : (levels : ℕ) (supplies : List Supply) → Keeps (FileLoads levels supplies)
+unfolding FileLoads
+file_keeps zero supplies = λ loaded place path outcome fine loads. refused_fine (length loaded.files) _ outcome loads
+file_keeps (suc levels) supplies = λ loaded place path outcome fine loads.
+    if_fine (length loaded.files) (nat_lt (length loaded.files) 1024) (SuppliedLoads (FileLoads levels supplies) supplies loaded place path (supplied_file supplies path) outcome) _ outcome loads
+    (λ h. supplied_keeps (FileLoads levels supplies) (file_keeps levels supplies) supplies loaded place path (supplied_file supplies path) outcome fine h)
+    (λ h. refused_fine (length loaded.files) _ outcome h)
+
+-- What the main file unfolds to is fine.
+pub unfolded_fine : (levels : ℕ) (path text : List ℕ) (supplies : List Supply) (loaded : Loaded)
+    → TextLoads (FileLoads levels supplies) supplies nothing path text (Ok loaded) → Fine loaded
+unfolded_fine levels path text supplies loaded loads =
+    (text_keeps (FileLoads levels supplies) (file_keeps levels supplies) supplies nothing path text (Ok loaded) (record { placed = refl; unfolded = refl }) loads).0
+
+pub start_fine : (levels : ℕ) (path text : List ℕ) (supplies : List Supply) (start loaded : Loaded) → start ≡ nothing
+    → TextLoads (FileLoads levels supplies) supplies start path text (Ok loaded) → Fine loaded
+start_fine levels path text supplies start loaded is loads =
+    unfolded_fine levels path text supplies loaded (subst (λ s. TextLoads (FileLoads levels supplies) supplies s path text (Ok loaded)) is loads)
+
+pub start_refused : (path p text : List ℕ) (supplies : List Supply) (start : Loaded) (refusal : Refusal) → start ≡ nothing → p ≡ path
+    → TextLoads (FileLoads 128 supplies) supplies start p text (Err refusal) → IsLoad path text supplies (Err refusal)
+start_refused path p text supplies start refusal is same loads = (
+  Err refusal,
+  subst (λ q. TextLoads (FileLoads 128 supplies) supplies nothing q text (Err refusal)) same
+      (subst (λ s. TextLoads (FileLoads 128 supplies) supplies s p text (Err refusal)) is loads),
+  refl,
+)

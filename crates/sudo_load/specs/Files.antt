@@ -1,0 +1,16 @@
+-- The entries of one file.
+use Rattle.std.specs.Prelude.{◌≡◌, ℕ, List, Result, Ok, Err, ◌⊎◌}
+use Rattle.sudo_text.specs.declared.line.Line.{Line}
+use Rattle.sudo_text.specs.declared.fault.TextFault.{TextFault}
+use Rattle.sudo_text.specs.Lines.{lines_of}
+use Rattle.sudo_tree.specs.declared.policy.Entry.{Entry}
+use Rattle.sudo_tree.specs.declared.fault.ParseFault.{ParseFault}
+use Rattle.sudo_tree.specs.declared.fault.ParseFault.TheVariants as faults
+use Rattle.sudo_parser.specs.Parsed.{AreEntries, IsFirstFault}
+
+-- The file of this number says these entries, or it has this fault.
+abbrev pub Reads : ℕ → List ℕ → Result (List Entry) ParseFault → Type 0
+Reads file text (Ok entries) = (lines : List Line) × (lines_of file text ≡ Ok lines) × AreEntries lines entries
+Reads file text (Err fault) =
+    ((why : TextFault) × (lines_of file text ≡ Err why) × (fault ≡ faults.Text why))
+    ⊎ ((lines : List Line) × (lines_of file text ≡ Ok lines) × IsFirstFault lines fault)

@@ -1,0 +1,17 @@
+-- What a policy keeps, of what is loaded; a body's proof alone needs these words.
+use Rattle.std.specs.Prelude.{◌≡◌, ℕ, Bool, true, not, nat_lt, List, length}
+use Rattle.std.specs.List.{list_all}
+use Rattle.sudo_tree.specs.declared.policy.Entry.{Entry}
+use Rattle.sudo_tree.specs.Includes.{is_include}
+use Rattle.sudo_load.specs.declared.loading.Loaded.{Loaded}
+
+abbrev pub placed_in : ℕ → List Entry → Bool
+placed_in n entries = list_all (λ e. nat_lt e.place.file n) entries
+
+abbrev pub followed_all : List Entry → Bool
+followed_all entries = list_all (λ e. not (is_include e.body)) entries
+
+-- What is loaded stands in the files that were read, and has no include line.
+pub record Fine (loaded : Loaded) : Type 0 where
+  pub placed : placed_in (length loaded.files) loaded.entries ≡ true
+  pub unfolded : followed_all loaded.entries ≡ true

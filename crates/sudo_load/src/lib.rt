@@ -1,0 +1,15 @@
+//! Policies in several files: include lines are followed, as in sudoers(5), "Including other files from within
+//! sudoers".
+//!
+//! `load` reads nothing itself. It is handed the files and folders that it may need, and says which one it wants next.
+#![tactic(auto)]
+
+mod fault;
+mod file;
+mod loading;
+mod paths;
+mod supply;
+
+pub use fault::{LoadFault, Want};
+pub use loading::load;
+pub use supply::Supply;

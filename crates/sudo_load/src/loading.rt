@@ -1,0 +1,346 @@
+//! Files that include files, to one policy.
+ghost use Rattle.std.specs.Prelude.{◌≡◌, ℕ, ◌≤◌, ◌<◌, ◌^◌, List, length, map, filter, IfOk, Ok};
+ghost use Rattle.sudo_load.specs.Unfolding.{FileLoads, FilesLoad, FolderLoads, EntryLoads, EntriesLoad, TextLoads, IsFolderOrder, nothing as spec_nothing, followed as spec_followed, with_file as spec_with_file, with_entry as spec_with_entry};
+ghost use Rattle.sudo_load.specs.Paths.{is_kept as spec_is_kept, in_folder as spec_in_folder};
+ghost use Rattle.sudo_parser.specs.Parsed.{over_limit};
+ghost use Rattle.sudo_load.specs.Outcomes.{GivesBy};
+ghost use Rattle.sudo_load.specs.Load.{Closes, LoadGives};
+ghost use Rattle.sudo_load.specs.Fine.{Fine};
+
+use crate::fault::{LoadFault, Want};
+use crate::file::read;
+use crate::paths::{beside, bytes, in_folder, is_kept};
+use crate::supply::{Supply, find_file, find_folder};
+use std::alloc::{AllocError, Global};
+use sudo_parser::first_over_limit;
+use sudo_text::{Place, Seq};
+use sudo_tree::{Entry, EntryBody, ParseFault, Policy};
+
+/// How many files, and how many folders, may be read.
+const READING_LIMIT: usize = 1024;
+
+/// How deep includes may be nested.
+const NESTING_LIMIT: u32 = 128;
+
+/// What is loaded so far.
+#[derive(Drop)]
+pub(crate) struct Loaded {
+    /// The paths of the files read, by file number.
+    pub files: Seq<Seq<u8>>,
+    /// How many folders were read.
+    pub folders: usize,
+    /// The entries, in order.
+    pub entries: Seq<Entry>,
+}
+
+/// The files read by then, and the fault.
+pub(crate) type Refusal = (Seq<Seq<u8>>, LoadFault);
+
+/// Memory was refused.
+fn out_of_memory(alloc: Global) -> Refusal
+    ensures { result.1 ≡ LoadFault.Memory }
+{
+    (Seq::new(alloc), LoadFault::Memory)
+}
+
+/// Nothing is loaded yet.
+fn nothing(alloc: Global) -> Loaded
+    ensures { result ≡ spec_nothing }
+{
+    Loaded {
+        files: Seq::new(alloc),
+        folders: 0,
+        entries: Seq::new(alloc),
+    }
+}
+
+/// The files of a folder that are read, in the order of their names' bytes.
+fn folder_order(alloc: Global, names: &[Seq<u8>]) -> Result<Vec<Seq<u8>>, AllocError>
+    ensures { IfOk result (λ v. IsFolderOrder names.now v.items) }
+{
+    let mut kept = kept_names(alloc, names)?;
+    kept.sort_unstable();
+    Ok(kept)
+}
+
+/// The names of the files that are read.
+fn kept_names(alloc: Global, names: &[Seq<u8>]) -> Result<Vec<Seq<u8>>, AllocError>
+    ensures { IfOk result (λ v. v.items ≡ filter spec_is_kept names.now) }
+{
+    let mut kept = Vec::new(alloc);
+    for name in names {
+        if is_kept(name.as_slice()) {
+            kept.push(name.clone()?)?;
+        }
+    }
+    Ok(kept)
+}
+
+/// The paths of a folder's files.
+fn paths_in(alloc: Global, folder: &[u8], names: &[Seq<u8>]) -> Result<Vec<Seq<u8>>, AllocError>
+    ensures { IfOk result (λ v. v.items ≡ map (spec_in_folder folder.now) names.now) }
+{
+    let mut paths = Vec::new(alloc);
+    for name in names {
+        paths.push(in_folder(alloc, folder, name.as_slice())?)?;
+    }
+    Ok(paths)
+}
+
+/// The paths of a folder's files that are read, in order.
+fn folder_paths(alloc: Global, folder: &[u8], names: &[Seq<u8>]) -> Result<Vec<Seq<u8>>, AllocError>
+    ensures { IfOk result (λ v. (ordered : List (List ℕ)) × IsFolderOrder names.now ordered × (v.items ≡ map (spec_in_folder folder.now) ordered)) }
+{
+    let ordered = folder_order(alloc, names)?;
+    paths_in(alloc, folder, &ordered)
+}
+
+/// What an include line of a file names: whether it is a folder, and its path; `None` for any other line.
+fn followed(
+    alloc: Global,
+    file: &[u8],
+    body: &EntryBody,
+) -> Result<Option<(bool, Seq<u8>)>, AllocError>
+    ensures { IfOk result (λ named. named ≡ spec_followed file.now body.now) }
+{
+    match body {
+        EntryBody::Include { folder, path, .. } => {
+            let path = bytes(alloc, path.as_slice())?;
+            let path = beside(alloc, file, path.as_slice())?;
+            Ok(Some((*folder, path)))
+        }
+        _ => Ok(None),
+    }
+}
+
+/// One file more is read.
+fn with_file(loaded: Loaded, path: &Seq<u8>) -> Result<Loaded, AllocError>
+    ensures { IfOk result (λ l. l ≡ spec_with_file loaded path.now) }
+{
+    let Loaded {
+        mut files,
+        folders,
+        entries,
+    } = loaded;
+    files.push(path.clone()?)?;
+    Ok(Loaded {
+        files,
+        folders,
+        entries,
+    })
+}
+
+/// One entry more is loaded.
+fn with_entry(loaded: Loaded, entry: Entry) -> Result<Loaded, AllocError>
+    ensures { IfOk result (λ l. l ≡ spec_with_entry loaded entry) }
+{
+    let Loaded {
+        files,
+        folders,
+        mut entries,
+    } = loaded;
+    entries.push(entry)?;
+    Ok(Loaded {
+        files,
+        folders,
+        entries,
+    })
+}
+
+/// The files at these paths are included at a place, one after another.
+#[cycle(loading)]
+fn load_files(
+    alloc: Global,
+    levels: u32,
+    supplies: &[Supply],
+    loaded: Loaded,
+    place: Place,
+    paths: Vec<Seq<u8>>,
+) -> Result<Loaded, Refusal>
+    ensures { GivesBy (FilesLoad (FileLoads levels supplies.now) loaded place paths.items) result }
+{
+    let mut loaded = loaded;
+    for path in paths {
+        loaded = match load_file(alloc, levels, supplies, loaded, place, path) {
+            Ok(loaded) => loaded,
+            Err(refusal) => return Err(refusal),
+        };
+    }
+    Ok(loaded)
+}
+
+/// The file of a path is included at a place, where so many levels of includes are left.
+#[cycle(loading)]
+fn load_file(
+    alloc: Global,
+    levels: u32,
+    supplies: &[Supply],
+    loaded: Loaded,
+    place: Place,
+    path: Seq<u8>,
+) -> Result<Loaded, Refusal>
+    ensures { GivesBy (FileLoads levels supplies.now loaded place path) result }
+{
+    if levels == 0 {
+        return Err((loaded.files, LoadFault::TooNested { place }));
+    }
+    if loaded.files.len() >= READING_LIMIT {
+        return Err((loaded.files, LoadFault::TooMany { place }));
+    }
+    match find_file(supplies, path.as_slice()) {
+        None => Err((loaded.files, LoadFault::Wanted(Want::File(path)))),
+        Some(None) => Err((loaded.files, LoadFault::Missing { place, path })),
+        Some(Some(text)) => load_text(alloc, levels - 1, supplies, loaded, path, text.as_slice()),
+    }
+}
+
+/// The folder of a path is included at a place.
+#[cycle(loading)]
+fn load_folder(
+    alloc: Global,
+    levels: u32,
+    supplies: &[Supply],
+    loaded: Loaded,
+    place: Place,
+    path: Seq<u8>,
+) -> Result<Loaded, Refusal>
+    ensures { GivesBy (FolderLoads (FileLoads levels supplies.now) supplies.now loaded place path) result }
+{
+    if loaded.folders >= READING_LIMIT {
+        return Err((loaded.files, LoadFault::TooMany { place }));
+    }
+    let Some(names) = find_folder(supplies, path.as_slice()) else {
+        return Err((loaded.files, LoadFault::Wanted(Want::Folder(path))));
+    };
+    let Ok(paths) = folder_paths(alloc, path.as_slice(), names.as_slice()) else {
+        return Err(out_of_memory(alloc));
+    };
+    let loaded = Loaded {
+        files: loaded.files,
+        folders: loaded.folders + 1,
+        entries: loaded.entries,
+    };
+    load_files(alloc, levels, supplies, loaded, place, paths)
+}
+
+/// A line of a file: an include line is followed, any other is loaded.
+#[cycle(loading)]
+fn load_entry(
+    alloc: Global,
+    levels: u32,
+    supplies: &[Supply],
+    file: &[u8],
+    loaded: Loaded,
+    entry: Entry,
+) -> Result<Loaded, Refusal>
+    ensures { GivesBy (EntryLoads (FileLoads levels supplies.now) supplies.now file.now loaded entry) result }
+{
+    let place = entry.place;
+    match followed(alloc, file, &entry.body) {
+        Ok(None) => match with_entry(loaded, entry) {
+            Ok(loaded) => Ok(loaded),
+            Err(_) => Err(out_of_memory(alloc)),
+        },
+        Ok(Some((true, path))) => load_folder(alloc, levels, supplies, loaded, place, path),
+        Ok(Some((false, path))) => load_file(alloc, levels, supplies, loaded, place, path),
+        Err(_) => Err(out_of_memory(alloc)),
+    }
+}
+
+/// The lines of a file, one after another.
+#[cycle(loading)]
+fn load_entries(
+    alloc: Global,
+    levels: u32,
+    supplies: &[Supply],
+    file: &[u8],
+    loaded: Loaded,
+    entries: Vec<Entry>,
+) -> Result<Loaded, Refusal>
+    ensures { GivesBy (EntriesLoad (FileLoads levels supplies.now) supplies.now file.now loaded entries.items) result }
+{
+    let mut loaded = loaded;
+    for entry in entries {
+        loaded = match load_entry(alloc, levels, supplies, file, loaded, entry) {
+            Ok(loaded) => loaded,
+            Err(refusal) => return Err(refusal),
+        };
+    }
+    Ok(loaded)
+}
+
+/// The text of a file: it is read whole before its includes are followed.
+#[cycle(loading)]
+fn load_text(
+    alloc: Global,
+    levels: u32,
+    supplies: &[Supply],
+    loaded: Loaded,
+    path: Seq<u8>,
+    text: &[u8],
+) -> Result<Loaded, Refusal>
+    requires { length loaded.files < 1024 }
+    ensures { GivesBy (TextLoads (FileLoads levels supplies.now) supplies.now loaded path text.now) result }
+{
+    let number = loaded.files.len() as u32;
+    let Ok(loaded) = with_file(loaded, &path) else {
+        return Err(out_of_memory(alloc));
+    };
+    match read(alloc, number, text) {
+        Ok(entries) => load_entries(
+            alloc,
+            levels,
+            supplies,
+            path.as_slice(),
+            loaded,
+            entries.into_vec(),
+        ),
+        Err(ParseFault::Memory) => Err(out_of_memory(alloc)),
+        Err(fault) => Err((loaded.files, LoadFault::Parse(fault))),
+    }
+}
+
+/// A policy of what is loaded, unless there are too many definitions in all files together.
+fn closed(loaded: Loaded) -> Result<Policy, Refusal>
+    requires { Fine loaded }
+    ensures { Closes loaded (over_limit loaded.entries) result }
+{
+    match first_over_limit(loaded.entries.as_slice()) {
+        None => Ok(Policy {
+            files: loaded.files,
+            entries: loaded.entries,
+        }),
+        Some(place) => Err((
+            loaded.files,
+            LoadFault::Parse(ParseFault::TooMany { place }),
+        )),
+    }
+}
+
+/// The policy of a main file, by its path and text, and of the files and folders that it includes.
+///
+/// Each include line is replaced by the entries of its file, or of its folder's files in the order of their names,
+/// where names that end in `~` or contain `.` are passed over; a relative path is in the including file's folder. A
+/// file is parsed whole before its includes are followed, and files are numbered in the order in which they are read.
+///
+/// Else the first fault, with the paths of the files read by then, a faulty one among them. Of an include line it is
+/// the first of these that holds: for a file `TooNested` past 128 levels, `TooMany` past 1,024 files, `Wanted` where
+/// it is not handed in, `Missing`, and `Parse`; for a folder `TooMany` past 1,024 folders, and `Wanted`. Last,
+/// `Parse(TooMany)` comes for the first definition past 4,096 of its kind in all files. `Memory` comes only where
+/// memory was refused. What is handed in and not asked for changes nothing.
+pub fn load(
+    alloc: Global,
+    path: &[u8],
+    text: &[u8],
+    supplies: &[Supply],
+) -> Result<Policy, (Seq<Seq<u8>>, LoadFault)>
+    ensures { LoadGives path.now text.now supplies.now result }
+{
+    let Ok(path) = Seq::from_slice(alloc, path) else {
+        return Err(out_of_memory(alloc));
+    };
+    match load_text(alloc, NESTING_LIMIT, supplies, nothing(alloc), path, text) {
+        Ok(loaded) => closed(loaded),
+        Err(refusal) => Err(refusal),
+    }
+}

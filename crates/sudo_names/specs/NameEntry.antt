@@ -1,0 +1,7 @@
+-- What the private map of names shows; only the model of `Names` needs it.
+use Rattle.std.specs.Prelude.{ℕ, List, Vec}
+use Rattle.std.specs.declared.alloc.Global.{Global}
+
+-- an entry, with its name as a list of bytes
+abbrev pub bare : Vec ℕ Global × ℕ → List ℕ × ℕ
+bare e = (e.0.items, e.1)

@@ -1,0 +1,12 @@
+pub mod Digits
+pub mod Steps
+pub mod ListSteps
+pub mod AliasSteps
+pub mod RunasSteps
+pub mod RuleSteps
+pub mod DefaultsSteps
+pub mod LineSteps
+pub mod EntryLaws
+pub mod FaultLemmas
+pub mod ParsedLemmas
+pub mod TextVectors

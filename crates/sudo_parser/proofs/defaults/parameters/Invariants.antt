@@ -1,0 +1,9 @@
+use Rattle.std.proofs.Common.{◌≤◌, length}
+use Rattle.sudo_parser.specs.Defaults.{ReadsToParameter}
+use Rattle.sudo_parser.proofs.defaults.parameters.Given as goal
+
+abbrev pub invariant-parameters : goal.invariant-parameters
+invariant-parameters l = (length l.rest ≤ length l.tokens) × ReadsToParameter l.tokens l.parameters l.rest
+
+abbrev pub decreases-parameters : goal.decreases-parameters
+decreases-parameters l = length l.rest

@@ -1,0 +1,23 @@
+use Rattle.std.proofs.Common.{Result, Ok, Err, ◌≡◌, subst, sym}
+use Rattle.std.specs.Result.{IsErrAnd}
+use Rattle.sudo_tree.specs.declared.policy.EntryBody.{EntryBody}
+use Rattle.sudo_parser.specs.declared.stops.Stopped.{Stopped}
+use Rattle.sudo_grammar.specs.Reading.{Stop}
+use Rattle.sudo_parser.specs.Stops.{Stops, GivesEntry}
+use Rattle.sudo_parser.proofs.RuleSteps.{rule-reads, rule-stops}
+use Rattle.sudo_parser.proofs.rules.rule.Goals as goal
+
+pub returns : goal.returns
+returns c = λ room.
+    rule-reads c.args.tokens.now c.in_ok-users.users c.in_ok-users.granted.now c.in_ok-sections.sections c.in_ok-users.ensures.reads
+    c.in_ok-sections.ensures.reads room
+
+stopped : (r : Result EntryBody Stopped) (e : Stopped) (given : Result EntryBody Stop) → IsErrAnd r (λ y. y ≡ e) → Stops e given
+    → GivesEntry r given
+stopped (Ok x) e given h p = absurd h
+stopped (Err y) e given h p = subst (λ x. Stops x given) (sym h) p
+
+pub returns-in_err-sections : goal.returns-in_err-sections
+returns-in_err-sections c = λ room.
+    stopped c.from_residual-in_err-sections.result c.in_err-sections.field-0.0 _ c.from_residual-in_err-sections.ensures.1
+    (rule-stops c.args.tokens.now c.in_ok-users.users c.in_ok-users.granted.now _ c.in_ok-users.ensures.reads c.in_err-sections.ensures.stops room)

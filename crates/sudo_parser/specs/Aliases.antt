@@ -1,0 +1,42 @@
+-- Words for bodies' proofs alone: what the parts of the parser say of the reading of alias lines.
+use Rattle.std.specs.Prelude.{◌≡◌, ℕ, ◌<◌, nat_lt, not, Bool, false, List, [], length}
+use Rattle.sudo_text.specs.declared.token.Mark.TheVariants as marks
+use Rattle.sudo_text.specs.declared.token.Token.{Token}
+use Rattle.sudo_tree.specs.declared.kind.Kind.{Kind}
+use Rattle.sudo_tree.specs.declared.policy.Definition.{Definition}
+use Rattle.sudo_parser.specs.declared.stops.Stopped.{Stopped}
+use Rattle.sudo_grammar.specs.Places.{Defines, AliasName, AfterName, AfterItem, Room}
+use Rattle.sudo_grammar.specs.Refusals.{is_option, last_command}
+use Rattle.sudo_grammar.specs.Reading.{reading}
+use Rattle.sudo_parser.specs.Stops.{Stops, IsNotNext}
+
+-- whether a further definition would be one too many
+abbrev pub IsFull : Room → Kind → List Definition → Bool → Type 0
+IsFull room kind done full = nat_lt (length done) (room kind) ≡ not full
+
+-- Where the name of a definition must stand, one is read up to other tokens, of which there are less.
+pub record ReadsName (full : Bool) (ts : List Token) (w : List ℕ) (rest : List Token) : Type 0 where
+  pub less : length rest < length ts
+  pub reads : (room : Room) (kind : Kind) (done : List Definition) → IsFull room kind done full
+      → reading room (AliasName kind done) ts ≡ reading room (AfterName kind done w) rest
+
+abbrev pub StopsInName : Bool → List Token → Stopped → Type 0
+StopsInName full ts e = (room : Room) (kind : Kind) (done : List Definition) → IsFull room kind done full
+    → Stops e (reading room (AliasName kind done) ts)
+
+-- Where a definition may stand, one is read up to other tokens, of which there are less, and no comma comes next.
+pub record ReadsDefinition (kind : Kind) (full : Bool) (ts : List Token) (d : Definition) (rest : List Token) : Type 0 where
+  pub less : length rest < length ts
+  pub no_more : IsNotNext marks.Comma rest
+  pub no_option : is_option (last_command kind d.members) rest ≡ false
+  pub reads : (room : Room) (done : List Definition) → IsFull room kind done full
+      → reading room (AliasName kind done) ts ≡ reading room (AfterItem (Defines kind done d.name) d.members) rest
+
+abbrev pub StopsInDefinition : Kind → Bool → List Token → Stopped → Type 0
+StopsInDefinition kind full ts e = (room : Room) (done : List Definition) → IsFull room kind done full
+    → Stops e (reading room (AliasName kind done) ts)
+
+-- Definitions of the kind and the colon after them are read up to other tokens.
+abbrev pub ReadsToDefinition : Kind → ℕ → List Token → List Definition → List Token → Type 0
+ReadsToDefinition kind limit ts ds rest = (room : Room) → room kind ≡ limit
+    → reading room (AliasName kind []) ts ≡ reading room (AliasName kind ds) rest

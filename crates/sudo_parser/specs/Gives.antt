@@ -1,0 +1,14 @@
+-- What a function of the code gives, beside a definition, memory aside.
+use Rattle.std.specs.Prelude.{◌≡◌, Result, Ok, Err}
+use Rattle.sudo_parser.specs.declared.members.Declined.{Declined}
+use Rattle.sudo_parser.specs.declared.members.Declined.TheVariants as declines
+use Rattle.sudo_tree.specs.declared.fault.Refusal.{Refusal}
+
+abbrev pub Declines : {X : Type 0} → Declined → Result X Refusal → Type 0
+Declines (declines.Refused refusal) given = given ≡ Err refusal
+Declines declines.Memory given = Unit {0}
+
+-- The result is what is given, unless memory was refused.
+abbrev pub Gives : {X : Type 0} → Result X Declined → Result X Refusal → Type 0
+Gives (Ok x) given = given ≡ Ok x
+Gives (Err e) given = Declines e given

@@ -1,0 +1,15 @@
+-- Words for bodies' proofs alone: how the code names what a line begins with.
+use Rattle.sudo_text.specs.declared.token.TokenKind.{TokenKind}
+use Rattle.sudo_text.specs.declared.token.TokenKind.TheVariants as tokens
+use Rattle.sudo_grammar.specs.Openings as grammar
+use Rattle.sudo_parser.specs.declared.line.Opening.{Opening}
+use Rattle.sudo_parser.specs.declared.line.Opening.TheVariants as openings
+
+abbrev pub opened : Opening → grammar.Opening
+opened (openings.Aliases kind) = grammar.Keyword kind
+opened openings.Defaults = grammar.DefaultsLine
+opened openings.Rule = grammar.Other
+
+abbrev pub IsInclude : TokenKind → Type 0
+IsInclude (tokens.Include folder hash path) = Unit {0}
+IsInclude _ = ⊥

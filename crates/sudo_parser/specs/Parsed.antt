@@ -1,0 +1,123 @@
+-- The entries of a file's lines, and the first fault of lines that have none. sudoers(5), "SUDOERS FILE FORMAT".
+--
+-- Each line's tokens write its entry; a line without tokens gives none. The first faulty line decides: a fault of its
+-- text comes first, and then its grammar fault.
+use Rattle.std.specs.Prelude.{◌≡◌, ℕ, ◌+◌, ◌-◌, Bool, true, nat_le, List, [], ◌∷◌, ◌++◌, length, Option, None, Some, Result, Ok, Err, ◌⊎◌, if◌then◌else◌}
+use Rattle.std.specs.List.{sum_by}
+use Rattle.sudo_text.specs.declared.token.Token.{Token}
+use Rattle.sudo_text.specs.declared.line.Line.{Line}
+use Rattle.sudo_text.specs.declared.line.Place.{Place}
+use Rattle.sudo_text.specs.declared.fault.TextFault.{TextFault}
+use Rattle.sudo_text.specs.declared.fault.TextFault.TheVariants as texts
+use Rattle.sudo_text.specs.Tokens.{spells, LeftmostFault}
+use Rattle.sudo_tree.specs.declared.policy.Entry.{Entry}
+use Rattle.sudo_tree.specs.declared.policy.EntryBody.{EntryBody}
+use Rattle.sudo_tree.specs.declared.policy.EntryBody.TheVariants as bodies
+use Rattle.sudo_tree.specs.declared.fault.Refusal.{Refusal}
+use Rattle.sudo_tree.specs.declared.fault.Refusal.TheVariants as refusals
+use Rattle.sudo_tree.specs.declared.fault.ParseFault.{ParseFault}
+use Rattle.sudo_tree.specs.declared.fault.ParseFault.TheVariants as faults
+use Rattle.sudo_parser.specs.Limits.{defined, less}
+use Rattle.sudo_grammar.specs.Places.{Room}
+use Rattle.sudo_grammar.specs.Reading.{Stop}
+use Rattle.sudo_grammar.specs.Faults.{WritesWithin, IsGrammarFault}
+
+-- The most definitions of aliases of one kind.
+abbrev pub alias_limit : ℕ
+alias_limit = 4096
+
+-- how many definitions of a kind may still come after these entries
+abbrev pub room_after : List Entry → Room
+room_after entries kind = alias_limit - sum_by (λ e. defined kind e.body) entries
+
+-- A line says nothing where it has no tokens, and else what its tokens write, within the room for definitions.
+abbrev pub Says : Room → Line → Option EntryBody → Type 0
+Says room line None = spells line [] ≡ true
+Says room line (Some body) =
+    (t : Token) × (ts : List Token) × (spells line (t ∷ ts) ≡ true) × WritesWithin room body (t ∷ ts)
+
+-- the entry of a line, where it says something
+abbrev pub entry_of : Line → Option EntryBody → List Entry
+entry_of line None = []
+entry_of line (Some body) = record { place = line.first; body = body } ∷ []
+
+-- The entries of lines that follow those of the entries before.
+abbrev pub AreEntriesAfter : List Entry → List Line → List Entry → Type 0
+AreEntriesAfter before [] entries = entries ≡ []
+AreEntriesAfter before (line ∷ lines) entries =
+    (said : Option EntryBody) × (rest : List Entry) × Says (room_after before) line said
+    × AreEntriesAfter (before ++ entry_of line said) lines rest × (entries ≡ entry_of line said ++ rest)
+
+-- The entries of a file's lines.
+abbrev pub AreEntries : List Line → List Entry → Type 0
+AreEntries lines entries = AreEntriesAfter [] lines entries
+
+-- the column of the first of these tokens, which end the line, or that of the line's end
+abbrev pub column : Line → List Token → ℕ
+column line [] = length line.text + 1
+column line (t ∷ ts) = t.start + 1
+
+-- a refusal at a place of a file
+abbrev pub fault_at : Place → ℕ → Refusal → ParseFault
+fault_at place col (refusals.Syntax expected) = faults.Syntax place col expected
+fault_at place col (refusals.Unsupported what) = faults.Unsupported place what
+fault_at place col refusals.NotCommand = faults.NotCommand place col
+fault_at place col refusals.BadNumber = faults.BadNumber place col
+fault_at place col refusals.TooMany = faults.TooMany place
+
+-- a fault of a text, as one of a policy
+abbrev pub text_fault : TextFault → ParseFault
+text_fault texts.Memory = faults.Memory
+text_fault fault = faults.Text fault
+
+-- The line's text has a fault, the leftmost.
+pub record IsTextFault (line : Line) (fault : ParseFault) : Type 0 where
+  pub text : TextFault
+  pub leftmost : LeftmostFault line text
+  pub is : fault ≡ faults.Text text
+
+-- The line has tokens, and they have a grammar fault.
+pub record IsGrammarFaultOf (room : Room) (line : Line) (fault : ParseFault) : Type 0 where
+  pub first : Token
+  pub rest : List Token
+  pub spelled : spells line (first ∷ rest) ≡ true
+  pub stop : Stop
+  pub stopped : IsGrammarFault room (first ∷ rest) stop
+  pub is : fault ≡ fault_at line.first (column line stop.rest) stop.refusal
+
+abbrev pub IsLineFault : Room → Line → ParseFault → Type 0
+IsLineFault room line fault = IsTextFault line fault ⊎ IsGrammarFaultOf room line fault
+
+-- The first fault of lines that follow those of the entries before.
+abbrev pub IsFirstFaultAfter : List Entry → List Line → ParseFault → Type 0
+IsFirstFaultAfter before [] fault = ⊥
+IsFirstFaultAfter before (line ∷ lines) fault =
+    IsLineFault (room_after before) line fault
+    ⊎ ((said : Option EntryBody) × Says (room_after before) line said × IsFirstFaultAfter (before ++ entry_of line said) lines fault)
+
+-- The fault of a file's lines.
+abbrev pub IsFirstFault : List Line → ParseFault → Type 0
+IsFirstFault lines fault = IsFirstFaultAfter [] lines fault
+
+-- It is this that was given, unless memory was refused.
+abbrev pub GivesOr : {X : Type 0} → X → Result X ParseFault → Type 0
+GivesOr x (Ok given) = given ≡ x
+GivesOr x (Err fault) = fault ≡ faults.Memory
+
+-- a line's entry comes after those before
+abbrev pub Adds : List Entry → Line → List Entry → Type 0
+Adds before line entries = (said : Option EntryBody) × Says (room_after before) line said × (entries ≡ before ++ entry_of line said)
+
+-- the definitions of an entry have room
+abbrev pub fits : Room → EntryBody → Bool
+fits room (bodies.Aliases kind definitions) = nat_le (length definitions) (room kind)
+fits room body = true
+
+-- where the first entry stands that has a definition past the room for its kind
+abbrev pub over_limit_from : Room → List Entry → Option Place
+over_limit_from room [] = None
+over_limit_from room (entry ∷ entries) =
+    if fits room entry.body then over_limit_from (less room entry.body) entries else Some entry.place
+
+abbrev pub over_limit : List Entry → Option Place
+over_limit entries = over_limit_from (room_after []) entries

@@ -1,0 +1,89 @@
+//! Definitions of aliases.
+ghost use Rattle.std.specs.Prelude.{◌≡◌, ◌^◌, ◌<◌, [], length, IfOk, IfErr};
+ghost use Rattle.sudo_grammar.specs.Places.{Room, AliasName};
+ghost use Rattle.sudo_grammar.specs.Reading.{reading};
+ghost use Rattle.sudo_parser.specs.Stops.{GivesEntry};
+ghost use Rattle.sudo_parser.specs.Aliases.{ReadsName, StopsInName, ReadsDefinition, StopsInDefinition};
+
+use crate::lists::members;
+use crate::stops::{Stopped, wants};
+use crate::tokens::{after_mark, first_token};
+use crate::words::name;
+use std::alloc::Global;
+use sudo_text::{Mark, Seq, Token};
+use sudo_tree::{Definition, EntryBody, Expected, Kind, Refusal};
+
+/// The name of a definition, and the tokens after it. There may be none where the kind's aliases are as many as may be.
+fn definition_name(
+    alloc: Global,
+    is_full: bool,
+    tokens: &[Token],
+) -> Result<(Seq<u8>, &[Token]), Stopped>
+    ensures reads { IfOk result (λ r. ReadsName is_full tokens.now r.0 r.1.now) }
+    ensures stops { IfErr result (StopsInName is_full tokens.now) }
+{
+    match first_token(tokens) {
+        None => Err(wants(Expected::AliasName, 0)),
+        Some((first, rest)) => match name(alloc, &first.kind)? {
+            None => Err(wants(Expected::AliasName, tokens.len())),
+            Some(name) => {
+                if is_full {
+                    return Err(Stopped::At {
+                        refusal: Refusal::TooMany,
+                        left: tokens.len(),
+                    });
+                }
+                Ok((name, rest))
+            }
+        },
+    }
+}
+
+/// The definition of an alias, and the tokens after it.
+fn definition(
+    alloc: Global,
+    kind: Kind,
+    is_full: bool,
+    tokens: &[Token],
+) -> Result<(Definition, &[Token]), Stopped>
+    requires { length tokens.now < 2 ^ 32 }
+    ensures reads { IfOk result (λ r. ReadsDefinition kind is_full tokens.now r.0 r.1.now) }
+    ensures stops { IfErr result (StopsInDefinition kind is_full tokens.now) }
+{
+    let (name, after) = definition_name(alloc, is_full, tokens)?;
+    let listed = match after_mark(after, Mark::Equals) {
+        Some(listed) => listed,
+        None => return Err(wants(Expected::Equals, after.len())),
+    };
+    let (members, rest) = members(alloc, kind, listed)?;
+    Ok((Definition { name, members }, rest))
+}
+
+/// The definitions of a line, after its keyword. At most `limit` of them may stand there.
+pub(crate) fn aliases(
+    alloc: Global,
+    kind: Kind,
+    limit: u32,
+    tokens: &[Token],
+) -> Result<EntryBody, Stopped>
+    requires { length tokens.now < 2 ^ 32 }
+    ensures { (room : Room) → room kind ≡ limit → GivesEntry result (reading room (AliasName kind []) tokens.now) }
+{
+    let mut definitions = Seq::new(alloc);
+    let mut rest = tokens;
+    'definitions: loop {
+        let is_full = limit as usize <= definitions.len();
+        let (definition, after) = definition(alloc, kind, is_full, rest)?;
+        definitions.push(definition)?;
+        match after_mark(after, Mark::Colon) {
+            Some(next) => rest = next,
+            None => {
+                return if after.is_empty() {
+                    Ok(EntryBody::Aliases { kind, definitions })
+                } else {
+                    Err(wants(Expected::EndOfLine, after.len()))
+                };
+            }
+        }
+    }
+}

@@ -1,0 +1,22 @@
+//! The parser of sudoers(5): from the tokens of logical lines to the tree of a policy, and from members to their text.
+#![tactic(auto)]
+
+mod aliases;
+mod defaults;
+mod line;
+mod lists;
+mod members;
+mod numbers;
+mod parsing;
+mod room;
+mod rules;
+mod runas;
+mod stops;
+#[cfg(test)]
+mod tests;
+mod tokens;
+mod words;
+mod writing;
+
+pub use parsing::{first_over_limit, parse};
+pub use writing::member_text;

@@ -1,0 +1,156 @@
+//! One line of a policy.
+ghost use Rattle.std.specs.Prelude.{◌≡◌, ◌+◌, ◌^◌, ◌<◌, ◌∷◌, length, Some, slice_get, IfOk, IfErr, Ok};
+ghost use Rattle.sudo_grammar.specs.Words.{bytes_of};
+ghost use Rattle.sudo_grammar.specs.Members.{is_bare};
+ghost use Rattle.sudo_text.specs.declared.token.Token.{Token};
+ghost use Rattle.sudo_text.specs.declared.token.TokenKind.TheVariants as tokens;
+ghost use Rattle.sudo_grammar.specs.Openings as grammar;
+ghost use Rattle.sudo_grammar.specs.Places as places;
+ghost use Rattle.sudo_grammar.specs.Places.{Start};
+ghost use Rattle.sudo_grammar.specs.Reading.{reading};
+ghost use Rattle.sudo_grammar.specs.Faults.{WritesWithin};
+ghost use Rattle.sudo_tree.specs.declared.policy.EntryBody.{EntryBody};
+ghost use Rattle.sudo_parser.specs.Stops.{GivesEntry};
+ghost use Rattle.sudo_parser.specs.Openings.{opened, IsInclude};
+ghost use Rattle.sudo_parser.specs.Limits.{room_of};
+ghost use Rattle.sudo_parser.specs.Faults.{IsFaultOf};
+
+use crate::aliases::aliases;
+use crate::defaults::defaults;
+use crate::room::Room;
+use crate::rules::rule;
+use crate::stops::{Stopped, wants};
+use crate::tokens::first_token;
+use crate::words::{is_unescaped, spells};
+use std::alloc::Global;
+use sudo_text::{Ch, Seq, Token, TokenKind};
+use sudo_tree::{EntryBody, Expected, Kind, Refusal, Unsupported};
+
+/// What a line begins with, if that is no include directive.
+#[derive(Clone, Copy)]
+enum Opening {
+    Aliases(Kind),
+    Defaults,
+    Rule,
+}
+
+/// What the unescaped characters of a word begin a line with.
+fn word_opening(chars: &[Ch]) -> Opening
+    ensures { opened result ≡ grammar.plain_opening (Some (bytes_of chars.now)) }
+{
+    if spells(chars, b"User_Alias") {
+        Opening::Aliases(Kind::User)
+    } else if spells(chars, b"Runas_Alias") {
+        Opening::Aliases(Kind::Runas)
+    } else if spells(chars, b"Host_Alias") {
+        Opening::Aliases(Kind::Host)
+    } else if spells(chars, b"Cmnd_Alias") || spells(chars, b"Cmd_Alias") {
+        Opening::Aliases(Kind::Cmnd)
+    } else if spells(chars, b"Defaults") {
+        Opening::Defaults
+    } else {
+        Opening::Rule
+    }
+}
+
+/// What a token begins a line with.
+fn first_opening(token: &TokenKind) -> Opening
+    ensures { (IsInclude token.now → ⊥) → opened result ≡ grammar.opening_of token.now }
+{
+    match token {
+        TokenKind::Word { quoted, chars } if !*quoted && is_unescaped(chars) => word_opening(chars),
+        _ => Opening::Rule,
+    }
+}
+
+fn is_byte(c: &Ch, byte: u8) -> bool
+    ensures { result ≡ is_bare byte (Some c.now) }
+{
+    !c.escaped && c.byte == byte
+}
+
+fn begins_with(chars: &[Ch], byte: u8) -> bool
+    ensures { result ≡ is_bare byte (slice_get chars.now 0) }
+{
+    match chars {
+        [first, ..] => is_byte(first, byte),
+        [] => false,
+    }
+}
+
+/// Whether an unescaped `%h` stands in a path.
+fn has_host_escape(path: &[Ch]) -> bool
+    ensures { result ≡ grammar.has_host_escape path.now }
+{
+    let mut rest = path;
+    'chars: loop {
+        match rest {
+            [] => return false,
+            [first, after @ ..] => {
+                if is_byte(first, b'%') && begins_with(after, b'h') {
+                    return true;
+                }
+                rest = after;
+            }
+        }
+    }
+}
+
+/// An include line, with so many tokens from its directive on, and those after it.
+fn include(
+    alloc: Global,
+    folder: bool,
+    hash: bool,
+    path: &[Ch],
+    left: usize,
+    rest: &[Token],
+) -> Result<EntryBody, Stopped>
+    requires { left ≡ length rest.now + 1 }
+    ensures { (room : places.Room) (t : Token) → t.kind ≡ tokens.Include folder hash path.now → GivesEntry result (reading room Start (t ∷ rest.now)) }
+{
+    if path.is_empty() {
+        return Err(wants(Expected::Path, left));
+    }
+    if has_host_escape(path) {
+        return Err(Stopped::At {
+            refusal: Refusal::Unsupported(Unsupported::HostEscape),
+            left,
+        });
+    }
+    if !rest.is_empty() {
+        return Err(wants(Expected::EndOfLine, rest.len()));
+    }
+    let path = Seq::from_slice(alloc, path)?;
+    Ok(EntryBody::Include { folder, hash, path })
+}
+
+/// The entry that a line's tokens give, or the first of them at which the line can't go on.
+fn read(alloc: Global, room: &Room, tokens: &[Token]) -> Result<EntryBody, Stopped>
+    requires { length tokens.now < 2 ^ 32 }
+    ensures { GivesEntry result (reading (room_of room.now) Start tokens.now) }
+{
+    let (first, rest) = match first_token(tokens) {
+        Some(found) => found,
+        None => return Err(wants(Expected::Member, 0)),
+    };
+    match &first.kind {
+        TokenKind::Include { folder, hash, path } => {
+            include(alloc, *folder, *hash, path, tokens.len(), rest)
+        }
+        kind => match first_opening(kind) {
+            Opening::Aliases(kind) => aliases(alloc, kind, room.of_kind(kind), rest),
+            Opening::Defaults => defaults(alloc, rest),
+            Opening::Rule => rule(alloc, tokens),
+        },
+    }
+}
+
+/// The entry of which the tokens are a written form, within the room for definitions; else the line's grammar fault.
+pub(crate) fn entry(alloc: Global, room: &Room, tokens: &[Token]) -> Result<EntryBody, Stopped>
+    requires { length tokens.now < 2 ^ 32 }
+    ensures written { IfOk result (λ e. WritesWithin (room_of room.now) e tokens.now) }
+    ensures only { (e : EntryBody) → WritesWithin (room_of room.now) e tokens.now → GivesEntry result (Ok e) }
+    ensures fault { IfErr result (IsFaultOf (room_of room.now) tokens.now) }
+{
+    read(alloc, room, tokens)
+}

@@ -1,0 +1,128 @@
+//! Lists of members.
+ghost use Rattle.std.specs.Prelude.{◌≡◌, ◌^◌, ◌<◌, length, IfOk, IfErr};
+ghost use Rattle.sudo_grammar.specs.Refusals as refusals;
+ghost use Rattle.sudo_parser.specs.Stops.{IsNotNext};
+ghost use Rattle.sudo_parser.specs.Lists.{option_begins, IsTaken, StopsAtMember, ReadsItem, StopsInItem, ReadsItems, StopsInItems, declined_as};
+
+use crate::members::{Declined, atom, expected};
+use crate::stops::{Stopped, wants};
+use crate::tokens::{
+    after_mark, bangs, colon_comes, colon_comes_at, copy_of, equals_comes, first_token,
+};
+use crate::words::{is_digest, is_option, is_percent};
+use std::alloc::Global;
+use sudo_text::{Mark, Seq, Token};
+use sudo_tree::{Kind, Member, Refusal, Unsupported};
+
+/// The refusal of a token, or a better one by what comes next: `%` and a colon directly after it is a group of
+/// another kind, and the name of a digest and a colon is a digest.
+fn renamed(kind: Kind, token: &Token, rest: &[Token], refusal: Refusal) -> Refusal
+    ensures { result ≡ refusals.with_next kind token.now rest.now refusal }
+{
+    match kind {
+        Kind::Cmnd => {
+            if is_digest(&token.kind) && colon_comes(rest) {
+                Refusal::Unsupported(Unsupported::Digest)
+            } else {
+                refusal
+            }
+        }
+        Kind::Host => refusal,
+        Kind::User | Kind::Runas => {
+            if is_percent(&token.kind) && colon_comes_at(token.end, rest) {
+                Refusal::Unsupported(Unsupported::NonUnixGroup)
+            } else {
+                refusal
+            }
+        }
+    }
+}
+
+/// The stop at a token that is no member, with so many tokens left from it on.
+fn declined(kind: Kind, token: &Token, rest: &[Token], why: Declined, left: usize) -> Stopped
+    ensures { result ≡ declined_as kind token.now rest.now why left }
+{
+    match why {
+        Declined::Refused(refusal) => Stopped::At {
+            refusal: renamed(kind, token, rest, refusal),
+            left,
+        },
+        Declined::Memory => Stopped::Memory,
+    }
+}
+
+/// Whether a token among commands is an option of one: its name, and an equals sign after it.
+fn begins_option(kind: Kind, token: &Token, rest: &[Token]) -> bool
+    ensures { result ≡ option_begins kind token.now rest.now }
+{
+    match kind {
+        Kind::Cmnd => is_option(&token.kind) && equals_comes(rest),
+        _ => false,
+    }
+}
+
+/// The member that the first token stands for, after so many exclamation marks, and the tokens after it.
+fn member(
+    alloc: Global,
+    kind: Kind,
+    bangs: u32,
+    tokens: &[Token],
+) -> Result<(Member, &[Token]), Stopped>
+    requires { IsNotNext Mark.Bang tokens.now }
+    ensures reads { IfOk result (λ r. IsTaken kind bangs tokens.now r.0 r.1.now) }
+    ensures stops { IfErr result (StopsAtMember kind bangs tokens.now) }
+{
+    match first_token(tokens) {
+        None => Err(wants(expected(kind), 0)),
+        Some((first, rest)) => {
+            let atom = match atom(alloc, kind, &first.kind) {
+                Ok(atom) => atom,
+                Err(e) => return Err(declined(kind, first, rest, e, tokens.len())),
+            };
+            if begins_option(kind, first, rest) {
+                return Err(Stopped::At {
+                    refusal: Refusal::Unsupported(Unsupported::CommandOption),
+                    left: rest.len(),
+                });
+            }
+            let token = copy_of(first)?;
+            Ok((Member { bangs, token, atom }, rest))
+        }
+    }
+}
+
+/// One member with the exclamation marks before it, and the tokens after it.
+pub(crate) fn item(
+    alloc: Global,
+    kind: Kind,
+    tokens: &[Token],
+) -> Result<(Member, &[Token]), Stopped>
+    requires { length tokens.now < 2 ^ 32 }
+    ensures reads { IfOk result (λ r. ReadsItem kind tokens.now r.0 r.1.now) }
+    ensures stops { IfErr result (StopsInItem kind tokens.now) }
+{
+    let (count, rest) = bangs(tokens);
+    member(alloc, kind, count, rest)
+}
+
+/// A list of a kind, and the tokens after it.
+pub(crate) fn members(
+    alloc: Global,
+    kind: Kind,
+    tokens: &[Token],
+) -> Result<(Seq<Member>, &[Token]), Stopped>
+    requires { length tokens.now < 2 ^ 32 }
+    ensures reads { IfOk result (λ r. ReadsItems kind tokens.now r.0 r.1.now) }
+    ensures stops { IfErr result (StopsInItems kind tokens.now) }
+{
+    let mut members = Seq::new(alloc);
+    let mut rest = tokens;
+    'items: loop {
+        let (member, after) = item(alloc, kind, rest)?;
+        members.push(member)?;
+        match after_mark(after, Mark::Comma) {
+            Some(next) => rest = next,
+            None => return Ok((members, after)),
+        }
+    }
+}

@@ -1,0 +1,273 @@
+//! What a token stands for as a member of a list.
+ghost use Rattle.std.specs.Prelude.{◌≡◌, IfOk, ◌==◌};
+ghost use Rattle.std.specs.List.{list_any};
+ghost use Rattle.sudo_grammar.specs.Words.{bytes_of};
+ghost use Rattle.sudo_grammar.specs.Members.{atom_of, expected_in, other_atom, user_of, group_of, cut_at, address_of, network_of, is_slash, host_of, unquoted_host_of, plain_host_of, command_of, no_command, begins_with_caret, ends_in_dollar};
+ghost use Rattle.sudo_parser.specs.Gives.{Gives};
+ghost use Rattle.sudo_grammar.specs.Members;
+
+use crate::numbers::{address, cut, mask, number};
+use crate::words::{ALL, bytes, is_alias_name, is_text, is_unescaped, plain};
+use std::alloc::{AllocError, Global};
+use sudo_text::{Ch, Seq, TokenKind};
+use sudo_tree::{Atom, Expected, Kind, Refusal, Unsupported};
+
+const LIST: &[u8] = b"list";
+
+/// Why a token is no member, or memory was refused.
+#[derive(Clone, Copy)]
+pub(crate) enum Declined {
+    Refused(Refusal),
+    Memory,
+}
+
+impl From<AllocError> for Declined {
+    ghost use Rattle.std.specs.Prelude.{◌≡◌};
+    ghost use Rattle.sudo_parser.specs.declared.members.Declined.TheVariants.{Memory};
+
+    ghost from_gives = { λ _ e. e ≡ Memory };
+
+    fn from(_: AllocError) -> Declined {
+        Declined::Memory
+    }
+}
+
+/// A network: an address and a mask.
+fn network(front: &[u8], back: &[u8]) -> Result<Atom, Declined>
+    ensures { Gives result (network_of (address_of front.now) back.now) }
+{
+    match address(front) {
+        None => Err(Declined::Refused(Refusal::BadNumber)),
+        Some(Err(refusal)) => Err(Declined::Refused(refusal)),
+        Some(Ok(addr)) => match mask(back) {
+            Ok(mask) => Ok(Atom::Net { addr, mask }),
+            Err(refusal) => Err(Declined::Refused(refusal)),
+        },
+    }
+}
+
+/// A copy of characters.
+fn copied(alloc: Global, chars: &[Ch]) -> Result<Seq<Ch>, AllocError>
+    ensures { IfOk result (λ copy. copy ≡ chars.now) }
+{
+    Seq::from_slice(alloc, chars)
+}
+
+/// A host's name.
+fn host_name(alloc: Global, chars: &[Ch], quoted: bool) -> Result<Atom, Declined>
+    ensures { Gives result (Ok (Atom.Host chars.now quoted)) }
+{
+    let chars = copied(alloc, chars)?;
+    Ok(Atom::Host { chars, quoted })
+}
+
+/// An unquoted host word without escapes: an address, a network or a name.
+fn plain_host(alloc: Global, chars: &[Ch]) -> Result<Atom, Declined>
+    ensures { Gives result (plain_host_of chars.now (bytes_of chars.now) (cut_at 47 (bytes_of chars.now))) }
+{
+    let bytes = bytes(alloc, chars)?;
+    match cut(&bytes, b'/') {
+        Some((front, back)) => network(front, back),
+        None => match address(&bytes) {
+            None => host_name(alloc, chars, false),
+            Some(Ok(addr)) => Ok(Atom::Address(addr)),
+            Some(Err(refusal)) => Err(Declined::Refused(refusal)),
+        },
+    }
+}
+
+fn has_slash(chars: &[Ch]) -> bool
+    ensures { result ≡ list_any is_slash chars.now }
+{
+    chars.iter().any(|c| !c.escaped && c.byte == b'/')
+}
+
+fn unquoted_host(alloc: Global, chars: &[Ch]) -> Result<Atom, Declined>
+    ensures { Gives result (unquoted_host_of chars.now) }
+{
+    if is_unescaped(chars) {
+        plain_host(alloc, chars)
+    } else if has_slash(chars) {
+        Err(Declined::Refused(Refusal::BadNumber))
+    } else {
+        host_name(alloc, chars, false)
+    }
+}
+
+fn unsupported(what: Unsupported) -> Declined
+    ensures { result ≡ Declined.Refused (Refusal.Unsupported what) }
+{
+    Declined::Refused(Refusal::Unsupported(what))
+}
+
+fn no_member() -> Declined
+    ensures { result ≡ Declined.Refused Members.no_member }
+{
+    Declined::Refused(Refusal::Syntax(Expected::Member))
+}
+
+/// What must stand in a list of a kind.
+pub(crate) fn expected(kind: Kind) -> Expected
+    ensures { result ≡ expected_in kind }
+{
+    match kind {
+        Kind::Cmnd => Expected::Command,
+        _ => Expected::Member,
+    }
+}
+
+/// A host.
+fn host(alloc: Global, quoted: bool, chars: &[Ch]) -> Result<Atom, Declined>
+    ensures { Gives result (host_of quoted chars.now) }
+{
+    match chars {
+        [] => Err(no_member()),
+        [first, ..] => {
+            if !first.escaped && first.byte == b'+' {
+                return Err(unsupported(Unsupported::Netgroup));
+            }
+            if quoted {
+                return host_name(alloc, chars, true);
+            }
+            unquoted_host(alloc, chars)
+        }
+    }
+}
+
+/// What stands after `%`.
+fn group(alloc: Global, chars: &[Ch]) -> Result<Atom, Declined>
+    ensures { Gives result (group_of (bytes_of chars.now)) }
+{
+    match chars {
+        [] => Err(no_member()),
+        [first, rest @ ..] => match first.byte {
+            b':' => Err(unsupported(Unsupported::NonUnixGroup)),
+            b'#' => {
+                let digits = bytes(alloc, rest)?;
+                match number(&digits) {
+                    Some(id) => Ok(Atom::Gid(id)),
+                    None => Err(Declined::Refused(Refusal::BadNumber)),
+                }
+            }
+            _ => Ok(Atom::Group(bytes(alloc, chars)?)),
+        },
+    }
+}
+
+/// A user, a group or their kin, by the first byte if no escape gave it.
+fn user(alloc: Global, chars: &[Ch]) -> Result<Atom, Declined>
+    ensures { Gives result (user_of chars.now) }
+{
+    match chars {
+        [] => Err(no_member()),
+        [first, rest @ ..] => {
+            if first.escaped {
+                return Ok(Atom::Name(bytes(alloc, chars)?));
+            }
+            match first.byte {
+                b'+' => Err(unsupported(Unsupported::Netgroup)),
+                b'%' => group(alloc, rest),
+                b'#' => {
+                    let digits = bytes(alloc, rest)?;
+                    match number(&digits) {
+                        Some(id) => Ok(Atom::Uid(id)),
+                        None => Err(Declined::Refused(Refusal::BadNumber)),
+                    }
+                }
+                _ => Ok(Atom::Name(bytes(alloc, chars)?)),
+            }
+        }
+    }
+}
+
+/// Whether the first character is an unescaped `^`.
+fn has_caret(chars: &[Ch]) -> bool
+    ensures { result ≡ begins_with_caret chars.now }
+{
+    match chars.first() {
+        Some(c) => !c.escaped && c.byte == b'^',
+        None => false,
+    }
+}
+
+/// Whether the last character is an unescaped `$`.
+fn has_dollar(chars: &[Ch]) -> bool
+    ensures { result ≡ ends_in_dollar chars.now }
+{
+    match chars.last() {
+        Some(c) => !c.escaped && c.byte == b'$',
+        None => false,
+    }
+}
+
+/// A command: its path, and its arguments unless they are a regular expression.
+fn command(alloc: Global, path: &[Ch], args: &Option<Seq<Ch>>) -> Result<Atom, Declined>
+    ensures { Gives result (command_of path.now args.now) }
+{
+    match args {
+        None => Ok(Atom::Command {
+            path: copied(alloc, path)?,
+            args: None,
+        }),
+        Some(args) => {
+            if has_caret(args) && has_dollar(args) {
+                return Err(unsupported(Unsupported::RegularExpression));
+            }
+            Ok(Atom::Command {
+                path: copied(alloc, path)?,
+                args: Some(copied(alloc, args)?),
+            })
+        }
+    }
+}
+
+/// Why a word is no command.
+fn not_command(quoted: bool, chars: &[Ch]) -> Refusal
+    ensures { result ≡ no_command quoted chars.now }
+{
+    if quoted {
+        Refusal::NotCommand
+    } else if has_caret(chars) {
+        Refusal::Unsupported(Unsupported::RegularExpression)
+    } else if is_text(chars, LIST) {
+        Refusal::Unsupported(Unsupported::List)
+    } else {
+        Refusal::NotCommand
+    }
+}
+
+/// A token that is neither `ALL` nor the name of an alias.
+fn other(alloc: Global, kind: Kind, token: &TokenKind) -> Result<Atom, Declined>
+    ensures { Gives result (other_atom kind token.now) }
+{
+    match token {
+        TokenKind::Word { quoted, chars } => match kind {
+            Kind::User | Kind::Runas => user(alloc, chars),
+            Kind::Host => host(alloc, *quoted, chars),
+            Kind::Cmnd => Err(Declined::Refused(not_command(*quoted, chars))),
+        },
+        TokenKind::Command { path, args } => match kind {
+            Kind::Cmnd => command(alloc, path, args),
+            _ => Err(no_member()),
+        },
+        _ => Err(Declined::Refused(Refusal::Syntax(expected(kind)))),
+    }
+}
+
+/// What a token stands for in a list of a kind, or why it is no member: see sudoers(5), "SUDOERS FILE FORMAT".
+pub(crate) fn atom(alloc: Global, kind: Kind, token: &TokenKind) -> Result<Atom, Declined>
+    ensures { Gives result (atom_of kind token.now) }
+{
+    match plain(alloc, token)? {
+        Some(word) => {
+            if word.as_slice() == ALL {
+                Ok(Atom::All)
+            } else if is_alias_name(&word) {
+                Ok(Atom::Alias(word))
+            } else {
+                other(alloc, kind, token)
+            }
+        }
+        None => other(alloc, kind, token),
+    }
+}

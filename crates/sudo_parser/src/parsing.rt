@@ -1,0 +1,152 @@
+//! The lines of a file to its entries.
+ghost use Rattle.std.specs.Prelude.{◌≡◌, ◌≢◌, ◌≤◌, ◌<◌, ◌-◌, ◌++◌, List, Option, [], length, drop, IfOk, IfErr, OnOk, MatchResult, All, true};
+ghost use Rattle.sudo_text.specs.Tokens.{spells};
+ghost use Rattle.sudo_tree.specs.declared.policy.Entry.{Entry as AnEntry};
+ghost use Rattle.sudo_tree.specs.declared.policy.EntryBody.{EntryBody as ABody};
+ghost use Rattle.sudo_parser.specs.Limits.{room_of};
+ghost use Rattle.sudo_parser.specs.Parsed as spec;
+ghost use Rattle.sudo_parser.specs.Parsed.{room_after, Says, entry_of, AreEntries, IsLineFault, IsFirstFault, GivesOr, Adds, over_limit};
+
+use crate::line::entry;
+use crate::room::Room;
+use crate::stops::Stopped;
+use std::alloc::Global;
+use sudo_text::{Line, Place, Seq, TEXT_LIMIT, TextFault, Token, tokens};
+use sudo_tree::{Entry, EntryBody, ParseFault, Refusal};
+
+/// The fault of a text, as one of a policy.
+fn text_fault(fault: TextFault) -> ParseFault
+    ensures { result ≡ spec.text_fault fault }
+{
+    match fault {
+        TextFault::Memory => ParseFault::Memory,
+        fault => ParseFault::Text(fault),
+    }
+}
+
+/// The column of the token from which on so many are left, or that of the line's end.
+fn column(line: &Line, tokens: &[Token], left: usize) -> u32
+    requires left { left ≤ length tokens.now }
+    requires short { length line.now.text ≤ TEXT_LIMIT }
+    requires inside { All (λ t. t.start < length line.now.text) tokens.now }
+    ensures { result ≡ spec.column line.now (drop (length tokens.now - left) tokens.now) }
+{
+    match &tokens[tokens.len() - left..] {
+        [first, ..] => first.start + 1,
+        [] => line.text.len() as u32 + 1,
+    }
+}
+
+/// The fault of a line that is refused where so many tokens are left.
+fn refused(line: &Line, tokens: &[Token], refusal: Refusal, left: usize) -> ParseFault
+    requires left { left ≤ length tokens.now }
+    requires short { length line.now.text ≤ TEXT_LIMIT }
+    requires inside { All (λ t. t.start < length line.now.text) tokens.now }
+    ensures { result ≡ spec.fault_at line.now.first (spec.column line.now (drop (length tokens.now - left) tokens.now)) refusal }
+{
+    let (place, col) = (line.first, column(line, tokens, left));
+    match refusal {
+        Refusal::Syntax(expected) => ParseFault::Syntax {
+            place,
+            col,
+            expected,
+        },
+        Refusal::Unsupported(what) => ParseFault::Unsupported { place, what },
+        Refusal::NotCommand => ParseFault::NotCommand { place, col },
+        Refusal::BadNumber => ParseFault::BadNumber { place, col },
+        Refusal::TooMany => ParseFault::TooMany { place },
+    }
+}
+
+/// What a line says: nothing where it has no tokens, else its entry.
+fn said(alloc: Global, room: &Room, line: &Line) -> Result<Option<EntryBody>, ParseFault>
+    requires { length line.now.text ≤ TEXT_LIMIT }
+    ensures says { IfOk result (λ body. Says (room_of room.now) line.now body) }
+    ensures only { (body : Option ABody) → Says (room_of room.now) line.now body → GivesOr body result }
+    ensures fault { IfErr result (λ fault. fault ≢ ParseFault.Memory → IsLineFault (room_of room.now) line.now fault) }
+{
+    let tokens = match tokens(alloc, line) {
+        Ok(tokens) => tokens,
+        Err(fault) => return Err(text_fault(fault)),
+    };
+    if tokens.is_empty() {
+        return Ok(None);
+    }
+    match entry(alloc, room, &tokens) {
+        Ok(body) => Ok(Some(body)),
+        Err(Stopped::At { refusal, left }) => Err(refused(line, &tokens, refusal, left)),
+        Err(Stopped::Memory) => Err(ParseFault::Memory),
+    }
+}
+
+/// Adds what a line says to the entries of the lines before.
+fn add_line(
+    alloc: Global,
+    room: &mut Room,
+    entries: &mut Seq<Entry>,
+    line: &Line,
+) -> Result<(), ParseFault>
+    requires short { length line.now.text ≤ TEXT_LIMIT }
+    requires room { room_of room.old ≡ room_after entries.old }
+    ensures room { OnOk result (room_of room.new ≡ room_after entries.new) }
+    ensures added { OnOk result (Adds entries.old line.now entries.new) }
+    ensures only { (body : Option ABody) → Says (room_after entries.old) line.now body → MatchResult result
+        (λ _. entries.new ≡ entries.old ++ entry_of line.now body)
+        (λ fault. fault ≡ ParseFault.Memory) }
+    ensures fault { IfErr result (λ fault. fault ≢ ParseFault.Memory → IsLineFault (room_after entries.old) line.now fault) }
+{
+    match said(alloc, room, line) {
+        Ok(None) => Ok(()),
+        Ok(Some(body)) => {
+            *room = room.after(&body);
+            entries.push(Entry {
+                place: line.first,
+                body,
+            })?;
+            Ok(())
+        }
+        Err(fault) => Err(fault),
+    }
+}
+
+/// The entries of a file's lines, in order; a line without tokens gives none.
+///
+/// The first faulty line decides, and in it the leftmost fault: `Text` with the fault of its text where it has one;
+/// else `Syntax`, `NotCommand` and `BadNumber` with the column of the first token that cannot stand there, or of the
+/// line's end, `Unsupported` for a form of sudoers(5) that is known and refused, and `TooMany` for the definition past
+/// 4,096 of its kind. `Memory` comes only where memory was refused.
+pub fn parse(alloc: Global, lines: &[Line]) -> Result<Seq<Entry>, ParseFault>
+    requires { All (λ line. length line.text ≤ TEXT_LIMIT) lines.now }
+    ensures entries { IfOk result (λ entries. AreEntries lines.now entries) }
+    // Lines that have entries are read, unless memory was refused.
+    ensures only { (entries : List AnEntry) → AreEntries lines.now entries → GivesOr entries result }
+    ensures fault { IfErr result (λ fault. fault ≢ ParseFault.Memory → IsFirstFault lines.now fault) }
+{
+    let mut room = Room::whole();
+    let mut entries = Seq::new(alloc);
+    let mut left = lines;
+    while let Some((line, rest)) = left.split_first() {
+        match add_line(alloc, &mut room, &mut entries, line) {
+            Ok(()) => {}
+            Err(fault) => return Err(fault),
+        }
+        left = rest;
+    }
+    Ok(entries)
+}
+
+/// The place of the first entry with a definition of an alias past 4,096 of its kind, in all entries together.
+pub fn first_over_limit(entries: &[Entry]) -> Option<Place>
+    ensures { result ≡ over_limit entries.now }
+{
+    let mut room = Room::whole();
+    let mut left = entries;
+    while let Some((entry, rest)) = left.split_first() {
+        if !room.fits(&entry.body) {
+            return Some(entry.place);
+        }
+        room = room.after(&entry.body);
+        left = rest;
+    }
+    None
+}

@@ -1,0 +1,109 @@
+//! The tokens that come next.
+ghost use Rattle.std.specs.Prelude.{◌≡◌, ◌^◌, ◌<◌, ◌↔◌, false, [], ◌∷◌, length, IfOk, IsTrue, MatchOption};
+ghost use Rattle.sudo_grammar.specs.Refusals as refusals;
+ghost use Rattle.sudo_parser.specs.Stops.{IsMark, IsNotNext, IsNext};
+ghost use Rattle.sudo_parser.specs.Lists.{ReadsBangs};
+
+use std::alloc::AllocError;
+use sudo_text::{Mark, Token, TokenKind};
+
+pub(crate) fn is_mark(token: &Token, mark: Mark) -> bool
+    ensures { IsTrue result ↔ IsMark mark token.now }
+{
+    match &token.kind {
+        TokenKind::Mark(found) => *found == mark,
+        _ => false,
+    }
+}
+
+/// The first token, and those after it.
+pub(crate) fn first_token(tokens: &[Token]) -> Option<(&Token, &[Token])>
+    ensures { MatchOption result (tokens.now ≡ []) (λ r. tokens.now ≡ r.0.now ∷ r.1.now) }
+{
+    match tokens {
+        [] => None,
+        [first, rest @ ..] => Some((first, rest)),
+    }
+}
+
+/// A copy of a token.
+pub(crate) fn copy_of(token: &Token) -> Result<Token, AllocError>
+    ensures { IfOk result (λ copy. copy ≡ token.now) }
+{
+    token.clone()
+}
+
+/// The tokens after a mark, if it comes next.
+pub(crate) fn after_mark(tokens: &[Token], mark: Mark) -> Option<&[Token]>
+    ensures { MatchOption result (IsNotNext mark tokens.now) (λ rest. IsNext mark tokens.now rest.now) }
+{
+    match first_token(tokens) {
+        Some((first, rest)) => {
+            if is_mark(first, mark) {
+                Some(rest)
+            } else {
+                None
+            }
+        }
+        None => None,
+    }
+}
+
+/// Whether a mark comes next.
+pub(crate) fn is_next(tokens: &[Token], mark: Mark) -> bool
+    ensures yes { IsTrue result → IsNotNext mark tokens.now → ⊥ }
+    ensures no { result ≡ false → IsNotNext mark tokens.now }
+{
+    match first_token(tokens) {
+        Some((first, _)) => is_mark(first, mark),
+        None => false,
+    }
+}
+
+/// Whether a colon comes next.
+pub(crate) fn colon_comes(tokens: &[Token]) -> bool
+    ensures { result ≡ refusals.is_next Mark.Colon tokens.now }
+{
+    match first_token(tokens) {
+        Some((first, _)) => matches!(&first.kind, TokenKind::Mark(Mark::Colon)),
+        None => false,
+    }
+}
+
+/// Whether a colon comes next, at an offset in the line's text.
+pub(crate) fn colon_comes_at(start: u32, tokens: &[Token]) -> bool
+    ensures { result ≡ refusals.is_next_at start Mark.Colon tokens.now }
+{
+    match first_token(tokens) {
+        Some((first, _)) => {
+            matches!(&first.kind, TokenKind::Mark(Mark::Colon)) && first.start == start
+        }
+        None => false,
+    }
+}
+
+/// Whether an equals sign comes next.
+pub(crate) fn equals_comes(tokens: &[Token]) -> bool
+    ensures { result ≡ refusals.is_next Mark.Equals tokens.now }
+{
+    match first_token(tokens) {
+        Some((first, _)) => matches!(&first.kind, TokenKind::Mark(Mark::Equals)),
+        None => false,
+    }
+}
+
+/// How many exclamation marks stand first, and the tokens after them.
+pub(crate) fn bangs(tokens: &[Token]) -> (u32, &[Token])
+    requires { length tokens.now < 2 ^ 32 }
+    ensures reads { ReadsBangs tokens.now result.0 result.1.now }
+    ensures no_more { IsNotNext Mark.Bang result.1.now }
+{
+    let mut count: u32 = 0;
+    for token in tokens {
+        if !is_mark(token, Mark::Bang) {
+            return (count, &tokens[count as usize..]);
+        }
+        count += 1;
+    }
+    (count, &[])
+}

@@ -1,0 +1,214 @@
+//! What a word spells.
+ghost use Rattle.std.specs.Prelude.{◌≡◌, ◌&&◌, IfOk};
+ghost use Rattle.std.specs.Str.{bytes_eq};
+ghost use Rattle.std.specs.List.{list_all};
+ghost use Rattle.sudo_grammar.specs.Words.{bytes_of, is_plain, plain_word, is_name, is_name_byte, begins_upper, name_of, tag_of, tag_of_name, is_option_name, is_digest_name};
+ghost use Rattle.sudo_grammar.specs.Openings as openings;
+
+use std::alloc::{AllocError, Global};
+use sudo_text::{Ch, Seq, TokenKind};
+use sudo_tree::Tag;
+
+pub(crate) const ALL: &[u8] = b"ALL";
+
+/// The bytes of characters.
+pub(crate) fn bytes(alloc: Global, chars: &[Ch]) -> Result<Seq<u8>, AllocError>
+    ensures { IfOk result (λ bytes. bytes ≡ bytes_of chars.now) }
+{
+    let bytes: Vec<u8> = chars.iter().map(|c| c.byte).collect(alloc)?;
+    Ok(Seq::from_vec(bytes))
+}
+
+/// Whether no escape gave any of the characters.
+pub(crate) fn is_unescaped(chars: &[Ch]) -> bool
+    ensures { result ≡ is_plain chars.now }
+{
+    chars.iter().all(|c| !c.escaped)
+}
+
+/// What an unquoted word without escapes spells.
+pub(crate) fn plain(alloc: Global, token: &TokenKind) -> Result<Option<Seq<u8>>, AllocError>
+    ensures { IfOk result (λ word. word ≡ plain_word token.now) }
+{
+    match token {
+        TokenKind::Word { quoted, chars } if !*quoted && is_unescaped(chars) => {
+            Ok(Some(bytes(alloc, chars)?))
+        }
+        _ => Ok(None),
+    }
+}
+
+fn begins_with_upper(word: &[u8]) -> bool
+    ensures { result ≡ begins_upper word.now }
+{
+    match word {
+        [] => false,
+        [first, ..] => first.is_ascii_uppercase(),
+    }
+}
+
+fn has_name_bytes(word: &[u8]) -> bool
+    ensures { result ≡ list_all is_name_byte word.now }
+{
+    word.iter().all(|b| b.is_ascii_uppercase() || b.is_ascii_digit() || *b == b'_')
+}
+
+/// Whether it is the name of an alias: an upper-case letter, and then upper-case letters, digits and underscores, and
+/// not `ALL`.
+pub(crate) fn is_alias_name(word: &[u8]) -> bool
+    ensures { result ≡ is_name word.now }
+{
+    begins_with_upper(word) && has_name_bytes(word) && word != ALL
+}
+
+/// Whether the bytes of characters are a text.
+pub(crate) fn spells(chars: &[Ch], text: &[u8]) -> bool
+    ensures { result ≡ bytes_eq (bytes_of chars.now) text.now }
+{
+    match (chars, text) {
+        ([], []) => true,
+        ([c, chars @ ..], [b, text @ ..]) => c.byte == *b && spells(chars, text),
+        _ => false,
+    }
+}
+
+/// Whether unescaped characters spell a text.
+pub(crate) fn is_text(chars: &[Ch], text: &[u8]) -> bool
+    ensures { result ≡ (is_plain chars.now && bytes_eq (bytes_of chars.now) text.now) }
+{
+    is_unescaped(chars) && spells(chars, text)
+}
+
+/// The name of an alias that a token spells.
+pub(crate) fn name(alloc: Global, token: &TokenKind) -> Result<Option<Seq<u8>>, AllocError>
+    ensures { IfOk result (λ name. name ≡ name_of token.now) }
+{
+    match plain(alloc, token)? {
+        Some(word) => {
+            if is_alias_name(&word) {
+                Ok(Some(word))
+            } else {
+                Ok(None)
+            }
+        }
+        None => Ok(None),
+    }
+}
+
+fn is_text_of(word: &[u8], text: &[u8]) -> bool
+    ensures { result ≡ bytes_eq word.now text.now }
+{
+    word == text
+}
+
+/// The tag that a name spells.
+fn tag_named(name: &[u8]) -> Option<Tag>
+    ensures { result ≡ tag_of_name name.now }
+{
+    if is_text_of(name, b"EXEC") {
+        Some(Tag::Exec)
+    } else if is_text_of(name, b"NOEXEC") {
+        Some(Tag::NoExec)
+    } else if is_text_of(name, b"FOLLOW") {
+        Some(Tag::Follow)
+    } else if is_text_of(name, b"NOFOLLOW") {
+        Some(Tag::NoFollow)
+    } else if is_text_of(name, b"INTERCEPT") {
+        Some(Tag::Intercept)
+    } else if is_text_of(name, b"NOINTERCEPT") {
+        Some(Tag::NoIntercept)
+    } else if is_text_of(name, b"LOG_INPUT") {
+        Some(Tag::LogInput)
+    } else if is_text_of(name, b"NOLOG_INPUT") {
+        Some(Tag::NoLogInput)
+    } else if is_text_of(name, b"LOG_OUTPUT") {
+        Some(Tag::LogOutput)
+    } else if is_text_of(name, b"NOLOG_OUTPUT") {
+        Some(Tag::NoLogOutput)
+    } else if is_text_of(name, b"MAIL") {
+        Some(Tag::Mail)
+    } else if is_text_of(name, b"NOMAIL") {
+        Some(Tag::NoMail)
+    } else if is_text_of(name, b"PASSWD") {
+        Some(Tag::Passwd)
+    } else if is_text_of(name, b"NOPASSWD") {
+        Some(Tag::NoPasswd)
+    } else if is_text_of(name, b"SETENV") {
+        Some(Tag::SetEnv)
+    } else if is_text_of(name, b"NOSETENV") {
+        Some(Tag::NoSetEnv)
+    } else {
+        None
+    }
+}
+
+/// The tag that a token spells.
+pub(crate) fn tag(alloc: Global, token: &TokenKind) -> Result<Option<Tag>, AllocError>
+    ensures { IfOk result (λ tag. tag ≡ tag_of token.now) }
+{
+    match name(alloc, token)? {
+        Some(name) => Ok(tag_named(&name)),
+        None => Ok(None),
+    }
+}
+
+fn is_option_text(chars: &[Ch]) -> bool
+    ensures { result ≡ is_option_name (bytes_of chars.now) }
+{
+    spells(chars, b"ROLE")
+        || spells(chars, b"TYPE")
+        || spells(chars, b"APPARMOR_PROFILE")
+        || spells(chars, b"CWD")
+        || spells(chars, b"CHROOT")
+        || spells(chars, b"TIMEOUT")
+        || spells(chars, b"NOTBEFORE")
+        || spells(chars, b"NOTAFTER")
+        || spells(chars, b"PRIVS")
+        || spells(chars, b"LIMITPRIVS")
+}
+
+/// Whether a token is the name of an option of a command.
+pub(crate) fn is_option(token: &TokenKind) -> bool
+    ensures { result ≡ openings.spells is_option_name (plain_word token.now) }
+{
+    match token {
+        TokenKind::Word { quoted, chars } => {
+            !*quoted && is_unescaped(chars) && is_option_text(chars)
+        }
+        _ => false,
+    }
+}
+
+fn is_digest_text(chars: &[Ch]) -> bool
+    ensures { result ≡ is_digest_name (bytes_of chars.now) }
+{
+    spells(chars, b"sha224")
+        || spells(chars, b"sha256")
+        || spells(chars, b"sha384")
+        || spells(chars, b"sha512")
+}
+
+/// Whether a token is the name of a digest of a command.
+pub(crate) fn is_digest(token: &TokenKind) -> bool
+    ensures { result ≡ openings.spells is_digest_name (plain_word token.now) }
+{
+    match token {
+        TokenKind::Word { quoted, chars } => {
+            !*quoted && is_unescaped(chars) && is_digest_text(chars)
+        }
+        _ => false,
+    }
+}
+
+/// Whether a token is a percent sign alone, in double quotes or not.
+pub(crate) fn is_percent(token: &TokenKind) -> bool
+    ensures { result ≡ openings.is_percent token.now }
+{
+    match token {
+        TokenKind::Word { chars, .. } => match chars.as_slice() {
+            [c] => !c.escaped && c.byte == b'%',
+            _ => false,
+        },
+        _ => false,
+    }
+}

@@ -1,0 +1,23 @@
+-- What the check of a policy answers: visudo(8) in its strict mode.
+use Rattle.std.specs.Prelude.{◌≡◌, true, false, List}
+use Rattle.sudo_policy.specs.declared.checking.CheckFault.{CheckFault}
+use Rattle.sudo_policy.specs.declared.checking.CheckFault.TheVariants.{Findings, Memory}
+use Rattle.sudo_policy.specs.declared.finding.Finding.{Finding}
+use Rattle.sudo_tree.specs.declared.policy.Policy.{Policy}
+use Rattle.sudo_policy.specs.Found.{AreFindings, has_error}
+
+-- the findings of the policy have no error
+pub record Passes (p : Policy) : Type 0 where
+  pub found : List Finding
+  pub are : AreFindings p found
+  pub none : has_error found ≡ false
+
+-- the findings of the policy, and one is an error
+pub record Fails (p : Policy) (found : List Finding) : Type 0 where
+  pub are : AreFindings p found
+  pub some : has_error found ≡ true
+
+-- a refusal hands the policy back, with all findings where one is an error
+abbrev pub Refuses : Policy → CheckFault → Type 0
+Refuses p (Findings back found) = (back ≡ p) × Fails p found
+Refuses p (Memory back) = back ≡ p

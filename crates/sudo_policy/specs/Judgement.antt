@@ -1,0 +1,62 @@
+-- What there is to say of each alias in force: words that only proofs need.
+use Rattle.std.specs.Prelude.{◌≡◌, ℕ, Bool, true, false, nat_lt, List, [], ◌∷◌, ◌++◌, Option, Some, None, is_none, map, flat_map, slice_get, if◌then◌else◌}
+use Rattle.std.specs.List.{items_where_true}
+use Rattle.sudo_names.specs.Places.{place_of}
+use Rattle.sudo_text.specs.declared.line.Place.{Place}
+use Rattle.sudo_tree.specs.declared.kind.Kind.{Kind}
+use Rattle.sudo_tree.specs.declared.kind.Member.{Member}
+use Rattle.sudo_tree.specs.declared.policy.Policy.{Policy}
+use Rattle.sudo_policy.specs.declared.examination.Judged.{Judged}
+use Rattle.sudo_policy.specs.declared.finding.Class.TheVariants.{Redefined, Undefined, Cycle, TooDeep, TooWide, Unused}
+use Rattle.sudo_policy.specs.declared.finding.Finding.{Finding}
+use Rattle.sudo_policy.specs.declared.graph.State.{State}
+use Rattle.sudo_policy.specs.declared.graph.State.TheVariants.{New, Open, Done, Looped}
+use Rattle.sudo_policy.specs.declared.index.Index.{Index}
+use Rattle.sudo_policy.specs.Definitions.{Defined, Listed, aliases, alias_named}
+use Rattle.sudo_policy.specs.Following.{ReadsAs, depth}
+use Rattle.sudo_policy.specs.Found.{finding_on, Marks, IsCyclic, IsTooDeep, IsTooWide, IsUnused}
+use Rattle.sudo_policy.specs.Positions.{names_of}
+
+abbrev pub is_deep : State → Bool
+is_deep New = false
+is_deep Open = false
+is_deep (Done a) = nat_lt 63 a.depth
+is_deep Looped = false
+
+abbrev pub is_wide : State → Bool
+is_wide New = false
+is_wide Open = false
+is_wide (Done a) = nat_lt 65536 a.width
+is_wide Looped = false
+
+-- a use of a name without a definition
+abbrev pub use_missing : Index → Kind → Place → List ℕ → List Finding
+use_missing index kind place name = if is_none (place_of (names_of index kind) name) then record { class = Undefined; place = place; kind = kind; name = name } ∷ [] else []
+
+abbrev pub atom_missing : Index → Kind → Place → Option (List ℕ) → List Finding
+atom_missing index kind place None = []
+atom_missing index kind place (Some name) = use_missing index kind place name
+
+-- the uses in a list of names without a definition, member by member
+abbrev pub missing_in : Index → Listed → List Finding
+missing_in index l = flat_map (λ (m : Member). atom_missing index l.kind l.place (alias_named m.atom)) l.members
+
+abbrev pub found_in : Index → List Defined → List Defined → List Listed → Judged → List Finding
+found_in index aliases repeats lists judged =
+    map (finding_on Redefined) repeats
+    ++ (flat_map (missing_in index) lists
+    ++ (map (finding_on Cycle) (items_where_true judged.cyclic.items aliases)
+    ++ (map (finding_on TooDeep) (items_where_true judged.deep.items aliases)
+    ++ (map (finding_on TooWide) (items_where_true judged.wide.items aliases)
+    ++ map (finding_on Unused) (items_where_true judged.unused.items aliases)))))
+
+-- where no alias is on a cycle, each definition in force has a depth
+abbrev pub HaveDepths : Policy → List Bool → Type 0
+HaveDepths p cyclic = ((i : ℕ) → slice_get cyclic i ≡ Some true → ⊥) → (i : ℕ) (d : Defined) → slice_get (aliases p) i ≡ Some d → (n : ℕ) × ReadsAs depth d.kind p d.members n
+
+pub record IsJudged (p : Policy) (judged : Judged) : Type 0 where
+  pub cyclic_are : Marks (IsCyclic p) (aliases p) judged.cyclic.items
+  pub deep_are : Marks (IsTooDeep p) (aliases p) judged.deep.items
+  pub wide_are : Marks (IsTooWide p) (aliases p) judged.wide.items
+  pub unused_are : Marks (IsUnused p) (aliases p) judged.unused.items
+  pub have_depths : HaveDepths p judged.cyclic.items

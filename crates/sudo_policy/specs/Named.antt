@@ -1,0 +1,64 @@
+-- Definitions, lists and links as the survey of a policy holds them: words that only proofs need.
+use Rattle.std.specs.Prelude.{◌≡◌, ◌<◌, ℕ, List, [], Option, Some, map, find, option_map, option_and_then, slice_get, length, if◌then◌else◌}
+use Rattle.sudo_tree.specs.declared.kind.Kind.{Kind}
+use Rattle.sudo_policy.specs.declared.index.Index.{Index}
+use Rattle.sudo_policy.specs.declared.index.Position.{Position}
+use Rattle.sudo_tree.specs.declared.kind.Member.{Member}
+use Rattle.sudo_tree.specs.declared.policy.Definition.{Definition}
+use Rattle.sudo_tree.specs.declared.policy.Policy.{Policy}
+use Rattle.sudo_policy.specs.declared.survey.Named.{Named}
+use Rattle.sudo_policy.specs.declared.survey.Listed.{Listed as HeldList}
+use Rattle.sudo_policy.specs.declared.survey.Survey.{Survey}
+use Rattle.sudo_policy.specs.Definitions.{Defined, Listed, defines, firsts, repeats, alias_named}
+use Rattle.sudo_policy.specs.Positions.{names_of, members_at}
+use Rattle.sudo_names.specs.Places.{place_of}
+
+-- the definition, without its position
+abbrev pub named_view : Named → Defined
+named_view n = record { kind = n.kind; place = n.place; name = n.name.now; members = n.members.now }
+
+abbrev pub listed_view : HeldList → Listed
+listed_view l = record { kind = l.kind; place = l.place; granting = l.granting; members = l.members.now }
+
+-- the number of the alias that a member names, where these are the names of its kind
+abbrev pub link_among : List (List ℕ × ℕ) → Member → Option ℕ
+link_among names m = option_and_then (λ name. place_of names name) (alias_named m.atom)
+
+abbrev pub link_of : Index → Kind → Member → Option ℕ
+link_of index kind m = link_among (names_of index kind) m
+
+abbrev pub row_of : Index → Kind → List Member → List (Option ℕ)
+row_of index kind ms = map (link_of index kind) ms
+
+abbrev pub row_of_alias : Index → Defined → List (Option ℕ)
+row_of_alias index d = row_of index d.kind d.members
+
+-- the aliases that a list names, if it is one of a rule or of a bound `Defaults` line
+abbrev pub granting_row : Index → Listed → List (Option ℕ)
+granting_row index l = if l.granting then row_of index l.kind l.members else []
+
+-- where the definition stands
+abbrev pub IsPlaced : Policy → Named → Type 0
+IsPlaced p n = members_at p n.position ≡ Some n.members.now
+
+-- the definitions of the entry are these
+abbrev pub StandAt : Policy → ℕ → List Definition → Type 0
+StandAt p entry ds = (j : ℕ) → members_at p (record { entry = entry; definition = j }) ≡ option_map (λ (d : Definition). d.members) (slice_get ds j)
+
+-- what is known of the names of each kind, the aliases and their positions
+pub record IsIndexed (p : Policy) (done aliases : List Defined) (names : Kind → List (List ℕ × ℕ)) (positions : List Position) : Type 0 where
+  pub lookup : (kind : Kind) (name : List ℕ) → option_and_then (slice_get aliases) (place_of (names kind) name) ≡ find (defines kind name) done
+  pub inside : (kind : Kind) (name : List ℕ) (i : ℕ) → place_of (names kind) name ≡ Some i → i < length aliases
+  pub own : (i : ℕ) (d : Defined) → slice_get aliases i ≡ Some d → place_of (names d.kind) d.name ≡ Some i
+  pub same_length : length positions ≡ length aliases
+  pub placed : (i : ℕ) → option_and_then (members_at p) (slice_get positions i) ≡ option_map (λ (d : Defined). d.members) (slice_get aliases i)
+
+-- the survey of the definitions `done`, the first ones of a policy
+pub record IsSurvey (p : Policy) (done : List Defined) (survey : Survey) : Type 0 where
+  pub aliases_are : map named_view survey.aliases.items ≡ firsts [] done
+  pub repeats_are : map named_view survey.repeats.items ≡ repeats [] done
+  pub indexed : IsIndexed p done (map named_view survey.aliases.items) (names_of survey.index) survey.index.positions.items
+
+-- each name's number is that of an alias
+abbrev pub LeadsInside : Survey → Type 0
+LeadsInside survey = (kind : Kind) (name : List ℕ) (i : ℕ) → place_of (names_of survey.index kind) name ≡ Some i → i < length survey.aliases.items

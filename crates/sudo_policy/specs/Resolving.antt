@@ -1,0 +1,54 @@
+-- Lists whose aliases can be followed to their end. sudoers(5), "Aliases".
+use Rattle.std.specs.Prelude.{ℕ, max, Bool, true, ◌&&◌, List, [], ◌∷◌, Option, Some, None, IsTrue, is_some, unwrap_or, Contains}
+use Rattle.std.specs.List.{list_all}
+use Rattle.sudo_tree.specs.declared.kind.Kind.{Kind}
+use Rattle.sudo_tree.specs.declared.kind.Kind.TheVariants.{User, Runas, Host, Cmnd}
+use Rattle.sudo_tree.specs.declared.kind.Member.{Member}
+use Rattle.sudo_tree.specs.declared.policy.CommandSpec.{CommandSpec}
+use Rattle.sudo_tree.specs.declared.policy.Policy.{Policy}
+use Rattle.sudo_tree.specs.declared.policy.Runas.{Runas as RunasPart}
+use Rattle.sudo_tree.specs.declared.policy.Section.{Section}
+use Rattle.sudo_policy.specs.Definitions.{lists, Listed}
+use Rattle.sudo_policy.specs.Following.{depth, reading_within}
+use Rattle.sudo_policy.specs.Written.{writing, Written, written}
+
+-- a list resolves: every alias that it reaches is defined, and no more than 64 definitions stand one inside the other
+unfoldable pub resolves : Kind → Policy → List Member → Bool
+resolves kind p ms = is_some (reading_within writing kind p 64 ms)
+
+-- every list of the policy resolves: those of rules, of runas parts, of bound `Defaults` lines and of alias definitions
+unfoldable pub IsSound : Policy → Type 0
+IsSound p = IsTrue (list_all (λ (l : Listed). resolves l.kind p l.members) (lists p))
+
+-- each list of the policy has the written form that `written` gives
+abbrev pub AreWritten : Policy → Type 0
+AreWritten p = (l : Listed) → Contains (lists p) l → Written l.kind p l.members (written l.kind p l.members)
+
+-- the greatest of a number for each item, or 0
+abbrev pub greatest : {X : Type 0} → (X → ℕ) → List X → ℕ
+greatest f [] = 0
+greatest f (x ∷ xs) = max (f x) (greatest f xs)
+
+-- how many definitions stand one inside the other in a list; 0 for a member that does not resolve
+unfoldable pub rank : Kind → Policy → List Member → ℕ
+rank kind p ms = greatest (λ (m : Member). unwrap_or (reading_within depth kind p 64 (m ∷ [])) 0) ms
+
+-- The lists of a rule resolve, part by part.
+
+abbrev pub list_resolves : Policy → Option (List Member) → Bool
+list_resolves p None = true
+list_resolves p (Some members) = resolves Runas p members
+
+-- a group list of a runas part names Runas aliases
+abbrev pub runas_resolves : Policy → Option RunasPart → Bool
+runas_resolves p None = true
+runas_resolves p (Some part) = list_resolves p part.users && list_resolves p part.groups
+
+abbrev pub command_resolves : Policy → CommandSpec → Bool
+command_resolves p spec = resolves Cmnd p (spec.command ∷ []) && runas_resolves p spec.runas
+
+abbrev pub section_resolves : Policy → Section → Bool
+section_resolves p section = resolves Host p section.hosts && list_all (command_resolves p) section.commands
+
+abbrev pub rule_resolves : Policy → List Member → List Section → Bool
+rule_resolves p users sections = resolves User p users && list_all (section_resolves p) sections

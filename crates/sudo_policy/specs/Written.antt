@@ -1,0 +1,51 @@
+-- Lists written out: signed atoms in order, without aliases, as cvtsudoers(1) writes them with the option -e.
+use Rattle.std.specs.Prelude.{◌≡◌, ℕ, ◌%◌, ◌==◌, Bool, true, false, not, List, [], ◌∷◌, ◌++◌, Option, Some, None, map, flat_map, unwrap_or}
+use Rattle.sudo_tree.specs.declared.kind.Kind.{Kind}
+use Rattle.sudo_tree.specs.declared.kind.Member.{Member}
+use Rattle.sudo_tree.specs.declared.kind.Signed.{Signed}
+use Rattle.sudo_tree.specs.declared.policy.Policy.{Policy}
+use Rattle.sudo_policy.specs.Definitions.{alias_named}
+use Rattle.sudo_policy.specs.Following.{Reading, ReadsAs, reading_within}
+
+-- whether exactly one of the two holds
+abbrev pub differ : Bool → Bool → Bool
+differ true b = not b
+differ false b = b
+
+-- whether a member is negated: it has an odd number of exclamation marks
+abbrev pub is_negated : Member → Bool
+is_negated m = m.bangs % 2 == 1
+
+-- a signed atom, negated once more where told to
+abbrev pub negated_if : Bool → Signed → Signed
+negated_if negate s = record { negated = differ negate s.negated; atom = s.atom }
+
+-- a member that is no alias stands for itself with its sign; an undefined name stands for nothing
+abbrev pub alone_written : Member → Option (List ℕ) → Option (List Signed)
+alone_written m None = Some (record { negated = is_negated m; atom = m.atom } ∷ [])
+alone_written m (Some name) = None
+
+-- an alias stands for the written members of its definition, each negated once more if the alias is negated
+abbrev pub writing : Reading (List Signed)
+writing = record {
+  nothing = [];
+  join = ◌++◌;
+  alone = λ m. alone_written m (alias_named m.atom);
+  through = λ m ws. map (negated_if (is_negated m)) ws;
+}
+
+-- a list written out is ws: its members in order, with the definition of each alias in its place and signs turned; a list that reaches a cycle or an undefined name has no written form
+abbrev pub Written : Kind → Policy → List Member → List Signed → Type 0
+Written kind p ms ws = ReadsAs writing kind p ms ws
+
+-- the written form of one member, through at most 64 definitions one inside the other; nothing where it has none
+abbrev pub member_written : Kind → Policy → Member → List Signed
+member_written kind p m = unwrap_or (reading_within writing kind p 64 (m ∷ [])) []
+
+-- a list written out, member by member; of each list of a policy that passes the check it is the written form
+unfoldable pub written : Kind → Policy → List Member → List Signed
+written kind p ms = flat_map (member_written kind p) ms
+
+-- two written forms of one list are the same
+abbrev pub WrittenOnce : Type 0
+WrittenOnce = (kind : Kind) (p : Policy) (ms : List Member) (a b : List Signed) → Written kind p ms a → Written kind p ms b → a ≡ b

@@ -1,0 +1,60 @@
+//! Checked policies.
+ghost use Rattle.std.specs.Prelude.{◌≡◌, Some, None, List, option_copied, IfOk, IfErr, IfSome, IsTrue};
+ghost use Rattle.sudo_policy.specs.Checking.{Passes};
+ghost use Rattle.sudo_policy.specs.Definitions.{in_force};
+ghost use Rattle.sudo_policy.specs.Positions.{IsIndex};
+ghost use Rattle.sudo_policy.specs.Resolving.{resolves, IsSound};
+
+use crate::index::{Index, members_at};
+use std::marker::Model;
+use sudo_tree::{Kind, Member, Policy};
+
+/// A policy that was checked and has no error among its findings. Contracts see the policy.
+#[derive(Drop)]
+pub struct Checked {
+    policy: Policy,
+    index: Index,
+}
+
+impl Model for Checked {
+    ghost use Rattle.sudo_tree.specs.declared.policy.Policy.{Policy};
+    ghost use Rattle.sudo_policy.specs.Checking.{Passes};
+    ghost use Rattle.sudo_policy.specs.Positions.{IsIndex};
+    ghost use Rattle.sudo_policy.specs.Resolving.{IsSound};
+
+    ghost Value = { Policy };
+
+    ghost view = { λ c. c.policy };
+
+    ghost invariant = { λ c. IsIndex c.policy c.index × Passes c.policy × IsSound c.policy };
+}
+
+impl Checked {
+    /// A policy whose findings have no error, with the index of its definitions.
+    pub(crate) fn new(policy: Policy, index: Index) -> Checked
+        requires index { IsIndex policy index }
+        requires passes { Passes policy }
+        requires sound { IsSound policy }
+        ensures { result ≡ policy }
+    {
+        Checked { policy, index }
+    }
+
+    /// The policy.
+    pub fn policy(&self) -> &Policy
+        ensures value { result.now ≡ self.now }
+        ensures passes { Passes self.now }
+        ensures sound { IsSound self.now }
+    {
+        &self.policy
+    }
+
+    /// The list of the alias's definition in force, `None` exactly where there is none. Takes no memory.
+    pub fn definition(&self, kind: Kind, name: &[u8]) -> Option<&[Member]>
+        ensures value { option_copied result ≡ in_force kind self.now name.now }
+        ensures resolves { IfSome result (λ members. IsTrue (resolves kind self.now members.now)) }
+    {
+        let position = self.index.position(kind, name)?;
+        members_at(&self.policy, position)
+    }
+}

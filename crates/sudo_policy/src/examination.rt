@@ -1,0 +1,295 @@
+//! The findings on a policy's aliases.
+ghost use Rattle.std.specs.Prelude.{◌≡◌, ◌++◌, List, false, map, flat_map, not, option_copied, IfOk, OnOk};
+ghost use Rattle.std.specs.List.{items_where_true};
+ghost use Rattle.sudo_tree.specs.declared.policy.Policy.{Policy};
+ghost use Rattle.sudo_policy.specs.Definitions as policies;
+ghost use Rattle.std.specs.Prelude.{◌∷◌, []};
+ghost use Rattle.sudo_policy.specs.Found.{AreFindings, has_error};
+ghost use Rattle.sudo_policy.specs.Found as found;
+ghost use Rattle.sudo_policy.specs.Judgement.{IsJudged, found_in, atom_missing, missing_in};
+ghost use Rattle.sudo_policy.specs.Judgement as judgement;
+ghost use Rattle.sudo_policy.specs.Named.{named_view, listed_view, IsSurvey, LeadsInside};
+ghost use Rattle.sudo_policy.specs.Positions.{IsIndex};
+ghost use Rattle.sudo_policy.specs.Resolving.{IsSound};
+
+use crate::cycle::cycles;
+use crate::graph::{State, states};
+use crate::index::Index;
+use crate::member::alias_name;
+use crate::reach::reached;
+use crate::survey::{Listed, Named, Survey, definitions, links, lists, roots, surveyed};
+use crate::{Class, Finding};
+use std::alloc::{AllocError, Global};
+use sudo_text::{Place, Seq};
+use sudo_tree::{Kind, Policy};
+
+/// The findings on a policy, with the index of its definitions.
+#[derive(Drop)]
+pub(crate) struct Examined {
+    pub(crate) findings: Vec<Finding>,
+    pub(crate) index: Index,
+}
+
+/// For each alias in force whether it is on a cycle, begins too long a chain, has too many members, or is used nowhere.
+#[derive(Drop)]
+struct Judged {
+    cyclic: Vec<bool>,
+    deep: Vec<bool>,
+    wide: Vec<bool>,
+    unused: Vec<bool>,
+}
+
+/// What strict mode of visudo(8) finds in a policy: the findings by class, each class in the order of the loaded policy.
+///
+/// Fails only where memory was refused.
+pub fn findings(alloc: Global, policy: &Policy) -> Result<Vec<Finding>, AllocError>
+    ensures { IfOk result (λ found. AreFindings policy.now found.items) }
+{
+    let Examined { findings, index: _ } = examine(alloc, policy)?;
+    Ok(findings)
+}
+
+/// The findings on a policy, with the index of its definitions.
+pub(crate) fn examine(alloc: Global, policy: &Policy) -> Result<Examined, AllocError>
+    ensures findings { IfOk result (λ examined. AreFindings policy.now examined.findings.items) }
+    ensures index { IfOk result (λ examined. IsIndex policy.now examined.index) }
+    ensures sound { IfOk result (λ examined. has_error examined.findings.items ≡ false → IsSound policy.now) }
+{
+    let all = definitions(alloc, policy)?;
+    let lists = lists(alloc, policy)?;
+    let survey = surveyed(alloc, all.as_slice())?;
+    let judged = judge(alloc, &survey, lists.as_slice())?;
+    let findings = collected(alloc, &survey, lists.as_slice(), &judged)?;
+    let Survey {
+        aliases: _,
+        repeats: _,
+        index,
+    } = survey;
+    Ok(Examined { findings, index })
+}
+
+/// What there is to say of each alias in force.
+fn judge(alloc: Global, survey: &Survey<'_>, lists: &[Listed<'_>]) -> Result<Judged, AllocError>
+    requires inside { LeadsInside survey.now }
+    ensures { IfOk result (λ judged. (p : Policy) → IsSurvey p (policies.definitions p) survey.now → map listed_view lists.now ≡ policies.lists p → IsJudged p judged) }
+{
+    let links = links(alloc, &survey.index, survey.aliases.as_slice())?;
+    let states = states(alloc, links.as_slice())?;
+    let cyclic = cycles(alloc, links.as_slice(), states.as_slice())?;
+    let deep = too_deep(alloc, states.as_slice())?;
+    let wide = too_wide(alloc, states.as_slice())?;
+    let roots = roots(alloc, &survey.index, lists)?;
+    let used = reached(alloc, links.as_slice(), roots.as_slice())?;
+    let unused = negated(alloc, used.as_slice())?;
+    Ok(Judged {
+        cyclic,
+        deep,
+        wide,
+        unused,
+    })
+}
+
+/// Whether an alias begins a chain of more than 64 aliases.
+fn is_deep(state: State) -> bool
+    ensures { result ≡ judgement.is_deep state }
+{
+    match state {
+        State::Done(measure) => measure.depth >= 64,
+        _ => false,
+    }
+}
+
+/// Whether an alias has more than 65,536 members when it is written out.
+fn is_wide(state: State) -> bool
+    ensures { result ≡ judgement.is_wide state }
+{
+    match state {
+        State::Done(measure) => measure.width > 65_536,
+        _ => false,
+    }
+}
+
+/// For each alias whether it begins too long a chain.
+fn too_deep(alloc: Global, states: &[State]) -> Result<Vec<bool>, AllocError>
+    ensures { IfOk result (λ marks. marks.items ≡ map judgement.is_deep states.now) }
+{
+    states.iter().map(|state| is_deep(*state)).collect(alloc)
+}
+
+/// For each alias whether it has too many members.
+fn too_wide(alloc: Global, states: &[State]) -> Result<Vec<bool>, AllocError>
+    ensures { IfOk result (λ marks. marks.items ≡ map judgement.is_wide states.now) }
+{
+    states.iter().map(|state| is_wide(*state)).collect(alloc)
+}
+
+fn negated(alloc: Global, marks: &[bool]) -> Result<Vec<bool>, AllocError>
+    ensures { IfOk result (λ others. others.items ≡ map not marks.now) }
+{
+    marks.iter().map(|mark| !*mark).collect(alloc)
+}
+
+/// The findings, class by class.
+fn collected(
+    alloc: Global,
+    survey: &Survey<'_>,
+    lists: &[Listed<'_>],
+    judged: &Judged,
+) -> Result<Vec<Finding>, AllocError>
+    ensures { IfOk result (λ all. all.items ≡ found_in survey.now.index (map named_view survey.now.aliases.items) (map named_view survey.now.repeats.items) (map listed_view lists.now) judged.now) }
+{
+    let aliases = survey.aliases.as_slice();
+    let mut found = Vec::new(alloc);
+    push_repeats(alloc, survey.repeats.as_slice(), &mut found)?;
+    push_undefined(alloc, &survey.index, lists, &mut found)?;
+    push_marked(
+        alloc,
+        Class::Cycle,
+        aliases,
+        judged.cyclic.as_slice(),
+        &mut found,
+    )?;
+    push_marked(
+        alloc,
+        Class::TooDeep,
+        aliases,
+        judged.deep.as_slice(),
+        &mut found,
+    )?;
+    push_marked(
+        alloc,
+        Class::TooWide,
+        aliases,
+        judged.wide.as_slice(),
+        &mut found,
+    )?;
+    push_marked(
+        alloc,
+        Class::Unused,
+        aliases,
+        judged.unused.as_slice(),
+        &mut found,
+    )?;
+    Ok(found)
+}
+
+/// A finding on a definition.
+fn finding_on(alloc: Global, class: Class, alias: &Named<'_>) -> Result<Finding, AllocError>
+    ensures { IfOk result (λ made. made ≡ found.finding_on class (named_view alias.now)) }
+{
+    Ok(Finding {
+        class,
+        place: alias.place,
+        kind: alias.kind,
+        name: Seq::from_slice(alloc, alias.name)?,
+    })
+}
+
+/// Appends a finding for each further definition of a name.
+fn push_repeats(
+    alloc: Global,
+    repeats: &[Named<'_>],
+    findings: &mut Vec<Finding>,
+) -> Result<(), AllocError>
+    ensures { OnOk result (findings.new.items ≡ findings.old.items ++ map (found.finding_on Class.Redefined) (map named_view repeats.now)) }
+{
+    for alias in repeats {
+        findings.push(finding_on(alloc, Class::Redefined, alias)?)?;
+    }
+    Ok(())
+}
+
+/// Appends a finding for each alias that is marked.
+fn push_marked(
+    alloc: Global,
+    class: Class,
+    aliases: &[Named<'_>],
+    marks: &[bool],
+    findings: &mut Vec<Finding>,
+) -> Result<(), AllocError>
+    ensures { OnOk result (findings.new.items ≡ findings.old.items ++ map (found.finding_on class) (items_where_true marks.now (map named_view aliases.now))) }
+{
+    for (alias, mark) in aliases.iter().zip(marks) {
+        push_if(alloc, class, alias, *mark, findings)?;
+    }
+    Ok(())
+}
+
+/// Appends a finding on an alias, if it is marked.
+fn push_if(
+    alloc: Global,
+    class: Class,
+    alias: &Named<'_>,
+    mark: bool,
+    findings: &mut Vec<Finding>,
+) -> Result<(), AllocError>
+    ensures { OnOk result (findings.new.items ≡ findings.old.items ++ map (found.finding_on class) (items_where_true (mark ∷ []) (named_view alias.now ∷ []))) }
+{
+    if mark {
+        findings.push(finding_on(alloc, class, alias)?)?;
+    }
+    Ok(())
+}
+
+/// Appends a finding for each use of a name without a definition.
+fn push_undefined(
+    alloc: Global,
+    index: &Index,
+    lists: &[Listed<'_>],
+    findings: &mut Vec<Finding>,
+) -> Result<(), AllocError>
+    ensures { OnOk result (findings.new.items ≡ findings.old.items ++ flat_map (missing_in index.now) (map listed_view lists.now)) }
+{
+    for list in lists {
+        push_uses(alloc, index, list, findings)?;
+    }
+    Ok(())
+}
+
+/// Appends a finding for each use in a list of a name without a definition.
+fn push_uses(
+    alloc: Global,
+    index: &Index,
+    list: &Listed<'_>,
+    findings: &mut Vec<Finding>,
+) -> Result<(), AllocError>
+    ensures { OnOk result (findings.new.items ≡ findings.old.items ++ missing_in index.now (listed_view list.now)) }
+{
+    for member in list.members {
+        push_use(
+            alloc,
+            index,
+            list.kind,
+            list.place,
+            alias_name(&member.atom),
+            findings,
+        )?;
+    }
+    Ok(())
+}
+
+/// Appends a finding where a name is used that has no definition.
+fn push_use(
+    alloc: Global,
+    index: &Index,
+    kind: Kind,
+    place: Place,
+    name: Option<&[u8]>,
+    findings: &mut Vec<Finding>,
+) -> Result<(), AllocError>
+    ensures { OnOk result (findings.new.items ≡ findings.old.items ++ atom_missing index.now kind place (option_copied name.entry)) }
+{
+    let Some(name) = name else {
+        return Ok(());
+    };
+    if index.number(kind, name).is_some() {
+        return Ok(());
+    }
+    findings.push(Finding {
+        class: Class::Undefined,
+        place,
+        kind,
+        name: Seq::from_slice(alloc, name)?,
+    })?;
+    Ok(())
+}

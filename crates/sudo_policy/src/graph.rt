@@ -1,0 +1,165 @@
+//! Aliases as a graph of numbers: which reach a cycle, and how deep and wide the others are.
+ghost use Rattle.std.specs.Prelude.{◌≡◌, ◌<◌, ℕ, IfOk, Some, List, Option, length, option_map, slice_get};
+ghost use Rattle.sudo_policy.specs.declared.graph.State.{State};
+ghost use Rattle.sudo_policy.specs.Following.{joined};
+ghost use Rattle.sudo_policy.specs.Graph.{Edge, IsClosed, StatesHold, OpenLead, OpenNear, NoneOpen, Turned, IsSettled, beside, deeper, one_member, no_member, link_measure, done_measure};
+
+use std::alloc::{AllocError, Global};
+use sudo_text::Seq;
+
+/// How many definitions are one inside the other, and how many members there are, up to just beyond the limits.
+#[derive(Clone, Copy, Debug, PartialEq, Eq)]
+pub(crate) struct Measure {
+    pub(crate) depth: u32,
+    pub(crate) width: u32,
+}
+
+/// How far the visit of an alias has come.
+#[derive(Clone, Copy, Debug, PartialEq, Eq)]
+pub(crate) enum State {
+    /// Not visited.
+    New,
+    /// Its members are being visited.
+    Open,
+    /// It reaches no cycle; the measure of its definition.
+    Done(Measure),
+    /// It reaches a cycle.
+    Looped,
+}
+
+impl Measure {
+    const NO_MEMBER: Measure = Measure { depth: 0, width: 0 };
+
+    const ONE_MEMBER: Measure = Measure { depth: 0, width: 1 };
+
+    /// The measure of a list that is this one and the other.
+    fn beside(self, other: Measure) -> Measure
+        ensures { result ≡ beside self other }
+    {
+        Measure {
+            depth: self.depth.max(other.depth),
+            width: self.width.saturating_add(other.width).min(65_537),
+        }
+    }
+
+    /// The measure of an alias, by that of its definition.
+    fn deeper(self) -> Measure
+        ensures { result ≡ deeper self }
+    {
+        Measure {
+            depth: self.depth.saturating_add(1).min(65),
+            width: self.width,
+        }
+    }
+}
+
+/// The measure of one link, `None` where it leads to an alias that is not done.
+fn link_measure(states: &[State], link: Option<usize>) -> Option<Measure>
+    ensures { result ≡ link_measure (done_measure states.now) link }
+{
+    let Some(next) = link else {
+        return Some(Measure::ONE_MEMBER);
+    };
+    match states.get(next) {
+        Some(State::Done(measure)) => Some(measure.deeper()),
+        _ => None,
+    }
+}
+
+/// The measure of both, if both are known.
+fn joined(a: Option<Measure>, b: Option<Measure>) -> Option<Measure>
+    ensures { result ≡ joined beside a b }
+{
+    match (a, b) {
+        (Some(a), Some(b)) => Some(a.beside(b)),
+        _ => None,
+    }
+}
+
+/// Visits an alias that is new and, before it is over, the new ones that it reaches.
+#[cycle(visiting)]
+fn visit(links: &[Seq<Option<usize>>], states: &mut [State], node: usize)
+    requires closed { IsClosed links.now }
+    requires sizes { length states.old ≡ length links.now }
+    requires new { slice_get states.old node ≡ Some State.New }
+    requires held { StatesHold links.now states.old }
+    requires lead { OpenLead links.now states.old node }
+    ensures holds { StatesHold links.now states.new }
+    ensures turned { Turned states.old states.new }
+    ensures settled { (s : State) → slice_get states.new node ≡ Some s → IsSettled s }
+{
+    states[node] = State::Open;
+    let row = links[node].as_slice();
+    let mut measure = Some(Measure::NO_MEMBER);
+    let mut at = row.len();
+    while at > 0 {
+        at -= 1;
+        let link = row[at];
+        visit_link(links, states, node, link);
+        measure = joined(link_measure(states, link), measure);
+    }
+    states[node] = match measure {
+        Some(measure) => State::Done(measure),
+        None => State::Looped,
+    };
+}
+
+/// Visits the alias that a link of an open one leads to, where it is new.
+#[cycle(visiting)]
+fn visit_link(links: &[Seq<Option<usize>>], states: &mut [State], from: usize, link: Option<usize>)
+    requires closed { IsClosed links.now }
+    requires sizes { length states.old ≡ length links.now }
+    requires held { StatesHold links.now states.old }
+    requires lead { OpenNear links.now states.old from }
+    requires edge { (next : ℕ) → link ≡ Some next → Edge links.now from next }
+    ensures holds { StatesHold links.now states.new }
+    ensures turned { Turned states.old states.new }
+    ensures visited { (next : ℕ) → link ≡ Some next → slice_get states.new next ≡ Some State.New → ⊥ }
+{
+    if let Some(next) = link {
+        if let State::New = states[next] {
+            visit(links, states, next);
+        }
+    }
+}
+
+/// For each alias whether it reaches a cycle, and else the measure of its definition.
+pub(crate) fn states(alloc: Global, links: &[Seq<Option<usize>>]) -> Result<Vec<State>, AllocError>
+    requires closed { IsClosed links.now }
+    ensures holds { IfOk result (λ states. StatesHold links.now states.items) }
+    ensures sizes { IfOk result (λ states. length states.items ≡ length links.now) }
+    ensures settled { IfOk result (λ states. (i : ℕ) (s : State) → slice_get states.items i ≡ Some s → IsSettled s) }
+{
+    let mut states = vec![in alloc; State::New; links.len()]?;
+    visit_all(links, states.as_mut_slice());
+    Ok(states)
+}
+
+/// Visits all aliases.
+fn visit_all(links: &[Seq<Option<usize>>], states: &mut [State])
+    requires closed { IsClosed links.now }
+    requires sizes { length states.old ≡ length links.now }
+    requires new { (i : ℕ) (s : State) → slice_get states.old i ≡ Some s → s ≡ State.New }
+    ensures holds { StatesHold links.now states.new }
+    ensures settled { (i : ℕ) (s : State) → slice_get states.new i ≡ Some s → IsSettled s }
+{
+    for node in 0..states.len() {
+        visit_new(links, states, node);
+    }
+}
+
+/// Visits an alias, where it is new and none is open.
+fn visit_new(links: &[Seq<Option<usize>>], states: &mut [State], node: usize)
+    requires closed { IsClosed links.now }
+    requires sizes { length states.old ≡ length links.now }
+    requires inside { node < length states.old }
+    requires held { StatesHold links.now states.old }
+    requires calm { NoneOpen states.old }
+    ensures holds { StatesHold links.now states.new }
+    ensures turned { Turned states.old states.new }
+    ensures settled { (s : State) → slice_get states.new node ≡ Some s → IsSettled s }
+{
+    if let State::New = states[node] {
+        visit(links, states, node);
+    }
+}

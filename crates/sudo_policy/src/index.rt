@@ -1,0 +1,100 @@
+//! Where definitions stand.
+ghost use Rattle.std.specs.Prelude.{◌≡◌, None, [], ◌∷◌, ◌++◌, false, OnOk, length, option_copied};
+ghost use Rattle.sudo_names.specs.Places.{place_of};
+ghost use Rattle.sudo_tree.specs.declared.kind.Kind.{Kind};
+ghost use Rattle.sudo_policy.specs.Definitions.{same_kind};
+ghost use Rattle.sudo_policy.specs.Positions.{position_in, members_at, names_of};
+
+use std::alloc::{AllocError, Global};
+use sudo_names::Names;
+use sudo_tree::{EntryBody, Kind, Member, Policy};
+
+/// Where a definition stands: the entry, and the definition in it, both from 0.
+#[derive(Clone, Copy, Debug)]
+pub(crate) struct Position {
+    pub(crate) entry: usize,
+    pub(crate) definition: usize,
+}
+
+/// The definitions in force: for each kind the number of each name's definition, and the position of each of these.
+#[derive(Drop)]
+pub(crate) struct Index {
+    pub(crate) users: Names,
+    pub(crate) runas: Names,
+    pub(crate) hosts: Names,
+    pub(crate) commands: Names,
+    pub(crate) positions: Vec<Position>,
+}
+
+impl Index {
+    /// No definitions.
+    pub(crate) fn new(alloc: Global) -> Index
+        ensures names { (kind : Kind) → names_of result kind ≡ [] }
+        ensures positions { result.positions.items ≡ [] }
+    {
+        Index {
+            users: Names::new(alloc),
+            runas: Names::new(alloc),
+            hosts: Names::new(alloc),
+            commands: Names::new(alloc),
+            positions: Vec::new(alloc),
+        }
+    }
+
+    /// Adds the definition of a new name.
+    pub(crate) fn insert(
+        &mut self,
+        alloc: Global,
+        kind: Kind,
+        name: &[u8],
+        position: Position,
+    ) -> Result<(), AllocError>
+        requires { place_of (names_of self.old kind) name.now ≡ None }
+        ensures names { OnOk result (names_of self.new kind ≡ names_of self.old kind ++ (name.now, length self.old.positions.items) ∷ []) }
+        ensures others { OnOk result ((other : Kind) → same_kind other kind ≡ false → names_of self.new other ≡ names_of self.old other) }
+        ensures positions { OnOk result (self.new.positions.items ≡ self.old.positions.items ++ position ∷ []) }
+    {
+        let number = self.positions.len();
+        self.positions.push(position)?;
+        match kind {
+            Kind::User => self.users.insert(alloc, name, number),
+            Kind::Runas => self.runas.insert(alloc, name, number),
+            Kind::Host => self.hosts.insert(alloc, name, number),
+            Kind::Cmnd => self.commands.insert(alloc, name, number),
+        }
+    }
+
+    /// The number of the definition in force of a name.
+    pub(crate) fn number(&self, kind: Kind, name: &[u8]) -> Option<usize>
+        ensures { result ≡ place_of (names_of self.now kind) name.now }
+    {
+        match kind {
+            Kind::User => self.users.get(name),
+            Kind::Runas => self.runas.get(name),
+            Kind::Host => self.hosts.get(name),
+            Kind::Cmnd => self.commands.get(name),
+        }
+    }
+
+    /// Where the definition in force of a name stands.
+    pub(crate) fn position(&self, kind: Kind, name: &[u8]) -> Option<Position>
+        ensures { result ≡ position_in self.now kind name.now }
+    {
+        let number = self.number(kind, name)?;
+        self.positions.get(number).copied()
+    }
+}
+
+/// The members of the definition at a position.
+pub(crate) fn members_at(policy: &Policy, position: Position) -> Option<&[Member]>
+    ensures { option_copied result ≡ members_at policy.now position }
+{
+    let entry = policy.entries.get(position.entry)?;
+    match &entry.body {
+        EntryBody::Aliases { definitions, .. } => {
+            let definition = definitions.get(position.definition)?;
+            Some(definition.members.as_slice())
+        }
+        _ => None,
+    }
+}

@@ -1,0 +1,61 @@
+//! Which aliases links lead to.
+ghost use Rattle.std.specs.Prelude.{◌≡◌, ◌∷◌, [], ℕ, Some, Contains, IfOk, OnOk, length};
+ghost use Rattle.sudo_policy.specs.Graph.{IsClosed, IsInside, IsReached, MarksOf};
+ghost use Rattle.sudo_policy.specs.Marking.{Marked};
+
+use std::alloc::{AllocError, Global};
+use sudo_text::Seq;
+
+/// For each alias whether some root is it or leads to it.
+pub(crate) fn reached(
+    alloc: Global,
+    links: &[Seq<Option<usize>>],
+    roots: &[Option<usize>],
+) -> Result<Vec<bool>, AllocError>
+    requires closed { IsClosed links.now }
+    requires inside { IsInside roots.now (length links.now) }
+    ensures { IfOk result (λ marks. MarksOf (length links.now) (IsReached links.now roots.now) marks.items) }
+{
+    let mut marks = vec![in alloc; false; links.len()]?;
+    let mut work = Vec::new(alloc);
+    mark_row(roots, marks.as_mut_slice(), &mut work)?;
+    while let Some(alias) = work.pop() {
+        mark_row(links[alias].as_slice(), marks.as_mut_slice(), &mut work)?;
+    }
+    Ok(marks)
+}
+
+/// Marks the aliases that a row leads to, and notes those that were not marked before.
+fn mark_row(
+    row: &[Option<usize>],
+    marks: &mut [bool],
+    work: &mut Vec<usize>,
+) -> Result<(), AllocError>
+    requires inside { IsInside row.now (length marks.old) }
+    ensures { OnOk result (Marked row.now marks.old work.old.items marks.new work.new.items) }
+{
+    for link in row {
+        mark_link(*link, marks, work)?;
+    }
+    Ok(())
+}
+
+/// Marks the alias that a link leads to, and notes it if it was not marked before.
+fn mark_link(
+    link: Option<usize>,
+    marks: &mut [bool],
+    work: &mut Vec<usize>,
+) -> Result<(), AllocError>
+    requires inside { IsInside (link ∷ []) (length marks.old) }
+    ensures { OnOk result (Marked (link ∷ []) marks.old work.old.items marks.new work.new.items) }
+{
+    let Some(alias) = link else {
+        return Ok(());
+    };
+    if marks[alias] {
+        return Ok(());
+    }
+    marks[alias] = true;
+    work.push(alias)?;
+    Ok(())
+}

@@ -1,0 +1,361 @@
+//! The definitions and the lists of a policy, in the order of the file.
+ghost use Rattle.std.specs.Prelude.{◌≡◌, ◌++◌, [], ◌∷◌, List, All, map, flat_map, IfOk, OnOk, Some, slice_get};
+ghost use Rattle.sudo_tree.specs.declared.policy.Policy.{Policy};
+ghost use Rattle.sudo_policy.specs.Definitions.{Defined, definitions, definitions_of, definitions_of_list, lists, lists_of_body, lists_of_list, binding_lists_of, section_lists, command_lists, runas_lists, option_lists, granting_list};
+ghost use Rattle.sudo_policy.specs.Named.{named_view, listed_view, row_of, row_of_alias, granting_row, IsSurvey, IsPlaced, StandAt};
+
+use crate::index::{Index, Position};
+use crate::member::alias_name;
+use std::alloc::{AllocError, Global};
+use sudo_text::{Place, Seq};
+use sudo_tree::{
+    Binding, CommandSpec, Definition, Entry, EntryBody, Kind, Member, Policy, Runas, Section,
+};
+
+/// A definition of an alias, and where it stands.
+#[derive(Clone, Copy)]
+pub(crate) struct Named<'a> {
+    pub(crate) kind: Kind,
+    pub(crate) place: Place,
+    pub(crate) name: &'a [u8],
+    pub(crate) members: &'a [Member],
+    pub(crate) position: Position,
+}
+
+/// A list of members: the kind of its members, the place of its line, and whether it is a list of a rule or of a bound `Defaults` line.
+#[derive(Clone, Copy)]
+pub(crate) struct Listed<'a> {
+    pub(crate) kind: Kind,
+    pub(crate) place: Place,
+    pub(crate) granting: bool,
+    pub(crate) members: &'a [Member],
+}
+
+/// Every definition of the policy, in order.
+pub(crate) fn definitions(alloc: Global, policy: &Policy) -> Result<Vec<Named<'_>>, AllocError>
+    ensures all { IfOk result (λ all. map named_view all.items ≡ definitions policy.now) }
+    ensures placed { IfOk result (λ all. All (IsPlaced policy.now) all.items) }
+{
+    let mut all = Vec::new(alloc);
+    for (at, entry) in policy.entries.as_slice().iter().enumerate() {
+        push_entry(entry, at, &mut all)?;
+    }
+    Ok(all)
+}
+
+/// Appends the definitions of an entry.
+fn push_entry<'a>(entry: &'a Entry, at: usize, all: &mut Vec<Named<'a>>) -> Result<(), AllocError>
+    ensures placed { OnOk result ((p : Policy) → slice_get p.entries at ≡ Some entry.now → All (IsPlaced p) all.old.items → All (IsPlaced p) all.new.items) }
+    ensures all { OnOk result (map named_view all.new.items ≡ map named_view all.old.items ++ definitions_of entry.now) }
+{
+    match &entry.body {
+        EntryBody::Aliases { kind, definitions } => {
+            push_definitions(*kind, entry.place, at, definitions.as_slice(), all)?;
+            Ok(())
+        }
+        EntryBody::Defaults { .. } => Ok(()),
+        EntryBody::Rule { .. } => Ok(()),
+        EntryBody::Include { .. } => Ok(()),
+    }
+}
+
+/// Appends the definitions of an alias line.
+fn push_definitions<'a>(
+    kind: Kind,
+    place: Place,
+    entry: usize,
+    definitions: &'a [Definition],
+    all: &mut Vec<Named<'a>>,
+) -> Result<(), AllocError>
+    ensures placed { OnOk result ((p : Policy) → StandAt p entry definitions.now → All (IsPlaced p) all.old.items → All (IsPlaced p) all.new.items) }
+    ensures all { OnOk result (map named_view all.new.items ≡ map named_view all.old.items ++ definitions_of_list kind place definitions.now) }
+{
+    for (at, definition) in definitions.iter().enumerate() {
+        all.push(Named {
+            kind,
+            place,
+            name: definition.name.as_slice(),
+            members: definition.members.as_slice(),
+            position: Position {
+                entry,
+                definition: at,
+            },
+        })?;
+    }
+    Ok(())
+}
+
+/// Every list of the policy, in order.
+pub(crate) fn lists(alloc: Global, policy: &Policy) -> Result<Vec<Listed<'_>>, AllocError>
+    ensures { IfOk result (λ all. map listed_view all.items ≡ lists policy.now) }
+{
+    let mut all = Vec::new(alloc);
+    for entry in policy.entries.as_slice() {
+        push_lists(entry.place, &entry.body, &mut all)?;
+    }
+    Ok(all)
+}
+
+/// Appends the lists of an entry.
+fn push_lists<'a>(
+    place: Place,
+    body: &'a EntryBody,
+    all: &mut Vec<Listed<'a>>,
+) -> Result<(), AllocError>
+    ensures { OnOk result (map listed_view all.new.items ≡ map listed_view all.old.items ++ lists_of_body place body.now) }
+{
+    match body {
+        EntryBody::Aliases { kind, definitions } => {
+            push_defined(*kind, place, definitions.as_slice(), all)?;
+            Ok(())
+        }
+        EntryBody::Defaults { binding, .. } => match binding {
+            Some(binding) => push_binding(place, binding, all),
+            None => Ok(()),
+        },
+        EntryBody::Rule { users, sections } => {
+            push_granting(Kind::User, place, users.as_slice(), all)?;
+            push_sections(place, sections.as_slice(), all)
+        }
+        EntryBody::Include { .. } => Ok(()),
+    }
+}
+
+/// Appends the lists of definitions.
+fn push_defined<'a>(
+    kind: Kind,
+    place: Place,
+    definitions: &'a [Definition],
+    all: &mut Vec<Listed<'a>>,
+) -> Result<(), AllocError>
+    ensures { OnOk result (map listed_view all.new.items ≡ map listed_view all.old.items ++ lists_of_list kind place definitions.now) }
+{
+    for definition in definitions {
+        all.push(Listed {
+            kind,
+            place,
+            granting: false,
+            members: definition.members.as_slice(),
+        })?;
+    }
+    Ok(())
+}
+
+/// Appends a list of a rule or of a bound `Defaults` line.
+fn push_granting<'a>(
+    kind: Kind,
+    place: Place,
+    members: &'a [Member],
+    all: &mut Vec<Listed<'a>>,
+) -> Result<(), AllocError>
+    ensures { OnOk result (map listed_view all.new.items ≡ map listed_view all.old.items ++ granting_list kind place members.now ∷ []) }
+{
+    all.push(Listed {
+        kind,
+        place,
+        granting: true,
+        members,
+    })?;
+    Ok(())
+}
+
+/// Appends the list that a `Defaults` line is bound to.
+fn push_binding<'a>(
+    place: Place,
+    binding: &'a Binding,
+    all: &mut Vec<Listed<'a>>,
+) -> Result<(), AllocError>
+    ensures { OnOk result (map listed_view all.new.items ≡ map listed_view all.old.items ++ binding_lists_of place binding.now) }
+{
+    match binding {
+        Binding::Hosts(members) => push_granting(Kind::Host, place, members.as_slice(), all),
+        Binding::Users(members) => push_granting(Kind::User, place, members.as_slice(), all),
+        Binding::Commands(members) => push_granting(Kind::Cmnd, place, members.as_slice(), all),
+        Binding::Runas(members) => push_granting(Kind::Runas, place, members.as_slice(), all),
+    }
+}
+
+/// Appends the lists of a rule's sections.
+fn push_sections<'a>(
+    place: Place,
+    sections: &'a [Section],
+    all: &mut Vec<Listed<'a>>,
+) -> Result<(), AllocError>
+    ensures { OnOk result (map listed_view all.new.items ≡ map listed_view all.old.items ++ flat_map (section_lists place) sections.now) }
+{
+    for section in sections {
+        push_granting(Kind::Host, place, section.hosts.as_slice(), all)?;
+        push_commands(place, section.commands.as_slice(), all)?;
+    }
+    Ok(())
+}
+
+/// Appends the lists of the commands of a section.
+fn push_commands<'a>(
+    place: Place,
+    commands: &'a [CommandSpec],
+    all: &mut Vec<Listed<'a>>,
+) -> Result<(), AllocError>
+    ensures { OnOk result (map listed_view all.new.items ≡ map listed_view all.old.items ++ flat_map (command_lists place) commands.now) }
+{
+    for command in commands {
+        push_command(place, command, all)?;
+    }
+    Ok(())
+}
+
+/// Appends the lists of a command of a section: those of its runas part, and the command itself.
+fn push_command<'a>(
+    place: Place,
+    command: &'a CommandSpec,
+    all: &mut Vec<Listed<'a>>,
+) -> Result<(), AllocError>
+    ensures { OnOk result (map listed_view all.new.items ≡ map listed_view all.old.items ++ command_lists place command.now) }
+{
+    push_runas(place, &command.runas, all)?;
+    push_granting(
+        Kind::Cmnd,
+        place,
+        std::slice::from_ref(&command.command),
+        all,
+    )
+}
+
+/// Appends the lists of a runas part, if there is one.
+fn push_runas<'a>(
+    place: Place,
+    runas: &'a Option<Runas>,
+    all: &mut Vec<Listed<'a>>,
+) -> Result<(), AllocError>
+    ensures { OnOk result (map listed_view all.new.items ≡ map listed_view all.old.items ++ runas_lists place runas.now) }
+{
+    match runas {
+        Some(runas) => {
+            push_option(place, &runas.users, all)?;
+            push_option(place, &runas.groups, all)
+        }
+        None => Ok(()),
+    }
+}
+
+/// Appends a list of a runas part, if it is there.
+fn push_option<'a>(
+    place: Place,
+    members: &'a Option<Seq<Member>>,
+    all: &mut Vec<Listed<'a>>,
+) -> Result<(), AllocError>
+    ensures { OnOk result (map listed_view all.new.items ≡ map listed_view all.old.items ++ option_lists Kind.Runas place members.now) }
+{
+    match members {
+        Some(members) => push_granting(Kind::Runas, place, members.as_slice(), all),
+        None => Ok(()),
+    }
+}
+
+/// The definitions in force, in the order of the file and by their names; and the further definitions of names.
+#[derive(Drop)]
+pub(crate) struct Survey<'a> {
+    pub(crate) aliases: Vec<Named<'a>>,
+    pub(crate) repeats: Vec<Named<'a>>,
+    pub(crate) index: Index,
+}
+
+impl<'a> Survey<'a> {
+    /// Adds a definition: to those in force where its name is new, else to the others.
+    fn add(&mut self, alloc: Global, definition: Named<'a>) -> Result<(), AllocError>
+        ensures kept { OnOk result ((p : Policy) (done : List Defined) → IsPlaced p definition.entry → IsSurvey p done self.old → IsSurvey p (done ++ named_view definition.entry ∷ []) self.new) }
+    {
+        match self.index.number(definition.kind, definition.name) {
+            Some(_) => self.repeats.push(definition)?,
+            None => {
+                self.index.insert(alloc, definition.kind, definition.name, definition.position)?;
+                self.aliases.push(definition)?;
+            }
+        }
+        Ok(())
+    }
+}
+
+/// Parts the definitions into those in force and the others.
+pub(crate) fn surveyed<'a>(
+    alloc: Global,
+    definitions: &[Named<'a>],
+) -> Result<Survey<'a>, AllocError>
+    ensures { IfOk result (λ survey. (p : Policy) → All (IsPlaced p) definitions.now → IsSurvey p (map named_view definitions.now) survey) }
+{
+    let mut survey = Survey {
+        aliases: Vec::new(alloc),
+        repeats: Vec::new(alloc),
+        index: Index::new(alloc),
+    };
+    for definition in definitions {
+        survey.add(alloc, *definition)?;
+    }
+    Ok(survey)
+}
+
+/// For each alias the aliases that its members name.
+pub(crate) fn links(
+    alloc: Global,
+    index: &Index,
+    aliases: &[Named<'_>],
+) -> Result<Vec<Seq<Option<usize>>>, AllocError>
+    ensures { IfOk result (λ rows. rows.items ≡ map (row_of_alias index.now) (map named_view aliases.now)) }
+{
+    let mut rows = Vec::new(alloc);
+    for alias in aliases {
+        rows.push(row(alloc, index, alias.kind, alias.members)?)?;
+    }
+    Ok(rows)
+}
+
+/// For each member the alias that it names.
+pub(crate) fn row(
+    alloc: Global,
+    index: &Index,
+    kind: Kind,
+    members: &[Member],
+) -> Result<Seq<Option<usize>>, AllocError>
+    ensures { IfOk result (λ row. row ≡ row_of index.now kind members.now) }
+{
+    let mut row = Vec::new(alloc);
+    for member in members {
+        let link = match alias_name(&member.atom) {
+            Some(name) => index.number(kind, name),
+            None => None,
+        };
+        row.push(link)?;
+    }
+    Ok(Seq::from_vec(row))
+}
+
+/// The aliases that the lists of rules and of bound `Defaults` lines name.
+pub(crate) fn roots(
+    alloc: Global,
+    index: &Index,
+    lists: &[Listed<'_>],
+) -> Result<Vec<Option<usize>>, AllocError>
+    ensures { IfOk result (λ roots. roots.items ≡ flat_map (granting_row index.now) (map listed_view lists.now)) }
+{
+    let mut roots = Vec::new(alloc);
+    for list in lists {
+        push_roots(alloc, index, list, &mut roots)?;
+    }
+    Ok(roots)
+}
+
+/// Appends the aliases that a list of a rule or of a bound `Defaults` line names.
+fn push_roots(
+    alloc: Global,
+    index: &Index,
+    list: &Listed<'_>,
+    roots: &mut Vec<Option<usize>>,
+) -> Result<(), AllocError>
+    ensures { OnOk result (roots.new.items ≡ roots.old.items ++ granting_row index.now (listed_view list.now)) }
+{
+    if list.granting {
+        let row = row(alloc, index, list.kind, list.members)?;
+        roots.extend_from_slice(row.as_slice())?;
+    }
+    Ok(())
+}

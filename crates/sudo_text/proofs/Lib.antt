@@ -1,0 +1,11 @@
+pub mod Closing
+pub mod Cuts
+pub mod LineVectors
+pub mod NoFault
+pub mod OneList
+pub mod Progress
+pub mod Reaching
+pub mod Scanning
+pub mod TokenVectors
+pub mod Unique
+pub mod OneFault

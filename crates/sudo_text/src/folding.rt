@@ -1,0 +1,163 @@
+//! A text's logical lines.
+ghost use Rattle.std.specs.Prelude.{◌≡◌, ◌+◌, ◌^◌, ◌<◌, ◌≤◌, ◌∷◌, [], length, reverse, ◌==◌, not, false, MatchResult, IfOk, IfErr, All};
+ghost use Rattle.std.specs.List.{take_while};
+ghost use Rattle.sudo_text.specs.Faults.{Fails, Gives};
+ghost use Rattle.sudo_text.specs.Lines as spec;
+ghost use Rattle.sudo_text.specs.Lines.{cut, is_continued, physical_lines, folded_from, with_front, lines_of};
+
+use crate::bytes::{blank_count, is_digit, is_include, peek};
+use crate::{Line, Place, TextFault};
+use std::alloc::Global;
+
+/// The most bytes that a text may have.
+pub const TEXT_LIMIT: usize = 16_777_216;
+
+/// Whether a physical line begins with `#`, is no include directive, and has no digit directly after the `#`.
+fn is_comment(line: &[u8]) -> bool
+    ensures { result ≡ spec.is_comment line.now }
+{
+    peek(line, 0) == b'#' && !is_include(line) && !is_digit(peek(line, 1))
+}
+
+/// How many backslashes end a physical line.
+fn escape_count(line: &[u8]) -> usize
+    ensures { result ≡ length (take_while (λ b. b == 92) (reverse line.now)) }
+{
+    line.iter().rev().take_while(|b| **b == b'\\').count()
+}
+
+/// Whether a physical line ends in an odd number of backslashes.
+fn ends_in_escape(line: &[u8]) -> bool
+    ensures { result ≡ spec.ends_in_escape line.now }
+{
+    escape_count(line) % 2 == 1
+}
+
+/// Whether a physical line that continues no other one is continued by the next.
+fn begins_run(line: &[u8]) -> bool
+    ensures { result ≡ is_continued false line.now }
+{
+    !is_comment(line) && ends_in_escape(line)
+}
+
+/// The offset of the first newline, or the length where there is none.
+fn line_end(text: &[u8]) -> usize
+    ensures at { result ≡ length (take_while (λ b. not (b == 10)) text.now) }
+    ensures within { result ≤ length text.now }
+{
+    text.iter().take_while(|b| **b != b'\n').count()
+}
+
+/// The bytes up to a newline, and those after it.
+fn cut_first(text: &[u8]) -> (&[u8], &[u8])
+    requires { 0 < length text.now }
+    ensures cut { cut text.now ≡ result.0.now ∷ cut result.1.now }
+    ensures shorter { length result.0.now + length result.1.now ≤ length text.now }
+    ensures less { length result.1.now < length text.now }
+{
+    let end = line_end(text);
+    if end == text.len() {
+        return (text, &[]);
+    }
+    (&text[..end], &text[end + 1..])
+}
+
+/// A line without a carriage return at its end.
+fn without_return(line: &[u8]) -> &[u8]
+    ensures { result.now ≡ spec.without_return line.now }
+{
+    match line {
+        [front @ .., b'\r'] => front,
+        _ => line,
+    }
+}
+
+/// A line without the blanks at its front.
+fn without_indent(line: &[u8]) -> &[u8]
+    ensures { result.now ≡ spec.without_indent line.now }
+{
+    &line[blank_count(line)..]
+}
+
+/// The first physical line, and the text after it.
+fn physical_line(text: &[u8]) -> (&[u8], &[u8])
+    requires { 0 < length text.now }
+    ensures line { physical_lines text.now ≡ result.0.now ∷ physical_lines result.1.now }
+    ensures shorter { length result.0.now + length result.1.now ≤ length text.now }
+    ensures less { length result.1.now < length text.now }
+{
+    let (line, rest) = cut_first(text);
+    (without_indent(without_return(line)), rest)
+}
+
+/// The first logical line of a text that is not empty, the text after it, and the number of the next physical line.
+fn logical_line(
+    alloc: Global,
+    file: u32,
+    first: u32,
+    text: &[u8],
+) -> Result<(Line, &[u8], u32), TextFault>
+    requires some { 0 < length text.now }
+    requires fits { first + length text.now < 2 ^ 32 }
+    ensures folded { MatchResult result
+        (λ x. folded_from file first (physical_lines text.now) ≡ with_front (x.0 ∷ []) (folded_from file x.2 (physical_lines x.1.now)))
+        (λ fault. Fails fault (folded_from file first (physical_lines text.now))) }
+    ensures shorter { IfOk result (λ x. length x.1.now < length text.now) }
+    ensures short { IfOk result (λ x. length x.0.text ≤ length text.now) }
+    ensures numbers { IfOk result (λ x. x.2 + length x.1.now ≤ first + length text.now) }
+{
+    let place = Place { file, line: first };
+    let (mut line, mut rest) = physical_line(text);
+    let mut joined = Vec::new(alloc);
+    let mut joins = Vec::new(alloc);
+    let mut number = first;
+    let mut continued = begins_run(line);
+    while continued {
+        if rest.is_empty() {
+            let col = (joined.len() + line.len()) as u32;
+            return Err(TextFault::BadEscape { place, col });
+        }
+        joined.extend_from_slice(&line[..line.len() - 1])?;
+        joins.push(joined.len() as u32)?;
+        let (next, after) = physical_line(rest);
+        line = next;
+        rest = after;
+        number += 1;
+        continued = ends_in_escape(line);
+    }
+    joined.extend_from_slice(line)?;
+    let line = Line {
+        first: place,
+        text: joined.into(),
+        joins: joins.into(),
+    };
+    Ok((line, rest, number + 1))
+}
+
+/// The logical lines of a text, in order, blank ones and comment lines among them.
+///
+/// A line that ends in an odd number of backslashes loses the last one and goes on with the next line, as in
+/// sudoers(5); a comment line never does. Carriage returns at the ends of lines and blanks at their fronts are dropped.
+/// `file` is the number that the places of the lines have. Refuses a text over the limit with `TooLong`; one whose last
+/// line goes on with `BadEscape`, at its last backslash; and with `Memory` only where memory was refused.
+pub fn lines(alloc: Global, file: u32, text: &[u8]) -> Result<Vec<Line>, TextFault>
+    ensures lines { Gives (λ v. v.items) result (lines_of file text.now) }
+    // Each line is short enough for its tokens to be read.
+    ensures short { IfOk result (λ v. All (λ line. length line.text ≤ TEXT_LIMIT) v.items) }
+    // A text over the limit is refused before anything grows.
+    ensures memory { IfErr result (λ fault. fault ≡ TextFault.Memory → length text.now ≤ TEXT_LIMIT) }
+{
+    if text.len() > TEXT_LIMIT {
+        return Err(TextFault::TooLong { file });
+    }
+    let mut lines = Vec::new(alloc);
+    let mut rest = text;
+    let mut number = 1;
+    while !rest.is_empty() {
+        let (line, after, next) = logical_line(alloc, file, number, rest)?;
+        lines.push(line)?;
+        rest = after;
+        number = next;
+    }
+    Ok(lines)
+}

@@ -1,0 +1,23 @@
+//! The text of a sudoers file: logical lines, and the tokens of a line.
+//!
+//! A file is cut into logical lines first: comment lines stand alone, and a line that ends in a backslash goes on
+//! with the next one. Each logical line is then cut into tokens, whose escapes are undone.
+#![tactic(auto)]
+
+mod bytes;
+mod fault;
+mod folding;
+mod line;
+mod piece;
+mod rules;
+mod run;
+mod scan;
+mod seq;
+mod token;
+
+pub use fault::TextFault;
+pub use folding::{TEXT_LIMIT, lines};
+pub use line::{Line, Place};
+pub use scan::{no_fault_beside_tokens, one_leftmost_fault, one_token_list, tokens};
+pub use seq::Seq;
+pub use token::{Ch, Mark, Token, TokenKind};

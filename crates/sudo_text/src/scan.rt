@@ -1,0 +1,337 @@
+//! The tokens of a line.
+ghost use Rattle.std.specs.Prelude.{◌≡◌, ◌+◌, ◌<◌, ◌≤◌, ◌^◌, ◌≢◌, length, drop, Some, true, false, [], ◌-◌, IsTrue, IfOk, IfErr, All};
+ghost use Rattle.sudo_text.specs.Pieces.{takes_first, Breaks, plain as spec_plain};
+ghost use Rattle.sudo_text.specs.Places.{RuleFits, KindFits};
+ghost use Rattle.sudo_text.specs.Refusals.{Refuses};
+ghost use Rattle.sudo_text.specs.Tokens as spec;
+ghost use Rattle.sudo_text.specs.Tokens.{quoted_end, command_end, path_end, token_by, token_end, WordEnds, QuotedFlaw, CommandFlaw, PathFlaw, FlawBy, FlawNext, IsDone, IfToken, IsFaultOf, closes_line, stands, spells, LeftmostFault, SpelledOnce, FaultsExclude, FaultedOnce};
+ghost use Rattle.sudo_text.specs.Faults.{Gives};
+ghost use Rattle.sudo_text.specs.declared.token.Token.{Token};
+ghost use Rattle.std.specs.Prelude.{List, Ok};
+
+use crate::bytes::peek;
+use crate::folding::TEXT_LIMIT;
+use crate::piece::{Flaw, Style, ends_run, skip_blanks};
+use crate::rules::{
+    Before, LineKind, Rule, before_of, directive_len, is_defaults, line_kind, mark_len, rule_at,
+    word_style,
+};
+use crate::run::{Refusal, run};
+use crate::{Ch, Line, Place, Seq, TextFault, Token, TokenKind};
+use std::alloc::{AllocError, Global};
+
+/// Whether a byte closes a quoted word, where a backslash may take it.
+fn closes(taken: bool, byte: u8) -> bool
+    ensures { result ≡ spec.closes taken byte }
+{
+    !taken && byte == b'"'
+}
+
+/// Whether a byte takes the next one, where a backslash may take it.
+fn takes_next(taken: bool, byte: u8) -> bool
+    ensures { result ≡ spec.takes_next taken byte }
+{
+    !taken && byte == b'\\'
+}
+
+/// Whether a double quote closes a quoted word whose text follows.
+fn has_closing(text: &[u8]) -> bool
+    ensures { result ≡ spec.has_closing false text.now }
+{
+    let mut taken = false;
+    for byte in text {
+        if closes(taken, *byte) {
+            return true;
+        }
+        taken = takes_next(taken, *byte);
+    }
+    false
+}
+
+/// The characters of the quoted word that begins at an offset, and its end.
+#[tactic(auto, unfolding(crate::specs::Tokens::quoted_end))]
+fn quoted(alloc: Global, text: &[u8], at: usize) -> Result<(Seq<Ch>, usize), Refusal>
+    requires at { at < length text.now }
+    requires fits { length text.now < 2 ^ 32 }
+    ensures end { IfOk result (λ x. quoted_end text.now at x.0 ≡ Some x.1) }
+    ensures within { IfOk result (λ x. (at < x.1) × (x.1 ≤ length text.now)) }
+    ensures flaw { IfErr result (Refuses (QuotedFlaw text.now at)) }
+    ensures inside { IfErr result (Refuses (λ _ place. place < length text.now)) }
+{
+    if !has_closing(&text[at + 1..]) {
+        return Err(Refusal::Wrong(Flaw::BadQuote, at));
+    }
+    let (chars, end) = run(alloc, Style::Quoted, text, at + 1)?;
+    if end < text.len() {
+        Ok((chars, end + 1))
+    } else {
+        unreachable!()
+    }
+}
+
+/// Whether arguments follow a command's path that ends at an offset.
+#[tactic(auto, unfolding(crate::specs::Tokens::has_arguments))]
+fn has_arguments(kind: LineKind, text: &[u8], end: usize) -> bool
+    requires end { end ≤ length text.now }
+    requires fits { length text.now < 2 ^ 32 }
+    ensures { result ≡ spec.has_arguments kind text.now end }
+{
+    let next = skip_blanks(text, end);
+    !is_defaults(kind)
+        && end < next
+        && next < text.len()
+        && !ends_run(Style::Arguments, text, next, next)
+}
+
+/// The command that begins at an offset, and its end.
+#[tactic(auto, unfolding(crate::specs::Tokens::command_end))]
+fn command(
+    alloc: Global,
+    kind: LineKind,
+    text: &[u8],
+    at: usize,
+) -> Result<(Seq<Ch>, Option<Seq<Ch>>, usize), Refusal>
+    requires at { at < length text.now }
+    requires fits { length text.now < 2 ^ 32 }
+    ensures end { IfOk result (λ x. command_end kind text.now at x.0 x.1 ≡ Some x.2) }
+    ensures within { IfOk result (λ x. (at < x.2) × (x.2 ≤ length text.now)) }
+    ensures flaw { IfErr result (Refuses (CommandFlaw kind text.now at)) }
+    ensures inside { IfErr result (Refuses (λ _ place. place < length text.now)) }
+{
+    let (path, end) = run(alloc, Style::Path, text, at)?;
+    if !has_arguments(kind, text, end) {
+        return Ok((path, None, end));
+    }
+    let (arguments, end) = run(alloc, Style::Arguments, text, skip_blanks(text, end))?;
+    Ok((path, Some(arguments), end))
+}
+
+/// The path of an include line whose directive ends at an offset, and its end.
+#[tactic(auto, unfolding(crate::specs::Tokens::path_end))]
+fn include_path(alloc: Global, text: &[u8], directive: usize) -> Result<(Seq<Ch>, usize), Refusal>
+    requires directive { directive ≤ length text.now }
+    requires fits { length text.now < 2 ^ 32 }
+    ensures end { IfOk result (λ x. path_end text.now directive x.0 ≡ Some x.1) }
+    ensures within { IfOk result (λ x. (directive ≤ x.1) × (x.1 ≤ length text.now)) }
+    ensures flaw { IfErr result (Refuses (PathFlaw text.now directive)) }
+    ensures inside { IfErr result (Refuses (λ _ place. place < length text.now)) }
+{
+    let at = skip_blanks(text, directive);
+    if text.len() <= at {
+        Ok((Seq::new(alloc), directive))
+    } else if peek(text, at) == b'"' {
+        quoted(alloc, text, at)
+    } else {
+        run(alloc, Style::Include, text, at)
+    }
+}
+
+/// A byte as it stands.
+fn plain(byte: u8) -> Ch
+    ensures { result ≡ spec_plain byte }
+{
+    let escaped = false;
+    Ch { byte, escaped }
+}
+
+/// The characters of the word `Defaults`.
+fn keyword(alloc: Global) -> Result<Seq<Ch>, AllocError>
+    ensures { IfOk result (λ s. s ≡ spec.keyword) }
+{
+    let chars = [
+        plain(b'D'),
+        plain(b'e'),
+        plain(b'f'),
+        plain(b'a'),
+        plain(b'u'),
+        plain(b'l'),
+        plain(b't'),
+        plain(b's'),
+    ];
+    Seq::from_slice(alloc, &chars)
+}
+
+/// An unquoted word or value.
+fn word(alloc: Global, style: Style, text: &[u8], at: usize) -> Result<(TokenKind, usize), Refusal>
+    requires at { at < length text.now }
+    requires fits { length text.now < 2 ^ 32 }
+    requires first { takes_first style ≡ true }
+    ensures end { IfOk result (λ x. WordEnds style text.now at x.0 x.1) }
+    ensures within { IfOk result (λ x. (at < x.1) × (x.1 ≤ length text.now)) }
+    ensures flaw { IfErr result (Refuses (Breaks style text.now at)) }
+    ensures inside { IfErr result (Refuses (λ _ place. place < length text.now)) }
+{
+    let (chars, end) = run(alloc, style, text, at)?;
+    let quoted = false;
+    Ok((TokenKind::Word { quoted, chars }, end))
+}
+
+/// The token that begins at an offset and is read by this rule, which is none of a comment, and its end.
+#[tactic(auto, unfolding(crate::specs::Tokens::keyword_end))]
+fn token_at(
+    alloc: Global,
+    kind: LineKind,
+    rule: Rule,
+    text: &[u8],
+    at: usize,
+) -> Result<(TokenKind, usize), Refusal>
+    requires at { at < length text.now }
+    requires fits { length text.now < 2 ^ 32 }
+    requires rule { RuleFits rule (length text.now - at) }
+    requires token { spec.is_comment rule ≡ false }
+    ensures end { IfOk result (λ x. token_by rule kind text.now at x.0 ≡ Some x.1) }
+    ensures within { IfOk result (λ x. (at < x.1) × (x.1 ≤ length text.now)) }
+    ensures flaw { IfErr result (Refuses (FlawBy rule kind text.now [] at)) }
+    ensures inside { IfErr result (Refuses (λ _ place. place < length text.now)) }
+{
+    match rule {
+        Rule::Include { folder, hash } => {
+            let directive = at + directive_len(folder);
+            let (path, end) = include_path(alloc, text, directive)?;
+            Ok((TokenKind::Include { folder, hash, path }, end))
+        }
+        Rule::Keyword => {
+            let (quoted, chars) = (false, keyword(alloc)?);
+            Ok((TokenKind::Word { quoted, chars }, at + 8))
+        }
+        Rule::Quoted => {
+            let (chars, end) = quoted(alloc, text, at)?;
+            let quoted = true;
+            Ok((TokenKind::Word { quoted, chars }, end))
+        }
+        Rule::Value => word(alloc, Style::Value, text, at),
+        Rule::Word => word(alloc, word_style(kind), text, at),
+        Rule::Command => {
+            let (path, args, end) = command(alloc, kind, text, at)?;
+            Ok((TokenKind::Command { path, args }, end))
+        }
+        Rule::Mark(mark) => Ok((TokenKind::Mark(mark), at + mark_len(mark))),
+        Rule::Comment => unreachable!(),
+    }
+}
+
+/// Whether one of the joins lies after an offset.
+fn has_join_after(joins: &[u32], at: usize) -> bool
+    ensures { result ≡ spec.has_join_after joins.now at }
+{
+    joins.iter().any(|join| at < *join as usize)
+}
+
+/// The token that stands next after an offset, `None` where none does up to the end of the line.
+#[tactic(auto, unfolding(crate::specs::Tokens::closes_line, crate::specs::Tokens::stands, crate::specs::Tokens::token_end))]
+fn next_token(
+    alloc: Global,
+    kind: LineKind,
+    before: Before,
+    line: &Line,
+    from: usize,
+) -> Result<Option<Token>, Refusal>
+    requires from { from ≤ length line.now.text }
+    requires fits { length line.now.text < 2 ^ 32 }
+    requires kind { KindFits kind (length line.now.text) }
+    ensures none { IsDone result → closes_line kind line.now.text line.now.joins from before ≡ true }
+    ensures some { IfToken result (λ t. stands kind line.now.text from before t ≡ true) }
+    ensures within { IfToken result (λ t. (from < t.end) × (t.end ≤ length line.now.text)) }
+    ensures inside_text { IfToken result (λ t. t.start < length line.now.text) }
+    ensures flaw { IfErr result (Refuses (FlawNext kind line.now.text line.now.joins from before)) }
+    ensures inside { IfErr result (Refuses (λ _ place. place < length line.now.text)) }
+{
+    let text = line.text.as_slice();
+    let at = skip_blanks(text, from);
+    if text.len() <= at {
+        return Ok(None);
+    }
+    let rule = rule_at(kind, before, text, at);
+    if matches!(rule, Rule::Comment) {
+        if has_join_after(line.joins.as_slice(), at) {
+            return Err(Refusal::Wrong(Flaw::BadEscape, at));
+        }
+        return Ok(None);
+    }
+    let (token, end) = token_at(alloc, kind, rule, text, at)?;
+    Ok(Some(Token {
+        kind: token,
+        start: at as u32,
+        end: end as u32,
+    }))
+}
+
+/// The fault of a line for a refusal.
+fn fault_of(first: Place, refusal: Refusal) -> TextFault
+    requires { Refuses (λ _ place. place + 1 < 2 ^ 32) refusal }
+    ensures { IsFaultOf first refusal result }
+{
+    match refusal {
+        Refusal::Memory => TextFault::Memory,
+        Refusal::Wrong(flaw, place) => {
+            let (place, col) = (first, (place + 1) as u32);
+            match flaw {
+                Flaw::BadQuote => TextFault::BadQuote { place, col },
+                Flaw::BadHex => TextFault::BadHex { place, col },
+                Flaw::BadEscape => TextFault::BadEscape { place, col },
+                Flaw::NotPrintable => TextFault::NotPrintable { place, col },
+            }
+        }
+    }
+}
+
+/// The tokens of a line, or its leftmost fault.
+fn all_tokens(alloc: Global, line: &Line) -> Result<Vec<Token>, TextFault>
+    requires { length line.now.text ≤ TEXT_LIMIT }
+    ensures tokens { IfOk result (λ v. spells line.now v.items ≡ true) }
+    ensures few { IfOk result (λ v. length v.items ≤ length line.now.text) }
+    ensures inside { IfOk result (λ v. All (λ t. t.start < length line.now.text) v.items) }
+    ensures fault { IfErr result (λ f. f ≢ TextFault.Memory → LeftmostFault line.now f) }
+{
+    let kind = line_kind(line.text.as_slice());
+    let mut tokens = Vec::new(alloc);
+    let mut before = Before::Nothing;
+    let mut from = 0;
+    'tokens: loop {
+        match next_token(alloc, kind, before, line, from) {
+            Ok(None) => return Ok(tokens),
+            Ok(Some(token)) => {
+                before = before_of(&token.kind);
+                from = token.end as usize;
+                tokens.push(token)?;
+            }
+            Err(refusal) => return Err(fault_of(line.first, refusal)),
+        }
+    }
+}
+
+/// The tokens of a line, none for a blank or a comment line.
+///
+/// Blanks separate tokens; at each place the first rule that applies is taken, and every word is as long as possible.
+/// Refuses an unclosed double quote with `BadQuote`, `\x` without two hexadecimal digits with `BadHex`, a backslash with
+/// nothing after it and a comment that goes on over a join with `BadEscape`, and a control byte outside a comment with
+/// `NotPrintable`: the leftmost of these decides. `Memory` comes only where memory was refused.
+pub fn tokens(alloc: Global, line: &Line) -> Result<Vec<Token>, TextFault>
+    requires { length line.now.text ≤ TEXT_LIMIT }
+    // What is read is spelled so.
+    ensures tokens { IfOk result (λ v. spells line.now v.items ≡ true) }
+    // No more of them than bytes of the line, and each begins within it.
+    ensures few { IfOk result (λ v. length v.items ≤ length line.now.text) }
+    ensures inside { IfOk result (λ v. All (λ t. t.start < length line.now.text) v.items) }
+    // What is spelled so is read, unless memory was refused.
+    ensures only { (ts : List Token) → spells line.now ts ≡ true → Gives (λ v. v.items) result (Ok ts) }
+    // Which fault it is.
+    ensures fault { IfErr result (λ f. f ≢ TextFault.Memory → LeftmostFault line.now f) }
+{
+    all_tokens(alloc, line)
+}
+
+/// No line spells two lists of tokens.
+pub fn one_token_list()
+    ensures { SpelledOnce }
+{}
+
+/// A line that spells a list of tokens has no fault.
+pub fn no_fault_beside_tokens()
+    ensures { FaultsExclude }
+{}
+
+/// No line has two leftmost faults.
+pub fn one_leftmost_fault()
+    ensures { FaultedOnce }
+{}
