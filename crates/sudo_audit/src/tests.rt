@@ -8,12 +8,12 @@ use std::test::Fail;
 use sudo_text::Seq;
 use sudo_tree::Kind;
 
-/// A file or a folder: its path, and its text or the names of its files.
+/// A file or a folder: its path, and its text or the names of its files, each with a space after it.
 #[derive(Clone, Copy)]
 struct Item<'a> {
     path: &'a [u8],
     text: &'a [u8],
-    names: &'a [&'a [u8]],
+    names: &'a [u8],
 }
 
 /// Files over memory. A file that is not there is missing, and a folder has no names.
@@ -33,16 +33,28 @@ impl Files for Shelf<'_> {
     }
 
     fn folder(&mut self, alloc: Global, path: &[u8]) -> Result<Seq<Seq<u8>>, FilesFault> {
-        let mut names = Seq::new(alloc);
         for item in self.items {
             if item.path == path {
-                for name in item.names {
-                    names.push(Seq::from_slice(alloc, *name)?)?;
-                }
+                return Ok(names_in(alloc, item.names)?);
             }
         }
-        Ok(names)
+        Ok(Seq::new(alloc))
     }
+}
+
+/// The names that a space follows each.
+fn names_in(alloc: Global, text: &[u8]) -> Result<Seq<Seq<u8>>, AllocError> {
+    let mut names = Seq::new(alloc);
+    let mut name = Seq::new(alloc);
+    for byte in text {
+        if *byte == b' ' {
+            names.push(name)?;
+            name = Seq::new(alloc);
+        } else {
+            name.push(*byte)?;
+        }
+    }
+    Ok(names)
 }
 
 /// Whether the writers took these bytes.
@@ -61,7 +73,7 @@ fn checks(
     let items = [Item {
         path: b"p",
         text: policy,
-        names: &[],
+        names: b"",
     }];
     let mut out = Script::of(alloc, b"", 1000)?;
     let mut err = Script::of(alloc, b"", 1000)?;
@@ -88,7 +100,7 @@ fn expands(
     let items = [Item {
         path: b"p",
         text: policy,
-        names: &[],
+        names: b"",
     }];
     let mut out = Script::of(alloc, b"", 1000)?;
     let mut err = Script::of(alloc, b"", 1000)?;
@@ -382,22 +394,22 @@ fn follows_includes(rt: HostRuntime) -> Result<(), Fail> {
         Item {
             path: b"p/sudoers",
             text: b"Cmnd_Alias K = /bin/kill\n@includedir d\nalice ALL = K, L\n",
-            names: &[],
+            names: b"",
         },
         Item {
             path: b"p/d",
             text: b"",
-            names: &[b"b", b"a", b"c.old", b"e~"],
+            names: b"b a c.old e~ ",
         },
         Item {
             path: b"p/d/a",
             text: b"Cmnd_Alias L = /bin/ls\n",
-            names: &[],
+            names: b"",
         },
         Item {
             path: b"p/d/b",
             text: b"# two\nCmnd_Alias L = /bin/cat\nbob ALL = M\n",
-            names: &[],
+            names: b"",
         },
     ];
     let mut shelf = Shelf { items: &items };
