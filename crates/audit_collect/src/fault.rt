@@ -24,7 +24,7 @@ pub enum Refused {
     #[error("no sender {sender}")]
     Stranger { sender: u32 },
     /// A reply has the number 0.
-    #[error("sender {sender}: request 0")]
+    #[error("sender {sender}: zero as a number")]
     ZeroNumber { sender: u32 },
     /// A reply has a number that was accepted from this sender before.
     #[error("sender {sender}: request {number} twice")]
