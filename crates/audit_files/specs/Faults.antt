@@ -1,0 +1,33 @@
+-- The faults of a file.
+use Rattle.std.specs.Prelude.{ℕ, ⊤, Option, Some, None, Result, Ok, Err}
+use Rattle.audit_files.specs.declared.fault.FileFault.{FileFault}
+use Rattle.audit_files.specs.declared.fault.FileFault.TheVariants.{Header, BadRow, OutOfOrder, RowAfterClose, TooMany, Read, Memory}
+
+-- a fault of the file or of reading it, and no want of memory
+abbrev pub IsNoMemory : FileFault → Type 0
+IsNoMemory Header = ⊤
+IsNoMemory (BadRow row) = ⊤
+IsNoMemory (OutOfOrder row) = ⊤
+IsNoMemory (RowAfterClose row) = ⊤
+IsNoMemory TooMany = ⊤
+IsNoMemory Read = ⊤
+IsNoMemory Memory = ⊥
+
+-- a fault, or else this value
+abbrev pub unless : {T : Type 0} → Option FileFault → T → Result T FileFault
+unless None x = Ok x
+unless (Some e) x = Err e
+
+-- 1 where it tells of a read that failed
+abbrev pub failures_in : FileFault → ℕ
+failures_in Header = 0
+failures_in (BadRow row) = 0
+failures_in (OutOfOrder row) = 0
+failures_in (RowAfterClose row) = 0
+failures_in TooMany = 0
+failures_in Read = 1
+failures_in Memory = 0
+
+abbrev pub read_failures : {T : Type 0} → Result T FileFault → ℕ
+read_failures (Ok x) = 0
+read_failures (Err e) = failures_in e

@@ -1,0 +1,196 @@
+ghost use Rattle.std.specs.Prelude.{◌≡◌, ◌+◌, ◌∷◌, ◌++◌, [], Ok, Err, IfOk, IfErr, OnOk, IfSome, filter_map, length};
+ghost use Rattle.csv.specs.Records.{fields_of};
+ghost use Rattle.audit_files.specs.Faults.{IsNoMemory, failures_in, read_failures};
+ghost use Rattle.audit_files.specs.Files.{IsRead};
+ghost use Rattle.audit_files.specs.Hosts.{address_by, address_of, interface_of, interface_with, machine_of, machines, octet_of};
+
+use crate::FileFault;
+use crate::fields::field;
+use crate::number::number;
+use crate::parts::{Item, cut, items};
+use crate::table::{Table, gather};
+use crate::text::read_text;
+use audit_device::Feed;
+use csv::ByteRecord;
+use std::alloc::{AllocError, Global};
+use sudo_rows::{Interface, Machine};
+use sudo_text::Seq;
+
+// A byte of an address.
+fn octet(text: &[u8]) -> Option<u8>
+    ensures { result ≡ octet_of text.now }
+{
+    match number(text) {
+        Some(found) if found < 256 => Some(found as u8),
+        _ => None,
+    }
+}
+
+// The address of four bytes, where there are four.
+fn address_from(
+    first: Option<u8>,
+    second: Option<u8>,
+    third: Option<u8>,
+    fourth: Option<u8>,
+) -> Option<u32>
+    ensures { result ≡ address_by first second third fourth }
+{
+    match (first, second, third, fourth) {
+        (Some(a), Some(b), Some(c), Some(d)) => {
+            let high = u32::from(a) * 256 + u32::from(b);
+            Some((high * 256 + u32::from(c)) * 256 + u32::from(d))
+        }
+        _ => None,
+    }
+}
+
+// The address that four bytes with dots between them write.
+fn address(text: &[u8]) -> Option<u32>
+    ensures { result ≡ address_of text.now }
+{
+    let (first, rest) = cut(text, b'.')?;
+    let (second, rest) = cut(rest, b'.')?;
+    let (third, fourth) = cut(rest, b'.')?;
+    address_from(octet(first), octet(second), octet(third), octet(fourth))
+}
+
+// An interface of so many bits, where they are at most 32.
+fn interface(addr: u32, bits: u32) -> Option<Interface>
+    ensures { result ≡ interface_with addr bits }
+{
+    if bits > 32 {
+        return None;
+    }
+    Some(Interface {
+        addr,
+        bits: bits as u8,
+    })
+}
+
+impl Item for Interface {
+    ghost stated = { interface_of };
+
+    fn read(_alloc: Global, word: &[u8]) -> Result<Option<Interface>, AllocError> {
+        let Some((address_text, bits_text)) = cut(word, b'/') else {
+            return Ok(None);
+        };
+        let Some(addr) = address(address_text) else {
+            return Ok(None);
+        };
+        let Some(bits) = number(bits_text) else {
+            return Ok(None);
+        };
+        Ok(interface(addr, bits))
+    }
+}
+
+// The machine that a record states.
+#[tactic(auto, using(crate::proofs::FieldLemmas::two_fields))]
+fn machine(alloc: Global, record: &ByteRecord) -> Result<Option<Machine>, AllocError>
+    ensures { IfOk result (λ o. o ≡ machine_of (fields_of «record».now)) }
+{
+    if record.len() != 2 {
+        return Ok(None);
+    }
+    machine_by(alloc, field(record, 0), field(record, 1))
+}
+
+// The machine that two fields state.
+fn machine_by(alloc: Global, host: &[u8], interfaces: &[u8]) -> Result<Option<Machine>, AllocError>
+    ensures { IfOk result (λ o. o ≡ machine_of (host.now ∷ interfaces.now ∷ [])) }
+{
+    if host.is_empty() {
+        return Ok(None);
+    }
+    let Some(interfaces) = items::<Interface>(alloc, interfaces)? else {
+        return Ok(None);
+    };
+    let name = Seq::from_slice(alloc, host)?;
+    Ok(Some(Machine {
+        name,
+        interfaces: Seq::from_vec(interfaces),
+    }))
+}
+
+// The machines so far.
+#[derive(Drop)]
+struct Machines {
+    alloc: Global,
+    list: Vec<Machine>,
+}
+
+impl Table for Machines {
+    ghost use Rattle.audit_files.specs.Hosts.{machine_fault, hosts_header};
+
+    ghost header = { hosts_header };
+
+    ghost fault = { machine_fault };
+
+    // One machine for each record.
+    ghost holds = { λ list before. (list.list.items ≡ filter_map machine_of before) × (length list.list.items ≡ length before) };
+
+    #[tactic(auto, using(crate::proofs::FieldLemmas::no_header, crate::proofs::FieldLemmas::two_fields))]
+    fn is_header(&self, record: &ByteRecord) -> bool {
+        record.len() == 2
+            && field(record, 0) == b"host".as_slice()
+            && field(record, 1) == b"interfaces".as_slice()
+    }
+
+    fn add(&mut self, row: u32, record: &ByteRecord) -> Result<(), FileFault> {
+        let found = match machine(self.alloc, record) {
+            Ok(found) => found,
+            Err(_) => return Err(FileFault::Memory),
+        };
+        let Some(machine) = found else {
+            return Err(FileFault::BadRow { row });
+        };
+        if self.list.len() >= 100_000 {
+            return Err(FileFault::TooMany);
+        }
+        match self.keep(machine) {
+            Ok(()) => Ok(()),
+            Err(_) => Err(FileFault::Memory),
+        }
+    }
+}
+
+impl Machines {
+    fn keep(&mut self, machine: Machine) -> Result<(), AllocError>
+        ensures { OnOk result (self.new.list.items ≡ self.old.list.items ++ machine ∷ []) }
+    {
+        self.list.push(machine)?;
+        Ok(())
+    }
+}
+
+// What the bytes of a hosts file state, or their first fault.
+fn machines_in(alloc: Global, text: &[u8]) -> Result<Vec<Machine>, FileFault>
+    ensures stated { IfOk result (λ list. machines text.now ≡ Ok list.items) }
+    ensures fault { IfErr result (λ e. IsNoMemory e → machines text.now ≡ Err e) }
+    ensures no_read { IfErr result (λ e. failures_in e ≡ 0) }
+{
+    let mut table = Machines {
+        alloc,
+        list: Vec::new(alloc),
+    };
+    gather(alloc, text, &mut table)?;
+    Ok(table.list)
+}
+
+/// Reads a hosts file to its end: its machines, in order.
+///
+/// The header is `host,interfaces`. A row has a host that is not empty, and interfaces as
+/// `a.b.c.d/bits` one space apart, possibly none, with bits from 0 to 32. For each record the faults are, in this order: another
+/// number of fields or a field of another shape (`BadRow`), more than 100,000 rows (`TooMany`); the
+/// first faulty record decides. `TooMany` also comes for more than 268,435,456 bytes before any row is
+/// read, `Read` where a read failed, `Memory` where memory was refused.
+pub fn read_hosts<R: Feed>(alloc: Global, reader: &mut R) -> Result<Vec<Machine>, FileFault>
+    ensures stated { IfOk result (λ list. IsRead machines (R.ahead reader.old) (Ok list.items)) }
+    ensures fault { IfErr result (λ e. IsNoMemory e → IsRead machines (R.ahead reader.old) (Err e)) }
+    ensures failures { R.failed_reads reader.new ≡ R.failed_reads reader.old + read_failures result }
+{
+    match read_text(alloc, reader) {
+        Ok(text) => machines_in(alloc, text.as_slice()),
+        Err(fault) => Err(fault),
+    }
+}

@@ -1,0 +1,255 @@
+ghost use Rattle.std.specs.Prelude.{◌≡◌, ◌≢◌, ◌+◌, ◌∷◌, ◌++◌, [], Some, Ok, Err, List, ℕ, IfOk, OnOk, IfErr, IfSome, IfNone, length, slice_get};
+ghost use Rattle.csv.specs.Records.{fields_of};
+ghost use Rattle.audit_files.specs.Faults.{IsNoMemory, failures_in, read_failures};
+ghost use Rattle.audit_files.specs.Files.{States, same_fields};
+ghost use Rattle.audit_files.specs.Requests.{asked_for, asked_number as number_asked, close_of, fields_in, requests_header, sent, is_command as command_test, last_number as number_of_last, order_fault as fault_of_order, request_of};
+
+use crate::FileFault;
+use crate::fields::field;
+use crate::number::number;
+use crate::table::{Table, gather};
+use crate::text::read_text;
+use audit_device::Feed;
+use csv::ByteRecord;
+use std::alloc::{AllocError, Global};
+use sudo_rows::Request;
+use sudo_text::Seq;
+
+/// What a requests file states: its requests in order, and the count of its close row, if it has one.
+#[derive(Drop)]
+pub struct Requests {
+    pub list: Seq<Request>,
+    pub close: Option<u32>,
+}
+
+// The fields of a row.
+#[derive(Clone, Copy)]
+struct RequestRow<'a> {
+    number: &'a [u8],
+    user: &'a [u8],
+    host: &'a [u8],
+    runas_user: &'a [u8],
+    runas_group: &'a [u8],
+    command: &'a [u8],
+    arguments: &'a [u8],
+}
+
+impl<'a> RequestRow<'a> {
+    // The row, where the record has seven fields.
+    #[tactic(auto, using(crate::proofs::FieldLemmas::seven_fields))]
+    fn of(record: &'a ByteRecord) -> Option<RequestRow<'a>>
+        ensures some { IfSome result (λ row. fields_of record.entry.now ≡ fields_in row) }
+        ensures none { IfNone result (length (fields_of record.entry.now) ≢ 7) }
+    {
+        if record.len() != 7 {
+            return None;
+        }
+        Some(RequestRow {
+            number: field(record, 0),
+            user: field(record, 1),
+            host: field(record, 2),
+            runas_user: field(record, 3),
+            runas_group: field(record, 4),
+            command: field(record, 5),
+            arguments: field(record, 6),
+        })
+    }
+
+    fn is_header(self) -> bool
+        ensures { result ≡ same_fields (fields_in self.entry) requests_header }
+    {
+        self.number == b"number".as_slice()
+            && self.user == b"user".as_slice()
+            && self.host == b"host".as_slice()
+            && self.runas_user == b"runas_user".as_slice()
+            && self.runas_group == b"runas_group".as_slice()
+            && self.command == b"command".as_slice()
+            && self.arguments == b"arguments".as_slice()
+    }
+
+    // The count, where this is a close row.
+    fn close(self) -> Option<u32>
+        ensures { result ≡ close_of (fields_in self.entry) }
+    {
+        let is_close = self.number == b"close".as_slice()
+            && self.host.is_empty()
+            && self.runas_user.is_empty()
+            && self.runas_group.is_empty()
+            && self.command.is_empty()
+            && self.arguments.is_empty();
+        if is_close { number(self.user) } else { None }
+    }
+
+    // The number, where this is a request.
+    fn asked_number(self) -> Option<u32>
+        ensures { result ≡ number_asked self.entry.number.now self.entry.user.now self.entry.host.now self.entry.command.now }
+    {
+        if self.user.is_empty() || self.host.is_empty() || !is_command(self.command) {
+            return None;
+        }
+        match number(self.number) {
+            Some(0) => None,
+            found => found,
+        }
+    }
+
+    // The request, of which this is the number.
+    fn request(self, alloc: Global, number: u32) -> Result<Request, AllocError>
+        requires { number_asked self.number.now self.user.now self.host.now self.command.now ≡ Some number }
+        ensures stated { IfOk result (λ r. request_of (fields_in self.entry) ≡ Some r) }
+        ensures number { IfOk result (λ r. r.number ≡ number) }
+    {
+        Ok(Request {
+            number,
+            user: Seq::from_slice(alloc, self.user)?,
+            host: Seq::from_slice(alloc, self.host)?,
+            runas_user: target(alloc, self.runas_user)?,
+            runas_group: target(alloc, self.runas_group)?,
+            command: Seq::from_slice(alloc, self.command)?,
+            arguments: Seq::from_slice(alloc, self.arguments)?,
+        })
+    }
+}
+
+// Whether a command is `sudoedit` or a path from the root.
+fn is_command(text: &[u8]) -> bool
+    ensures { result ≡ command_test text.now }
+{
+    match text.first() {
+        None => false,
+        Some(first) => *first == b'/' || text == b"sudoedit".as_slice(),
+    }
+}
+
+// What an optional field asks for.
+fn target(alloc: Global, text: &[u8]) -> Result<Option<Seq<u8>>, AllocError>
+    ensures { IfOk result (λ o. o ≡ asked_for text.now) }
+{
+    if text.is_empty() {
+        return Ok(None);
+    }
+    Ok(Some(Seq::from_slice(alloc, text)?))
+}
+
+fn last_number(requests: &[Request]) -> u32
+    ensures { result ≡ number_of_last requests.now }
+{
+    match requests.last() {
+        Some(request) => request.number,
+        None => 0,
+    }
+}
+
+// The fault of a request of this number after these.
+fn order_fault(row: u32, before: &[Request], number: u32) -> Option<FileFault>
+    ensures { result ≡ fault_of_order row before.now number }
+{
+    if number <= last_number(before) {
+        return Some(FileFault::OutOfOrder { row });
+    }
+    if before.len() >= 1_000_000 {
+        return Some(FileFault::TooMany);
+    }
+    None
+}
+
+// The requests and the close row so far.
+#[derive(Drop)]
+struct Sent {
+    alloc: Global,
+    list: Vec<Request>,
+    close: Option<u32>,
+}
+
+impl Table for Sent {
+    ghost use Rattle.audit_files.specs.Requests.{closes_in, request_fault, requests_header, requests_in};
+
+    ghost header = { requests_header };
+
+    ghost fault = { request_fault };
+
+    ghost holds = { λ sent before. (sent.list.items ≡ requests_in before) × (sent.close ≡ slice_get (closes_in before) 0) };
+
+    #[tactic(auto, using(crate::proofs::FieldLemmas::no_header))]
+    fn is_header(&self, record: &ByteRecord) -> bool {
+        match RequestRow::of(record) {
+            Some(row) => row.is_header(),
+            None => false,
+        }
+    }
+
+    fn add(&mut self, row: u32, record: &ByteRecord) -> Result<(), FileFault> {
+        let Some(fields) = RequestRow::of(record) else {
+            return Err(FileFault::BadRow { row });
+        };
+        if self.close.is_some() {
+            return Err(FileFault::RowAfterClose { row });
+        }
+        if let Some(count) = fields.close() {
+            self.close = Some(count);
+            return Ok(());
+        }
+        let Some(number) = fields.asked_number() else {
+            return Err(FileFault::BadRow { row });
+        };
+        if let Some(fault) = order_fault(row, self.list.as_slice(), number) {
+            return Err(fault);
+        }
+        match self.keep(fields, number) {
+            Ok(()) => Ok(()),
+            Err(_) => Err(FileFault::Memory),
+        }
+    }
+}
+
+impl Sent {
+    // Keeps the request, of which this is the number.
+    fn keep(&mut self, fields: RequestRow<'_>, number: u32) -> Result<(), AllocError>
+        requires { number_asked fields.number.now fields.user.now fields.host.now fields.command.now ≡ Some number }
+        ensures kept { OnOk result ((r : Request) × (request_of (fields_in fields.entry) ≡ Some r) × (r.number ≡ number)
+            × (self.new.list.items ≡ self.old.list.items ++ r ∷ [])) }
+        ensures close { self.new.close ≡ self.old.close }
+    {
+        let request = fields.request(self.alloc, number)?;
+        self.list.push(request)?;
+        Ok(())
+    }
+}
+
+/// What the bytes of a requests file state, or their first fault. Beside that only memory can be wanting.
+pub(crate) fn requests_of_text(alloc: Global, text: &[u8]) -> Result<Requests, FileFault>
+    ensures stated { IfOk result (λ requests. sent text.now ≡ Ok requests) }
+    ensures fault { IfErr result (λ e. IsNoMemory e → sent text.now ≡ Err e) }
+    ensures no_read { IfErr result (λ e. failures_in e ≡ 0) }
+{
+    let mut table = Sent {
+        alloc,
+        list: Vec::new(alloc),
+        close: None,
+    };
+    gather(alloc, text, &mut table)?;
+    Ok(Requests {
+        list: Seq::from_vec(table.list),
+        close: table.close,
+    })
+}
+
+/// Reads a requests file to its end: its requests, whose numbers rise, and the count of its close row.
+///
+/// The header is `number,user,host,runas_user,runas_group,command,arguments`. A row has a number from
+/// 1, a user, a host, and a command that is `sudoedit` or begins with `/`; an empty target user or
+/// group asks for none. The last row is `close,COUNT,,,,,`. `TooMany` comes for more than 268,435,456
+/// bytes before any row is read, and for request 1,000,001; `Read` where a read failed, `Memory` where
+/// memory was refused. For each record the faults are, in this order: another number of fields
+/// (`BadRow`), a record after the close row (`RowAfterClose`), a field of another shape (`BadRow`), a
+/// number not greater than the one before (`OutOfOrder`), too many requests (`TooMany`). The first
+/// faulty record decides.
+pub fn read_requests<R: Feed>(alloc: Global, reader: &mut R) -> Result<Requests, FileFault>
+    ensures states { States sent (R.ahead reader.old) result }
+    ensures failures { R.failed_reads reader.new ≡ R.failed_reads reader.old + read_failures result }
+{
+    match read_text(alloc, reader) {
+        Ok(text) => requests_of_text(alloc, text.as_slice()),
+        Err(fault) => Err(fault),
+    }
+}

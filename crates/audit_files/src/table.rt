@@ -1,0 +1,69 @@
+ghost use Rattle.std.specs.Prelude.{◌≡◌, ◌+◌, ◌∷◌, ◌++◌, [], ℕ, List, Option, Some, None, length, OnOk, IfErr};
+ghost use Rattle.csv.specs.Records.{fields_of};
+ghost use Rattle.audit_files.specs.Faults.{IsNoMemory, failures_in};
+ghost use Rattle.audit_files.specs.Files.{fault_after, headed, same_fields};
+ghost use Rattle.audit_files.specs.declared.fault.FileFault.{FileFault};
+ghost use Rattle.audit_files.specs.Rows.{Fields, IsReading, first_fault, records_of, rows_left};
+
+use crate::FileFault;
+use crate::rows::Rows;
+use csv::ByteRecord;
+use std::alloc::Global;
+
+/// What gathers the records of a file, one after another.
+pub(crate) trait Table {
+    ghost header: { Fields };
+
+    // The fault of a record, by those before it.
+    ghost fault: { List Fields → Fields → Option FileFault };
+
+    // The table stands after these records.
+    ghost holds: { Self → List Fields → Type 0 };
+
+    /// Whether a record is the header.
+    fn is_header(&self, record: &ByteRecord) -> bool
+        ensures { result ≡ same_fields (fields_of record.now) header };
+
+    /// Takes the next record, which is the one of this number.
+    fn add(&mut self, row: u32, record: &ByteRecord) -> Result<(), FileFault>
+        ensures ok { OnOk result ((before : List Fields) → holds self.old before → row ≡ length before + 2
+            → (fault before (fields_of record.now) ≡ None) × holds self.new (before ++ fields_of record.now ∷ [])) }
+        ensures err { IfErr result (λ e. IsNoMemory e → (before : List Fields) → holds self.old before → row ≡ length before + 2
+            → fault before (fields_of record.now) ≡ Some e) }
+        ensures no_read { IfErr result (λ e. failures_in e ≡ 0) };
+}
+
+// Gathers all records that are left, up to the first fault.
+fn fill<T: Table>(rows: &mut Rows<'_>, table: &mut T) -> Result<(), FileFault>
+    requires reading { IsReading rows.old }
+    requires empty { T.holds table.old [] }
+    ensures ok { OnOk result ((first_fault T.fault [] (rows_left rows.old) ≡ None) × T.holds table.new (rows_left rows.old)) }
+    ensures err { IfErr result (λ e. IsNoMemory e → first_fault T.fault [] (rows_left rows.old) ≡ Some e) }
+    ensures no_read { IfErr result (λ e. failures_in e ≡ 0) }
+{
+    for row in 2..u32::MAX {
+        if !rows.next()? {
+            return Ok(());
+        }
+        table.add(row, &rows.record)?;
+    }
+    Err(FileFault::Memory)
+}
+
+/// Gathers the records of a text under the header, up to the first fault.
+pub(crate) fn gather<T: Table>(alloc: Global, text: &[u8], table: &mut T) -> Result<(), FileFault>
+    requires { T.holds table.old [] }
+    ensures ok { OnOk result ((rest : List Fields) × (headed T.header (records_of text.now) ≡ Some rest)
+        × (first_fault T.fault [] rest ≡ None) × T.holds table.new rest) }
+    ensures err { IfErr result (λ e. IsNoMemory e → fault_after T.fault (headed T.header (records_of text.now)) ≡ Some e) }
+    ensures no_read { IfErr result (λ e. failures_in e ≡ 0) }
+{
+    let mut rows = Rows::new(alloc, text);
+    if !rows.next()? {
+        return Err(FileFault::Header);
+    }
+    if !table.is_header(&rows.record) {
+        return Err(FileFault::Header);
+    }
+    fill(&mut rows, table)
+}

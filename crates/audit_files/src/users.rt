@@ -1,0 +1,156 @@
+ghost use Rattle.std.specs.Prelude.{◌≡◌, ◌+◌, ◌∷◌, ◌++◌, [], Ok, Err, IfOk, IfErr, OnOk, IfSome, filter_map, length};
+ghost use Rattle.csv.specs.Records.{fields_of};
+ghost use Rattle.audit_files.specs.Faults.{IsNoMemory, failures_in, read_failures};
+ghost use Rattle.audit_files.specs.Files.{IsRead};
+ghost use Rattle.audit_files.specs.Users.{group_of, people, person_of};
+
+use crate::FileFault;
+use crate::fields::field;
+use crate::number::number;
+use crate::parts::{Item, cut, items};
+use crate::table::{Table, gather};
+use crate::text::read_text;
+use audit_device::Feed;
+use csv::ByteRecord;
+use std::alloc::{AllocError, Global};
+use sudo_rows::{Group, Person};
+use sudo_text::Seq;
+
+impl Item for Group {
+    ghost stated = { group_of };
+
+    fn read(alloc: Global, word: &[u8]) -> Result<Option<Group>, AllocError> {
+        let Some((name, gid)) = cut(word, b':') else {
+            return Ok(None);
+        };
+        if name.is_empty() {
+            return Ok(None);
+        }
+        let Some(gid) = number(gid) else {
+            return Ok(None);
+        };
+        let name = Seq::from_slice(alloc, name)?;
+        Ok(Some(Group { name, gid }))
+    }
+}
+
+// The person that a record states.
+#[tactic(auto, using(crate::proofs::FieldLemmas::three_fields))]
+fn person(alloc: Global, record: &ByteRecord) -> Result<Option<Person>, AllocError>
+    ensures { IfOk result (λ o. o ≡ person_of (fields_of «record».now)) }
+{
+    if record.len() != 3 {
+        return Ok(None);
+    }
+    person_by(alloc, field(record, 0), field(record, 1), field(record, 2))
+}
+
+// The person that three fields state.
+fn person_by(
+    alloc: Global,
+    user: &[u8],
+    uid: &[u8],
+    groups: &[u8],
+) -> Result<Option<Person>, AllocError>
+    ensures { IfOk result (λ o. o ≡ person_of (user.now ∷ uid.now ∷ groups.now ∷ [])) }
+{
+    if user.is_empty() {
+        return Ok(None);
+    }
+    let Some(uid) = number(uid) else {
+        return Ok(None);
+    };
+    let Some(groups) = items::<Group>(alloc, groups)? else {
+        return Ok(None);
+    };
+    let name = Seq::from_slice(alloc, user)?;
+    Ok(Some(Person {
+        name,
+        uid,
+        groups: Seq::from_vec(groups),
+    }))
+}
+
+// The persons so far.
+#[derive(Drop)]
+struct People {
+    alloc: Global,
+    list: Vec<Person>,
+}
+
+impl Table for People {
+    ghost use Rattle.audit_files.specs.Users.{person_fault, users_header};
+
+    ghost header = { users_header };
+
+    ghost fault = { person_fault };
+
+    // One person for each record.
+    ghost holds = { λ people before. (people.list.items ≡ filter_map person_of before) × (length people.list.items ≡ length before) };
+
+    #[tactic(auto, using(crate::proofs::FieldLemmas::no_header, crate::proofs::FieldLemmas::three_fields))]
+    fn is_header(&self, record: &ByteRecord) -> bool {
+        record.len() == 3
+            && field(record, 0) == b"user".as_slice()
+            && field(record, 1) == b"uid".as_slice()
+            && field(record, 2) == b"groups".as_slice()
+    }
+
+    fn add(&mut self, row: u32, record: &ByteRecord) -> Result<(), FileFault> {
+        let found = match person(self.alloc, record) {
+            Ok(found) => found,
+            Err(_) => return Err(FileFault::Memory),
+        };
+        let Some(person) = found else {
+            return Err(FileFault::BadRow { row });
+        };
+        if self.list.len() >= 100_000 {
+            return Err(FileFault::TooMany);
+        }
+        match self.keep(person) {
+            Ok(()) => Ok(()),
+            Err(_) => Err(FileFault::Memory),
+        }
+    }
+}
+
+impl People {
+    fn keep(&mut self, person: Person) -> Result<(), AllocError>
+        ensures { OnOk result (self.new.list.items ≡ self.old.list.items ++ person ∷ []) }
+    {
+        self.list.push(person)?;
+        Ok(())
+    }
+}
+
+// What the bytes of a users file state, or their first fault.
+fn people_in(alloc: Global, text: &[u8]) -> Result<Vec<Person>, FileFault>
+    ensures stated { IfOk result (λ list. people text.now ≡ Ok list.items) }
+    ensures fault { IfErr result (λ e. IsNoMemory e → people text.now ≡ Err e) }
+    ensures no_read { IfErr result (λ e. failures_in e ≡ 0) }
+{
+    let mut table = People {
+        alloc,
+        list: Vec::new(alloc),
+    };
+    gather(alloc, text, &mut table)?;
+    Ok(table.list)
+}
+
+/// Reads a users file to its end: its persons, in order.
+///
+/// The header is `user,uid,groups`. A row has a user that is not empty, a number, and groups as
+/// `name:gid` one space apart, possibly none. For each record the faults are, in this order: another
+/// number of fields or a field of another shape (`BadRow`), more than 100,000 rows (`TooMany`); the
+/// first faulty record decides. `TooMany` also comes for more than 268,435,456 bytes before any row is
+/// read, `Read` where a read failed, `Memory` where memory was refused.
+pub fn read_users<R: Feed>(alloc: Global, reader: &mut R) -> Result<Vec<Person>, FileFault>
+    ensures stated { IfOk result (λ list. IsRead people (R.ahead reader.old) (Ok list.items)) }
+    ensures fault { IfErr result (λ e. IsNoMemory e → IsRead people (R.ahead reader.old) (Err e)) }
+    ensures failures { R.failed_reads reader.new ≡ R.failed_reads reader.old + read_failures result }
+{
+    match read_text(alloc, reader) {
+        Ok(text) => people_in(alloc, text.as_slice()),
+        Err(fault) => Err(fault),
+    }
+}
