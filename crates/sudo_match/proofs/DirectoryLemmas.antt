@@ -1,0 +1,41 @@
+-- Lemmas on look-ups in a directory.
+use Rattle.std.proofs.Common.{◌≡◌, ℕ, List, length, ap, sym, ◌∙◌, refl}
+use Rattle.std.specs.Prelude.{slice_get, find, bytes_eq, option_and_then}
+use Rattle.std.proofs.Math.Seq.{take-length}
+use Rattle.sudo_rows.specs.declared.people.Person.{Person}
+use Rattle.sudo_rows.specs.declared.people.Group.{Group}
+use Rattle.sudo_rows.specs.declared.people.Machine.{Machine}
+use Rattle.sudo_match.specs.Class.{lower_text}
+use Rattle.sudo_names.specs.Indexes.{Indexes}
+use Rattle.sudo_names.specs.Places.{place_of}
+use Rattle.sudo_match.specs.Known.{Known, user_named, host_named, group_named, groups_of}
+
+pub user_named-is :
+    (d : Known) (people : List Person) (users : List (List ℕ × ℕ)) (name : List ℕ) → people ≡ d.people →
+    Indexes (λ u. u.name) people (length people) (place_of users) →
+    user_named d name ≡ option_and_then (slice_get people) (place_of users name)
+unfolding user_named
+user_named-is d people users name e i =
+    ap (find (λ (u : Person). bytes_eq u.name name)) (sym e ∙ sym (take-length people)) ∙ sym (i.found name)
+
+pub host_named-is :
+    (d : Known) (machines : List Machine) (hosts : List (List ℕ × ℕ)) (name : List ℕ) → machines ≡ d.machines →
+    Indexes (λ m. lower_text m.name) machines (length machines) (place_of hosts) →
+    host_named d name ≡ option_and_then (slice_get machines) (place_of hosts (lower_text name))
+unfolding host_named
+host_named-is d machines hosts name e i =
+    ap (find (λ (m : Machine). bytes_eq (lower_text m.name) (lower_text name))) (sym e ∙ sym (take-length machines)) ∙ sym (i.found (lower_text name))
+
+pub host_named-scanned :
+    (d : Known) (name : List ℕ) → find (λ (m : Machine). bytes_eq (lower_text m.name) (lower_text name)) d.machines ≡ host_named d name
+unfolding host_named
+host_named-scanned d name = refl
+
+pub group_named-is :
+    (d : Known) (people : List Person) (groups : List (List ℕ × ℕ)) (name : List ℕ) → people ≡ d.people →
+    Indexes (λ g. g.name) (groups_of people) (length (groups_of people)) (place_of groups) →
+    group_named d name ≡ option_and_then (slice_get (groups_of people)) (place_of groups name)
+unfolding group_named
+group_named-is d people groups name e i =
+    ap (λ us. find (λ (g : Group). bytes_eq g.name name) (groups_of us)) (sym e)
+    ∙ ap (find (λ (g : Group). bytes_eq g.name name)) (sym (take-length (groups_of people))) ∙ sym (i.found name)

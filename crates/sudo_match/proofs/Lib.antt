@@ -1,0 +1,15 @@
+pub mod PatternVectors
+pub mod MatchingVectors
+pub mod ClashLemmas
+pub mod CutLemmas
+pub mod GroupLemmas
+pub mod IdLemmas
+pub mod SpotLemmas
+pub mod DirectoryLemmas
+pub mod DirectoryVectors
+pub mod FaultLemmas
+pub mod FitsLemmas
+pub mod CharsLemmas
+pub mod ItemLemmas
+pub mod PartLemmas
+pub mod StepLemmas

@@ -1,0 +1,17 @@
+use Rattle.std.proofs.Common.{◌≡◌, ◌∙◌, ap, sym, ◌∷◌, ◌++◌, [], map, false, None, cond}
+use Rattle.std.specs.Prelude.{is_some}
+use Rattle.sudo_names.specs.Places.{place_of}
+use Rattle.sudo_names.proofs.IndexLemmas.{none-is}
+use Rattle.sudo_match.specs.IdEntry.{bare}
+use Rattle.sudo_match.proofs.IdLemmas.{insert_bare}
+use Rattle.sudo_match.proofs.ids.Ids.note.Goals as goal
+
+pub returns : goal.returns
+returns c =
+    let fresh : is_some (place_of c.args.self.now (c.args.id ∷ [])) ≡ false = ap is_some (sym c.get.ensures) ∙ sym c.is_some.ensures ∙ c.if-is_some.false in
+    let new : place_of (map bare c.self.inside.places.entries) (c.args.id ∷ []) ≡ None =
+    ap (λ es. place_of es (c.args.id ∷ [])) c.self.view_is ∙ none-is _ fresh in
+    ap (map bare) c.in_ok-insert.ensures.entries
+    ∙ insert_bare c.args.id c.args.place c.self.inside.places.entries new
+    ∙ ap (λ es. es ++ (c.args.id ∷ [], c.args.place) ∷ []) c.self.view_is
+    ∙ sym (ap (λ b. cond b c.args.self.now (c.args.self.now ++ (c.args.id ∷ [], c.args.place) ∷ [])) fresh)

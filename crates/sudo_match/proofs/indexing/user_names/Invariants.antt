@@ -1,0 +1,11 @@
+use Rattle.sudo_names.specs.Indexes.{Indexes}
+use Rattle.sudo_names.specs.Places.{place_of}
+use Rattle.sudo_match.specs.Known.{same_user}
+use Rattle.sudo_match.proofs.ClashLemmas.{NoneBefore}
+use Rattle.sudo_match.proofs.indexing.user_names.Given as goal
+
+abbrev pub invariant-loop-at : goal.invariant-loop-at
+invariant-loop-at l = record {
+  indexed : Indexes (λ u. u.name) l.people l.at (place_of l.names);
+  none : NoneBefore same_user l.people l.at;
+}

@@ -1,0 +1,40 @@
+-- What the indexes behind a directory hold. Only the bodies' proofs need these words.
+use Rattle.std.specs.Prelude.{◌≡◌, ℕ, Bool, false, not, List, [], ◌∷◌, ◌++◌, map, length, Option, Some, None, slice_get, option_and_then, is_some, if◌then◌else◌}
+use Rattle.sudo_rows.specs.declared.people.Person.{Person}
+use Rattle.sudo_rows.specs.declared.people.Group.{Group}
+use Rattle.sudo_rows.specs.declared.people.Machine.{Machine}
+use Rattle.sudo_names.specs.Indexes.{Indexes}
+use Rattle.sudo_names.specs.Places.{place_of}
+use Rattle.sudo_match.specs.declared.spots.Spot.{Spot}
+use Rattle.sudo_match.specs.Class.{lower_text}
+use Rattle.sudo_match.specs.Known.{first_clash, groups_of, directory_fault}
+
+-- no row clashes with an earlier one, and each name has the place of the first row that has it
+pub record AreApart {A : Type 0} (clashes : A → A → Bool) (key : A → List ℕ) (rows : List A) (names : List (List ℕ × ℕ)) : Type 0 where
+  pub apart : first_clash clashes rows ≡ None
+  pub indexed : Indexes key rows (length rows) (place_of names)
+
+-- the names with one more, unless it has a place already
+abbrev pub noted : List (List ℕ × ℕ) → List ℕ → ℕ → List (List ℕ × ℕ)
+noted names name at = if is_some (place_of names name) then names else names ++ (name, at) ∷ []
+
+-- the group that stands there
+abbrev pub group_there : List Person → Spot → Option Group
+group_there people spot = option_and_then (λ u. slice_get u.groups spot.at) (slice_get people spot.user)
+
+-- the spots of all groups of all users, in order
+abbrev pub AreSpots : List Person → List Spot → Type 0
+AreSpots people spots = map (group_there people) spots ≡ map Some (groups_of people)
+
+-- there is an element, and it fails the test
+abbrev pub differs : {A : Type 0} → (A → Bool) → Option A → Bool
+differs test None = false
+differs test (Some x) = not (test x)
+
+-- what a directory keeps beside its rows, and that the rows have no fault
+pub record IsKept (people : List Person) (machines : List Machine) (users hosts groups : List (List ℕ × ℕ)) (spots : List Spot) : Type 0 where
+  pub users_indexed : Indexes (λ u. u.name) people (length people) (place_of users)
+  pub hosts_indexed : Indexes (λ m. lower_text m.name) machines (length machines) (place_of hosts)
+  pub groups_indexed : Indexes (λ g. g.name) (groups_of people) (length (groups_of people)) (place_of groups)
+  pub spots_are : AreSpots people spots
+  pub faultless : directory_fault people machines ≡ None

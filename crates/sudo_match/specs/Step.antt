@@ -1,0 +1,29 @@
+-- What one step of matching finds: the part at a place of the pattern, and whether it fits the byte at a place
+-- of the text; only the loop's proof needs it.
+use Rattle.std.specs.Prelude.{◌≡◌, ℕ, ◌+◌, ◌<◌, true, false, List, ◌∷◌, length, drop}
+use Rattle.sudo_text.specs.declared.token.Ch.{Ch}
+use Rattle.sudo_match.specs.declared.patterns.Slash.{Slash}
+use Rattle.sudo_match.specs.declared.patterns.Step.{Step}
+use Rattle.sudo_match.specs.declared.patterns.Step.TheVariants.{Starred, Taken, Finished, Stuck}
+use Rattle.sudo_match.specs.Pattern.{ByteSet, One, Star, set_holds, parts, fits}
+
+-- a set of the pattern holds a byte of the text
+pub record Takes (s : Slash) (cs : List Ch) (t : List ℕ) (at place more : ℕ) : Type 0 where
+  pub set : ByteSet
+  pub byte : ℕ
+  pub parts_are : parts (drop at cs) ≡ One set ∷ parts (drop (at + 1 + more) cs)
+  pub text_is : drop place t ≡ byte ∷ drop (place + 1) t
+  pub held : set_holds s set byte ≡ true
+  pub at_within : at + more < length cs
+  pub place_within : place < length t
+
+-- the pattern goes on with a star
+pub record IsStarred (cs : List Ch) (at : ℕ) : Type 0 where
+  pub parts_are : parts (drop at cs) ≡ Star ∷ parts (drop (at + 1) cs)
+  pub within : at < length cs
+
+abbrev pub StepIs : Slash → List Ch → List ℕ → ℕ → ℕ → Step → Type 0
+StepIs s cs t at place Starred = IsStarred cs at
+StepIs s cs t at place (Taken more) = Takes s cs t at place more
+StepIs s cs t at place Finished = fits (parts (drop at cs)) (drop place t) s ≡ true
+StepIs s cs t at place Stuck = fits (parts (drop at cs)) (drop place t) s ≡ false

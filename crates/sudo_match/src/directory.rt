@@ -1,0 +1,135 @@
+//! The users and hosts that are known.
+ghost use Rattle.std.specs.Prelude.{◌≡◌, find, bytes_eq, IfOk, IfErr, None};
+ghost use Rattle.std.specs.Option.{option_copied};
+ghost use Rattle.sudo_match.specs.Class.{lower_text};
+ghost use Rattle.sudo_match.specs.Known.{user_named, host_named, group_named, directory_fault, is_no_group, IsRefusal};
+
+use crate::DirFault;
+use crate::indexing::{group_names, host_names, host_place, user_names};
+use crate::spots::{Spot, group_found, spots_of};
+use std::alloc::Global;
+use std::marker::Model;
+use sudo_names::Names;
+use sudo_rows::{Group, Machine, Person};
+use sudo_text::Seq;
+
+/// The users and hosts that are known, which contracts see as the rows that were handed in. The rows have no fault.
+#[derive(Drop)]
+pub struct Directory {
+    people: Seq<Person>,
+    machines: Seq<Machine>,
+    users: Names,
+    hosts: Names,
+    groups: Names,
+    spots: Vec<Spot>,
+}
+
+impl Model for Directory {
+    ghost use Rattle.sudo_match.specs.Known.{Known};
+    ghost use Rattle.sudo_match.specs.Indexing.{IsKept};
+
+    ghost Value = { Known };
+
+    ghost view = { λ d. record { people = d.people; machines = d.machines } };
+
+    ghost invariant = { λ d. IsKept d.people d.machines d.users d.hosts d.groups d.spots.items };
+}
+
+impl Directory {
+    /// The directory of these rows, which are kept as they are. About linear in their number, on average.
+    ///
+    /// The first fault of `UserTwice`, `HostTwice`, `GroupClash`, `NoGroup` and `NoRoot`, in this order, is answered
+    /// exactly where the rows have it; `Memory` where memory was refused.
+    pub fn new(
+        alloc: Global,
+        people: Seq<Person>,
+        machines: Seq<Machine>,
+    ) -> Result<Directory, DirFault>
+        ensures known { IfOk result (λ d. (d.people ≡ people) × (d.machines ≡ machines)) }
+        ensures faultless { IfOk result (λ d. directory_fault people machines ≡ None) }
+        ensures fault { IfErr result (IsRefusal (directory_fault people machines)) }
+    {
+        let users = user_names(alloc, people.as_slice())?;
+        let hosts = host_names(alloc, machines.as_slice())?;
+        let spots = spots_of(alloc, people.as_slice())?;
+        let groups = group_names(alloc, people.as_slice(), spots.as_slice())?;
+        if let Some(person) = ungrouped(people.as_slice()) {
+            return Err(DirFault::no_group(alloc, person.name.as_slice()));
+        }
+        if users.get(b"root").is_none() {
+            return Err(DirFault::NoRoot);
+        }
+        Ok(Directory {
+            people,
+            machines,
+            users,
+            hosts,
+            groups,
+            spots,
+        })
+    }
+
+    /// The rows of each directory have no fault. The call does nothing: its contract is a law.
+    pub fn has_no_fault(&self)
+        ensures { directory_fault self.now.people self.now.machines ≡ None }
+    {
+        let _people = &self.people;
+    }
+
+    /// The user of this name, `None` exactly where there is none. Takes no memory.
+    pub fn user(&self, name: &[u8]) -> Option<&Person>
+        ensures { option_copied result ≡ user_named self.now name.now }
+    {
+        let at = self.users.get(name)?;
+        self.people.get(at)
+    }
+
+    /// The host of this name without regard to ASCII case, `None` exactly where there is none. Takes no memory.
+    pub fn host(&self, name: &[u8]) -> Option<&Machine>
+        ensures { option_copied result ≡ host_named self.now name.now }
+    {
+        if name.len() > 255 {
+            return scanned(self.machines.as_slice(), name);
+        }
+        let at = host_place(&self.hosts, name)?;
+        self.machines.get(at)
+    }
+
+    /// The group of this name that a user has, `None` exactly where no user has one. Takes no memory.
+    pub fn group(&self, name: &[u8]) -> Option<&Group>
+        ensures { option_copied result ≡ group_named self.now name.now }
+    {
+        group_found(
+            self.people.as_slice(),
+            self.spots.as_slice(),
+            self.groups.get(name),
+        )
+    }
+}
+
+/// The first user without a group.
+fn ungrouped(people: &[Person]) -> Option<&Person>
+    ensures { option_copied result ≡ find (λ u. is_no_group u.groups) people.now }
+{
+    people.iter().find(|person| person.groups.is_empty())
+}
+
+fn is_same_host(a: &[u8], b: &[u8]) -> bool
+    ensures { result ≡ bytes_eq (lower_text a.now) (lower_text b.now) }
+{
+    a.eq_ignore_ascii_case(b)
+}
+
+/// The first host of this name, looked for one by one.
+fn scanned<'a>(machines: &'a [Machine], name: &[u8]) -> Option<&'a Machine>
+    ensures { option_copied result ≡ find (λ m. bytes_eq (lower_text m.name) (lower_text name.now)) machines.now }
+{
+    let mut left = machines;
+    while let Some((machine, rest)) = left.split_first() {
+        if is_same_host(machine.name.as_slice(), name) {
+            return Some(machine);
+        }
+        left = rest;
+    }
+    None
+}

@@ -1,0 +1,140 @@
+//! Users, hosts and groups by their names.
+ghost use Rattle.std.specs.Prelude.{◌≡◌, ◌==◌, ◌||◌, ◌∷◌, [], ◌≤◌, IfOk, IfErr, OnOk, length, bytes_eq, option_and_then, slice_get};
+ghost use Rattle.std.specs.Option.{option_copied};
+ghost use Rattle.sudo_names.specs.Places.{place_of};
+ghost use Rattle.sudo_match.specs.Class.{lower_text};
+ghost use Rattle.sudo_match.specs.Known.{same_user, same_host, groups_clash, groups_of, user_fault, host_fault, group_fault, IsRefusal};
+ghost use Rattle.sudo_match.specs.Indexing.{AreApart, AreSpots, noted, differs};
+
+use crate::DirFault;
+use crate::ids::Ids;
+use crate::spots::{Spot, group_at, group_found};
+use std::alloc::{AllocError, Global};
+use sudo_names::Names;
+use sudo_rows::{Group, Machine, Person};
+
+/// The places of users by name, or the fault of the first one whose name an earlier one has.
+pub(crate) fn user_names(alloc: Global, people: &[Person]) -> Result<Names, DirFault>
+    ensures names { IfOk result (AreApart same_user (λ u. u.name) people.now) }
+    ensures fault { IfErr result (IsRefusal (user_fault people.now)) }
+{
+    let mut names = Names::new(alloc);
+    for (at, person) in people.iter().enumerate() {
+        let name = person.name.as_slice();
+        if names.get(name).is_some() {
+            return Err(DirFault::user_twice(alloc, name));
+        }
+        names.insert(alloc, name, at)?;
+    }
+    Ok(names)
+}
+
+/// A copy of a name in lower case.
+fn in_lower_case(alloc: Global, name: &[u8]) -> Result<Vec<u8>, AllocError>
+    ensures { IfOk result (λ v. v.items ≡ lower_text name.now) }
+{
+    name.iter()
+        .map(|byte| byte.to_ascii_lowercase())
+        .collect(alloc)
+}
+
+/// The places of hosts by name in lower case, or the fault of the first one whose name an earlier one has.
+pub(crate) fn host_names(alloc: Global, machines: &[Machine]) -> Result<Names, DirFault>
+    ensures names { IfOk result (AreApart same_host (λ m. lower_text m.name) machines.now) }
+    ensures fault { IfErr result (IsRefusal (host_fault machines.now)) }
+{
+    let mut names = Names::new(alloc);
+    for (at, machine) in machines.iter().enumerate() {
+        let name = in_lower_case(alloc, machine.name.as_slice())?;
+        if names.get(name.as_slice()).is_some() {
+            return Err(DirFault::host_twice(alloc, machine.name.as_slice()));
+        }
+        names.insert(alloc, name.as_slice(), at)?;
+    }
+    Ok(names)
+}
+
+/// The longest name that is looked up through the index: a longer one is not a host name by RFC 1123.
+const LONGEST: usize = 255;
+
+/// The place of a host without regard to ASCII case. Takes no memory: the name is put in lower case on the stack.
+pub(crate) fn host_place(names: &Names, name: &[u8]) -> Option<usize>
+    requires { length name.now ≤ 255 }
+    ensures { result ≡ place_of names.now (lower_text name.now) }
+{
+    let mut lower = [0u8; LONGEST];
+    for (at, byte) in name.iter().enumerate() {
+        lower[at] = byte.to_ascii_lowercase();
+    }
+    names.get(&lower[..name.len()])
+}
+
+/// Notes the place of a name, unless it has one.
+fn note(names: &mut Names, alloc: Global, name: &[u8], place: usize) -> Result<(), AllocError>
+    ensures { OnOk result (names.new ≡ noted names.old name.now place) }
+{
+    if names.get(name).is_some() {
+        return Ok(());
+    }
+    names.insert(alloc, name, place)
+}
+
+fn has_other_id(found: Option<&Group>, gid: u32) -> bool
+    ensures { result ≡ differs (λ g. g.gid == gid) (option_copied found.entry) }
+{
+    match found {
+        None => false,
+        Some(group) => group.gid != gid,
+    }
+}
+
+fn has_other_name(found: Option<&Group>, name: &[u8]) -> bool
+    ensures { result ≡ differs (λ g. bytes_eq g.name name.now) (option_copied found.entry) }
+{
+    match found {
+        None => false,
+        Some(group) => group.name.as_slice() != name,
+    }
+}
+
+/// Whether the first group of the same name has another ID, or the first group of the same ID another name.
+fn clashes(
+    people: &[Person],
+    spots: &[Spot],
+    by_name: Option<usize>,
+    by_id: Option<usize>,
+    group: &Group,
+) -> bool
+    requires { AreSpots people.now spots.now }
+    ensures { result ≡ (differs (λ g. g.gid == group.now.gid) (option_and_then (slice_get (groups_of people.now)) by_name)
+        || differs (λ g. bytes_eq g.name group.now.name) (option_and_then (slice_get (groups_of people.now)) by_id)) }
+{
+    has_other_id(group_found(people, spots, by_name), group.gid)
+        | has_other_name(group_found(people, spots, by_id), group.name.as_slice())
+}
+
+/// The places of groups, among all groups, by name, or the fault of the first one that clashes with an earlier one.
+pub(crate) fn group_names(
+    alloc: Global,
+    people: &[Person],
+    spots: &[Spot],
+) -> Result<Names, DirFault>
+    requires { AreSpots people.now spots.now }
+    ensures names { IfOk result (AreApart groups_clash (λ g. g.name) (groups_of people.now)) }
+    ensures fault { IfErr result (IsRefusal (group_fault people.now)) }
+{
+    let mut names = Names::new(alloc);
+    let mut ids = Ids::new(alloc);
+    for at in 0..spots.len() {
+        let Some(group) = group_at(people, spots, at) else {
+            return Ok(names);
+        };
+        let name = group.name.as_slice();
+        if clashes(people, spots, names.get(name), ids.get(group.gid), group) {
+            return Err(DirFault::group_clash(alloc, name));
+        }
+        note(&mut names, alloc, name, at)?;
+        ids.note(group.gid, at)?;
+    }
+    Ok(names)
+}

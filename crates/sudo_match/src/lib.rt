@@ -1,0 +1,20 @@
+//! Patterns, the directory of users and machines, and the matching of one atom of a policy.
+#![tactic(auto)]
+
+mod directory;
+mod fault;
+mod ids;
+mod indexing;
+mod laws;
+mod matchers;
+mod patterns;
+mod spots;
+
+pub use directory::Directory;
+pub use fault::DirFault;
+pub use laws::{brackets_are_cut, characters_are_parts, unclosed_brackets_are_bytes};
+pub use matchers::{command_matches, group_matches, host_matches, user_matches};
+pub use patterns::{Pattern, Slash};
+
+#[cfg(test)]
+mod tests;

@@ -1,0 +1,631 @@
+//! Patterns over bytes, as in glob(7) and sudoers(5), "Wildcards".
+
+ghost use Rattle.std.specs.Prelude.{◌≡◌, ◌+◌, ◌^◌, ◌<◌, ◌≤◌, ◌&&◌, not, true, length, drop, map, slice_get, option_map, IfSome, None, if◌then◌else◌};
+ghost use Rattle.std.specs.List.{list_any};
+ghost use Rattle.sudo_match.specs.Class as class;
+ghost use Rattle.sudo_match.specs.Class.{class_holds, class_name, lower_text, is_between, is_alpha, is_alnum};
+ghost use Rattle.sudo_match.specs.Pattern.{is_byte, is_plain, has, begins, item_holds, class_form, class_end, range_at, item_of, items_after, bracket_after, part_of, is_free, set_holds, part_holds, parts, path_chars, any_name, fits};
+
+use std::marker::Model;
+use sudo_text::Ch;
+
+/// Whether `*`, `?` and brackets fit the byte `/`.
+#[derive(Clone, Copy, PartialEq, Eq, Debug)]
+pub enum Slash {
+    /// They fit it as any other byte.
+    Any,
+    /// They do not fit it: only a written `/` does.
+    Not,
+}
+
+impl Slash {
+    fn is_free(self, byte: u8) -> bool
+        ensures { result ≡ is_free self byte }
+    {
+        match self {
+            Slash::Any => true,
+            Slash::Not => byte != b'/',
+        }
+    }
+}
+
+/// A POSIX character class, over ASCII.
+#[derive(Clone, Copy, PartialEq, Eq, Debug)]
+enum Class {
+    Alnum,
+    Alpha,
+    Blank,
+    Cntrl,
+    Digit,
+    Graph,
+    Lower,
+    Print,
+    Punct,
+    Space,
+    Upper,
+    Xdigit,
+}
+
+fn is_between(low: u8, high: u8, byte: u8) -> bool
+    ensures { result ≡ is_between low high byte }
+{
+    low <= byte && byte <= high
+}
+
+fn is_alpha(byte: u8) -> bool
+    ensures { result ≡ is_alpha byte }
+{
+    is_between(b'A', b'Z', byte) || is_between(b'a', b'z', byte)
+}
+
+fn is_alnum(byte: u8) -> bool
+    ensures { result ≡ is_alnum byte }
+{
+    is_between(b'0', b'9', byte) || is_alpha(byte)
+}
+
+fn is_xdigit(byte: u8) -> bool
+    ensures { result ≡ class_holds class.Xdigit byte }
+{
+    is_between(b'0', b'9', byte) || is_between(b'A', b'F', byte) || is_between(b'a', b'f', byte)
+}
+
+impl Class {
+    ghost use Rattle.sudo_match.specs.Shown.{class_of};
+
+    fn holds(self, byte: u8) -> bool
+        ensures { result ≡ class_holds (class_of self) byte }
+    {
+        match self {
+            Class::Alnum => is_alnum(byte),
+            Class::Alpha => is_alpha(byte),
+            Class::Blank => byte == b' ' || byte == b'\t',
+            Class::Cntrl => byte <= 31 || byte == 127,
+            Class::Digit => is_between(b'0', b'9', byte),
+            Class::Graph => is_between(33, 126, byte),
+            Class::Lower => is_between(b'a', b'z', byte),
+            Class::Print => is_between(32, 126, byte),
+            Class::Punct => is_between(33, 126, byte) && !is_alnum(byte),
+            Class::Space => byte == b' ' || is_between(9, 13, byte),
+            Class::Upper => is_between(b'A', b'Z', byte),
+            Class::Xdigit => is_xdigit(byte),
+        }
+    }
+
+    fn name(self) -> &'static [u8]
+        ensures { result.now ≡ class_name (class_of self) }
+    {
+        match self {
+            Class::Alnum => b"alnum",
+            Class::Alpha => b"alpha",
+            Class::Blank => b"blank",
+            Class::Cntrl => b"cntrl",
+            Class::Digit => b"digit",
+            Class::Graph => b"graph",
+            Class::Lower => b"lower",
+            Class::Print => b"print",
+            Class::Punct => b"punct",
+            Class::Space => b"space",
+            Class::Upper => b"upper",
+            Class::Xdigit => b"xdigit",
+        }
+    }
+}
+
+/// How the characters of a pattern are read.
+#[derive(Clone, Copy, PartialEq, Eq, Debug)]
+enum Reading {
+    /// As they stand.
+    Exact,
+    /// As a host name: in lower case, and an escaped `!` directly after an unescaped `[` counts as unescaped.
+    Host,
+    /// As a quoted host name: in lower case and with no special bytes.
+    Quoted,
+}
+
+impl Reading {
+    ghost use Rattle.sudo_match.specs.Reading.{read_one};
+
+    /// A character as it is read; `is_after` says that it stands directly after an unescaped `[`.
+    fn read(self, ch: Ch, is_after: bool) -> Ch
+        ensures { result ≡ read_one self is_after ch }
+    {
+        let byte = ch.byte.to_ascii_lowercase();
+        match self {
+            Reading::Exact => ch,
+            Reading::Host => Ch {
+                byte,
+                escaped: ch.escaped && !(is_after && ch.byte == b'!'),
+            },
+            Reading::Quoted => Ch {
+                byte,
+                escaped: true,
+            },
+        }
+    }
+}
+
+/// A text as it is read: as it stands, or in lower case.
+#[derive(Clone, Copy)]
+struct Text<'a> {
+    bytes: &'a [u8],
+    lower: bool,
+    ghost short: { length bytes.now < 2 ^ 63 },
+}
+
+impl Text<'_> {
+    ghost use Rattle.sudo_match.specs.Reading.{text_of, is_free_byte};
+
+    /// Whether a star may take the byte at a place.
+    fn is_free_at(&self, place: usize, slash: Slash) -> bool
+        ensures { result ≡ is_free_byte slash (slice_get (text_of self.now) place) }
+    {
+        match self.get(place) {
+            Some(byte) => slash.is_free(byte),
+            None => false,
+        }
+    }
+
+    fn get(&self, place: usize) -> Option<u8>
+        ensures { result ≡ slice_get (text_of self.now) place }
+    {
+        let byte = *self.bytes.get(place)?;
+        if self.lower {
+            Some(byte.to_ascii_lowercase())
+        } else {
+            Some(byte)
+        }
+    }
+}
+
+/// The characters of a pattern as they are read.
+#[derive(Clone, Copy)]
+struct Chars<'a> {
+    chars: &'a [Ch],
+    reading: Reading,
+    /// Whether `?*` follows the characters.
+    is_folder: bool,
+    ghost short: { length chars.now < 2 ^ 62 },
+}
+
+/// What the part at a place does with the byte at a place of the text.
+enum Step {
+    /// The part is a star.
+    Starred,
+    /// It fits the byte, and takes this many characters after its first.
+    Taken(usize),
+    /// The pattern and the text both end.
+    Finished,
+    /// It does not fit.
+    Stuck,
+}
+
+/// The known classes, in the order in which they are tried.
+const CLASSES: [Class; 12] = [
+    Class::Alnum,
+    Class::Alpha,
+    Class::Blank,
+    Class::Cntrl,
+    Class::Digit,
+    Class::Graph,
+    Class::Lower,
+    Class::Print,
+    Class::Punct,
+    Class::Space,
+    Class::Upper,
+    Class::Xdigit,
+];
+
+fn any_name_at(is_folder: bool, at: usize) -> Option<Ch>
+    ensures { result ≡ slice_get (any_name is_folder) at }
+{
+    if !is_folder {
+        return None;
+    }
+    match at {
+        0 => Some(Ch {
+            byte: b'?',
+            escaped: false,
+        }),
+        1 => Some(Ch {
+            byte: b'*',
+            escaped: false,
+        }),
+        _ => None,
+    }
+}
+
+fn is_plain(ch: Ch, byte: u8) -> bool
+    ensures { result ≡ is_plain byte ch }
+{
+    !ch.escaped && ch.byte == byte
+}
+
+impl<'a> Chars<'a> {
+    ghost use Rattle.sudo_match.specs.Reading.{seen, read, text_of, follows_bracket};
+    ghost use Rattle.sudo_match.specs.Shown.{class_of, opened, held_by};
+    ghost use Rattle.sudo_match.specs.Step.{StepIs};
+
+    fn len(&self) -> usize
+        ensures { result ≡ length (seen self.now) }
+    {
+        if self.is_folder {
+            self.chars.len() + 2
+        } else {
+            self.chars.len()
+        }
+    }
+
+    /// Whether the character at a place stands directly after an unescaped `[`.
+    fn follows_bracket(&self, at: usize) -> bool
+        ensures { result ≡ follows_bracket self.now.chars.now at }
+    {
+        if at == 0 {
+            return false;
+        }
+        match self.chars.get(at - 1) {
+            Some(ch) => is_plain(*ch, b'['),
+            None => false,
+        }
+    }
+
+    /// The character at a place of the slice, as it is read.
+    fn read_at(&self, at: usize) -> Option<Ch>
+        ensures { result ≡ slice_get (read self.now.reading self.now.chars.now) at }
+    {
+        let ch = *self.chars.get(at)?;
+        Some(self.reading.read(ch, self.follows_bracket(at)))
+    }
+
+    fn get(&self, at: usize) -> Option<Ch>
+        ensures { result ≡ slice_get (seen self.now) at }
+    {
+        if at < self.chars.len() {
+            self.read_at(at)
+        } else {
+            any_name_at(self.is_folder, at - self.chars.len())
+        }
+    }
+
+    fn is_at(&self, at: usize, byte: u8) -> bool
+        ensures { result ≡ has (is_byte byte) (slice_get (seen self.now) at) }
+    {
+        match self.get(at) {
+            Some(ch) => ch.byte == byte,
+            None => false,
+        }
+    }
+
+    fn is_plain_at(&self, at: usize, byte: u8) -> bool
+        ensures { result ≡ has (is_plain byte) (slice_get (seen self.now) at) }
+    {
+        match self.get(at) {
+            Some(ch) => is_plain(ch, byte),
+            None => false,
+        }
+    }
+
+    /// Whether the characters from a place on begin with these bytes, none of them escaped.
+    fn spells_at(&self, at: usize, name: &[u8]) -> bool
+        requires { at + length name.now < 2 ^ 64 }
+        ensures { result ≡ begins (map is_plain name.now) (drop at (seen self.now)) }
+    {
+        for (i, byte) in name.iter().enumerate() {
+            if !self.is_plain_at(at + i, *byte) {
+                return false;
+            }
+        }
+        true
+    }
+
+    /// Whether a class may end at a place: a `:`, escaped or not, and an unescaped `]`.
+    fn closes_class(&self, at: usize) -> bool
+        requires { at + 1 < 2 ^ 64 }
+        ensures { result ≡ begins class_end (drop at (seen self.now)) }
+    {
+        self.is_at(at, b':') && self.is_plain_at(at + 1, b']')
+    }
+
+    /// Whether the characters from a place on begin with `[:name:]`.
+    fn opens_class(&self, at: usize, class: Class) -> bool
+        requires { at ≤ length (seen self.now) }
+        ensures { result ≡ begins (class_form (class_of class)) (drop at (seen self.now)) }
+    {
+        if !self.is_plain_at(at, b'[') {
+            return false;
+        }
+        if !self.is_at(at + 1, b':') {
+            return false;
+        }
+        let name = class.name();
+        if !self.spells_at(at + 2, name) {
+            return false;
+        }
+        self.closes_class(at + 2 + name.len())
+    }
+
+    fn class_at(&self, at: usize) -> Option<Class>
+        requires { at ≤ length (seen self.now) }
+        ensures { result ≡ opened (drop at (seen self.now)) }
+    {
+        CLASSES
+            .iter()
+            .copied()
+            .find(|class| self.opens_class(at, *class))
+    }
+
+    /// Whether a range or one byte, whose first character is at a place, holds the byte, and how many characters it takes
+    /// after that.
+    fn range_at(&self, at: usize, first: Ch, byte: u8) -> (bool, usize)
+        requires { at < length (seen self.now) }
+        ensures value { result ≡ held_by byte (range_at first (drop (at + 1) (seen self.now))) }
+        ensures within { at + result.1 < length (seen self.now) }
+    {
+        let single = (byte == first.byte, 0);
+        let Some(last) = self.get(at + 2) else {
+            return single;
+        };
+        let is_range = self.is_plain_at(at + 1, b'-') && !is_plain(last, b']');
+        if is_range {
+            (is_between(first.byte, last.byte, byte), 2)
+        } else {
+            single
+        }
+    }
+
+    /// Whether the item of a bracket at a place holds the byte, and how many characters it takes after its first.
+    fn item_at(&self, at: usize, byte: u8) -> Option<(bool, usize)>
+        requires { at ≤ length (seen self.now) }
+        ensures value { result ≡ option_map (held_by byte) (item_of (drop at (seen self.now))) }
+        ensures within { IfSome result (λ r. at + r.1 < length (seen self.now)) }
+    {
+        let first = self.get(at)?;
+        match self.class_at(at) {
+            Some(class) => Some((class.holds(byte), class.name().len() + 3)),
+            None => Some(self.range_at(at, first, byte)),
+        }
+    }
+
+    /// Whether the character at a place closes a bracket: an unescaped `]` that is not the first item.
+    fn closes_at(&self, at: usize, is_first: bool) -> bool
+        ensures { result ≡ (not is_first && has (is_plain 93) (slice_get (seen self.now) at)) }
+    {
+        !is_first && self.is_plain_at(at, b']')
+    }
+
+    /// Whether one of the items from a place on holds the byte, and how many characters the items and the closing `]`
+    /// take.
+    fn items_hold(&self, start: usize, byte: u8) -> Option<(bool, usize)>
+        requires { start ≤ length (seen self.now) }
+        ensures value { result ≡ option_map (λ r. (list_any (item_holds byte) r.0, r.1)) (items_after 0 true (drop start (seen self.now))) }
+        ensures within { IfSome result (λ r. start + r.1 ≤ length (seen self.now)) }
+    {
+        let mut at = start;
+        let mut holds = false;
+        let mut is_first = true;
+        while let Some((is_held, more)) = self.item_at(at, byte) {
+            if self.closes_at(at, is_first) {
+                return Some((holds, at + 1 - start));
+            }
+            holds = holds | is_held;
+            at = at + 1 + more;
+            is_first = false;
+        }
+        None
+    }
+
+    /// Whether the bracket whose `[` stands before a place holds the byte, and how many characters it takes.
+    fn bracket_holds(&self, at: usize, byte: u8, slash: Slash) -> Option<(bool, usize)>
+        requires { at ≤ length (seen self.now) }
+        ensures value { result ≡ option_map (λ r. (set_holds slash r.0 byte, r.1)) (bracket_after (drop at (seen self.now))) }
+        ensures within { IfSome result (λ r. at + r.1 ≤ length (seen self.now)) }
+    {
+        let is_free = slash.is_free(byte);
+        if self.is_plain_at(at, b'!') {
+            let (holds, taken) = self.items_hold(at + 1, byte)?;
+            Some((is_free & !holds, taken + 1))
+        } else {
+            let (holds, taken) = self.items_hold(at, byte)?;
+            Some((is_free & holds, taken))
+        }
+    }
+
+    /// Whether the bracket at a place holds the byte, and how many characters it takes after its `[`; none, where no
+    /// bracket stands there. `first` is the character at the place.
+    fn bracket_at(&self, at: usize, first: Ch, byte: u8, slash: Slash) -> Option<(bool, usize)>
+        requires { at < length (seen self.now) }
+        ensures value { result ≡ (if is_plain 91 first then option_map (λ r. (set_holds slash r.0 byte, r.1)) (bracket_after (drop (at + 1) (seen self.now))) else None) }
+        ensures within { IfSome result (λ r. at + r.1 < length (seen self.now)) }
+    {
+        if is_plain(first, b'[') {
+            self.bracket_holds(at + 1, byte, slash)
+        } else {
+            None
+        }
+    }
+
+    /// Whether the part at a place fits this byte alone, and how many characters it takes after its first.
+    fn part_holds(&self, at: usize, byte: u8, slash: Slash) -> Option<(bool, usize)>
+        requires { at ≤ length (seen self.now) }
+        ensures value { result ≡ option_map (λ r. (part_holds slash r.0 byte, r.1)) (part_of (drop at (seen self.now))) }
+        ensures within { IfSome result (λ r. at + r.1 < length (seen self.now)) }
+    {
+        let first = self.get(at)?;
+        if is_plain(first, b'*') {
+            return Some((false, 0));
+        }
+        if is_plain(first, b'?') {
+            return Some((slash.is_free(byte), 0));
+        }
+        match self.bracket_at(at, first, byte, slash) {
+            Some(bracket) => Some(bracket),
+            None => Some((byte == first.byte, 0)),
+        }
+    }
+
+    /// How the match goes on from a place of the characters and one of the text.
+    fn step(&self, text: &Text<'_>, slash: Slash, at: usize, place: usize) -> Step
+        requires { at ≤ length (seen self.now) }
+        ensures { StepIs slash (seen self.now) (text_of text.now) at place result }
+    {
+        if self.is_plain_at(at, b'*') {
+            return Step::Starred;
+        }
+        match text.get(place) {
+            Some(byte) => {
+                let Some((holds, more)) = self.part_holds(at, byte, slash) else {
+                    return Step::Stuck;
+                };
+                if holds {
+                    Step::Taken(more)
+                } else {
+                    Step::Stuck
+                }
+            }
+            None => {
+                if at < self.len() {
+                    Step::Stuck
+                } else {
+                    Step::Finished
+                }
+            }
+        }
+    }
+
+    /// Whether the whole pattern fits the whole text. Where a part does not fit, the last star takes one byte more: a
+    /// star before it could only move the parts between the two to a later place, from where no other text is reached.
+    fn fits(&self, text: &Text<'_>, slash: Slash) -> bool
+        ensures { result ≡ fits (parts (seen self.now)) (text_of text.now) slash }
+    {
+        let mut at = 0;
+        let mut place = 0;
+        let mut retry: Option<(usize, usize)> = None;
+        loop {
+            match self.step(text, slash, at, place) {
+                Step::Starred => {
+                    at += 1;
+                    retry = Some((at, place));
+                }
+                Step::Taken(more) => {
+                    at = at + 1 + more;
+                    place += 1;
+                }
+                Step::Finished => return true,
+                Step::Stuck => {
+                    let Some((start, from)) = retry else {
+                        return false;
+                    };
+                    if !text.is_free_at(from, slash) {
+                        return false;
+                    }
+                    at = start;
+                    place = from + 1;
+                    retry = Some((start, from + 1));
+                }
+            }
+        }
+    }
+}
+
+/// A pattern, which borrows its characters.
+#[derive(Drop)]
+pub struct Pattern<'a> {
+    chars: Chars<'a>,
+}
+
+impl<'a> Model for Pattern<'a> {
+    ghost use Rattle.std.specs.Prelude.{List};
+    ghost use Rattle.sudo_match.specs.Pattern.{Part, parts};
+
+    ghost Value = { List Part };
+
+    ghost use Rattle.sudo_match.specs.Reading.{seen};
+
+    ghost view = { λ p. parts (seen p.chars) };
+}
+
+impl<'a> Pattern<'a> {
+    ghost use Rattle.sudo_match.specs.Matching.{host_pattern};
+
+    /// The pattern that these characters spell: `*`, `?` and brackets as in glob(7), where they are not escaped.
+    pub fn of(chars: &'a [Ch]) -> Self
+        ensures { result ≡ parts chars.now }
+    {
+        Pattern {
+            chars: Chars {
+                chars,
+                reading: Reading::Exact,
+                is_folder: false,
+            },
+        }
+    }
+
+    /// The pattern of a command's path. One that ends in `/` stands for each file of that folder.
+    pub(crate) fn of_path(chars: &'a [Ch]) -> Self
+        ensures { result ≡ parts (path_chars chars.now) }
+    {
+        let is_folder = match chars.last() {
+            Some(ch) => ch.byte == b'/',
+            None => false,
+        };
+        Pattern {
+            chars: Chars {
+                chars,
+                reading: Reading::Exact,
+                is_folder,
+            },
+        }
+    }
+
+    /// The pattern of a host, for names in lower case.
+    pub(crate) fn of_host(chars: &'a [Ch], quoted: bool) -> Self
+        ensures { result ≡ parts (host_pattern chars.now quoted) }
+    {
+        let reading = if quoted {
+            Reading::Quoted
+        } else {
+            Reading::Host
+        };
+        Pattern {
+            chars: Chars {
+                chars,
+                reading,
+                is_folder: false,
+            },
+        }
+    }
+
+    /// Whether the pattern fits the whole text.
+    pub fn matches(&self, text: &[u8], slash: Slash) -> bool
+        ensures { result ≡ fits self.now text.now slash }
+    {
+        let text = Text {
+            bytes: text,
+            lower: false,
+        };
+        self.chars.fits(&text, slash)
+    }
+
+    /// Whether the pattern fits the whole text in lower case.
+    pub(crate) fn matches_lower(&self, text: &[u8]) -> bool
+        ensures { result ≡ fits self.now (lower_text text.now) Slash.Any }
+    {
+        let text = Text {
+            bytes: text,
+            lower: true,
+        };
+        self.chars.fits(&text, Slash::Any)
+    }
+}
+
+/// Whether the characters begin with these bytes, none of them escaped.
+pub(crate) fn begins_with(chars: &[Ch], name: &[u8]) -> bool
+    ensures { result ≡ begins (map is_plain name.now) chars.now }
+{
+    let chars = Chars {
+        chars,
+        reading: Reading::Exact,
+        is_folder: false,
+    };
+    chars.spells_at(0, name)
+}
