@@ -356,7 +356,7 @@ no-plain cs no_bang none r e =
       closes = w.closes;
     })
 
-not-read : (cs : List Ch) → Unclosed cs → (r : ByteSet × ℕ) → bracket_after cs ≡ Some r → ⊥
+pub not-read : (cs : List Ch) → Unclosed cs → (r : ByteSet × ℕ) → bracket_after cs ≡ Some r → ⊥
 not-read cs none r e = go cs none e (has (is_plain 33) (slice_get cs 0)) refl
   where
     go : (xs : List Ch) → Unclosed xs → bracket_after xs ≡ Some r → (b : Bool) → has (is_plain 33) (slice_get xs 0) ≡ b → ⊥

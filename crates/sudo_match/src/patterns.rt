@@ -1,6 +1,6 @@
 //! Patterns over bytes, as in glob(7) and sudoers(5), "Wildcards".
 
-ghost use Rattle.std.specs.Prelude.{◌≡◌, ◌+◌, ◌^◌, ◌<◌, ◌≤◌, ◌&&◌, not, true, length, drop, map, slice_get, option_map, IfSome, None, if◌then◌else◌};
+ghost use Rattle.std.specs.Prelude.{ℕ, ◌≡◌, false, ◌+◌, ◌^◌, ◌<◌, ◌≤◌, ◌&&◌, not, true, length, drop, map, slice_get, option_map, IfSome, None, if◌then◌else◌};
 ghost use Rattle.std.specs.List.{list_any};
 ghost use Rattle.sudo_match.specs.Class as class;
 ghost use Rattle.sudo_match.specs.Class.{class_holds, class_name, lower_text, is_between, is_alpha, is_alnum};
@@ -185,7 +185,10 @@ struct Chars<'a> {
     reading: Reading,
     /// Whether `?*` follows the characters.
     is_folder: bool,
+    /// No unescaped `]` stands at this place or after it, so that no bracket that begins there is closed.
+    closes: usize,
     ghost short: { length chars.now < 2 ^ 62 },
+    ghost unclosed: { (n : ℕ) → closes ≤ n → has (is_plain 93) (slice_get chars.now n) ≡ false },
 }
 
 /// What the part at a place does with the byte at a place of the text.
@@ -239,6 +242,25 @@ fn is_plain(ch: Ch, byte: u8) -> bool
     ensures { result ≡ is_plain byte ch }
 {
     !ch.escaped && ch.byte == byte
+}
+
+/// The place after this character where it is an unescaped `]`, else the place so far.
+fn closes_after(ch: Ch, at: usize, closes: usize) -> usize
+    requires { at + 1 < 2 ^ 64 }
+    ensures { result ≡ (if is_plain 93 ch then at + 1 else closes) }
+{
+    if is_plain(ch, b']') { at + 1 } else { closes }
+}
+
+/// The place after the last unescaped `]`, 0 where there is none.
+fn last_close(chars: &[Ch]) -> usize
+    ensures { (n : ℕ) → result ≤ n → has (is_plain 93) (slice_get chars.now n) ≡ false }
+{
+    let mut closes = 0;
+    for (at, ch) in chars.iter().enumerate() {
+        closes = closes_after(*ch, at, closes);
+    }
+    closes
 }
 
 impl<'a> Chars<'a> {
@@ -437,11 +459,13 @@ impl<'a> Chars<'a> {
         ensures value { result ≡ (if is_plain 91 first then option_map (λ r. (set_holds slash r.0 byte, r.1)) (bracket_after (drop (at + 1) (seen self.now))) else None) }
         ensures within { IfSome result (λ r. at + r.1 < length (seen self.now)) }
     {
-        if is_plain(first, b'[') {
-            self.bracket_holds(at + 1, byte, slash)
-        } else {
-            None
+        if !is_plain(first, b'[') {
+            return None;
         }
+        if at + 1 >= self.closes {
+            return None;
+        }
+        self.bracket_holds(at + 1, byte, slash)
     }
 
     /// Whether the part at a place fits this byte alone, and how many characters it takes after its first.
@@ -556,6 +580,7 @@ impl<'a> Pattern<'a> {
                 chars,
                 reading: Reading::Exact,
                 is_folder: false,
+                closes: last_close(chars),
             },
         }
     }
@@ -573,6 +598,7 @@ impl<'a> Pattern<'a> {
                 chars,
                 reading: Reading::Exact,
                 is_folder,
+                closes: last_close(chars),
             },
         }
     }
@@ -591,6 +617,7 @@ impl<'a> Pattern<'a> {
                 chars,
                 reading,
                 is_folder: false,
+                closes: last_close(chars),
             },
         }
     }
@@ -626,6 +653,7 @@ pub(crate) fn begins_with(chars: &[Ch], name: &[u8]) -> bool
         chars,
         reading: Reading::Exact,
         is_folder: false,
+        closes: last_close(chars),
     };
     chars.spells_at(0, name)
 }

@@ -125,6 +125,24 @@ fn many_stars_are_fast(rt: HostRuntime) -> Result<(), Fail> {
     Ok(())
 }
 
+#[test]
+fn many_unclosed_brackets_are_fast(rt: HostRuntime) -> Result<(), Fail> {
+    let mut chars = chars(rt.alloc(), b"*")?;
+    let mut text = Seq::new(rt.alloc());
+    for _ in 0..1000u32 {
+        chars.push(Ch {
+            byte: b'[',
+            escaped: false,
+        })?;
+        text.push(b'[')?;
+        text.push(b'[')?;
+    }
+    assert!(rt; Pattern::of(chars.as_slice()).matches(text.as_slice(), Slash::Any));
+    text.push(b'a')?;
+    assert!(rt; !Pattern::of(chars.as_slice()).matches(text.as_slice(), Slash::Not));
+    Ok(())
+}
+
 /// A command with arguments.
 fn with_arguments(alloc: Global, path: &[u8], args: &[u8]) -> Result<Atom, AllocError> {
     let path = chars(alloc, path)?;

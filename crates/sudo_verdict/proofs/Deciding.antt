@@ -1,0 +1,122 @@
+-- How a list decides, from the decisions of its parts: the last part that decides at all.
+use Rattle.std.proofs.Common.{◌≡◌, ℕ, ◌<◌, ◌≤◌, Bool, true, false, not, cond, List, [], ◌∷◌, ◌++◌, map, Option, Some, None, refl, sym, ◌∙◌, ap, arith}
+use Rattle.std.specs.Option.{option_or, option_map}
+use Rattle.std.proofs.Common.{length}
+use Rattle.std.proofs.lemmas.Bool.{and_parts, both_ways}
+use Rattle.sudo_tree.specs.declared.kind.Kind.{Kind}
+use Rattle.sudo_tree.specs.declared.kind.Atom.{Atom}
+use Rattle.sudo_tree.specs.declared.kind.Atom.TheVariants as atom
+use Rattle.sudo_tree.specs.declared.kind.Signed.{Signed}
+use Rattle.sudo_tree.specs.declared.kind.Member.{Member}
+use Rattle.sudo_tree.specs.declared.policy.Policy.{Policy}
+use Rattle.sudo_policy.specs.Definitions.{in_force}
+use Rattle.sudo_policy.proofs.Laws.{is_alias}
+use Rattle.sudo_verdict.specs.Values.{is_all}
+use Rattle.sudo_policy.specs.Written.{is_negated, negated_if, written}
+use Rattle.sudo_policy.specs.Resolving.{resolves, rank}
+use Rattle.sudo_policy.proofs.Laws.{alias_resolves, alias_written, alias_depth, alias_defined, atom_written, resolves_append, written_append, written_none, depth_append}
+use Rattle.sudo_verdict.specs.Values.{value}
+use Rattle.sudo_verdict.specs.Last.{last_that}
+use Rattle.sudo_verdict.specs.Decided.{decided, decided_in, decision_of, negated_once}
+use Rattle.sudo_verdict.specs.declared.decision.Decision.{Decision}
+use Rattle.sudo_verdict.proofs.Lasts.{last_that_append, last_that_map, option_map_or, option_map_map}
+
+one : (s : Signed) (b : Bool) → option_map decision_of (cond b (Some s) None) ≡ cond b (Some (decision_of s)) None
+one s true = refl
+one s false = refl
+
+module _ (test : Atom → Bool) where
+  decided_in_append : (xs ys : List Signed) → decided_in test (xs ++ ys) ≡ option_or (decided_in test ys) (decided_in test xs)
+  unfolding decided_in
+  decided_in_append xs ys =
+      ap (option_map decision_of) (last_that_append (λ s. test s.atom) xs ys) ∙ option_map_or decision_of _ _
+
+  -- A negated list decides with the other sign.
+  decided_in_negated : (b : Bool) (xs : List Signed) → decided_in test (map (negated_if b) xs) ≡ option_map (negated_once b) (decided_in test xs)
+  unfolding decided_in
+  decided_in_negated b xs =
+      ap (option_map decision_of) (last_that_map true (λ s. test s.atom) (λ s. test s.atom) (negated_if b) (λ s. refl) xs)
+      ∙ option_map_map (negated_if b) decision_of (last_that (λ s. test s.atom) xs)
+      ∙ sym (option_map_map decision_of (negated_once b) (last_that (λ s. test s.atom) xs))
+
+  module _ (k : Kind) (p : Policy) where
+    pub decided_append : (xs ys : List Member) → decided k p (xs ++ ys) test ≡ option_or (decided k p ys test) (decided k p xs test)
+    unfolding decided
+    decided_append xs ys = ap (decided_in test) (written_append k p xs ys) ∙ decided_in_append (written k p xs) (written k p ys)
+
+    pub decided_none : decided k p [] test ≡ None
+    unfolding decided decided_in
+    decided_none = rw (written_none k p)
+
+    pub decided_atom : (m : Member) → is_alias m.atom ≡ false → decided k p (m ∷ []) test ≡ cond (test m.atom) (Some (record { negated = is_negated m; all = is_all m.atom })) None
+    unfolding decided decided_in
+    decided_atom m h = rw (atom_written k p m h) (one (record { negated = is_negated m; atom = m.atom }) (test m.atom))
+
+    pub decided_alias : (m : Member) (name : List ℕ) (ds : List Member) → m.atom ≡ atom.Alias name → in_force k p name ≡ Some ds → resolves k p (m ∷ []) ≡ true
+        → decided k p (m ∷ []) test ≡ option_map (negated_once (is_negated m)) (decided k p ds test)
+    unfolding decided
+    decided_alias m name ds is found fits =
+        ap (decided_in test) (alias_written k p m name ds is found fits) ∙ decided_in_negated (is_negated m) (written k p ds)
+
+-- A list whose last member is m.
+module _ (k : Kind) (p : Policy) (test : Atom → Bool) (left rest : List Member) (m : Member) (is : left ≡ rest ++ m ∷ []) where
+  pub last_decides : (d : Decision) → decided k p (m ∷ []) test ≡ Some d → decided k p left test ≡ Some d
+  last_decides d e = rw (is, decided_append test k p rest (m ∷ []), e)
+
+  pub last_silent : decided k p (m ∷ []) test ≡ None → decided k p left test ≡ decided k p rest test
+  last_silent e = rw (is, decided_append test k p rest (m ∷ []), e)
+
+  pub rest_resolves : resolves k p left ≡ true → resolves k p rest ≡ true
+  rest_resolves h = (and_parts (resolves k p rest) (resolves k p (m ∷ [])) (rw (is, resolves_append k p rest (m ∷ [])) at h)).0
+
+  pub last_resolves : resolves k p left ≡ true → resolves k p (m ∷ []) ≡ true
+  last_resolves h = (and_parts (resolves k p rest) (resolves k p (m ∷ [])) (rw (is, resolves_append k p rest (m ∷ [])) at h)).1
+
+  pub rest_shallow : rank k p rest ≤ rank k p left
+  rest_shallow = rw is (omega (arith, depth_append k p rest (m ∷ [])))
+
+  pub last_shallow : rank k p (m ∷ []) ≤ rank k p left
+  last_shallow = rw is (omega (arith, depth_append k p rest (m ∷ [])))
+
+pub none_silent : (k : Kind) (p : Policy) (test : Atom → Bool) (left : List Member) → length left ≡ 0 → decided k p left test ≡ None
+none_silent k p test [] h = decided_none test k p
+none_silent k p test (m ∷ ms) h = cc
+
+pub undefined_never : (k : Kind) (p : Policy) (m : Member) (name : List ℕ) → m.atom ≡ atom.Alias name → in_force k p name ≡ None → resolves k p (m ∷ []) ≡ true → ⊥
+undefined_never k p m name is none h = both_ways _ (alias_defined k p m name is none) h
+
+pub not_alias : (a : Atom) → ((name : List ℕ) → a ≡ atom.Alias name → ⊥) → is_alias a ≡ false
+not_alias (atom.Alias n) h = absurd (h n refl)
+not_alias _ h = refl
+
+-- A member that is an alias, by the decision of its list.
+module _ (k : Kind) (p : Policy) (test : Atom → Bool) (m : Member) (name : List ℕ) (ds : List Member)
+    (is : m.atom ≡ atom.Alias name) (found : Some ds ≡ in_force k p name) (fits : resolves k p (m ∷ []) ≡ true) where
+  pub alias_silent : None ≡ decided k p ds test → None ≡ decided k p (m ∷ []) test
+  alias_silent e = sym (decided_alias test k p m name ds is (sym found) fits ∙ ap (option_map (negated_once (is_negated m))) (sym e))
+
+  pub alias_decides : (d : Decision) → Some d ≡ decided k p ds test → Some (negated_once (is_negated m) d) ≡ decided k p (m ∷ []) test
+  alias_decides d e = sym (decided_alias test k p m name ds is (sym found) fits ∙ ap (option_map (negated_once (is_negated m))) (sym e))
+
+  pub alias_falls : rank k p ds < rank k p (m ∷ [])
+  alias_falls = alias_depth k p m name ds is (sym found) fits
+
+  pub alias_stands : resolves k p ds ≡ true
+  alias_stands = alias_resolves k p m name ds is (sym found) fits
+
+-- A member that is no alias.
+module _ (k : Kind) (p : Policy) (test : Atom → Bool) (m : Member) (not_one : (name : List ℕ) → m.atom ≡ atom.Alias name → ⊥) where
+  pub atom_decides : test m.atom ≡ true → Some (record { negated = is_negated m; all = is_all m.atom }) ≡ decided k p (m ∷ []) test
+  atom_decides e = sym (decided_atom test k p m (not_alias m.atom not_one) ∙ ap (λ b. cond b (Some (record { negated = is_negated m; all = is_all m.atom })) None) e)
+
+  pub atom_silent : test m.atom ≡ false → None ≡ decided k p (m ∷ []) test
+  atom_silent e = sym (decided_atom test k p m (not_alias m.atom not_one) ∙ ap (λ b. cond b (Some (record { negated = is_negated m; all = is_all m.atom })) None) e)
+
+-- The value of a list is the sign with which it decides.
+sign_of : (o : Option Signed) → option_map (λ s. not s.negated) o ≡ option_map (λ d. not d.negated) (option_map decision_of o)
+sign_of None = refl
+sign_of (Some s) = refl
+
+pub value_decided : (k : Kind) (p : Policy) (ms : List Member) (test : Atom → Bool) → value k p ms test ≡ option_map (λ d. not d.negated) (decided k p ms test)
+unfolding value decided decided_in
+value_decided k p ms test = sign_of (last_that (λ s. test s.atom) (written k p ms))

@@ -1,0 +1,94 @@
+-- The last that passes, in lists end to end and under a map.
+use Rattle.std.proofs.Common.{◌≡◌, Bool, true, false, cond, ◌&&◌, List, [], ◌∷◌, ◌++◌, map, Option, Some, None, refl, sym, ◌∙◌, ap}
+use Rattle.std.specs.Option.{option_or, option_map}
+use Rattle.std.specs.List.{list_all, filter}
+use Rattle.std.proofs.Common.{length}
+use Rattle.std.proofs.lemmas.Bool.{and_parts}
+use Rattle.std.proofs.lemmas.List.{map-append}
+use Rattle.sudo_verdict.specs.Last.{last_that, last_set}
+
+list_all_append : {X : Type 0} (t : X → Bool) (xs ys : List X) → list_all t (xs ++ ys) ≡ (list_all t xs && list_all t ys)
+list_all_append t [] ys = refl
+list_all_append t (x ∷ xs) ys = by (t x) (list_all_append t xs ys)
+  where
+    by : (b : Bool) → list_all t (xs ++ ys) ≡ (list_all t xs && list_all t ys) → (b && list_all t (xs ++ ys)) ≡ ((b && list_all t xs) && list_all t ys)
+    by true h = h
+    by false h = refl
+
+pub option_or_assoc : {X : Type 0} (a b c : Option X) → option_or (option_or a b) c ≡ option_or a (option_or b c)
+option_or_assoc None b c = refl
+option_or_assoc (Some x) b c = refl
+
+pub option_or_none : {X : Type 0} (a : Option X) → option_or a None ≡ a
+option_or_none None = refl
+option_or_none (Some x) = refl
+
+pub option_map_or : {X Y : Type 0} (f : X → Y) (a b : Option X) → option_map f (option_or a b) ≡ option_or (option_map f a) (option_map f b)
+option_map_or f None b = refl
+option_map_or f (Some x) b = refl
+
+pub option_map_map : {X Y Z : Type 0} (f : X → Y) (g : Y → Z) (a : Option X) → option_map g (option_map f a) ≡ option_map (λ x. g (f x)) a
+option_map_map f g None = refl
+option_map_map f g (Some x) = refl
+
+pub last_that_append : {X : Type 0} (f : X → Bool) (xs ys : List X) → last_that f (xs ++ ys) ≡ option_or (last_that f ys) (last_that f xs)
+last_that_append f [] ys = sym (option_or_none (last_that f ys))
+last_that_append f (x ∷ xs) ys =
+    ap (λ o. option_or o (cond (f x) (Some x) None)) (last_that_append f xs ys)
+    ∙ option_or_assoc (last_that f ys) (last_that f xs) (cond (f x) (Some x) None)
+
+one_more : {X Y : Type 0} (g : X → Y) (b : Bool) (o : Option X) (x : X) → option_or (option_map g o) (cond b (Some (g x)) None) ≡ option_map g (option_or o (cond b (Some x) None))
+one_more g b (Some y) x = refl
+one_more g true None x = refl
+one_more g false None x = refl
+
+-- Each item of the map passes where the condition holds and its source passes.
+pub last_that_map : {X Y : Type 0} (c : Bool) (f : X → Bool) (h : Y → Bool) (g : X → Y) → ((x : X) → h (g x) ≡ (c && f x)) → (xs : List X) → last_that h (map g xs) ≡ cond c (option_map g (last_that f xs)) None
+last_that_map true f h g e [] = refl
+last_that_map false f h g e [] = refl
+last_that_map true f h g e (x ∷ xs) =
+    let ih : last_that h (map g xs) ≡ option_map g (last_that f xs) = last_that_map true f h g e xs
+    in rw (ih, e x) (one_more g (f x) (last_that f xs) x)
+last_that_map false f h g e (x ∷ xs) =
+    let ih : last_that h (map g xs) ≡ None = last_that_map false f h g e xs
+    in rw (ih, e x) refl
+
+pub last_set_push : {X : Type 0} (xs : List (Option X)) (o : Option X) → last_set (xs ++ o ∷ []) ≡ option_or o (last_set xs)
+last_set_push [] o = sym (option_or_none o)
+last_set_push (x ∷ xs) o = ap (λ r. option_or r x) (last_set_push xs o) ∙ option_or_assoc o (last_set xs) x
+
+pub last_set_map_push : {X Y : Type 0} (f : X → Option Y) (rest : List X) (m : X) → last_set (map f (rest ++ m ∷ [])) ≡ option_or (f m) (last_set (map f rest))
+last_set_map_push f rest m = rw map-append (last_set_push (map f rest) (f m))
+
+-- A search from the end of a list back.
+module _ {X Y : Type 0} (f : X → Option Y) (left rest : List X) (m : X) (is : left ≡ rest ++ m ∷ []) where
+  pub back_found : (y : Y) → Some y ≡ f m → last_set (map f left) ≡ Some y
+  back_found y e = rw (is, last_set_map_push f rest m, ← e) refl
+
+  pub back_none : None ≡ f m → last_set (map f left) ≡ last_set (map f rest)
+  back_none e = rw (is, last_set_map_push f rest m, ← e) refl
+
+pub back_end : {X Y : Type 0} (f : X → Option Y) (left : List X) → length left ≡ 0 → last_set (map f left) ≡ None
+back_end f [] h = refl
+back_end f (x ∷ xs) h = cc
+
+module _ {X : Type 0} (t : X → Bool) (left rest : List X) (m : X) (is : left ≡ rest ++ m ∷ []) (h : list_all t left ≡ true) where
+  back_parts : (list_all t rest ≡ true) × (list_all t (m ∷ []) ≡ true)
+  back_parts = and_parts (list_all t rest) (list_all t (m ∷ [])) (rw (is, list_all_append t rest (m ∷ [])) at h)
+
+  pub back_rest : list_all t rest ≡ true
+  back_rest = back_parts.0
+
+  pub back_last : t m ≡ true
+  back_last = (and_parts (t m) true back_parts.1).0
+
+filter_step : {X Y : Type 0} (f : X → Option Y) (keep : X → Bool) (xs : List X) (x : X) → last_set (map f xs) ≡ last_set (map f (filter keep xs))
+    → (b : Bool) → (b ≡ false → f x ≡ None) → option_or (last_set (map f xs)) (f x) ≡ last_set (map f (cond b (x ∷ filter keep xs) (filter keep xs)))
+filter_step f keep xs x ih true w = ap (λ o. option_or o (f x)) ih
+filter_step f keep xs x ih false w = ap (option_or (last_set (map f xs))) (w refl) ∙ option_or_none (last_set (map f xs)) ∙ ih
+
+-- Items that decide nothing may be left out, as an index leaves them out.
+pub last_set_filter : {X Y : Type 0} (f : X → Option Y) (keep : X → Bool) → ((x : X) → keep x ≡ false → f x ≡ None) → (xs : List X)
+    → last_set (map f xs) ≡ last_set (map f (filter keep xs))
+last_set_filter f keep w [] = refl
+last_set_filter f keep w (x ∷ xs) = filter_step f keep xs x (last_set_filter f keep w xs) (keep x) (w x)

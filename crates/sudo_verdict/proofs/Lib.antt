@@ -1,0 +1,7 @@
+pub mod Lasts
+pub mod Deciding
+pub mod Tagging
+pub mod Searching
+pub mod Resolving
+pub mod Forward
+pub mod VerdictVectors

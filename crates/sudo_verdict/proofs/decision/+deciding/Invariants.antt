@@ -1,0 +1,22 @@
+use Rattle.std.proofs.Common.{◌≡◌, ◌+◌, ◌*◌, ◌≤◌, IsTrue, [], ◌∷◌, length}
+use Rattle.sudo_policy.specs.Resolving.{resolves, rank}
+use Rattle.sudo_verdict.specs.Decided.{decided}
+use Rattle.sudo_verdict.proofs.decision.+deciding.Given as goal
+
+-- An alias's list is less deep than a list that names it.
+abbrev pub decreases-decide : goal.decreases-decide
+decreases-decide g l = 2 * rank l.kind l.checked.now l.members.now + 1
+
+abbrev pub decreases-decide_member : goal.decreases-decide_member
+decreases-decide_member g l = 2 * rank l.kind l.checked.now (l.member.now ∷ [])
+
+-- the members passed do not decide
+abbrev pub invariant-decide-loop-member : goal.invariant-decide-loop-member
+invariant-decide-loop-member g l = record {
+  resolve : IsTrue (resolves l.kind l.checked l.left);
+  shallow : rank l.kind l.checked l.left ≤ rank l.kind l.checked l.members;
+  same : decided l.kind l.checked l.members (g.S.Subject.fits l.subject) ≡ decided l.kind l.checked l.left (g.S.Subject.fits l.subject);
+}
+
+abbrev pub decreases-decide-loop-member : goal.decreases-decide-loop-member
+decreases-decide-loop-member g l = length l.left

@@ -1,0 +1,18 @@
+use Rattle.std.proofs.Common.{◌≡◌, IsTrue, map, length}
+use Rattle.std.specs.Option.{option_or}
+use Rattle.std.specs.List.{list_all}
+use Rattle.sudo_verdict.specs.Last.{last_set}
+use Rattle.sudo_verdict.specs.Queries.{question}
+use Rattle.sudo_verdict.specs.Resolved.{body_resolves}
+use Rattle.sudo_verdict.specs.Found.{entry_found}
+use Rattle.sudo_verdict.proofs.listing.list_entries.Given as goal
+
+-- what decides last among those passed and those left
+abbrev pub invariant-loop-entry : goal.invariant-loop-entry
+invariant-loop-entry l = record {
+  resolve : IsTrue (list_all (λ e. body_resolves l.checked e.body) l.left);
+  same : option_or (last_set (map (entry_found l.checked (question l.query)) l.left)) l.last ≡ last_set (map (entry_found l.checked (question l.query)) l.checked.entries);
+}
+
+abbrev pub decreases-loop-entry : goal.decreases-loop-entry
+decreases-loop-entry l = length l.left

@@ -1,0 +1,18 @@
+use Rattle.std.proofs.Common.{◌≡◌, IsTrue, map, length}
+use Rattle.std.specs.Option.{option_or}
+use Rattle.std.specs.List.{list_all}
+use Rattle.sudo_verdict.specs.Last.{last_set}
+use Rattle.sudo_verdict.specs.Queries.{question}
+use Rattle.sudo_policy.specs.Resolving.{section_resolves}
+use Rattle.sudo_verdict.specs.Found.{section_found}
+use Rattle.sudo_verdict.proofs.listing.list_sections.Given as goal
+
+-- what decides last among those passed and those left
+abbrev pub invariant-loop-section : goal.invariant-loop-section
+invariant-loop-section l = record {
+  resolve : IsTrue (list_all (section_resolves l.checked) l.left);
+  same : option_or (last_set (map (section_found l.checked (question l.query) l.place) l.left)) l.last ≡ last_set (map (section_found l.checked (question l.query) l.place) l.sections);
+}
+
+abbrev pub decreases-loop-section : goal.decreases-loop-section
+decreases-loop-section l = length l.left

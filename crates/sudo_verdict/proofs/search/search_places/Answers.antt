@@ -1,0 +1,27 @@
+use Rattle.std.proofs.Common.{sym, ◌∙◌}
+use Rattle.sudo_policy.specs.Resolving.{command_resolves}
+use Rattle.sudo_verdict.specs.Queries.{question}
+use Rattle.sudo_verdict.proofs.Lasts.{back_rest}
+use Rattle.sudo_verdict.proofs.Searching.{refused_rest, places_rest, places_decide, places_silent, places_end}
+use Rattle.sudo_verdict.proofs.search.search_places.Goals as goal
+
+pub returns-in-Some-verdict : goal.returns-in-Some-verdict
+returns-in-Some-verdict c =
+    sym
+    (c.loop-spec.invariant.same
+    ∙ places_decide c.args.checked.now (question c.args.query.now) c.args.place c.args.commands.now c.loop-spec.left.now c.in-Some.rest.now c.in-Some.spec.now
+    c.in-Some.ensures.cases.0 c.loop-spec.invariant.front c.in-Some-verdict.verdict (sym c.in-Some-verdict.is ∙ c.search_place-examined.ensures.verdict))
+
+pub loop-spec-preserved : goal.loop-spec-preserved
+loop-spec-preserved c = record {
+  refused = λ h. refused_rest c.args.checked.now (question c.args.query.now) c.loop-spec.left.now c.in-Some.rest.now c.in-Some.spec.now c.in-Some.ensures.cases.0 c.search_place-examined.result.refused c.is_none.result c.is_none.ensures h c.search_place-examined.ensures.refused;
+  front = places_rest c.args.checked.now (question c.args.query.now) c.args.place c.args.commands.now c.loop-spec.left.now c.in-Some.rest.now c.in-Some.spec.now c.in-Some.ensures.cases.0 c.loop-spec.invariant.front;
+  resolve = back_rest (command_resolves c.args.checked.now) c.loop-spec.left.now c.in-Some.rest.now c.in-Some.spec.now c.in-Some.ensures.cases.0 c.loop-spec.invariant.resolve;
+  same = c.loop-spec.invariant.same
+      ∙ places_silent c.args.checked.now (question c.args.query.now) c.args.place c.args.commands.now c.loop-spec.left.now c.in-Some.rest.now c.in-Some.spec.now
+      c.in-Some.ensures.cases.0 c.loop-spec.invariant.front (sym c.in_default-verdict.is ∙ c.search_place-examined.ensures.verdict);
+}
+
+pub returns : goal.returns
+returns c =
+    sym (c.loop-spec.invariant.same ∙ places_end c.args.checked.now (question c.args.query.now) c.args.place c.args.commands.now c.loop-spec.left.now c.in_default.ensures.cases)

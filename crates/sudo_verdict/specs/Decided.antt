@@ -1,0 +1,23 @@
+-- How a list decides: by the last atom of the written-out list that passes a test. Only a body's proof needs it.
+use Rattle.std.specs.Prelude.{Bool, List, Option, option_map}
+use Rattle.sudo_tree.specs.declared.kind.Kind.{Kind}
+use Rattle.sudo_tree.specs.declared.kind.Atom.{Atom}
+use Rattle.sudo_tree.specs.declared.kind.Signed.{Signed}
+use Rattle.sudo_tree.specs.declared.kind.Member.{Member}
+use Rattle.sudo_tree.specs.declared.policy.Policy.{Policy}
+use Rattle.sudo_policy.specs.Written.{differ, written}
+use Rattle.sudo_verdict.specs.declared.decision.Decision.{Decision}
+use Rattle.sudo_verdict.specs.Last.{last_that}
+use Rattle.sudo_verdict.specs.Values.{is_all}
+
+abbrev pub decision_of : Signed → Decision
+decision_of s = record { negated = s.negated; all = is_all s.atom }
+
+abbrev pub negated_once : Bool → Decision → Decision
+negated_once negated d = record { negated = differ negated d.negated; all = d.all }
+
+unfoldable pub decided_in : (Atom → Bool) → List Signed → Option Decision
+decided_in test list = option_map decision_of (last_that (λ s. test s.atom) list)
+
+unfoldable pub decided : Kind → Policy → List Member → (Atom → Bool) → Option Decision
+decided kind p list test = decided_in test (written kind p list)

@@ -1,0 +1,62 @@
+-- What the search from the last grant back finds: at a command, in a section, in a rule, in a policy. Only a body's proof needs it.
+use Rattle.std.specs.Prelude.{ℕ, zero, suc, ◌+◌, cond, List, [], ◌∷◌, map, length, take, slice_get, Option, Some, None, option_map}
+use Rattle.std.specs.Option.{option_or}
+use Rattle.sudo_text.specs.declared.line.Place.{Place}
+use Rattle.sudo_tree.specs.declared.kind.Kind.TheVariants as kind
+use Rattle.sudo_tree.specs.declared.kind.Member.{Member}
+use Rattle.sudo_tree.specs.declared.policy.CommandSpec.{CommandSpec}
+use Rattle.sudo_tree.specs.declared.policy.Section.{Section}
+use Rattle.sudo_tree.specs.declared.policy.Entry.{Entry}
+use Rattle.sudo_tree.specs.declared.policy.EntryBody.{EntryBody}
+use Rattle.sudo_tree.specs.declared.policy.EntryBody.TheVariants.{Rule}
+use Rattle.sudo_tree.specs.declared.policy.Policy.{Policy}
+use Rattle.sudo_rows.specs.declared.request.Tags.{Tags}
+use Rattle.sudo_rows.specs.declared.request.Verdict.{Verdict}
+use Rattle.sudo_match.specs.Matching.{command_fits}
+use Rattle.sudo_verdict.specs.declared.decision.Decision.{Decision}
+use Rattle.sudo_verdict.specs.Last.{last_that, last_set}
+use Rattle.sudo_verdict.specs.Tagged.{tags_before, runas_before}
+use Rattle.sudo_verdict.specs.Decided.{decided}
+use Rattle.sudo_verdict.specs.Questions.{Question}
+use Rattle.sudo_verdict.specs.Values.{user_listed, host_listed}
+use Rattle.sudo_verdict.specs.RunasForms.{runas_holds}
+use Rattle.sudo_verdict.specs.Grants.{Grant, applies}
+use Rattle.sudo_verdict.specs.Verdicts.{decided_by, verdict_by}
+
+-- the verdict of the last of these grants that applies
+unfoldable pub found : Policy → Question → List Grant → Option Verdict
+found p q grants = option_map verdict_by (last_that (applies p q) grants)
+
+abbrev pub verdict_from : Place → Tags → Decision → Verdict
+verdict_from place tags d = decided_by place tags d.negated d.all
+
+-- at the last of these commands, which is c
+unfoldable pub place_found : Policy → Question → Place → List CommandSpec → CommandSpec → Option Verdict
+place_found p q place before c =
+    cond (runas_holds p q (runas_before before))
+    (option_map (verdict_from place (tags_before before)) (decided kind.Cmnd p (c.command ∷ []) (λ a. command_fits a q.command q.arguments)))
+    None
+
+abbrev pub found_if_any : Policy → Question → Place → List CommandSpec → Option CommandSpec → Option Verdict
+found_if_any p q place before None = None
+found_if_any p q place before (Some c) = place_found p q place before c
+
+-- at the commands of a section before command n
+unfoldable pub places_found : Policy → Question → Place → List CommandSpec → ℕ → Option Verdict
+places_found p q place commands zero = None
+places_found p q place commands (suc n) =
+    option_or (found_if_any p q place (take (n + 1) commands) (slice_get commands n)) (places_found p q place commands n)
+
+unfoldable pub section_found : Policy → Question → Place → Section → Option Verdict
+section_found p q place s = cond (host_listed p s.hosts q) (places_found p q place s.commands (length s.commands)) None
+
+unfoldable pub rule_found : Policy → Question → Place → List Member → List Section → Option Verdict
+rule_found p q place users sections =
+    cond (user_listed p users q) (last_set (map (section_found p q place) sections)) None
+
+abbrev pub body_found : Policy → Question → Place → EntryBody → Option Verdict
+body_found p q place (Rule users sections) = rule_found p q place users sections
+body_found p q place _ = None
+
+abbrev pub entry_found : Policy → Question → Entry → Option Verdict
+entry_found p q e = body_found p q e.place e.body

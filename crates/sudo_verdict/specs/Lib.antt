@@ -1,0 +1,11 @@
+pub mod Last
+pub mod Tagged
+pub mod Questions
+pub mod Values
+pub mod RunasForms
+pub mod Grants
+pub mod Verdicts
+pub mod Queries
+pub mod Decided
+pub mod Found
+pub mod Resolved

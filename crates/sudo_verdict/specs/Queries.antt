@@ -1,0 +1,15 @@
+-- What a request whose names were looked up says. Only a body's proof needs it.
+use Rattle.std.specs.Prelude.{option_copied}
+use Rattle.sudo_verdict.specs.declared.query.Query.{Query}
+use Rattle.sudo_verdict.specs.Questions.{Question}
+
+abbrev pub question : Query → Question
+question q = record {
+  user = q.user.now;
+  host = q.host.now;
+  asked = option_copied q.asked;
+  group = option_copied q.group;
+  target = option_copied q.target;
+  command = q.command.now;
+  arguments = q.arguments.now;
+}

@@ -1,0 +1,11 @@
+-- Lines whose lists can be followed to their end. Only a body's proof needs it.
+use Rattle.std.specs.Prelude.{Bool, true}
+use Rattle.sudo_tree.specs.declared.policy.EntryBody.{EntryBody}
+use Rattle.sudo_tree.specs.declared.policy.EntryBody.TheVariants.{Rule}
+use Rattle.sudo_tree.specs.declared.policy.Policy.{Policy}
+use Rattle.sudo_policy.specs.Resolving.{rule_resolves}
+
+-- the lists of a rule resolve
+abbrev pub body_resolves : Policy → EntryBody → Bool
+body_resolves p (Rule users sections) = rule_resolves p users sections
+body_resolves p _ = true

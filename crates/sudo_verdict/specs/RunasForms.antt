@@ -1,0 +1,73 @@
+-- As whom a command may be run: the five forms of a runas. sudoers(5), "Runas_Spec".
+use Rattle.std.specs.Prelude.{Bool, true, false, ◌&&◌, ◌==◌, List, bytes_eq, codes, Option, Some, None, is_some, unwrap_or}
+use Rattle.std.specs.List.{list_any}
+use Rattle.sudo_tree.specs.declared.kind.Kind.TheVariants as kind
+use Rattle.sudo_tree.specs.declared.kind.Member.{Member}
+use Rattle.sudo_tree.specs.declared.policy.Policy.{Policy}
+use Rattle.sudo_tree.specs.declared.policy.Runas.{Runas}
+use Rattle.sudo_rows.specs.declared.people.Person.{Person}
+use Rattle.sudo_rows.specs.declared.people.Group.{Group}
+use Rattle.sudo_match.specs.Matching.{user_fits, group_fits}
+use Rattle.sudo_verdict.specs.Values.{value, allows}
+use Rattle.sudo_verdict.specs.Questions.{Question}
+
+abbrev pub has_group : Person → Group → Bool
+has_group u g = list_any (λ h. h.gid == g.gid) u.groups
+
+-- a directory has each name once
+abbrev pub is_same_user : Person → Person → Bool
+is_same_user t u = bytes_eq t.name u.name
+
+-- if a group is asked for, the user has it
+abbrev pub has_asked : Person → Option Group → Bool
+has_asked u None = true
+has_asked u (Some g) = has_group u g
+
+-- the user asked for is the invoking user, or no user is asked for
+abbrev pub is_own : Person → Option Person → Bool
+is_own u None = true
+is_own u (Some t) = is_same_user t u
+
+-- if a group is asked for, the list allows it, or has no value for it and the user has it
+abbrev pub group_allowed : Policy → List Member → Person → Option Group → Bool
+group_allowed p groups u None = true
+group_allowed p groups u (Some g) = unwrap_or (value kind.Runas p groups (λ a. group_fits a g)) (has_group u g)
+
+abbrev pub target_value : Policy → List Member → Person → Option Bool
+target_value p users t = value kind.Runas p users (λ a. user_fits a t)
+
+-- (users): the list allows the target, who has the group asked for
+abbrev pub users_hold : Policy → Question → List Member → Option Person → Bool
+users_hold p q users None = false
+users_hold p q users (Some t) = allows (target_value p users t) && has_asked t q.group
+
+-- (users:groups): the list allows the target, or has no value for him where he is the invoking user and a group is asked for; and the group list allows the group, or has no value for it and the target has it
+abbrev pub users_and_groups_hold : Policy → Question → List Member → List Member → Option Person → Bool
+users_and_groups_hold p q users groups None = false
+users_and_groups_hold p q users groups (Some t) =
+    unwrap_or (target_value p users t) (is_some q.group && is_same_user t q.user) && group_allowed p groups t q.group
+
+-- (:groups): the command runs as the invoking user; the group list allows the group, or has no value for it and he has it
+abbrev pub groups_hold : Policy → Question → List Member → Bool
+groups_hold p q groups = is_own q.user q.asked && group_allowed p groups q.user q.group
+
+-- (): the command runs as the invoking user, with a group of his own
+abbrev pub own_holds : Question → Bool
+own_holds q = is_own q.user q.asked && has_asked q.user q.group
+
+-- without parentheses: as root, with a group of root's
+abbrev pub root_holds : Question → Option Person → Bool
+root_holds q None = false
+root_holds q (Some t) = bytes_eq t.name (codes "root") && has_asked t q.group
+
+-- the four forms in parentheses
+unfoldable pub form_holds : Policy → Question → Option (List Member) → Option (List Member) → Bool
+form_holds p q (Some users) (Some groups) = users_and_groups_hold p q users groups q.target
+form_holds p q (Some users) None = users_hold p q users q.target
+form_holds p q None (Some groups) = groups_hold p q groups
+form_holds p q None None = own_holds q
+
+-- a runas, or none, lets the command run as the user and the group asked for
+unfoldable pub runas_holds : Policy → Question → Option Runas → Bool
+runas_holds p q None = root_holds q q.target
+runas_holds p q (Some r) = form_holds p q r.users r.groups

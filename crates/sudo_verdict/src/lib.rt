@@ -1,0 +1,15 @@
+//! The verdict of a checked policy on a request: may this user run this command on this host, and by which line?
+//!
+//! sudoers(5), "User Specification": the last match is used.
+#![tactic(auto)]
+
+mod decision;
+mod listing;
+mod query;
+mod search;
+mod tags;
+
+pub use listing::verdict_by_listing;
+pub use search::verdict;
+pub use sudo_rows::{Request, Tags, Verdict, What};
+pub use tags::tags_in_report_order;

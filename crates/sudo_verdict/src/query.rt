@@ -1,0 +1,252 @@
+//! A request whose names are known, and what it asks of the lists of a rule.
+
+ghost use Rattle.std.specs.Prelude.{◌≡◌, ◌∷◌, [], IsTrue, Option, Some, None, MatchResult, Ok, Err, option_copied, is_some, unwrap_or, bytes_eq, codes};
+ghost use Rattle.sudo_tree.specs.declared.kind.Kind.TheVariants as kind;
+ghost use Rattle.sudo_policy.specs.Resolving.{resolves, list_resolves, runas_resolves};
+ghost use Rattle.sudo_match.specs.Known.{user_named};
+ghost use Rattle.sudo_verdict.specs.Values as values;
+ghost use Rattle.sudo_verdict.specs.RunasForms as form;
+ghost use Rattle.sudo_verdict.specs.Questions.{question_of, target_of};
+ghost use Rattle.sudo_verdict.specs.Queries.{question};
+
+use crate::decision::{AsGroup, AsHost, AsUser, value};
+use sudo_match::Directory;
+use sudo_policy::{Checked, Kind, Member, Runas};
+use sudo_rows::{Group, Machine, Person, Request, What};
+use sudo_text::Seq;
+
+/// A request whose names are known.
+#[derive(Clone, Copy)]
+pub(crate) struct Query<'a> {
+    pub(crate) user: &'a Person,
+    pub(crate) host: &'a Machine,
+    /// The user asked for.
+    pub(crate) asked: Option<&'a Person>,
+    /// The group asked for.
+    pub(crate) group: Option<&'a Group>,
+    /// Whom the command is to run as, where known.
+    pub(crate) target: Option<&'a Person>,
+    pub(crate) command: &'a [u8],
+    pub(crate) arguments: &'a [u8],
+}
+
+/// The request with its names looked up, or the first name that is unknown.
+#[tactic(auto, unfolding(crate::specs::Questions::question_of))]
+pub(crate) fn query_of<'a>(
+    directory: &'a Directory,
+    request: &'a Request,
+) -> Result<Query<'a>, What>
+    ensures { MatchResult result (λ q. question_of directory.now request.now ≡ Ok (question q)) (λ w. question_of directory.now request.now ≡ Err w) }
+{
+    let Some(user) = directory.user(request.user.as_slice()) else {
+        return Err(What::User);
+    };
+    let Some(host) = directory.host(request.host.as_slice()) else {
+        return Err(What::Host);
+    };
+    let asked = match &request.runas_user {
+        None => None,
+        Some(name) => match directory.user(name.as_slice()) {
+            None => return Err(What::Target),
+            Some(asked) => Some(asked),
+        },
+    };
+    let group = match &request.runas_group {
+        None => None,
+        Some(name) => match directory.group(name.as_slice()) {
+            None => return Err(What::Group),
+            Some(group) => Some(group),
+        },
+    };
+    Ok(Query {
+        user,
+        host,
+        asked,
+        group,
+        target: target(directory, user, asked, group),
+        command: request.command.as_slice(),
+        arguments: request.arguments.as_slice(),
+    })
+}
+
+/// Whom a command is to run as: the user asked for; without one, the invoking user if a group is asked for, else root.
+fn target<'a>(
+    directory: &'a Directory,
+    user: &'a Person,
+    asked: Option<&'a Person>,
+    group: Option<&'a Group>,
+) -> Option<&'a Person>
+    ensures { option_copied result ≡ target_of directory.now user.now (option_copied asked.entry) (option_copied group.entry) }
+{
+    match (asked, group) {
+        (Some(target), _) => Some(target),
+        (None, Some(_)) => Some(user),
+        (None, None) => directory.user(b"root"),
+    }
+}
+
+impl Query<'_> {
+    /// Whether a rule's user list allows the invoking user.
+    pub(crate) fn user_listed(&self, checked: &Checked, users: &[Member]) -> bool
+        requires { IsTrue (resolves kind.User checked.now users.now) }
+        ensures { result ≡ values.user_listed checked.now users.now (question self.now) }
+    {
+        let user = AsUser { user: self.user };
+        value(checked, Kind::User, users, &user).unwrap_or(false)
+    }
+
+    /// Whether a section's host list allows the host.
+    pub(crate) fn host_listed(&self, checked: &Checked, hosts: &[Member]) -> bool
+        requires { IsTrue (resolves kind.Host checked.now hosts.now) }
+        ensures { result ≡ values.host_listed checked.now hosts.now (question self.now) }
+    {
+        let host = AsHost { host: self.host };
+        value(checked, Kind::Host, hosts, &host).unwrap_or(false)
+    }
+
+    /// Whether a runas, or none, lets the command run as the target and group asked for.
+    #[tactic(auto, unfolding(crate::specs::RunasForms::runas_holds))]
+    pub(crate) fn runas_holds(&self, checked: &Checked, runas: Option<&Runas>) -> bool
+        requires { IsTrue (runas_resolves checked.now (option_copied runas)) }
+        ensures { result ≡ form.runas_holds checked.now (question self.now) (option_copied runas.entry) }
+    {
+        match runas {
+            None => self.root_holds(),
+            Some(runas) => self.form_holds(checked, &runas.users, &runas.groups),
+        }
+    }
+
+    #[tactic(auto, unfolding(crate::specs::RunasForms::form_holds))]
+    fn form_holds(
+        &self,
+        checked: &Checked,
+        users: &Option<Seq<Member>>,
+        groups: &Option<Seq<Member>>,
+    ) -> bool
+        requires users { IsTrue (list_resolves checked.now users.now) }
+        requires groups { IsTrue (list_resolves checked.now groups.now) }
+        ensures { result ≡ form.form_holds checked.now (question self.now) users.now groups.now }
+    {
+        match (users, groups) {
+            (Some(users), Some(groups)) => self.users_and_groups_hold(
+                checked,
+                users.as_slice(),
+                groups.as_slice(),
+            ),
+            (Some(users), None) => self.users_hold(checked, users.as_slice()),
+            (None, Some(groups)) => self.groups_hold(checked, groups.as_slice()),
+            (None, None) => self.own_holds(),
+        }
+    }
+
+    /// The form `(users:groups)`.
+    fn users_and_groups_hold(&self, checked: &Checked, users: &[Member], groups: &[Member]) -> bool
+        requires users { IsTrue (resolves kind.Runas checked.now users.now) }
+        requires groups { IsTrue (resolves kind.Runas checked.now groups.now) }
+        ensures { result ≡ form.users_and_groups_hold checked.now (question self.now) users.now groups.now (question self.now).target }
+    {
+        let Some(target) = self.target else {
+            return false;
+        };
+        let allowed = match target_value(checked, users, target) {
+            Some(allowed) => allowed,
+            None => self.group.is_some() && is_same_user(target, self.user),
+        };
+        allowed && group_allowed(checked, target, groups, self.group)
+    }
+
+    /// The form `(users)`.
+    fn users_hold(&self, checked: &Checked, users: &[Member]) -> bool
+        requires { IsTrue (resolves kind.Runas checked.now users.now) }
+        ensures { result ≡ form.users_hold checked.now (question self.now) users.now (question self.now).target }
+    {
+        let Some(target) = self.target else {
+            return false;
+        };
+        target_value(checked, users, target).unwrap_or(false) && has_asked(target, self.group)
+    }
+
+    /// The form `(:groups)`.
+    fn groups_hold(&self, checked: &Checked, groups: &[Member]) -> bool
+        requires { IsTrue (resolves kind.Runas checked.now groups.now) }
+        ensures { result ≡ form.groups_hold checked.now (question self.now) groups.now }
+    {
+        is_own(self.user, self.asked) && group_allowed(checked, self.user, groups, self.group)
+    }
+
+    /// The form `()`.
+    pub(crate) fn own_holds(&self) -> bool
+        ensures { result ≡ form.own_holds (question self.now) }
+    {
+        is_own(self.user, self.asked) && has_asked(self.user, self.group)
+    }
+
+    /// Without a runas.
+    pub(crate) fn root_holds(&self) -> bool
+        ensures { result ≡ form.root_holds (question self.now) (question self.now).target }
+    {
+        let Some(target) = self.target else {
+            return false;
+        };
+        is_root(target) && has_asked(target, self.group)
+    }
+}
+
+fn target_value(checked: &Checked, users: &[Member], target: &Person) -> Option<bool>
+    requires { IsTrue (resolves kind.Runas checked.now users.now) }
+    ensures { result ≡ form.target_value checked.now users.now target.now }
+{
+    let target = AsUser { user: target };
+    value(checked, Kind::Runas, users, &target)
+}
+
+fn group_allowed(
+    checked: &Checked,
+    person: &Person,
+    groups: &[Member],
+    group: Option<&Group>,
+) -> bool
+    requires { IsTrue (resolves kind.Runas checked.now groups.now) }
+    ensures { result ≡ form.group_allowed checked.now groups.now person.now (option_copied group.entry) }
+{
+    let Some(group) = group else {
+        return true;
+    };
+    let subject = AsGroup { group };
+    match value(checked, Kind::Runas, groups, &subject) {
+        Some(allowed) => allowed,
+        None => person.has_gid(group.gid),
+    }
+}
+
+/// Whether the user has the group, where one is asked for.
+pub(crate) fn has_asked(person: &Person, group: Option<&Group>) -> bool
+    ensures { result ≡ form.has_asked person.now (option_copied group.entry) }
+{
+    match group {
+        None => true,
+        Some(group) => person.has_gid(group.gid),
+    }
+}
+
+/// Whether the user asked for, if any, is the invoking user.
+pub(crate) fn is_own(user: &Person, asked: Option<&Person>) -> bool
+    ensures { result ≡ form.is_own user.now (option_copied asked.entry) }
+{
+    match asked {
+        None => true,
+        Some(asked) => is_same_user(asked, user),
+    }
+}
+
+pub(crate) fn is_same_user(one: &Person, other: &Person) -> bool
+    ensures { result ≡ form.is_same_user one.now other.now }
+{
+    one.name.as_slice() == other.name.as_slice()
+}
+
+fn is_root(person: &Person) -> bool
+    ensures { result ≡ bytes_eq person.now.name (codes "root") }
+{
+    person.name.as_slice() == b"root".as_slice()
+}

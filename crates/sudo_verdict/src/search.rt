@@ -1,0 +1,207 @@
+//! The verdict by a search from the last grant back, which stops at the first that applies and takes no memory.
+
+ghost use Rattle.std.specs.Prelude.{◌≡◌, true, false, ◌++◌, ◌∷◌, [], IsTrue, Option, map, length, option_copied};
+ghost use Rattle.std.specs.List.{list_all};
+ghost use Rattle.sudo_policy.specs.Resolving.{section_resolves, command_resolves};
+ghost use Rattle.sudo_verdict.specs.Last.{last_set};
+ghost use Rattle.sudo_verdict.specs.Tagged.{runas_before, tags_before};
+ghost use Rattle.sudo_verdict.specs.RunasForms.{runas_holds};
+ghost use Rattle.sudo_verdict.specs.Queries.{question};
+ghost use Rattle.sudo_verdict.specs.Verdicts.{verdict_of};
+ghost use Rattle.sudo_verdict.specs.Resolved.{body_resolves};
+ghost use Rattle.sudo_verdict.specs.Found.{verdict_from, place_found, places_found, section_found, entry_found};
+
+use crate::decision::{AsCommand, Decision, decide_member};
+use crate::query::{Query, query_of};
+use crate::tags::{tags_before_end, tags_given};
+use sudo_match::Directory;
+use sudo_policy::{Checked, CommandSpec, Entry, EntryBody, Kind, Runas, Section};
+use sudo_rows::{Request, Verdict};
+use sudo_text::Place;
+
+/// The verdict on the request: the first unknown name of the user, the host, the target and the group; else what the last
+/// grant of the policy decides that applies; else `NoMatch`. Takes no memory.
+///
+/// sudoers(5): "Where there are multiple matches, the last match is used". The definition speaks of lists as written out;
+/// that each list of a checked policy has a written form is the law [`sudo_policy::lists_are_written`].
+pub fn verdict(checked: &Checked, directory: &Directory, request: &Request) -> Verdict
+    ensures { result ≡ verdict_of checked.now directory.now request.now }
+{
+    match query_of(directory, request) {
+        Ok(query) => match search(checked, &query) {
+            Some(verdict) => verdict,
+            None => Verdict::NoMatch,
+        },
+        Err(what) => Verdict::Unknown(what),
+    }
+}
+
+fn search(checked: &Checked, query: &Query<'_>) -> Option<Verdict>
+    ensures { result ≡ last_set (map (entry_found checked.now (question query.now)) checked.now.entries) }
+{
+    let policy = checked.policy();
+    let mut left = policy.entries.as_slice();
+    while let Some((entry, rest)) = left.split_last() {
+        if let Some(verdict) = search_entry(checked, query, entry) {
+            return Some(verdict);
+        }
+        left = rest;
+    }
+    None
+}
+
+#[tactic(auto, unfolding(crate::specs::Found::rule_found))]
+fn search_entry(checked: &Checked, query: &Query<'_>, entry: &Entry) -> Option<Verdict>
+    requires { IsTrue (body_resolves checked.now entry.now.body) }
+    ensures { result ≡ entry_found checked.now (question query.now) entry.now }
+{
+    match &entry.body {
+        EntryBody::Rule { users, sections } => {
+            if query.user_listed(checked, users.as_slice()) {
+                search_sections(checked, query, entry.place, sections.as_slice())
+            } else {
+                None
+            }
+        }
+        _ => None,
+    }
+}
+
+fn search_sections(
+    checked: &Checked,
+    query: &Query<'_>,
+    place: Place,
+    sections: &[Section],
+) -> Option<Verdict>
+    requires { IsTrue (list_all (section_resolves checked.now) sections.now) }
+    ensures { result ≡ last_set (map (section_found checked.now (question query.now) place) sections.now) }
+{
+    let mut left = sections;
+    while let Some((section, rest)) = left.split_last() {
+        if let Some(verdict) = search_section(checked, query, place, section) {
+            return Some(verdict);
+        }
+        left = rest;
+    }
+    None
+}
+
+#[tactic(auto, unfolding(crate::specs::Found::section_found))]
+fn search_section(
+    checked: &Checked,
+    query: &Query<'_>,
+    place: Place,
+    section: &Section,
+) -> Option<Verdict>
+    requires { IsTrue (section_resolves checked.now section.now) }
+    ensures { result ≡ section_found checked.now (question query.now) place section.now }
+{
+    if query.host_listed(checked, section.hosts.as_slice()) {
+        search_places(checked, query, place, section.commands.as_slice())
+    } else {
+        None
+    }
+}
+
+fn search_places(
+    checked: &Checked,
+    query: &Query<'_>,
+    place: Place,
+    commands: &[CommandSpec],
+) -> Option<Verdict>
+    requires { IsTrue (list_all (command_resolves checked.now) commands.now) }
+    ensures { result ≡ places_found checked.now (question query.now) place commands.now (length commands.now) }
+{
+    let mut refused = false;
+    let mut left = commands;
+    while let Some((spec, rest)) = left.split_last() {
+        let examined = search_place(checked, query, place, left, spec, refused);
+        if let Some(verdict) = examined.verdict {
+            return Some(verdict);
+        }
+        refused = examined.refused & spec.runas.is_none();
+        left = rest;
+    }
+    None
+}
+
+/// What the search finds at a command.
+#[derive(Clone, Copy)]
+struct Examined {
+    verdict: Option<Verdict>,
+    /// Whether the command's runas is known not to hold. The commands before it that share the runas are then passed over.
+    refused: bool,
+}
+
+/// What the last of these commands says, which is `spec`; `refused` where its runas is known not to hold.
+#[tactic(auto, unfolding(crate::specs::Found::place_found))]
+fn search_place(
+    checked: &Checked,
+    query: &Query<'_>,
+    place: Place,
+    commands: &[CommandSpec],
+    spec: &CommandSpec,
+    refused: bool,
+) -> Examined
+    requires all { IsTrue (list_all (command_resolves checked.now) commands.now) }
+    requires last { IsTrue (command_resolves checked.now spec.now) }
+    requires refused { refused ≡ true → runas_holds checked.now (question query.now) (runas_before commands.now) ≡ false }
+    ensures verdict { result.verdict ≡ place_found checked.now (question query.now) place commands.now spec.now }
+    ensures refused { result.refused ≡ true → runas_holds checked.now (question query.now) (runas_before commands.now) ≡ false }
+{
+    if refused {
+        return Examined {
+            verdict: None,
+            refused,
+        };
+    }
+    let subject = AsCommand {
+        command: query.command,
+        arguments: query.arguments,
+    };
+    let Some(decision) = decide_member(checked, Kind::Cmnd, &spec.command, &subject) else {
+        return Examined {
+            verdict: None,
+            refused,
+        };
+    };
+    if query.runas_holds(checked, runas_before_end(commands)) {
+        Examined {
+            verdict: Some(verdict_at(place, commands, decision)),
+            refused,
+        }
+    } else {
+        Examined {
+            verdict: None,
+            refused: true,
+        }
+    }
+}
+
+/// What a grant of the last of these commands decides.
+pub(crate) fn verdict_at(place: Place, commands: &[CommandSpec], decision: Decision) -> Verdict
+    ensures { result ≡ verdict_from place (tags_before commands.now) decision }
+{
+    if decision.negated {
+        Verdict::Deny { place }
+    } else {
+        Verdict::Allow {
+            place,
+            tags: tags_given(tags_before_end(commands), decision.all),
+        }
+    }
+}
+
+/// The runas that is named last among these commands, found from the last command back.
+pub(crate) fn runas_before_end(commands: &[CommandSpec]) -> Option<&Runas>
+    ensures { option_copied result ≡ runas_before commands.now }
+{
+    let mut left = commands;
+    while let Some((spec, rest)) = left.split_last() {
+        if let Some(runas) = &spec.runas {
+            return Some(runas);
+        }
+        left = rest;
+    }
+    None
+}
