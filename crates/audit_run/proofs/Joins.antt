@@ -1,0 +1,78 @@
+-- What a pass has when the passes of threads are joined to it.
+use Rattle.std.proofs.Common.{◌≡◌, ℕ, ◌+◌, List, [], ◌∷◌, ◌++◌, flat_map, map, Option, sym, ap, ◌∙◌, arith, append_assoc, append-nil}
+use Rattle.std.proofs.lemmas.List.{map-append}
+use Rattle.std.proofs.lemmas.List.Concat.{flat_map-append}
+use Rattle.audit_device.specs.Feeding.{Ahead}
+use Rattle.audit_files.specs.Files.{States}
+use Rattle.audit_files.specs.Requests.{sent}
+use Rattle.audit_files.specs.declared.fault.FileFault.{FileFault}
+use Rattle.audit_handoff.specs.declared.message.Names.{Names}
+use Rattle.audit_handoff.specs.declared.message.Job.{Job}
+use Rattle.audit_handoff.specs.Names.{answer}
+use Rattle.audit_handoff.specs.Passes.{HandoffId, PassView, with_joined}
+use Rattle.audit_outcome.specs.Parts.{Stated, fault_in, put_by_sources, put_of}
+use Rattle.audit_run.specs.Passes.{fresh, fresh_with}
+use Rattle.audit_run.specs.Work.{AreParts, IsPart, worked, joined_workers, joined_sources, putting_jobs}
+use Rattle.sudo_match.specs.Known.{Known}
+use Rattle.sudo_tree.specs.declared.policy.Policy.{Policy}
+
+pub one_worker : (names : Names) (p : PassView) (handoff : HandoffId) (policy : Policy) (directory : Known) (n : ℕ) (old new : List Job)
+    → with_joined (joined_workers names p n old) (worked names (fresh handoff policy directory) new) ≡ joined_workers names p (n + 1) (old ++ new)
+one_worker names p handoff policy directory n old new =
+    let heavier : (p.weight + n) + 1 ≡ p.weight + (n + 1) = omega arith in
+    let put : (p.outcomes_put ++ map (answer names) old) ++ map (answer names) new ≡ p.outcomes_put ++ map (answer names) (old ++ new) =
+    append_assoc p.outcomes_put (map (answer names) old) (map (answer names) new) ∙ ap (λ l. p.outcomes_put ++ l) (sym (map-append (answer names) old new)) in
+    λ i. record {
+      handoff = p.handoff;
+      names = p.names;
+      weight = heavier i;
+      jobs_put = append-nil p.jobs_put i;
+      jobs_taken = append_assoc p.jobs_taken old new i;
+      outcomes_put = put i;
+      outcomes_taken = append-nil p.outcomes_taken i;
+    }
+
+pub one_source : (p : PassView) (handoff : HandoffId) (names : Names) (n : ℕ) (old new : List Job)
+    → with_joined (joined_sources p n old) (putting_jobs (fresh_with handoff names) new) ≡ joined_sources p (n + 1) (old ++ new)
+one_source p handoff names n old new =
+    let heavier : (p.weight + n) + 1 ≡ p.weight + (n + 1) = omega arith in
+    λ i. record {
+      handoff = p.handoff;
+      names = p.names;
+      weight = heavier i;
+      jobs_put = append_assoc p.jobs_put old new i;
+      jobs_taken = append-nil p.jobs_taken i;
+      outcomes_put = append-nil p.outcomes_put i;
+      outcomes_taken = append-nil p.outcomes_taken i;
+    }
+
+-- what the sources tell whose threads run, and those still to be started
+pub one_started : {X Y T : Type 0} (told : X → T) (tells : Y → T) (hs after : List X) (h : X) (y : Y) (ys rest : List Y) (all : List T)
+    → after ≡ hs ++ h ∷ [] → told h ≡ tells y → ys ≡ y ∷ rest → map told hs ++ map tells ys ≡ all → map told after ++ map tells rest ≡ all
+one_started told tells hs after h y ys rest all pushed is step was =
+    ap (λ l. map told l ++ map tells rest) pushed
+    ∙ (ap (λ l. l ++ map tells rest) (map-append told hs (h ∷ []) ∙ ap (λ x. map told hs ++ x ∷ []) is)
+    ∙ (append_assoc (map told hs) (tells y ∷ []) (map tells rest) ∙ (ap (λ l. map told hs ++ map tells l) (sym step) ∙ was)))
+
+-- one more part
+pub one_part : (told : List (ℕ × Option Ahead)) (parts : List (ℕ × Stated)) (t : ℕ × Option Ahead) (part : ℕ × Stated) → AreParts told parts → IsPart t part → AreParts (told ++ t ∷ []) (parts ++ part ∷ [])
+one_part [] [] t part old new = (new, old)
+one_part [] (p ∷ ps) t part old new = absurd old
+one_part (x ∷ xs) [] t part old new = absurd old
+one_part (x ∷ xs) (p ∷ ps) t part old new = (old.0, one_part xs ps t part old.1 new)
+
+-- the threads that were joined, and those still to be joined
+pub told_more : {X T : Type 0} (told : X → T) (done all : List T) (h : X) (items rest : List X) → items ≡ h ∷ rest → done ++ map told items ≡ all → (done ++ told h ∷ []) ++ map told rest ≡ all
+told_more told done all h items rest step was = append_assoc done (told h ∷ []) (map told rest) ∙ (ap (λ l. done ++ map told l) (sym step) ∙ was)
+
+pub put_more : (parts : List (ℕ × Stated)) (part : ℕ × Stated) → put_by_sources (parts ++ part ∷ []) ≡ put_by_sources parts ++ put_of part.0 part.1
+put_more parts part = flat_map-append (λ (x : ℕ × Stated). put_of x.0 x.1) parts (part ∷ []) ∙ ap (λ l. put_by_sources parts ++ l) (append-nil (put_of part.0 part.1))
+
+pub faults_more : (parts : List (ℕ × Stated)) (part : ℕ × Stated) (faults after : List (Option FileFault)) (fault : Option FileFault)
+    → after ≡ faults ++ fault ∷ [] → faults ≡ map (λ x. fault_in x.1) parts → fault ≡ fault_in part.1 → after ≡ map (λ x. fault_in x.1) (parts ++ part ∷ [])
+faults_more parts part faults after fault pushed was is = pushed ∙ ((λ i. was i ++ is i ∷ []) ∙ sym (map-append (λ (x : ℕ × Stated). fault_in x.1) parts (part ∷ [])))
+
+pub joined_none : (p : PassView) → p ≡ joined_sources p 0 []
+joined_none p =
+    let same : p.weight ≡ p.weight + 0 = omega arith in
+    λ i. record p { weight = same i; jobs_put = sym (append-nil p.jobs_put) i }

@@ -1,0 +1,5 @@
+pub mod Gains
+pub mod Joins
+pub mod Permuted
+pub mod Rosters
+pub mod Settled

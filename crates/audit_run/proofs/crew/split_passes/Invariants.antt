@@ -1,0 +1,10 @@
+use Rattle.std.specs.Prelude.{◌≡◌, All, vec_len}
+use Rattle.audit_handoff.specs.Passes.{split_off}
+use Rattle.audit_run.specs.Passes.{lighter}
+use Rattle.audit_run.proofs.crew.split_passes.Given as goal
+
+abbrev pub invariant-loop-place : goal.invariant-loop-place
+invariant-loop-place g l =
+    (l.pass ≡ lighter l.fn.pass l._place)
+    × (vec_len l.passes ≡ l._place)
+    × All (λ p. p ≡ split_off l.fn.pass) l.passes.items

@@ -1,0 +1,84 @@
+-- What an audit answers, and what it leaves.
+use Rattle.std.specs.Prelude.{◌≡◌, ℕ, ◌<◌, ◌≤◌, ◌++◌, ⊤, List, map, length, slice_get, Option, Some, None, Result, Ok, Err, IsPermutation}
+use Rattle.audit_collect.specs.Roster.{IsRoster, RefusesRoster}
+use Rattle.audit_collect.specs.declared.fault.CollectFault.TheVariants as collect
+use Rattle.audit_collect.specs.declared.fault.RosterFault.TheVariants as roster_fault
+use Rattle.audit_collect.specs.declared.report.Report.{Report}
+use Rattle.audit_device.specs.Feeding.{Ahead}
+use Rattle.audit_files.specs.declared.fault.FileFault.{FileFault}
+use Rattle.audit_files.specs.declared.fault.FileFault.TheVariants as file
+use Rattle.audit_handoff.specs.declared.message.Names.{Names}
+use Rattle.audit_handoff.specs.declared.message.Outcome.{Outcome}
+use Rattle.audit_handoff.specs.Names.{answer}
+use Rattle.audit_handoff.specs.Passes.{PassView, IsEmpty, IsWhole}
+use Rattle.audit_run.specs.declared.fault.AuditFault.{AuditFault}
+use Rattle.audit_run.specs.declared.fault.AuditFault.TheVariants.{Sender, Collect, NoThread, Memory, TooManyParts}
+use Rattle.audit_outcome.specs.Outcome.{AreWhole, HaveRefused, IsReport, Lack}
+use Rattle.audit_outcome.specs.Parts.{AreRead, Stated, faults_of, owned, run_jobs}
+use Rattle.audit_outcome.specs.Roster.{part_at, roster}
+
+-- the most sources that an audit may have
+abbrev pub most_parts : ℕ
+most_parts = 256
+
+-- no source is refused
+abbrev pub NoneRefused : List (Option FileFault) → Type 0
+NoneRefused faults = (place : ℕ) (fault : FileFault) → slice_get faults place ≡ Some (Some fault) → ⊥
+
+-- the first source that is refused
+pub record IsFirstFault (faults : List (Option FileFault)) (place : ℕ) (fault : FileFault) : Type 0 where
+  pub there : slice_get faults place ≡ Some (Some fault)
+  pub earlier : (i : ℕ) → i < place → slice_get faults i ≡ Some None
+
+-- the fault is the file's own, and no want of memory
+abbrev pub IsOfFile : FileFault → Type 0
+IsOfFile file.Header = ⊤
+IsOfFile (file.BadRow row) = ⊤
+IsOfFile (file.OutOfOrder row) = ⊤
+IsOfFile (file.RowAfterClose row) = ⊤
+IsOfFile file.TooMany = ⊤
+IsOfFile file.Read = ⊤
+IsOfFile file.Memory = ⊥
+
+-- What an audit of these sources answers, by what they state. The report, where each sender is whole over all its sources; else the
+-- first source, in their order, that is refused; else what a collector refuses or lacks. Of `NoThread` and `Memory` nothing is said.
+abbrev pub IsOutcome : Names → List (List ℕ) → List Stated → Result Report AuditFault → Type 0
+IsOutcome names sources states (Ok report) =
+    NoneRefused (faults_of states) × AreWhole (length (roster sources)) (owned sources states) × IsReport names (roster sources) (owned sources states) report
+IsOutcome names sources states (Err (Sender name part fault)) =
+    (place : ℕ) × IsFirstFault (faults_of states) place fault × IsOfFile fault × (slice_get sources place ≡ Some name) × (part ≡ part_at sources place name)
+IsOutcome names sources states (Err (Collect (collect.Roster why))) = ⊥
+IsOutcome names sources states (Err (Collect (collect.Refused why))) = NoneRefused (faults_of states) × HaveRefused (owned sources states) why
+IsOutcome names sources states (Err (Collect (collect.Unfinished what))) = NoneRefused (faults_of states) × Lack (length (roster sources)) (owned sources states) what
+IsOutcome names sources states (Err NoThread) = ⊤
+IsOutcome names sources states (Err Memory) = ⊤
+IsOutcome names sources states (Err TooManyParts) = ⊥
+
+-- The threads ran on sources of these names and with these bytes ahead, and the answer is the outcome of what they state. The
+-- pass is whole again with nothing left, and has gained the answers of all jobs, in some order.
+pub record Ran (names : Names) (sources : List (List ℕ)) (told : List (Option Ahead)) (workers : ℕ) (old new : PassView) (result : Result Report AuditFault) : Type 0 where
+  pub few : length sources ≤ most_parts
+  pub is_roster : IsRoster (roster sources)
+  pub states : List Stated
+  pub read : AreRead told states
+  pub outcomes : List Outcome
+  pub gained : new.outcomes_taken ≡ old.outcomes_taken ++ outcomes
+  pub all : IsPermutation (map (answer names) (run_jobs workers (owned sources states))) outcomes
+  pub outcome : IsOutcome names sources states result
+  pub whole : IsWhole new
+  pub same_handoff : new.handoff ≡ old.handoff
+  pub same_names : new.names ≡ old.names
+  pub empty : IsEmpty new
+
+-- Faults of the roster come before any thread starts, and leave the pass as it was. After `NoThread` and `Memory` nothing is said.
+abbrev pub Audited : Names → List (List ℕ) → List (Option Ahead) → ℕ → PassView → PassView → Result Report AuditFault → Type 0
+Audited names sources told workers old new (Ok report) = Ran names sources told workers old new (Ok report)
+Audited names sources told workers old new (Err (Sender name part fault)) = Ran names sources told workers old new (Err (Sender name part fault))
+Audited names sources told workers old new (Err (Collect (collect.Roster roster_fault.Memory))) = ⊥
+Audited names sources told workers old new (Err (Collect (collect.Roster roster_fault.TooManySenders))) = (length sources ≤ most_parts) × RefusesRoster (roster sources) roster_fault.TooManySenders × (new ≡ old)
+Audited names sources told workers old new (Err (Collect (collect.Roster (roster_fault.SenderTwice name)))) = (length sources ≤ most_parts) × RefusesRoster (roster sources) (roster_fault.SenderTwice name) × (new ≡ old)
+Audited names sources told workers old new (Err (Collect (collect.Refused why))) = Ran names sources told workers old new (Err (Collect (collect.Refused why)))
+Audited names sources told workers old new (Err (Collect (collect.Unfinished what))) = Ran names sources told workers old new (Err (Collect (collect.Unfinished what)))
+Audited names sources told workers old new (Err NoThread) = ⊤
+Audited names sources told workers old new (Err Memory) = ⊤
+Audited names sources told workers old new (Err TooManyParts) = (most_parts < length sources) × (new ≡ old)

@@ -1,0 +1,44 @@
+-- What a collector answers to what was gathered. Only the bodies' proofs need these words.
+use Rattle.std.specs.Prelude.{◌≡◌, ℕ, ⊤, List, slice_get, Option, Some, Result, Ok, Err}
+use Rattle.audit_collect.specs.Finished.{AllFinished, IsFirstMissing, report_of}
+use Rattle.audit_collect.specs.Held.{Held}
+use Rattle.audit_collect.specs.Roster.{RefusesRoster}
+use Rattle.audit_collect.specs.declared.fault.CollectFault.TheVariants as collect
+use Rattle.audit_collect.specs.declared.fault.Refused.{Refused}
+use Rattle.audit_collect.specs.declared.fault.Refused.TheVariants as refused
+use Rattle.audit_collect.specs.declared.fault.RosterFault.TheVariants as roster_fault
+use Rattle.audit_collect.specs.declared.report.Report.{Report}
+use Rattle.audit_files.specs.declared.fault.FileFault.{FileFault}
+use Rattle.audit_outcome.specs.Roster.{part_at}
+use Rattle.audit_run.specs.declared.fault.AuditFault.{AuditFault}
+use Rattle.audit_run.specs.declared.fault.AuditFault.TheVariants.{Sender, Collect, NoThread, Memory, TooManyParts}
+use Rattle.audit_run.specs.Audited.{IsFirstFault, IsOfFile, NoneRefused}
+
+-- why there is no collector for the senders
+abbrev pub RefusesSenders : List (List ℕ) → AuditFault → Type 0
+RefusesSenders senders (Collect (collect.Roster roster_fault.TooManySenders)) = RefusesRoster senders roster_fault.TooManySenders
+RefusesSenders senders (Collect (collect.Roster (roster_fault.SenderTwice name))) = RefusesRoster senders (roster_fault.SenderTwice name)
+RefusesSenders senders (Collect (collect.Roster roster_fault.Memory)) = ⊥
+RefusesSenders senders (Collect (collect.Refused why)) = ⊥
+RefusesSenders senders (Collect (collect.Unfinished what)) = ⊥
+RefusesSenders senders (Sender name part fault) = ⊥
+RefusesSenders senders NoThread = ⊥
+RefusesSenders senders Memory = ⊤
+RefusesSenders senders TooManyParts = ⊥
+
+-- The answer where the threads ran. `faults` says why each source is refused, if it is, and `comes` what a collector holds
+-- after all arrivals, or why it refuses the first one that it refuses. A refused source comes before all else.
+abbrev pub Answers : List (List ℕ) → List (Option FileFault) → Result (List Held) Refused → Result Report AuditFault → Type 0
+Answers names faults comes (Ok report) = NoneRefused faults × ((held : List Held) × (comes ≡ Ok held) × AllFinished held × (report ≡ report_of held))
+Answers names faults comes (Err (Sender name part fault)) = (place : ℕ) × IsFirstFault faults place fault × IsOfFile fault × (slice_get names place ≡ Some name) × (part ≡ part_at names place name)
+Answers names faults comes (Err (Collect (collect.Roster why))) = ⊥
+Answers names faults comes (Err (Collect (collect.Refused refused.Memory))) = ⊥
+Answers names faults comes (Err (Collect (collect.Refused (refused.Stranger sender)))) = NoneRefused faults × (comes ≡ Err (refused.Stranger sender))
+Answers names faults comes (Err (Collect (collect.Refused (refused.ZeroNumber sender)))) = NoneRefused faults × (comes ≡ Err (refused.ZeroNumber sender))
+Answers names faults comes (Err (Collect (collect.Refused (refused.Double sender number)))) = NoneRefused faults × (comes ≡ Err (refused.Double sender number))
+Answers names faults comes (Err (Collect (collect.Refused (refused.ClosedTwice sender)))) = NoneRefused faults × (comes ≡ Err (refused.ClosedTwice sender))
+Answers names faults comes (Err (Collect (collect.Refused (refused.PastClose sender number)))) = NoneRefused faults × (comes ≡ Err (refused.PastClose sender number))
+Answers names faults comes (Err (Collect (collect.Unfinished what))) = NoneRefused faults × ((held : List Held) × (comes ≡ Ok held) × IsFirstMissing held what)
+Answers names faults comes (Err NoThread) = ⊤
+Answers names faults comes (Err Memory) = ⊤
+Answers names faults comes (Err TooManyParts) = ⊥

@@ -1,0 +1,43 @@
+-- What the caller's thread does: it takes outcomes and offers each arrival to one collector, up to the first refusal.
+use Rattle.std.specs.Prelude.{◌≡◌, ◌⊎◌, List, [], ◌∷◌, ◌++◌, map, Option, Some, None, Result, Err}
+use Rattle.audit_collect.specs.Held.{Held, after}
+use Rattle.audit_collect.specs.declared.arrival.Arrival.{Arrival}
+use Rattle.audit_collect.specs.declared.fault.Refused.{Refused}
+use Rattle.audit_collect.specs.declared.fault.Refused.TheVariants.{Memory}
+use Rattle.audit_handoff.specs.declared.message.Job.{Job}
+use Rattle.audit_handoff.specs.declared.message.Names.{Names}
+use Rattle.audit_handoff.specs.declared.message.Outcome.{Outcome}
+use Rattle.audit_handoff.specs.declared.message.Outcome.TheVariants.{Arrived, End, Stopped}
+use Rattle.audit_handoff.specs.Names.{answer}
+use Rattle.audit_handoff.specs.Passes.{PassView}
+use Rattle.audit_run.specs.declared.gather.Gathering.{Gathering}
+use Rattle.audit_outcome.specs.Arrivals.{arrivals_of}
+use Rattle.audit_run.specs.Passes.{gaining}
+
+-- Only the bodies' proofs need the words that follow.
+
+-- what comes of a collector that holds this, or has refused, when these arrivals follow
+abbrev pub comes_of : List Held → Option Refused → List Arrival → Result (List Held) Refused
+comes_of held None rest = after held rest
+comes_of held (Some why) rest = Err why
+
+abbrev pub IsOutOfMemory : Gathering → Type 0
+IsOutOfMemory g = g.refused ≡ Some Memory
+
+-- h has taken these outcomes after g, or memory ran out
+pub record Gathers (g : Gathering) (outcomes : List Outcome) (h : Gathering) : Type 0 where
+  pub stuck : IsOutOfMemory g → IsOutOfMemory h
+  pub same : IsOutOfMemory h ⊎ ((rest : List Arrival) → comes_of g.collector g.refused (arrivals_of outcomes ++ rest) ≡ comes_of h.collector h.refused rest)
+
+-- the pass has put these jobs, has taken outcomes, and these were gathered
+pub record Conducts (p : PassView) (g : Gathering) (jobs : List Job) (q : PassView) (h : Gathering) : Type 0 where
+  pub outcomes : List Outcome
+  pub pass : q ≡ gaining p jobs [] [] outcomes
+  pub gathered : Gathers g outcomes h
+
+-- the pass has taken jobs and has put what answers them, has taken outcomes, and these were gathered
+pub record Drains (names : Names) (p : PassView) (g : Gathering) (q : PassView) (h : Gathering) : Type 0 where
+  pub jobs : List Job
+  pub outcomes : List Outcome
+  pub pass : q ≡ gaining p [] jobs (map (answer names) jobs) outcomes
+  pub gathered : Gathers g outcomes h

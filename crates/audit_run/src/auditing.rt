@@ -1,0 +1,242 @@
+//! A whole audit: starts the threads, gathers what they answer, and joins them.
+ghost use Rattle.std.specs.Prelude.{◌≡◌, ◌+◌, ◌<◌, ◌≤◌, [], Ok, Err, ℕ, List, IfOk, IfErr, OnOk, None, Some, Option, MatchOption, map, slice_get, vec_len, vec_capacity, length, IsTrue, IfSome, IfNone, ◌↔◌};
+ghost use Rattle.std.specs.List.{zip};
+ghost use Rattle.audit_files.specs.declared.fault.FileFault.TheVariants.{Memory};
+ghost use Rattle.audit_handoff.specs.Names.{names_of};
+ghost use Rattle.audit_handoff.specs.Passes.{IsEmpty, IsWhole};
+ghost use Rattle.audit_run.specs.Audited.{Audited, IsFirstFault, IsOfFile, NoneRefused, most_parts};
+ghost use Rattle.audit_run.specs.Concluded.{Answers};
+ghost use Rattle.audit_run.specs.Gathered.{comes_of};
+ghost use Rattle.audit_outcome.specs.Roster.{part_at};
+ghost use Rattle.audit_run.specs.Run.{HasRun, IsReady};
+ghost use Rattle.audit_run.specs.Work.{told_by};
+ghost use Rattle.audit_run.specs.declared.fault.AuditFault.TheVariants.{TooManyParts};
+
+use crate::conduct::{conduct, drain};
+use crate::crew::{Crew, Ended, muster};
+use crate::fault::AuditFault;
+use crate::gate::Gate;
+use crate::gather::Gathering;
+use crate::readers::{ReaderHandle, join_readers, start_readers};
+use crate::roster::{Entered, enter};
+use crate::source::{Part, Source};
+use crate::workers::{join_workers, start_workers};
+use audit_collect::{CollectFault, Refused, Report};
+use audit_device::Feed;
+use audit_files::FileFault;
+use audit_handoff::{Handoff, Pass};
+use std::alloc::Global;
+use std::sync::Wait;
+use std::thread;
+use std::thread::{Scope, Threads};
+use sudo_match::Directory;
+use sudo_policy::Checked;
+use sudo_text::Seq;
+
+/// The most sources that an audit may have.
+pub const MOST_PARTS: usize = 256;
+
+// Starts the workers and a thread for each source, gathers until all have ended, and joins them.
+fn run<'s, 'e: 's, R: Threads + Wait + Sync, F: Feed + Drop + Send + 'e, G: Gate + Sync>(
+    alloc: Global,
+    rt: &'e R,
+    scope: &Scope<'s, &'e ()>,
+    policy: &'e Checked,
+    directory: &'e Directory,
+    handoff: &'e Handoff,
+    gate: &'e G,
+    crew: Crew,
+    parts: Vec<Part<F>>,
+    mut readers: Vec<ReaderHandle<F>>,
+) -> Ended
+    requires ready { IsReady handoff.now policy.now directory.now (vec_len parts) crew }
+    requires room { (vec_len readers ≡ 0) × (vec_len parts ≤ vec_capacity readers) }
+    ensures { IsTrue result.all_started → HasRun (names_of policy.now directory.now) (map (λ p. told_by p.owner (F.ahead p.reader)) parts.items) (vec_len parts) crew result }
+{
+    let Crew {
+        mut pass,
+        mut gathering,
+        source_passes,
+        worker_passes,
+        mut workers,
+        mut faults,
+    } = crew;
+    let all_workers = start_workers(
+        rt,
+        scope,
+        handoff,
+        worker_passes,
+        policy,
+        directory,
+        gate,
+        &mut workers,
+    );
+    let all_started = all_workers
+        && start_readers(alloc, rt, scope, handoff, source_passes, parts, &mut readers);
+    conduct(
+        rt,
+        handoff,
+        &mut pass,
+        &mut gathering,
+        readers.len(),
+        workers.len(),
+    );
+    join_readers(rt, handoff, &mut pass, readers, &mut faults);
+    join_workers(rt, handoff, policy, directory, &mut pass, workers);
+    Ended {
+        pass,
+        gathering,
+        faults,
+        all_started,
+    }
+}
+
+// Runs the crew in a scope of its own.
+fn run_scoped<R: Threads + Wait + Sync, F: Feed + Drop + Send, G: Gate + Sync>(
+    alloc: Global,
+    rt: &R,
+    policy: &Checked,
+    directory: &Directory,
+    handoff: &Handoff,
+    gate: &G,
+    crew: Crew,
+    parts: Vec<Part<F>>,
+    readers: Vec<ReaderHandle<F>>,
+) -> Ended
+    requires ready { IsReady handoff.now policy.now directory.now (vec_len parts) crew }
+    requires room { (vec_len readers ≡ 0) × (vec_len parts ≤ vec_capacity readers) }
+    ensures { IsTrue result.all_started → HasRun (names_of policy.now directory.now) (map (λ p. told_by p.owner (F.ahead p.reader)) parts.items) (vec_len parts) crew result }
+{
+    thread::scope(
+        thread::scope_env(),
+        rt,
+        move |scope| -> Ended
+            requires ready { IsReady handoff.now policy.now directory.now (vec_len parts) crew }
+            requires room { (vec_len readers ≡ 0) × (vec_len parts ≤ vec_capacity readers) }
+            ensures { IsTrue result.all_started → HasRun (names_of policy.entry.now directory.entry.now) (map (λ p. told_by p.owner (F.ahead p.reader)) parts.items) (vec_len parts) crew result }
+        {
+            run(
+                alloc, rt, scope, policy, directory, handoff, gate, crew, parts, readers,
+            )
+        },
+    )
+}
+
+// Whether memory was refused to a source.
+fn wants_memory(faults: &[Option<FileFault>]) -> bool
+    ensures { (place : ℕ) → slice_get faults.now place ≡ Some (Some Memory) → IsTrue result }
+{
+    for place in 0..faults.len() {
+        if matches!(faults[place], Some(FileFault::Memory)) {
+            return true;
+        }
+    }
+    false
+}
+
+// The first source that is refused.
+fn first_fault(faults: &[Option<FileFault>]) -> Option<(usize, FileFault)>
+    ensures { MatchOption result (NoneRefused faults.now) (λ first. IsFirstFault faults.now first.0 first.1) }
+{
+    for place in 0..faults.len() {
+        if let Some(fault) = faults[place] {
+            return Some((place, fault));
+        }
+    }
+    None
+}
+
+// The part's number among the sources of its name, from 1.
+fn part_number(names: &[Seq<u8>], place: usize, name: &[u8]) -> u32
+    requires { (place ≤ length names.now) × (length names.now ≤ 256) }
+    ensures { result ≡ part_at names.now place name.now }
+{
+    let mut part = 1;
+    for earlier in 0..place {
+        if names[earlier].as_slice() == name {
+            part += 1;
+        }
+    }
+    part
+}
+
+// The report of what was gathered, or why there is none.
+fn conclude(
+    names: Vec<Seq<u8>>,
+    faults: &[Option<FileFault>],
+    gathering: Gathering,
+) -> Result<Report, AuditFault>
+    requires { (length faults.now ≡ vec_len names) × (vec_len names ≤ 256) }
+    ensures { Answers names.items faults.now (comes_of gathering.collector gathering.refused []) result }
+{
+    let mut names = names;
+    if wants_memory(faults) {
+        return Err(AuditFault::Memory);
+    }
+    if let Some((place, fault)) = first_fault(faults) {
+        let part = part_number(&names, place, names[place].as_slice());
+        let name = names.swap_remove(place);
+        return Err(AuditFault::Sender { name, part, fault });
+    }
+    let Gathering { collector, refused } = gathering;
+    match refused {
+        Some(Refused::Memory) => Err(AuditFault::Memory),
+        Some(refused) => Err(AuditFault::Collect(CollectFault::Refused(refused))),
+        None => match collector.finish() {
+            Ok(report) => Ok(report),
+            Err((_, unfinished)) => Err(AuditFault::Collect(CollectFault::Unfinished(unfinished))),
+        },
+    }
+}
+
+/// Audits the requests of the sources by one thread for each source and by these workers, 1 to 16. Sources of one name are the
+/// parts of one sender.
+///
+/// The report has a row for each sender, in the order in which their names first appear, with the verdict of the policy for
+/// each request, in the order of their numbers. Else answers `TooManyParts` for more than 256 sources, a roster fault for
+/// more than 64 senders, both before any thread starts and with the pass as it was; `NoThread` where a thread could not be
+/// started; `Memory` where memory was refused; `Sender` with the first source, in their order, that is refused; or what the
+/// collector refuses or lacks. The pass is then whole again with nothing left, but after `NoThread` and `Memory`, of which
+/// nothing is said.
+pub fn audit<R: Threads + Wait + Sync, F: Feed + Drop + Send, G: Gate + Sync>(
+    alloc: Global,
+    rt: &R,
+    policy: &Checked,
+    directory: &Directory,
+    handoff: &Handoff,
+    pass: &mut Pass,
+    sources: Vec<Source<F>>,
+    workers: u32,
+    gate: &G,
+) -> Result<Report, AuditFault>
+    requires pass { IsWhole pass.old × IsEmpty pass.old × (pass.old.handoff ≡ handoff.now) × (pass.old.names ≡ names_of policy.now directory.now) }
+    requires workers { (1 ≤ workers) × (workers ≤ 16) }
+    ensures parts { (result ≡ Err TooManyParts) ↔ (most_parts < vec_len sources) }
+    ensures outcome { Audited (names_of policy.now directory.now) (map (λ s. s.name) sources.items) (map (λ s. F.ahead s.reader) sources.items) workers pass.old pass.new result }
+{
+    if sources.len() > MOST_PARTS {
+        return Err(AuditFault::TooManyParts);
+    }
+    let Entered {
+        names,
+        parts,
+        collector,
+    } = match enter(alloc, sources) {
+        Ok(entered) => entered,
+        Err(fault) => return Err(fault),
+    };
+    let handles = Vec::with_capacity(alloc, parts.len())?;
+    let crew = muster(alloc, rt, policy, directory, handoff, pass, collector, parts.len(), workers as usize)?;
+    let Ended {
+        pass: mine,
+        mut gathering,
+        faults,
+        all_started,
+    } = run_scoped(alloc, rt, policy, directory, handoff, gate, crew, parts, handles);
+    if !all_started {
+        return Err(AuditFault::NoThread);
+    }
+    pass.join(rt, handoff, mine);
+    drain(rt, handoff, pass, &mut gathering, policy, directory, gate);
+    conclude(names, &faults, gathering)
+}

@@ -1,0 +1,91 @@
+//! What the threads of a run need, made before any of them starts.
+ghost use Rattle.std.specs.Prelude.{◌≡◌, ◌+◌, ◌<◌, None, All, IfOk, vec_len};
+ghost use Rattle.audit_handoff.specs.Names.{names_of};
+ghost use Rattle.audit_handoff.specs.Passes.{split_off};
+ghost use Rattle.audit_run.specs.Passes.{lighter};
+ghost use Rattle.audit_run.specs.Run.{IsReady};
+
+use crate::gather::Gathering;
+use crate::workers::WorkerHandle;
+use audit_collect::Collector;
+use audit_files::FileFault;
+use audit_handoff::{Handoff, Pass};
+use std::alloc::{AllocError, Global};
+use std::sync::Wait;
+use sudo_match::Directory;
+use sudo_policy::Checked;
+
+/// What a run begins with: a pass for the caller and one for each thread, and room for what the threads leave.
+#[derive(Drop)]
+pub struct Crew {
+    pub pass: Pass,
+    pub gathering: Gathering,
+    pub source_passes: Vec<Pass>,
+    pub worker_passes: Vec<Pass>,
+    pub workers: Vec<WorkerHandle>,
+    pub faults: Vec<Option<FileFault>>,
+}
+
+/// What a run ends with. All threads that were started are joined.
+#[derive(Drop)]
+pub struct Ended {
+    pub pass: Pass,
+    pub gathering: Gathering,
+    pub faults: Vec<Option<FileFault>>,
+    pub all_started: bool,
+}
+
+// Splits off a pass for each of so many threads.
+fn split_passes<R: Wait>(
+    alloc: Global,
+    rt: &R,
+    handoff: &Handoff,
+    pass: &mut Pass,
+    count: usize,
+) -> Result<Vec<Pass>, AllocError>
+    requires pass { pass.old.handoff ≡ handoff.now }
+    requires weight { count < pass.old.weight }
+    ensures { IfOk result (λ v. (vec_len v ≡ count) × All (λ p. p ≡ split_off pass.old) v.items × (pass.new ≡ lighter pass.old count)) }
+{
+    let mut passes = Vec::with_capacity(alloc, count)?;
+    for _place in 0..count {
+        passes.push(pass.split(rt, handoff))?;
+    }
+    Ok(passes)
+}
+
+/// Splits off the passes of a run for so many sources and workers, and makes room for what their threads leave.
+pub fn muster<R: Wait>(
+    alloc: Global,
+    rt: &R,
+    policy: &Checked,
+    directory: &Directory,
+    handoff: &Handoff,
+    pass: &mut Pass,
+    collector: Collector,
+    sources: usize,
+    workers: usize,
+) -> Result<Crew, AllocError>
+    requires pass { (pass.old.handoff ≡ handoff.now) × (pass.old.names ≡ names_of policy.now directory.now) }
+    requires weight { (sources + workers) + 1 < pass.old.weight }
+    ensures ready { IfOk result (λ crew. IsReady handoff.now policy.now directory.now sources crew) }
+    ensures workers { IfOk result (λ crew. vec_len crew.worker_passes ≡ workers) }
+    ensures gathering { IfOk result (λ crew. (crew.gathering.collector ≡ collector) × (crew.gathering.refused ≡ None)) }
+    ensures passes { IfOk result (λ crew. (crew.pass ≡ split_off pass.old) × (pass.new ≡ lighter pass.old ((sources + workers) + 1))) }
+{
+    let source_passes = split_passes(alloc, rt, handoff, pass, sources)?;
+    let worker_passes = split_passes(alloc, rt, handoff, pass, workers)?;
+    let workers = Vec::with_capacity(alloc, workers)?;
+    let faults = Vec::with_capacity(alloc, sources)?;
+    Ok(Crew {
+        pass: pass.split(rt, handoff),
+        gathering: Gathering {
+            collector,
+            refused: None,
+        },
+        source_passes,
+        worker_passes,
+        workers,
+        faults,
+    })
+}

@@ -1,0 +1,24 @@
+//! Audits requests against a policy with several threads: one for each source of requests, and workers that judge them.
+#![tactic(auto)]
+
+mod auditing;
+mod conduct;
+mod crew;
+mod fault;
+mod gate;
+mod gather;
+mod readers;
+mod roster;
+mod sender;
+mod source;
+mod worker;
+mod workers;
+
+pub use auditing::audit;
+pub use audit_collect::{Answer, Arrival, CollectFault, Refused, Report, RosterFault, SenderReport, Unfinished};
+pub use audit_device::{Device, Failed, Feed, Script};
+pub use audit_files::{FileFault, Requests, read_requests};
+pub use audit_handoff::{Handoff, Job, Outcome, Pass};
+pub use fault::AuditFault;
+pub use gate::{Gate, Open};
+pub use source::Source;

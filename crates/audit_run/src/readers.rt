@@ -1,0 +1,141 @@
+//! Starts a thread for each source of requests, and joins them.
+ghost use Rattle.std.specs.Prelude.{◌≡◌, [], ℕ, ◌+◌, ◌≤◌, List, All, IfSome, map, vec_len, vec_capacity, IsTrue};
+ghost use Rattle.audit_outcome.specs.Parts.{Stated, fault_in, put_by_sources};
+ghost use Rattle.audit_run.specs.Passes.{IsFresh};
+ghost use Rattle.audit_run.specs.Work.{AreParts, HasSent, joined_sources, told_by};
+
+use crate::sender::{put_job, send};
+use crate::source::Part;
+use audit_device::Feed;
+use audit_files::{FileFault, read_requests};
+use audit_handoff::{Handoff, Job, Pass};
+use std::alloc::Global;
+use std::snapshot::Snapshot;
+use std::sync::Wait;
+use std::thread::{Promise, PromisedHandle, Scope, Threads};
+
+/// What a source's thread gives back: its pass, and why the source is refused, if it is.
+#[derive(Drop)]
+pub struct Sent {
+    pub pass: Pass,
+    pub fault: Option<FileFault>,
+}
+
+/// What a source's thread leaves: it has put the jobs of what its source states, or `End` alone where it is refused.
+#[derive(Drop)]
+pub struct SourceRan<F> {
+    pub before: Snapshot<Pass>,
+    pub owner: u32,
+    pub reader: Snapshot<F>,
+}
+
+impl<F: Feed> Promise<Sent> for SourceRan<F> {
+    ghost kept_by = { λ p r. HasSent (F.ahead p.reader.value) p.before.value p.owner r };
+}
+
+pub type ReaderHandle<F> = PromisedHandle<Sent, SourceRan<F>>;
+
+// Reads the source and puts its jobs.
+fn read_and_send<R: Wait, F: Feed + Drop>(
+    alloc: Global,
+    rt: &R,
+    handoff: &Handoff,
+    mut pass: Pass,
+    part: Part<F>,
+) -> Sent
+    requires { pass.handoff ≡ handoff.now }
+    ensures { HasSent (F.ahead part.reader) pass part.owner result }
+{
+    let Part { owner, mut reader } = part;
+    match read_requests(alloc, &mut reader) {
+        Ok(requests) => Sent {
+            pass: send(rt, handoff, pass, owner, requests),
+            fault: None,
+        },
+        Err(fault) => {
+            put_job(rt, handoff, &mut pass, Job::End { sender: owner });
+            Sent {
+                pass,
+                fault: Some(fault),
+            }
+        }
+    }
+}
+
+fn start_reader<'s, 'e: 's, R: Threads + Wait + Sync, F: Feed + Drop + Send + 'e>(
+    alloc: Global,
+    rt: &'e R,
+    scope: &Scope<'s, &'e ()>,
+    handoff: &'e Handoff,
+    pass: Pass,
+    part: Part<F>,
+) -> Option<ReaderHandle<F>>
+    requires { pass.handoff ≡ handoff.now }
+    ensures before { IfSome result (λ h. h.promise.before.value ≡ pass) }
+    ensures told { IfSome result (λ h. told_by h.promise.owner (F.ahead h.promise.reader.value) ≡ told_by part.owner (F.ahead part.reader)) }
+{
+    let promise = SourceRan {
+        before: Snapshot::of(&pass),
+        owner: part.owner,
+        reader: Snapshot::of(&part.reader),
+    };
+    let body = move || -> Sent
+        requires { pass.handoff ≡ handoff.now }
+        ensures { HasSent (F.ahead part.reader) pass part.owner result }
+    { read_and_send(alloc, rt, handoff, pass, part) };
+    scope.spawn_with(promise, body).ok()
+}
+
+/// Starts a thread for each source, into room that is there. False where one could not be started; then no further one is.
+pub fn start_readers<'s, 'e: 's, R: Threads + Wait + Sync, F: Feed + Drop + Send + 'e>(
+    alloc: Global,
+    rt: &'e R,
+    scope: &Scope<'s, &'e ()>,
+    handoff: &'e Handoff,
+    mut passes: Vec<Pass>,
+    parts: Vec<Part<F>>,
+    handles: &mut Vec<ReaderHandle<F>>,
+) -> bool
+    requires passes { All (λ p. IsFresh handoff.now p) passes.items × (vec_len passes ≡ vec_len parts) }
+    requires room { (vec_len parts ≤ vec_capacity handles.old) × (vec_len handles.old ≡ 0) }
+    ensures fresh { All (λ h. IsFresh handoff.now h.promise.before.value) handles.new.items }
+    ensures few { vec_len handles.new ≤ vec_len parts }
+    ensures all { IsTrue result → map (λ h. told_by h.promise.owner (F.ahead h.promise.reader.value)) handles.new.items ≡ map (λ p. told_by p.owner (F.ahead p.reader)) parts.items }
+{
+    for part in parts {
+        let Some(pass) = passes.pop() else {
+            unreachable!()
+        };
+        let Some(handle) = start_reader(alloc, rt, scope, handoff, pass, part) else {
+            return false;
+        };
+        let Ok(()) = handles.push(handle) else {
+            unreachable!()
+        };
+    }
+    true
+}
+
+/// Joins the threads of the sources, takes their passes back, and puts into room that is there why each source is refused.
+pub fn join_readers<R: Threads + Wait, F: Feed>(
+    rt: &R,
+    handoff: &Handoff,
+    pass: &mut Pass,
+    handles: Vec<ReaderHandle<F>>,
+    faults: &mut Vec<Option<FileFault>>,
+)
+    requires pass { pass.old.handoff ≡ handoff.now }
+    requires fresh { All (λ h. IsFresh handoff.now h.promise.before.value) handles.items }
+    requires empty { faults.old.items ≡ [] }
+    requires room { vec_len faults.old + vec_len handles ≤ vec_capacity faults.old }
+    ensures { (parts : List (ℕ × Stated)) × AreParts (map (λ h. told_by h.promise.owner (F.ahead h.promise.reader.value)) handles.items) parts
+        × (pass.new ≡ joined_sources pass.old (vec_len handles) (put_by_sources parts)) × (faults.new.items ≡ map (λ part. fault_in part.1) parts) }
+{
+    for handle in handles {
+        let Sent { pass: other, fault } = handle.join(rt);
+        pass.join(rt, handoff, other);
+        let Ok(()) = faults.push(fault) else {
+            unreachable!()
+        };
+    }
+}

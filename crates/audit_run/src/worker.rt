@@ -1,0 +1,114 @@
+//! A worker: takes jobs and puts what answers them.
+ghost use Rattle.std.specs.Prelude.{◌≡◌, List};
+ghost use Rattle.audit_handoff.specs.Names.{names_of, answer, IsRight};
+ghost use Rattle.audit_handoff.specs.Passes.{with_outcome_put};
+ghost use Rattle.audit_handoff.specs.declared.message.Job.{Job};
+ghost use Rattle.audit_run.specs.Work.{worked};
+
+use crate::gate::Gate;
+use audit_collect::{Answer, Arrival};
+use audit_handoff::{Handoff, Job, Outcome, Pass};
+use std::sync::Wait;
+use std::thread;
+use sudo_match::Directory;
+use sudo_policy::Checked;
+use sudo_rows::Request;
+use sudo_verdict::verdict;
+
+/// Puts an outcome, and tries again while the queue is full.
+pub fn hand_on<R: Wait>(rt: &R, handoff: &Handoff, pass: &mut Pass, outcome: Outcome)
+    requires pass { pass.old.handoff ≡ handoff.now }
+    requires verdict { IsRight pass.old.names outcome }
+    ensures { pass.new ≡ with_outcome_put pass.old outcome }
+{
+    let mut waiting = outcome;
+    for _ in rt.forever() {
+        match handoff.put_outcome(rt, pass, waiting) {
+            Ok(()) => return,
+            Err(back) => {
+                waiting = back;
+                thread::yield_now();
+            }
+        }
+    }
+    unreachable!()
+}
+
+fn answer_request<R: Wait, G: Gate>(
+    rt: &R,
+    handoff: &Handoff,
+    pass: &mut Pass,
+    policy: &Checked,
+    directory: &Directory,
+    gate: &G,
+    sender: u32,
+    request: Request,
+)
+    requires pass { pass.old.handoff ≡ handoff.now }
+    requires names { pass.old.names ≡ names_of policy.now directory.now }
+    ensures { pass.new ≡ with_outcome_put pass.old (answer (names_of policy.now directory.now) (Job.Ask sender request)) }
+{
+    let number = request.number;
+    gate.before(sender, number);
+    let verdict = verdict(policy, directory, &request);
+    let reply = Answer {
+        sender,
+        request,
+        verdict,
+    };
+    hand_on(rt, handoff, pass, Outcome::Arrived(Arrival::Reply(reply)));
+    gate.after(sender, number);
+}
+
+/// Puts what answers a job.
+pub fn answer_job<R: Wait, G: Gate>(
+    rt: &R,
+    handoff: &Handoff,
+    pass: &mut Pass,
+    policy: &Checked,
+    directory: &Directory,
+    gate: &G,
+    job: Job,
+)
+    requires pass { pass.old.handoff ≡ handoff.now }
+    requires names { pass.old.names ≡ names_of policy.now directory.now }
+    ensures { pass.new ≡ with_outcome_put pass.old (answer (names_of policy.now directory.now) job) }
+{
+    let outcome = match job {
+        Job::Ask { sender, request } => {
+            return answer_request(rt, handoff, pass, policy, directory, gate, sender, request);
+        }
+        Job::Close { sender, count } => Outcome::Arrived(Arrival::Close { sender, count }),
+        Job::End { sender } => Outcome::End { sender },
+        Job::Stop => Outcome::Stopped,
+    };
+    hand_on(rt, handoff, pass, outcome);
+}
+
+/// Answers each job that it takes, until it has answered `Stop`.
+pub fn work<R: Wait, G: Gate>(
+    rt: &R,
+    handoff: &Handoff,
+    mut pass: Pass,
+    policy: &Checked,
+    directory: &Directory,
+    gate: &G,
+) -> Pass
+    requires pass { pass.handoff ≡ handoff.now }
+    requires names { pass.names ≡ names_of policy.now directory.now }
+    ensures { (jobs : List Job) × (result ≡ worked (names_of policy.now directory.now) pass jobs) }
+{
+    for _ in rt.forever() {
+        match handoff.take_job(rt, &mut pass) {
+            None => thread::yield_now(),
+            Some(job) => {
+                let is_last = matches!(&job, Job::Stop);
+                answer_job(rt, handoff, &mut pass, policy, directory, gate, job);
+                if is_last {
+                    break;
+                }
+            }
+        }
+    }
+    pass
+}

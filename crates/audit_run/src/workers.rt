@@ -1,0 +1,98 @@
+//! Starts the workers of an audit, and joins them.
+ghost use Rattle.std.specs.Prelude.{◌≡◌, ◌+◌, ◌≤◌, List, All, IfSome, vec_len, vec_capacity, IsTrue};
+ghost use Rattle.audit_handoff.specs.Names.{names_of};
+ghost use Rattle.audit_handoff.specs.declared.message.Job.{Job};
+ghost use Rattle.audit_run.specs.Passes.{fresh};
+ghost use Rattle.audit_run.specs.Work.{HasWorked, joined_workers};
+
+use crate::gate::Gate;
+use crate::worker::work;
+use audit_handoff::{Handoff, Pass};
+use std::snapshot::Snapshot;
+use std::sync::Wait;
+use std::thread::{Promise, PromisedHandle, Scope, Threads};
+use sudo_match::Directory;
+use sudo_policy::Checked;
+
+/// What a worker's thread leaves of its pass: it has put the answer of each job that it took, once.
+#[derive(Drop)]
+pub struct WorkerRan {
+    pub before: Snapshot<Pass>,
+}
+
+impl Promise<Pass> for WorkerRan {
+    ghost kept_by = { λ p r. HasWorked p.before.value r };
+}
+
+pub type WorkerHandle = PromisedHandle<Pass, WorkerRan>;
+
+fn start_worker<'s, 'e: 's, R: Threads + Wait + Sync, G: Gate + Sync>(
+    rt: &'e R,
+    scope: &Scope<'s, &'e ()>,
+    handoff: &'e Handoff,
+    pass: Pass,
+    policy: &'e Checked,
+    directory: &'e Directory,
+    gate: &'e G,
+) -> Option<WorkerHandle>
+    requires pass { pass.handoff ≡ handoff.now }
+    requires names { pass.names ≡ names_of policy.now directory.now }
+    ensures { IfSome result (λ h. h.promise.before.value ≡ pass) }
+{
+    let promise = WorkerRan {
+        before: Snapshot::of(&pass),
+    };
+    let body = move || -> Pass
+        requires pass { pass.handoff ≡ handoff.now }
+        requires names { pass.names ≡ names_of policy.now directory.now }
+        ensures { HasWorked pass result }
+    { work(rt, handoff, pass, policy, directory, gate) };
+    scope.spawn_with(promise, body).ok()
+}
+
+/// Starts a worker for each pass, into room that is there. False where one could not be started; then no further one is.
+pub fn start_workers<'s, 'e: 's, R: Threads + Wait + Sync, G: Gate + Sync>(
+    rt: &'e R,
+    scope: &Scope<'s, &'e ()>,
+    handoff: &'e Handoff,
+    passes: Vec<Pass>,
+    policy: &'e Checked,
+    directory: &'e Directory,
+    gate: &'e G,
+    handles: &mut Vec<WorkerHandle>,
+) -> bool
+    requires passes { All (λ p. p ≡ fresh handoff.now policy.now directory.now) passes.items }
+    requires fresh { All (λ h. h.promise.before.value ≡ fresh handoff.now policy.now directory.now) handles.old.items }
+    requires room { vec_len handles.old + vec_len passes ≤ vec_capacity handles.old }
+    ensures fresh { All (λ h. h.promise.before.value ≡ fresh handoff.now policy.now directory.now) handles.new.items }
+    ensures all { IsTrue result → vec_len handles.new ≡ vec_len handles.old + vec_len passes }
+{
+    for pass in passes {
+        let Some(handle) = start_worker(rt, scope, handoff, pass, policy, directory, gate) else {
+            return false;
+        };
+        let Ok(()) = handles.push(handle) else {
+            unreachable!()
+        };
+    }
+    true
+}
+
+/// Joins the workers, and takes their passes back.
+pub fn join_workers<R: Threads + Wait>(
+    rt: &R,
+    handoff: &Handoff,
+    policy: &Checked,
+    directory: &Directory,
+    pass: &mut Pass,
+    handles: Vec<WorkerHandle>,
+)
+    requires pass { pass.old.handoff ≡ handoff.now }
+    requires fresh { All (λ h. h.promise.before.value ≡ fresh handoff.now policy.now directory.now) handles.items }
+    ensures { (jobs : List Job) × (pass.new ≡ joined_workers (names_of policy.now directory.now) pass.old (vec_len handles) jobs) }
+{
+    for handle in handles {
+        let other = handle.join(rt);
+        pass.join(rt, handoff, other);
+    }
+}
