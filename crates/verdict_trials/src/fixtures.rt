@@ -1,0 +1,190 @@
+//! A policy and requests as text, and the verdicts as text.
+
+use audit_device::Script;
+use audit_files::{read_hosts, read_requests, read_users};
+use std::alloc::{AllocError, Global};
+use std::test::Fail;
+use sudo_load::{Supply, load};
+use sudo_match::Directory;
+use sudo_policy::{Checked, Tag, check};
+use sudo_text::Seq;
+use sudo_verdict::{Request, Verdict, What, tags_in_report_order, verdict, verdict_by_listing};
+
+const USERS: &str =
+    "user,uid,groups\nroot,0,root:0\nalice,1000,alice:1000 adm:4\nbob,1001,bob:1001 operator:37\noperator,11,operator:37\n";
+
+const HOSTS: &str = "host,interfaces\nweb1,10.1.2.3/16 127.0.0.1/8\nweb2,10.2.0.9/16\n";
+
+const HEADER: &str = "number,user,host,runas_user,runas_group,command,arguments\n";
+
+/// The users root, alice, bob and operator, and the hosts web1 and web2.
+pub(crate) fn directory(alloc: Global) -> Result<Directory, Fail> {
+    let mut users = Script::of(alloc, USERS.as_bytes(), 4096)?;
+    let people = Seq::from_vec(read_users(alloc, &mut users)?);
+    let mut hosts = Script::of(alloc, HOSTS.as_bytes(), 4096)?;
+    let machines = Seq::from_vec(read_hosts(alloc, &mut hosts)?);
+    Ok(Directory::new(alloc, people, machines)?)
+}
+
+/// The policy of one file, checked.
+pub(crate) fn checked(alloc: Global, text: &str) -> Result<Checked, Fail> {
+    let supplies: [Supply; 0] = [];
+    match load(alloc, b"sudoers", text.as_bytes(), &supplies) {
+        Ok(policy) => match check(alloc, policy) {
+            Ok(checked) => Ok(checked),
+            Err(_) => Err(Fail::new("the policy has errors")),
+        },
+        Err(_) => Err(Fail::new("the policy is not read")),
+    }
+}
+
+/// Requests, each on a line: user, host, target, group, command and arguments, with commas between them.
+pub(crate) fn requests(alloc: Global, lines: &str) -> Result<Seq<Request>, Fail> {
+    let mut text = String::from_str(alloc, HEADER)?;
+    let mut number = 0u32;
+    for line in lines.lines() {
+        number = number.saturating_add(1);
+        let row = format!(in alloc; "{number},{line}\n")?;
+        text.push_str(row.as_str())?;
+    }
+    let mut reader = Script::of(alloc, text.as_str().as_bytes(), 4096)?;
+    Ok(read_requests(alloc, &mut reader)?.list)
+}
+
+/// What both bodies say to a request.
+pub(crate) fn said(
+    alloc: Global,
+    checked: &Checked,
+    directory: &Directory,
+    request: &Request,
+) -> Result<Verdict, Fail> {
+    let found = verdict(checked, directory, request);
+    if verdict_by_listing(alloc, checked, directory, request)? != found {
+        return Err(Fail::new("the two bodies differ"));
+    }
+    Ok(found)
+}
+
+fn tag_name(tag: Tag) -> &'static str {
+    match tag {
+        Tag::Exec => " EXEC",
+        Tag::NoExec => " NOEXEC",
+        Tag::Follow => " FOLLOW",
+        Tag::NoFollow => " NOFOLLOW",
+        Tag::Intercept => " INTERCEPT",
+        Tag::NoIntercept => " NOINTERCEPT",
+        Tag::LogInput => " LOG_INPUT",
+        Tag::NoLogInput => " NOLOG_INPUT",
+        Tag::LogOutput => " LOG_OUTPUT",
+        Tag::NoLogOutput => " NOLOG_OUTPUT",
+        Tag::Mail => " MAIL",
+        Tag::NoMail => " NOMAIL",
+        Tag::Passwd => " PASSWD",
+        Tag::NoPasswd => " NOPASSWD",
+        Tag::SetEnv => " SETENV",
+        Tag::NoSetEnv => " NOSETENV",
+    }
+}
+
+fn word(verdict: Verdict) -> &'static str {
+    match verdict {
+        Verdict::Allow { .. } => "allow",
+        Verdict::Deny { .. } => "deny",
+        Verdict::NoMatch => "nomatch",
+        Verdict::Unknown(What::User) => "unknown-user",
+        Verdict::Unknown(What::Host) => "unknown-host",
+        Verdict::Unknown(What::Target) => "unknown-target",
+        Verdict::Unknown(What::Group) => "unknown-group",
+    }
+}
+
+fn line_of(verdict: Verdict) -> Option<u32> {
+    match verdict {
+        Verdict::Allow { place, .. } => Some(place.line),
+        Verdict::Deny { place } => Some(place.line),
+        _ => None,
+    }
+}
+
+fn append_tags(text: &mut String, verdict: Verdict) -> Result<(), AllocError> {
+    if let Verdict::Allow { tags, .. } = verdict {
+        for tag in tags_in_report_order(&tags) {
+            if let Some(tag) = tag {
+                text.push_str(tag_name(tag))?;
+            }
+        }
+    }
+    Ok(())
+}
+
+/// Appends the verdict, its line and its tags, and a comma.
+fn append(alloc: Global, text: &mut String, verdict: Verdict) -> Result<(), AllocError> {
+    text.push_str(word(verdict))?;
+    if let Some(line) = line_of(verdict) {
+        let number = format!(in alloc; " {line}")?;
+        text.push_str(number.as_str())?;
+    }
+    append_tags(text, verdict)?;
+    text.push_str(",")
+}
+
+/// The policy of a row, which has `;` between its lines.
+fn policy_of(alloc: Global, policy: &str) -> Result<String, AllocError> {
+    let mut text = String::new(alloc);
+    for line in policy.split(';') {
+        text.push_str(line)?;
+        text.push_str("\n")?;
+    }
+    Ok(text)
+}
+
+/// The verdicts on the requests, in order, with a comma after each.
+fn verdicts(
+    alloc: Global,
+    directory: &Directory,
+    policy: &str,
+    lines: &str,
+) -> Result<String, Fail> {
+    let checked = checked(alloc, policy)?;
+    let requests = requests(alloc, lines)?;
+    let mut text = String::new(alloc);
+    for request in requests.as_slice() {
+        append(alloc, &mut text, said(alloc, &checked, directory, request)?)?;
+    }
+    Ok(text)
+}
+
+/// Fails where the policy does not give this verdict to the request.
+pub(crate) fn holds(
+    alloc: Global,
+    directory: &Directory,
+    policy: &str,
+    asks: &str,
+    want: &str,
+) -> Result<(), Fail> {
+    let told = verdicts(alloc, directory, policy, asks)?;
+    if told.as_str() != want {
+        return Err(Fail::new(told));
+    }
+    Ok(())
+}
+
+fn row_holds(alloc: Global, directory: &Directory, row: &str) -> Result<(), Fail> {
+    let Some((policy, rest)) = row.split_once('|') else {
+        return Err(Fail::new("a row without a policy"));
+    };
+    let Some((asks, want)) = rest.split_once('|') else {
+        return Err(Fail::new("a row without a verdict"));
+    };
+    let text = policy_of(alloc, policy)?;
+    holds(alloc, directory, text.as_str(), asks.trim(), want.trim())
+}
+
+/// Fails where a row of the table does not hold: a policy, with `;` between its lines, a request and its verdict.
+pub(crate) fn rows_hold(alloc: Global, table: &str) -> Result<(), Fail> {
+    let directory = directory(alloc)?;
+    for row in table.lines() {
+        row_holds(alloc, &directory, row)?;
+    }
+    Ok(())
+}
