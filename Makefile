@@ -5,8 +5,11 @@
 test:
 	rt ci
 
-# Builds the program and runs it on the example policy.
+# Builds the program, checks the example policy, writes two of its aliases out, and audits the example's requests.
 run:
 	cd crates/sudo_audit && rt run -- check ../../examples/sudoers
 	cd crates/sudo_audit && rt run -- expand ../../examples/sudoers cmnd SAFE
 	cd crates/sudo_audit && rt run -- expand ../../examples/sudoers host SERVERS
+	cd crates/sudo_audit && rt run -- audit ../../examples/sudoers \
+		--users ../../examples/users.csv --hosts ../../examples/hosts.csv \
+		web=../../examples/web.csv ops=../../examples/ops-odd.csv ops=../../examples/ops-even.csv

@@ -13,6 +13,7 @@ some_is x y e = cc
 
 true_is_false : true ≡ false → ⊥
 true_is_false e = cc
+
 -- a name of those that are left is one of all, and other than the one that was left out
 without_in : (name : List ℕ) (names : List (List ℕ)) (i : ℕ) (found : List ℕ) → slice_get (without name names) i ≡ Some found → (j : ℕ) × (slice_get names j ≡ Some found)
 without_in name [] i found at = absurd (none_is_some found at)

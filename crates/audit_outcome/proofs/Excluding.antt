@@ -32,7 +32,7 @@ none_past {X} f senders s (part ∷ parts) all past =
 within_or_past : (s n : ℕ) → (s < n) ⊎ (n ≤ s)
 within_or_past s zero = inr (omega arith)
 within_or_past zero (suc n) = inl (omega arith)
-within_or_past (suc s) (suc n) = elim (within_or_past s n) [ | inl less ↦ inl (omega (arith, less)) | inr past ↦ inr (omega (arith, past)) ]
+within_or_past (suc s) (suc n) = elim (within_or_past s n) [ inl less ↦ inl (omega (arith, less)) | inr past ↦ inr (omega (arith, past)) ]
 
 -- a source that asks is counted
 asks_counted : (s n : ℕ) (part : ℕ × Stated) → Asks s n part → 1 ≤ count_by (has_number n) (if_of s requests_in part)
@@ -74,7 +74,7 @@ once_at_most s (suc n) parts whole = elim (within_or_past whole.count (suc n)) [
 ]
 
 only_count : (s c : ℕ) (parts : List (ℕ × Stated)) (whole : IsWholeSender s parts) → Contains (counts_of s parts) c → c ≡ whole.count
-only_count s c parts whole has = elim (subst (Among c) whole.closed (Among-Contains c (counts_of s parts) has)) [ | inl e ↦ sym e | inr never ↦ absurd never ]
+only_count s c parts whole has = elim (subst (Among c) whole.closed (Among-Contains c (counts_of s parts) has)) [ inl e ↦ sym e | inr never ↦ absurd never ]
 
 -- whole sources have nothing that a collector refuses
 pub whole_not_refused : (senders : ℕ) (parts : List (ℕ × Stated)) (why : Refused) → All (IsOwned senders) parts → AreWhole senders parts → HaveRefused parts why → ⊥

@@ -44,7 +44,7 @@ one_listed (c ∷ []) count e h = by (c == count) refl
 one_listed (c ∷ d ∷ rest) count e h = absurd (omega (arith, e))
 
 module _ (names : Names) (roster : List (List ℕ)) (workers : ℕ) (parts : List (ℕ × Stated)) (outcomes : List Outcome)
-  (all : IsPermutation (map (answer names) (run_jobs workers parts)) outcomes) (held : List Held) (ran : after (start roster) (arrivals_of outcomes) ≡ Ok held) where
+    (all : IsPermutation (map (answer names) (run_jobs workers parts)) outcomes) (held : List Held) (ran : after (start roster) (arrivals_of outcomes) ≡ Ok held) where
   long : length held ≡ length roster
   long = one_each roster (arrivals_of outcomes) held ran
 
@@ -65,7 +65,7 @@ module _ (names : Names) (roster : List (List ℕ)) (workers : ℕ) (parts : Lis
         let once = close_counted roster (arrivals_of outcomes) held ran s h there (Some count) closed in
         let number = closes s in
         let at = count_by_member (is_close_at s count) (Close s count) (arrivals_of outcomes) (close_arrived roster (arrivals_of outcomes) held ran s h there count closed)
-            (ap (λ b. b && (count == count)) (self_tested s) ∙ self_tested count) in
+        (ap (λ b. b && (count == count)) (self_tested s) ∙ self_tested count) in
         let tested_at = counted names workers parts outcomes all (is_close_at s count) ∙ closes_tested names (is_close_at s count) s (λ c. c == count) (λ t r. refl) (λ t c. refl) parts in
         one_listed (counts_of s parts) count (omega (arith, once, number)) (subst (λ k. 1 ≤ k) tested_at at)
 

@@ -56,7 +56,7 @@ pub counted : (names : Names) (workers : ℕ) (parts : List (ℕ × Stated)) (ou
 counted names workers parts outcomes all p = count_same p (map (answer names) (run_jobs workers parts)) outcomes all ∙ ap (count_by p) (jobs_arrivals names workers parts)
 
 module _ (names : Names) (roster : List (List ℕ)) (workers : ℕ) (parts : List (ℕ × Stated)) (outcomes : List Outcome)
-  (rise : All Rises parts) (owned : All (IsOwned (length roster)) parts) (all : IsPermutation (map (answer names) (run_jobs workers parts)) outcomes) where
+    (rise : All Rises parts) (owned : All (IsOwned (length roster)) parts) (all : IsPermutation (map (answer names) (run_jobs workers parts)) outcomes) where
   replies : (s n : ℕ) → count_by (is_reply s n) (arrivals_of outcomes) ≡ times_asked s n parts
   replies s n = counted names workers parts outcomes all (is_reply s n) ∙ replies_counted names s n parts
 

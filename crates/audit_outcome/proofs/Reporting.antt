@@ -115,7 +115,7 @@ part_closed names (t, Ok requests) s c m = elim (Among-append (Close s c) (map (
 ]
 
 module _ (names : Names) (roster : List (List ℕ)) (workers : ℕ) (parts : List (ℕ × Stated)) (outcomes : List Outcome)
-  (all : IsPermutation (map (answer names) (run_jobs workers parts)) outcomes) (held : List Held) (ran : after (start roster) (arrivals_of outcomes) ≡ Ok held) where
+    (all : IsPermutation (map (answer names) (run_jobs workers parts)) outcomes) (held : List Held) (ran : after (start roster) (arrivals_of outcomes) ≡ Ok held) where
   -- an arrival of the run is one of a source
   arrived : (x : Arrival) → Among x (arrivals_of outcomes) → AmongOf (part_arrivals names) parts x
   arrived x m =
@@ -161,10 +161,10 @@ module _ (names : Names) (roster : List (List ℕ)) (workers : ℕ) (parts : Lis
             name = at.name;
             closed = closed_row;
             answers = λ i a there.
-            let numbered = made.complete.numbered s row.answers at.answers i a there in
-            row_answer s i a numbered.0 numbered.1
-            (among (Reply a) (list_in_all (Reply a) s 0 s made.lists row.answers (omega arith) at.answers
-            (Among-left (Reply a) (map Reply row.answers) (Close s (length row.answers) ∷ []) (reply_listed row.answers i a there))));
+                let numbered = made.complete.numbered s row.answers at.answers i a there in
+                row_answer s i a numbered.0 numbered.1
+                (among (Reply a) (list_in_all (Reply a) s 0 s made.lists row.answers (omega arith) at.answers
+                (Among-left (Reply a) (map Reply row.answers) (Close s (length row.answers) ∷ []) (reply_listed row.answers i a there))));
           }
         where
           count_there : Among (length row.answers) (counts_of s parts)

@@ -208,7 +208,7 @@ settled names sources told count workers p p1 p2 p3 crew ended g result few is_r
     let nothing : IsEmpty p3 = left (ap (λ (x : PassView). x.weight) two ∙ whole) in
     let decided : Answers sources (faults_of states) (after (start (roster sources)) (arrivals_of outcomes)) result =
     concluded sources (faults_of states) crew.gathering g outcomes result (gathers_more crew.gathering ended.gathering g run.gathered drain.outcomes run.gathers drain.gathered) collector unrefused
-        (subst (λ (l : List (Option FileFault)). Answers sources l (comes_of g.collector g.refused []) result) faults answers) in
+    (subst (λ (l : List (Option FileFault)). Answers sources l (comes_of g.collector g.refused []) result) faults answers) in
     audited names sources told workers p p3 _ _ result decided (record {
       few = few;
       is_roster = is_roster;

@@ -72,7 +72,15 @@ fn run<'s, 'e: 's, R: Threads + Wait + Sync, F: Feed + Drop + Send + 'e, G: Gate
         &mut workers,
     );
     let all_started = all_workers
-        && start_readers(alloc, rt, scope, handoff, source_passes, parts, &mut readers);
+        && start_readers(
+            alloc,
+            rt,
+            scope,
+            handoff,
+            source_passes,
+            parts,
+            &mut readers,
+        );
     conduct(
         rt,
         handoff,
@@ -226,13 +234,25 @@ pub fn audit<R: Threads + Wait + Sync, F: Feed + Drop + Send, G: Gate + Sync>(
         Err(fault) => return Err(fault),
     };
     let handles = Vec::with_capacity(alloc, parts.len())?;
-    let crew = muster(alloc, rt, policy, directory, handoff, pass, collector, parts.len(), workers as usize)?;
+    let crew = muster(
+        alloc,
+        rt,
+        policy,
+        directory,
+        handoff,
+        pass,
+        collector,
+        parts.len(),
+        workers as usize,
+    )?;
     let Ended {
         pass: mine,
         mut gathering,
         faults,
         all_started,
-    } = run_scoped(alloc, rt, policy, directory, handoff, gate, crew, parts, handles);
+    } = run_scoped(
+        alloc, rt, policy, directory, handoff, gate, crew, parts, handles,
+    );
     if !all_started {
         return Err(AuditFault::NoThread);
     }

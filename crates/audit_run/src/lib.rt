@@ -14,11 +14,13 @@ mod source;
 mod worker;
 mod workers;
 
-pub use auditing::audit;
-pub use audit_collect::{Answer, Arrival, CollectFault, Refused, Report, RosterFault, SenderReport, Unfinished};
+pub use audit_collect::{
+    Answer, Arrival, CollectFault, Refused, Report, RosterFault, SenderReport, Unfinished,
+};
 pub use audit_device::{Device, Failed, Feed, Script};
 pub use audit_files::{FileFault, Requests, read_requests};
 pub use audit_handoff::{Handoff, Job, Outcome, Pass};
+pub use auditing::audit;
 pub use fault::AuditFault;
 pub use gate::{Gate, Open};
 pub use source::Source;

@@ -1,11 +1,15 @@
 -- What the words of the command line ask for, by `clap`'s meaning of a simple command.
-use Rattle.std.specs.Prelude.{◌≡◌, true, List, codes, Some}
-use Rattle.clap.specs.Words.{App, Row, Rule, Text, first_of, new_app, new_rule, with_rule, with_subcommand}
+use Rattle.std.specs.Prelude.{◌≡◌, ◌≤◌, ℕ, pos, true, List, [], ◌∷◌, map, codes, ⊤, Some, Ok, unwrap_or}
+use Rattle.std.specs.Str.Parse.{ParsesUnsigned}
+use Rattle.std.specs.declared.num.ParseIntError.{ParseIntError}
+use Rattle.clap.specs.Words.{App, Row, Rule, Text, all_of, first_of, one_of, new_app, new_rule, with_rule, with_subcommand}
 use Rattle.clap.specs.Simple.{on_top}
+use Rattle.clap.specs.Lexer.{usize_max}
+use Rattle.clap.specs.declared.builder.value_parser.ValueParser.TheVariants as vp
 use Rattle.sudo_tree.specs.declared.kind.Kind.{Kind}
 use Rattle.sudo_tree.specs.declared.kind.Kind.TheVariants as kind
 use Rattle.audit_words.specs.declared.request.Asked.{Asked}
-use Rattle.audit_words.specs.declared.request.Asked.TheVariants.{Check, Expand}
+use Rattle.audit_words.specs.declared.request.Asked.TheVariants.{Check, Expand, Audit}
 
 -- the word of a kind of alias
 abbrev pub kind_word : Kind → Text
@@ -18,6 +22,10 @@ kind_word kind.Cmnd = codes "cmnd"
 abbrev pub needed : Text → Rule
 needed id = record (new_rule id) { required = true }
 
+-- an option `--id` that has to be there
+abbrev pub needed_option : Text → Rule
+needed_option id = record (new_rule id) { long = Some id; required = true }
+
 -- check FILE
 abbrev pub check_app : App
 check_app = with_rule (new_app (codes "check")) (needed (codes "file"))
@@ -26,12 +34,32 @@ check_app = with_rule (new_app (codes "check")) (needed (codes "file"))
 abbrev pub expand_app : App
 expand_app = with_rule (with_rule (with_rule (new_app (codes "expand")) (needed (codes "file"))) (needed (codes "kind"))) (needed (codes "name"))
 
--- the program's command: one of the two
+-- --workers N, from 1 to 16 and by default 2
+abbrev pub workers_rule : Rule
+workers_rule = record (new_rule (codes "workers")) { long = Some (codes "workers"); defaults = codes "2" ∷ []; parser = Some (vp.Signed (pos 1) (pos 16)) }
+
+-- any number of words
+abbrev pub senders_rule : Rule
+senders_rule = record (new_rule (codes "senders")) { range = Some (record { start_inclusive = 0; end_inclusive = usize_max }) }
+
+-- audit FILE --users F --hosts F
+abbrev pub audit_paths_app : App
+audit_paths_app = with_rule (with_rule (with_rule (new_app (codes "audit")) (needed (codes "file"))) (needed_option (codes "users"))) (needed_option (codes "hosts"))
+
+-- audit FILE --users F --hosts F [--workers N] [NAME=PATH]...
+abbrev pub audit_app : App
+audit_app = with_rule (with_rule audit_paths_app workers_rule) senders_rule
+
+-- the program's command: one of the three
 abbrev pub program_app : App
 program_app =
-    with_subcommand (with_subcommand
+    with_subcommand (with_subcommand (with_subcommand
     (on_top (λ s. record s { subcommand_required = true }) (new_app (codes "sudo_audit")))
-    check_app.top) expand_app.top
+    check_app.top) expand_app.top) audit_app.top
+
+-- the text of the workers' row is this number in decimal
+abbrev pub IsNumberIn : ℕ → List Row → Type 0
+IsNumberIn workers rows = (text : Text) × (one_of (codes "workers") rows ≡ Some text) × ParsesUnsigned {E = ParseIntError} 32 10 text (Ok workers)
 
 -- what is asked for is what the rows of the subcommand hold
 abbrev pub States : Asked → Text × List Row → Type 0
@@ -39,3 +67,13 @@ States (Check file) p = (p.0 ≡ codes "check") × (first_of (codes "file") p.1 
 States (Expand file kind name) p =
     (p.0 ≡ codes "expand") × (first_of (codes "file") p.1 ≡ Some file.now)
     × (first_of (codes "kind") p.1 ≡ Some (kind_word kind)) × (first_of (codes "name") p.1 ≡ Some name.now)
+States (Audit file users hosts workers senders) p =
+    (p.0 ≡ codes "audit") × (first_of (codes "file") p.1 ≡ Some file.now)
+    × (first_of (codes "users") p.1 ≡ Some users.now) × (first_of (codes "hosts") p.1 ≡ Some hosts.now)
+    × IsNumberIn workers p.1 × (unwrap_or (all_of (codes "senders") p.1) [] ≡ map (λ s. s.now) senders.items)
+
+-- as many workers as an audit takes
+abbrev pub WorkersFit : Asked → Type 0
+WorkersFit (Check file) = ⊤
+WorkersFit (Expand file kind name) = ⊤
+WorkersFit (Audit file users hosts workers senders) = (1 ≤ workers) × (workers ≤ 16)

@@ -1,9 +1,10 @@
 //! The command that `clap` reads.
 ghost use Rattle.std.specs.Prelude.{◌≡◌, IfOk, false};
-ghost use Rattle.clap.specs.Words.{app_of};
+ghost use Rattle.clap.specs.Words.{app_of, rule_of};
 ghost use Rattle.clap.specs.declared.builder.command.Command.TheViews.{out-Command as fields_of};
-ghost use Rattle.audit_words.specs.Words.{check_app, expand_app, program_app};
+ghost use Rattle.audit_words.specs.Words.{audit_app, audit_paths_app, check_app, expand_app, needed_option, program_app, senders_rule, workers_rule};
 
+use clap::builder::ValueParser;
 use clap::{Arg, Command};
 use std::alloc::{AllocError, Global};
 
@@ -26,14 +27,62 @@ fn expand<'a>(alloc: Global) -> Result<Command<'a>, AllocError>
         .arg(Arg::new(alloc, "name").required(true))
 }
 
+/// `--workers N`, from 1 to 16 and by default 2
+fn workers<'a>(alloc: Global) -> Arg<'a>
+    ensures rule { rule_of result ≡ workers_rule }
+    ensures local { result.global ≡ false }
+{
+    Arg::new(alloc, "workers")
+        .long("workers")
+        .value_parser(ValueParser::Signed(1, 16))
+        .default_value("2")
+}
+
+/// `[NAME=PATH]...`
+fn senders<'a>(alloc: Global) -> Arg<'a>
+    ensures rule { rule_of result ≡ senders_rule }
+    ensures local { result.global ≡ false }
+{
+    Arg::new(alloc, "senders").num_args(..)
+}
+
+/// `--ID PATH`
+fn path_option<'a>(alloc: Global, id: &'a str) -> Arg<'a>
+    ensures rule { rule_of result ≡ needed_option id.entry.now }
+    ensures local { result.global ≡ false }
+{
+    Arg::new(alloc, id).long(id).required(true)
+}
+
+/// `audit FILE --users F --hosts F`
+fn audit_paths<'a>(alloc: Global) -> Result<Command<'a>, AllocError>
+    ensures app { IfOk result (λ c. app_of c ≡ audit_paths_app) }
+    ensures local { IfOk result (λ c. (fields_of c).has_globals ≡ false) }
+{
+    Command::new(alloc, "audit")
+        .arg(Arg::new(alloc, "file").required(true))?
+        .arg(path_option(alloc, "users"))?
+        .arg(path_option(alloc, "hosts"))
+}
+
+/// `audit FILE --users F --hosts F [--workers N] [NAME=PATH]...`
+fn audit<'a>(alloc: Global) -> Result<Command<'a>, AllocError>
+    ensures app { IfOk result (λ c. app_of c ≡ audit_app) }
+    ensures local { IfOk result (λ c. (fields_of c).has_globals ≡ false) }
+{
+    audit_paths(alloc)?.arg(workers(alloc))?.arg(senders(alloc))
+}
+
 /// The program's command.
 pub(crate) fn program<'a>(alloc: Global) -> Result<Command<'a>, AllocError>
     ensures app { IfOk result (λ c. app_of c ≡ program_app) }
 {
     let check = check(alloc)?;
     let expand = expand(alloc)?;
+    let audit = audit(alloc)?;
     Command::new(alloc, "sudo_audit")
         .subcommand_required(true)
         .subcommand(check)?
-        .subcommand(expand)
+        .subcommand(expand)?
+        .subcommand(audit)
 }

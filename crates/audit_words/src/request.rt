@@ -3,7 +3,7 @@
 use sudo_tree::Kind;
 
 /// What the command line asks for, its texts as given.
-#[derive(Clone, Copy, Debug, PartialEq, Eq)]
+#[derive(Debug, Drop)]
 pub enum Asked<'a> {
     /// `check FILE`: the findings on a policy.
     Check {
@@ -14,5 +14,14 @@ pub enum Asked<'a> {
         file: &'a str,
         kind: Kind,
         name: &'a str,
+    },
+    /// `audit FILE --users F --hosts F [--workers N] [NAME=PATH]...`: requests answered.
+    Audit {
+        file: &'a str,
+        users: &'a str,
+        hosts: &'a str,
+        workers: u32,
+        /// The words `NAME=PATH`, as given.
+        senders: Vec<&'a str>,
     },
 }

@@ -1,5 +1,6 @@
 //! Command lines as a user gives them.
 use crate::{Asked, asked};
+use std::alloc::Global;
 use std::test::Fail;
 use sudo_tree::Kind;
 
@@ -7,17 +8,67 @@ use sudo_tree::Kind;
 fn reads_commands(rt: HostRuntime) -> Result<(), Fail> {
     let alloc = rt.alloc();
     let check = ["sudo_audit", "check", "p"];
-    assert!(rt; asked(alloc, check.as_slice())? == Asked::Check { file: "p" });
+    assert!(rt; matches!(asked(alloc, check.as_slice())?, Asked::Check { file: "p" }));
     let expand = ["sudo_audit", "expand", "p", "host", "A"];
-    assert!(rt;
-        asked(alloc, expand.as_slice())?
-            == Asked::Expand {
-                file: "p",
-                kind: Kind::Host,
-                name: "A",
-            }
-    );
+    let Asked::Expand { file, kind, name } = asked(alloc, expand.as_slice())? else {
+        assert!(rt; false);
+        return Ok(());
+    };
+    assert!(rt; file == "p" && kind == Kind::Host && name == "A");
     Ok(())
+}
+
+#[test]
+fn reads_an_audit(rt: HostRuntime) -> Result<(), Fail> {
+    let words = [
+        "sudo_audit",
+        "audit",
+        "p",
+        "--users",
+        "u",
+        "--hosts=h",
+        "s=a",
+        "t=b",
+    ];
+    let Asked::Audit {
+        file,
+        users,
+        hosts,
+        workers,
+        senders,
+    } = asked(rt.alloc(), words.as_slice())?
+    else {
+        assert!(rt; false);
+        return Ok(());
+    };
+    assert!(rt; file == "p" && users == "u" && hosts == "h");
+    assert!(rt; workers == 2 && senders.len() == 2);
+    Ok(())
+}
+
+// Whether an audit with so many workers is asked for.
+fn takes_workers(alloc: Global, count: &'static str) -> bool {
+    let words = [
+        "x",
+        "audit",
+        "p",
+        "--users",
+        "u",
+        "--hosts",
+        "h",
+        "--workers",
+        count,
+    ];
+    asked(alloc, words.as_slice()).is_ok()
+}
+
+#[test]
+fn takes_one_to_sixteen_workers(rt: HostRuntime) {
+    let alloc = rt.alloc();
+    assert!(rt; takes_workers(alloc, "1") && takes_workers(alloc, "16"));
+    assert!(rt;
+        !takes_workers(alloc, "0") && !takes_workers(alloc, "17") && !takes_workers(alloc, "two")
+    );
 }
 
 #[test]
@@ -31,4 +82,6 @@ fn refuses_other_words(rt: HostRuntime) {
     assert!(rt; asked(alloc, more.as_slice()).is_err());
     let other = ["x", "list", "p"];
     assert!(rt; asked(alloc, other.as_slice()).is_err());
+    let no_users = ["x", "audit", "p", "--hosts", "h"];
+    assert!(rt; asked(alloc, no_users.as_slice()).is_err());
 }

@@ -1,7 +1,7 @@
 //! The words of the command line.
-ghost use Rattle.std.specs.Prelude.{◌≡◌, Some, IfOk, IfSome, List, map};
-ghost use Rattle.clap.specs.Words.{Row, Text, first_of, found_of, rows_of, subcommand_of};
-ghost use Rattle.audit_words.specs.Words.{States, kind_word, program_app};
+ghost use Rattle.std.specs.Prelude.{◌≡◌, ◌≤◌, [], Some, IfOk, IfSome, List, map, unwrap_or};
+ghost use Rattle.clap.specs.Words.{Row, Text, all_of, first_of, found_of, rows_of, subcommand_of};
+ghost use Rattle.audit_words.specs.Words.{IsNumberIn, States, WorkersFit, kind_word, program_app};
 
 use crate::program::program;
 use crate::request::Asked;
@@ -41,9 +41,37 @@ fn value<'a>(given: &ArgMatches<'a>, id: &str) -> Result<&'a str, Error>
     }
 }
 
+/// The values of an argument, which may be none.
+#[tactic(auto, using(crate::proofs::RowLemmas::row_lemmas))]
+fn values<'a>(alloc: Global, given: &ArgMatches<'a>, id: &str) -> Result<Vec<&'a str>, Error>
+    ensures { IfOk result (λ v. unwrap_or (all_of id.now (rows_of (found_of given.now))) [] ≡ map (λ s. s.now) v.items) }
+{
+    match given.get_strs(id) {
+        Some(words) => Ok(Vec::from_slice(alloc, words)?),
+        None => Ok(Vec::new(alloc)),
+    }
+}
+
+/// The number of workers.
+#[tactic(auto, using(crate::proofs::RowLemmas::row_lemmas))]
+fn workers(given: &ArgMatches<'_>) -> Result<u32, Error>
+    ensures few { IfOk result (λ n. (1 ≤ n) × (n ≤ 16)) }
+    ensures read { IfOk result (λ n. IsNumberIn n (rows_of (found_of given.now))) }
+{
+    match given.get_one::<u32>("workers") {
+        Some(count @ 1..=16) => Ok(count),
+        _ => Err(Error::from(AllocError)),
+    }
+}
+
 /// What a subcommand asks for, unless its KIND is none.
-fn asked_by<'a>(name: &str, given: &ArgMatches<'a>) -> Result<Option<Asked<'a>>, Error>
+fn asked_by<'a>(
+    alloc: Global,
+    name: &str,
+    given: &ArgMatches<'a>,
+) -> Result<Option<Asked<'a>>, Error>
     ensures stated { IfOk result (λ o. IfSome o (λ a. States a (name.now, rows_of (found_of given.now)))) }
+    ensures workers { IfOk result (λ o. IfSome o WorkersFit) }
 {
     if name == "check" {
         return Ok(Some(Asked::Check {
@@ -60,19 +88,31 @@ fn asked_by<'a>(name: &str, given: &ArgMatches<'a>) -> Result<Option<Asked<'a>>,
             name: value(given, "name")?,
         }));
     }
+    if name == "audit" {
+        return Ok(Some(Asked::Audit {
+            file: value(given, "file")?,
+            users: value(given, "users")?,
+            hosts: value(given, "hosts")?,
+            workers: workers(given)?,
+            senders: values(alloc, given, "senders")?,
+        }));
+    }
     Ok(None)
 }
 
 /// What the words ask for, the program's own name first: what `clap` reads in them for a command
-/// with the subcommands `check FILE` and `expand FILE KIND NAME`, where KIND is `user`, `runas`, `host` or `cmnd`.
+/// with the subcommands `check FILE`, `expand FILE KIND NAME`, where KIND is `user`, `runas`, `host` or `cmnd`, and
+/// `audit FILE --users F --hosts F [--workers N] [NAME=PATH]...`, where N is 1 to 16, by default 2.
+///
 /// The error is `clap`'s, for words that are another command or ask for help, or for memory.
 pub fn asked<'a, S: AsStr>(alloc: Global, words: &'a [S]) -> Result<Asked<'a>, Error>
     ensures stated { IfOk result (λ a. (p : Text × List Row) × (subcommand_of program_app (map S.text words.entry.now) ≡ Some p) × States a p) }
+    ensures workers { IfOk result WorkersFit }
 {
     let mut command = program(alloc)?;
     let matches = command.try_get_matches_from_mut(words)?;
     if let Some((name, given)) = matches.subcommand() {
-        if let Some(asked) = asked_by(name, given)? {
+        if let Some(asked) = asked_by(alloc, name, given)? {
             return Ok(asked);
         }
     }

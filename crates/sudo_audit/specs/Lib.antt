@@ -1,2 +1,4 @@
 pub mod Loading
 pub mod Expanding
+pub mod Senders
+pub mod Auditing

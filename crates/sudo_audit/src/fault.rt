@@ -2,9 +2,13 @@
 ghost use Rattle.std.specs.Prelude.{◌≤◌, ◌<◌};
 
 use crate::lines::{push, push_path, push_shown};
+use audit_collect::{CollectFault, Refused, RosterFault, Unfinished};
 use audit_device::{Sink, write_all_of};
+use audit_files::FileFault;
+use audit_run::AuditFault;
 use std::alloc::{AllocError, AllocFailed, Global};
 use sudo_load::{LoadFault, Want};
+use sudo_match::DirFault;
 use sudo_text::{Seq, TextFault};
 use sudo_tree::ParseFault;
 
@@ -17,6 +21,16 @@ pub enum Fault {
     Refused(Seq<Seq<u8>>, LoadFault),
     /// The policy has no such alias, by its name.
     NoSuchAlias(Seq<u8>),
+    /// A word is no `NAME=PATH` with a sender's name.
+    BadSender(Seq<u8>),
+    /// The users file is refused.
+    Users(FileFault),
+    /// The hosts file is refused.
+    Hosts(FileFault),
+    /// The users and hosts are refused.
+    Directory(DirFault),
+    /// The requests are refused: the names of the sources, and why.
+    Audit(Vec<Seq<u8>>, AuditFault),
     /// A write failed after so many bytes.
     Write { written: u64 },
     /// Memory was refused.
@@ -36,15 +50,47 @@ impl<T: Drop> From<AllocFailed<T>> for Fault {
 }
 
 impl Fault {
-    /// The exit status: 1 where the policy is refused or has no such alias, 4 where reading, writing or memory failed.
+    /// The exit status: 1 where the policy is refused or has no such alias, 2 for a bad sender, 3 where the users, the hosts
+    /// or the requests are refused, 4 where reading, writing, a thread or memory failed.
     pub fn status(&self) -> u8
         ensures low { 0 < result }
         ensures high { result ≤ 4 }
     {
         match self {
             Fault::Refused(..) | Fault::NoSuchAlias(_) => 1,
+            Fault::BadSender(_) => 2,
+            Fault::Users(fault) | Fault::Hosts(fault) => file_status(*fault),
+            Fault::Directory(DirFault::Memory) => 4,
+            Fault::Directory(_) => 3,
+            Fault::Audit(_, fault) => audit_status(fault),
             Fault::CannotRead(_) | Fault::Write { .. } | Fault::Memory => 4,
         }
+    }
+}
+
+/// The exit status for a file that is refused.
+fn file_status(fault: FileFault) -> u8
+    ensures low { 0 < result }
+    ensures high { result ≤ 4 }
+{
+    match fault {
+        FileFault::Read | FileFault::Memory => 4,
+        _ => 3,
+    }
+}
+
+/// The exit status for an audit without a report.
+fn audit_status(fault: &AuditFault) -> u8
+    ensures low { 0 < result }
+    ensures high { result ≤ 4 }
+{
+    match fault {
+        AuditFault::Sender { fault, .. } => file_status(*fault),
+        AuditFault::Collect(CollectFault::Roster(RosterFault::Memory))
+        | AuditFault::Collect(CollectFault::Refused(Refused::Memory))
+        | AuditFault::NoThread
+        | AuditFault::Memory => 4,
+        AuditFault::Collect(_) | AuditFault::TooManyParts => 3,
     }
 }
 
@@ -119,6 +165,185 @@ fn push_load_fault(
     }
 }
 
+/// The name at a place of the roster, which holds each of the sources' names once.
+fn sender_at(names: &[Seq<u8>], place: u32) -> Option<&Seq<u8>> {
+    let mut place = place;
+    for at in 0..names.len() {
+        let name = &names[at];
+        if names[..at].iter().any(|earlier| earlier == name) {
+            continue;
+        }
+        if place == 0 {
+            return Some(name);
+        }
+        place -= 1;
+    }
+    None
+}
+
+/// Whether two sources have the name.
+fn has_parts(names: &[Seq<u8>], name: &Seq<u8>) -> bool {
+    let mut found = false;
+    for other in names {
+        if other == name {
+            if found {
+                return true;
+            }
+            found = true;
+        }
+    }
+    false
+}
+
+/// Appends `sender NAME`, by the sender's place in the roster.
+fn push_sender(line: &mut Vec<u8>, names: &[Seq<u8>], place: u32) -> Result<(), AllocError> {
+    push(line, b"sender ")?;
+    match sender_at(names, place) {
+        Some(name) => push(line, name.as_slice()),
+        None => Ok(()),
+    }
+}
+
+/// Appends the text of a number of a sender, as ` request 2 twice`.
+fn push_request(
+    alloc: Global,
+    line: &mut Vec<u8>,
+    number: u32,
+    what: &[u8],
+) -> Result<(), AllocError> {
+    push(line, b": request ")?;
+    push_shown(alloc, line, &number)?;
+    push(line, what)
+}
+
+/// Appends the text of a collector's refusal.
+fn push_refused(
+    alloc: Global,
+    line: &mut Vec<u8>,
+    names: &[Seq<u8>],
+    refused: Refused,
+) -> Result<(), AllocError> {
+    match refused {
+        Refused::Double { sender, number } => {
+            push_sender(line, names, sender)?;
+            push_request(alloc, line, number, b" twice")
+        }
+        Refused::ClosedTwice { sender } => {
+            push_sender(line, names, sender)?;
+            push(line, b": closed twice")
+        }
+        Refused::PastClose { sender, number } => {
+            push_sender(line, names, sender)?;
+            push_request(alloc, line, number, b" past close")
+        }
+        Refused::Memory => push(line, b"out of memory"),
+        Refused::Stranger { .. } | Refused::ZeroNumber { .. } => {
+            push(line, b"refused by the collector")
+        }
+    }
+}
+
+/// Appends the text of a collector's fault.
+fn push_collect(
+    alloc: Global,
+    line: &mut Vec<u8>,
+    names: &[Seq<u8>],
+    fault: &CollectFault,
+) -> Result<(), AllocError> {
+    match fault {
+        CollectFault::Roster(RosterFault::SenderTwice { name }) => {
+            push(line, b"sender ")?;
+            push(line, name.as_slice())?;
+            push(line, b" twice")
+        }
+        CollectFault::Roster(RosterFault::TooManySenders) => push(line, b"too many senders"),
+        CollectFault::Roster(RosterFault::Memory) => push(line, b"out of memory"),
+        CollectFault::Refused(refused) => push_refused(alloc, line, names, *refused),
+        CollectFault::Unfinished(Unfinished::Open { sender }) => {
+            push_sender(line, names, *sender)?;
+            push(line, b": not closed")
+        }
+        CollectFault::Unfinished(Unfinished::Gap { sender, number }) => {
+            push_sender(line, names, *sender)?;
+            push_request(alloc, line, *number, b" missing")
+        }
+    }
+}
+
+/// Appends the text of an audit without a report.
+fn push_audit(
+    alloc: Global,
+    line: &mut Vec<u8>,
+    names: &[Seq<u8>],
+    fault: &AuditFault,
+) -> Result<(), AllocError> {
+    match fault {
+        AuditFault::Sender { name, part, fault } => {
+            push(line, b"sender ")?;
+            push(line, name.as_slice())?;
+            if has_parts(names, name) {
+                push(line, b" part ")?;
+                push_shown(alloc, line, part)?;
+            }
+            push(line, b": ")?;
+            push_shown(alloc, line, fault)
+        }
+        AuditFault::Collect(fault) => push_collect(alloc, line, names, fault),
+        AuditFault::NoThread => push(line, b"no thread"),
+        AuditFault::Memory => push(line, b"out of memory"),
+        AuditFault::TooManyParts => push(line, b"too many parts"),
+    }
+}
+
+/// Appends the text of why rows make no directory.
+fn push_directory(line: &mut Vec<u8>, fault: &DirFault) -> Result<(), AllocError> {
+    let (before, name, after) = match fault {
+        DirFault::UserTwice { name } => (
+            b"user ".as_slice(),
+            name.as_slice(),
+            b" twice".as_slice(),
+        ),
+        DirFault::HostTwice { name } => (
+            b"host ".as_slice(),
+            name.as_slice(),
+            b" twice".as_slice(),
+        ),
+        DirFault::GroupClash { name } => {
+            (
+                b"group ".as_slice(),
+                name.as_slice(),
+                b" clashes".as_slice(),
+            )
+        }
+        DirFault::NoGroup { user } => {
+            (
+                b"user ".as_slice(),
+                user.as_slice(),
+                b" has no group".as_slice(),
+            )
+        }
+        DirFault::NoRoot => return push(line, b"no user root"),
+        DirFault::Memory => return push(line, b"out of memory"),
+    };
+    push(line, before)?;
+    push(line, name)?;
+    push(line, after)
+}
+
+/// Appends the text of a fault of the users or the hosts file.
+fn push_file(
+    alloc: Global,
+    line: &mut Vec<u8>,
+    file: &[u8],
+    fault: FileFault,
+) -> Result<(), AllocError> {
+    if fault == FileFault::Memory {
+        return push(line, b"out of memory");
+    }
+    push(line, file)?;
+    push_shown(alloc, line, &fault)
+}
+
 /// Appends the text of a fault.
 fn push_fault(alloc: Global, line: &mut Vec<u8>, fault: &Fault) -> Result<(), AllocError> {
     match fault {
@@ -131,6 +356,14 @@ fn push_fault(alloc: Global, line: &mut Vec<u8>, fault: &Fault) -> Result<(), Al
             push(line, b"no such alias ")?;
             push(line, name.as_slice())
         }
+        Fault::BadSender(word) => {
+            push(line, b"bad sender ")?;
+            push(line, word.as_slice())
+        }
+        Fault::Users(fault) => push_file(alloc, line, b"users: ", *fault),
+        Fault::Hosts(fault) => push_file(alloc, line, b"hosts: ", *fault),
+        Fault::Directory(fault) => push_directory(line, fault),
+        Fault::Audit(names, fault) => push_audit(alloc, line, names, fault),
         Fault::Write { written } => {
             push(line, b"write failed after ")?;
             push_shown(alloc, line, written)?;

@@ -1,15 +1,23 @@
 //! An auditor of sudoers policies.
 #![tactic(auto)]
 
+ghost use Rattle.audit_words.specs.Words.{WorkersFit};
+
+mod audit;
+#[cfg(test)]
+mod audit_tests;
 mod check;
 mod expand;
 mod fault;
 mod files;
 mod lines;
 mod loading;
+mod sender;
+mod sources;
 #[cfg(test)]
 mod tests;
 
+pub use audit::audit_into;
 use audit_device::Device;
 pub use audit_words::{Asked, asked};
 pub use check::check_run;
@@ -19,11 +27,17 @@ pub use expand::expand_run;
 use fault::{Fault, complain};
 use files::Disk;
 pub use files::{Files, FilesFault};
+pub use sender::sender_of;
+use sources::audit_run_of;
 use std::env;
 use std::process::ExitCode;
+use std::sync::Wait;
+use std::thread::Threads;
 
 /// Does what the words ask for, and gives the exit status.
-fn run(rt: &HostRuntime, asked: Asked<'_>) -> u8 {
+fn run<T: Threads + Wait + Sync>(rt: &HostRuntime, threads: &T, asked: Asked<'_>) -> u8
+    requires { WorkersFit asked }
+{
     let alloc = rt.alloc();
     let mut out = Device::new(rt.stdout());
     let mut err = Device::new(rt.stderr());
@@ -39,6 +53,13 @@ fn run(rt: &HostRuntime, asked: Asked<'_>) -> u8 {
             &mut out,
             &mut err,
         ),
+        Asked::Audit {
+            file,
+            users,
+            hosts,
+            workers,
+            senders,
+        } => audit_run_of(rt, threads, file, users, hosts, workers, senders.as_slice()),
     }
 }
 
@@ -69,7 +90,7 @@ fn main(rt: HostRuntime) -> ExitCode {
         return ExitCode::from(complain(alloc, &Fault::Memory, &mut err));
     };
     match asked(alloc, words.as_slice()) {
-        Ok(asked) => ExitCode::from(run(&rt, asked)),
+        Ok(asked) => ExitCode::from(run(&rt, &rt, asked)),
         Err(error) => ExitCode::from(refuse(&rt, &error)),
     }
 }

@@ -10,16 +10,16 @@ use sudo_tree::Kind;
 
 /// A file or a folder: its path, and its text or the names of its files, each with a space after it.
 #[derive(Clone, Copy)]
-struct Item<'a> {
-    path: &'a [u8],
-    text: &'a [u8],
-    names: &'a [u8],
+pub(crate) struct Item<'a> {
+    pub(crate) path: &'a [u8],
+    pub(crate) text: &'a [u8],
+    pub(crate) names: &'a [u8],
 }
 
 /// Files over memory. A file that is not there is missing, and a folder has no names.
 #[derive(Clone, Copy)]
-struct Shelf<'a> {
-    items: &'a [Item<'a>],
+pub(crate) struct Shelf<'a> {
+    pub(crate) items: &'a [Item<'a>],
 }
 
 impl Files for Shelf<'_> {

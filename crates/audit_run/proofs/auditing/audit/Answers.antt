@@ -29,7 +29,7 @@ returns-clause-outcome g c =
     let told = map (λ s. g.F.Feed.ahead s.reader) sources in
     let run = subst (λ t. HasRun (names_of policy directory) t (vec_len c.in-Ok.entered.parts) c.in_ok-crew.crew c.run_scoped-mine.result) entered.parts (c.run_scoped-mine.ensures (search rules)) in
     let answers = subst (λ n. Answers n c.run_scoped-mine.result.faults.items (comes_of c.drain.new.gathering.collector c.drain.new.gathering.refused []) c.conclude.result) entered.names
-        (subst (λ f. Answers c.in-Ok.entered.names.items f (comes_of c.drain.new.gathering.collector c.drain.new.gathering.refused []) c.conclude.result) c.deref.ensures.value c.conclude.ensures) in
+    (subst (λ f. Answers c.in-Ok.entered.names.items f (comes_of c.drain.new.gathering.collector c.drain.new.gathering.refused []) c.conclude.result) c.deref.ensures.value c.conclude.ensures) in
     let sources_long : length sources ≡ vec_len c.args.sources = search rules in
     let names_long = length_map (λ s. s.name) sources in
     let told_long = length_map (λ s. g.F.Feed.ahead s.reader) sources in

@@ -1,0 +1,17 @@
+use Rattle.std.proofs.Common.{◌≡◌, ◌∙◌, sym, subst, codes, refl, Option, Some, None, ℕ, rules}
+use Rattle.clap.specs.Matches.{one_text, found_of}
+use Rattle.clap.specs.declared.parser.matches.Found.{Found}
+use Rattle.clap.proofs.WalkLemmas.{one_text-rows}
+use Rattle.clap.specs.Words.{Text, rows_of}
+use Rattle.audit_words.specs.Words.{IsNumberIn}
+use Rattle.audit_words.proofs.words.workers.Goals as goal
+
+pub returns-in-Some-1-to-16-clause-read : goal.returns-in-Some-1-to-16-clause-read
+returns-in-Some-1-to-16-clause-read c = by (one_text found (codes "workers")) refl
+  where
+    found : Found
+    found = found_of c.args.given.now
+
+    by : (o : Option Text) → one_text found (codes "workers") ≡ o → IsNumberIn c.in-Some-1-to-16.count (rows_of found)
+    by None none = let never : Some c.in-Some-1-to-16.count ≡ None = c.in-Some-1-to-16.ensures.none none in cc
+    by (Some text) is = (text, sym (one_text-rows found (codes "workers")) ∙ is, (c.in-Some-1-to-16.ensures.value text is).0)
