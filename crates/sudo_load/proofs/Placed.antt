@@ -1,6 +1,6 @@
 -- What is loaded stands in the files that were read, and has no include line; and so does a fault.
-use Rattle.std.proofs.Common.{◌≡◌, ℕ, zero, suc, ◌+◌, ◌<◌, ◌≤◌, Bool, true, false, List, [], ◌∷◌, ◌++◌, length, Option, None, Some, Result, Ok, Err, refl, sym, ◌∙◌, ap, subst, arith, length-append}
-use Rattle.std.specs.Prelude.{⊤, IsTrue, not, nat_lt, map, ◌&&◌, ◌⊎◌, if◌then◌else◌}
+use Rattle.std.proofs.Common.{◌≡◌, ℕ, zero, suc, ◌+◌, ◌<◌, ◌≤◌, Bool, true, false, List, [], ◌∷◌, ◌++◌, length, Option, None, Some, Result, Ok, Err, inl, inr, refl, sym, ◌∙◌, ap, subst, arith, length-append}
+use Rattle.std.specs.Prelude.{⊤, ◌≢◌, IsTrue, not, nat_lt, map, ◌&&◌, ◌⊎◌, if◌then◌else◌}
 use Rattle.std.specs.List.{list_all}
 use Rattle.std.proofs.lemmas.Bool.Decides.{nat_tests}
 use Rattle.sudo_text.specs.declared.line.Line.{Line}
@@ -13,7 +13,15 @@ use Rattle.sudo_tree.specs.declared.policy.EntryBody.{EntryBody}
 use Rattle.sudo_tree.specs.declared.policy.EntryBody.TheVariants as bodies
 use Rattle.sudo_tree.specs.declared.fault.ParseFault.{ParseFault}
 use Rattle.sudo_tree.specs.Includes.{is_include}
-use Rattle.sudo_parser.specs.Parsed.{AreEntriesAfter, AreEntries, entry_of, Says}
+use Rattle.sudo_tree.specs.declared.fault.Refusal.{Refusal as GrammarRefusal}
+use Rattle.sudo_tree.specs.declared.fault.Refusal.TheVariants as refusals
+use Rattle.sudo_text.specs.Tokens.{fault_place}
+use Rattle.sudo_text.proofs.FaultPlace.{faults_placed}
+use Rattle.sudo_tree.specs.declared.kind.Kind.{Kind}
+use Rattle.sudo_parser.specs.Limits.{less}
+use Rattle.sudo_parser.specs.Parsed.{AreEntriesAfter, AreEntries, entry_of, Says, IsLineFault, IsFirstFaultAfter, room_after, column, fault_at, fits, over_limit_from}
+use Rattle.sudo_load.specs.FaultFiles.{text_file, parse_file, IsBelow, IsPlaced}
+use Rattle.sudo_load.specs.declared.fault.LoadFault.TheVariants as faults
 use Rattle.sudo_load.specs.declared.fault.LoadFault.{LoadFault}
 use Rattle.sudo_load.specs.declared.loading.Loaded.{Loaded}
 use Rattle.sudo_load.specs.declared.supply.Supply.{Supply}
@@ -29,19 +37,24 @@ abbrev pub InFile : ℕ → List Line → Type 0
 InFile file [] = ⊤
 InFile file (line ∷ lines) = (line.first.file ≡ file) × InFile file lines
 
+-- A file's number, where there is one, is this.
+abbrev pub StandsIn : ℕ → Option ℕ → Type 0
+StandsIn file None = ⊤
+StandsIn file (Some found) = found ≡ file
+
 InResult : ℕ → Result (List Line) TextFault → Type 0
 InResult file (Ok lines) = InFile file lines
-InResult file (Err fault) = ⊤
+InResult file (Err fault) = StandsIn file (text_file fault)
 
 in_front : (file : ℕ) (line : Line) (r : Result (List Line) TextFault) → line.first.file ≡ file → InResult file r → InResult file (with_front (line ∷ []) r)
 unfolding InResult
 in_front file line (Ok lines) at rest = (at, rest)
-in_front file line (Err fault) at rest = tt
+in_front file line (Err fault) at rest = rest
 
 numbered_in : (file : ℕ) (short : Bool) (number : ℕ) (rs : List (List (List ℕ))) → InResult file (numbered file short number rs)
 unfolding InResult
 numbered_in file short number [] = tt
-numbered_in file true number (run ∷ []) = tt
+numbered_in file true number (run ∷ []) = refl
 numbered_in file false number (run ∷ []) = (refl, tt)
 numbered_in file short number (run ∷ next ∷ rest) =
     in_front file (line_of file number run) (numbered file short (number + length run) (next ∷ rest)) refl (numbered_in file short (number + length run) (next ∷ rest))
@@ -50,11 +63,15 @@ lines_are_in : (file : ℕ) (text : List ℕ) → InResult file (lines_of file t
 unfolding InResult
 lines_are_in file text =
     elim (nat_lt 16777216 (length text)) as (λ b. InResult file (if b then Err (texts.TooLong file) else numbered file (is_cut_short false (physical_lines text)) 1 (runs false (physical_lines text))))
-    [ true ↦ tt | false ↦ numbered_in file (is_cut_short false (physical_lines text)) 1 (runs false (physical_lines text)) ]
+    [ true ↦ refl | false ↦ numbered_in file (is_cut_short false (physical_lines text)) 1 (runs false (physical_lines text)) ]
 
 lines_in : (file : ℕ) (text : List ℕ) (lines : List Line) → lines_of file text ≡ Ok lines → InFile file lines
 unfolding InResult
 lines_in file text lines is = subst (InResult file) is (lines_are_in file text)
+
+lines_fault_in : (file : ℕ) (text : List ℕ) (fault : TextFault) → lines_of file text ≡ Err fault → StandsIn file (text_file fault)
+unfolding InResult
+lines_fault_in file text fault is = subst (InResult file) is (lines_are_in file text)
 
 -- Each of the entries stands in the file.
 abbrev pub EntriesIn : ℕ → List Entry → Type 0
@@ -73,6 +90,41 @@ entries_in file before (line ∷ lines) entries at (said, rest, says, are, whole
 -- What the file of this number says stands in it.
 pub read_in : (file : ℕ) (text : List ℕ) (entries : List Entry) → Reads file text (Ok entries) → EntriesIn file entries
 read_in file text entries (lines, is, are) = entries_in file [] lines entries (lines_in file text lines is) are
+
+text_file_of : (fault : TextFault) (place : Place) → fault_place fault ≡ Some place → text_file fault ≡ Some place.file
+text_file_of (texts.BadQuote found col) place is = cc
+text_file_of (texts.BadHex found col) place is = cc
+text_file_of (texts.BadEscape found col) place is = cc
+text_file_of (texts.NotPrintable found col) place is = cc
+text_file_of (texts.TooLong file) place is = absurd cc
+text_file_of texts.Memory place is = absurd cc
+
+refusal_in : (first : Place) (col : ℕ) (refusal : GrammarRefusal) → parse_file (fault_at first col refusal) ≡ Some first.file
+refusal_in first col (refusals.Syntax expected) = refl
+refusal_in first col (refusals.Unsupported what) = refl
+refusal_in first col refusals.NotCommand = refl
+refusal_in first col refusals.BadNumber = refl
+refusal_in first col refusals.TooMany = refl
+
+line_fault_in : (file : ℕ) (room : Kind → ℕ) (line : Line) (fault : ParseFault) → line.first.file ≡ file → IsLineFault room line fault → StandsIn file (parse_file fault)
+line_fault_in file room line fault at (inl text) =
+    subst (StandsIn file) (sym (ap parse_file text.is ∙ text_file_of text.text line.first (faults_placed line text.text text.leftmost))) at
+line_fault_in file room line fault at (inr grammar) =
+    subst (StandsIn file) (sym (ap parse_file grammar.is ∙ refusal_in line.first (column line grammar.stop.rest) grammar.stop.refusal)) at
+
+first_fault_in : (file : ℕ) (before : List Entry) (lines : List Line) (fault : ParseFault) → InFile file lines → IsFirstFaultAfter before lines fault → StandsIn file (parse_file fault)
+first_fault_in file before [] fault at is = absurd is
+first_fault_in file before (line ∷ lines) fault at (inl here) = line_fault_in file (room_after before) line fault at.0 here
+first_fault_in file before (line ∷ lines) fault at (inr (said, says, later)) = first_fault_in file (before ++ entry_of line said) lines fault at.1 later
+
+-- A fault of the file of this number stands in it.
+read_fault_in : (file : ℕ) (text : List ℕ) (fault : ParseFault) → Reads file text (Err fault) → StandsIn file (parse_file fault)
+read_fault_in file text fault (inl (why, is, same)) = subst (StandsIn file) (sym (ap parse_file same)) (lines_fault_in file text why is)
+read_fault_in file text fault (inr (lines, is, first)) = first_fault_in file [] lines fault (lines_in file text lines is) first
+
+stands_below : (file n : ℕ) (found : Option ℕ) → file < n → StandsIn file found → IsBelow n found
+stands_below file n None below at = tt
+stands_below file n (Some found) below at = omega (arith, below, at)
 
 lt_more : (n m k : ℕ) → n ≤ m → nat_lt k n ≡ true → nat_lt k m ≡ true
 lt_more n m k le h = grind (arith, nat_tests)
@@ -119,54 +171,54 @@ fine_entry loaded entry fine at no_include =
 -- After this many files at the least, all is fine.
 abbrev pub FineAfter : ℕ → Outcome → Type 0
 FineAfter n (Ok loaded) = Fine loaded × (n ≤ length loaded.files)
-FineAfter n (Err refusal) = ⊤
+FineAfter n (Err refusal) = IsPlaced refusal
 
 fine_later : (n m : ℕ) (outcome : Outcome) → n ≤ m → FineAfter m outcome → FineAfter n outcome
 fine_later n m (Ok loaded) le fine = (fine.0, omega (arith, fine.1))
-fine_later n m (Err refusal) le fine = tt
+fine_later n m (Err refusal) le fine = fine
 
--- An inclusion keeps all fine.
+-- An inclusion from a file that is read keeps all fine.
 abbrev pub Keeps : Inclusion → Type 0
-Keeps include = (loaded : Loaded) (place : Place) (path : List ℕ) (outcome : Outcome) → Fine loaded → include loaded place path outcome → FineAfter (length loaded.files) outcome
+Keeps include = (loaded : Loaded) (place : Place) (path : List ℕ) (outcome : Outcome) → Fine loaded → place.file < length loaded.files → include loaded place path outcome → FineAfter (length loaded.files) outcome
 
 then_fine : (n : ℕ) (first : Outcome) (next : Loaded → Outcome → Type 0) (outcome : Outcome) → FineAfter n first → Then first next outcome
     → ((after : Loaded) → Fine after → n ≤ length after.files → next after outcome → FineAfter (length after.files) outcome) → FineAfter n outcome
 then_fine n (Ok after) next outcome fine onward goes = fine_later n (length after.files) outcome fine.1 (goes after fine.0 fine.1 onward)
-then_fine n (Err refusal) next outcome fine onward goes = subst (FineAfter n) (sym onward) tt
+then_fine n (Err refusal) next outcome fine onward goes = subst (FineAfter n) (sym onward) fine
 
 ends_fine : (loaded : Loaded) (outcome : Outcome) → Fine loaded → outcome ≡ Ok loaded → FineAfter (length loaded.files) outcome
 ends_fine loaded outcome fine is = subst (FineAfter (length loaded.files)) (sym is) (fine, omega arith)
 
-refused_fine : (n : ℕ) (refusal : Refusal) (outcome : Outcome) → outcome ≡ Err refusal → FineAfter n outcome
-refused_fine n refusal outcome is = subst (FineAfter n) (sym is) tt
+refused_fine : (n : ℕ) (refusal : Refusal) (outcome : Outcome) → IsPlaced refusal → outcome ≡ Err refusal → FineAfter n outcome
+refused_fine n refusal outcome placed is = subst (FineAfter n) (sym is) placed
 
-files_keep : (include : Inclusion) → Keeps include → (loaded : Loaded) (place : Place) (paths : List (List ℕ)) (outcome : Outcome) → Fine loaded
+files_keep : (include : Inclusion) → Keeps include → (loaded : Loaded) (place : Place) (paths : List (List ℕ)) (outcome : Outcome) → Fine loaded → place.file < length loaded.files
     → FilesLoad include loaded place paths outcome → FineAfter (length loaded.files) outcome
-files_keep include keeps loaded place [] outcome fine loads = ends_fine loaded outcome fine loads
-files_keep include keeps loaded place (path ∷ paths) outcome fine (first, loads, onward) =
-    then_fine (length loaded.files) first (λ after. FilesLoad include after place paths) outcome (keeps loaded place path first fine loads) onward
-    (λ after good more goes. files_keep include keeps after place paths outcome good goes)
+files_keep include keeps loaded place [] outcome fine at loads = ends_fine loaded outcome fine loads
+files_keep include keeps loaded place (path ∷ paths) outcome fine at (first, loads, onward) =
+    then_fine (length loaded.files) first (λ after. FilesLoad include after place paths) outcome (keeps loaded place path first fine at loads) onward
+    (λ after good more goes. files_keep include keeps after place paths outcome good (omega (arith, at, more)) goes)
 
-names_keep : (include : Inclusion) → Keeps include → (loaded : Loaded) (place : Place) (path : List ℕ) (names : Option (List (List ℕ))) (outcome : Outcome) → Fine loaded
+names_keep : (include : Inclusion) → Keeps include → (loaded : Loaded) (place : Place) (path : List ℕ) (names : Option (List (List ℕ))) (outcome : Outcome) → Fine loaded → place.file < length loaded.files
     → NamesLoad include loaded place path names outcome → FineAfter (length loaded.files) outcome
-names_keep include keeps loaded place path None outcome fine loads = refused_fine (length loaded.files) _ outcome loads
-names_keep include keeps loaded place path (Some names) outcome fine (ordered, order, loads) =
-    files_keep include keeps (with_folder loaded) place (map (in_folder path) ordered) outcome (fine_folder loaded fine) loads
+names_keep include keeps loaded place path None outcome fine at loads = refused_fine (length loaded.files) _ outcome tt loads
+names_keep include keeps loaded place path (Some names) outcome fine at (ordered, order, loads) =
+    files_keep include keeps (with_folder loaded) place (map (in_folder path) ordered) outcome (fine_folder loaded fine) at loads
 
 if_fine : (n : ℕ) (b : Bool) (A B : Type 0) (outcome : Outcome) → IfElse b A B → (A → FineAfter n outcome) → (B → FineAfter n outcome) → FineAfter n outcome
 if_fine n true A B outcome h f g = f h
 if_fine n false A B outcome h f g = g h
 
-folder_keeps : (include : Inclusion) → Keeps include → (supplies : List Supply) (loaded : Loaded) (place : Place) (path : List ℕ) (outcome : Outcome) → Fine loaded
+folder_keeps : (include : Inclusion) → Keeps include → (supplies : List Supply) (loaded : Loaded) (place : Place) (path : List ℕ) (outcome : Outcome) → Fine loaded → place.file < length loaded.files
     → FolderLoads include supplies loaded place path outcome → FineAfter (length loaded.files) outcome
-folder_keeps include keeps supplies loaded place path outcome fine loads =
+folder_keeps include keeps supplies loaded place path outcome fine at loads =
     if_fine (length loaded.files) (nat_lt loaded.folders 1024) (NamesLoad include loaded place path (supplied_folder supplies path) outcome) _ outcome loads
-    (λ h. names_keep include keeps loaded place path (supplied_folder supplies path) outcome fine h) (λ h. refused_fine (length loaded.files) _ outcome h)
+    (λ h. names_keep include keeps loaded place path (supplied_folder supplies path) outcome fine at h) (λ h. refused_fine (length loaded.files) _ outcome at h)
 
-include_keeps : (include : Inclusion) → Keeps include → (supplies : List Supply) (loaded : Loaded) (place : Place) (folder : Bool) (path : List ℕ) (outcome : Outcome) → Fine loaded
+include_keeps : (include : Inclusion) → Keeps include → (supplies : List Supply) (loaded : Loaded) (place : Place) (folder : Bool) (path : List ℕ) (outcome : Outcome) → Fine loaded → place.file < length loaded.files
     → IncludeLoads include supplies loaded place folder path outcome → FineAfter (length loaded.files) outcome
-include_keeps include keeps supplies loaded place true path outcome fine loads = folder_keeps include keeps supplies loaded place path outcome fine loads
-include_keeps include keeps supplies loaded place false path outcome fine loads = keeps loaded place path outcome fine loads
+include_keeps include keeps supplies loaded place true path outcome fine at loads = folder_keeps include keeps supplies loaded place path outcome fine at loads
+include_keeps include keeps supplies loaded place false path outcome fine at loads = keeps loaded place path outcome fine at loads
 
 entry_keeps : (include : Inclusion) → Keeps include → (supplies : List Supply) (file : List ℕ) (loaded : Loaded) (place : Place) (body : EntryBody) (outcome : Outcome) → Fine loaded
     → place.file < length loaded.files → EntryLoadsBy include supplies loaded (record { place = place; body = body }) (followed file body) outcome → FineAfter (length loaded.files) outcome
@@ -174,7 +226,7 @@ entry_keeps include keeps supplies file loaded place (bodies.Aliases kind ds) ou
 entry_keeps include keeps supplies file loaded place (bodies.Defaults b ps) outcome fine at loads = ends_fine (with_entry loaded (record { place = place; body = bodies.Defaults b ps })) outcome (fine_entry loaded _ fine at refl) loads
 entry_keeps include keeps supplies file loaded place (bodies.Rule us ss) outcome fine at loads = ends_fine (with_entry loaded (record { place = place; body = bodies.Rule us ss })) outcome (fine_entry loaded _ fine at refl) loads
 entry_keeps include keeps supplies file loaded place (bodies.Include folder hash path) outcome fine at loads =
-    include_keeps include keeps supplies loaded place folder _ outcome fine loads
+    include_keeps include keeps supplies loaded place folder _ outcome fine at loads
 
 entries_keep : (include : Inclusion) → Keeps include → (supplies : List Supply) (file : List ℕ) (number : ℕ) (loaded : Loaded) (entries : List Entry) (outcome : Outcome) → Fine loaded
     → number < length loaded.files → EntriesIn number entries → EntriesLoad include supplies file loaded entries outcome → FineAfter (length loaded.files) outcome
@@ -188,7 +240,8 @@ lines_keep : (include : Inclusion) → Keeps include → (supplies : List Supply
     → number < length loaded.files → Reads number text read → LinesLoad include supplies file loaded read outcome → FineAfter (length loaded.files) outcome
 lines_keep include keeps supplies file number text loaded (Ok entries) outcome fine at reads loads =
     entries_keep include keeps supplies file number loaded entries outcome fine at (read_in number text entries reads) loads
-lines_keep include keeps supplies file number text loaded (Err fault) outcome fine at reads loads = refused_fine (length loaded.files) _ outcome loads
+lines_keep include keeps supplies file number text loaded (Err fault) outcome fine at reads loads =
+    refused_fine (length loaded.files) _ outcome (stands_below number (length loaded.files) (parse_file fault) at (read_fault_in number text fault reads)) loads
 
 pub text_keeps : (include : Inclusion) → Keeps include → (supplies : List Supply) (loaded : Loaded) (path text : List ℕ) (outcome : Outcome) → Fine loaded
     → TextLoads include supplies loaded path text outcome → FineAfter (length loaded.files) outcome
@@ -197,19 +250,19 @@ text_keeps include keeps supplies loaded path text outcome fine (read, reads, lo
     fine_later (length loaded.files) (length (loaded.files ++ path ∷ [])) outcome (omega (arith, more))
     (lines_keep include keeps supplies path (length loaded.files) text (with_file loaded path) read outcome (fine_file loaded path fine) (omega (arith, more)) reads loads)
 
-supplied_keeps : (include : Inclusion) → Keeps include → (supplies : List Supply) (loaded : Loaded) (place : Place) (path : List ℕ) (found : Option (Option (List ℕ))) (outcome : Outcome) → Fine loaded
+supplied_keeps : (include : Inclusion) → Keeps include → (supplies : List Supply) (loaded : Loaded) (place : Place) (path : List ℕ) (found : Option (Option (List ℕ))) (outcome : Outcome) → Fine loaded → place.file < length loaded.files
     → SuppliedLoads include supplies loaded place path found outcome → FineAfter (length loaded.files) outcome
-supplied_keeps include keeps supplies loaded place path None outcome fine loads = refused_fine (length loaded.files) _ outcome loads
-supplied_keeps include keeps supplies loaded place path (Some None) outcome fine loads = refused_fine (length loaded.files) _ outcome loads
-supplied_keeps include keeps supplies loaded place path (Some (Some text)) outcome fine loads = text_keeps include keeps supplies loaded path text outcome fine loads
+supplied_keeps include keeps supplies loaded place path None outcome fine at loads = refused_fine (length loaded.files) _ outcome tt loads
+supplied_keeps include keeps supplies loaded place path (Some None) outcome fine at loads = refused_fine (length loaded.files) _ outcome at loads
+supplied_keeps include keeps supplies loaded place path (Some (Some text)) outcome fine at loads = text_keeps include keeps supplies loaded path text outcome fine loads
 
 pub file_keeps : (levels : ℕ) (supplies : List Supply) → Keeps (FileLoads levels supplies)
 unfolding FileLoads
-file_keeps zero supplies = λ loaded place path outcome fine loads. refused_fine (length loaded.files) _ outcome loads
-file_keeps (suc levels) supplies = λ loaded place path outcome fine loads.
+file_keeps zero supplies = λ loaded place path outcome fine at loads. refused_fine (length loaded.files) _ outcome at loads
+file_keeps (suc levels) supplies = λ loaded place path outcome fine at loads.
     if_fine (length loaded.files) (nat_lt (length loaded.files) 1024) (SuppliedLoads (FileLoads levels supplies) supplies loaded place path (supplied_file supplies path) outcome) _ outcome loads
-    (λ h. supplied_keeps (FileLoads levels supplies) (file_keeps levels supplies) supplies loaded place path (supplied_file supplies path) outcome fine h)
-    (λ h. refused_fine (length loaded.files) _ outcome h)
+    (λ h. supplied_keeps (FileLoads levels supplies) (file_keeps levels supplies) supplies loaded place path (supplied_file supplies path) outcome fine at h)
+    (λ h. refused_fine (length loaded.files) _ outcome at h)
 
 -- What the main file unfolds to is fine.
 pub unfolded_fine : (levels : ℕ) (path text : List ℕ) (supplies : List Supply) (loaded : Loaded)
@@ -230,3 +283,30 @@ start_refused path p text supplies start refusal is same loads = (
       (subst (λ s. TextLoads (FileLoads 128 supplies) supplies s p text (Err refusal)) is loads),
   refl,
 )
+
+-- So is a refusal's fault, where memory was not refused.
+pub refusal_placed : (path text : List ℕ) (supplies : List Supply) (start : Loaded) (refusal : Refusal) → start ≡ nothing
+    → (refusal.1 ≢ faults.Memory → TextLoads (FileLoads 128 supplies) supplies start path text (Err refusal)) → IsPlaced refusal
+refusal_placed path text supplies start (files, fault) is loads = placed_unless files fault
+    (λ no_memory. text_keeps (FileLoads 128 supplies) (file_keeps 128 supplies) supplies nothing path text (Err (files, fault)) (record { placed = refl; unfolded = refl })
+    (subst (λ s. TextLoads (FileLoads 128 supplies) supplies s path text (Err (files, fault))) is (loads no_memory)))
+  where
+    placed_unless : (files : List (List ℕ)) (fault : LoadFault) → (fault ≢ faults.Memory → IsPlaced (files, fault)) → IsPlaced (files, fault)
+    placed_unless files (faults.Parse fault) h = h (λ e. cc)
+    placed_unless files (faults.TooNested place) h = h (λ e. cc)
+    placed_unless files (faults.TooMany place) h = h (λ e. cc)
+    placed_unless files (faults.Wanted want) h = tt
+    placed_unless files (faults.Missing place path) h = h (λ e. cc)
+    placed_unless files faults.Memory h = tt
+
+-- A definition past a limit stands where its entry does.
+pub over_limit_placed : (n : ℕ) (room : Kind → ℕ) (entries : List Entry) (place : Place) → placed_in n entries ≡ true → over_limit_from room entries ≡ Some place → place.file < n
+over_limit_placed n room [] place placed is = absurd cc
+over_limit_placed n room (entry ∷ entries) place placed is = go (fits room entry.body) is
+    (λ rest. over_limit_placed n (less room entry.body) entries place (and_second (nat_lt entry.place.file n) (placed_in n entries) placed) rest)
+  where
+    here : nat_lt entry.place.file n ≡ true → entry.place ≡ place → place.file < n
+    here test same = grind (arith, nat_tests)
+    go : (b : Bool) → (if b then over_limit_from (less room entry.body) entries else Some entry.place) ≡ Some place → (over_limit_from (less room entry.body) entries ≡ Some place → place.file < n) → place.file < n
+    go true is later = later is
+    go false is later = here (and_first (nat_lt entry.place.file n) (placed_in n entries) placed) cc

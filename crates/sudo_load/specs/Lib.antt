@@ -5,3 +5,4 @@ pub mod Unfolding
 pub mod Outcomes
 pub mod Load
 pub mod Fine
+pub mod FaultFiles

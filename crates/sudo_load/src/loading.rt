@@ -1,11 +1,12 @@
 //! Files that include files, to one policy.
-ghost use Rattle.std.specs.Prelude.{◌≡◌, ℕ, ◌≤◌, ◌<◌, ◌^◌, List, length, map, filter, IfOk, Ok};
+ghost use Rattle.std.specs.Prelude.{◌≡◌, ℕ, ◌≤◌, ◌<◌, ◌^◌, List, length, map, filter, IfOk, IfErr, Ok};
 ghost use Rattle.sudo_load.specs.Unfolding.{FileLoads, FilesLoad, FolderLoads, EntryLoads, EntriesLoad, TextLoads, IsFolderOrder, nothing as spec_nothing, followed as spec_followed, with_file as spec_with_file, with_entry as spec_with_entry};
 ghost use Rattle.sudo_load.specs.Paths.{is_kept as spec_is_kept, in_folder as spec_in_folder};
 ghost use Rattle.sudo_parser.specs.Parsed.{over_limit};
 ghost use Rattle.sudo_load.specs.Outcomes.{GivesBy};
 ghost use Rattle.sudo_load.specs.Load.{Closes, LoadGives};
 ghost use Rattle.sudo_load.specs.Fine.{Fine};
+ghost use Rattle.sudo_load.specs.FaultFiles.{IsPlaced};
 
 use crate::fault::{LoadFault, Want};
 use crate::file::read;
@@ -303,7 +304,8 @@ fn load_text(
 /// A policy of what is loaded, unless there are too many definitions in all files together.
 fn closed(loaded: Loaded) -> Result<Policy, Refusal>
     requires { Fine loaded }
-    ensures { Closes loaded (over_limit loaded.entries) result }
+    ensures closes { Closes loaded (over_limit loaded.entries) result }
+    ensures placed { IfErr result (λ refusal. IsPlaced refusal) }
 {
     match first_over_limit(loaded.entries.as_slice()) {
         None => Ok(Policy {
@@ -327,14 +329,15 @@ fn closed(loaded: Loaded) -> Result<Policy, Refusal>
 /// the first of these that holds: for a file `TooNested` past 128 levels, `TooMany` past 1,024 files, `Wanted` where
 /// it is not handed in, `Missing`, and `Parse`; for a folder `TooMany` past 1,024 folders, and `Wanted`. Last,
 /// `Parse(TooMany)` comes for the first definition past 4,096 of its kind in all files. `Memory` comes only where
-/// memory was refused. What is handed in and not asked for changes nothing.
+/// memory was refused. The file number in a fault is below the number of paths. What is handed in and not asked for changes nothing.
 pub fn load(
     alloc: Global,
     path: &[u8],
     text: &[u8],
     supplies: &[Supply],
 ) -> Result<Policy, (Seq<Seq<u8>>, LoadFault)>
-    ensures { LoadGives path.now text.now supplies.now result }
+    ensures load { LoadGives path.now text.now supplies.now result }
+    ensures placed { IfErr result (λ refusal. IsPlaced refusal) }
 {
     let Ok(path) = Seq::from_slice(alloc, path) else {
         return Err(out_of_memory(alloc));

@@ -9,3 +9,4 @@ pub mod Scanning
 pub mod TokenVectors
 pub mod Unique
 pub mod OneFault
+pub mod FaultPlace

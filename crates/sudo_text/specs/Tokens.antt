@@ -257,3 +257,16 @@ FaultsExclude = (line : Line) (fault : TextFault) (ts : List Token) → Leftmost
 -- No line has two leftmost faults.
 abbrev pub FaultedOnce : Type 0
 FaultedOnce = (line : Line) (fault other : TextFault) → LeftmostFault line fault → LeftmostFault line other → fault ≡ other
+
+-- The place that a fault names, where it names one.
+abbrev pub fault_place : TextFault → Option Place
+fault_place (faults.BadQuote place col) = Some place
+fault_place (faults.BadHex place col) = Some place
+fault_place (faults.BadEscape place col) = Some place
+fault_place (faults.NotPrintable place col) = Some place
+fault_place (faults.TooLong file) = None
+fault_place faults.Memory = None
+
+-- A leftmost fault names the place where its line begins.
+abbrev pub FaultsPlaced : Type 0
+FaultsPlaced = (line : Line) (fault : TextFault) → LeftmostFault line fault → fault_place fault ≡ Some line.first

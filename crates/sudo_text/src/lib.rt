@@ -18,6 +18,8 @@ mod token;
 pub use fault::TextFault;
 pub use folding::{TEXT_LIMIT, lines};
 pub use line::{Line, Place};
-pub use scan::{no_fault_beside_tokens, one_leftmost_fault, one_token_list, tokens};
+pub use scan::{
+    faults_name_their_line, no_fault_beside_tokens, one_leftmost_fault, one_token_list, tokens,
+};
 pub use seq::Seq;
 pub use token::{Ch, Mark, Token, TokenKind};

@@ -4,7 +4,7 @@ ghost use Rattle.sudo_text.specs.Pieces.{takes_first, Breaks, plain as spec_plai
 ghost use Rattle.sudo_text.specs.Places.{RuleFits, KindFits};
 ghost use Rattle.sudo_text.specs.Refusals.{Refuses};
 ghost use Rattle.sudo_text.specs.Tokens as spec;
-ghost use Rattle.sudo_text.specs.Tokens.{quoted_end, command_end, path_end, token_by, token_end, WordEnds, QuotedFlaw, CommandFlaw, PathFlaw, FlawBy, FlawNext, IsDone, IfToken, IsFaultOf, closes_line, stands, spells, LeftmostFault, SpelledOnce, FaultsExclude, FaultedOnce};
+ghost use Rattle.sudo_text.specs.Tokens.{quoted_end, command_end, path_end, token_by, token_end, WordEnds, QuotedFlaw, CommandFlaw, PathFlaw, FlawBy, FlawNext, IsDone, IfToken, IsFaultOf, closes_line, stands, spells, LeftmostFault, SpelledOnce, FaultsExclude, FaultedOnce, FaultsPlaced};
 ghost use Rattle.sudo_text.specs.Faults.{Gives};
 ghost use Rattle.sudo_text.specs.declared.token.Token.{Token};
 ghost use Rattle.std.specs.Prelude.{List, Ok};
@@ -334,4 +334,9 @@ pub fn no_fault_beside_tokens()
 /// No line has two leftmost faults.
 pub fn one_leftmost_fault()
     ensures { FaultedOnce }
+{}
+
+/// A leftmost fault names the place where its line begins.
+pub fn faults_name_their_line()
+    ensures { FaultsPlaced }
 {}
