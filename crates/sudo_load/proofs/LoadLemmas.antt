@@ -1,10 +1,9 @@
 -- The cases in which a file or a folder is included.
-use Rattle.std.proofs.Common.{◌≡◌, ℕ, zero, suc, ◌+◌, ◌-◌, ◌<◌, ◌≤◌, Bool, true, false, List, [], ◌∷◌, length, Option, None, Some, Result, Ok, Err, refl, sym, ◌∙◌, ap, subst, arith}
-use Rattle.std.specs.Prelude.{nat_lt, map, ◌≢◌}
+use Rattle.std.proofs.Common.{◌≡◌, ℕ, zero, suc, ◌-◌, ◌<◌, ◌≤◌, true, false, List, length, Option, Some, Result, Ok, Err, refl, sym, ◌∙◌, ap, subst, arith}
+use Rattle.std.specs.Prelude.{nat_lt, map}
 use Rattle.std.proofs.lemmas.Bool.Decides.{nat_tests}
 use Rattle.sudo_text.specs.declared.line.Place.{Place}
 use Rattle.sudo_load.specs.declared.fault.LoadFault.TheVariants as faults
-use Rattle.sudo_load.specs.declared.fault.Want.TheVariants as wants
 use Rattle.sudo_load.specs.declared.loading.Loaded.{Loaded}
 use Rattle.sudo_load.specs.declared.supply.Supply.{Supply}
 use Rattle.sudo_load.specs.Outcomes.{GivesBy}

@@ -1,6 +1,6 @@
 -- What is loaded stands in the files that were read, and has no include line; and so does a fault.
 use Rattle.std.proofs.Common.{◌≡◌, ℕ, zero, suc, ◌+◌, ◌<◌, ◌≤◌, Bool, true, false, List, [], ◌∷◌, ◌++◌, length, Option, None, Some, Result, Ok, Err, inl, inr, refl, sym, ◌∙◌, ap, subst, arith, length-append}
-use Rattle.std.specs.Prelude.{⊤, ◌≢◌, IsTrue, not, nat_lt, map, ◌&&◌, ◌⊎◌, if◌then◌else◌}
+use Rattle.std.specs.Prelude.{⊤, ◌≢◌, not, nat_lt, map, ◌&&◌, if◌then◌else◌}
 use Rattle.std.specs.List.{list_all}
 use Rattle.std.proofs.lemmas.Bool.Decides.{nat_tests}
 use Rattle.sudo_text.specs.declared.line.Line.{Line}
@@ -19,7 +19,7 @@ use Rattle.sudo_text.specs.Tokens.{fault_place}
 use Rattle.sudo_text.proofs.FaultPlace.{faults_placed}
 use Rattle.sudo_tree.specs.declared.kind.Kind.{Kind}
 use Rattle.sudo_parser.specs.Limits.{less}
-use Rattle.sudo_parser.specs.Parsed.{AreEntriesAfter, AreEntries, entry_of, Says, IsLineFault, IsFirstFaultAfter, room_after, column, fault_at, fits, over_limit_from}
+use Rattle.sudo_parser.specs.Parsed.{AreEntriesAfter, entry_of, IsLineFault, IsFirstFaultAfter, room_after, column, fault_at, fits, over_limit_from}
 use Rattle.sudo_load.specs.FaultFiles.{text_file, parse_file, IsBelow, IsPlaced}
 use Rattle.sudo_load.specs.declared.fault.LoadFault.TheVariants as faults
 use Rattle.sudo_load.specs.declared.fault.LoadFault.{LoadFault}
@@ -27,10 +27,10 @@ use Rattle.sudo_load.specs.declared.loading.Loaded.{Loaded}
 use Rattle.sudo_load.specs.declared.supply.Supply.{Supply}
 use Rattle.sudo_load.specs.Files.{Reads}
 use Rattle.sudo_load.specs.Load.{IsLoad}
-use Rattle.sudo_load.specs.Fine.{placed_in, followed_all, Fine}
+use Rattle.sudo_load.specs.Fine.{placed_in, Fine}
 use Rattle.sudo_load.specs.Supplies.{supplied_file, supplied_folder}
 use Rattle.sudo_load.specs.Paths.{in_folder}
-use Rattle.sudo_load.specs.Unfolding.{Refusal, Outcome, Inclusion, with_file, with_folder, with_entry, Then, IfElse, FilesLoad, NamesLoad, FolderLoads, IncludeLoads, EntryLoadsBy, EntryLoads, EntriesLoad, LinesLoad, TextLoads, SuppliedLoads, FileLoads, followed, Unfolds, nothing}
+use Rattle.sudo_load.specs.Unfolding.{Refusal, Outcome, Inclusion, with_file, with_folder, with_entry, Then, IfElse, FilesLoad, NamesLoad, FolderLoads, IncludeLoads, EntryLoadsBy, EntriesLoad, LinesLoad, TextLoads, SuppliedLoads, FileLoads, followed, nothing}
 
 -- Each of the lines stands in the file.
 abbrev pub InFile : ℕ → List Line → Type 0
@@ -307,6 +307,7 @@ over_limit_placed n room (entry ∷ entries) place placed is = go (fits room ent
   where
     here : nat_lt entry.place.file n ≡ true → entry.place ≡ place → place.file < n
     here test same = grind (arith, nat_tests)
+
     go : (b : Bool) → (if b then over_limit_from (less room entry.body) entries else Some entry.place) ≡ Some place → (over_limit_from (less room entry.body) entries ≡ Some place → place.file < n) → place.file < n
     go true is later = later is
     go false is later = here (and_first (nat_lt entry.place.file n) (placed_in n entries) placed) cc

@@ -1,5 +1,5 @@
 -- In which file a fault stands: its number is that of one of the files that were read.
-use Rattle.std.specs.Prelude.{ℕ, ◌<◌, List, length, Option, None, Some, ⊤}
+use Rattle.std.specs.Prelude.{ℕ, ◌<◌, length, Option, None, Some, ⊤}
 use Rattle.sudo_text.specs.declared.fault.TextFault.{TextFault}
 use Rattle.sudo_text.specs.declared.fault.TextFault.TheVariants as texts
 use Rattle.sudo_tree.specs.declared.fault.ParseFault.{ParseFault}

@@ -6,3 +6,4 @@ pub mod Outcomes
 pub mod Load
 pub mod Fine
 pub mod FaultFiles
+pub mod Included

@@ -7,7 +7,7 @@ use Rattle.sudo_parser.specs.Parsed.{over_limit}
 use Rattle.sudo_load.specs.declared.fault.LoadFault.TheVariants as faults
 use Rattle.sudo_load.specs.declared.loading.Loaded.{Loaded}
 use Rattle.sudo_load.specs.declared.supply.Supply.{Supply}
-use Rattle.sudo_load.specs.Unfolding.{Refusal, Outcome, Unfolds, refused}
+use Rattle.sudo_load.specs.Unfolding.{Refusal, Outcome, Unfolds}
 
 -- What is loaded is the policy, unless a definition is past the limit for its kind in all files together.
 abbrev pub Closes : Loaded → Option Place → Result Policy Refusal → Type 0

@@ -1,5 +1,5 @@
 -- Paths of included files. sudoers(5), "Including other files from within sudoers".
-use Rattle.std.specs.Prelude.{ℕ, Bool, true, false, not, ◌&&◌, ◌==◌, List, [], ◌∷◌, ◌++◌, length, take, reverse, slice_index, ◌-◌, if◌then◌else◌}
+use Rattle.std.specs.Prelude.{ℕ, Bool, false, not, ◌&&◌, ◌==◌, List, [], ◌∷◌, ◌++◌, length, take, reverse, slice_index, ◌-◌, if◌then◌else◌}
 use Rattle.std.specs.List.{take_while, list_any}
 
 -- the bytes of a path up to and with its last `/`

@@ -6,10 +6,12 @@
 
 mod fault;
 mod file;
+mod include;
 mod loading;
 mod paths;
 mod supply;
 
 pub use fault::{LoadFault, Want};
+pub use include::{folder_files, included};
 pub use loading::load;
 pub use supply::Supply;

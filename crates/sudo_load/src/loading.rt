@@ -1,7 +1,6 @@
 //! Files that include files, to one policy.
 ghost use Rattle.std.specs.Prelude.{◌≡◌, ℕ, ◌≤◌, ◌<◌, ◌^◌, List, length, map, filter, IfOk, IfErr, Ok};
-ghost use Rattle.sudo_load.specs.Unfolding.{FileLoads, FilesLoad, FolderLoads, EntryLoads, EntriesLoad, TextLoads, IsFolderOrder, nothing as spec_nothing, followed as spec_followed, with_file as spec_with_file, with_entry as spec_with_entry};
-ghost use Rattle.sudo_load.specs.Paths.{is_kept as spec_is_kept, in_folder as spec_in_folder};
+ghost use Rattle.sudo_load.specs.Unfolding.{FileLoads, FilesLoad, FolderLoads, EntryLoads, EntriesLoad, TextLoads, nothing as spec_nothing, with_file as spec_with_file, with_entry as spec_with_entry};
 ghost use Rattle.sudo_parser.specs.Parsed.{over_limit};
 ghost use Rattle.sudo_load.specs.Outcomes.{GivesBy};
 ghost use Rattle.sudo_load.specs.Load.{Closes, LoadGives};
@@ -10,12 +9,12 @@ ghost use Rattle.sudo_load.specs.FaultFiles.{IsPlaced};
 
 use crate::fault::{LoadFault, Want};
 use crate::file::read;
-use crate::paths::{beside, bytes, in_folder, is_kept};
+use crate::include::{folder_files, followed};
 use crate::supply::{Supply, find_file, find_folder};
 use std::alloc::{AllocError, Global};
 use sudo_parser::first_over_limit;
 use sudo_text::{Place, Seq};
-use sudo_tree::{Entry, EntryBody, ParseFault, Policy};
+use sudo_tree::{Entry, ParseFault, Policy};
 
 /// How many files, and how many folders, may be read.
 const READING_LIMIT: usize = 1024;
@@ -52,65 +51,6 @@ fn nothing(alloc: Global) -> Loaded
         files: Seq::new(alloc),
         folders: 0,
         entries: Seq::new(alloc),
-    }
-}
-
-/// The files of a folder that are read, in the order of their names' bytes.
-fn folder_order(alloc: Global, names: &[Seq<u8>]) -> Result<Vec<Seq<u8>>, AllocError>
-    ensures { IfOk result (λ v. IsFolderOrder names.now v.items) }
-{
-    let mut kept = kept_names(alloc, names)?;
-    kept.sort_unstable();
-    Ok(kept)
-}
-
-/// The names of the files that are read.
-fn kept_names(alloc: Global, names: &[Seq<u8>]) -> Result<Vec<Seq<u8>>, AllocError>
-    ensures { IfOk result (λ v. v.items ≡ filter spec_is_kept names.now) }
-{
-    let mut kept = Vec::new(alloc);
-    for name in names {
-        if is_kept(name.as_slice()) {
-            kept.push(name.clone()?)?;
-        }
-    }
-    Ok(kept)
-}
-
-/// The paths of a folder's files.
-fn paths_in(alloc: Global, folder: &[u8], names: &[Seq<u8>]) -> Result<Vec<Seq<u8>>, AllocError>
-    ensures { IfOk result (λ v. v.items ≡ map (spec_in_folder folder.now) names.now) }
-{
-    let mut paths = Vec::new(alloc);
-    for name in names {
-        paths.push(in_folder(alloc, folder, name.as_slice())?)?;
-    }
-    Ok(paths)
-}
-
-/// The paths of a folder's files that are read, in order.
-fn folder_paths(alloc: Global, folder: &[u8], names: &[Seq<u8>]) -> Result<Vec<Seq<u8>>, AllocError>
-    ensures { IfOk result (λ v. (ordered : List (List ℕ)) × IsFolderOrder names.now ordered × (v.items ≡ map (spec_in_folder folder.now) ordered)) }
-{
-    let ordered = folder_order(alloc, names)?;
-    paths_in(alloc, folder, &ordered)
-}
-
-/// What an include line of a file names: whether it is a folder, and its path; `None` for any other line.
-fn followed(
-    alloc: Global,
-    file: &[u8],
-    body: &EntryBody,
-) -> Result<Option<(bool, Seq<u8>)>, AllocError>
-    ensures { IfOk result (λ named. named ≡ spec_followed file.now body.now) }
-{
-    match body {
-        EntryBody::Include { folder, path, .. } => {
-            let path = bytes(alloc, path.as_slice())?;
-            let path = beside(alloc, file, path.as_slice())?;
-            Ok(Some((*folder, path)))
-        }
-        _ => Ok(None),
     }
 }
 
@@ -213,7 +153,7 @@ fn load_folder(
     let Some(names) = find_folder(supplies, path.as_slice()) else {
         return Err((loaded.files, LoadFault::Wanted(Want::Folder(path))));
     };
-    let Ok(paths) = folder_paths(alloc, path.as_slice(), names.as_slice()) else {
+    let Ok(paths) = folder_files(alloc, path.as_slice(), names.as_slice()) else {
         return Err(out_of_memory(alloc));
     };
     let loaded = Loaded {

@@ -1,4 +1,4 @@
-use Rattle.std.proofs.Common.{rules, refl, sym, ◌∙◌, ap, arith, None, Some, List, ℕ, ◌-◌}
+use Rattle.std.proofs.Common.{rules, refl, sym, ◌∙◌, ap, None, Some, List, ℕ, ◌-◌}
 use Rattle.sudo_load.specs.Supplies.{supplied_file, supplied_folder}
 use Rattle.sudo_load.specs.Unfolding.{FileLoads, FilesLoad, TextLoads, FolderLoads, with_folder}
 use Rattle.sudo_load.proofs.LoadLemmas.{nested, full, supplied, folder_supplied, names_load, gives}

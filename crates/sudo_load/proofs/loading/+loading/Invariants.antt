@@ -1,4 +1,4 @@
-use Rattle.std.proofs.Common.{◌≡◌, ◌+◌, ◌*◌, ◌++◌}
+use Rattle.std.proofs.Common.{◌+◌, ◌*◌}
 use Rattle.std.specs.Vec.Iter.{into_iter_items}
 use Rattle.sudo_load.specs.Unfolding.{FileLoads, FilesLoad, EntriesLoad, Outcome}
 use Rattle.sudo_load.proofs.loading.+loading.Given as goal
