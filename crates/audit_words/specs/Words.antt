@@ -1,11 +1,13 @@
 -- What the words of the command line ask for, by `clap`'s meaning of a simple command.
-use Rattle.std.specs.Prelude.{◌≡◌, ◌≤◌, ℕ, pos, true, List, [], ◌∷◌, map, codes, ⊤, Some, Ok, unwrap_or}
+use Rattle.std.specs.Prelude.{◌≡◌, ◌≤◌, ◌⊎◌, ℕ, pos, true, false, List, [], ◌∷◌, map, codes, ⊤, Some, Ok, unwrap_or}
 use Rattle.std.specs.Str.Parse.{ParsesUnsigned}
 use Rattle.std.specs.declared.num.ParseIntError.{ParseIntError}
-use Rattle.clap.specs.Words.{App, Row, Rule, Text, all_of, first_of, one_of, new_app, new_rule, with_rule, with_subcommand}
+use Rattle.clap.specs.Words.{App, Row, Rule, Text, all_of, first_of, one_of, kind_of, new_app, new_rule, subcommand_of, takes, with_rule, with_subcommand}
 use Rattle.clap.specs.Simple.{on_top}
 use Rattle.clap.specs.Lexer.{usize_max}
 use Rattle.clap.specs.declared.builder.value_parser.ValueParser.TheVariants as vp
+use Rattle.clap.specs.declared.error.Error.{Error}
+use Rattle.clap.specs.declared.error.ErrorKind.TheVariants.{OutOfMemory}
 use Rattle.sudo_tree.specs.declared.kind.Kind.{Kind}
 use Rattle.sudo_tree.specs.declared.kind.Kind.TheVariants as kind
 use Rattle.audit_words.specs.declared.request.Asked.{Asked}
@@ -77,3 +79,17 @@ abbrev pub WorkersFit : Asked → Type 0
 WorkersFit (Check file) = ⊤
 WorkersFit (Expand file kind name) = ⊤
 WorkersFit (Audit file users hosts workers senders) = (1 ≤ workers) × (workers ≤ 16)
+
+-- nothing is asked for by a subcommand with these rows: another name, or a KIND that is none
+abbrev pub AsksNothing : Text × List Row → Type 0
+AsksNothing p = (asked : Asked) → States asked p → ⊥
+
+-- `clap` takes no such words, or they ask for nothing
+abbrev pub IsMisuse : List Text → Type 0
+IsMisuse words =
+    (takes program_app words ≡ false)
+    ⊎ ((p : Text × List Row) → subcommand_of program_app words ≡ Some p → AsksNothing p)
+
+-- why words are refused: memory was refused, or they are misuse
+abbrev pub IsRefusal : List Text → Error → Type 0
+IsRefusal words error = (kind_of error ≡ OutOfMemory) ⊎ IsMisuse words

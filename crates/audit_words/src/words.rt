@@ -1,7 +1,7 @@
 //! The words of the command line.
-ghost use Rattle.std.specs.Prelude.{◌≡◌, ◌≤◌, [], Some, IfOk, IfSome, List, map, unwrap_or};
-ghost use Rattle.clap.specs.Words.{Row, Text, all_of, first_of, found_of, rows_of, subcommand_of};
-ghost use Rattle.audit_words.specs.Words.{IsNumberIn, States, WorkersFit, kind_word, program_app};
+ghost use Rattle.std.specs.Prelude.{◌≡◌, ◌≢◌, ◌≤◌, [], None, Some, IfErr, IfOk, IfSome, List, map, unwrap_or};
+ghost use Rattle.clap.specs.Words.{Row, Text, all_of, first_of, found_of, kind_of as error_kind, rows_of, subcommand_of};
+ghost use Rattle.audit_words.specs.Words.{AsksNothing, IsNumberIn, IsRefusal, States, WorkersFit, kind_word, program_app};
 
 use crate::program::program;
 use crate::request::Asked;
@@ -13,7 +13,8 @@ use sudo_tree::Kind;
 
 /// The kind that a word names.
 fn kind_of(word: &str) -> Option<Kind>
-    ensures { IfSome result (λ k. word.now ≡ kind_word k) }
+    ensures some { IfSome result (λ k. word.now ≡ kind_word k) }
+    ensures none { result ≡ None → (k : Kind) → word.now ≢ kind_word k }
 {
     if word == "user" {
         return Some(Kind::User);
@@ -33,7 +34,8 @@ fn kind_of(word: &str) -> Option<Kind>
 /// The value of an argument.
 #[tactic(auto, using(crate::proofs::RowLemmas::row_lemmas))]
 fn value<'a>(given: &ArgMatches<'a>, id: &str) -> Result<&'a str, Error>
-    ensures { IfOk result (λ text. first_of id.now (rows_of (found_of given.now)) ≡ Some text.now) }
+    ensures value { IfOk result (λ text. first_of id.now (rows_of (found_of given.now)) ≡ Some text.now) }
+    ensures memory { IfErr result (λ e. error_kind e ≡ ErrorKind.OutOfMemory) }
 {
     match given.get_str(id) {
         Some(text) => Ok(text),
@@ -44,7 +46,8 @@ fn value<'a>(given: &ArgMatches<'a>, id: &str) -> Result<&'a str, Error>
 /// The values of an argument, which may be none.
 #[tactic(auto, using(crate::proofs::RowLemmas::row_lemmas))]
 fn values<'a>(alloc: Global, given: &ArgMatches<'a>, id: &str) -> Result<Vec<&'a str>, Error>
-    ensures { IfOk result (λ v. unwrap_or (all_of id.now (rows_of (found_of given.now))) [] ≡ map (λ s. s.now) v.items) }
+    ensures values { IfOk result (λ v. unwrap_or (all_of id.now (rows_of (found_of given.now))) [] ≡ map (λ s. s.now) v.items) }
+    ensures memory { IfErr result (λ e. error_kind e ≡ ErrorKind.OutOfMemory) }
 {
     match given.get_strs(id) {
         Some(words) => Ok(Vec::from_slice(alloc, words)?),
@@ -57,6 +60,7 @@ fn values<'a>(alloc: Global, given: &ArgMatches<'a>, id: &str) -> Result<Vec<&'a
 fn workers(given: &ArgMatches<'_>) -> Result<u32, Error>
     ensures few { IfOk result (λ n. (1 ≤ n) × (n ≤ 16)) }
     ensures read { IfOk result (λ n. IsNumberIn n (rows_of (found_of given.now))) }
+    ensures memory { IfErr result (λ e. error_kind e ≡ ErrorKind.OutOfMemory) }
 {
     match given.get_one::<u32>("workers") {
         Some(count @ 1..=16) => Ok(count),
@@ -72,6 +76,8 @@ fn asked_by<'a>(
 ) -> Result<Option<Asked<'a>>, Error>
     ensures stated { IfOk result (λ o. IfSome o (λ a. States a (name.now, rows_of (found_of given.now)))) }
     ensures workers { IfOk result (λ o. IfSome o WorkersFit) }
+    ensures none { IfOk result (λ o. o ≡ None → AsksNothing (name.now, rows_of (found_of given.now))) }
+    ensures memory { IfErr result (λ e. error_kind e ≡ ErrorKind.OutOfMemory) }
 {
     if name == "check" {
         return Ok(Some(Asked::Check {
@@ -104,10 +110,12 @@ fn asked_by<'a>(
 /// with the subcommands `check FILE`, `expand FILE KIND NAME`, where KIND is `user`, `runas`, `host` or `cmnd`, and
 /// `audit FILE --users F --hosts F [--workers N] [NAME=PATH]...`, where N is 1 to 16, by default 2.
 ///
-/// The error is `clap`'s, for words that are another command or ask for help, or for memory.
+/// The error is `clap`'s. Memory aside, it comes exactly where `clap` does not take the words (they are no such command,
+/// or ask for help) or KIND is none of the four.
 pub fn asked<'a, S: AsStr>(alloc: Global, words: &'a [S]) -> Result<Asked<'a>, Error>
     ensures stated { IfOk result (λ a. (p : Text × List Row) × (subcommand_of program_app (map S.text words.entry.now) ≡ Some p) × States a p) }
     ensures workers { IfOk result WorkersFit }
+    ensures refused { IfErr result (λ e. IsRefusal (map S.text words.entry.now) e) }
 {
     let mut command = program(alloc)?;
     let matches = command.try_get_matches_from_mut(words)?;

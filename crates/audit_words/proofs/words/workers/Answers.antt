@@ -1,4 +1,4 @@
-use Rattle.std.proofs.Common.{◌≡◌, ◌∙◌, sym, subst, codes, refl, Option, Some, None, ℕ, rules}
+use Rattle.std.proofs.Common.{◌≡◌, ◌∙◌, sym, codes, refl, Option, Some, None}
 use Rattle.clap.specs.Matches.{one_text, found_of}
 use Rattle.clap.specs.declared.parser.matches.Found.{Found}
 use Rattle.clap.proofs.WalkLemmas.{one_text-rows}

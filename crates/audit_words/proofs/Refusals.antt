@@ -1,0 +1,26 @@
+-- Words that ask for nothing.
+use Rattle.std.proofs.Common.{◌≡◌, List, Some, codes, sym, ◌∙◌}
+use Rattle.std.specs.Prelude.{◌≢◌}
+use Rattle.clap.specs.Words.{Row, Text, first_of}
+use Rattle.sudo_tree.specs.declared.kind.Kind.{Kind}
+use Rattle.audit_words.specs.declared.request.Asked.TheVariants.{Check, Expand, Audit}
+use Rattle.audit_words.specs.Words.{AsksNothing, kind_word}
+
+some_is : (a b : Text) → Some a ≡ Some b → a ≡ b
+some_is a b e = cc
+
+expand_is_check : codes "expand" ≡ codes "check" → ⊥
+expand_is_check e = absurd cc
+
+expand_is_audit : codes "expand" ≡ codes "audit" → ⊥
+expand_is_audit e = absurd cc
+
+pub no_kind : (name : Text) (rows : List Row) (word : Text) → name ≡ codes "expand" → first_of (codes "kind") rows ≡ Some word → ((k : Kind) → word ≢ kind_word k) → AsksNothing (name, rows)
+no_kind name rows word is given none (Check file) stated = absurd (expand_is_check (sym is ∙ stated.0))
+no_kind name rows word is given none (Expand file kind alias) stated = none kind (some_is word (kind_word kind) (sym given ∙ stated.2))
+no_kind name rows word is given none (Audit file users hosts workers senders) stated = absurd (expand_is_audit (sym is ∙ stated.0))
+
+pub no_name : (name : Text) (rows : List Row) → name ≢ codes "check" → name ≢ codes "expand" → name ≢ codes "audit" → AsksNothing (name, rows)
+no_name name rows check expand audit (Check file) stated = check stated.0
+no_name name rows check expand audit (Expand file kind alias) stated = expand stated.0
+no_name name rows check expand audit (Audit file users hosts workers senders) stated = audit stated.0
