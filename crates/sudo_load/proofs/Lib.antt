@@ -1,2 +1,4 @@
 pub mod LoadLemmas
 pub mod Placed
+pub mod Sorted
+pub mod OneLoad

@@ -27,3 +27,10 @@ IsLoad path text supplies result = (outcome : Outcome) × Unfolds path text supp
 abbrev pub LoadGives : List ℕ → List ℕ → List Supply → Result Policy Refusal → Type 0
 LoadGives path text supplies (Ok policy) = IsLoad path text supplies (Ok policy)
 LoadGives path text supplies (Err refusal) = refusal.1 ≢ faults.Memory → IsLoad path text supplies (Err refusal)
+
+-- The same policy, by its files and entries, or the same refusal.
+abbrev pub SameLoad : Result Policy Refusal → Result Policy Refusal → Type 0
+SameLoad (Ok a) (Ok b) = (a.files ≡ b.files) × (a.entries ≡ b.entries)
+SameLoad (Err a) (Err b) = a ≡ b
+SameLoad (Ok a) (Err b) = ⊥
+SameLoad (Err a) (Ok b) = ⊥

@@ -7,11 +7,13 @@
 mod fault;
 mod file;
 mod include;
+mod laws;
 mod loading;
 mod paths;
 mod supply;
 
 pub use fault::{LoadFault, Want};
 pub use include::{folder_files, included};
+pub use laws::files_have_one_load;
 pub use loading::load;
 pub use supply::Supply;

@@ -10,3 +10,4 @@ pub mod EntryLaws
 pub mod FaultLemmas
 pub mod ParsedLemmas
 pub mod TextVectors
+pub mod OneReading

@@ -3,6 +3,7 @@
 
 mod aliases;
 mod defaults;
+mod laws;
 mod line;
 mod lists;
 mod members;
@@ -18,5 +19,6 @@ mod tokens;
 mod words;
 mod writing;
 
+pub use laws::lines_have_one_reading;
 pub use parsing::{first_over_limit, parse};
 pub use writing::member_text;
