@@ -4,8 +4,8 @@ ghost use Rattle.sudo_audit.specs.Loading.{IsLoaded};
 
 use crate::fault::Fault;
 use crate::files::{Files, FilesFault};
-use std::alloc::Global;
-use sudo_load::{LoadFault, Supply, Want, load};
+use std::alloc::{AllocError, Global};
+use sudo_load::{LoadFault, Supply, Want, folder_files, included, load};
 use sudo_text::Seq;
 use sudo_tree::Policy;
 
@@ -50,7 +50,89 @@ fn main_text<F: Files>(alloc: Global, files: &mut F, path: &[u8]) -> Result<Seq<
     }
 }
 
-/// The policy of a file and of all that it includes: what is wanted is read, and the loading begins anew.
+/// Whether a file or a folder was read.
+fn is_read(supplies: &[Supply], want: &Want) -> bool {
+    supplies.iter().any(|supply| match (supply, want) {
+        (Supply::File { path, .. }, Want::File(wanted)) => path == wanted,
+        (Supply::Folder { path, .. }, Want::Folder(wanted)) => path == wanted,
+        _ => false,
+    })
+}
+
+/// What the include lines of a file name; nothing where there is no such file.
+fn named_by_file(
+    alloc: Global,
+    path: &Seq<u8>,
+    text: &Option<Seq<u8>>,
+) -> Result<Vec<Want>, AllocError> {
+    match text {
+        Some(text) => included(alloc, path.as_slice(), text.as_slice()),
+        None => Ok(Vec::new(alloc)),
+    }
+}
+
+/// The files of a folder.
+fn named_by_folder(
+    alloc: Global,
+    path: &Seq<u8>,
+    names: &Seq<Seq<u8>>,
+) -> Result<Vec<Want>, AllocError> {
+    let mut wants = Vec::new(alloc);
+    for file in folder_files(alloc, path.as_slice(), names.as_slice())? {
+        wants.push(Want::File(file))?;
+    }
+    Ok(wants)
+}
+
+/// What is wanted next where this was read.
+fn named_by(alloc: Global, supply: &Supply) -> Result<Vec<Want>, AllocError> {
+    match supply {
+        Supply::File { path, text } => named_by_file(alloc, path, text),
+        Supply::Folder { path, names } => named_by_folder(alloc, path, names),
+    }
+}
+
+/// Reads a file or a folder, and notes what it names. What can't be read is left: whether it is wanted at all is not
+/// known yet.
+fn read_one<F: Files>(
+    alloc: Global,
+    files: &mut F,
+    want: Want,
+    supplies: &mut Vec<Supply>,
+    pending: &mut Vec<Want>,
+) -> Result<(), Fault> {
+    match fetch(alloc, files, want) {
+        Ok(supply) => {
+            pending.append(&mut named_by(alloc, &supply)?)?;
+            Ok(supplies.push(supply)?)
+        }
+        Err(Fault::CannotRead(_)) => Ok(()),
+        Err(fault) => Err(fault),
+    }
+}
+
+/// Reads ahead what a file includes, so that little is left to be asked for and no file is parsed again and again.
+fn read_ahead<F: Files>(
+    alloc: Global,
+    files: &mut F,
+    path: &[u8],
+    text: &[u8],
+) -> Result<Vec<Supply>, Fault> {
+    let mut supplies = Vec::new(alloc);
+    let mut pending = included(alloc, path, text)?;
+    for _turn in 0..MOST_CALLS {
+        let Some(want) = pending.pop() else {
+            break;
+        };
+        if !is_read(&supplies, &want) {
+            read_one(alloc, files, want, &mut supplies, &mut pending)?;
+        }
+    }
+    Ok(supplies)
+}
+
+/// The policy of a file and of all that it includes: what it names is read ahead, what is wanted then is read, and the
+/// loading begins anew.
 pub(crate) fn policy_of<F: Files>(
     alloc: Global,
     path: &[u8],
@@ -59,7 +141,7 @@ pub(crate) fn policy_of<F: Files>(
     ensures { IfOk result (λ policy. IsLoaded path.now policy) }
 {
     let text = main_text(alloc, files, path)?;
-    let mut supplies = Vec::new(alloc);
+    let mut supplies = read_ahead(alloc, files, path, text.as_slice())?;
     for _call in 0..MOST_CALLS {
         match load(alloc, path, text.as_slice(), &supplies) {
             Ok(policy) => return Ok(policy),
