@@ -1,5 +1,5 @@
 //! `audit`: requests answered.
-ghost use Rattle.std.specs.Prelude.{◌≡◌, ◌≤◌, Some, IfOk, map};
+ghost use Rattle.std.specs.Prelude.{◌≡◌, ◌≢◌, ◌≤◌, Some, IfOk, map};
 ghost use Rattle.sudo_audit.specs.Auditing.{IsAuditedBy, IsDirectory, IsReportBy, IsReportUnder, IsVetted, Reports};
 
 use crate::check::finding_lines;
@@ -185,6 +185,7 @@ pub fn audit_into<
     requires workers { (1 ≤ workers) × (workers ≤ 16) }
     ensures status { result ≤ 4 }
     ensures printed { result ≡ 0 → Reports path.now (U.ahead users.old) (H.ahead hosts.old) (map (λ s. s.name) sources.items) (map (λ s. R.ahead s.reader) sources.items) (O.taken out.old) (O.taken out.new) }
+    ensures untouched { result ≢ 0 → O.stalled_writes out.new ≡ O.stalled_writes out.old → O.taken out.new ≡ O.taken out.old }
 {
     match audited(alloc, rt, path, files, users, hosts, sources, workers) {
         Ok(Reported::Report(text)) => match write_all_of(out, &text) {

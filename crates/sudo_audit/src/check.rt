@@ -1,5 +1,6 @@
 //! `check`: the findings on a policy.
-ghost use Rattle.std.specs.Prelude.{◌≤◌};
+ghost use Rattle.std.specs.Prelude.{◌≡◌, ◌≤◌, IfOk};
+ghost use Rattle.sudo_audit.specs.Loading.{IsFine};
 
 use crate::fault::{Fault, complain};
 use crate::files::Files;
@@ -7,7 +8,7 @@ use crate::lines::{push, push_finding};
 use crate::loading::policy_of;
 use audit_device::{Sink, write_all_of};
 use std::alloc::{AllocError, Global};
-use sudo_policy::{Finding, findings};
+use sudo_policy::{Finding, findings, has_error};
 use sudo_text::Seq;
 
 /// What `check` prints, and its status.
@@ -16,11 +17,6 @@ struct Printed {
     lines: Vec<u8>,
     status: u8,
     ghost low: { status ≤ 1 },
-}
-
-/// Whether one of the findings is an error.
-fn has_error(findings: &[Finding]) -> bool {
-    findings.iter().any(|finding| finding.class.is_error())
 }
 
 /// A line for each finding.
@@ -40,7 +36,9 @@ pub(crate) fn finding_lines(
 }
 
 /// A line for each finding, and `ok` if none is an error.
-fn examined<F: Files>(alloc: Global, path: &[u8], files: &mut F) -> Result<Printed, Fault> {
+fn examined<F: Files>(alloc: Global, path: &[u8], files: &mut F) -> Result<Printed, Fault>
+    ensures { IfOk result (λ printed. printed.status ≡ 0 → IsFine path.now) }
+{
     let policy = policy_of(alloc, path, files)?;
     let found = findings(alloc, &policy)?;
     let mut lines = finding_lines(alloc, policy.files.as_slice(), &found, false)?;
@@ -63,7 +61,8 @@ pub fn check_run<F: Files, O: Sink, E: Sink>(
     out: &mut O,
     err: &mut E,
 ) -> u8
-    ensures { result ≤ 4 }
+    ensures status { result ≤ 4 }
+    ensures fine { result ≡ 0 → IsFine path.now }
 {
     match examined(alloc, path, files) {
         Ok(printed) => match write_all_of(out, &printed.lines) {

@@ -1,5 +1,5 @@
 //! `expand`: an alias written out.
-ghost use Rattle.std.specs.Prelude.{◌≡◌, ◌≤◌, ◌++◌, flat_map, IfOk, OnOk};
+ghost use Rattle.std.specs.Prelude.{◌≡◌, ◌≢◌, ◌≤◌, ◌++◌, flat_map, IfOk, OnOk};
 ghost use Rattle.sudo_audit.specs.Expanding.{line_of, AreAliasLines, IsPrintedOf, IsPrinted, Prints};
 
 use crate::check::finding_lines;
@@ -101,6 +101,7 @@ pub fn expand_run<F: Files, O: Sink, E: Sink>(
 ) -> u8
     ensures status { result ≤ 4 }
     ensures printed { result ≡ 0 → Prints path.now kind name.now (O.taken out.old) (O.taken out.new) }
+    ensures untouched { result ≢ 0 → O.stalled_writes out.new ≡ O.stalled_writes out.old → O.taken out.new ≡ O.taken out.old }
 {
     match printed_for(alloc, path, files, kind, name) {
         Ok(Printed::Members(lines)) => match write_all_of(out, &lines) {

@@ -55,7 +55,7 @@ impl Class {
 }
 
 /// Whether one of the findings is an error.
-fn has_error(findings: &[Finding]) -> bool
+pub fn has_error(findings: &[Finding]) -> bool
     ensures { result ≡ has_error findings.now }
 {
     findings.iter().any(|finding| finding.class.is_error())

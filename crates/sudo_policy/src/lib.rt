@@ -17,7 +17,7 @@ mod reach;
 mod survey;
 
 pub use checked::Checked;
-pub use checking::{CheckFault, check};
+pub use checking::{CheckFault, check, has_error};
 pub use examination::findings;
 pub use expansion::{ExpandFault, expand};
 pub use finding::{Class, Finding};
