@@ -1,14 +1,14 @@
 //! Findings on aliases, by sudoers(5), "Aliases", and the strict check of visudo(8); aliases written out, by cvtsudoers(1),
 //! `-e`. The limits of depth and width are this project's own.
 
-use crate::fixtures::{findings_text, found, policy, push_bytes};
-use crate::rows::{compare, row, unfolded};
-use std::alloc::Global;
+use crate::fixtures::{findings_text, found, kind_text, policy, push_bytes};
+use crate::rows::wrong_rows;
+use std::alloc::{AllocError, Global};
 use std::test::Fail;
-use sudo_policy::{CheckFault, Checked, Kind, Signed, check, expand, member_text};
+use sudo_policy::{CheckFault, Checked, Kind, Policy, Signed, check, expand, member_text};
 
 /// Aliases `A1` to `A` and this number, each of which names the next; the last is a command.
-fn chain(alloc: Global, length: u32) -> Result<String, Fail> {
+fn chain(alloc: Global, length: u32) -> Result<String, AllocError> {
     let mut text = String::new(alloc);
     for number in 1..length {
         let next = number.saturating_add(1);
@@ -21,7 +21,7 @@ fn chain(alloc: Global, length: u32) -> Result<String, Fail> {
 }
 
 /// Aliases `W0` to `W` and this number, each twice as wide as the one before; the first is a command.
-fn doubling(alloc: Global, last: u32) -> Result<String, Fail> {
+fn doubling(alloc: Global, last: u32) -> Result<String, AllocError> {
     let mut text = String::from_str(alloc, "Cmnd_Alias W0 = /bin/ls\n")?;
     for earlier in 0..last {
         let number = earlier.saturating_add(1);
@@ -70,85 +70,151 @@ Cmnd_Alias A = /bin/ls`alice ALL = ALL, !A =>
 User_Alias A = bob`Runas_Alias A = bob`A ALL = ALL => 2 unused runas A;
 ";
 
-/// Appends a row of a table whose text has other findings, with it.
-fn check_row(alloc: Global, wrong: &mut String, line: &str) -> Result<(), Fail> {
-    let Some((text, wanted)) = row(line) else {
-        return Ok(());
-    };
-    let text = unfolded(alloc, text)?;
-    let shown = found(alloc, text.as_str())?;
-    Ok(compare(alloc, wrong, line, wanted, shown.as_str())?)
-}
-
-/// The rows of a table whose text has other findings, with it.
-fn wrong_rows(alloc: Global, table: &str) -> Result<String, Fail> {
-    let mut wrong = String::new(alloc);
-    for line in table.lines() {
-        check_row(alloc, &mut wrong, line)?;
-    }
-    Ok(wrong)
-}
-
 #[test]
 fn findings_by_class_and_place(rt: HostRuntime) -> Result<(), Fail> {
-    assert_eq!(rt; wrong_rows(rt.alloc(), POLICIES)?.as_str(), "");
+    assert_eq!(rt; wrong_rows(rt.alloc(), POLICIES, found)?.as_str(), "");
     Ok(())
 }
 
-/// The policy of one file, checked.
-fn checked(alloc: Global, text: &str) -> Result<Checked, Fail> {
-    match check(alloc, policy(alloc, text)?) {
-        Ok(checked) => Ok(checked),
-        Err(_) => Err(Fail::new("the policy has errors")),
-    }
+/// The policy of one file, checked; `None` where it is refused or has errors.
+fn checked(alloc: Global, text: &str) -> Option<Checked> {
+    check(alloc, policy(alloc, text)?).ok()
 }
 
 /// Appends the text of a member, with a `;` after it.
-fn push_member(alloc: Global, text: &mut String, member: &Signed) -> Result<(), Fail> {
+fn push_member(alloc: Global, text: &mut String, member: &Signed) -> Result<(), AllocError> {
     let written = member_text(alloc, member)?;
     push_bytes(text, written.as_slice())?;
-    Ok(text.push(';')?)
+    text.push(';')
 }
 
-/// The members of a command alias that is written out.
-fn expanded(alloc: Global, checked: &Checked, name: &[u8]) -> Result<String, Fail> {
-    let members = expand(alloc, checked, Kind::Cmnd, name)?;
-    let mut text = String::new(alloc);
-    for member in members.as_slice() {
-        push_member(alloc, &mut text, member)?;
+/// Appends a kind and members.
+fn push_members(
+    alloc: Global,
+    text: &mut String,
+    kind: Kind,
+    members: &[Signed],
+) -> Result<(), AllocError> {
+    text.push_str(kind_text(kind))?;
+    for member in members {
+        push_member(alloc, text, member)?;
     }
-    Ok(text)
+    Ok(())
+}
+
+/// Appends the members of the alias `X` of a kind, if there is one.
+fn push_alias(
+    alloc: Global,
+    text: &mut String,
+    checked: &Checked,
+    kind: Kind,
+) -> Result<(), AllocError> {
+    match expand(alloc, checked, kind, b"X").ok() {
+        Some(members) => push_members(alloc, text, kind, members.as_slice()),
+        None => Ok(()),
+    }
+}
+
+/// Appends the members of the aliases `X` of all kinds.
+fn push_aliases(alloc: Global, text: &mut String, checked: &Checked) -> Result<(), AllocError> {
+    push_alias(alloc, text, checked, Kind::User)?;
+    push_alias(alloc, text, checked, Kind::Runas)?;
+    push_alias(alloc, text, checked, Kind::Host)?;
+    push_alias(alloc, text, checked, Kind::Cmnd)
+}
+
+/// The aliases `X` of the policy of one file, written out.
+fn written_out(alloc: Global, text: &str) -> Result<String, AllocError> {
+    let mut written = String::new(alloc);
+    match checked(alloc, text) {
+        Some(checked) => push_aliases(alloc, &mut written, &checked)?,
+        None => written.push_str("refused")?,
+    }
+    Ok(written)
+}
+
+/// Policies, and the members of their aliases `X`.
+const ALIASES: &str = "
+// In order, each with its sign.
+Cmnd_Alias X = /bin/*, !/bin/su => cmnd /bin/*;!/bin/su;
+// The sign of an alias turns those of its members, in its place.
+Cmnd_Alias SAFE = /bin/*, !/bin/su`Cmnd_Alias X = !SAFE => cmnd !/bin/*;/bin/su;
+Cmnd_Alias A = /bin/b, !/bin/c : X = /bin/a, !!A, !A, /bin/d => cmnd /bin/a;/bin/b;!/bin/c;!/bin/b;/bin/c;/bin/d;
+Cmnd_Alias A = !B : B = !/bin/a : X = !A, B => cmnd !/bin/a;!/bin/a;
+// A name of each kind; what visudo(8) only warns of is no error.
+User_Alias X = a`Runas_Alias X = b`Host_Alias X = c`Cmnd_Alias X = /d => user a;runas b;host c;cmnd /d;
+Host_Alias Y = c =>
+// Of an alias with an error nothing is written.
+Cmnd_Alias X = B => refused
+// The text of members.
+User_Alias X = \"%domain users\", bo\\x62 => user %domain\\ users;bob;
+User_Alias X = #5, %#6, \"ALL\", ALL => user #5;%#6;\"ALL\";ALL;
+Host_Alias X = 10.0.0.0/8, 10.1.0.0/255.255.0.0, 10.1.2.3 => host 10.0.0.0/255.0.0.0;10.1.0.0/255.255.0.0;10.1.2.3;
+Cmnd_Alias X = /bin/a\\,b -l  \\:, sudoedit /etc/a, /bin/c \"\" => cmnd /bin/a\\,b -l \\:;sudoedit /etc/a;/bin/c \"\";
+";
+
+#[test]
+fn aliases_written_out(rt: HostRuntime) -> Result<(), Fail> {
+    assert_eq!(rt; wrong_rows(rt.alloc(), ALIASES, written_out)?.as_str(), "");
+    Ok(())
+}
+
+/// How many members a command alias has when it is written out.
+fn members(alloc: Global, checked: &Checked, name: &[u8]) -> Option<usize> {
+    let members = expand(alloc, checked, Kind::Cmnd, name).ok()?;
+    Some(members.len())
 }
 
 #[test]
 fn a_policy_without_errors_is_taken(rt: HostRuntime) -> Result<(), Fail> {
     let alloc = rt.alloc();
-    let deep = checked(alloc, chain(alloc, 64)?.as_str())?;
-    assert_eq!(rt; expanded(alloc, &deep, b"A1")?.as_str(), "/bin/ls;");
+    let Some(deep) = checked(alloc, chain(alloc, 64)?.as_str()) else {
+        return Err(Fail::new("refused"));
+    };
+    assert_eq!(rt; members(alloc, &deep, b"A1"), Some(1));
     assert!(rt; deep.definition(Kind::Cmnd, b"A64").is_some());
     assert!(rt; deep.definition(Kind::Cmnd, b"A65").is_none());
     assert!(rt; deep.definition(Kind::Host, b"A64").is_none());
-    let wide = checked(alloc, doubling(alloc, 16)?.as_str())?;
-    assert_eq!(rt; expand(alloc, &wide, Kind::Cmnd, b"W16")?.len(), 65_536);
     Ok(())
 }
 
 #[test]
-fn a_policy_with_errors_comes_back(rt: HostRuntime) -> Result<(), Fail> {
+fn a_wide_alias_is_written_out(rt: HostRuntime) -> Result<(), Fail> {
     let alloc = rt.alloc();
-    let text = "Cmnd_Alias A = B : C = /bin/ls\nalice ALL = A";
-    match check(alloc, policy(alloc, text)?) {
-        Ok(_checked) => assert!(rt; false, "no findings"),
-        Err(fault) => match fault {
-            CheckFault::Findings(back, findings) => {
-                assert!(rt; back == policy(alloc, text)?);
-                assert_eq!(rt;
-                    findings_text(alloc, findings.as_slice())?.as_str(),
-                    "1 undefined cmnd B;1 unused cmnd C;"
-                );
-            }
-            CheckFault::Memory(_back) => assert!(rt; false, "out of memory"),
-        },
+    let Some(wide) = checked(alloc, doubling(alloc, 16)?.as_str()) else {
+        return Err(Fail::new("refused"));
+    };
+    assert_eq!(rt; members(alloc, &wide, b"W16"), Some(65_536));
+    Ok(())
+}
+
+/// What a policy was refused for, if it is handed back as it was.
+fn refusal(alloc: Global, fault: &CheckFault, given: &Policy) -> Result<String, AllocError> {
+    match fault {
+        CheckFault::Findings(back, findings) if back == given => {
+            findings_text(alloc, findings.as_slice())
+        }
+        _ => String::from_str(alloc, "another policy"),
     }
+}
+
+/// What the policy of one file is refused for, if it is handed back as it was.
+fn refused(alloc: Global, text: &str) -> Result<String, AllocError> {
+    let (Some(given), Some(same)) = (policy(alloc, text), policy(alloc, text)) else {
+        return String::from_str(alloc, "not read");
+    };
+    match check(alloc, given) {
+        Ok(_checked) => String::from_str(alloc, "taken"),
+        Err(fault) => refusal(alloc, &fault, &same),
+    }
+}
+
+#[test]
+fn a_policy_with_errors_comes_back(rt: HostRuntime) -> Result<(), Fail> {
+    let text = "Cmnd_Alias A = B : C = /bin/ls\nalice ALL = A";
+    assert_eq!(rt;
+        refused(rt.alloc(), text)?.as_str(),
+        "1 undefined cmnd B;1 unused cmnd C;"
+    );
     Ok(())
 }

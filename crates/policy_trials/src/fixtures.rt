@@ -1,13 +1,12 @@
 //! What is handed in, and what is made of it, as text.
 
-use std::alloc::Global;
-use std::test::Fail;
+use std::alloc::{AllocError, Global};
 use sudo_load::{LoadFault, Supply, Want, load};
 use sudo_policy::{Class, Finding, Kind, ParseFault, Policy, findings};
 use sudo_text::{Place, Seq, TextFault};
 
 /// A file of this text.
-pub(crate) fn file(alloc: Global, path: &str, text: &str) -> Result<Supply, Fail> {
+pub(crate) fn file(alloc: Global, path: &str, text: &str) -> Result<Supply, AllocError> {
     Ok(Supply::File {
         path: Seq::from_slice(alloc, path.as_bytes())?,
         text: Some(Seq::from_slice(alloc, text.as_bytes())?),
@@ -15,7 +14,7 @@ pub(crate) fn file(alloc: Global, path: &str, text: &str) -> Result<Supply, Fail
 }
 
 /// A file that is not there.
-pub(crate) fn missing(alloc: Global, path: &str) -> Result<Supply, Fail> {
+pub(crate) fn missing(alloc: Global, path: &str) -> Result<Supply, AllocError> {
     Ok(Supply::File {
         path: Seq::from_slice(alloc, path.as_bytes())?,
         text: None,
@@ -23,7 +22,7 @@ pub(crate) fn missing(alloc: Global, path: &str) -> Result<Supply, Fail> {
 }
 
 /// A folder with the files of these names, one a line.
-pub(crate) fn folder(alloc: Global, path: &str, lines: &str) -> Result<Supply, Fail> {
+pub(crate) fn folder(alloc: Global, path: &str, lines: &str) -> Result<Supply, AllocError> {
     let mut names = Seq::new(alloc);
     for name in lines.lines() {
         names.push(Seq::from_slice(alloc, name.as_bytes())?)?;
@@ -35,32 +34,32 @@ pub(crate) fn folder(alloc: Global, path: &str, lines: &str) -> Result<Supply, F
 }
 
 /// Appends bytes of ASCII.
-pub(crate) fn push_bytes(text: &mut String, bytes: &[u8]) -> Result<(), Fail> {
+pub(crate) fn push_bytes(text: &mut String, bytes: &[u8]) -> Result<(), AllocError> {
     for byte in bytes {
         text.push(char::from(*byte))?;
     }
     Ok(())
 }
 
-/// Appends the number of a place's file, the file's path and the line. Fails where no file has that number.
+/// Appends the number of a place's file, the file's path, or `no file`, and the line.
 fn push_place(
     alloc: Global,
     text: &mut String,
     files: &[Seq<u8>],
     place: Place,
-) -> Result<(), Fail> {
-    let Some(path) = files.get(place.file as usize) else {
-        return Err(Fail::new("a place in no file"));
-    };
+) -> Result<(), AllocError> {
     let number = format!(in alloc; "{}=", place.file)?;
     text.push_str(number.as_str())?;
-    push_bytes(text, path.as_slice())?;
+    match files.get(place.file as usize) {
+        Some(path) => push_bytes(text, path.as_slice())?,
+        None => text.push_str("no file")?,
+    }
     let line = format!(in alloc; ":{}", place.line)?;
-    Ok(text.push_str(line.as_str())?)
+    text.push_str(line.as_str())
 }
 
 /// The places of a policy's entries in order, each with a space after it.
-pub(crate) fn places(alloc: Global, policy: &Policy) -> Result<String, Fail> {
+pub(crate) fn places(alloc: Global, policy: &Policy) -> Result<String, AllocError> {
     let mut text = String::new(alloc);
     for entry in &policy.entries {
         push_place(alloc, &mut text, policy.files.as_slice(), entry.place)?;
@@ -103,7 +102,7 @@ fn place_of(fault: &LoadFault) -> Option<Place> {
 }
 
 /// Appends the path that a fault names.
-fn push_named(text: &mut String, fault: &LoadFault) -> Result<(), Fail> {
+fn push_named(text: &mut String, fault: &LoadFault) -> Result<(), AllocError> {
     match fault {
         LoadFault::Missing { path, .. } => {
             text.push(' ')?;
@@ -121,36 +120,38 @@ fn push_named(text: &mut String, fault: &LoadFault) -> Result<(), Fail> {
     }
 }
 
+/// The place of a fault, its text, and how many files were read.
+fn refusal(alloc: Global, files: &[Seq<u8>], fault: &LoadFault) -> Result<String, AllocError> {
+    let mut text = String::new(alloc);
+    if let Some(place) = place_of(fault) {
+        push_place(alloc, &mut text, files, place)?;
+        text.push_str(", ")?;
+    }
+    let told = format!(in alloc; "{fault}")?;
+    text.push_str(told.as_str())?;
+    push_named(&mut text, fault)?;
+    let count = format!(in alloc; ", {} read", files.len())?;
+    text.push_str(count.as_str())?;
+    Ok(text)
+}
+
 /// What is loaded: the places of the entries, or the place of the fault, its text, and how many files were read.
 pub(crate) fn loaded(
     alloc: Global,
     path: &str,
     main: &str,
     supplies: &[Supply],
-) -> Result<String, Fail> {
+) -> Result<String, AllocError> {
     match load(alloc, path.as_bytes(), main.as_bytes(), supplies) {
         Ok(policy) => places(alloc, &policy),
-        Err((files, fault)) => {
-            let mut text = String::new(alloc);
-            if let Some(place) = place_of(&fault) {
-                push_place(alloc, &mut text, files.as_slice(), place)?;
-                text.push_str(", ")?;
-            }
-            text.push_str(format!(in alloc; "{fault}")?.as_str())?;
-            push_named(&mut text, &fault)?;
-            text.push_str(format!(in alloc; ", {} read", files.len())?.as_str())?;
-            Ok(text)
-        }
+        Err((files, fault)) => refusal(alloc, files.as_slice(), &fault),
     }
 }
 
-/// The policy of one file.
-pub(crate) fn policy(alloc: Global, text: &str) -> Result<Policy, Fail> {
+/// The policy of one file; `None` where it is refused.
+pub(crate) fn policy(alloc: Global, text: &str) -> Option<Policy> {
     let supplies: [Supply; 0] = [];
-    match load(alloc, b"sudoers", text.as_bytes(), &supplies) {
-        Ok(policy) => Ok(policy),
-        Err(_) => Err(Fail::new("the policy is not read")),
-    }
+    load(alloc, b"sudoers", text.as_bytes(), &supplies).ok()
 }
 
 fn class_text(class: Class) -> &'static str {
@@ -164,7 +165,7 @@ fn class_text(class: Class) -> &'static str {
     }
 }
 
-fn kind_text(kind: Kind) -> &'static str {
+pub(crate) fn kind_text(kind: Kind) -> &'static str {
     match kind {
         Kind::User => "user ",
         Kind::Runas => "runas ",
@@ -173,22 +174,35 @@ fn kind_text(kind: Kind) -> &'static str {
     }
 }
 
-/// The findings, each as its line, class, kind and name with a `;` after it.
-pub(crate) fn findings_text(alloc: Global, findings: &[Finding]) -> Result<String, Fail> {
+/// Appends the line, class, kind and name of a finding, with a `;` after it.
+fn push_finding(alloc: Global, text: &mut String, finding: &Finding) -> Result<(), AllocError> {
+    let place = format!(in alloc; "{} ", finding.place)?;
+    text.push_str(place.as_str())?;
+    text.push_str(class_text(finding.class))?;
+    text.push_str(kind_text(finding.kind))?;
+    push_bytes(text, finding.name.as_slice())?;
+    text.push(';')
+}
+
+/// The findings, each with a `;` after it.
+pub(crate) fn findings_text(alloc: Global, findings: &[Finding]) -> Result<String, AllocError> {
     let mut text = String::new(alloc);
     for finding in findings {
-        text.push_str(format!(in alloc; "{} ", finding.place)?.as_str())?;
-        text.push_str(class_text(finding.class))?;
-        text.push_str(kind_text(finding.kind))?;
-        push_bytes(&mut text, finding.name.as_slice())?;
-        text.push(';')?;
+        push_finding(alloc, &mut text, finding)?;
     }
     Ok(text)
 }
 
-/// The findings on the policy of one file.
-pub(crate) fn found(alloc: Global, text: &str) -> Result<String, Fail> {
-    let policy = policy(alloc, text)?;
-    let found = findings(alloc, &policy)?;
+/// The findings on a policy.
+fn found_in(alloc: Global, policy: &Policy) -> Result<String, AllocError> {
+    let found = findings(alloc, policy)?;
     findings_text(alloc, found.as_slice())
+}
+
+/// The findings on the policy of one file.
+pub(crate) fn found(alloc: Global, text: &str) -> Result<String, AllocError> {
+    match policy(alloc, text) {
+        Some(policy) => found_in(alloc, &policy),
+        None => String::from_str(alloc, "not read"),
+    }
 }

@@ -1,109 +1,90 @@
 //! The faults of lines, by the grammar in sudoers(5), "SUDOERS FILE FORMAT". The texts are this project's own.
 
-use crate::rows::{compare, row, unfolded};
-use std::alloc::Global;
+use crate::rows::wrong_rows;
+use std::alloc::{AllocError, Global};
 use std::test::Fail;
 use sudo_parser::parse;
-use sudo_text::{Place, Seq, lines};
+use sudo_text::{Seq, lines};
 use sudo_tree::{Entry, ParseFault};
 
 /// The entries of a file, or its fault.
-fn read(alloc: Global, text: &str) -> Result<Result<Seq<Entry>, ParseFault>, Fail> {
-    let lines = lines(alloc, 0, text.as_bytes())?;
-    Ok(parse(alloc, &lines))
+fn read(alloc: Global, text: &str) -> Result<Seq<Entry>, ParseFault> {
+    match lines(alloc, 0, text.as_bytes()) {
+        Ok(lines) => parse(alloc, &lines),
+        Err(fault) => Err(ParseFault::Text(fault)),
+    }
+}
+
+/// The fault of a file; nothing where it has none.
+fn fault_of(alloc: Global, text: &str) -> Result<String, AllocError> {
+    match read(alloc, text).err() {
+        Some(fault) => format!(in alloc; "{fault}"),
+        None => Ok(String::new(alloc)),
+    }
 }
 
 /// Lines that go on with something else than what must stand there: the column, and what must.
 const EXPECTED: &str = "
 // A command: after `=`, `,`, `!`, a tag and a runas.
-alice ALL = => 12 command
-alice ALL = = => 13 command
-alice ALL = ! => 14 command
-alice ALL = ALL, => 17 command
-alice ALL = NOPASSWD: => 22 command
+alice ALL = => 1:12: syntax error, expected command
+alice ALL = = => 1:13: syntax error, expected command
+alice ALL = ! => 1:14: syntax error, expected command
+alice ALL = ALL, => 1:17: syntax error, expected command
+alice ALL = NOPASSWD: => 1:22: syntax error, expected command
 // Tags come after a runas.
-alice ALL = NOPASSWD: (root) /bin/ls => 23 command
-alice ALL = (a)(b) /bin/ls => 16 command
-Cmnd_Alias A = => 15 command
-Cmnd_Alias A = /bin/ls, => 24 command
-Defaults! => 10 command
+alice ALL = NOPASSWD: (root) /bin/ls => 1:23: syntax error, expected command
+alice ALL = (a)(b) /bin/ls => 1:16: syntax error, expected command
+Cmnd_Alias A = => 1:15: syntax error, expected command
+Cmnd_Alias A = /bin/ls, => 1:24: syntax error, expected command
+Defaults! => 1:10: syntax error, expected command
 // The end of the line is that of its text, with the comment.
-alice ALL = # c => 16 command
+alice ALL = # c => 1:16: syntax error, expected command
 // A member of another list.
-= ALL => 1 member
-alice, => 7 member
-alice = ALL => 7 member
-alice ALL = ALL : => 18 member
-alice ALL = (,) ALL => 14 member
-alice ALL = (root:adm, ) ALL => 24 member
-Host_Alias A = => 15 member
-Defaults: => 10 member
-Defaults@ => 10 member
-Defaults> => 10 member
+= ALL => 1:1: syntax error, expected member
+alice, => 1:7: syntax error, expected member
+alice = ALL => 1:7: syntax error, expected member
+alice ALL = ALL : => 1:18: syntax error, expected member
+alice ALL = (,) ALL => 1:14: syntax error, expected member
+alice ALL = (root:adm, ) ALL => 1:24: syntax error, expected member
+Host_Alias A = => 1:15: syntax error, expected member
+Defaults: => 1:10: syntax error, expected member
+Defaults@ => 1:10: syntax error, expected member
+Defaults> => 1:10: syntax error, expected member
 // An empty name or group is none.
-\"\" ALL = ALL => 1 member
-% ALL = ALL => 1 member
-alice \"\" = ALL => 7 member
-alice ALL = (root /bin/ls => 19 )
-alice ALL = (root:adm:x) ALL => 22 )
-alice ALL => 10 =
-alice ALL, web1 => 16 =
-alice ALL (root) = ALL => 11 =
-User_Alias A bob => 14 =
+\"\" ALL = ALL => 1:1: syntax error, expected member
+% ALL = ALL => 1:1: syntax error, expected member
+alice \"\" = ALL => 1:7: syntax error, expected member
+alice ALL = (root /bin/ls => 1:19: syntax error, expected )
+alice ALL = (root:adm:x) ALL => 1:22: syntax error, expected )
+alice ALL => 1:10: syntax error, expected =
+alice ALL, web1 => 1:16: syntax error, expected =
+alice ALL (root) = ALL => 1:11: syntax error, expected =
+User_Alias A bob => 1:14: syntax error, expected =
 // A name is of upper-case letters, digits and underscores, without quotes, and no `ALL`.
-User_Alias => 11 alias name
-User_Alias ALL = bob => 12 alias name
-User_Alias \"A\" = bob => 12 alias name
-User_Alias A = bob : b = bob => 22 alias name
-Defaults@web1 => 14 parameter
-Defaults x, => 12 parameter
-Defaults !=x => 11 parameter
+User_Alias => 1:11: syntax error, expected alias name
+User_Alias ALL = bob => 1:12: syntax error, expected alias name
+User_Alias \"A\" = bob => 1:12: syntax error, expected alias name
+User_Alias A = bob : b = bob => 1:22: syntax error, expected alias name
+Defaults@web1 => 1:14: syntax error, expected parameter
+Defaults x, => 1:12: syntax error, expected parameter
+Defaults !=x => 1:11: syntax error, expected parameter
 // The word `Defaults` that begins a line never begins a rule.
-Defaults,x => 9 parameter
-Defaults=x => 9 parameter
-Defaults\"web1\" = ALL => 9 parameter
-Defaults x+= => 13 value
-Defaults x-=, => 13 value
-@includedir \"\" => 1 path
-@include a b => 12 end of line
-alice ALL = ALL) => 16 end of line
-User_Alias A = bob carol => 20 end of line
+Defaults,x => 1:9: syntax error, expected parameter
+Defaults=x => 1:9: syntax error, expected parameter
+Defaults\"web1\" = ALL => 1:9: syntax error, expected parameter
+Defaults x+= => 1:13: syntax error, expected value
+Defaults x-=, => 1:13: syntax error, expected value
+@includedir \"\" => 1:1: syntax error, expected path
+@include a b => 1:12: syntax error, expected end of line
+alice ALL = ALL) => 1:16: syntax error, expected end of line
+User_Alias A = bob carol => 1:20: syntax error, expected end of line
 // A value is one word.
-Defaults x=a b=c => 14 end of line
+Defaults x=a b=c => 1:14: syntax error, expected end of line
 ";
-
-/// The fault of a line: of a syntax error the column and what must stand there, of any other its text; nothing where
-/// the line has none.
-fn fault_text(alloc: Global, text: &str) -> Result<String, Fail> {
-    match read(alloc, text)? {
-        Ok(_) => Ok(String::new(alloc)),
-        Err(ParseFault::Syntax { col, expected, .. }) => Ok(format!(in alloc; "{col} {expected}")?),
-        Err(fault) => Ok(format!(in alloc; "{fault}")?),
-    }
-}
-
-/// Appends a row of a table whose text has another fault, with it.
-fn check_row(alloc: Global, wrong: &mut String, line: &str) -> Result<(), Fail> {
-    let Some((text, wanted)) = row(line) else {
-        return Ok(());
-    };
-    let text = unfolded(alloc, text)?;
-    let shown = fault_text(alloc, text.as_str())?;
-    Ok(compare(alloc, wrong, line, wanted, shown.as_str())?)
-}
-
-/// The rows of a table whose text has another fault, with it.
-fn wrong_rows(alloc: Global, table: &str) -> Result<String, Fail> {
-    let mut wrong = String::new(alloc);
-    for line in table.lines() {
-        check_row(alloc, &mut wrong, line)?;
-    }
-    Ok(wrong)
-}
 
 #[test]
 fn what_must_stand_there(rt: HostRuntime) -> Result<(), Fail> {
-    assert_eq!(rt; wrong_rows(rt.alloc(), EXPECTED)?.as_str(), "");
+    assert_eq!(rt; wrong_rows(rt.alloc(), EXPECTED, fault_of)?.as_str(), "");
     Ok(())
 }
 
@@ -136,26 +117,27 @@ alice ALL = NOPASSWD =>
 alice 10.0.0.0/33 = ALL => 1:7: bad number
 alice 1.2.3.256 = ALL => 1:7: bad number
 alice a/b = ALL => 1:7: bad number
-alice 2001:db8::1 = ALL => 11 =
+alice 2001:db8::1 = ALL => 1:11: syntax error, expected =
 // The first faulty line decides.
-`alice = ALL`\"x => 7 member
+`alice = ALL`\"x => 2:7: syntax error, expected member
 // In a line a fault of the text comes first.
 alice = \"ALL => 1:9: bad quote
 // A column counts the bytes of the joined line.
-alice \\`  ALL = \\`  = => 13 command
+alice \\`  ALL = \\`  = => 1:13: syntax error, expected command
 ";
 
 #[test]
 fn other_faults(rt: HostRuntime) -> Result<(), Fail> {
-    assert_eq!(rt; wrong_rows(rt.alloc(), OTHERS)?.as_str(), "");
+    assert_eq!(rt; wrong_rows(rt.alloc(), OTHERS, fault_of)?.as_str(), "");
     Ok(())
 }
 
 /// So many lines that define a command alias each.
-fn definitions(alloc: Global, count: u32) -> Result<String, Fail> {
+fn definitions(alloc: Global, count: u32) -> Result<String, AllocError> {
     let mut text = String::new(alloc);
     for number in 0..count {
-        text.push_str(format!(in alloc; "Cmnd_Alias C{number} = /bin/ls\n")?.as_str())?;
+        let line = format!(in alloc; "Cmnd_Alias C{number} = /bin/ls\n")?;
+        text.push_str(line.as_str())?;
     }
     Ok(text)
 }
@@ -163,17 +145,12 @@ fn definitions(alloc: Global, count: u32) -> Result<String, Fail> {
 #[test]
 fn definitions_are_limited(rt: HostRuntime) -> Result<(), Fail> {
     let alloc = rt.alloc();
-    match read(alloc, definitions(alloc, 4096)?.as_str())? {
-        Ok(entries) => assert_eq!(rt; entries.len(), 4096),
-        Err(fault) => assert!(rt; false, "{fault}"),
-    }
-    let place = Place {
-        file: 0,
-        line: 4097,
-    };
-    match read(alloc, definitions(alloc, 4097)?.as_str())? {
-        Ok(_) => assert!(rt; false, "no fault"),
-        Err(fault) => assert_eq!(rt; fault, ParseFault::TooMany { place }),
-    }
+    let most = definitions(alloc, 4096)?;
+    assert_eq!(rt; fault_of(alloc, most.as_str())?.as_str(), "");
+    let over = definitions(alloc, 4097)?;
+    assert_eq!(rt;
+        fault_of(alloc, over.as_str())?.as_str(),
+        "4097: too many aliases"
+    );
     Ok(())
 }

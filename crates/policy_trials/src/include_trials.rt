@@ -1,12 +1,12 @@
 //! Includes, by sudoers(5), "Including other files from within sudoers". The limits and the texts are this project's own.
 
 use crate::fixtures::{file, folder, loaded, missing};
-use std::alloc::Global;
+use std::alloc::{AllocError, Global};
 use std::test::Fail;
 use sudo_load::Supply;
 
 /// So many lines of this text.
-fn repeated(alloc: Global, line: &str, count: u32) -> Result<String, Fail> {
+fn repeated(alloc: Global, line: &str, count: u32) -> Result<String, AllocError> {
     let mut text = String::new(alloc);
     for _ in 0..count {
         text.push_str(line)?;

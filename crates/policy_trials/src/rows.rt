@@ -4,7 +4,7 @@
 use std::alloc::{AllocError, Global};
 
 /// The text of a row and what it must give; `None` for any other line.
-pub(crate) fn row(line: &str) -> Option<(&str, &str)> {
+fn row(line: &str) -> Option<(&str, &str)> {
     if line.starts_with("//") {
         return None;
     }
@@ -12,7 +12,7 @@ pub(crate) fn row(line: &str) -> Option<(&str, &str)> {
 }
 
 /// The text of a row, where a backquote stands for the end of a line.
-pub(crate) fn unfolded(alloc: Global, text: &str) -> Result<String, AllocError> {
+fn unfolded(alloc: Global, text: &str) -> Result<String, AllocError> {
     let mut lines = String::new(alloc);
     for c in text.chars() {
         lines.push(if c == '`' { '\n' } else { c })?;
@@ -21,16 +21,52 @@ pub(crate) fn unfolded(alloc: Global, text: &str) -> Result<String, AllocError> 
 }
 
 /// Appends a row that gives something else, with that.
-pub(crate) fn compare(
+fn compare(
     alloc: Global,
     wrong: &mut String,
     line: &str,
     wanted: &str,
-    shown: &str,
+    given: &str,
 ) -> Result<(), AllocError> {
-    if shown == wanted.trim() {
+    if given == wanted.trim() {
         return Ok(());
     }
-    let found = format!(in alloc; "{line}, and not {shown}\n")?;
+    let found = format!(in alloc; "{line}, and not {given}\n")?;
     wrong.push_str(found.as_str())
+}
+
+/// What the text of a row gives.
+fn given<S>(alloc: Global, text: &str, shown: &S) -> Result<String, AllocError>
+where
+    S: Fn(Global, &str) -> Result<String, AllocError>,
+    requires { S.IsAlwaysCallable shown.now }
+{
+    let text = unfolded(alloc, text)?;
+    shown(alloc, text.as_str())
+}
+
+/// Appends a row that gives something else, with that.
+fn check_row<S>(alloc: Global, wrong: &mut String, line: &str, shown: &S) -> Result<(), AllocError>
+where
+    S: Fn(Global, &str) -> Result<String, AllocError>,
+    requires { S.IsAlwaysCallable shown.now }
+{
+    let Some((text, wanted)) = row(line) else {
+        return Ok(());
+    };
+    let given = given(alloc, text, shown)?;
+    compare(alloc, wrong, line, wanted, given.as_str())
+}
+
+/// The rows of a table whose text gives something else, each with that.
+pub(crate) fn wrong_rows<S>(alloc: Global, table: &str, shown: S) -> Result<String, AllocError>
+where
+    S: Fn(Global, &str) -> Result<String, AllocError>,
+    requires { S.IsAlwaysCallable shown }
+{
+    let mut wrong = String::new(alloc);
+    for line in table.lines() {
+        check_row(alloc, &mut wrong, line, &shown)?;
+    }
+    Ok(wrong)
 }

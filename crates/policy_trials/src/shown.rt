@@ -1,8 +1,7 @@
 //! Tokens as text.
 
 use std::alloc::{AllocError, Global};
-use std::test::Fail;
-use sudo_text::{Ch, Line, Mark, Seq, TEXT_LIMIT, Token, TokenKind, lines, tokens};
+use sudo_text::{Ch, Line, Mark, Seq, TEXT_LIMIT, TextFault, Token, TokenKind, lines, tokens};
 
 fn mark_text(mark: Mark) -> &'static str {
     match mark {
@@ -89,35 +88,47 @@ fn push_token(alloc: Global, text: &mut String, token: &Token) -> Result<(), All
     text.push(';')
 }
 
+fn push_tokens(alloc: Global, text: &mut String, tokens: &[Token]) -> Result<(), AllocError> {
+    for token in tokens {
+        push_token(alloc, text, token)?;
+    }
+    Ok(())
+}
+
+fn push_fault(alloc: Global, text: &mut String, fault: TextFault) -> Result<(), AllocError> {
+    let fault = format!(in alloc; "{fault}")?;
+    text.push_str(fault.as_str())
+}
+
 /// Appends the tokens of a line, or its fault.
-fn push_line(alloc: Global, text: &mut String, line: &Line) -> Result<(), Fail> {
+fn push_line(alloc: Global, text: &mut String, line: &Line) -> Result<(), AllocError> {
     if line.text.len() > TEXT_LIMIT {
-        return Err(Fail::new("a line over the limit"));
+        return text.push_str("too long");
     }
     match tokens(alloc, line) {
-        Ok(tokens) => {
-            for token in &tokens {
-                push_token(alloc, text, token)?;
-            }
-        }
-        Err(fault) => text.push_str(format!(in alloc; "{fault}")?.as_str())?,
+        Ok(tokens) => push_tokens(alloc, text, tokens.as_slice()),
+        Err(fault) => push_fault(alloc, text, fault),
+    }
+}
+
+/// Appends lines, with a `/` between two.
+fn push_lines(alloc: Global, text: &mut String, lines: &[Line]) -> Result<(), AllocError> {
+    let mut between = "";
+    for line in lines {
+        text.push_str(between)?;
+        push_line(alloc, text, line)?;
+        between = "/";
     }
     Ok(())
 }
 
 /// The tokens of a text's lines, with a `;` after each token and a `/` between two lines; a faulty line shows its fault,
 /// and a text that has no lines the fault of the text.
-pub(crate) fn tokens_of(alloc: Global, text: &str) -> Result<String, Fail> {
+pub(crate) fn tokens_of(alloc: Global, text: &str) -> Result<String, AllocError> {
     let mut shown = String::new(alloc);
-    let lines = match lines(alloc, 0, text.as_bytes()) {
-        Ok(lines) => lines,
-        Err(fault) => return Ok(format!(in alloc; "{fault}")?),
-    };
-    let mut between = "";
-    for line in &lines {
-        shown.push_str(between)?;
-        push_line(alloc, &mut shown, line)?;
-        between = "/";
+    match lines(alloc, 0, text.as_bytes()) {
+        Ok(lines) => push_lines(alloc, &mut shown, lines.as_slice())?,
+        Err(fault) => push_fault(alloc, &mut shown, fault)?,
     }
     Ok(shown)
 }

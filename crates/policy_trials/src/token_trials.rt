@@ -1,9 +1,8 @@
 //! Tokens, by sudoers(5), "SUDOERS FILE FORMAT" and "Other special characters and reserved words". Where a row is this
 //! project's own choice its comment says so.
 
-use crate::rows::{row, unfolded};
+use crate::rows::wrong_rows;
 use crate::shown::tokens_of;
-use std::alloc::Global;
 use std::test::Fail;
 
 /// Comments and numbers.
@@ -136,47 +135,32 @@ a\\\x07 => 1:3: not printable
 a\\x07 => 0-5 word:a~\x07;
 ";
 
-/// The rows of a table whose text has other tokens, with these.
-fn wrong_rows(alloc: Global, table: &str) -> Result<String, Fail> {
-    let mut wrong = String::new(alloc);
-    for line in table.lines() {
-        if let Some((text, wanted)) = row(line) {
-            let shown = tokens_of(alloc, unfolded(alloc, text)?.as_str())?;
-            if shown.as_str() != wanted.trim() {
-                let found = format!(in alloc; "{line}, and not {}\n", shown.as_str())?;
-                wrong.push_str(found.as_str())?;
-            }
-        }
-    }
-    Ok(wrong)
-}
-
 #[test]
 fn numbers(rt: HostRuntime) -> Result<(), Fail> {
-    assert_eq!(rt; wrong_rows(rt.alloc(), NUMBERS)?.as_str(), "");
+    assert_eq!(rt; wrong_rows(rt.alloc(), NUMBERS, tokens_of)?.as_str(), "");
     Ok(())
 }
 
 #[test]
 fn defaults(rt: HostRuntime) -> Result<(), Fail> {
-    assert_eq!(rt; wrong_rows(rt.alloc(), DEFAULTS)?.as_str(), "");
+    assert_eq!(rt; wrong_rows(rt.alloc(), DEFAULTS, tokens_of)?.as_str(), "");
     Ok(())
 }
 
 #[test]
 fn commands(rt: HostRuntime) -> Result<(), Fail> {
-    assert_eq!(rt; wrong_rows(rt.alloc(), COMMANDS)?.as_str(), "");
+    assert_eq!(rt; wrong_rows(rt.alloc(), COMMANDS, tokens_of)?.as_str(), "");
     Ok(())
 }
 
 #[test]
 fn words(rt: HostRuntime) -> Result<(), Fail> {
-    assert_eq!(rt; wrong_rows(rt.alloc(), WORDS)?.as_str(), "");
+    assert_eq!(rt; wrong_rows(rt.alloc(), WORDS, tokens_of)?.as_str(), "");
     Ok(())
 }
 
 #[test]
 fn faults(rt: HostRuntime) -> Result<(), Fail> {
-    assert_eq!(rt; wrong_rows(rt.alloc(), FAULTS)?.as_str(), "");
+    assert_eq!(rt; wrong_rows(rt.alloc(), FAULTS, tokens_of)?.as_str(), "");
     Ok(())
 }
