@@ -51,14 +51,22 @@ fn depth_and_width_are_limited(rt: HostRuntime) -> Result<(), Fail> {
 
 /// Policies, and what is found in them.
 const POLICIES: &str = "
+// The empty file.
+ =>
 // By class and then by place; the second definition is one no more.
 User_Alias U = V : U = W`Host_Alias U = web1, X`U ALL = C` => 1 redefined user U;1 undefined user V;1 undefined user W;2 undefined host X;3 undefined cmnd C;2 unused host U;
 // A cycle of two names of each kind, of which none is used.
 User_Alias A = B : B = A`Runas_Alias A = B : B = A`Host_Alias A = B : B = A`Cmnd_Alias A = B : B = A => 1 cycle user A;1 cycle user B;2 cycle runas A;2 cycle runas B;3 cycle host A;3 cycle host B;4 cycle cmnd A;4 cycle cmnd B;1 unused user A;1 unused user B;2 unused runas A;2 unused runas B;3 unused host A;3 unused host B;4 unused cmnd A;4 unused cmnd B;
+Cmnd_Alias A = A`alice ALL = A => 1 cycle cmnd A;
 // An alias that leads to a cycle and is not on it.
 Cmnd_Alias A = B : B = C, /bin/ls : C = B`alice ALL = A => 1 cycle cmnd B;1 cycle cmnd C;
+Cmnd_Alias A = B`Cmnd_Alias B = C`Cmnd_Alias C = A`Cmnd_Alias D = A`Host_Alias WEB = web1`alice NET = D => 6 undefined host NET;1 cycle cmnd A;2 cycle cmnd B;3 cycle cmnd C;5 unused host WEB;
 // What a bound Defaults line names is used, through aliases too.
 Cmnd_Alias A = B : B = /bin/ls`Defaults!A noexec =>
+Defaults !authenticate`Defaults!PAGERS noexec => 2 undefined cmnd PAGERS;
+Defaults!PAGERS noexec`Cmnd_Alias PAGERS = /bin/less =>
+Defaults!PAGERS noexec`Cmnd_Alias PAGERS = /bin/less`Cmnd_Alias PAGERS = /bin/less => 3 redefined cmnd PAGERS;
+Defaults!/bin/less noexec =>
 Host_Alias A = web1`Defaults@A noexec =>
 User_Alias A = bob`Defaults:A noexec =>
 Runas_Alias A = bob`Defaults>A noexec =>

@@ -60,8 +60,11 @@ alice ALL => 1:10: syntax error, expected =
 alice ALL, web1 => 1:16: syntax error, expected =
 alice ALL (root) = ALL => 1:11: syntax error, expected =
 User_Alias A bob => 1:14: syntax error, expected =
+Cmnd_Alias A /bin/ls => 1:14: syntax error, expected =
+alice 2001:db8::1 = ALL => 1:11: syntax error, expected =
 // A name is of upper-case letters, digits and underscores, without quotes, and no `ALL`.
 User_Alias => 1:11: syntax error, expected alias name
+User_Alias Ab = alice => 1:12: syntax error, expected alias name
 User_Alias ALL = bob => 1:12: syntax error, expected alias name
 User_Alias \"A\" = bob => 1:12: syntax error, expected alias name
 User_Alias A = bob : b = bob => 1:22: syntax error, expected alias name
@@ -69,11 +72,13 @@ Defaults@web1 => 1:14: syntax error, expected parameter
 Defaults x, => 1:12: syntax error, expected parameter
 Defaults !=x => 1:11: syntax error, expected parameter
 // The word `Defaults` that begins a line never begins a rule.
+Defaults => 1:9: syntax error, expected parameter
 Defaults,x => 1:9: syntax error, expected parameter
 Defaults=x => 1:9: syntax error, expected parameter
 Defaults\"web1\" = ALL => 1:9: syntax error, expected parameter
 Defaults x+= => 1:13: syntax error, expected value
 Defaults x-=, => 1:13: syntax error, expected value
+@include => 1:1: syntax error, expected path
 @includedir \"\" => 1:1: syntax error, expected path
 @include a b => 1:12: syntax error, expected end of line
 alice ALL = ALL) => 1:16: syntax error, expected end of line
@@ -93,12 +98,15 @@ const OTHERS: &str = "
 %:g ALL = ALL => 1: unsupported non-Unix group
 \"%\":g ALL = ALL => 1: unsupported non-Unix group
 %\\:g ALL = ALL => 1: unsupported non-Unix group
++ops ALL = ALL => 1: unsupported netgroup
 alice +g = ALL => 1: unsupported netgroup
 alice ALL = sha224:ab /bin/ls => 1: unsupported digest
+alice ALL = sha256:ab /bin/ls => 1: unsupported digest
 alice ALL = ^/bin/ls$ => 1: unsupported regular expression
 alice ALL = /bin/ls ^-l$ => 1: unsupported regular expression
 alice ALL = /bin/ls \\^-l$ =>
 alice ALL = list => 1: unsupported list
+alice ALL = ls => 1:13: not a command
 // These words count without quotes alone.
 alice ALL = \"list\" => 1:13: not a command
 alice ALL = CWD=/tmp /bin/ls => 1: unsupported option
@@ -117,7 +125,10 @@ alice ALL = NOPASSWD =>
 alice 10.0.0.0/33 = ALL => 1:7: bad number
 alice 1.2.3.256 = ALL => 1:7: bad number
 alice a/b = ALL => 1:7: bad number
-alice 2001:db8::1 = ALL => 1:11: syntax error, expected =
+// No keyword, no include line.
+Defaultsx ALL = ALL =>
+@includex ALL = ALL =>
+#includex =>
 // The first faulty line decides.
 `alice = ALL`\"x => 2:7: syntax error, expected member
 // In a line a fault of the text comes first.

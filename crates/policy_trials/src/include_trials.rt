@@ -65,6 +65,23 @@ fn what_is_not_there(rt: HostRuntime) -> Result<(), Fail> {
 }
 
 #[test]
+fn lines_that_include_nothing(rt: HostRuntime) -> Result<(), Fail> {
+    let alloc = rt.alloc();
+    let supplies: [Supply; 0] = [];
+    // Comments, of which none goes on with the next line.
+    let main = "#includex a\n#include1 a\n# old rule \\\nalice ALL = ALL\n";
+    assert_eq!(rt;
+        loaded(alloc, "p/sudoers", main, &supplies)?.as_str(),
+        "0=p/sudoers:4 "
+    );
+    assert_eq!(rt;
+        loaded(alloc, "p/sudoers", "@include /etc/%h", &supplies)?.as_str(),
+        "0=p/sudoers:1, 1: unsupported %h, 1 read"
+    );
+    Ok(())
+}
+
+#[test]
 fn a_path_is_relative_to_the_file_that_names_it(rt: HostRuntime) -> Result<(), Fail> {
     let alloc = rt.alloc();
     let supplies = [

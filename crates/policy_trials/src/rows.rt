@@ -3,12 +3,13 @@
 
 use std::alloc::{AllocError, Global};
 
-/// The text of a row and what it must give; `None` for any other line.
+/// The text of a row and what it must give; `None` for an empty line and a comment. A line without ` =>` must give what
+/// nothing gives.
 fn row(line: &str) -> Option<(&str, &str)> {
-    if line.starts_with("//") {
+    if line.is_empty() || line.starts_with("//") {
         return None;
     }
-    line.split_once(" =>")
+    Some(line.split_once(" =>").unwrap_or((line, "a row")))
 }
 
 /// The text of a row, where a backquote stands for the end of a line.

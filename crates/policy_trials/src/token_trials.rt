@@ -104,6 +104,10 @@ a\"b\" => 0-1 word:a;1-4 quoted:b;
 #includedir\td # all => 0-13 #includedir:d;
 @includex => 0-9 word:@includex;
 #includex =>
+#include1 a =>
+#includedirx =>
+#include => 0-8 #include:;
+#includedir => 0-11 #includedir:;
 a @include b => 0-1 word:a;2-10 word:@include;11-12 word:b;
 // A line that a backslash ends goes on with the next one, without its leading blanks; a comment line does not.
 a\\`  b`c => 0-2 word:ab;/0-1 word:c;
@@ -116,22 +120,27 @@ a\r`\tb\r => 0-1 word:a;/0-1 word:b;
 
 /// Faults: the leftmost one decides.
 const FAULTS: &str = "
+\"alice ALL = ALL => 1:1: bad quote
 a \"b => 1:3: bad quote
 // A quote that nothing closes comes before what stands behind it.
 \"a\\x4 => 1:1: bad quote
 \"a\\\" => 1:1: bad quote
 \"a\\x4\" => 1:3: bad hexadecimal
-a\\xg0 => 1:2: bad hexadecimal
+a\\xg0 ALL = ALL => 1:2: bad hexadecimal
 a \\x4\x07 \" => 1:3: bad hexadecimal
 a\\ => 1:2: bad escape
+alice ALL = /bin/ls \\ => 1:21: bad escape
 a\\`  b\\\\\\ => 1:5: bad escape
 // A comment does not go on over a join.
 a # b \\`c => 1:3: bad escape
 a #\\`c => 1:3: bad escape
+\x07 ALL = ALL => 1:1: not printable
 a\x07 \" => 1:2: not printable
 // At the byte itself, also behind a backslash.
 a\\\x07 => 1:3: not printable
 ``/bin/ls \x7f => //3:9: not printable
+// A comment line ends where its physical line does.
+# old rule \\`alice ALL = \"x => /2:13: bad quote
 a\\x07 => 0-5 word:a~\x07;
 ";
 
