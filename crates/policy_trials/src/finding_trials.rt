@@ -5,7 +5,9 @@ use crate::fixtures::{findings_text, found, kind_text, policy, push_bytes};
 use crate::rows::wrong_rows;
 use std::alloc::{AllocError, Global};
 use std::test::Fail;
-use sudo_policy::{CheckFault, Checked, Kind, Policy, Signed, check, expand, member_text};
+use sudo_policy::{
+    CheckFault, Checked, ExpandFault, Kind, Policy, Signed, check, expand, member_text,
+};
 
 /// Aliases `A1` to `A` and this number, each of which names the next; the last is a command.
 fn chain(alloc: Global, length: u32) -> Result<String, AllocError> {
@@ -84,9 +86,12 @@ fn findings_by_class_and_place(rt: HostRuntime) -> Result<(), Fail> {
     Ok(())
 }
 
-/// The policy of one file, checked; `None` where it is refused or has errors.
-fn checked(alloc: Global, text: &str) -> Option<Checked> {
-    check(alloc, policy(alloc, text)?).ok()
+/// The policy of one file, checked. Fails where it is refused or has errors.
+fn checked(alloc: Global, text: &str) -> Result<Checked, Fail> {
+    match check(alloc, policy(alloc, text)?) {
+        Ok(checked) => Ok(checked),
+        Err(fault) => Err(Fail::new(fault)),
+    }
 }
 
 /// Appends the text of a member, with a `;` after it.
@@ -110,6 +115,11 @@ fn push_members(
     Ok(())
 }
 
+fn push_fault(alloc: Global, text: &mut String, fault: ExpandFault) -> Result<(), AllocError> {
+    let told = format!(in alloc; "{fault}")?;
+    text.push_str(told.as_str())
+}
+
 /// Appends the members of the alias `X` of a kind, if there is one.
 fn push_alias(
     alloc: Global,
@@ -117,28 +127,37 @@ fn push_alias(
     checked: &Checked,
     kind: Kind,
 ) -> Result<(), AllocError> {
-    match expand(alloc, checked, kind, b"X").ok() {
-        Some(members) => push_members(alloc, text, kind, members.as_slice()),
-        None => Ok(()),
+    match expand(alloc, checked, kind, b"X") {
+        Ok(members) => push_members(alloc, text, kind, members.as_slice()),
+        Err(ExpandFault::NoSuchAlias) => Ok(()),
+        Err(fault) => push_fault(alloc, text, fault),
     }
 }
 
-/// Appends the members of the aliases `X` of all kinds.
-fn push_aliases(alloc: Global, text: &mut String, checked: &Checked) -> Result<(), AllocError> {
-    push_alias(alloc, text, checked, Kind::User)?;
-    push_alias(alloc, text, checked, Kind::Runas)?;
-    push_alias(alloc, text, checked, Kind::Host)?;
-    push_alias(alloc, text, checked, Kind::Cmnd)
+/// The members of the aliases `X` of all kinds.
+fn aliases(alloc: Global, checked: &Checked) -> Result<String, AllocError> {
+    let mut text = String::new(alloc);
+    push_alias(alloc, &mut text, checked, Kind::User)?;
+    push_alias(alloc, &mut text, checked, Kind::Runas)?;
+    push_alias(alloc, &mut text, checked, Kind::Host)?;
+    push_alias(alloc, &mut text, checked, Kind::Cmnd)?;
+    Ok(text)
+}
+
+/// The aliases `X` of a policy, written out, or why it is not accepted.
+fn written_of(alloc: Global, policy: Policy) -> Result<String, AllocError> {
+    match check(alloc, policy) {
+        Ok(checked) => aliases(alloc, &checked),
+        Err(fault) => format!(in alloc; "{fault}"),
+    }
 }
 
 /// The aliases `X` of the policy of one file, written out.
 fn written_out(alloc: Global, text: &str) -> Result<String, AllocError> {
-    let mut written = String::new(alloc);
-    match checked(alloc, text) {
-        Some(checked) => push_aliases(alloc, &mut written, &checked)?,
-        None => written.push_str("refused")?,
+    match policy(alloc, text) {
+        Ok(policy) => written_of(alloc, policy),
+        Err(fault) => format!(in alloc; "{fault}"),
     }
-    Ok(written)
 }
 
 /// Policies, and the members of their aliases `X`.
@@ -153,7 +172,7 @@ Cmnd_Alias A = !B : B = !/bin/a : X = !A, B => cmnd !/bin/a;!/bin/a;
 User_Alias X = a`Runas_Alias X = b`Host_Alias X = c`Cmnd_Alias X = /d => user a;runas b;host c;cmnd /d;
 Host_Alias Y = c =>
 // Of an alias with an error nothing is written.
-Cmnd_Alias X = B => refused
+Cmnd_Alias X = B => the policy has errors
 // The text of members.
 User_Alias X = \"%domain users\", bo\\x62 => user %domain\\ users;bob;
 User_Alias X = #5, %#6, \"ALL\", ALL => user #5;%#6;\"ALL\";ALL;
@@ -168,18 +187,16 @@ fn aliases_written_out(rt: HostRuntime) -> Result<(), Fail> {
 }
 
 /// How many members a command alias has when it is written out.
-fn members(alloc: Global, checked: &Checked, name: &[u8]) -> Option<usize> {
-    let members = expand(alloc, checked, Kind::Cmnd, name).ok()?;
-    Some(members.len())
+fn width(alloc: Global, checked: &Checked, name: &[u8]) -> Result<usize, ExpandFault> {
+    let members = expand(alloc, checked, Kind::Cmnd, name)?;
+    Ok(members.len())
 }
 
 #[test]
 fn a_policy_without_errors_is_taken(rt: HostRuntime) -> Result<(), Fail> {
     let alloc = rt.alloc();
-    let Some(deep) = checked(alloc, chain(alloc, 64)?.as_str()) else {
-        return Err(Fail::new("refused"));
-    };
-    assert_eq!(rt; members(alloc, &deep, b"A1"), Some(1));
+    let deep = checked(alloc, chain(alloc, 64)?.as_str())?;
+    assert_eq!(rt; width(alloc, &deep, b"A1")?, 1);
     assert!(rt; deep.definition(Kind::Cmnd, b"A64").is_some());
     assert!(rt; deep.definition(Kind::Cmnd, b"A65").is_none());
     assert!(rt; deep.definition(Kind::Host, b"A64").is_none());
@@ -189,31 +206,28 @@ fn a_policy_without_errors_is_taken(rt: HostRuntime) -> Result<(), Fail> {
 #[test]
 fn a_wide_alias_is_written_out(rt: HostRuntime) -> Result<(), Fail> {
     let alloc = rt.alloc();
-    let Some(wide) = checked(alloc, doubling(alloc, 16)?.as_str()) else {
-        return Err(Fail::new("refused"));
-    };
-    assert_eq!(rt; members(alloc, &wide, b"W16"), Some(65_536));
+    let wide = checked(alloc, doubling(alloc, 16)?.as_str())?;
+    assert_eq!(rt; width(alloc, &wide, b"W16")?, 65_536);
     Ok(())
 }
 
-/// What a policy was refused for, if it is handed back as it was.
+/// What a policy was not accepted for, if it is handed back as it was.
 fn refusal(alloc: Global, fault: &CheckFault, given: &Policy) -> Result<String, AllocError> {
     match fault {
         CheckFault::Findings(back, findings) if back == given => {
             findings_text(alloc, findings.as_slice())
         }
+        CheckFault::Memory(back) if back == given => String::from_str(alloc, "out of memory"),
         _ => String::from_str(alloc, "another policy"),
     }
 }
 
-/// What the policy of one file is refused for, if it is handed back as it was.
-fn refused(alloc: Global, text: &str) -> Result<String, AllocError> {
-    let (Some(given), Some(same)) = (policy(alloc, text), policy(alloc, text)) else {
-        return String::from_str(alloc, "not read");
-    };
-    match check(alloc, given) {
-        Ok(_checked) => String::from_str(alloc, "taken"),
-        Err(fault) => refusal(alloc, &fault, &same),
+/// What the policy of one file is not accepted for, if it is handed back as it was.
+fn refused(alloc: Global, text: &str) -> Result<String, Fail> {
+    let same = policy(alloc, text)?;
+    match check(alloc, policy(alloc, text)?) {
+        Ok(_checked) => Err(Fail::new("accepted")),
+        Err(fault) => Ok(refusal(alloc, &fault, &same)?),
     }
 }
 

@@ -148,10 +148,13 @@ pub(crate) fn loaded(
     }
 }
 
-/// The policy of one file; `None` where it is refused.
-pub(crate) fn policy(alloc: Global, text: &str) -> Option<Policy> {
+/// The policy of one file, or its fault.
+pub(crate) fn policy(alloc: Global, text: &str) -> Result<Policy, LoadFault> {
     let supplies: [Supply; 0] = [];
-    load(alloc, b"sudoers", text.as_bytes(), &supplies).ok()
+    match load(alloc, b"sudoers", text.as_bytes(), &supplies) {
+        Ok(policy) => Ok(policy),
+        Err((_files, fault)) => Err(fault),
+    }
 }
 
 fn class_text(class: Class) -> &'static str {
@@ -202,7 +205,7 @@ fn found_in(alloc: Global, policy: &Policy) -> Result<String, AllocError> {
 /// The findings on the policy of one file.
 pub(crate) fn found(alloc: Global, text: &str) -> Result<String, AllocError> {
     match policy(alloc, text) {
-        Some(policy) => found_in(alloc, &policy),
-        None => String::from_str(alloc, "not read"),
+        Ok(policy) => found_in(alloc, &policy),
+        Err(fault) => format!(in alloc; "{fault}"),
     }
 }
