@@ -173,7 +173,7 @@ User_Alias X = a`Runas_Alias X = b`Host_Alias X = c`Cmnd_Alias X = /d => user a;
 Host_Alias Y = c =>
 // Of an alias with an error nothing is written.
 Cmnd_Alias X = B => the policy has errors
-// The text of members.
+// The text of members: where cvtsudoers(1) writes quotes here are backslashes, and a network has its dotted mask.
 User_Alias X = \"%domain users\", bo\\x62 => user %domain\\ users;bob;
 User_Alias X = #5, %#6, \"ALL\", ALL => user #5;%#6;\"ALL\";ALL;
 Host_Alias X = 10.0.0.0/8, 10.1.0.0/255.255.0.0, 10.1.2.3 => host 10.0.0.0/255.0.0.0;10.1.0.0/255.255.0.0;10.1.2.3;
