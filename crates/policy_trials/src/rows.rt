@@ -1,0 +1,73 @@
+//! Tables as text: a row a line, with ` =>` between a text and what it must give. A line that begins with `//` is a
+//! comment.
+
+use std::alloc::{AllocError, Global};
+
+/// The text of a row and what it must give; `None` for an empty line and a comment. A line without ` =>` must give what
+/// nothing gives.
+fn row(line: &str) -> Option<(&str, &str)> {
+    if line.is_empty() || line.starts_with("//") {
+        return None;
+    }
+    Some(line.split_once(" =>").unwrap_or((line, "a row")))
+}
+
+/// The text of a row, where a backquote stands for the end of a line.
+fn unfolded(alloc: Global, text: &str) -> Result<String, AllocError> {
+    let mut lines = String::new(alloc);
+    for c in text.chars() {
+        lines.push(if c == '`' { '\n' } else { c })?;
+    }
+    Ok(lines)
+}
+
+/// Appends a row that gives something else, with that.
+fn compare(
+    alloc: Global,
+    wrong: &mut String,
+    line: &str,
+    wanted: &str,
+    given: &str,
+) -> Result<(), AllocError> {
+    if given == wanted.trim() {
+        return Ok(());
+    }
+    let found = format!(in alloc; "{line}, and not {given}\n")?;
+    wrong.push_str(found.as_str())
+}
+
+/// What the text of a row gives.
+fn given<S>(alloc: Global, text: &str, shown: &S) -> Result<String, AllocError>
+where
+    S: Fn(Global, &str) -> Result<String, AllocError>,
+    requires { S.IsAlwaysCallable shown.now }
+{
+    let text = unfolded(alloc, text)?;
+    shown(alloc, text.as_str())
+}
+
+/// Appends a row that gives something else, with that.
+fn check_row<S>(alloc: Global, wrong: &mut String, line: &str, shown: &S) -> Result<(), AllocError>
+where
+    S: Fn(Global, &str) -> Result<String, AllocError>,
+    requires { S.IsAlwaysCallable shown.now }
+{
+    let Some((text, wanted)) = row(line) else {
+        return Ok(());
+    };
+    let given = given(alloc, text, shown)?;
+    compare(alloc, wrong, line, wanted, given.as_str())
+}
+
+/// The rows of a table whose text gives something else, each with that.
+pub(crate) fn wrong_rows<S>(alloc: Global, table: &str, shown: S) -> Result<String, AllocError>
+where
+    S: Fn(Global, &str) -> Result<String, AllocError>,
+    requires { S.IsAlwaysCallable shown }
+{
+    let mut wrong = String::new(alloc);
+    for line in table.lines() {
+        check_row(alloc, &mut wrong, line, &shown)?;
+    }
+    Ok(wrong)
+}
