@@ -131,8 +131,25 @@ fn read_ahead<F: Files>(
     Ok(supplies)
 }
 
-/// The policy of a file and of all that it includes: what it names is read ahead, what is wanted then is read, and the
-/// loading begins anew.
+/// Reads what is wanted. The first time, all that the main file includes is read ahead.
+fn hand_in<F: Files>(
+    alloc: Global,
+    files: &mut F,
+    path: &[u8],
+    text: &[u8],
+    want: Want,
+    supplies: &mut Vec<Supply>,
+) -> Result<(), Fault> {
+    if supplies.is_empty() {
+        *supplies = read_ahead(alloc, files, path, text)?;
+    }
+    if is_read(supplies, &want) {
+        return Ok(());
+    }
+    Ok(supplies.push(fetch(alloc, files, want)?)?)
+}
+
+/// The policy of a file and of all that it includes: what is wanted is read, and the loading begins anew.
 pub(crate) fn policy_of<F: Files>(
     alloc: Global,
     path: &[u8],
@@ -141,12 +158,15 @@ pub(crate) fn policy_of<F: Files>(
     ensures { IfOk result (λ policy. IsLoaded path.now policy) }
 {
     let text = main_text(alloc, files, path)?;
-    let mut supplies = read_ahead(alloc, files, path, text.as_slice())?;
+    let text = text.as_slice();
+    let mut supplies = Vec::new(alloc);
     for _call in 0..MOST_CALLS {
-        match load(alloc, path, text.as_slice(), &supplies) {
+        match load(alloc, path, text, &supplies) {
             Ok(policy) => return Ok(policy),
             Err((read, fault)) => match fault {
-                LoadFault::Wanted(want) => supplies.push(fetch(alloc, files, want)?)?,
+                LoadFault::Wanted(want) => {
+                    hand_in(alloc, files, path, text, want, &mut supplies)?;
+                }
                 LoadFault::Memory => return Err(Fault::Memory),
                 fault => return Err(Fault::Refused(read, fault)),
             },
