@@ -13,7 +13,7 @@ use sudo_policy::{Checked, check};
 use sudo_rows::{Group, Interface, Machine, Person};
 use sudo_text::Seq;
 
-pub const HEADER: &[u8] = b"number,user,host,runas_user,runas_group,command,arguments\n";
+const HEADER: &[u8] = b"number,user,host,runas_user,runas_group,command,arguments\n";
 
 fn person(alloc: Global, name: &[u8], id: u32) -> Result<Person, AllocError> {
     let mut groups = Seq::new(alloc);
@@ -63,7 +63,7 @@ pub fn policy(alloc: Global) -> Result<Checked, Fail> {
 }
 
 /// A requests file: the header and these rows.
-pub fn sheet(alloc: Global, rows: &[u8]) -> Result<Vec<u8>, AllocError> {
+pub fn requests_file(alloc: Global, rows: &[u8]) -> Result<Vec<u8>, AllocError> {
     let mut text = Vec::new(alloc);
     text.extend_from_slice(HEADER)?;
     text.extend_from_slice(rows)?;
@@ -72,7 +72,7 @@ pub fn sheet(alloc: Global, rows: &[u8]) -> Result<Vec<u8>, AllocError> {
 
 /// A source over memory.
 pub fn source(alloc: Global, name: &[u8], rows: &[u8]) -> Result<Source<Script>, AllocError> {
-    let text = sheet(alloc, rows)?;
+    let text = requests_file(alloc, rows)?;
     Ok(Source {
         name: Seq::from_slice(alloc, name)?,
         reader: Script::of(alloc, &text, 100)?,
@@ -97,17 +97,21 @@ pub fn audited<R: Threads + Wait + Sync, F: Feed + Drop + Send, G: Gate + Sync>(
     ))
 }
 
+fn report_shown(alloc: Global, report: &Report) -> Result<String, Fail> {
+    let mut files = Vec::new(alloc);
+    files.push(Seq::from_slice(alloc, b"sudoers")?)?;
+    let text = report_text(alloc, report, &files)?;
+    Ok(String::from_utf8_lossy(alloc, text.as_slice())?)
+}
+
+fn fault_shown(alloc: Global, fault: &AuditFault) -> Result<String, Fail> {
+    Ok(format!(in alloc; "{fault}")?)
+}
+
 /// The text of the report, or of the fault.
-pub fn text_of(alloc: Global, answer: Result<Report, AuditFault>) -> Result<Vec<u8>, Fail> {
+pub fn shown(alloc: Global, answer: &Result<Report, AuditFault>) -> Result<String, Fail> {
     match answer {
-        Ok(report) => {
-            let mut files = Vec::new(alloc);
-            files.push(Seq::from_slice(alloc, b"sudoers")?)?;
-            Ok(report_text(alloc, &report, &files)?)
-        }
-        Err(fault) => {
-            let text = format!(in alloc; "{fault}")?;
-            Ok(Vec::from_slice(alloc, text.as_bytes())?)
-        }
+        Ok(report) => report_shown(alloc, report),
+        Err(fault) => fault_shown(alloc, fault),
     }
 }

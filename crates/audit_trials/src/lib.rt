@@ -4,4 +4,14 @@
 #[cfg(test)]
 mod fixtures;
 #[cfg(test)]
-mod tests;
+mod queue_trials;
+#[cfg(test)]
+mod reader_trials;
+#[cfg(test)]
+mod rows;
+#[cfg(test)]
+mod size_trials;
+#[cfg(test)]
+mod source_trials;
+#[cfg(test)]
+mod thread_trials;
