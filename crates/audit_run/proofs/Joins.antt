@@ -1,10 +1,8 @@
 -- What a pass has when the passes of threads are joined to it.
-use Rattle.std.proofs.Common.{◌≡◌, ℕ, ◌+◌, List, [], ◌∷◌, ◌++◌, flat_map, map, Option, sym, ap, ◌∙◌, arith, append_assoc, append-nil}
+use Rattle.std.proofs.Common.{◌≡◌, ℕ, ◌+◌, List, [], ◌∷◌, ◌++◌, map, Option, sym, ap, ◌∙◌, arith, append_assoc, append-nil}
 use Rattle.std.proofs.lemmas.List.{map-append}
 use Rattle.std.proofs.lemmas.List.Concat.{flat_map-append}
 use Rattle.audit_device.specs.Feeding.{Ahead}
-use Rattle.audit_files.specs.Files.{States}
-use Rattle.audit_files.specs.Requests.{sent}
 use Rattle.audit_files.specs.declared.fault.FileFault.{FileFault}
 use Rattle.audit_handoff.specs.declared.message.Names.{Names}
 use Rattle.audit_handoff.specs.declared.message.Job.{Job}

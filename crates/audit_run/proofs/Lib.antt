@@ -1,3 +1,4 @@
+pub mod Distinct
 pub mod Gains
 pub mod Joins
 pub mod Permuted

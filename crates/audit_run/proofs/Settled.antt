@@ -1,6 +1,6 @@
 -- Where all passes are joined and nothing is left, what was gathered is the answers of all jobs.
-use Rattle.std.proofs.Common.{◌≡◌, ℕ, suc, ◌+◌, ◌-◌, ◌<◌, ◌≤◌, List, [], ◌∷◌, ◌++◌, map, Option, None, Some, Result, Ok, Err, IsPermutation, refl, sym, ap, ◌∙◌, subst, ⊎_elim, arith, append-nil, vec_len, length}
-use Rattle.std.specs.List.{AllZip, zip}
+use Rattle.std.proofs.Common.{◌≡◌, ℕ, suc, ◌+◌, ◌-◌, ◌<◌, ◌≤◌, List, [], ◌∷◌, ◌++◌, map, Option, None, Result, Ok, Err, IsPermutation, refl, sym, ap, ◌∙◌, subst, ⊎_elim, arith, append-nil, vec_len, length}
+use Rattle.std.specs.List.{zip}
 use Rattle.std.proofs.lemmas.Slice.Zip.{AllZip-long}
 use Rattle.audit_files.specs.Files.{States}
 use Rattle.audit_files.specs.Requests.{sent}
@@ -174,7 +174,7 @@ pub senders_refused : (names : Names) (sources : List (List ℕ)) (told : List (
 senders_refused names sources told workers p (Sender name part fault) few refuses = absurd refuses
 senders_refused names sources told workers p (Collect (collect.Roster roster_fault.Memory)) few refuses = absurd refuses
 senders_refused names sources told workers p (Collect (collect.Roster roster_fault.TooManySenders)) few refuses = (few, refuses, refl)
-senders_refused names sources told workers p (Collect (collect.Roster (roster_fault.SenderTwice name))) few refuses = (few, refuses, refl)
+senders_refused names sources told workers p (Collect (collect.Roster (roster_fault.SenderTwice name))) few refuses = absurd refuses
 senders_refused names sources told workers p (Collect (collect.Refused why)) few refuses = absurd refuses
 senders_refused names sources told workers p (Collect (collect.Unfinished what)) few refuses = absurd refuses
 senders_refused names sources told workers p NoThread few refuses = absurd refuses

@@ -1,6 +1,6 @@
 -- What an audit answers, and what it leaves.
 use Rattle.std.specs.Prelude.{◌≡◌, ℕ, ◌<◌, ◌≤◌, ◌++◌, ⊤, List, map, length, slice_get, Option, Some, None, Result, Ok, Err, IsPermutation}
-use Rattle.audit_collect.specs.Roster.{IsRoster, RefusesRoster}
+use Rattle.audit_collect.specs.Roster.{IsRoster, most_senders}
 use Rattle.audit_collect.specs.declared.fault.CollectFault.TheVariants as collect
 use Rattle.audit_collect.specs.declared.fault.RosterFault.TheVariants as roster_fault
 use Rattle.audit_collect.specs.declared.report.Report.{Report}
@@ -75,8 +75,8 @@ abbrev pub Audited : Names → List (List ℕ) → List (Option Ahead) → ℕ �
 Audited names sources told workers old new (Ok report) = Ran names sources told workers old new (Ok report)
 Audited names sources told workers old new (Err (Sender name part fault)) = Ran names sources told workers old new (Err (Sender name part fault))
 Audited names sources told workers old new (Err (Collect (collect.Roster roster_fault.Memory))) = ⊥
-Audited names sources told workers old new (Err (Collect (collect.Roster roster_fault.TooManySenders))) = (length sources ≤ most_parts) × RefusesRoster (roster sources) roster_fault.TooManySenders × (new ≡ old)
-Audited names sources told workers old new (Err (Collect (collect.Roster (roster_fault.SenderTwice name)))) = (length sources ≤ most_parts) × RefusesRoster (roster sources) (roster_fault.SenderTwice name) × (new ≡ old)
+Audited names sources told workers old new (Err (Collect (collect.Roster roster_fault.TooManySenders))) = (length sources ≤ most_parts) × (most_senders < length (roster sources)) × (new ≡ old)
+Audited names sources told workers old new (Err (Collect (collect.Roster (roster_fault.SenderTwice name)))) = ⊥
 Audited names sources told workers old new (Err (Collect (collect.Refused why))) = Ran names sources told workers old new (Err (Collect (collect.Refused why)))
 Audited names sources told workers old new (Err (Collect (collect.Unfinished what))) = Ran names sources told workers old new (Err (Collect (collect.Unfinished what)))
 Audited names sources told workers old new (Err NoThread) = ⊤

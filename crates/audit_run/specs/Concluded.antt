@@ -1,8 +1,8 @@
 -- What a collector answers to what was gathered. Only the bodies' proofs need these words.
-use Rattle.std.specs.Prelude.{◌≡◌, ℕ, ⊤, List, slice_get, Option, Some, Result, Ok, Err}
+use Rattle.std.specs.Prelude.{◌≡◌, ◌<◌, ℕ, ⊤, List, length, slice_get, Option, Some, Result, Ok, Err}
 use Rattle.audit_collect.specs.Finished.{AllFinished, IsFirstMissing, report_of}
 use Rattle.audit_collect.specs.Held.{Held}
-use Rattle.audit_collect.specs.Roster.{RefusesRoster}
+use Rattle.audit_collect.specs.Roster.{most_senders}
 use Rattle.audit_collect.specs.declared.fault.CollectFault.TheVariants as collect
 use Rattle.audit_collect.specs.declared.fault.Refused.{Refused}
 use Rattle.audit_collect.specs.declared.fault.Refused.TheVariants as refused
@@ -16,8 +16,8 @@ use Rattle.audit_run.specs.Audited.{IsFirstFault, IsOfFile, NoneRefused}
 
 -- why there is no collector for the senders
 abbrev pub RefusesSenders : List (List ℕ) → AuditFault → Type 0
-RefusesSenders senders (Collect (collect.Roster roster_fault.TooManySenders)) = RefusesRoster senders roster_fault.TooManySenders
-RefusesSenders senders (Collect (collect.Roster (roster_fault.SenderTwice name))) = RefusesRoster senders (roster_fault.SenderTwice name)
+RefusesSenders senders (Collect (collect.Roster roster_fault.TooManySenders)) = most_senders < length senders
+RefusesSenders senders (Collect (collect.Roster (roster_fault.SenderTwice name))) = ⊥
 RefusesSenders senders (Collect (collect.Roster roster_fault.Memory)) = ⊥
 RefusesSenders senders (Collect (collect.Refused why)) = ⊥
 RefusesSenders senders (Collect (collect.Unfinished what)) = ⊥

@@ -1,5 +1,5 @@
 -- What the caller's thread does: it takes outcomes and offers each arrival to one collector, up to the first refusal.
-use Rattle.std.specs.Prelude.{◌≡◌, ◌⊎◌, List, [], ◌∷◌, ◌++◌, map, Option, Some, None, Result, Err}
+use Rattle.std.specs.Prelude.{◌≡◌, ◌⊎◌, List, [], ◌++◌, map, Option, Some, None, Result, Err}
 use Rattle.audit_collect.specs.Held.{Held, after}
 use Rattle.audit_collect.specs.declared.arrival.Arrival.{Arrival}
 use Rattle.audit_collect.specs.declared.fault.Refused.{Refused}
@@ -7,7 +7,6 @@ use Rattle.audit_collect.specs.declared.fault.Refused.TheVariants.{Memory}
 use Rattle.audit_handoff.specs.declared.message.Job.{Job}
 use Rattle.audit_handoff.specs.declared.message.Names.{Names}
 use Rattle.audit_handoff.specs.declared.message.Outcome.{Outcome}
-use Rattle.audit_handoff.specs.declared.message.Outcome.TheVariants.{Arrived, End, Stopped}
 use Rattle.audit_handoff.specs.Names.{answer}
 use Rattle.audit_handoff.specs.Passes.{PassView}
 use Rattle.audit_run.specs.declared.gather.Gathering.{Gathering}

@@ -17,8 +17,8 @@ mod workers;
 pub use audit_collect::{
     Answer, Arrival, CollectFault, Refused, Report, RosterFault, SenderReport, Unfinished,
 };
-pub use audit_device::{Device, Failed, Feed, Script};
-pub use audit_files::{FileFault, Requests, read_requests};
+pub use audit_device::{Device, Failed, Feed, Script, Sink, WriteFault, write_all_of};
+pub use audit_files::{FileFault, Requests, read_hosts, read_requests, read_users};
 pub use audit_handoff::{Handoff, Job, Outcome, Pass};
 pub use auditing::audit;
 pub use fault::AuditFault;

@@ -2,7 +2,7 @@
 ghost use Rattle.std.specs.Prelude.{◌≡◌, ◌<◌, ◌≤◌, ◌^◌, IfOk, IfErr, length, map, vec_len};
 ghost use Rattle.std.specs.List.{zip};
 ghost use Rattle.audit_collect.specs.Held.{start};
-ghost use Rattle.audit_collect.specs.Roster.{IsRoster};
+ghost use Rattle.audit_collect.specs.Roster.{AreDistinct, IsRoster};
 ghost use Rattle.audit_run.specs.Concluded.{RefusesSenders};
 ghost use Rattle.audit_outcome.specs.Roster.{owners, place_of, places_in, roster};
 ghost use Rattle.audit_run.specs.Work.{told_by};
@@ -92,13 +92,17 @@ fn parts_of<F: Feed + Drop>(
 
 // The collector for the senders of the sources.
 fn collector_for(alloc: Global, names: Vec<Seq<u8>>) -> Result<Collector, AuditFault>
+    requires { AreDistinct names.items }
     ensures ok { IfOk result (λ collector. (collector ≡ start names.items) × IsRoster names.items) }
     ensures err { IfErr result (RefusesSenders names.items) }
 {
     match Collector::new(alloc, names) {
         Ok(collector) => Ok(collector),
         Err(RosterFault::Memory) => Err(AuditFault::Memory),
-        Err(fault) => Err(AuditFault::Collect(CollectFault::Roster(fault))),
+        Err(RosterFault::TooManySenders) => Err(AuditFault::Collect(CollectFault::Roster(
+            RosterFault::TooManySenders,
+        ))),
+        Err(RosterFault::SenderTwice { name: _ }) => unreachable!(),
     }
 }
 

@@ -1,7 +1,5 @@
-use Rattle.std.proofs.Common.{◌≡◌, ◌≤◌, ◌+◌, ℕ, List, [], rules, length, map, ap, sym, ◌∙◌, subst, arith, vec_len}
-use Rattle.std.specs.List.{zip}
+use Rattle.std.proofs.Common.{◌≡◌, ◌+◌, [], rules, length, map, ap, ◌∙◌, subst, arith, vec_len}
 use Rattle.audit_handoff.specs.Names.{names_of}
-use Rattle.audit_run.specs.Audited.{most_parts}
 use Rattle.audit_run.specs.Concluded.{Answers}
 use Rattle.audit_run.specs.Gathered.{comes_of}
 use Rattle.audit_run.specs.Passes.{lighter}

@@ -1,0 +1,43 @@
+//! A source whose reader fails.
+
+use crate::fixtures::{audited, requests_file, shown, source};
+use crate::rows::rows;
+use audit_run::{Open, Script, Source};
+use std::alloc::{AllocError, Global};
+use std::sync::Wait;
+use std::test::Fail;
+use std::thread::Threads;
+use sudo_text::Seq;
+
+/// A source of 151 bytes, of which each read gives 60; the read of this number, from 1, fails.
+fn failing(alloc: Global, call: u64) -> Result<Source<Script>, AllocError> {
+    let rows = rows(alloc, "1=kill 2=stranger close=2")?;
+    let text = requests_file(alloc, rows.as_str().as_bytes())?;
+    Ok(Source {
+        name: Seq::from_slice(alloc, b"s")?,
+        reader: Script::of(alloc, &text, 60)?.failing_at(call),
+    })
+}
+
+/// What is printed where the second source fails at this read.
+fn printed<R: Threads + Wait + Sync>(alloc: Global, rt: &R, call: u64) -> Result<String, Fail> {
+    let mut sources = Vec::new(alloc);
+    sources.push(source(alloc, b"t", b"close,0,,,,,\n")?)?;
+    sources.push(failing(alloc, call)?)?;
+    let answer = audited(alloc, rt, sources, 2, &Open)?;
+    shown(alloc, &answer)
+}
+
+#[test]
+fn each_read_may_fail(rt: HostRuntime) -> Result<(), Fail> {
+    for call in 1..5u64 {
+        let text = printed(rt.alloc(), &rt, call)?;
+        assert_eq!(rt; text.as_str(), "part 1: read failed", "at read {call}");
+    }
+    let text = printed(rt.alloc(), &rt, 5)?;
+    assert!(rt;
+        text.as_str()
+            .starts_with("sender,number,verdict,line,tags\ns,1,allow,")
+    );
+    Ok(())
+}
