@@ -1,19 +1,35 @@
 //! The command that `clap` reads.
-ghost use Rattle.std.specs.Prelude.{◌≡◌, IfOk, false};
+ghost use Rattle.std.specs.Prelude.{◌≡◌, IfOk, codes, false};
 ghost use Rattle.clap.specs.Words.{app_of, rule_of};
 ghost use Rattle.clap.specs.declared.builder.command.Command.TheViews.{out-Command as fields_of};
-ghost use Rattle.audit_words.specs.Words.{audit_app, audit_paths_app, check_app, expand_app, needed_option, program_app, senders_rule, workers_rule};
+ghost use Rattle.audit_words.specs.Words.{audit_app, audit_paths_app, check_app, expand_app, needed, needed_option, program_app, senders_rule, workers_rule};
 
 use clap::builder::ValueParser;
 use clap::{Arg, Command};
 use std::alloc::{AllocError, Global};
+
+/// A word that has to be there.
+fn word<'a>(alloc: Global, id: &'a str, help: &'a str) -> Arg<'a>
+    ensures rule { rule_of result ≡ needed id.entry.now }
+    ensures local { result.global ≡ false }
+{
+    Arg::new(alloc, id).required(true).help(help)
+}
+
+/// `FILE`
+fn file<'a>(alloc: Global) -> Arg<'a>
+    ensures rule { rule_of result ≡ needed (codes "file") }
+    ensures local { result.global ≡ false }
+{
+    word(alloc, "file", "The main file of the policy")
+}
 
 /// `check FILE`
 fn check<'a>(alloc: Global) -> Result<Command<'a>, AllocError>
     ensures app { IfOk result (λ c. app_of c ≡ check_app) }
     ensures local { IfOk result (λ c. (fields_of c).has_globals ≡ false) }
 {
-    Command::new(alloc, "check").arg(Arg::new(alloc, "file").required(true))
+    Command::new(alloc, "check").arg(file(alloc))
 }
 
 /// `expand FILE KIND NAME`
@@ -22,9 +38,9 @@ fn expand<'a>(alloc: Global) -> Result<Command<'a>, AllocError>
     ensures local { IfOk result (λ c. (fields_of c).has_globals ≡ false) }
 {
     Command::new(alloc, "expand")
-        .arg(Arg::new(alloc, "file").required(true))?
-        .arg(Arg::new(alloc, "kind").required(true))?
-        .arg(Arg::new(alloc, "name").required(true))
+        .arg(file(alloc))?
+        .arg(word(alloc, "kind", "user, runas, host or cmnd"))?
+        .arg(word(alloc, "name", "The alias"))
 }
 
 /// `--workers N`, from 1 to 16 and by default 2
@@ -36,6 +52,7 @@ fn workers<'a>(alloc: Global) -> Arg<'a>
         .long("workers")
         .value_parser(ValueParser::Signed(1, 16))
         .default_value("2")
+        .help("How many workers judge the requests, from 1 to 16")
 }
 
 /// `[NAME=PATH]...`
@@ -43,15 +60,17 @@ fn senders<'a>(alloc: Global) -> Arg<'a>
     ensures rule { rule_of result ≡ senders_rule }
     ensures local { result.global ≡ false }
 {
-    Arg::new(alloc, "senders").num_args(..)
+    Arg::new(alloc, "senders")
+        .num_args(..)
+        .help("NAME=PATH: a sender, and a file of its requests")
 }
 
 /// `--ID PATH`
-fn path_option<'a>(alloc: Global, id: &'a str) -> Arg<'a>
+fn path_option<'a>(alloc: Global, id: &'a str, help: &'a str) -> Arg<'a>
     ensures rule { rule_of result ≡ needed_option id.entry.now }
     ensures local { result.global ≡ false }
 {
-    Arg::new(alloc, id).long(id).required(true)
+    Arg::new(alloc, id).long(id).required(true).help(help)
 }
 
 /// `audit FILE --users F --hosts F`
@@ -60,9 +79,9 @@ fn audit_paths<'a>(alloc: Global) -> Result<Command<'a>, AllocError>
     ensures local { IfOk result (λ c. (fields_of c).has_globals ≡ false) }
 {
     Command::new(alloc, "audit")
-        .arg(Arg::new(alloc, "file").required(true))?
-        .arg(path_option(alloc, "users"))?
-        .arg(path_option(alloc, "hosts"))
+        .arg(file(alloc))?
+        .arg(path_option(alloc, "users", "The known users, as CSV"))?
+        .arg(path_option(alloc, "hosts", "The known hosts, as CSV"))
 }
 
 /// `audit FILE --users F --hosts F [--workers N] [NAME=PATH]...`
