@@ -20,6 +20,7 @@ pub use audit_collect::{
 pub use audit_device::{Device, Failed, Feed, Script, Sink, WriteFault, write_all_of};
 pub use audit_files::{FileFault, Requests, read_hosts, read_requests, read_users};
 pub use audit_handoff::{Handoff, Job, Outcome, Pass};
+pub use audit_report::report_text;
 pub use auditing::audit;
 pub use fault::AuditFault;
 pub use gate::{Gate, Open};

@@ -1,8 +1,7 @@
 //! A policy, a directory, sources over memory, and audits of them.
 ghost use Rattle.std.specs.Prelude.{◌≡◌, ◌≤◌};
 
-use audit_report::report_text;
-use audit_run::{AuditFault, Feed, Gate, Handoff, Report, Script, Source, audit};
+use audit_run::{AuditFault, Feed, Gate, Handoff, Report, Script, Source, audit, report_text};
 use std::alloc::{AllocError, Global};
 use std::sync::Wait;
 use std::test::Fail;
