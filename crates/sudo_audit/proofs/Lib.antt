@@ -1,3 +1,4 @@
+pub mod Held
 pub mod Printing
 pub mod SenderLemmas
 pub mod AuditSteps

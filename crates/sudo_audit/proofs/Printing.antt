@@ -1,6 +1,7 @@
 -- What the parts of `expand` say together.
 use Rattle.std.proofs.Common.{◌≡◌, ℕ, List, Result, Ok, Err, Some, subst}
 use Rattle.std.specs.Prelude.{IfOk, Option}
+use Rattle.sudo_load.specs.declared.supply.Supply.{Supply}
 use Rattle.sudo_tree.specs.declared.kind.Kind.{Kind}
 use Rattle.sudo_tree.specs.declared.policy.Policy.{Policy}
 use Rattle.sudo_audit.specs.declared.expand.Printed.{Printed}
@@ -9,21 +10,21 @@ use Rattle.std.specs.Io.KnownBytes.{Appends}
 use Rattle.sudo_audit.specs.Expanding.{IsPrintedOf, IsPrinted, Prints}
 use Rattle.sudo_audit.specs.Loading.{IsLoaded}
 
-of_policy : (path : List ℕ) (kind : Kind) (name : List ℕ) (policy : Policy) → IsLoaded path policy → (p : Printed) → IsPrintedOf policy kind name p → IsPrinted path kind name p
-of_policy path kind name policy loaded (printed.Members lines) h = (policy, loaded, h.0, h.1)
-of_policy path kind name policy loaded (printed.Errors lines) h = tt
+of_policy : (held : Option (List Supply)) (path : List ℕ) (kind : Kind) (name : List ℕ) (policy : Policy) → IsLoaded held path policy → (p : Printed) → IsPrintedOf policy kind name p → IsPrinted held path kind name p
+of_policy held path kind name policy loaded (printed.Members lines) h = (policy, loaded, h.0, h.1)
+of_policy held path kind name policy loaded (printed.Errors lines) h = tt
 
-pub printed_of : {E : Type 0} (path : List ℕ) (kind : Kind) (name : List ℕ) (policy : Policy) (r : Result Printed E) → IsLoaded path policy
-    → IfOk r (IsPrintedOf policy kind name) → IfOk r (IsPrinted path kind name)
-printed_of path kind name policy (Ok p) loaded h = of_policy path kind name policy loaded p h
-printed_of path kind name policy (Err e) loaded h = tt
+pub printed_of : {E : Type 0} (held : Option (List Supply)) (path : List ℕ) (kind : Kind) (name : List ℕ) (policy : Policy) (r : Result Printed E) → IsLoaded held path policy
+    → IfOk r (IsPrintedOf policy kind name) → IfOk r (IsPrinted held path kind name)
+printed_of held path kind name policy (Ok p) loaded h = of_policy held path kind name policy loaded p h
+printed_of held path kind name policy (Err e) loaded h = tt
 
 -- These are the bytes of the members that are printed.
 abbrev pub AreBytes : Printed → List ℕ → Type 0
 AreBytes (printed.Members lines) bytes = bytes ≡ lines.items
 AreBytes (printed.Errors lines) bytes = ⊥
 
-pub prints : (path : List ℕ) (kind : Kind) (name : List ℕ) (p : Printed) (bytes : List ℕ) (old new : Option (List ℕ)) → IsPrinted path kind name p → AreBytes p bytes
-    → Appends old new bytes → Prints path kind name old new
-prints path kind name (printed.Members lines) bytes old new h is wrote = (lines.items, h, subst (Appends old new) is wrote)
-prints path kind name (printed.Errors lines) bytes old new h is wrote = absurd is
+pub prints : (held : Option (List Supply)) (path : List ℕ) (kind : Kind) (name : List ℕ) (p : Printed) (bytes : List ℕ) (old new : Option (List ℕ)) → IsPrinted held path kind name p → AreBytes p bytes
+    → Appends old new bytes → Prints held path kind name old new
+prints held path kind name (printed.Members lines) bytes old new h is wrote = (lines.items, h, subst (Appends old new) is wrote)
+prints held path kind name (printed.Errors lines) bytes old new h is wrote = absurd is

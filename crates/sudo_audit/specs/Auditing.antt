@@ -10,6 +10,7 @@ use Rattle.audit_handoff.specs.Names.{names_of}
 use Rattle.audit_outcome.specs.Parts.{AreRead, Stated}
 use Rattle.audit_report.specs.Report.{report_text}
 use Rattle.audit_run.specs.Audited.{IsOutcome}
+use Rattle.sudo_load.specs.declared.supply.Supply.{Supply}
 use Rattle.sudo_match.specs.Known.{Known, directory_fault}
 use Rattle.sudo_policy.specs.Checking.{Passes}
 use Rattle.sudo_tree.specs.declared.policy.Policy.{Policy}
@@ -20,8 +21,8 @@ use Rattle.sudo_audit.specs.declared.audit.Vetted.{Vetted}
 use Rattle.sudo_audit.specs.declared.audit.Vetted.TheVariants as vetted
 
 -- The policy that the file of a path, with all that it includes, unfolds to, and it passes the check.
-pub record IsChecked (path : List ℕ) (policy : Policy) : Type 0 where
-  pub loaded : IsLoaded path policy
+pub record IsChecked (held : Option (List Supply)) (path : List ℕ) (policy : Policy) : Type 0 where
+  pub loaded : IsLoaded held path policy
   pub passes : Passes policy
 
 -- These are the users and hosts that the files state, and they have no fault.
@@ -39,22 +40,22 @@ pub record IsReported (policy : Policy) (directory : Known) (sources : List (Lis
   pub is : text ≡ report_text policy.files report
 
 -- The text of the report of sources, by the files of a policy, of users and of hosts.
-pub record IsAudited (path : List ℕ) (users hosts : Option Ahead) (sources : List (List ℕ)) (told : List (Option Ahead)) (text : List ℕ) : Type 0 where
+pub record IsAudited (held : Option (List Supply)) (path : List ℕ) (users hosts : Option Ahead) (sources : List (List ℕ)) (told : List (Option Ahead)) (text : List ℕ) : Type 0 where
   pub policy : Policy
-  pub is_policy : IsChecked path policy
+  pub is_policy : IsChecked held path policy
   pub directory : Known
   pub is_directory : IsDirectory users hosts directory
   pub reported : IsReported policy directory sources told text
 
 -- The writer got the text of the report and nothing else.
-abbrev pub Reports : List ℕ → Option Ahead → Option Ahead → List (List ℕ) → List (Option Ahead) → Option (List ℕ) → Option (List ℕ) → Type 0
-Reports path users hosts sources told old new = (text : List ℕ) × IsAudited path users hosts sources told text × Appends old new text
+abbrev pub Reports : Option (List Supply) → List ℕ → Option Ahead → Option Ahead → List (List ℕ) → List (Option Ahead) → Option (List ℕ) → Option (List ℕ) → Type 0
+Reports held path users hosts sources told old new = (text : List ℕ) × IsAudited held path users hosts sources told text × Appends old new text
 
 -- Only bodies' proofs need the words that follow.
 
-abbrev pub IsVetted : List ℕ → Vetted → Type 0
-IsVetted path (vetted.Passes policy) = IsChecked path policy
-IsVetted path (vetted.Errors lines) = ⊤
+abbrev pub IsVetted : Option (List Supply) → List ℕ → Vetted → Type 0
+IsVetted held path (vetted.Passes policy) = IsChecked held path policy
+IsVetted held path (vetted.Errors lines) = ⊤
 
 abbrev pub IsReportUnder : Policy → Known → List (List ℕ) → List (Option Ahead) → Reported → Type 0
 IsReportUnder policy directory sources told (reported.Report text) = IsReported policy directory sources told text.items
@@ -64,6 +65,6 @@ abbrev pub IsReportBy : Policy → Option Ahead → Option Ahead → List (List 
 IsReportBy policy users hosts sources told (reported.Report text) = (directory : Known) × IsDirectory users hosts directory × IsReported policy directory sources told text.items
 IsReportBy policy users hosts sources told (reported.Errors lines) = ⊥
 
-abbrev pub IsAuditedBy : List ℕ → Option Ahead → Option Ahead → List (List ℕ) → List (Option Ahead) → Reported → Type 0
-IsAuditedBy path users hosts sources told (reported.Report text) = IsAudited path users hosts sources told text.items
-IsAuditedBy path users hosts sources told (reported.Errors lines) = ⊤
+abbrev pub IsAuditedBy : Option (List Supply) → List ℕ → Option Ahead → Option Ahead → List (List ℕ) → List (Option Ahead) → Reported → Type 0
+IsAuditedBy held path users hosts sources told (reported.Report text) = IsAudited held path users hosts sources told text.items
+IsAuditedBy held path users hosts sources told (reported.Errors lines) = ⊤

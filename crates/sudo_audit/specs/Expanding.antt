@@ -5,6 +5,7 @@ use Rattle.sudo_tree.specs.declared.kind.Kind.{Kind}
 use Rattle.sudo_tree.specs.declared.kind.Member.{Member}
 use Rattle.sudo_tree.specs.declared.kind.Signed.{Signed}
 use Rattle.sudo_tree.specs.declared.policy.Policy.{Policy}
+use Rattle.sudo_load.specs.declared.supply.Supply.{Supply}
 use Rattle.sudo_parser.specs.Texts.{text_of}
 use Rattle.sudo_policy.specs.Checking.{Passes}
 use Rattle.sudo_policy.specs.Definitions.{in_force}
@@ -29,13 +30,13 @@ IsPrintedOf policy kind name (printed.Members lines) = Passes policy × AreAlias
 IsPrintedOf policy kind name (printed.Errors lines) = ⊤
 
 -- The lines of an alias of the policy that the file of a path, with all that it includes, unfolds to.
-abbrev pub AreLines : List ℕ → Kind → List ℕ → List ℕ → Type 0
-AreLines path kind name lines = (policy : Policy) × IsLoaded path policy × Passes policy × AreAliasLines policy kind name lines
+abbrev pub AreLines : Option (List Supply) → List ℕ → Kind → List ℕ → List ℕ → Type 0
+AreLines held path kind name lines = (policy : Policy) × IsLoaded held path policy × Passes policy × AreAliasLines policy kind name lines
 
-abbrev pub IsPrinted : List ℕ → Kind → List ℕ → Printed → Type 0
-IsPrinted path kind name (printed.Members lines) = AreLines path kind name lines.items
-IsPrinted path kind name (printed.Errors lines) = ⊤
+abbrev pub IsPrinted : Option (List Supply) → List ℕ → Kind → List ℕ → Printed → Type 0
+IsPrinted held path kind name (printed.Members lines) = AreLines held path kind name lines.items
+IsPrinted held path kind name (printed.Errors lines) = ⊤
 
 -- The writer got the lines of the alias and nothing else.
-abbrev pub Prints : List ℕ → Kind → List ℕ → Option (List ℕ) → Option (List ℕ) → Type 0
-Prints path kind name old new = (lines : List ℕ) × AreLines path kind name lines × Appends old new lines
+abbrev pub Prints : Option (List Supply) → List ℕ → Kind → List ℕ → Option (List ℕ) → Option (List ℕ) → Type 0
+Prints held path kind name old new = (lines : List ℕ) × AreLines held path kind name lines × Appends old new lines

@@ -2,3 +2,4 @@ pub mod Loading
 pub mod Expanding
 pub mod Senders
 pub mod Auditing
+pub mod Holding

@@ -33,7 +33,7 @@ enum Reported {
 
 /// The policy of a file, checked.
 fn checked_policy<F: Files>(alloc: Global, path: &[u8], files: &mut F) -> Result<Vetted, Fault>
-    ensures { IfOk result (IsVetted path.now) }
+    ensures { IfOk result (IsVetted (F.held files.old) path.now) }
 {
     let policy = match policy_of(alloc, path, files) {
         Ok(policy) => policy,
@@ -144,7 +144,7 @@ fn audited<T: Threads + Wait + Sync, F: Files, U: Feed, H: Feed, R: Feed + Drop 
     workers: u32,
 ) -> Result<Reported, Fault>
     requires workers { (1 ≤ workers) × (workers ≤ 16) }
-    ensures { IfOk result (IsAuditedBy path.now (U.ahead users.old) (H.ahead hosts.old) (map (λ s. s.name) sources.items) (map (λ s. R.ahead s.reader) sources.items)) }
+    ensures { IfOk result (IsAuditedBy (F.held files.old) path.now (U.ahead users.old) (H.ahead hosts.old) (map (λ s. s.name) sources.items) (map (λ s. R.ahead s.reader) sources.items)) }
 {
     match checked_policy(alloc, path, files) {
         Ok(Vetted::Passes(policy)) => {
@@ -184,7 +184,7 @@ pub fn audit_into<
 ) -> u8
     requires workers { (1 ≤ workers) × (workers ≤ 16) }
     ensures status { result ≤ 4 }
-    ensures printed { result ≡ 0 → Reports path.now (U.ahead users.old) (H.ahead hosts.old) (map (λ s. s.name) sources.items) (map (λ s. R.ahead s.reader) sources.items) (O.taken out.old) (O.taken out.new) }
+    ensures printed { result ≡ 0 → Reports (F.held files.old) path.now (U.ahead users.old) (H.ahead hosts.old) (map (λ s. s.name) sources.items) (map (λ s. R.ahead s.reader) sources.items) (O.taken out.old) (O.taken out.new) }
     ensures untouched { result ≢ 0 → O.stalled_writes out.new ≡ O.stalled_writes out.old → O.taken out.new ≡ O.taken out.old }
 {
     match audited(alloc, rt, path, files, users, hosts, sources, workers) {

@@ -37,7 +37,7 @@ pub(crate) fn finding_lines(
 
 /// A line for each finding, and `ok` if none is an error.
 fn examined<F: Files>(alloc: Global, path: &[u8], files: &mut F) -> Result<Printed, Fault>
-    ensures { IfOk result (λ printed. printed.status ≡ 0 → IsFine path.now) }
+    ensures { IfOk result (λ printed. printed.status ≡ 0 → IsFine (F.held files.old) path.now) }
 {
     let policy = policy_of(alloc, path, files)?;
     let found = findings(alloc, &policy)?;
@@ -62,7 +62,7 @@ pub fn check_run<F: Files, O: Sink, E: Sink>(
     err: &mut E,
 ) -> u8
     ensures status { result ≤ 4 }
-    ensures fine { result ≡ 0 → IsFine path.now }
+    ensures fine { result ≡ 0 → IsFine (F.held files.old) path.now }
 {
     match examined(alloc, path, files) {
         Ok(printed) => match write_all_of(out, &printed.lines) {

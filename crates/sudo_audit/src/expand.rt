@@ -77,7 +77,7 @@ fn printed_for<F: Files>(
     kind: Kind,
     name: &[u8],
 ) -> Result<Printed, Fault>
-    ensures { IfOk result (IsPrinted path.now kind name.now) }
+    ensures { IfOk result (IsPrinted (F.held files.old) path.now kind name.now) }
 {
     match policy_of(alloc, path, files) {
         Ok(policy) => written_out(alloc, policy, kind, name),
@@ -100,7 +100,7 @@ pub fn expand_run<F: Files, O: Sink, E: Sink>(
     err: &mut E,
 ) -> u8
     ensures status { result ≤ 4 }
-    ensures printed { result ≡ 0 → Prints path.now kind name.now (O.taken out.old) (O.taken out.new) }
+    ensures printed { result ≡ 0 → Prints (F.held files.old) path.now kind name.now (O.taken out.old) (O.taken out.new) }
     ensures untouched { result ≢ 0 → O.stalled_writes out.new ≡ O.stalled_writes out.old → O.taken out.new ≡ O.taken out.old }
 {
     match printed_for(alloc, path, files, kind, name) {

@@ -1,4 +1,7 @@
 //! The files of a policy.
+ghost use Rattle.std.specs.Prelude.{◌≡◌, List, Option, None, IfOk};
+ghost use Rattle.sudo_load.specs.declared.supply.Supply.{Supply};
+ghost use Rattle.sudo_audit.specs.Holding.{HoldsFile, HoldsFolder};
 
 use audit_device::{Device, ReadFault, read_whole};
 use std::alloc::{AllocError, Global};
@@ -27,11 +30,18 @@ impl From<AllocError> for FilesFault {
 
 /// Where the files of a policy are read.
 pub trait Files {
+    // The files and folders that there are, where it tells them.
+    ghost held: { Self → Option (List Supply) };
+
     /// The text of a file, cut one byte past the limit for a text; `None` where there is no such file.
-    fn file(&mut self, alloc: Global, path: &[u8]) -> Result<Option<Seq<u8>>, FilesFault>;
+    fn file(&mut self, alloc: Global, path: &[u8]) -> Result<Option<Seq<u8>>, FilesFault>
+        ensures text { IfOk result (λ text. HoldsFile (held self.old) path.now text) }
+        ensures same { held self.new ≡ held self.old };
 
     /// The names of a folder's regular files; none where there is no such folder.
-    fn folder(&mut self, alloc: Global, path: &[u8]) -> Result<Seq<Seq<u8>>, FilesFault>;
+    fn folder(&mut self, alloc: Global, path: &[u8]) -> Result<Seq<Seq<u8>>, FilesFault>
+        ensures names { IfOk result (λ names. HoldsFolder (held self.old) path.now names) }
+        ensures same { held self.new ≡ held self.old };
 }
 
 /// The files of this machine.
@@ -54,6 +64,8 @@ fn too_long(alloc: Global) -> Result<Seq<u8>, FilesFault> {
 }
 
 impl Files for Disk<'_> {
+    ghost held = { λ _. None };
+
     fn file(&mut self, alloc: Global, path: &[u8]) -> Result<Option<Seq<u8>>, FilesFault> {
         let Ok(path) = str::from_utf8(path) else {
             return Err(FilesFault::Failed);

@@ -1,5 +1,6 @@
 //! A policy from its files.
-ghost use Rattle.std.specs.Prelude.{IfOk};
+ghost use Rattle.std.specs.Prelude.{◌≡◌, Some, IfOk, OnOk};
+ghost use Rattle.sudo_audit.specs.Holding.{AreHeld, HoldsFile, IsHeld};
 ghost use Rattle.sudo_audit.specs.Loading.{IsLoaded};
 
 use crate::fault::Fault;
@@ -21,7 +22,10 @@ fn unread(path: Seq<u8>, fault: FilesFault) -> Fault {
 }
 
 /// The file or the folder that is wanted.
-fn fetch<F: Files>(alloc: Global, files: &mut F, want: Want) -> Result<Supply, Fault> {
+fn fetch<F: Files>(alloc: Global, files: &mut F, want: Want) -> Result<Supply, Fault>
+    ensures held { IfOk result (IsHeld (F.held files.old)) }
+    ensures same { F.held files.new ≡ F.held files.old }
+{
     match want {
         Want::File(path) => match files.file(alloc, path.as_slice()) {
             Ok(text) => Ok(Supply::File { path, text }),
@@ -35,7 +39,10 @@ fn fetch<F: Files>(alloc: Global, files: &mut F, want: Want) -> Result<Supply, F
 }
 
 /// The text of the main file, which has to be there.
-fn main_text<F: Files>(alloc: Global, files: &mut F, path: &[u8]) -> Result<Seq<u8>, Fault> {
+fn main_text<F: Files>(alloc: Global, files: &mut F, path: &[u8]) -> Result<Seq<u8>, Fault>
+    ensures held { IfOk result (λ text. HoldsFile (F.held files.old) path.now (Some text)) }
+    ensures same { F.held files.new ≡ F.held files.old }
+{
     match files.file(alloc, path) {
         Ok(Some(text)) => Ok(text),
         Ok(None) => match Seq::from_slice(alloc, path) {
@@ -100,7 +107,11 @@ fn read_one<F: Files>(
     want: Want,
     supplies: &mut Vec<Supply>,
     pending: &mut Vec<Want>,
-) -> Result<(), Fault> {
+) -> Result<(), Fault>
+    requires { AreHeld (F.held files.old) supplies.old.items }
+    ensures held { OnOk result (AreHeld (F.held files.new) supplies.new.items) }
+    ensures same { F.held files.new ≡ F.held files.old }
+{
     match fetch(alloc, files, want) {
         Ok(supply) => {
             pending.append(&mut named_by(alloc, &supply)?)?;
@@ -117,7 +128,10 @@ fn read_ahead<F: Files>(
     files: &mut F,
     path: &[u8],
     text: &[u8],
-) -> Result<Vec<Supply>, Fault> {
+) -> Result<Vec<Supply>, Fault>
+    ensures held { IfOk result (λ handed. AreHeld (F.held files.new) handed.items) }
+    ensures same { F.held files.new ≡ F.held files.old }
+{
     let mut supplies = Vec::new(alloc);
     let mut pending = included(alloc, path, text)?;
     for _turn in 0..MOST_CALLS {
@@ -131,6 +145,20 @@ fn read_ahead<F: Files>(
     Ok(supplies)
 }
 
+/// Reads a file or a folder that is wanted.
+fn push_wanted<F: Files>(
+    alloc: Global,
+    files: &mut F,
+    want: Want,
+    supplies: &mut Vec<Supply>,
+) -> Result<(), Fault>
+    requires { AreHeld (F.held files.old) supplies.old.items }
+    ensures held { OnOk result (AreHeld (F.held files.new) supplies.new.items) }
+    ensures same { F.held files.new ≡ F.held files.old }
+{
+    Ok(supplies.push(fetch(alloc, files, want)?)?)
+}
+
 /// Reads what is wanted. The first time, all that the main file includes is read ahead.
 fn hand_in<F: Files>(
     alloc: Global,
@@ -139,14 +167,18 @@ fn hand_in<F: Files>(
     text: &[u8],
     want: Want,
     supplies: &mut Vec<Supply>,
-) -> Result<(), Fault> {
+) -> Result<(), Fault>
+    requires { AreHeld (F.held files.old) supplies.old.items }
+    ensures held { OnOk result (AreHeld (F.held files.new) supplies.new.items) }
+    ensures same { F.held files.new ≡ F.held files.old }
+{
     if supplies.is_empty() {
         *supplies = read_ahead(alloc, files, path, text)?;
     }
     if is_read(supplies, &want) {
         return Ok(());
     }
-    Ok(supplies.push(fetch(alloc, files, want)?)?)
+    push_wanted(alloc, files, want, supplies)
 }
 
 /// The policy of a file and of all that it includes: what is wanted is read, and the loading begins anew.
@@ -155,7 +187,7 @@ pub(crate) fn policy_of<F: Files>(
     path: &[u8],
     files: &mut F,
 ) -> Result<Policy, Fault>
-    ensures { IfOk result (λ policy. IsLoaded path.now policy) }
+    ensures { IfOk result (λ policy. IsLoaded (F.held files.old) path.now policy) }
 {
     let text = main_text(alloc, files, path)?;
     let text = text.as_slice();

@@ -23,6 +23,10 @@ pub(crate) struct Shelf<'a> {
 }
 
 impl Files for Shelf<'_> {
+    ghost use Rattle.std.specs.Prelude.{None};
+
+    ghost held = { λ _. None };
+
     fn file(&mut self, alloc: Global, path: &[u8]) -> Result<Option<Seq<u8>>, FilesFault> {
         for item in self.items {
             if item.path == path {

@@ -4,5 +4,5 @@ use Rattle.sudo_audit.proofs.expand.expand_run.Goals as goal
 
 pub returns-in-Ok-clause-printed : goal.returns-in-Ok-clause-printed
 returns-in-Ok-clause-printed g c = λ zero.
-    prints c.args.path.now c.args.kind c.args.name.now c.in-Ok-Members.field-0 c.deref.result.now (g.O.Sink.taken c.args.out.now) (g.O.Sink.taken c.write_all_of.new.writer)
+    prints (g.F.Files.held c.args.files.now) c.args.path.now c.args.kind c.args.name.now c.in-Ok-Members.field-0 c.deref.result.now (g.O.Sink.taken c.args.out.now) (g.O.Sink.taken c.write_all_of.new.writer)
     c.in-Ok-Members.ensures (subst (λ p. AreBytes p c.deref.result.now) (sym c.in-Ok-Members.field-0-is) c.deref.ensures.value) c.in-Ok.ensures.whole
