@@ -1,3 +1,6 @@
+pub mod Quotes
+pub mod Spacing
+pub mod Beginnings
 pub mod Closing
 pub mod Cuts
 pub mod LineVectors
