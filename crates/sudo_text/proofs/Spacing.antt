@@ -19,6 +19,7 @@ use Rattle.sudo_text.specs.Tokens.{has_arguments, command_end}
 use Rattle.sudo_text.specs.Runs.{is_plain_blank, HasNoBlankAt, AreSpaced}
 use Rattle.sudo_text.proofs.Reaching.{choose, both, bad_char, bad_end, end_char, none_some, follow_parts, run_parts}
 use Rattle.sudo_text.proofs.Closing.{false_true, next_is, less}
+use Rattle.sudo_text.proofs.Endings.{escape_goes_on}
 use Rattle.sudo_text.proofs.Unique.{true_false, then_parts}
 
 -- After blanks stands none.
@@ -44,7 +45,7 @@ record Opens (text : List ℕ) (at : ℕ) : Type 0 where
   goes_on : ends_run styles.Arguments text at at ≡ false
   no_blank : is_blank (get_or text at 0) ≡ false
 
-same_char : (c d : Ch) (m n : ℕ) → Char c m ≡ Char d n → c ≡ d
+pub same_char : (c d : Ch) (m n : ℕ) → Char c m ≡ Char d n → c ≡ d
 same_char c d m n e = cc
 
 escaped_no_blank : (text : List ℕ) (at : ℕ) (c : Ch) (n : ℕ) → escape_at styles.Arguments text at ≡ Char c n → is_plain_blank c ≡ false
@@ -57,17 +58,6 @@ escaped_no_blank text at c n is =
     (λ w rest. choose (is_control next) (Bad flaws.NotPrintable (at + 1)) (Char (escaped next) (at + 2)) (Char c n) rest
     (λ v e. absurd (bad_char _ _ _ _ e))
     (λ v e. ap is_plain_blank (sym (same_char _ _ _ _ e))))
-
-escaped_goes_on : (text : List ℕ) (at : ℕ) → escape_at styles.Arguments text at ≡ End → ⊥
-unfolding escape_at
-escaped_goes_on text at is =
-    let next : ℕ = get_or text (at + 1) 0 in
-    let last : Piece = if is_control next then Bad flaws.NotPrintable (at + 1) else Char (escaped next) (at + 2) in
-    choose (nat_le (length text) (at + 1)) (Bad flaws.BadEscape at) last End is
-    (λ w e. bad_end _ _ e)
-    (λ w rest. choose (is_control next) (Bad flaws.NotPrintable (at + 1)) (Char (escaped next) (at + 2)) End rest
-    (λ v e. bad_end _ _ e)
-    (λ v e. end_char _ _ (sym e)))
 
 -- What a character that is such a blank says.
 blanks_open : (text : List ℕ) (at : ℕ) (c : Ch) (n : ℕ) → blanks_at text at ≡ Char c n → (c.byte ≡ 32) × Opens text n
@@ -139,7 +129,7 @@ opens_goes_on text start at o is =
     choose (nat_le (length text) at) End (if byte == 92 then escape_at styles.Arguments text at else second) End is
     (λ w e. let long : nat_le (length text) at ≡ false = grind (arith, nat_tests) in true_false (sym w ∙ long))
     (λ w rest. choose (byte == 92) (escape_at styles.Arguments text at) second End rest
-    (λ slash e. escaped_goes_on text at e)
+    (λ slash e. escape_goes_on styles.Arguments text at e)
     (λ slash rest2. choose (ends_run styles.Arguments text start at) End third End rest2
     (λ ends e. true_false (sym ends ∙ o.goes_on))
     (λ ends rest3. choose (is_control byte) (Bad flaws.NotPrintable at) fourth End rest3

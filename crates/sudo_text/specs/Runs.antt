@@ -1,15 +1,16 @@
 -- What holds of runs, in words that do not go along the text: which double quote closes a quoted word, what stands first in
 -- a word, a value or a path, and which blanks arguments have.
-use Rattle.std.specs.Prelude.{◌≡◌, ◌≢◌, ℕ, zero, suc, Bool, true, false, not, ◌&&◌, ◌==◌, if◌then◌else◌, nat_eq, List, drop, slice_index, slice_get, ◌+◌, ◌%◌, ◌<◌, ◌⊎◌, ◌↔◌, Some, IsTrue, codes}
+use Rattle.std.specs.Prelude.{◌≡◌, ◌≢◌, ℕ, zero, suc, Bool, true, false, not, ◌&&◌, ◌==◌, if◌then◌else◌, nat_eq, List, length, map, take, drop, slice_index, slice_get, ◌+◌, ◌%◌, ◌<◌, ◌≤◌, ◌⊎◌, ◌↔◌, Some, IsTrue, codes}
 use Rattle.std.specs.List.{starts_with}
 use Rattle.sudo_text.specs.declared.token.Ch.{Ch}
 use Rattle.sudo_text.specs.declared.rules.LineKind.{LineKind}
 use Rattle.sudo_text.specs.declared.rules.Before.{Before}
 use Rattle.sudo_text.specs.declared.rules.Rule.{Rule}
 use Rattle.sudo_text.specs.declared.rules.Rule.TheVariants as rules
+use Rattle.sudo_text.specs.declared.piece.Style.{Style}
 use Rattle.sudo_text.specs.declared.piece.Style.TheVariants as styles
 use Rattle.sudo_text.specs.Bytes.{is_blank, is_digit}
-use Rattle.sudo_text.specs.Pieces.{skip, is_mark, is_assignment, run_end}
+use Rattle.sudo_text.specs.Pieces.{plain, skip, IsBlankAt, is_mark, is_assignment, ends_run, is_arguments, run_end}
 use Rattle.sudo_text.specs.Places.{opens, is_defaults, directive_len, rule_at}
 use Rattle.sudo_text.specs.Tokens.{has_closing, quoted_end, command_end}
 
@@ -46,6 +47,31 @@ pub record IsBehindFirstQuote (text : List ℕ) (at end : ℕ) : Type 0 where
 -- A quoted word ends directly behind the first quote that closes.
 abbrev pub QuotesEndWords : Type 0
 QuotesEndWords = (text : List ℕ) (at end : ℕ) (cs : List Ch) → quoted_end text at cs ≡ Some end → IsBehindFirstQuote text at end
+
+-- A byte that ends the run from `start` stands so many bytes behind its start, and no backslash of the run takes it.
+pub record EndsBehind (style : Style) (text : List ℕ) (start len : ℕ) : Type 0 where
+  pub ends : ends_run style text start (start + len) ≡ true
+  pub even : backslashes_before (drop start text) len % 2 ≡ 0
+
+-- Blanks stand there, and behind them nothing, or what ends arguments.
+abbrev pub LeadsOut : List ℕ → ℕ → Type 0
+LeadsOut text at = IsBlankAt text at × ((length text ≤ skip text at) ⊎ (ends_run styles.Arguments text (skip text at) (skip text at) ≡ true))
+
+-- The run from `start` goes up to the first byte that ends it, or the end of the text; arguments leave out the blanks before that.
+pub record IsWholeRun (style : Style) (text : List ℕ) (start end : ℕ) : Type 0 where
+  pub len : ℕ
+  pub behind : end ≡ start + len
+  pub first : (i : ℕ) → i < len → EndsBehind style text start i → ⊥
+  pub last : (length text ≤ end) ⊎ (EndsBehind style text start len ⊎ (IsTrue (is_arguments style) × LeadsOut text end))
+
+-- Each run is as long as that.
+abbrev pub RunsAreWhole : Type 0
+RunsAreWhole = (style : Style) (text : List ℕ) (start end : ℕ) (cs : List Ch) → run_end style text start cs ≡ Some end → IsWholeRun style text start end
+
+-- Apart from arguments, a run without a backslash has its bytes as they stand.
+abbrev pub PlainRuns : Type 0
+PlainRuns = (style : Style) (text : List ℕ) (start len : ℕ) (cs : List Ch) → is_arguments style ≡ false
+    → ((i : ℕ) → i < len → slice_index text (start + i) ≢ 92) → run_end style text start cs ≡ Some (start + len) → cs ≡ map plain (take len (drop start text))
 
 -- A `#` that stands there begins a number: a digit follows it, and the token before lets a number begin.
 abbrev pub OnlyNumbers : Before → List ℕ → ℕ → Type 0

@@ -1,5 +1,5 @@
 //! Laws of the definitions, each the contract of a function that does nothing.
-ghost use Rattle.sudo_text.specs.Runs.{QuotesClose, QuotesEndRuns, QuotesEndWords, RunsBegin, BlanksOfArguments, ArgumentsOfCommands};
+ghost use Rattle.sudo_text.specs.Runs.{QuotesClose, QuotesEndRuns, QuotesEndWords, RunsAreWhole, PlainRuns, RunsBegin, BlanksOfArguments, ArgumentsOfCommands};
 ghost use Rattle.sudo_text.specs.Tokens.{SpelledOnce, FaultsExclude, FaultedOnce, FaultsPlaced};
 
 /// No line spells two lists of tokens.
@@ -36,6 +36,17 @@ pub fn quotes_end_runs()
 /// A quoted word ends directly behind that quote.
 pub fn quotes_end_words()
     ensures { QuotesEndWords }
+{}
+
+/// A word, a value, a path or what stands between quotes goes up to the first byte that ends it, where an even number of
+/// backslashes stands directly before that byte, or to the end of the text. Arguments leave out the blanks before that.
+pub fn runs_are_whole()
+    ensures { RunsAreWhole }
+{}
+
+/// Where no backslash stands in them, their characters are their bytes; of arguments see `blanks_of_arguments`.
+pub fn plain_runs()
+    ensures { PlainRuns }
 {}
 
 /// A word, a value or a path never begins with what would end it further on, apart from the `#` of a number.

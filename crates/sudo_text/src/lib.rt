@@ -20,8 +20,8 @@ pub use fault::TextFault;
 pub use folding::{TEXT_LIMIT, lines};
 pub use laws::{
     arguments_of_commands, blanks_of_arguments, faults_name_their_line, no_fault_beside_tokens,
-    one_leftmost_fault, one_token_list, quotes_close, quotes_end_runs, quotes_end_words,
-    what_begins_a_run,
+    one_leftmost_fault, one_token_list, plain_runs, quotes_close, quotes_end_runs,
+    quotes_end_words, runs_are_whole, what_begins_a_run,
 };
 pub use line::{Line, Place};
 pub use scan::tokens;

@@ -1,4 +1,4 @@
-use Rattle.sudo_text.proofs.Quotes.{runs_end_at_quotes}
+use Rattle.sudo_text.proofs.Endings.{runs_end_at_quotes}
 use Rattle.sudo_text.proofs.laws.quotes_end_runs.Goals as goal
 
 pub returns : goal.returns
