@@ -1,7 +1,8 @@
 -- What a sorted list shows of a plain sender.
-use Rattle.std.proofs.Common.{◌≡◌, ◌≢◌, ℕ, zero, suc, ◌+◌, ◌<◌, ◌≤◌, true, List, [], ◌∷◌, length, Option, None, Some, is_some, slice_get, count_by, IsPermutation, refl, sym, ap, subst, ◌∙◌, inl, inr, arith}
+use Rattle.std.proofs.Common.{◌≡◌, ◌≢◌, ℕ, zero, suc, ◌+◌, ◌<◌, ◌≤◌, true, List, [], ◌∷◌, length, take, Option, None, Some, is_some, slice_get, count_by, IsPermutation, refl, sym, ap, subst, ◌∙◌, inl, inr, arith}
 use Rattle.std.proofs.lemmas.Bool.{cases_lt, false≢true}
 use Rattle.std.proofs.lemmas.Bool.Decides.{nat_tests}
+use Rattle.std.proofs.lemmas.List.{length-take-le}
 use Rattle.std.specs.List.Sorted.{IsNonDecreasingBy}
 use Rattle.std.specs.Ordering.{nat_cmp}
 use Rattle.std.specs.Cmp.{nat_cmp_total}
@@ -9,7 +10,7 @@ use Rattle.std.specs.FinMap.{find, get, get-from_entries, from_entries, entries,
 use Rattle.audit_collect.specs.declared.arrival.Answer.{Answer}
 use Rattle.audit_collect.specs.declared.report.SenderReport.{SenderReport}
 use Rattle.audit_collect.specs.Held.{greatest_key}
-use Rattle.audit_collect.specs.Finished.{IsFinished, IsLeastMissing, sender_report}
+use Rattle.audit_collect.specs.Finished.{IsFinished, IsLeastMissing, IsReleased, sender_report}
 use Rattle.audit_collect.proofs.Greatest.{le-greatest}
 use Rattle.audit_collect.proofs.Members.{Among, count_by-permutation, count_by_member}
 use Rattle.collect_trials.specs.declared.sender.PlainSender.TheInside.{Inside}
@@ -32,6 +33,12 @@ item_at : (xs : List Answer) (i : ℕ) → i < length xs → At xs i
 item_at [] i h = absurd (omega arith)
 item_at (x ∷ xs) zero h = record { item = x; there = refl; member = inl refl }
 item_at (x ∷ xs) (suc i) h = let rest = item_at xs i (omega arith) in record { item = rest.item; there = rest.there; member = inr rest.member }
+
+slice_get-take : (n : ℕ) (xs : List Answer) (i : ℕ) → i < n → slice_get (take n xs) i ≡ slice_get xs i
+slice_get-take zero xs i h = absurd (omega arith)
+slice_get-take (suc n) [] i h = refl
+slice_get-take (suc n) (x ∷ xs) zero h = refl
+slice_get-take (suc n) (x ∷ xs) (suc i) h = slice_get-take n xs i (omega arith)
 
 some_of : {A : Type 0} (o : Option A) → is_some o ≡ true → (x : A) × (o ≡ Some x)
 some_of None h = absurd (false≢true h)
@@ -76,13 +83,20 @@ module _ (s : Inside) (ys : List Answer) (kept : IsPlain s) (moved : IsPermutati
 
     module _ (front : ℕ) (numbered : (i : ℕ) (a : Answer) → i < front → slice_get ys i ≡ Some a → a.request.number ≡ i + 1) (within : front ≤ length ys)
         (ends : (a : Answer) → slice_get ys front ≡ Some a → a.request.number ≢ front + 1) where
+      -- what is accepted for a number of the front
+      got_at : (i : ℕ) → i < front → slice_get ys i ≡ get (held_in s).answers (i + 1)
+      got_at i h =
+          let here = item_at ys i (omega arith) in
+          let number = numbered i here.item h here.there in
+          here.there
+          ∙ sym (got (i + 1) ∙ ap (λ n. find nat_cmp n (by_number ys)) (sym number) ∙ found_member here.item ys (distinct_moved s.answers.items ys moved kept.distinct) here.member)
+
       present : (n : ℕ) → 1 ≤ n → n ≤ front → is_some (get (held_in s).answers n) ≡ true
       present zero h k = absurd (omega arith)
       present (suc i) h k =
           let here = item_at ys i (omega arith) in
-          let number = numbered i here.item (omega arith) here.there in
-          let same : here.item.request.number ≡ suc i = omega arith in
-          ap is_some (got (suc i) ∙ ap (λ n. find nat_cmp n (by_number ys)) (sym same) ∙ found_member here.item ys (distinct_moved s.answers.items ys moved kept.distinct) here.member)
+          let same : i + 1 ≡ suc i = omega arith in
+          ap (λ n. is_some (get (held_in s).answers n)) (sym same) ∙ ap is_some (sym (got_at i (omega arith)) ∙ here.there)
 
       absent : get (held_in s).answers (front + 1) ≡ None
       absent = got (front + 1) ∙ none_if (find nat_cmp (front + 1) (by_number ys)) (λ a e.
@@ -117,4 +131,13 @@ module _ (s : Inside) (ys : List Answer) (kept : IsPlain s) (moved : IsPermutati
                   (omega arith, omega arith),
               λ k. present n k.0 (omega (arith, k.1)),
             );
+          }
+
+      -- the front is what can be released
+      pub released_is : IsReleased (held_in s) (take front ys)
+      released_is =
+          let count = length-take-le front ys within in
+          record {
+            accepted = λ i h. let less : i < front = omega arith in slice_get-take front ys i less ∙ got_at i less;
+            greatest = ap (λ n. get (held_in s).answers (n + 1)) count ∙ absent;
           }

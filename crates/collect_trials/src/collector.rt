@@ -1,8 +1,9 @@
 //! The plain collector.
-ghost use Rattle.std.specs.Prelude.{◌≡◌, ◌≤◌, ◌<◌, ℕ, List, IfOk, IfErr, OnOk, OnErr, None, Some, IsNone, IfSome, MatchOption, IsTrue, slice_get, length, vec_len, vec_capacity};
-ghost use Rattle.audit_collect.specs.Held.{start, refusal, accepted, ComesBack};
+ghost use Rattle.std.specs.Prelude.{◌≡◌, ◌≤◌, ◌<◌, ℕ, List, IfOk, IfErr, OnOk, OnErr, None, Some, IsNone, IfSome, MatchOption, IsTrue, ◌↔◌, slice_get, length, vec_len, vec_capacity};
+ghost use Rattle.std.specs.Borrow.{sem};
+ghost use Rattle.audit_collect.specs.Held.{start, refusal, accepted, ComesBack, Held};
 ghost use Rattle.audit_collect.specs.Roster.{IsRoster, RefusesRoster, RepeatsAt, AreDistinct, IsFirstRepeat};
-ghost use Rattle.audit_collect.specs.Finished.{AllFinished, IsFirstMissing, report_of};
+ghost use Rattle.audit_collect.specs.Finished.{AllFinished, IsFirstMissing, IsReleased, report_of};
 ghost use Rattle.audit_collect.specs.declared.arrival.Arrival.TheVariants.{Reply, Close};
 
 use crate::PlainSender;
@@ -38,6 +39,8 @@ impl Model for PlainCollector {
 }
 
 impl PlainCollector {
+    ghost use Rattle.collect_trials.specs.Lending.{CollectorUnchanged};
+
     /// A collector for the senders of the roster, of which nothing has arrived.
     ///
     /// Answers `SenderTwice` with the first name that repeats an earlier one, else `TooManySenders` for more than 64
@@ -86,6 +89,19 @@ impl PlainCollector {
                 }
             }
         }
+    }
+
+    /// The answers to the sender's requests 1 to k, with k the greatest for which all were accepted; `None` for a sender that
+    /// is not in the roster. It sorts the sender's answers in place, which changes nothing that is held, and takes no memory.
+    pub fn released(&mut self, sender: u32) -> Option<&[Answer]>
+        ensures stranger { IsNone result ↔ (slice_get self.old sender ≡ None) }
+        ensures released { IfSome result (λ answers. (h : Held) → slice_get self.old sender ≡ Some h → IsReleased h answers.now) }
+        ensures* unchanged { sem 𝓛 (CollectorUnchanged self.entry) }
+    {
+        if sender as usize >= self.senders.len() {
+            return None;
+        }
+        Some(self.senders[sender as usize].released())
     }
 
     /// The report, where each sender is closed and its accepted numbers are those from 1 to its count.

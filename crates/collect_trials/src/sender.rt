@@ -3,8 +3,9 @@ ghost use Rattle.std.specs.Prelude.{◌≡◌, ◌≤◌, ◌<◌, IfErr, OnOk, 
 ghost use Rattle.std.specs.List.Sorted.{IsNonDecreasingBy};
 ghost use Rattle.std.specs.List.{list_any};
 ghost use Rattle.std.specs.FinMap as map;
+ghost use Rattle.std.specs.Borrow.{sem};
 ghost use Rattle.audit_collect.specs.Held.{nothing_of, reply_refusal, close_refusal, with_reply, with_close, greatest};
-ghost use Rattle.audit_collect.specs.Finished.{IsFinished, sender_report, Misses};
+ghost use Rattle.audit_collect.specs.Finished.{IsFinished, IsReleased, sender_report, Misses};
 ghost use Rattle.audit_collect.specs.declared.arrival.Answer.{Answer};
 ghost use Rattle.collect_trials.specs.Plain.{greatest_number, has_number, number_of};
 
@@ -37,6 +38,8 @@ impl Model for PlainSender {
 }
 
 impl PlainSender {
+    ghost use Rattle.collect_trials.specs.Lending.{SenderUnchanged};
+
     /// A sender from which nothing has arrived. It takes no memory.
     pub fn new(alloc: Global, name: Seq<u8>) -> PlainSender
         ensures { result ≡ nothing_of name }
@@ -122,6 +125,16 @@ impl PlainSender {
             });
         }
         None
+    }
+
+    /// The answers that can be released. It sorts the answers in place, which changes nothing that is held.
+    pub fn released(&mut self) -> &[Answer]
+        ensures released { IsReleased self.old result.now }
+        ensures* unchanged { sem 𝓛 (SenderUnchanged self.entry) }
+    {
+        sort_by_number(&mut self.answers);
+        let front = numbered_front(&self.answers);
+        &self.answers[..front as usize]
     }
 
     /// The report of a finished sender. It sorts the answers in place, and takes no memory.

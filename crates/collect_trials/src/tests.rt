@@ -251,6 +251,22 @@ fn both_refuse(
         && plain_refusal(plain, arrival(alloc, step)) == wanted
 }
 
+// Whether both collectors release the same answers of the sender, as many as these; `None` for a stranger.
+fn both_release(
+    real: &Collector,
+    plain: &mut PlainCollector,
+    sender: u32,
+    wanted: Option<usize>,
+) -> bool {
+    match (real.released(sender), plain.released(sender)) {
+        (Some(answers), Some(plain_answers)) => {
+            answers == plain_answers && wanted == Some(answers.len())
+        }
+        (None, None) => wanted.is_none(),
+        _ => false,
+    }
+}
+
 // Both collectors, where both come back with this that is missing.
 fn both_unfinished(
     real: Collector,
@@ -294,19 +310,29 @@ fn both_refuse_alike(rt: HostRuntime) -> Result<(), AllocError> {
         sender: 0,
         number: 5,
     };
-    for (step, wanted) in [
-        (Step::Reply(0, 2), None),
-        (Step::Unknown(0, 2), Some(double)),
-        (Step::Reply(1, 1), Some(Refused::Stranger { sender: 1 })),
-        (Step::Reply(0, 0), Some(Refused::ZeroNumber { sender: 0 })),
-        (Step::Close(0, 4), None),
-        (Step::Reply(0, 5), Some(past)),
-        (Step::Close(0, 4), Some(Refused::ClosedTwice { sender: 0 })),
-        (Step::Reply(0, 4), None),
-        (Step::Reply(0, 1), None),
+    for (step, wanted, released) in [
+        (Step::Reply(0, 2), None, 0),
+        (Step::Unknown(0, 2), Some(double), 0),
+        (Step::Reply(1, 1), Some(Refused::Stranger { sender: 1 }), 0),
+        (
+            Step::Reply(0, 0),
+            Some(Refused::ZeroNumber { sender: 0 }),
+            0,
+        ),
+        (Step::Close(0, 4), None, 0),
+        (Step::Reply(0, 5), Some(past), 0),
+        (
+            Step::Close(0, 4),
+            Some(Refused::ClosedTwice { sender: 0 }),
+            0,
+        ),
+        (Step::Reply(0, 4), None, 0),
+        (Step::Reply(0, 1), None, 2),
     ] {
         assert!(rt; both_refuse(alloc, &mut real, &mut plain, step, wanted));
+        assert!(rt; both_release(&real, &mut plain, 0, Some(released)));
     }
+    assert!(rt; both_release(&real, &mut plain, 1, None));
     let missing = Unfinished::Gap {
         sender: 0,
         number: 3,
@@ -315,6 +341,7 @@ fn both_refuse_alike(rt: HostRuntime) -> Result<(), AllocError> {
         return Err(AllocError);
     };
     assert!(rt; both_refuse(alloc, &mut real, &mut plain, Step::Reply(0, 3), None));
+    assert!(rt; both_release(&real, &mut plain, 0, Some(4)));
     let mut senders = Vec::new(alloc);
     senders.push(sender_report(alloc, b'a', 0, 4)?)?;
     let wanted = Report {

@@ -1,12 +1,9 @@
 -- A fault of a line names the place where the line begins.
-use Rattle.std.proofs.Common.{◌≡◌, ℕ, Option, None, Some, refl, ap, ◌∙◌}
-use Rattle.sudo_text.specs.declared.line.Line.{Line}
+use Rattle.std.proofs.Common.{◌≡◌, ℕ, Some, refl, ap, ◌∙◌}
 use Rattle.sudo_text.specs.declared.line.Place.{Place}
-use Rattle.sudo_text.specs.declared.fault.TextFault.{TextFault}
-use Rattle.sudo_text.specs.declared.fault.TextFault.TheVariants as faults
 use Rattle.sudo_text.specs.declared.piece.Flaw.{Flaw}
 use Rattle.sudo_text.specs.declared.piece.Flaw.TheVariants as flaws
-use Rattle.sudo_text.specs.Tokens.{LeftmostFault, fault_of, fault_place, FaultsPlaced}
+use Rattle.sudo_text.specs.Tokens.{fault_of, fault_place, FaultsPlaced}
 
 flaw_place : (first : Place) (flaw : Flaw) (place : ℕ) → fault_place (fault_of first flaw place) ≡ Some first
 flaw_place first flaws.BadQuote place = refl

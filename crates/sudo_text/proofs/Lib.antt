@@ -1,12 +1,17 @@
+pub mod Quotes
+pub mod Spacing
+pub mod Beginnings
 pub mod Closing
 pub mod Cuts
 pub mod LineVectors
 pub mod NoFault
 pub mod OneList
+pub mod PlainRuns
 pub mod Progress
 pub mod Reaching
 pub mod Scanning
 pub mod TokenVectors
 pub mod Unique
 pub mod OneFault
+pub mod Endings
 pub mod FaultPlace

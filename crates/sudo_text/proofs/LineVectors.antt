@@ -1,5 +1,5 @@
 -- Worked examples of the definition of logical lines.
-use Rattle.std.proofs.Common.{◌≡◌, List, [], ◌∷◌, ◌++◌, refl, Ok, Err}
+use Rattle.std.proofs.Common.{◌≡◌, [], ◌∷◌, ◌++◌, refl, Ok, Err}
 use Rattle.std.specs.Prelude.{codes}
 use Rattle.sudo_text.specs.declared.fault.TextFault.TheVariants.{BadEscape}
 use Rattle.sudo_text.specs.Lines.{place, folded}

@@ -1,33 +1,26 @@
 -- A line has at most one leftmost fault.
-use Rattle.std.proofs.Common.{◌≡◌, ℕ, zero, suc, ◌+◌, ◌<◌, ◌≤◌, Bool, List, [], ◌∷◌, length, drop, get_or, true, false, refl, sym, ◌∙◌, ap, subst, ⊎_elim, inl, inr, Option, Some, None, Result, Ok, Err, arith}
-use Rattle.std.proofs.lemmas.Bool.Decides.{nat_tests}
-use Rattle.std.proofs.lemmas.Bool.{eqb-true}
-use Rattle.std.specs.Prelude.{◌==◌, ◌&&◌, ◌||◌, not, if◌then◌else◌, ◌⊎◌, ◌≢◌, nat_le, nat_lt, IsTrue, IfOk, IfErr}
+use Rattle.std.proofs.Common.{◌≡◌, ℕ, ◌+◌, Bool, List, [], ◌∷◌, drop, get_or, true, false, sym, ◌∙◌, ap, subst, ⊎_elim, Some}
+use Rattle.std.specs.Prelude.{◌==◌, not, IsTrue}
 use Rattle.sudo_text.specs.declared.token.Ch.{Ch}
 use Rattle.sudo_text.specs.declared.token.Token.{Token}
-use Rattle.sudo_text.specs.declared.token.TokenKind.{TokenKind}
 use Rattle.sudo_text.specs.declared.rules.LineKind.{LineKind}
 use Rattle.sudo_text.specs.declared.rules.Before.{Before}
 use Rattle.sudo_text.specs.declared.rules.Before.TheVariants as befores
 use Rattle.sudo_text.specs.declared.rules.Rule.{Rule}
 use Rattle.sudo_text.specs.declared.rules.Rule.TheVariants as rules
 use Rattle.sudo_text.specs.declared.line.Line.{Line}
-use Rattle.sudo_text.specs.declared.line.Place.{Place}
 use Rattle.sudo_text.specs.declared.fault.TextFault.{TextFault}
-use Rattle.sudo_text.specs.declared.fault.TextFault.TheVariants as faults
 use Rattle.sudo_text.specs.declared.piece.Style.{Style}
 use Rattle.sudo_text.specs.declared.piece.Style.TheVariants as styles
-use Rattle.sudo_text.specs.declared.piece.Piece.{Piece}
-use Rattle.sudo_text.specs.declared.piece.Piece.TheVariants.{Char, End, Bad}
+use Rattle.sudo_text.specs.declared.piece.Piece.TheVariants.{Char, Bad}
 use Rattle.sudo_text.specs.declared.piece.Flaw.{Flaw}
-use Rattle.sudo_text.specs.Pieces.{piece_at, skip, reach, run_end, Breaks}
+use Rattle.sudo_text.specs.Pieces.{piece_at, skip, reach, Breaks}
 use Rattle.sudo_text.specs.Places.{word_style, directive_len, rule_at, before_of, line_kind}
-use Rattle.sudo_text.specs.Faults.{Gives, Fails}
-use Rattle.sudo_text.specs.Tokens.{same_chars, quoted_end, has_arguments, arguments_end, command_end, path_end, is_comment, has_join_after, stands, closes_line, spells_from, spells, closes, takes_next, has_closing, QuotedFlaw, ArgumentsFlaw, CommandFlaw, PathFlaw, FlawBy, FlawAfter, LeftmostFault, fault_of}
-use Rattle.sudo_text.proofs.Reaching.{choose, both, bad_char, bad_end, end_char, none_some, follow_parts, run_parts}
-use Rattle.sudo_text.proofs.Closing.{closing_at, reach_keeps, false_true}
-use Rattle.sudo_text.proofs.Unique.{true_false, then_parts, run_unique}
-use Rattle.sudo_text.proofs.OneList.{Reads, stand_parts, past_end, closed_no_token, stands_unique, one_list}
+use Rattle.sudo_text.specs.Tokens.{stands, has_closing, QuotedFlaw, ArgumentsFlaw, CommandFlaw, PathFlaw, FlawBy, FlawAfter, LeftmostFault, fault_of}
+use Rattle.sudo_text.proofs.Reaching.{bad_char, follow_parts}
+use Rattle.sudo_text.proofs.Closing.{false_true}
+use Rattle.sudo_text.proofs.Unique.{run_unique}
+use Rattle.sudo_text.proofs.OneList.{stand_parts, stands_unique}
 use Rattle.sudo_text.proofs.NoFault.{breaks_no_run, flaw_no_token}
 
 -- The same flaw at the same place.

@@ -1,7 +1,6 @@
 -- Worked examples of the definition of tokens, each by computation.
 use Rattle.std.proofs.Common.{◌≡◌, ℕ, List, [], ◌∷◌, ◌++◌, refl, true, false, Some, None, inr, lit<}
 use Rattle.std.specs.Prelude.{codes, map}
-use Rattle.sudo_text.specs.declared.token.Ch.{Ch}
 use Rattle.sudo_text.specs.declared.token.Token.{Token}
 use Rattle.sudo_text.specs.declared.token.TokenKind.TheVariants.{Word, Command, Mark, Include}
 use Rattle.sudo_text.specs.declared.token.Mark.TheVariants as marks

@@ -1,29 +1,18 @@
 -- A line spells at most one list of tokens, and none where it has a fault.
-use Rattle.std.proofs.Common.{◌≡◌, ℕ, ◌+◌, ◌<◌, ◌≤◌, Bool, List, [], ◌∷◌, length, drop, get_or, true, false, refl, sym, ◌∙◌, ap, subst, ⊎_elim, inl, inr, Option, Some, None, arith}
+use Rattle.std.proofs.Common.{◌≡◌, ℕ, ◌+◌, List, [], ◌∷◌, length, get_or, true, false, refl, sym, ◌∙◌, ap, subst, Option, Some, None}
 use Rattle.std.proofs.lemmas.Bool.{eqb-true}
-use Rattle.std.proofs.lemmas.Bool.Decides.{nat_tests}
-use Rattle.std.specs.Prelude.{◌==◌, ◌&&◌, ◌||◌, not, if◌then◌else◌, ◌⊎◌, nat_le, nat_lt, IsTrue}
+use Rattle.std.specs.Prelude.{◌==◌, if◌then◌else◌, nat_le}
 use Rattle.std.specs.Option.{option_and_then}
 use Rattle.sudo_text.specs.declared.token.Ch.{Ch}
-use Rattle.sudo_text.specs.declared.token.Token.{Token}
-use Rattle.sudo_text.specs.declared.token.TokenKind.{TokenKind}
-use Rattle.sudo_text.specs.declared.token.TokenKind.TheVariants as kinds
 use Rattle.sudo_text.specs.declared.token.Mark.{Mark}
 use Rattle.sudo_text.specs.declared.token.Mark.TheVariants as marks
 use Rattle.sudo_text.specs.declared.rules.LineKind.{LineKind}
-use Rattle.sudo_text.specs.declared.rules.Before.{Before}
-use Rattle.sudo_text.specs.declared.rules.Before.TheVariants as befores
-use Rattle.sudo_text.specs.declared.rules.Rule.{Rule}
-use Rattle.sudo_text.specs.declared.rules.Rule.TheVariants as rules
-use Rattle.sudo_text.specs.declared.line.Line.{Line}
 use Rattle.sudo_text.specs.declared.piece.Style.{Style}
 use Rattle.sudo_text.specs.declared.piece.Style.TheVariants as styles
-use Rattle.sudo_text.specs.declared.piece.Piece.{Piece}
-use Rattle.sudo_text.specs.declared.piece.Piece.TheVariants.{Char, End, Bad}
-use Rattle.sudo_text.specs.Pieces.{piece_at, skip, reach, run_end, same_bool, same_ch}
-use Rattle.sudo_text.specs.Places.{word_style, mark_len, directive_len, rule_at, before_of, line_kind}
-use Rattle.sudo_text.specs.Tokens.{same_chars, keyword, quoted_end, keyword_end, has_arguments, arguments_end, command_end, mark_code, path_end, token_by, token_end, is_comment, has_join_after, is_offset, stands, closes_line, spells_from, spells}
-use Rattle.sudo_text.proofs.Reaching.{choose, both, end_char, none_some, follow_parts, run_parts, same_ch_true, same_bool_true}
+use Rattle.sudo_text.specs.declared.piece.Piece.TheVariants.{Char, End}
+use Rattle.sudo_text.specs.Pieces.{piece_at, skip, reach, run_end, same_ch}
+use Rattle.sudo_text.specs.Tokens.{same_chars, keyword, quoted_end, keyword_end, has_arguments, arguments_end, command_end, mark_code, path_end}
+use Rattle.sudo_text.proofs.Reaching.{choose, both, end_char, none_some, follow_parts, run_parts, same_ch_true}
 
 pub true_false : true ≡ false → ⊥
 true_false e = cc

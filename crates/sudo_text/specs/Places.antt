@@ -1,5 +1,5 @@
 -- Which rule reads the text at a place of a line.
-use Rattle.std.specs.Prelude.{◌≡◌, ℕ, Bool, true, false, not, ◌&&◌, ◌||◌, ◌==◌, nat_eq, nat_le, nat_lt, ◌≤◌, if◌then◌else◌, List, [], ◌∷◌, length, drop, slice_index, ◌+◌, Option, Some, None, codes}
+use Rattle.std.specs.Prelude.{ℕ, Bool, true, false, not, ◌&&◌, ◌||◌, ◌==◌, nat_eq, nat_le, nat_lt, ◌≤◌, if◌then◌else◌, List, length, drop, slice_index, ◌+◌, Option, Some, None, codes}
 use Rattle.std.specs.List.{starts_with}
 use Rattle.sudo_text.specs.declared.token.TokenKind.{TokenKind}
 use Rattle.sudo_text.specs.declared.token.TokenKind.TheVariants as kinds

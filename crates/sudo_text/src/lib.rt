@@ -7,6 +7,7 @@
 mod bytes;
 mod fault;
 mod folding;
+mod laws;
 mod line;
 mod piece;
 mod rules;
@@ -17,9 +18,12 @@ mod token;
 
 pub use fault::TextFault;
 pub use folding::{TEXT_LIMIT, lines};
-pub use line::{Line, Place};
-pub use scan::{
-    faults_name_their_line, no_fault_beside_tokens, one_leftmost_fault, one_token_list, tokens,
+pub use laws::{
+    arguments_of_commands, blanks_of_arguments, faults_name_their_line, no_fault_beside_tokens,
+    one_leftmost_fault, one_token_list, plain_runs, quotes_close, quotes_end_runs,
+    quotes_end_words, runs_are_whole, what_begins_a_run,
 };
+pub use line::{Line, Place};
+pub use scan::tokens;
 pub use seq::Seq;
 pub use token::{Ch, Mark, Token, TokenKind};

@@ -4,7 +4,7 @@ ghost use Rattle.sudo_text.specs.Pieces.{takes_first, Breaks, plain as spec_plai
 ghost use Rattle.sudo_text.specs.Places.{RuleFits, KindFits};
 ghost use Rattle.sudo_text.specs.Refusals.{Refuses};
 ghost use Rattle.sudo_text.specs.Tokens as spec;
-ghost use Rattle.sudo_text.specs.Tokens.{quoted_end, command_end, path_end, token_by, token_end, WordEnds, QuotedFlaw, CommandFlaw, PathFlaw, FlawBy, FlawNext, IsDone, IfToken, IsFaultOf, closes_line, stands, spells, LeftmostFault, SpelledOnce, FaultsExclude, FaultedOnce, FaultsPlaced};
+ghost use Rattle.sudo_text.specs.Tokens.{quoted_end, command_end, path_end, token_by, token_end, WordEnds, QuotedFlaw, CommandFlaw, PathFlaw, FlawBy, FlawNext, IsDone, IfToken, IsFaultOf, closes_line, stands, spells, LeftmostFault};
 ghost use Rattle.sudo_text.specs.Faults.{Gives};
 ghost use Rattle.sudo_text.specs.declared.token.Token.{Token};
 ghost use Rattle.std.specs.Prelude.{List, Ok};
@@ -320,23 +320,3 @@ pub fn tokens(alloc: Global, line: &Line) -> Result<Vec<Token>, TextFault>
 {
     all_tokens(alloc, line)
 }
-
-/// No line spells two lists of tokens.
-pub fn one_token_list()
-    ensures { SpelledOnce }
-{}
-
-/// A line that spells a list of tokens has no fault.
-pub fn no_fault_beside_tokens()
-    ensures { FaultsExclude }
-{}
-
-/// No line has two leftmost faults.
-pub fn one_leftmost_fault()
-    ensures { FaultedOnce }
-{}
-
-/// A leftmost fault names the place where its line begins.
-pub fn faults_name_their_line()
-    ensures { FaultsPlaced }
-{}

@@ -1,8 +1,8 @@
-use Rattle.std.proofs.Common.{◌≡◌, ℕ, length-append, ◌++◌, ◌∷◌, [], length, take, ap, subst, sym, ◌∙◌, arith, rules}
+use Rattle.std.proofs.Common.{◌≡◌, ℕ, length-append, ◌++◌, ◌∷◌, [], length, ap, sym, ◌∙◌, arith, rules}
 use Rattle.std.proofs.lemmas.List.{length-take}
 use Rattle.std.proofs.lemmas.Grind.{common_steps}
-use Rattle.sudo_text.specs.Lines.{physical_lines, folded_from}
-use Rattle.sudo_text.proofs.Progress.{progress, begins, turn, ending, end_of_text, escape_some, continued_some}
+use Rattle.sudo_text.specs.Lines.{physical_lines}
+use Rattle.sudo_text.proofs.Progress.{begins, turn, ending, end_of_text, escape_some, continued_some}
 use Rattle.sudo_text.proofs.folding.logical_line.Goals as goal
 
 pub loop-continued-init : goal.loop-continued-init

@@ -1,0 +1,65 @@
+//! Laws of the definitions, each the contract of a function that does nothing.
+ghost use Rattle.sudo_text.specs.Runs.{QuotesClose, QuotesEndRuns, QuotesEndWords, RunsAreWhole, PlainRuns, RunsBegin, BlanksOfArguments, ArgumentsOfCommands};
+ghost use Rattle.sudo_text.specs.Tokens.{SpelledOnce, FaultsExclude, FaultedOnce, FaultsPlaced};
+
+/// No line spells two lists of tokens.
+pub fn one_token_list()
+    ensures { SpelledOnce }
+{}
+
+/// A line that spells a list of tokens has no fault.
+pub fn no_fault_beside_tokens()
+    ensures { FaultsExclude }
+{}
+
+/// No line has two leftmost faults.
+pub fn one_leftmost_fault()
+    ensures { FaultedOnce }
+{}
+
+/// A leftmost fault names the place where its line begins.
+pub fn faults_name_their_line()
+    ensures { FaultsPlaced }
+{}
+
+/// The text behind an opening quote closes it exactly where it has a double quote with an even number of backslashes
+/// directly before it.
+pub fn quotes_close()
+    ensures { QuotesClose }
+{}
+
+/// What stands between quotes ends at the first double quote with an even number of backslashes directly before it.
+pub fn quotes_end_runs()
+    ensures { QuotesEndRuns }
+{}
+
+/// A quoted word ends directly behind that quote.
+pub fn quotes_end_words()
+    ensures { QuotesEndWords }
+{}
+
+/// A word, a value, a path or what stands between quotes goes up to the first byte that ends it, where an even number of
+/// backslashes stands directly before that byte, or to the end of the text. Arguments leave out the blanks before that.
+pub fn runs_are_whole()
+    ensures { RunsAreWhole }
+{}
+
+/// Where no backslash stands in them, their characters are their bytes; of arguments see `blanks_of_arguments`.
+pub fn plain_runs()
+    ensures { PlainRuns }
+{}
+
+/// A word, a value or a path never begins with what would end it further on, apart from the `#` of a number.
+pub fn what_begins_a_run()
+    ensures { RunsBegin }
+{}
+
+/// Blanks among arguments are one space, with a character after it that is no blank.
+pub fn blanks_of_arguments()
+    ensures { BlanksOfArguments }
+{}
+
+/// The arguments of a command have a first character, which is no blank.
+pub fn arguments_of_commands()
+    ensures { ArgumentsOfCommands }
+{}
