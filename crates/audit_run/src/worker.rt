@@ -1,5 +1,5 @@
 //! A worker: takes jobs and puts what answers them.
-ghost use Rattle.std.specs.Prelude.{◌≡◌, List};
+ghost use Rattle.std.specs.Prelude.{◌≡◌, ◌∷◌, ◌++◌, [], List};
 ghost use Rattle.audit_handoff.specs.Names.{names_of, answer, IsRight};
 ghost use Rattle.audit_handoff.specs.Passes.{with_outcome_put};
 ghost use Rattle.audit_handoff.specs.declared.message.Job.{Job};
@@ -96,19 +96,17 @@ pub fn work<R: Wait, G: Gate>(
 ) -> Pass
     requires pass { pass.handoff ≡ handoff.now }
     requires names { pass.names ≡ names_of policy.now directory.now }
-    ensures { (jobs : List Job) × (result ≡ worked (names_of policy.now directory.now) pass jobs) }
+    ensures { (jobs : List Job) × (result ≡ worked (names_of policy.now directory.now) pass (jobs ++ Job.Stop ∷ [])) }
 {
     for _ in rt.forever() {
         match handoff.take_job(rt, &mut pass) {
             None => thread::yield_now(),
-            Some(job) => {
-                let is_last = matches!(&job, Job::Stop);
-                answer_job(rt, handoff, &mut pass, policy, directory, gate, job);
-                if is_last {
-                    break;
-                }
+            Some(Job::Stop) => {
+                hand_on(rt, handoff, &mut pass, Outcome::Stopped);
+                return pass;
             }
+            Some(job) => answer_job(rt, handoff, &mut pass, policy, directory, gate, job),
         }
     }
-    pass
+    unreachable!()
 }

@@ -28,7 +28,7 @@ fn person(alloc: Global, name: &[u8], id: u32) -> Result<Person, AllocError> {
 }
 
 /// `root` and `alice`, and the host `web1.example.org`.
-pub fn directory(alloc: Global) -> Result<Directory, Fail> {
+fn directory(alloc: Global) -> Result<Directory, Fail> {
     let mut people = Seq::new(alloc);
     people.push(person(alloc, b"root", 0)?)?;
     people.push(person(alloc, b"alice", 1000)?)?;
@@ -49,7 +49,7 @@ pub fn directory(alloc: Global) -> Result<Directory, Fail> {
 }
 
 /// A policy under which alice may run `/bin/kill` on web1 without a password, and not `/bin/su`.
-pub fn policy(alloc: Global) -> Result<Checked, Fail> {
+fn policy(alloc: Global) -> Result<Checked, Fail> {
     let text = b"alice web1 = NOPASSWD: /bin/kill, !/bin/su\n";
     let supplies: [Supply; 0] = [];
     match load(alloc, b"sudoers", text, &supplies) {
@@ -59,6 +59,20 @@ pub fn policy(alloc: Global) -> Result<Checked, Fail> {
         },
         Err(_) => Err(Fail::new("the policy is not read")),
     }
+}
+
+/// What requests are judged by.
+#[derive(Drop)]
+pub struct Ground {
+    pub policy: Checked,
+    pub directory: Directory,
+}
+
+/// The policy and the directory above.
+pub fn make_ground(alloc: Global) -> Result<Ground, Fail> {
+    let policy = policy(alloc)?;
+    let directory = directory(alloc)?;
+    Ok(Ground { policy, directory })
 }
 
 /// A requests file: the header and these rows.
@@ -78,6 +92,25 @@ pub fn source(alloc: Global, name: &[u8], rows: &[u8]) -> Result<Source<Script>,
     })
 }
 
+/// An audit of the sources.
+fn audited_by<R: Threads + Wait + Sync, F: Feed + Drop + Send, G: Gate + Sync>(
+    alloc: Global,
+    rt: &R,
+    ground: &Ground,
+    sources: Vec<Source<F>>,
+    workers: u32,
+    gate: &G,
+) -> Result<Result<Report, AuditFault>, Fail>
+    requires { (1 ≤ workers) × (workers ≤ 16) }
+{
+    let policy = &ground.policy;
+    let directory = &ground.directory;
+    let (handoff, mut pass) = Handoff::new(alloc, policy, directory)?;
+    Ok(audit(
+        alloc, rt, policy, directory, &handoff, &mut pass, sources, workers, gate,
+    ))
+}
+
 /// An audit of the sources under the policy and the directory above.
 pub fn audited<R: Threads + Wait + Sync, F: Feed + Drop + Send, G: Gate + Sync>(
     alloc: Global,
@@ -88,12 +121,8 @@ pub fn audited<R: Threads + Wait + Sync, F: Feed + Drop + Send, G: Gate + Sync>(
 ) -> Result<Result<Report, AuditFault>, Fail>
     requires { (1 ≤ workers) × (workers ≤ 16) }
 {
-    let policy = policy(alloc)?;
-    let directory = directory(alloc)?;
-    let (handoff, mut pass) = Handoff::new(alloc, &policy, &directory)?;
-    Ok(audit(
-        alloc, rt, &policy, &directory, &handoff, &mut pass, sources, workers, gate,
-    ))
+    let ground = make_ground(alloc)?;
+    audited_by(alloc, rt, &ground, sources, workers, gate)
 }
 
 fn report_shown(alloc: Global, report: &Report) -> Result<String, Fail> {

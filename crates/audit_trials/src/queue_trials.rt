@@ -1,8 +1,9 @@
 //! The queue of jobs, used by one thread.
 ghost use Rattle.std.specs.Prelude.{◌≡◌};
 
-use crate::fixtures::{directory, policy};
+use crate::fixtures::{Ground, make_ground};
 use audit_run::{Handoff, Job, Pass};
+use std::alloc::Global;
 use std::sync::Wait;
 use std::test::Fail;
 
@@ -53,15 +54,36 @@ fn taken_count<R: Wait>(rt: &R, handoff: &Handoff, pass: &mut Pass) -> Option<u3
     }
 }
 
+/// How many close marks could be put, whether `Stop` came back, and the count of the first close mark.
+fn used<R: Wait>(rt: &R, handoff: &Handoff, pass: &mut Pass) -> (u32, bool, Option<u32>)
+    requires { pass.old.handoff ≡ handoff.now }
+{
+    let put = filled(rt, handoff, pass);
+    let is_back = hands_stop_back(rt, handoff, pass);
+    (put, is_back, taken_count(rt, handoff, pass))
+}
+
+/// The same of a new handoff.
+fn used_by<R: Wait>(
+    alloc: Global,
+    rt: &R,
+    ground: &Ground,
+) -> Result<(u32, bool, Option<u32>), Fail> {
+    let (handoff, mut pass) = Handoff::new(alloc, &ground.policy, &ground.directory)?;
+    Ok(used(rt, &handoff, &mut pass))
+}
+
+// Drops the ground, so that no assert has to.
+fn used_anew<R: Wait>(alloc: Global, rt: &R) -> Result<(u32, bool, Option<u32>), Fail> {
+    let ground = make_ground(alloc)?;
+    used_by(alloc, rt, &ground)
+}
+
 #[test]
 fn a_full_queue_hands_back(rt: HostRuntime) -> Result<(), Fail> {
-    let alloc = rt.alloc();
-    let (handoff, mut pass) = Handoff::new(alloc, &policy(alloc)?, &directory(alloc)?)?;
-    let put = filled(&rt, &handoff, &mut pass);
+    let (put, is_back, first) = used_anew(rt.alloc(), &rt)?;
     assert_eq!(rt; put, 256);
-    let is_back = hands_stop_back(&rt, &handoff, &mut pass);
     assert!(rt; is_back);
-    let first = taken_count(&rt, &handoff, &mut pass);
     assert_eq!(rt; first, Some(0));
     Ok(())
 }
