@@ -46,6 +46,31 @@ impl Files for Shelf<'_> {
     }
 }
 
+/// One file over memory, and nothing else. It tells what it holds.
+#[derive(Drop)]
+struct Alone {
+    path: Seq<u8>,
+    text: Seq<u8>,
+}
+
+impl Files for Alone {
+    ghost use Rattle.std.specs.Prelude.{Some, [], ◌∷◌};
+    ghost use Rattle.sudo_load.specs.declared.supply.Supply.TheVariants.{File};
+
+    ghost held = { λ s. Some (File s.path (Some s.text) ∷ []) };
+
+    fn file(&mut self, alloc: Global, path: &[u8]) -> Result<Option<Seq<u8>>, FilesFault> {
+        if self.path.as_slice() != path {
+            return Ok(None);
+        }
+        Ok(Some(Seq::from_slice(alloc, self.text.as_slice())?))
+    }
+
+    fn folder(&mut self, alloc: Global, _path: &[u8]) -> Result<Seq<Seq<u8>>, FilesFault> {
+        Ok(Seq::new(alloc))
+    }
+}
+
 /// The names that a space follows each.
 fn names_in(alloc: Global, text: &[u8]) -> Result<Seq<Seq<u8>>, AllocError> {
     let mut names = Seq::new(alloc);
@@ -430,5 +455,21 @@ fn follows_includes(rt: HostRuntime) -> Result<(), Fail> {
             b"sudo_audit: p:1: includes too deep\n"
         )?
     );
+    Ok(())
+}
+
+#[test]
+fn reads_what_is_told(rt: HostRuntime) -> Result<(), Fail> {
+    let alloc = rt.alloc();
+    let mut alone = Alone {
+        path: Seq::from_slice(alloc, b"p")?,
+        text: Seq::from_slice(alloc, b"alice ALL = ALL\n@includedir d\n")?,
+    };
+    let mut out = Script::of(alloc, b"", 1000)?;
+    let mut err = Script::of(alloc, b"", 1000)?;
+    let ended = check_run(alloc, b"p", &mut alone, &mut out, &mut err);
+    assert!(rt; ended == 0 && took(&out, &err, b"ok\n", b""));
+    let ended = check_run(alloc, b"q", &mut alone, &mut out, &mut err);
+    assert!(rt; ended == 4 && took(&out, &err, b"ok\n", b"sudo_audit: cannot read q\n"));
     Ok(())
 }
