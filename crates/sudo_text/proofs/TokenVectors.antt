@@ -11,6 +11,7 @@ use Rattle.sudo_text.specs.declared.piece.Flaw.TheVariants as flaws
 use Rattle.sudo_text.specs.Lines.{place}
 use Rattle.sudo_text.specs.Pieces.{plain, escaped, piece_at, escape_at, hex_at, blanks_at, ends_run, ends_word, reach, run_end}
 use Rattle.sudo_text.specs.Places.{begins_defaults, line_kind, defaults_mark_at, mark_at, is_sudoedit, general_rule_at, rule_at}
+use Rattle.sudo_text.specs.Runs.{backslashes_before}
 use Rattle.sudo_text.specs.Tokens.{quoted_end, keyword_end, has_arguments, command_end, path_end, token_end, stands, closes_line, spells, LeftmostFault}
 
 abbrev line_of : List ℕ → Line
@@ -190,3 +191,11 @@ bad_comment = record { before = token 0 1 (word (97 ∷ [])) ∷ []; flaw = flaw
 bad_escape : LeftmostFault (line_of (codes "/a b\\")) (faults.BadEscape (place 0 1) 5)
 unfolding piece_at escape_at hex_at blanks_at ends_run ends_word reach run_end begins_defaults line_kind defaults_mark_at mark_at is_sudoedit general_rule_at rule_at quoted_end keyword_end has_arguments command_end path_end token_end stands closes_line spells
 bad_escape = record { before = []; flaw = flaws.BadEscape; place = 4; after = (lit< tt, inr (record { path = map plain (codes "/a"); end = 2; path_ends = refl; goes_on = refl; breaks = record { chars = plain 98 ∷ []; end = 4; reached = refl; broken = refl } })); is = refl }
+
+-- three backslashes directly before the quote, of which the first two take each other
+before_quote : backslashes_before (codes "\\x\\\\\\\"") 5 ≡ 3
+before_quote = refl
+
+-- none before the first byte
+before_all : backslashes_before (codes "\"") 0 ≡ 0
+before_all = refl

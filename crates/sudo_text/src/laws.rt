@@ -44,7 +44,7 @@ pub fn runs_are_whole()
     ensures { RunsAreWhole }
 {}
 
-/// Where no backslash stands in them, their characters are their bytes; of arguments see `blanks_of_arguments`.
+/// A word, a value, a path or what stands between quotes has its bytes as its characters, where none is a backslash.
 pub fn plain_runs()
     ensures { PlainRuns }
 {}
