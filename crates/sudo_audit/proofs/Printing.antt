@@ -1,5 +1,5 @@
 -- What the parts of `expand` say together.
-use Rattle.std.proofs.Common.{◌≡◌, ℕ, List, Result, Ok, Err, Some, subst}
+use Rattle.std.proofs.Common.{◌≡◌, ℕ, List, Result, Ok, Err, subst}
 use Rattle.std.specs.Prelude.{IfOk, Option}
 use Rattle.sudo_load.specs.declared.supply.Supply.{Supply}
 use Rattle.sudo_tree.specs.declared.kind.Kind.{Kind}
