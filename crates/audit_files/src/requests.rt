@@ -239,8 +239,8 @@ pub(crate) fn requests_of_text(alloc: Global, text: &[u8]) -> Result<Requests, F
 /// The header is `number,user,host,runas_user,runas_group,command,arguments`. A row has a number from
 /// 1, a user, a host, and a command that is `sudoedit` or begins with `/`; an empty target user or
 /// group asks for none. The last row is `close,COUNT,,,,,`. `TooMany` comes for more than 268,435,456
-/// bytes before any row is read, and for request 1,000,001; `Read` where a read failed, `Memory` where
-/// memory was refused. For each record the faults are, in this order: another number of fields
+/// bytes before any row is read, and for more than 1,000,000 requests; `Read` where a read failed, `Memory`
+/// where memory was refused. For each record the faults are, in this order: another number of fields
 /// (`BadRow`), a record after the close row (`RowAfterClose`), a field of another shape (`BadRow`), a
 /// number not greater than the one before (`OutOfOrder`), too many requests (`TooMany`). The first
 /// faulty record decides.
