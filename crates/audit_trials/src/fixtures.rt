@@ -63,20 +63,20 @@ fn policy(alloc: Global) -> Result<Checked, Fail> {
 
 /// What requests are judged by.
 #[derive(Drop)]
-pub struct Ground {
+pub(crate) struct Ground {
     pub policy: Checked,
     pub directory: Directory,
 }
 
 /// The policy and the directory above.
-pub fn make_ground(alloc: Global) -> Result<Ground, Fail> {
+pub(crate) fn make_ground(alloc: Global) -> Result<Ground, Fail> {
     let policy = policy(alloc)?;
     let directory = directory(alloc)?;
     Ok(Ground { policy, directory })
 }
 
 /// A requests file: the header and these rows.
-pub fn requests_file(alloc: Global, rows: &[u8]) -> Result<Vec<u8>, AllocError> {
+pub(crate) fn requests_file(alloc: Global, rows: &[u8]) -> Result<Vec<u8>, AllocError> {
     let mut text = Vec::new(alloc);
     text.extend_from_slice(HEADER)?;
     text.extend_from_slice(rows)?;
@@ -84,7 +84,11 @@ pub fn requests_file(alloc: Global, rows: &[u8]) -> Result<Vec<u8>, AllocError> 
 }
 
 /// A source over memory.
-pub fn source(alloc: Global, name: &[u8], rows: &[u8]) -> Result<Source<Script>, AllocError> {
+pub(crate) fn source(
+    alloc: Global,
+    name: &[u8],
+    rows: &[u8],
+) -> Result<Source<Script>, AllocError> {
     let text = requests_file(alloc, rows)?;
     Ok(Source {
         name: Seq::from_slice(alloc, name)?,
@@ -112,7 +116,7 @@ fn audited_by<R: Threads + Wait + Sync, F: Feed + Drop + Send, G: Gate + Sync>(
 }
 
 /// An audit of the sources under the policy and the directory above.
-pub fn audited<R: Threads + Wait + Sync, F: Feed + Drop + Send, G: Gate + Sync>(
+pub(crate) fn audited<R: Threads + Wait + Sync, F: Feed + Drop + Send, G: Gate + Sync>(
     alloc: Global,
     rt: &R,
     sources: Vec<Source<F>>,
@@ -137,7 +141,7 @@ fn fault_shown(alloc: Global, fault: &AuditFault) -> Result<String, Fail> {
 }
 
 /// The text of the report, or of the fault.
-pub fn shown(alloc: Global, answer: &Result<Report, AuditFault>) -> Result<String, Fail> {
+pub(crate) fn shown(alloc: Global, answer: &Result<Report, AuditFault>) -> Result<String, Fail> {
     match answer {
         Ok(report) => report_shown(alloc, report),
         Err(fault) => fault_shown(alloc, fault),

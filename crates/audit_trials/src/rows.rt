@@ -14,7 +14,7 @@ use std::test::Fail;
 use std::thread::Threads;
 
 /// The first line of a report.
-pub const HEAD: &str = "sender,number,verdict,line,tags\n";
+pub(crate) const HEAD: &str = "sender,number,verdict,line,tags\n";
 
 /// What follows the number of a request.
 fn request(which: &str) -> &'static str {
@@ -41,7 +41,7 @@ fn push_row(rows: &mut String, word: &str) -> Result<(), AllocError> {
 }
 
 /// The rows of a requests file.
-pub fn rows(alloc: Global, words: &str) -> Result<String, AllocError> {
+pub(crate) fn rows(alloc: Global, words: &str) -> Result<String, AllocError> {
     let mut rows = String::new(alloc);
     for word in words.split(' ') {
         push_row(&mut rows, word)?;
@@ -65,7 +65,7 @@ fn push_source(
 }
 
 /// The sources of a row.
-pub fn sources(alloc: Global, text: &str) -> Result<Vec<Source<Script>>, AllocError> {
+pub(crate) fn sources(alloc: Global, text: &str) -> Result<Vec<Source<Script>>, AllocError> {
     let mut sources = Vec::new(alloc);
     for source in text.split('|') {
         push_source(alloc, &mut sources, source)?;
@@ -74,7 +74,7 @@ pub fn sources(alloc: Global, text: &str) -> Result<Vec<Source<Script>>, AllocEr
 }
 
 /// What an audit of the sources of a row prints.
-pub fn printed<R: Threads + Wait + Sync>(
+pub(crate) fn printed<R: Threads + Wait + Sync>(
     alloc: Global,
     rt: &R,
     text: &str,
@@ -118,7 +118,7 @@ fn check_row<R: Threads + Wait + Sync>(
 }
 
 /// The rows of a table for which something else is printed, with that.
-pub fn wrong_rows<R: Threads + Wait + Sync>(
+pub(crate) fn wrong_rows<R: Threads + Wait + Sync>(
     alloc: Global,
     rt: &R,
     table: &str,
