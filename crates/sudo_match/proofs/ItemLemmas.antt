@@ -1,5 +1,5 @@
 -- Lemmas on the items of a bracket, by places.
-use Rattle.std.proofs.Common.{◌≡◌, ℕ, zero, suc, ◌+◌, ◌-◌, ◌<◌, ◌≤◌, Bool, true, false, ◌&&◌, ◌||◌, not, List, [], ◌∷◌, map, length, drop, refl, ap, sym, ◌∙◌, Some, None, Option, arith, zero-add, add-zero, cond, length-drop, length-append}
+use Rattle.std.proofs.Common.{◌≡◌, ℕ, zero, suc, ◌+◌, ◌-◌, ◌<◌, ◌≤◌, Bool, true, false, ◌&&◌, ◌||◌, not, List, [], ◌∷◌, ◌++◌, map, length, drop, refl, ap, sym, ◌∙◌, Some, None, Option, arith, zero-add, add-zero, cond, length-drop, length-append}
 use Rattle.std.specs.Prelude.{slice_get, option_map, find}
 use Rattle.std.specs.List.{list_any}
 use Rattle.sudo_text.specs.declared.token.Ch.{Ch}
@@ -9,8 +9,8 @@ use Rattle.sudo_match.specs.Class.{Class}
 use Rattle.sudo_match.specs.Shown.{class_of, opened, known_classes, held_by}
 use Rattle.sudo_match.specs.declared.patterns.Class as shown
 use Rattle.sudo_match.specs.Class.{class_name, classes}
-use Rattle.sudo_match.specs.Pattern.{is_plain, has, begins, class_form, class_end, class_at, class_or, range_at, item_at, item_of, item_holds, items_after}
-use Rattle.sudo_match.proofs.CharsLemmas.{drop-some, drop-none, begins-length, length-map}
+use Rattle.sudo_match.specs.Pattern.{is_byte, is_plain, has, begins, class_form, class_end, class_at, class_or, range_at, item_at, item_of, item_holds, items_after}
+use Rattle.sudo_match.proofs.CharsLemmas.{drop-some, drop-none, begins-length, length-map, slice_get-drop}
 
 -- ---- One item
 
@@ -78,6 +78,21 @@ find-map p f (x ∷ xs) = go (p (f x)) (find-map p f xs)
 -- the private class that opens is the class there
 pub class_at-opened : (cs : List Ch) (o : Option shown.Class) → o ≡ opened cs → class_at cs ≡ option_map class_of o
 class_at-opened cs o e = sym (ap (option_map class_of) e ∙ find-map (λ k. begins (class_form k) cs) class_of known_classes)
+
+find-none : {A : Type 0} (p : A → Bool) (xs : List A) → ((x : A) → p x ≡ false) → find p xs ≡ None
+find-none p [] none = refl
+find-none p (x ∷ xs) none = ap (λ b. cond b (Some x) (find p xs)) (none x) ∙ find-none p xs none
+
+no-class : (cs : List Ch) (k : Class) → has (is_plain 91) (slice_get cs 0) ≡ false → begins (class_form k) cs ≡ false
+unfolding begins
+no-class [] k e = refl
+no-class (c ∷ cs) k e = ap (λ b. b && begins (is_byte 58 ∷ (map is_plain (class_name k) ++ class_end)) cs) e
+
+-- where no unescaped `[` stands, no class does
+pub opened-none : (cs : List Ch) (n : ℕ) → has (is_plain 91) (slice_get cs n) ≡ false → opened (drop n cs) ≡ None
+opened-none cs n e =
+    find-none (λ k. begins (class_form (class_of k)) (drop n cs)) known_classes
+    (λ k. no-class (drop n cs) (class_of k) (ap (has (is_plain 91)) (slice_get-drop n 0 cs ∙ ap (slice_get cs) (add-zero n)) ∙ e))
 
 -- ---- All items
 

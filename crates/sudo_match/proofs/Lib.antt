@@ -2,7 +2,7 @@ pub mod PatternVectors
 pub mod MatchingVectors
 pub mod ClashLemmas
 pub mod CutLemmas
-pub mod CloseLemmas
+pub mod ClosingLemmas
 pub mod GroupLemmas
 pub mod IdLemmas
 pub mod SpotLemmas

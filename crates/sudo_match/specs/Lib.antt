@@ -3,6 +3,7 @@ pub mod Pattern
 pub mod HostNames
 pub mod Reading
 pub mod Step
+pub mod Closing
 pub mod Matching
 pub mod Known
 pub mod Indexing

@@ -9,6 +9,7 @@ mod laws;
 mod matchers;
 mod patterns;
 mod spots;
+mod unclosed;
 
 pub use directory::Directory;
 pub use fault::DirFault;

@@ -5,7 +5,9 @@ ghost use Rattle.std.specs.List.{list_any};
 ghost use Rattle.sudo_match.specs.Class as class;
 ghost use Rattle.sudo_match.specs.Class.{class_holds, class_name, lower_text, is_between, is_alpha, is_alnum};
 ghost use Rattle.sudo_match.specs.Pattern.{is_byte, is_plain, has, begins, item_holds, class_form, class_end, range_at, item_of, items_after, bracket_after, part_of, is_free, set_holds, part_holds, parts, path_chars, any_name, fits};
+ghost use Rattle.sudo_match.specs.Closing.{Knows};
 
+use crate::unclosed::Unclosed;
 use std::marker::Model;
 use sudo_text::Ch;
 
@@ -185,10 +187,7 @@ struct Chars<'a> {
     reading: Reading,
     /// Whether `?*` follows the characters.
     is_folder: bool,
-    /// No unescaped `]` stands at this place or after it, so that no bracket that begins there is closed.
-    closes: usize,
     ghost short: { length chars.now < 2 ^ 62 },
-    ghost unclosed: { (n : ℕ) → closes ≤ n → has (is_plain 93) (slice_get chars.now n) ≡ false },
 }
 
 /// What the part at a place does with the byte at a place of the text.
@@ -242,25 +241,6 @@ fn is_plain(ch: Ch, byte: u8) -> bool
     ensures { result ≡ is_plain byte ch }
 {
     !ch.escaped && ch.byte == byte
-}
-
-/// The place after this character where it is an unescaped `]`, else the place so far.
-fn closes_after(ch: Ch, at: usize, closes: usize) -> usize
-    requires { at + 1 < 2 ^ 64 }
-    ensures { result ≡ (if is_plain 93 ch then at + 1 else closes) }
-{
-    if is_plain(ch, b']') { at + 1 } else { closes }
-}
-
-/// The place after the last unescaped `]`, 0 where there is none.
-fn last_close(chars: &[Ch]) -> usize
-    ensures { (n : ℕ) → result ≤ n → has (is_plain 93) (slice_get chars.now n) ≡ false }
-{
-    let mut closes = 0;
-    for (at, ch) in chars.iter().enumerate() {
-        closes = closes_after(*ch, at, closes);
-    }
-    closes
 }
 
 impl<'a> Chars<'a> {
@@ -370,6 +350,9 @@ impl<'a> Chars<'a> {
         requires { at ≤ length (seen self.now) }
         ensures { result ≡ opened (drop at (seen self.now)) }
     {
+        if !self.is_plain_at(at, b'[') {
+            return None;
+        }
         CLASSES
             .iter()
             .copied()
@@ -415,17 +398,100 @@ impl<'a> Chars<'a> {
         !is_first && self.is_plain_at(at, b']')
     }
 
+    /// The same of the next three places, or, after a class that begins at the first, of those after it.
+    fn moved_on(&self, known: Unclosed) -> Unclosed
+        requires within { known.at < length (seen self.now) }
+        requires knows { Knows (seen self.now) known }
+        ensures knows { Knows (seen self.now) result }
+        ensures further { known.at < result.at }
+    {
+        let next = Unclosed {
+            at: known.at + 1,
+            first: known.second,
+            second: known.third,
+            third: false,
+        };
+        if !known.first {
+            return next;
+        }
+        // How many characters an item takes is the same for each byte.
+        match self.item_at(known.at, 0) {
+            Some((_, 0)) => next.with_first(),
+            Some((_, 2)) => Unclosed {
+                third: true,
+                ..next
+            },
+            Some((_, more)) => Unclosed::none(known.at + 1 + more).with_first(),
+            None => Unclosed::none(known.at + 1),
+        }
+    }
+
+    /// The same of the three places from this one on, or of later ones.
+    fn moved_to(&self, known: Unclosed, to: usize) -> Unclosed
+        requires within { to ≤ length (seen self.now) }
+        requires knows { Knows (seen self.now) known }
+        ensures knows { Knows (seen self.now) result }
+    {
+        let mut known = known;
+        while known.at < to {
+            if known.is_empty() {
+                return Unclosed::none(to);
+            }
+            known = self.moved_on(known);
+        }
+        known
+    }
+
+    /// What is known once it has shown that the bracket whose `[` stands before a place is not closed.
+    fn noted(&self, known: Unclosed, at: usize) -> Unclosed
+        requires within { at ≤ length (seen self.now) }
+        requires open { bracket_after (drop at (seen self.now)) ≡ None }
+        requires knows { Knows (seen self.now) known }
+        ensures knows { Knows (seen self.now) result }
+    {
+        let start = self.items_start(at);
+        if self.is_plain_at(start, b']') {
+            return known;
+        }
+        let known = self.moved_to(known, start);
+        if known.at == start {
+            known.with_first()
+        } else {
+            Unclosed::none(start).with_first()
+        }
+    }
+
+    /// Where the items of the bracket begin whose `[` stands before a place.
+    fn items_start(&self, at: usize) -> usize
+        requires { at ≤ length (seen self.now) }
+        ensures within { result ≤ length (seen self.now) }
+        ensures open { bracket_after (drop at (seen self.now)) ≡ None → items_after 0 true (drop result (seen self.now)) ≡ None }
+    {
+        if self.is_plain_at(at, b'!') {
+            at + 1
+        } else {
+            at
+        }
+    }
+
     /// Whether one of the items from a place on holds the byte, and how many characters the items and the closing `]`
     /// take.
-    fn items_hold(&self, start: usize, byte: u8) -> Option<(bool, usize)>
-        requires { start ≤ length (seen self.now) }
+    fn items_hold(&self, start: usize, byte: u8, known: Unclosed) -> Option<(bool, usize)>
+        requires within { start ≤ length (seen self.now) }
+        requires knows { Knows (seen self.now) known }
         ensures value { result ≡ option_map (λ r. (list_any (item_holds byte) r.0, r.1)) (items_after 0 true (drop start (seen self.now))) }
         ensures within { IfSome result (λ r. start + r.1 ≤ length (seen self.now)) }
     {
+        let mut known = known;
         let mut at = start;
         let mut holds = false;
         let mut is_first = true;
-        while let Some((is_held, more)) = self.item_at(at, byte) {
+        loop {
+            known = self.moved_to(known, at);
+            if known.has(at) {
+                return None;
+            }
+            let (is_held, more) = self.item_at(at, byte)?;
             if self.closes_at(at, is_first) {
                 return Some((holds, at + 1 - start));
             }
@@ -433,46 +499,71 @@ impl<'a> Chars<'a> {
             at = at + 1 + more;
             is_first = false;
         }
-        None
     }
 
     /// Whether the bracket whose `[` stands before a place holds the byte, and how many characters it takes.
-    fn bracket_holds(&self, at: usize, byte: u8, slash: Slash) -> Option<(bool, usize)>
-        requires { at ≤ length (seen self.now) }
+    fn bracket_holds(
+        &self,
+        at: usize,
+        byte: u8,
+        slash: Slash,
+        known: Unclosed,
+    ) -> Option<(bool, usize)>
+        requires within { at ≤ length (seen self.now) }
+        requires knows { Knows (seen self.now) known }
         ensures value { result ≡ option_map (λ r. (set_holds slash r.0 byte, r.1)) (bracket_after (drop at (seen self.now))) }
         ensures within { IfSome result (λ r. at + r.1 ≤ length (seen self.now)) }
     {
         let is_free = slash.is_free(byte);
         if self.is_plain_at(at, b'!') {
-            let (holds, taken) = self.items_hold(at + 1, byte)?;
+            let (holds, taken) = self.items_hold(at + 1, byte, known)?;
             Some((is_free & !holds, taken + 1))
         } else {
-            let (holds, taken) = self.items_hold(at, byte)?;
+            let (holds, taken) = self.items_hold(at, byte, known)?;
             Some((is_free & holds, taken))
         }
     }
 
     /// Whether the bracket at a place holds the byte, and how many characters it takes after its `[`; none, where no
     /// bracket stands there. `first` is the character at the place.
-    fn bracket_at(&self, at: usize, first: Ch, byte: u8, slash: Slash) -> Option<(bool, usize)>
-        requires { at < length (seen self.now) }
+    fn bracket_at(
+        &self,
+        at: usize,
+        first: Ch,
+        byte: u8,
+        slash: Slash,
+        known: &mut Unclosed,
+    ) -> Option<(bool, usize)>
+        requires within { at < length (seen self.now) }
+        requires knows { Knows (seen self.now) known.old }
         ensures value { result ≡ (if is_plain 91 first then option_map (λ r. (set_holds slash r.0 byte, r.1)) (bracket_after (drop (at + 1) (seen self.now))) else None) }
         ensures within { IfSome result (λ r. at + r.1 < length (seen self.now)) }
+        ensures knows { Knows (seen self.now) known.new }
     {
         if !is_plain(first, b'[') {
             return None;
         }
-        if at + 1 >= self.closes {
-            return None;
+        *known = self.moved_to(*known, at + 1);
+        let bracket = self.bracket_holds(at + 1, byte, slash, *known);
+        if bracket.is_none() {
+            *known = self.noted(*known, at + 1);
         }
-        self.bracket_holds(at + 1, byte, slash)
+        bracket
     }
 
     /// Whether the part at a place fits this byte alone, and how many characters it takes after its first.
-    fn part_holds(&self, at: usize, byte: u8, slash: Slash) -> Option<(bool, usize)>
-        requires { at ≤ length (seen self.now) }
+    fn part_holds(
+        &self,
+        at: usize,
+        byte: u8,
+        slash: Slash,
+        known: &mut Unclosed,
+    ) -> Option<(bool, usize)>
+        requires within { at ≤ length (seen self.now) }
+        requires knows { Knows (seen self.now) known.old }
         ensures value { result ≡ option_map (λ r. (part_holds slash r.0 byte, r.1)) (part_of (drop at (seen self.now))) }
         ensures within { IfSome result (λ r. at + r.1 < length (seen self.now)) }
+        ensures knows { Knows (seen self.now) known.new }
     {
         let first = self.get(at)?;
         if is_plain(first, b'*') {
@@ -481,23 +572,32 @@ impl<'a> Chars<'a> {
         if is_plain(first, b'?') {
             return Some((slash.is_free(byte), 0));
         }
-        match self.bracket_at(at, first, byte, slash) {
+        match self.bracket_at(at, first, byte, slash, known) {
             Some(bracket) => Some(bracket),
             None => Some((byte == first.byte, 0)),
         }
     }
 
     /// How the match goes on from a place of the characters and one of the text.
-    fn step(&self, text: &Text<'_>, slash: Slash, at: usize, place: usize) -> Step
-        requires { at ≤ length (seen self.now) }
-        ensures { StepIs slash (seen self.now) (text_of text.now) at place result }
+    fn step(
+        &self,
+        text: &Text<'_>,
+        slash: Slash,
+        at: usize,
+        place: usize,
+        known: &mut Unclosed,
+    ) -> Step
+        requires within { at ≤ length (seen self.now) }
+        requires knows { Knows (seen self.now) known.old }
+        ensures is { StepIs slash (seen self.now) (text_of text.now) at place result }
+        ensures knows { Knows (seen self.now) known.new }
     {
         if self.is_plain_at(at, b'*') {
             return Step::Starred;
         }
         match text.get(place) {
             Some(byte) => {
-                let Some((holds, more)) = self.part_holds(at, byte, slash) else {
+                let Some((holds, more)) = self.part_holds(at, byte, slash, known) else {
                     return Step::Stuck;
                 };
                 if holds {
@@ -524,8 +624,9 @@ impl<'a> Chars<'a> {
         let mut at = 0;
         let mut place = 0;
         let mut retry: Option<(usize, usize)> = None;
+        let mut known = Unclosed::none(0);
         loop {
-            match self.step(text, slash, at, place) {
+            match self.step(text, slash, at, place, &mut known) {
                 Step::Starred => {
                     at += 1;
                     retry = Some((at, place));
@@ -580,7 +681,6 @@ impl<'a> Pattern<'a> {
                 chars,
                 reading: Reading::Exact,
                 is_folder: false,
-                closes: last_close(chars),
             },
         }
     }
@@ -598,7 +698,6 @@ impl<'a> Pattern<'a> {
                 chars,
                 reading: Reading::Exact,
                 is_folder,
-                closes: last_close(chars),
             },
         }
     }
@@ -617,7 +716,6 @@ impl<'a> Pattern<'a> {
                 chars,
                 reading,
                 is_folder: false,
-                closes: last_close(chars),
             },
         }
     }
@@ -653,7 +751,6 @@ pub(crate) fn begins_with(chars: &[Ch], name: &[u8]) -> bool
         chars,
         reading: Reading::Exact,
         is_folder: false,
-        closes: last_close(chars),
     };
     chars.spells_at(0, name)
 }

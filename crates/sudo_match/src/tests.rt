@@ -125,21 +125,38 @@ fn many_stars_are_fast(rt: HostRuntime) -> Result<(), Fail> {
     Ok(())
 }
 
-#[test]
-fn many_unclosed_brackets_are_fast(rt: HostRuntime) -> Result<(), Fail> {
+/// Whether a star and 300 times these characters fit 300 times this text, and 300 bytes `[` before it, at both values of
+/// `Slash`; no longer, once an `x` follows the text.
+fn fit_repeated(rt: HostRuntime, unit: &[u8], fitted: &[u8]) -> Result<bool, Fail> {
     let mut chars = chars(rt.alloc(), b"*")?;
     let mut text = Seq::new(rt.alloc());
-    for _ in 0..1000u32 {
-        chars.push(Ch {
-            byte: b'[',
-            escaped: false,
-        })?;
-        text.push(b'[')?;
+    for _ in 0..300u32 {
         text.push(b'[')?;
     }
-    assert!(rt; Pattern::of(chars.as_slice()).matches(text.as_slice(), Slash::Any));
-    text.push(b'a')?;
-    assert!(rt; !Pattern::of(chars.as_slice()).matches(text.as_slice(), Slash::Not));
+    for _ in 0..300u32 {
+        for byte in unit {
+            chars.push(Ch {
+                byte: *byte,
+                escaped: false,
+            })?;
+        }
+        for byte in fitted {
+            text.push(*byte)?;
+        }
+    }
+    let pattern = Pattern::of(chars.as_slice());
+    let fits = pattern.matches(text.as_slice(), Slash::Any)
+        && pattern.matches(text.as_slice(), Slash::Not);
+    text.push(b'x')?;
+    Ok(fits && !pattern.matches(text.as_slice(), Slash::Any))
+}
+
+#[test]
+fn many_unclosed_brackets_are_fast(rt: HostRuntime) -> Result<(), Fail> {
+    assert!(rt; fit_repeated(rt, b"[", b"[")?);
+    assert!(rt; fit_repeated(rt, b"[[:alpha:]", b"[a")?);
+    assert!(rt; fit_repeated(rt, b"[-", b"[-")?);
+    assert!(rt; fit_repeated(rt, b"[x-[[:alpha:]", b"[x-[a")?);
     Ok(())
 }
 

@@ -9,8 +9,8 @@ use Rattle.sudo_match.proofs.patterns.Chars.bracket_holds.Goals as goal
 pub overflow_add-at : goal.overflow_add-at
 overflow_add-at c = omega (arith, seen-short c.args.self.now)
 
-pub items_hold-requires : goal.items_hold-requires
-items_hold-requires c =
+pub items_hold-requires-clause-within : goal.items_hold-requires-clause-within
+items_hold-requires-clause-within c =
     let within = has-within (is_plain 33) c.args.at (seen c.args.self.now) (sym c.is_plain_at.ensures ∙ c.if-is_plain_at.true) in
     omega (arith, within)
 

@@ -6,45 +6,47 @@ use Rattle.sudo_match.proofs.StepLemmas.{Keeps, Retries, keeps-star, keeps-taken
 use Rattle.sudo_match.proofs.patterns.Chars.fits.Goals as goal
 
 pub overflow_add-at : goal.overflow_add-at
-overflow_add-at c = let within = c.in-Starred.ensures.within in omega (arith, seen-short c.args.self.now, within)
+overflow_add-at c = let within = c.in-Starred.ensures.is.within in omega (arith, seen-short c.args.self.now, within)
 
 pub loop-at-smaller-in-Starred : goal.loop-at-smaller-in-Starred
 loop-at-smaller-in-Starred c =
     work-star c.args.slash (seen c.args.self.now) (text_of c.args.text.now) c.loop-at.at c.loop-at.place c.loop-at.retry
-    c.loop-at.invariant.keeps c.in-Starred.ensures.within
+    c.loop-at.invariant.keeps c.in-Starred.ensures.is.within
 
 pub loop-at-preserved-in-Starred : goal.loop-at-preserved-in-Starred
 loop-at-preserved-in-Starred c = record {
-  within = let within = c.in-Starred.ensures.within in omega (arith, within);
+  within = let within = c.in-Starred.ensures.is.within in omega (arith, within);
+  knows = c.step.ensures.knows;
   keeps =
       keeps-star c.args.slash (seen c.args.self.now) (text_of c.args.text.now) c.loop-at.at c.loop-at.place c.loop-at.retry
-      c.loop-at.invariant.keeps c.in-Starred.ensures;
+      c.loop-at.invariant.keeps c.in-Starred.ensures.is;
 }
 
 pub overflow_add-at-in-Taken : goal.overflow_add-at-in-Taken
-overflow_add-at-in-Taken c = let within = c.in-Taken.ensures.at_within in omega (arith, seen-short c.args.self.now, within)
+overflow_add-at-in-Taken c = let within = c.in-Taken.ensures.is.at_within in omega (arith, seen-short c.args.self.now, within)
 
 pub overflow_add-at-in-Taken-2 : goal.overflow_add-at-in-Taken-2
-overflow_add-at-in-Taken-2 c = let within = c.in-Taken.ensures.at_within in omega (arith, seen-short c.args.self.now, within)
+overflow_add-at-in-Taken-2 c = let within = c.in-Taken.ensures.is.at_within in omega (arith, seen-short c.args.self.now, within)
 
 pub loop-at-smaller-in-Taken : goal.loop-at-smaller-in-Taken
 loop-at-smaller-in-Taken c =
     work-taken (length (seen c.args.self.now)) (length (text_of c.args.text.now)) c.loop-at.at c.in-Taken.more c.loop-at.retry
-    c.in-Taken.ensures.at_within
+    c.in-Taken.ensures.is.at_within
 
 pub loop-at-preserved-in-Taken : goal.loop-at-preserved-in-Taken
 loop-at-preserved-in-Taken c = record {
-  within = let within = c.in-Taken.ensures.at_within in omega (arith, within);
+  within = let within = c.in-Taken.ensures.is.at_within in omega (arith, within);
+  knows = c.step.ensures.knows;
   keeps =
       keeps-taken c.args.slash (seen c.args.self.now) (text_of c.args.text.now) c.loop-at.at c.loop-at.place c.in-Taken.more
-      c.loop-at.retry c.loop-at.invariant.keeps c.in-Taken.ensures;
+      c.loop-at.retry c.loop-at.invariant.keeps c.in-Taken.ensures.is;
 }
 
 pub returns-then-not-is_free_at : goal.returns-then-not-is_free_at
 returns-then-not-is_free_at c =
     let P : Option (ℕ × ℕ) → Type 0 = λ r. Keeps c.args.slash (seen c.args.self.now) (text_of c.args.text.now) c.loop-at.at c.loop-at.place r in
     sym (ends-stuck c.args.slash (seen c.args.self.now) (text_of c.args.text.now) c.loop-at.at c.loop-at.place c.in-Some.start c.in-Some.from
-    (subst P c.in-Some.is c.loop-at.invariant.keeps) c.in-Stuck.ensures (sym c.is_free_at.ensures ∙ c.if-not-is_free_at.true))
+    (subst P c.in-Some.is c.loop-at.invariant.keeps) c.in-Stuck.ensures.is (sym c.is_free_at.ensures ∙ c.if-not-is_free_at.true))
 
 pub overflow_add-place-in-Stuck : goal.overflow_add-place-in-Stuck
 overflow_add-place-in-Stuck c =
@@ -71,7 +73,8 @@ loop-at-preserved c =
     subst P c.in-Some.is c.loop-at.invariant.keeps in
     record {
       within = let before = keeps.start_within in let within = c.loop-at.invariant.within in omega (arith, before, within);
+      knows = c.step.ensures.knows;
       keeps =
           keeps-back c.args.slash (seen c.args.self.now) (text_of c.args.text.now) c.loop-at.at c.loop-at.place c.in-Some.start c.in-Some.from
-          keeps c.in-Stuck.ensures (sym c.is_free_at.ensures ∙ c.if-not-is_free_at.false);
+          keeps c.in-Stuck.ensures.is (sym c.is_free_at.ensures ∙ c.if-not-is_free_at.false);
     }

@@ -34,8 +34,8 @@ pub returns-then-is_plain-2-clause-within : goal.returns-then-is_plain-2-clause-
 returns-then-is_plain-2-clause-within c =
     let within = slice_get_within (seen c.args.self.now) c.args.at c.in_ok-first.first (sym c.get.ensures ∙ c.in_ok-first.was) in omega (arith, within)
 
-pub bracket_at-requires : goal.bracket_at-requires
-bracket_at-requires c = slice_get_within (seen c.args.self.now) c.args.at c.in_ok-first.first (sym c.get.ensures ∙ c.in_ok-first.was)
+pub bracket_at-requires-clause-within : goal.bracket_at-requires-clause-within
+bracket_at-requires-clause-within c = slice_get_within (seen c.args.self.now) c.args.at c.in_ok-first.first (sym c.get.ensures ∙ c.in_ok-first.was)
 
 pub returns-in-Some-clause-value : goal.returns-in-Some-clause-value
 returns-in-Some-clause-value c =
