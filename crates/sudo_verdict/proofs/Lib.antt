@@ -5,3 +5,4 @@ pub mod Searching
 pub mod Resolving
 pub mod Forward
 pub mod VerdictVectors
+pub mod Posting

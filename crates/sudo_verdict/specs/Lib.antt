@@ -9,3 +9,4 @@ pub mod Queries
 pub mod Decided
 pub mod Found
 pub mod Resolved
+pub mod Postings

@@ -4,11 +4,14 @@
 #![tactic(auto)]
 
 mod decision;
+mod indexed;
 mod listing;
+mod postings;
 mod query;
 mod search;
 mod tags;
 
+pub use indexed::Indexed;
 pub use listing::verdict_by_listing;
 pub use search::verdict;
 pub use sudo_rows::{Request, Tags, Verdict, What};

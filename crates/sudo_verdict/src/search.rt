@@ -51,7 +51,7 @@ fn search(checked: &Checked, query: &Query<'_>) -> Option<Verdict>
 }
 
 #[tactic(auto, unfolding(crate::specs::Found::rule_found))]
-fn search_entry(checked: &Checked, query: &Query<'_>, entry: &Entry) -> Option<Verdict>
+pub(crate) fn search_entry(checked: &Checked, query: &Query<'_>, entry: &Entry) -> Option<Verdict>
     requires { IsTrue (body_resolves checked.now entry.now.body) }
     ensures { result ≡ entry_found checked.now (question query.now) entry.now }
 {
