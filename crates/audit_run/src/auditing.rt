@@ -30,8 +30,8 @@ use std::sync::Wait;
 use std::thread;
 use std::thread::{Scope, Threads};
 use sudo_match::Directory;
-use sudo_policy::Checked;
 use sudo_text::Seq;
+use sudo_verdict::Indexed;
 
 /// The most sources that an audit may have.
 pub const MOST_PARTS: usize = 256;
@@ -41,7 +41,7 @@ fn run<'s, 'e: 's, R: Threads + Wait + Sync, F: Feed + Drop + Send + 'e, G: Gate
     alloc: Global,
     rt: &'e R,
     scope: &Scope<'s, &'e ()>,
-    policy: &'e Checked,
+    policy: &'e Indexed,
     directory: &'e Directory,
     handoff: &'e Handoff,
     gate: &'e G,
@@ -103,7 +103,7 @@ fn run<'s, 'e: 's, R: Threads + Wait + Sync, F: Feed + Drop + Send + 'e, G: Gate
 fn run_scoped<R: Threads + Wait + Sync, F: Feed + Drop + Send, G: Gate + Sync>(
     alloc: Global,
     rt: &R,
-    policy: &Checked,
+    policy: &Indexed,
     directory: &Directory,
     handoff: &Handoff,
     gate: &G,
@@ -209,7 +209,7 @@ fn conclude(
 pub fn audit<R: Threads + Wait + Sync, F: Feed + Drop + Send, G: Gate + Sync>(
     alloc: Global,
     rt: &R,
-    policy: &Checked,
+    policy: &Indexed,
     directory: &Directory,
     handoff: &Handoff,
     pass: &mut Pass,

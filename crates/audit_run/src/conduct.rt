@@ -14,7 +14,7 @@ use audit_handoff::{Handoff, Job, Outcome, Pass};
 use std::sync::Wait;
 use std::thread;
 use sudo_match::Directory;
-use sudo_policy::Checked;
+use sudo_verdict::Indexed;
 
 /// Offers an arrival, unless one was refused before.
 fn offer(gathering: &mut Gathering, arrival: Arrival)
@@ -147,7 +147,7 @@ pub fn drain<R: Wait, G: Gate>(
     handoff: &Handoff,
     pass: &mut Pass,
     gathering: &mut Gathering,
-    policy: &Checked,
+    policy: &Indexed,
     directory: &Directory,
     gate: &G,
 )

@@ -11,9 +11,8 @@ use audit_handoff::{Handoff, Job, Outcome, Pass};
 use std::sync::Wait;
 use std::thread;
 use sudo_match::Directory;
-use sudo_policy::Checked;
 use sudo_rows::Request;
-use sudo_verdict::verdict;
+use sudo_verdict::Indexed;
 
 /// Puts an outcome, and tries again while the queue is full.
 pub fn hand_on<R: Wait>(rt: &R, handoff: &Handoff, pass: &mut Pass, outcome: Outcome)
@@ -38,7 +37,7 @@ fn answer_request<R: Wait, G: Gate>(
     rt: &R,
     handoff: &Handoff,
     pass: &mut Pass,
-    policy: &Checked,
+    policy: &Indexed,
     directory: &Directory,
     gate: &G,
     sender: u32,
@@ -50,7 +49,7 @@ fn answer_request<R: Wait, G: Gate>(
 {
     let number = request.number;
     gate.before(sender, number);
-    let verdict = verdict(policy, directory, &request);
+    let verdict = policy.verdict(directory, &request);
     let reply = Answer {
         sender,
         request,
@@ -65,7 +64,7 @@ pub fn answer_job<R: Wait, G: Gate>(
     rt: &R,
     handoff: &Handoff,
     pass: &mut Pass,
-    policy: &Checked,
+    policy: &Indexed,
     directory: &Directory,
     gate: &G,
     job: Job,
@@ -90,7 +89,7 @@ pub fn work<R: Wait, G: Gate>(
     rt: &R,
     handoff: &Handoff,
     mut pass: Pass,
-    policy: &Checked,
+    policy: &Indexed,
     directory: &Directory,
     gate: &G,
 ) -> Pass

@@ -12,7 +12,7 @@ use std::snapshot::Snapshot;
 use std::sync::Wait;
 use std::thread::{Promise, PromisedHandle, Scope, Threads};
 use sudo_match::Directory;
-use sudo_policy::Checked;
+use sudo_verdict::Indexed;
 
 /// What a worker's thread leaves of its pass: it has put the answer of each job that it took, once.
 #[derive(Drop)]
@@ -31,7 +31,7 @@ fn start_worker<'s, 'e: 's, R: Threads + Wait + Sync, G: Gate + Sync>(
     scope: &Scope<'s, &'e ()>,
     handoff: &'e Handoff,
     pass: Pass,
-    policy: &'e Checked,
+    policy: &'e Indexed,
     directory: &'e Directory,
     gate: &'e G,
 ) -> Option<WorkerHandle>
@@ -56,7 +56,7 @@ pub fn start_workers<'s, 'e: 's, R: Threads + Wait + Sync, G: Gate + Sync>(
     scope: &Scope<'s, &'e ()>,
     handoff: &'e Handoff,
     passes: Vec<Pass>,
-    policy: &'e Checked,
+    policy: &'e Indexed,
     directory: &'e Directory,
     gate: &'e G,
     handles: &mut Vec<WorkerHandle>,
@@ -82,7 +82,7 @@ pub fn start_workers<'s, 'e: 's, R: Threads + Wait + Sync, G: Gate + Sync>(
 pub fn join_workers<R: Threads + Wait>(
     rt: &R,
     handoff: &Handoff,
-    policy: &Checked,
+    policy: &Indexed,
     directory: &Directory,
     pass: &mut Pass,
     handles: Vec<WorkerHandle>,

@@ -8,9 +8,10 @@ use std::test::Fail;
 use std::thread::Threads;
 use sudo_load::{Supply, load};
 use sudo_match::Directory;
-use sudo_policy::{Checked, check};
+use sudo_policy::check;
 use sudo_rows::{Group, Interface, Machine, Person};
 use sudo_text::Seq;
+use sudo_verdict::Indexed;
 
 const HEADER: &[u8] = b"number,user,host,runas_user,runas_group,command,arguments\n";
 
@@ -49,12 +50,15 @@ fn directory(alloc: Global) -> Result<Directory, Fail> {
 }
 
 /// A policy under which alice may run `/bin/kill` on web1 without a password, and not `/bin/su`.
-fn policy(alloc: Global) -> Result<Checked, Fail> {
+fn policy(alloc: Global) -> Result<Indexed, Fail> {
     let text = b"alice web1 = NOPASSWD: /bin/kill, !/bin/su\n";
     let supplies: [Supply; 0] = [];
     match load(alloc, b"sudoers", text, &supplies) {
         Ok(policy) => match check(alloc, policy) {
-            Ok(checked) => Ok(checked),
+            Ok(checked) => match Indexed::of(alloc, checked) {
+                Ok(indexed) => Ok(indexed),
+                Err(_) => Err(Fail::new("no memory")),
+            },
             Err(_) => Err(Fail::new("the policy has errors")),
         },
         Err(_) => Err(Fail::new("the policy is not read")),
@@ -64,7 +68,7 @@ fn policy(alloc: Global) -> Result<Checked, Fail> {
 /// What requests are judged by.
 #[derive(Drop)]
 pub(crate) struct Ground {
-    pub policy: Checked,
+    pub policy: Indexed,
     pub directory: Directory,
 }
 
@@ -109,7 +113,7 @@ fn audited_by<R: Threads + Wait + Sync, F: Feed + Drop + Send, G: Gate + Sync>(
 {
     let policy = &ground.policy;
     let directory = &ground.directory;
-    let (handoff, mut pass) = Handoff::new(alloc, policy, directory)?;
+    let (handoff, mut pass) = Handoff::new(alloc, policy.checked(), directory)?;
     Ok(audit(
         alloc, rt, policy, directory, &handoff, &mut pass, sources, workers, gate,
     ))

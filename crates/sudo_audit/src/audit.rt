@@ -14,13 +14,14 @@ use std::alloc::{AllocError, Global};
 use std::sync::Wait;
 use std::thread::Threads;
 use sudo_match::Directory;
-use sudo_policy::{CheckFault, Checked, check};
+use sudo_policy::{CheckFault, check};
 use sudo_text::Seq;
+use sudo_verdict::Indexed;
 
 /// A policy that passes the check, or the lines of its errors.
 #[derive(Drop)]
 enum Vetted {
-    Passes(Checked),
+    Passes(Indexed),
     Errors(Vec<u8>),
 }
 
@@ -31,7 +32,7 @@ enum Reported {
     Errors(Vec<u8>),
 }
 
-/// The policy of a file, checked.
+/// The policy of a file, checked and indexed.
 fn checked_policy<F: Files>(alloc: Global, path: &[u8], files: &mut F) -> Result<Vetted, Fault>
     ensures { IfOk result (IsVetted (F.held files.old) path.now) }
 {
@@ -40,7 +41,10 @@ fn checked_policy<F: Files>(alloc: Global, path: &[u8], files: &mut F) -> Result
         Err(fault) => return Err(fault),
     };
     match check(alloc, policy) {
-        Ok(checked) => Ok(Vetted::Passes(checked)),
+        Ok(checked) => match Indexed::of(alloc, checked) {
+            Ok(indexed) => Ok(Vetted::Passes(indexed)),
+            Err(_) => Err(Fault::Memory),
+        },
         Err(CheckFault::Findings(policy, findings)) => {
             match finding_lines(alloc, policy.files.as_slice(), findings.as_slice(), true) {
                 Ok(lines) => Ok(Vetted::Errors(lines)),
@@ -86,7 +90,7 @@ fn names_of<R>(alloc: Global, sources: &[Source<R>]) -> Result<Vec<Seq<u8>>, All
 fn report_under<T: Threads + Wait + Sync, R: Feed + Drop + Send>(
     alloc: Global,
     rt: &T,
-    policy: &Checked,
+    policy: &Indexed,
     directory: &Directory,
     sources: Vec<Source<R>>,
     workers: u32,
@@ -98,14 +102,18 @@ fn report_under<T: Threads + Wait + Sync, R: Feed + Drop + Send>(
         Ok(names) => names,
         Err(_) => return Err(Fault::Memory),
     };
-    let (handoff, mut pass) = match Handoff::new(alloc, policy, directory) {
+    let (handoff, mut pass) = match Handoff::new(alloc, policy.checked(), directory) {
         Ok(made) => made,
         Err(_) => return Err(Fault::Memory),
     };
     match audit(
         alloc, rt, policy, directory, &handoff, &mut pass, sources, workers, &Open,
     ) {
-        Ok(report) => match report_text(alloc, &report, policy.policy().files.as_slice()) {
+        Ok(report) => match report_text(
+            alloc,
+            &report,
+            policy.checked().policy().files.as_slice(),
+        ) {
             Ok(text) => Ok(Reported::Report(text)),
             Err(_) => Err(Fault::Memory),
         },
@@ -117,7 +125,7 @@ fn report_under<T: Threads + Wait + Sync, R: Feed + Drop + Send>(
 fn report_by<T: Threads + Wait + Sync, U: Feed, H: Feed, R: Feed + Drop + Send>(
     alloc: Global,
     rt: &T,
-    policy: &Checked,
+    policy: &Indexed,
     users: &mut U,
     hosts: &mut H,
     sources: Vec<Source<R>>,

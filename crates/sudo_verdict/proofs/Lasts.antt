@@ -1,7 +1,7 @@
 -- The last that passes, in lists end to end and under a map.
 use Rattle.std.proofs.Common.{◌≡◌, Bool, true, false, cond, ◌&&◌, List, [], ◌∷◌, ◌++◌, map, Option, Some, None, refl, sym, ◌∙◌, ap}
 use Rattle.std.specs.Option.{option_or, option_map}
-use Rattle.std.specs.List.{list_all, filter}
+use Rattle.std.specs.List.{list_all}
 use Rattle.std.proofs.Common.{length}
 use Rattle.std.proofs.lemmas.Bool.{and_parts}
 use Rattle.std.proofs.lemmas.List.{map-append}
@@ -81,14 +81,3 @@ module _ {X : Type 0} (t : X → Bool) (left rest : List X) (m : X) (is : left �
 
   pub back_last : t m ≡ true
   back_last = (and_parts (t m) true back_parts.1).0
-
-filter_step : {X Y : Type 0} (f : X → Option Y) (keep : X → Bool) (xs : List X) (x : X) → last_set (map f xs) ≡ last_set (map f (filter keep xs))
-    → (b : Bool) → (b ≡ false → f x ≡ None) → option_or (last_set (map f xs)) (f x) ≡ last_set (map f (cond b (x ∷ filter keep xs) (filter keep xs)))
-filter_step f keep xs x ih true w = ap (λ o. option_or o (f x)) ih
-filter_step f keep xs x ih false w = ap (option_or (last_set (map f xs))) (w refl) ∙ option_or_none (last_set (map f xs)) ∙ ih
-
--- Items that decide nothing may be left out, as an index leaves them out.
-pub last_set_filter : {X Y : Type 0} (f : X → Option Y) (keep : X → Bool) → ((x : X) → keep x ≡ false → f x ≡ None) → (xs : List X)
-    → last_set (map f xs) ≡ last_set (map f (filter keep xs))
-last_set_filter f keep w [] = refl
-last_set_filter f keep w (x ∷ xs) = filter_step f keep xs x (last_set_filter f keep w xs) (keep x) (w x)

@@ -35,7 +35,7 @@ use Rattle.sudo_verdict.specs.Postings.{numbered, user_number, group_number, uid
 
 -- ---- Numbers
 
-pub numbered_next : (seed b : ℕ) (bs : List ℕ) → numbered seed (b ∷ bs) ≡ numbered ((seed * 31 + b) % 65536) bs
+pub numbered_next : (seed b : ℕ) (bs : List ℕ) → numbered seed (b ∷ bs) ≡ numbered ((seed * 31 + b) % 16384) bs
 unfolding numbered
 numbered_next seed b bs = refl
 
@@ -64,7 +64,7 @@ lists-more n lists a = record {
   };
 }
 
-pub lists-set : (n : ℕ) (lists : Lists) (number : ℕ) (list : Vec ℕ Global) → AreLists n lists → number < 65536 → Rises n list.items → AreLists n (set lists number list)
+pub lists-set : (n : ℕ) (lists : Lists) (number : ℕ) (list : Vec ℕ Global) → AreLists n lists → number < 16384 → Rises n list.items → AreLists n (set lists number list)
 lists-set n lists number list a h r = record {
   count = length-set lists number list ∙ a.count;
   rise = λ other found e. go other found (get_set_cases lists number other list found (let c = a.count in omega (arith, h, c)) e);

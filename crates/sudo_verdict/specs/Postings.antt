@@ -14,10 +14,10 @@ use Rattle.sudo_verdict.specs.Found.{entry_found}
 
 -- ---- Numbers
 
--- the number of a name, below 65536: the same for names that are the same
+-- the number of a name, below 16384: the same for names that are the same
 unfoldable pub numbered : ℕ → List ℕ → ℕ
 numbered seed [] = seed
-numbered seed (b ∷ bs) = numbered ((seed * 31 + b) % 65536) bs
+numbered seed (b ∷ bs) = numbered ((seed * 31 + b) % 16384) bs
 
 abbrev pub user_number : List ℕ → ℕ
 user_number name = numbered 1 name
@@ -26,10 +26,10 @@ abbrev pub group_number : List ℕ → ℕ
 group_number name = numbered 2 name
 
 abbrev pub uid_number : ℕ → ℕ
-uid_number uid = (uid * 2 + 1) % 65536
+uid_number uid = (uid * 2 + 1) % 16384
 
 abbrev pub gid_number : ℕ → ℕ
-gid_number gid = (gid * 2 + 3) % 65536
+gid_number gid = (gid * 2 + 3) % 16384
 
 -- the number under which an atom of a user list is found; 0 for those that match any user, or none
 unfoldable pub atom_number : Atom → ℕ
@@ -72,7 +72,7 @@ pub record Rises (n : ℕ) (list : List ℕ) : Type 0 where
 
 -- a list for each number
 pub record AreLists (n : ℕ) (lists : Lists) : Type 0 where
-  pub count : length lists ≡ 65536
+  pub count : length lists ≡ 16384
   pub rise : (number : ℕ) (list : Vec ℕ Global) → slice_get lists number ≡ Some list → Rises n list.items
 
 -- what was posted stays so

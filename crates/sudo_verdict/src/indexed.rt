@@ -1,6 +1,6 @@
 //! A policy with its rules found by user, for many requests.
 
-ghost use Rattle.std.specs.Prelude.{◌≡◌, Option, IfOk, map, length};
+ghost use Rattle.std.specs.Prelude.{◌≡◌, Option, MatchResult, map, length};
 ghost use Rattle.sudo_verdict.specs.Last.{last_set};
 ghost use Rattle.sudo_verdict.specs.Queries.{question};
 ghost use Rattle.sudo_verdict.specs.Verdicts.{verdict_of};
@@ -10,7 +10,7 @@ ghost use Rattle.sudo_verdict.specs.Postings.{AreLists, Covers};
 use crate::postings::Postings;
 use crate::query::{Query, query_of};
 use crate::search::search_entry;
-use std::alloc::{AllocError, Global};
+use std::alloc::Global;
 use std::marker::Model;
 use sudo_match::Directory;
 use sudo_policy::Checked;
@@ -18,30 +18,40 @@ use sudo_rows::{Request, Verdict};
 
 /// A checked policy with its rules found by user. Contracts see the policy.
 #[derive(Drop)]
-pub struct Indexed<'a> {
-    checked: &'a Checked,
+pub struct Indexed {
+    checked: Checked,
     postings: Postings,
 }
 
-impl<'a> Model for Indexed<'a> {
+impl Model for Indexed {
     ghost use Rattle.std.specs.Prelude.{length};
     ghost use Rattle.sudo_tree.specs.declared.policy.Policy.{Policy};
     ghost use Rattle.sudo_verdict.specs.Postings.{AreLists, Covers};
 
     ghost Value = { Policy };
 
-    ghost view = { λ i. i.checked.now };
+    ghost view = { λ i. i.checked };
 
-    ghost invariant = { λ i. AreLists (length i.checked.now.entries) i.postings.lists.items × Covers i.checked.now (length i.checked.now.entries) i.postings.lists.items };
+    ghost invariant = { λ i. AreLists (length i.checked.entries) i.postings.lists.items × Covers i.checked (length i.checked.entries) i.postings.lists.items };
 }
 
-impl<'a> Indexed<'a> {
-    /// The policy with an index of its rules, in about linear time. Fails only where memory was refused.
-    pub fn of(alloc: Global, checked: &'a Checked) -> Result<Indexed<'a>, AllocError>
-        ensures { IfOk result (λ indexed. indexed ≡ checked.now) }
+impl Indexed {
+    /// The policy with an index of its rules, in time about linear in the rules' user lists as written out. The policy comes
+    /// back only where memory was refused.
+    pub fn of(alloc: Global, checked: Checked) -> Result<Indexed, Checked>
+        ensures { MatchResult result (λ indexed. indexed ≡ checked) (λ back. back ≡ checked) }
     {
-        let postings = Postings::of(alloc, checked)?;
-        Ok(Indexed { checked, postings })
+        match Postings::of(alloc, &checked) {
+            Ok(postings) => Ok(Indexed { checked, postings }),
+            Err(_) => Err(checked),
+        }
+    }
+
+    /// The policy.
+    pub fn checked(&self) -> &Checked
+        ensures { result.now ≡ self.now }
+    {
+        &self.checked
     }
 
     /// The verdict on the request, as [`crate::verdict`] gives it. Looks only at the rules that may decide for the user, and
@@ -50,7 +60,7 @@ impl<'a> Indexed<'a> {
         ensures { result ≡ verdict_of self.now directory.now request.now }
     {
         match query_of(directory, request) {
-            Ok(query) => match search_posted(self.checked, &self.postings, &query) {
+            Ok(query) => match search_posted(&self.checked, &self.postings, &query) {
                 Some(verdict) => verdict,
                 None => Verdict::NoMatch,
             },

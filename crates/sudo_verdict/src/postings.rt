@@ -22,7 +22,7 @@ use sudo_policy::{Atom, Checked, Entry, EntryBody, Kind, Member};
 use sudo_rows::Person;
 
 /// How many lists there are; each number is below it.
-const LISTS: usize = 65_536;
+const LISTS: usize = 16_384;
 
 /// The number of the atoms that match every user. Each user has it.
 const EVERYONE: usize = 0;
@@ -41,18 +41,18 @@ pub(crate) struct Postings {
 
 /// The number after one more byte.
 fn next_number(number: usize, byte: u8) -> usize
-    requires { number < 65536 }
-    ensures value { result ≡ (number * 31 + byte) % 65536 }
-    ensures below { result < 65536 }
+    requires { number < 16384 }
+    ensures value { result ≡ (number * 31 + byte) % 16384 }
+    ensures below { result < 16384 }
 {
     (number * 31 + byte as usize) % LISTS
 }
 
 /// The number of a name.
 fn numbered(seed: usize, name: &[u8]) -> usize
-    requires { seed < 65536 }
+    requires { seed < 16384 }
     ensures value { result ≡ postings.numbered seed name.now }
-    ensures below { result < 65536 }
+    ensures below { result < 16384 }
 {
     let mut number = seed;
     let mut left = name;
@@ -65,28 +65,28 @@ fn numbered(seed: usize, name: &[u8]) -> usize
 
 fn user_number(name: &[u8]) -> usize
     ensures value { result ≡ postings.user_number name.now }
-    ensures below { result < 65536 }
+    ensures below { result < 16384 }
 {
     numbered(1, name)
 }
 
 fn group_number(name: &[u8]) -> usize
     ensures value { result ≡ postings.group_number name.now }
-    ensures below { result < 65536 }
+    ensures below { result < 16384 }
 {
     numbered(2, name)
 }
 
 fn uid_number(uid: u32) -> usize
     ensures value { result ≡ postings.uid_number uid }
-    ensures below { result < 65536 }
+    ensures below { result < 16384 }
 {
     (uid as usize * 2 + 1) % LISTS
 }
 
 fn gid_number(gid: u32) -> usize
     ensures value { result ≡ postings.gid_number gid }
-    ensures below { result < 65536 }
+    ensures below { result < 16384 }
 {
     (gid as usize * 2 + 3) % LISTS
 }
@@ -95,7 +95,7 @@ fn gid_number(gid: u32) -> usize
 #[tactic(auto, unfolding(crate::specs::Postings::atom_number))]
 fn atom_number(atom: &Atom) -> usize
     ensures value { result ≡ postings.atom_number atom.now }
-    ensures below { result < 65536 }
+    ensures below { result < 16384 }
 {
     match atom {
         Atom::Name(name) => user_number(name.as_slice()),
@@ -133,7 +133,7 @@ impl Postings {
 
     /// Puts a rule at the end of the list of a number.
     fn post(&mut self, number: usize, rule: usize) -> Result<(), AllocError>
-        requires number { number < 65536 }
+        requires number { number < 16384 }
         requires lists { AreLists (rule + 1) self.old.lists.items }
         ensures lists { AreLists (rule + 1) self.new.lists.items }
         ensures grows { Grows self.old.lists.items self.new.lists.items }
@@ -231,7 +231,7 @@ impl Postings {
 
     /// The place after the last rule of the list of a number before a place; 0 where there is none.
     fn end_at(&self, number: usize, end: usize) -> usize
-        requires number { number < 65536 }
+        requires number { number < 16384 }
         requires lists { (n : ℕ) × AreLists n self.now.lists.items }
         ensures within { result ≤ end }
         ensures none { (rule : ℕ) → result ≤ rule → rule < end → posted self.now.lists.items number rule ≡ false }

@@ -6,9 +6,11 @@ use std::alloc::{AllocError, Global};
 use std::test::Fail;
 use sudo_load::{Supply, load};
 use sudo_match::Directory;
-use sudo_policy::{Checked, Tag, check};
+use sudo_policy::{Tag, check};
 use sudo_text::Seq;
-use sudo_verdict::{Request, Verdict, What, tags_in_report_order, verdict, verdict_by_listing};
+use sudo_verdict::{
+    Indexed, Request, Verdict, What, tags_in_report_order, verdict, verdict_by_listing,
+};
 
 const USERS: &str =
     "user,uid,groups\nroot,0,root:0\nalice,1000,alice:1000 adm:4\nbob,1001,bob:1001 operator:37\noperator,11,operator:37\n";
@@ -26,12 +28,15 @@ pub(crate) fn directory(alloc: Global) -> Result<Directory, Fail> {
     Ok(Directory::new(alloc, people, machines)?)
 }
 
-/// The policy of one file, checked.
-pub(crate) fn checked(alloc: Global, text: &str) -> Result<Checked, Fail> {
+/// The policy of one file, checked and indexed.
+pub(crate) fn indexed(alloc: Global, text: &str) -> Result<Indexed, Fail> {
     let supplies: [Supply; 0] = [];
     match load(alloc, b"sudoers", text.as_bytes(), &supplies) {
         Ok(policy) => match check(alloc, policy) {
-            Ok(checked) => Ok(checked),
+            Ok(checked) => match Indexed::of(alloc, checked) {
+                Ok(indexed) => Ok(indexed),
+                Err(_) => Err(Fail::new("no memory")),
+            },
             Err(_) => Err(Fail::new("the policy has errors")),
         },
         Err(_) => Err(Fail::new("the policy is not read")),
@@ -51,16 +56,19 @@ pub(crate) fn requests(alloc: Global, lines: &str) -> Result<Seq<Request>, Fail>
     Ok(read_requests(alloc, &mut reader)?.list)
 }
 
-/// What both bodies say to a request.
+/// What the three bodies say to a request: by the index, by the search and by listing.
 pub(crate) fn said(
     alloc: Global,
-    checked: &Checked,
+    indexed: &Indexed,
     directory: &Directory,
     request: &Request,
 ) -> Result<Verdict, Fail> {
-    let found = verdict(checked, directory, request);
-    if verdict_by_listing(alloc, checked, directory, request)? != found {
-        return Err(Fail::new("the two bodies differ"));
+    let found = indexed.verdict(directory, request);
+    if verdict(indexed.checked(), directory, request) != found {
+        return Err(Fail::new("the index and the search differ"));
+    }
+    if verdict_by_listing(alloc, indexed.checked(), directory, request)? != found {
+        return Err(Fail::new("the index and the listing differ"));
     }
     Ok(found)
 }
@@ -145,11 +153,11 @@ fn verdicts(
     policy: &str,
     lines: &str,
 ) -> Result<String, Fail> {
-    let checked = checked(alloc, policy)?;
+    let indexed = indexed(alloc, policy)?;
     let requests = requests(alloc, lines)?;
     let mut text = String::new(alloc);
     for request in requests.as_slice() {
-        append(alloc, &mut text, said(alloc, &checked, directory, request)?)?;
+        append(alloc, &mut text, said(alloc, &indexed, directory, request)?)?;
     }
     Ok(text)
 }

@@ -1,6 +1,6 @@
 //! What the verdicts must be comes from sudoers(5).
 
-use crate::fixtures::{checked, directory, holds, requests, rows_hold, said};
+use crate::fixtures::{directory, holds, indexed, requests, rows_hold, said};
 use std::alloc::Global;
 use std::test::Fail;
 use sudo_match::Directory;
@@ -176,14 +176,14 @@ const RULES: &str =
 const ASKS: &str =
     "alice,web1,,,/bin/ls,\nalice,web1,,,/bin/su,\nalice,web1,,,/bin/id,\nalice,web1,root,,/bin/su,\nalice,web1,operator,,/bin/ls,\nalice,web1,operator,,/bin/id,\nalice,web1,,adm,/bin/ls,\nalice,web1,,operator,/bin/su,\nalice,web1,operator,operator,/bin/ls,\nalice,web1,operator,adm,/bin/id,\nalice,web1,root,adm,/bin/ls,\nalice,web1,alice,adm,/bin/su,\nbob,web1,operator,,/bin/ls,\nbob,web2,,,/bin/id,\nalice,web2,,,/bin/su,\nalice,web2,operator,adm,/bin/ls,";
 
-/// How many of the requests a policy of two rules allows. Fails where the two bodies differ.
+/// How many of the requests a policy of two rules allows. Fails where the three bodies differ.
 fn allowed(alloc: Global, directory: &Directory, first: &str, second: &str) -> Result<u32, Fail> {
     let text = format!(in alloc; "{ALIASES}{first}\n{second}")?;
-    let checked = checked(alloc, text.as_str())?;
+    let indexed = indexed(alloc, text.as_str())?;
     let requests = requests(alloc, ASKS)?;
     let mut count = 0u32;
     for request in requests.as_slice() {
-        if let Verdict::Allow { .. } = said(alloc, &checked, directory, request)? {
+        if let Verdict::Allow { .. } = said(alloc, &indexed, directory, request)? {
             count = count.saturating_add(1);
         }
     }
@@ -191,7 +191,7 @@ fn allowed(alloc: Global, directory: &Directory, first: &str, second: &str) -> R
 }
 
 #[test]
-fn both_bodies_agree(rt: HostRuntime) -> Result<(), Fail> {
+fn the_bodies_agree(rt: HostRuntime) -> Result<(), Fail> {
     let alloc = rt.alloc();
     let directory = directory(alloc)?;
     let mut count = 0u32;

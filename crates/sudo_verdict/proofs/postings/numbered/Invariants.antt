@@ -4,7 +4,7 @@ use Rattle.sudo_verdict.proofs.postings.numbered.Given as goal
 
 abbrev pub invariant-loop-byte : goal.invariant-loop-byte
 invariant-loop-byte l = record {
-  below : l.number < 65536;
+  below : l.number < 16384;
   same : numbered l.seed l.name ≡ numbered l.number l.left;
 }
 

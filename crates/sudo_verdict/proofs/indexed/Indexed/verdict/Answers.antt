@@ -6,12 +6,12 @@ use Rattle.sudo_verdict.proofs.indexed.Indexed.verdict.Goals as goal
 
 pub returns-in-Some : goal.returns-in-Some
 returns-in-Some c =
-    verdict_of_found c.self.inside.checked.now c.args.directory.now c.args.request.now (question c.in-Ok.query) (Some c.in-Some.verdict) c.in-Ok.ensures c.in-Some.ensures
+    verdict_of_found c.self.inside.checked c.args.directory.now c.args.request.now (question c.in-Ok.query) (Some c.in-Some.verdict) c.in-Ok.ensures c.in-Some.ensures
     ∙ ap (λ p. verdict_of p c.args.directory.now c.args.request.now) c.self.view_is
 
 pub returns-in-None : goal.returns-in-None
 returns-in-None c =
-    verdict_of_found c.self.inside.checked.now c.args.directory.now c.args.request.now (question c.in-Ok.query) None c.in-Ok.ensures c.in-None.ensures
+    verdict_of_found c.self.inside.checked c.args.directory.now c.args.request.now (question c.in-Ok.query) None c.in-Ok.ensures c.in-None.ensures
     ∙ ap (λ p. verdict_of p c.args.directory.now c.args.request.now) c.self.view_is
 
 pub returns-in-Err : goal.returns-in-Err

@@ -8,6 +8,6 @@ use Rattle.sudo_verdict.proofs.postings.Postings.end_at.Goals as goal
 pub returns-clause-none : goal.returns-clause-none
 returns-clause-none c =
     let count = c.requires.lists.1.count in
-    let there = slice_get_read c.args.self.now.lists.items 65536 c.args.number c.index.result.now (sym count) c.requires.number c.index.ensures in
+    let there = slice_get_read c.args.self.now.lists.items 16384 c.args.number c.index.result.now (sym count) c.requires.number c.index.ensures in
     λ rule l m. posted-there c.args.self.now.lists.items c.args.number c.index.result.now rule there
     ∙ ap (list_any (λ other. other == rule)) (sym c.as_slice.ensures.value) ∙ c.end_in.ensures.none rule l m

@@ -9,7 +9,7 @@ use Rattle.sudo_verdict.proofs.postings.Postings.post.Goals as goal
 pub returns-in_err-push-in_default-clause-lists : goal.returns-in_err-push-in_default-clause-lists
 returns-in_err-push-in_default-clause-lists c =
     let count = c.requires.lists.count in
-    let old = slice_get_read c.args.self.now.lists.items 65536 c.args.number c.index_mut-list.result.now (sym count) c.requires.number c.index_mut-list.ensures.value in
+    let old = slice_get_read c.args.self.now.lists.items 16384 c.args.number c.index_mut-list.result.now (sym count) c.requires.number c.index_mut-list.ensures.value in
     lists-set (c.args.rule + 1) c.args.self.now.lists.items c.args.number c.push.new.self c.requires.lists c.requires.number
     (subst (Rises (c.args.rule + 1)) (sym c.in_err-push-in_default.ensures.items) (c.requires.lists.rise c.args.number c.index_mut-list.result.now old))
 
@@ -17,7 +17,7 @@ pub returns-in_err-push-in_default-clause-grows : goal.returns-in_err-push-in_de
 returns-in_err-push-in_default-clause-grows c =
     let count = c.requires.lists.count in
     let within = c.requires.number in
-    let old = slice_get_read c.args.self.now.lists.items 65536 c.args.number c.index_mut-list.result.now (sym count) c.requires.number c.index_mut-list.ensures.value in
+    let old = slice_get_read c.args.self.now.lists.items 16384 c.args.number c.index_mut-list.result.now (sym count) c.requires.number c.index_mut-list.ensures.value in
     grows-set c.args.self.now.lists.items c.args.number c.index_mut-list.result.now c.push.new.self (omega (arith, count, within)) old
     (λ rule e. ap (list_any (λ other. other == rule)) c.in_err-push-in_default.ensures.items ∙ e)
 
@@ -33,7 +33,7 @@ returns-in-Some-clause-posted c =
 pub returns-in_ok-push-in_default-clause-lists : goal.returns-in_ok-push-in_default-clause-lists
 returns-in_ok-push-in_default-clause-lists c =
     let count = c.requires.lists.count in
-    let old = slice_get_read c.args.self.now.lists.items 65536 c.args.number c.index_mut-list.result.now (sym count) c.requires.number c.index_mut-list.ensures.value in
+    let old = slice_get_read c.args.self.now.lists.items 16384 c.args.number c.index_mut-list.result.now (sym count) c.requires.number c.index_mut-list.ensures.value in
     lists-set (c.args.rule + 1) c.args.self.now.lists.items c.args.number c.push.new.self c.requires.lists c.requires.number
     (subst (Rises (c.args.rule + 1)) (sym c.in_ok-push-in_default.ensures.items)
     (rises-push c.args.rule c.index_mut-list.result.now.items (c.requires.lists.rise c.args.number c.index_mut-list.result.now old)))
@@ -42,7 +42,7 @@ pub returns-in_ok-push-in_default-clause-grows : goal.returns-in_ok-push-in_defa
 returns-in_ok-push-in_default-clause-grows c =
     let count = c.requires.lists.count in
     let within = c.requires.number in
-    let old = slice_get_read c.args.self.now.lists.items 65536 c.args.number c.index_mut-list.result.now (sym count) c.requires.number c.index_mut-list.ensures.value in
+    let old = slice_get_read c.args.self.now.lists.items 16384 c.args.number c.index_mut-list.result.now (sym count) c.requires.number c.index_mut-list.ensures.value in
     grows-set c.args.self.now.lists.items c.args.number c.index_mut-list.result.now c.push.new.self (omega (arith, count, within)) old
     (λ rule e. ap (list_any (λ other. other == rule)) c.in_ok-push-in_default.ensures.items ∙ any-kept c.index_mut-list.result.now.items c.args.rule rule e)
 
