@@ -3,3 +3,4 @@ pub mod Expanding
 pub mod Senders
 pub mod Auditing
 pub mod Holding
+pub mod Faults

@@ -1,5 +1,6 @@
 //! What ends the program with another status than 0, and its text.
-ghost use Rattle.std.specs.Prelude.{◌≤◌, ◌<◌};
+ghost use Rattle.std.specs.Prelude.{◌≡◌};
+ghost use Rattle.sudo_audit.specs.Faults.{audit_status as status_of_audit, file_status as status_of_file, status_of};
 
 use crate::lines::{push, push_path, push_shown};
 use audit_collect::{CollectFault, Refused, RosterFault, Unfinished};
@@ -53,8 +54,7 @@ impl Fault {
     /// The exit status: 1 where the policy is refused or has no such alias, 2 for a bad sender, 3 where the users, the hosts
     /// or the requests are refused, 4 where reading, writing, a thread or memory failed.
     pub fn status(&self) -> u8
-        ensures low { 0 < result }
-        ensures high { result ≤ 4 }
+        ensures { result ≡ status_of self.now }
     {
         match self {
             Fault::Refused(..) | Fault::NoSuchAlias(_) => 1,
@@ -70,8 +70,7 @@ impl Fault {
 
 /// The exit status for a file that is refused.
 fn file_status(fault: FileFault) -> u8
-    ensures low { 0 < result }
-    ensures high { result ≤ 4 }
+    ensures { result ≡ status_of_file fault }
 {
     match fault {
         FileFault::Read | FileFault::Memory => 4,
@@ -81,8 +80,7 @@ fn file_status(fault: FileFault) -> u8
 
 /// The exit status for an audit without a report.
 fn audit_status(fault: &AuditFault) -> u8
-    ensures low { 0 < result }
-    ensures high { result ≤ 4 }
+    ensures { result ≡ status_of_audit fault.now }
 {
     match fault {
         AuditFault::Sender { fault, .. } => file_status(*fault),
@@ -384,8 +382,7 @@ fn fault_line(alloc: Global, fault: &Fault) -> Result<Vec<u8>, AllocError> {
 
 /// Prints a fault on one line and gives its status. A line that cannot be printed is left out.
 pub fn complain<E: Sink>(alloc: Global, fault: &Fault, err: &mut E) -> u8
-    ensures low { 0 < result }
-    ensures high { result ≤ 4 }
+    ensures { result ≡ status_of fault.now }
 {
     let printed = match fault_line(alloc, fault) {
         Ok(line) => write_all_of(err, &line),

@@ -21,6 +21,14 @@ fn unread(path: Seq<u8>, fault: FilesFault) -> Fault {
     }
 }
 
+/// Why the main file cannot be read.
+fn unread_main(alloc: Global, path: &[u8]) -> Fault {
+    match Seq::from_slice(alloc, path) {
+        Ok(path) => Fault::CannotRead(path),
+        Err(_) => Fault::Memory,
+    }
+}
+
 /// The file or the folder that is wanted.
 fn fetch<F: Files>(alloc: Global, files: &mut F, want: Want) -> Result<Supply, Fault>
     ensures held { IfOk result (IsHeld (F.held files.old)) }
@@ -45,14 +53,7 @@ fn main_text<F: Files>(alloc: Global, files: &mut F, path: &[u8]) -> Result<Seq<
 {
     match files.file(alloc, path) {
         Ok(Some(text)) => Ok(text),
-        Ok(None) => match Seq::from_slice(alloc, path) {
-            Ok(path) => Err(Fault::CannotRead(path)),
-            Err(_) => Err(Fault::Memory),
-        },
-        Err(FilesFault::Failed) => match Seq::from_slice(alloc, path) {
-            Ok(path) => Err(Fault::CannotRead(path)),
-            Err(_) => Err(Fault::Memory),
-        },
+        Ok(None) | Err(FilesFault::Failed) => Err(unread_main(alloc, path)),
         Err(FilesFault::Memory) => Err(Fault::Memory),
     }
 }
