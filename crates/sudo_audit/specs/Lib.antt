@@ -4,3 +4,4 @@ pub mod Senders
 pub mod Auditing
 pub mod Holding
 pub mod Faults
+pub mod FaultLines

@@ -1,4 +1,6 @@
 //! Lines that the program prints.
+ghost use Rattle.std.specs.Prelude.{◌≡◌, ◌++◌, IfSome, OnOk};
+ghost use Rattle.sudo_audit.specs.FaultLines.{GoesOn, path_of};
 
 use std::alloc::{AllocError, Global};
 use std::fmt::Display;
@@ -7,7 +9,9 @@ use sudo_text::Seq;
 use sudo_tree::Kind;
 
 /// Appends bytes to a line.
-pub(crate) fn push(line: &mut Vec<u8>, bytes: &[u8]) -> Result<(), AllocError> {
+pub(crate) fn push(line: &mut Vec<u8>, bytes: &[u8]) -> Result<(), AllocError>
+    ensures { OnOk result (line.new.items ≡ line.old.items ++ bytes.now) }
+{
     line.extend_from_slice(bytes)
 }
 
@@ -16,7 +20,10 @@ pub(crate) fn push_shown<T: Display>(
     alloc: Global,
     line: &mut Vec<u8>,
     value: &T,
-) -> Result<(), AllocError> {
+) -> Result<(), AllocError>
+    ensures front { OnOk result (GoesOn line.old.items line.new.items) }
+    ensures text { OnOk result (IfSome (T.output value.now) (λ text. line.new.items ≡ line.old.items ++ text)) }
+{
     match format!(in alloc; "{value}") {
         Ok(text) => line.extend_from_slice(text.as_str().as_bytes()),
         Err(_) => Err(AllocError),
@@ -24,11 +31,9 @@ pub(crate) fn push_shown<T: Display>(
 }
 
 /// Appends the path of a file by its number.
-pub(crate) fn push_path(
-    line: &mut Vec<u8>,
-    files: &[Seq<u8>],
-    file: u32,
-) -> Result<(), AllocError> {
+pub(crate) fn push_path(line: &mut Vec<u8>, files: &[Seq<u8>], file: u32) -> Result<(), AllocError>
+    ensures { OnOk result (line.new.items ≡ line.old.items ++ path_of files.now file) }
+{
     match files.get(file as usize) {
         Some(path) => line.extend_from_slice(path.as_slice()),
         None => Ok(()),

@@ -10,4 +10,4 @@ returns-in-Ok-clause-printed g c = λ zero.
     c.in-Ok-Report.ensures (subst (λ r. AreReportBytes r c.deref.result.now) (sym c.in-Ok-Report.field-0-is) c.deref.ensures.value) c.in-Ok.ensures.whole
 
 pub returns-clause-printed : goal.returns-clause-printed
-returns-clause-printed g c = λ e. absurd (status_low c.in-Err.fault (sym c.complain-in-Err.ensures ∙ e))
+returns-clause-printed g c = λ e. absurd (status_low c.in-Err.fault (sym c.complain-in-Err.ensures.status ∙ e))

@@ -9,4 +9,4 @@ returns-in-Ok-clause-printed g c = λ zero.
     c.in-Ok-Members.ensures (subst (λ p. AreBytes p c.deref.result.now) (sym c.in-Ok-Members.field-0-is) c.deref.ensures.value) c.in-Ok.ensures.whole
 
 pub returns-clause-printed : goal.returns-clause-printed
-returns-clause-printed g c = λ e. absurd (status_low c.in-Err.fault (sym c.complain-in-Err.ensures ∙ e))
+returns-clause-printed g c = λ e. absurd (status_low c.in-Err.fault (sym c.complain-in-Err.ensures.status ∙ e))
