@@ -3,3 +3,4 @@ pub mod Printing
 pub mod SenderLemmas
 pub mod AuditSteps
 pub mod Statuses
+pub mod CheckSteps

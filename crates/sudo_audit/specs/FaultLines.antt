@@ -5,9 +5,7 @@ use Rattle.audit_collect.specs.declared.fault.CollectFault.{CollectFault}
 use Rattle.audit_collect.specs.declared.fault.CollectFault.TheVariants as collects
 use Rattle.audit_collect.specs.declared.fault.Refused.{Refused}
 use Rattle.audit_collect.specs.declared.fault.Refused.TheVariants as refusals
-use Rattle.audit_collect.specs.declared.fault.RosterFault.{RosterFault}
 use Rattle.audit_collect.specs.declared.fault.RosterFault.TheVariants as rosters
-use Rattle.audit_collect.specs.declared.fault.Unfinished.{Unfinished}
 use Rattle.audit_collect.specs.declared.fault.Unfinished.TheVariants as unfinished
 use Rattle.audit_files.specs.declared.fault.FileFault.{FileFault}
 use Rattle.audit_files.specs.declared.fault.FileFault.TheVariants as file_faults

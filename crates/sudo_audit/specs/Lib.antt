@@ -5,3 +5,5 @@ pub mod Auditing
 pub mod Holding
 pub mod Faults
 pub mod FaultLines
+pub mod FindingLines
+pub mod Telling

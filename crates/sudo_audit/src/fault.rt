@@ -1,11 +1,13 @@
 //! What ends the program with another status than 0, and its text.
-ghost use Rattle.std.specs.Prelude.{◌≡◌, ◌++◌, IfOk, OnOk, ℕ, List, codes, decimal};
+ghost use Rattle.std.specs.Io.KnownBytes.{Appends};
+ghost use Rattle.std.specs.Prelude.{◌≡◌, ◌≢◌, ◌⊎◌, ◌++◌, IfOk, OnOk, ℕ, List, codes, decimal};
 ghost use Rattle.sudo_audit.specs.Faults.{audit_status as status_of_audit, file_status as status_of_file, status_of};
 ghost use Rattle.sudo_audit.specs.FaultLines.{fault_file, has_parts as two_have, part_text, text_file, IsAuditSaid, IsCollectSaid, IsDirectorySaid, IsFaultLine, IsFileSaid, IsLine, IsLoadSaid, IsParseSaid, IsRefusalSaid, IsRequestSaid, IsSaid, IsSenderSaid, IsSourceSaid, Tells};
+ghost use Rattle.sudo_audit.specs.Telling.{Complains, IsLost};
 
 use crate::lines::{push, push_path, push_shown};
 use audit_collect::{CollectFault, Refused, RosterFault, Unfinished};
-use audit_device::{Sink, write_all_of};
+use audit_device::{Sink, WriteFault, write_all_of};
 use audit_files::FileFault;
 use audit_run::AuditFault;
 use std::alloc::{AllocError, AllocFailed, Global};
@@ -40,12 +42,22 @@ pub enum Fault {
 }
 
 impl From<AllocError> for Fault {
+    ghost use Rattle.std.specs.Prelude.{◌≡◌};
+    ghost use Rattle.sudo_audit.specs.declared.fault.Fault.TheVariants.{Memory};
+
+    ghost from_gives = { λ _ e. e ≡ Memory };
+
     fn from(_: AllocError) -> Fault {
         Fault::Memory
     }
 }
 
 impl<T: Drop> From<AllocFailed<T>> for Fault {
+    ghost use Rattle.std.specs.Prelude.{◌≡◌};
+    ghost use Rattle.sudo_audit.specs.declared.fault.Fault.TheVariants.{Memory};
+
+    ghost from_gives = { λ _ e. e ≡ Memory };
+
     fn from(_: AllocFailed<T>) -> Fault {
         Fault::Memory
     }
@@ -452,4 +464,32 @@ pub fn complain<E: Sink>(alloc: Global, fault: &Fault, err: &mut E) -> u8
     };
     let _ = printed;
     fault.status()
+}
+
+/// Prints bytes on `out` and gives this status. A write that fails is a fault.
+pub(crate) fn hand_out<O: Sink, E: Sink>(
+    alloc: Global,
+    bytes: &[u8],
+    status: u8,
+    out: &mut O,
+    err: &mut E,
+) -> u8
+    ensures which { (result ≡ status) ⊎ (result ≡ 4) }
+    ensures whole { result ≢ 4 → Appends (O.taken out.old) (O.taken out.new) bytes.now }
+    ensures went { O.stalled_writes out.new ≡ O.stalled_writes out.old → (result ≡ status) × Appends (O.taken out.old) (O.taken out.new) bytes.now × (E.taken err.new ≡ E.taken err.old) }
+    ensures lost { O.stalled_writes out.new ≢ O.stalled_writes out.old → Complains IsLost result (E.stalled_writes err.new ≡ E.stalled_writes err.old) (E.taken err.old) (E.taken err.new) }
+{
+    match write_all_of(out, bytes) {
+        Ok(()) => status,
+        Err(WriteFault { written }) => complain(alloc, &Fault::Write { written }, err),
+    }
+}
+
+/// Prints the lines of a policy's errors as far as that goes, and gives the status of a policy that is refused.
+pub(crate) fn print_errors<E: Sink>(lines: &[u8], err: &mut E) -> u8
+    ensures status { result ≡ 1 }
+    ensures told { E.stalled_writes err.new ≡ E.stalled_writes err.old → Appends (E.taken err.old) (E.taken err.new) lines.now }
+{
+    let _ = write_all_of(err, lines);
+    1
 }
