@@ -2,3 +2,5 @@ pub mod Held
 pub mod Printing
 pub mod SenderLemmas
 pub mod AuditSteps
+pub mod Statuses
+pub mod CheckSteps

@@ -3,3 +3,7 @@ pub mod Expanding
 pub mod Senders
 pub mod Auditing
 pub mod Holding
+pub mod Faults
+pub mod FaultLines
+pub mod FindingLines
+pub mod Telling

@@ -1,12 +1,14 @@
 //! `audit`: requests answered.
-ghost use Rattle.std.specs.Prelude.{◌≡◌, ◌≢◌, ◌≤◌, Some, IfOk, map};
-ghost use Rattle.sudo_audit.specs.Auditing.{IsAuditedBy, IsDirectory, IsReportBy, IsReportUnder, IsVetted, Reports};
+ghost use Rattle.std.specs.Prelude.{◌≡◌, ◌≢◌, ◌≤◌, ◌⊎◌, Some, IfErr, IfOk, map};
+ghost use Rattle.sudo_audit.specs.Auditing.{IsAuditedBy, IsDirectory, IsNotAudited, IsReportBy, IsReportUnder, IsUnreported, IsVetted, IsVettedOf, Reports};
+ghost use Rattle.sudo_audit.specs.Loading.{IsNoPolicy};
+ghost use Rattle.sudo_audit.specs.Telling.{Complains, IsLost, Refuses};
 
 use crate::check::finding_lines;
-use crate::fault::{Fault, complain};
+use crate::fault::{Fault, complain, hand_out, print_errors};
 use crate::files::Files;
 use crate::loading::policy_of;
-use audit_device::{Feed, Sink, write_all_of};
+use audit_device::{Feed, Sink};
 use audit_files::{read_hosts, read_users};
 use audit_report::report_text;
 use audit_run::{Handoff, Open, Source, audit};
@@ -16,6 +18,7 @@ use std::thread::Threads;
 use sudo_match::Directory;
 use sudo_policy::{CheckFault, check};
 use sudo_text::Seq;
+use sudo_tree::Policy;
 use sudo_verdict::Indexed;
 
 /// A policy that passes the check, or the lines of its errors.
@@ -32,26 +35,32 @@ enum Reported {
     Errors(Vec<u8>),
 }
 
-/// The policy of a file, checked and indexed.
-fn checked_policy<F: Files>(alloc: Global, path: &[u8], files: &mut F) -> Result<Vetted, Fault>
-    ensures { IfOk result (IsVetted (F.held files.old) path.now) }
+/// A policy that is loaded, checked and indexed.
+fn vet(alloc: Global, policy: Policy) -> Result<Vetted, Fault>
+    ensures vetted { IfOk result (IsVettedOf policy) }
+    ensures fault { IfErr result (λ fault. fault ≡ Fault.Memory) }
 {
-    let policy = match policy_of(alloc, path, files) {
-        Ok(policy) => policy,
-        Err(fault) => return Err(fault),
-    };
     match check(alloc, policy) {
         Ok(checked) => match Indexed::of(alloc, checked) {
             Ok(indexed) => Ok(Vetted::Passes(indexed)),
             Err(_) => Err(Fault::Memory),
         },
         Err(CheckFault::Findings(policy, findings)) => {
-            match finding_lines(alloc, policy.files.as_slice(), findings.as_slice(), true) {
-                Ok(lines) => Ok(Vetted::Errors(lines)),
-                Err(_) => Err(Fault::Memory),
-            }
+            let errors = finding_lines(alloc, policy.files.as_slice(), findings.as_slice(), true)?;
+            Ok(Vetted::Errors(errors))
         }
         Err(CheckFault::Memory(_)) => Err(Fault::Memory),
+    }
+}
+
+/// The policy of a file, checked and indexed.
+fn checked_policy<F: Files>(alloc: Global, path: &[u8], files: &mut F) -> Result<Vetted, Fault>
+    ensures vetted { IfOk result (IsVetted (F.held files.old) path.now) }
+    ensures fault { IfErr result (IsNoPolicy (F.held files.old) path.now) }
+{
+    match policy_of(alloc, path, files) {
+        Ok(policy) => vet(alloc, policy),
+        Err(fault) => Err(fault),
     }
 }
 
@@ -61,7 +70,8 @@ fn directory_of<U: Feed, H: Feed>(
     users: &mut U,
     hosts: &mut H,
 ) -> Result<Directory, Fault>
-    ensures { IfOk result (IsDirectory (U.ahead users.old) (H.ahead hosts.old)) }
+    ensures directory { IfOk result (IsDirectory (U.ahead users.old) (H.ahead hosts.old)) }
+    ensures fault { IfErr result IsUnreported }
 {
     let people = match read_users(alloc, users) {
         Ok(people) => people,
@@ -96,7 +106,8 @@ fn report_under<T: Threads + Wait + Sync, R: Feed + Drop + Send>(
     workers: u32,
 ) -> Result<Reported, Fault>
     requires workers { (1 ≤ workers) × (workers ≤ 16) }
-    ensures { IfOk result (IsReportUnder policy.now directory.now (map (λ s. s.name) sources.items) (map (λ s. R.ahead s.reader) sources.items)) }
+    ensures reported { IfOk result (IsReportUnder policy.now directory.now (map (λ s. s.name) sources.items) (map (λ s. R.ahead s.reader) sources.items)) }
+    ensures fault { IfErr result IsUnreported }
 {
     let names = match names_of(alloc, &sources) {
         Ok(names) => names,
@@ -132,7 +143,8 @@ fn report_by<T: Threads + Wait + Sync, U: Feed, H: Feed, R: Feed + Drop + Send>(
     workers: u32,
 ) -> Result<Reported, Fault>
     requires workers { (1 ≤ workers) × (workers ≤ 16) }
-    ensures { IfOk result (IsReportBy policy.now (U.ahead users.old) (H.ahead hosts.old) (map (λ s. s.name) sources.items) (map (λ s. R.ahead s.reader) sources.items)) }
+    ensures reported { IfOk result (IsReportBy policy.now (U.ahead users.old) (H.ahead hosts.old) (map (λ s. s.name) sources.items) (map (λ s. R.ahead s.reader) sources.items)) }
+    ensures fault { IfErr result IsUnreported }
 {
     match directory_of(alloc, users, hosts) {
         Ok(directory) => report_under(alloc, rt, policy, &directory, sources, workers),
@@ -152,7 +164,8 @@ fn audited<T: Threads + Wait + Sync, F: Files, U: Feed, H: Feed, R: Feed + Drop 
     workers: u32,
 ) -> Result<Reported, Fault>
     requires workers { (1 ≤ workers) × (workers ≤ 16) }
-    ensures { IfOk result (IsAuditedBy (F.held files.old) path.now (U.ahead users.old) (H.ahead hosts.old) (map (λ s. s.name) sources.items) (map (λ s. R.ahead s.reader) sources.items)) }
+    ensures audited { IfOk result (IsAuditedBy (F.held files.old) path.now (U.ahead users.old) (H.ahead hosts.old) (map (λ s. s.name) sources.items) (map (λ s. R.ahead s.reader) sources.items)) }
+    ensures fault { IfErr result (IsNotAudited (F.held files.old) path.now) }
 {
     match checked_policy(alloc, path, files) {
         Ok(Vetted::Passes(policy)) => {
@@ -194,22 +207,12 @@ pub fn audit_into<
     ensures status { result ≤ 4 }
     ensures printed { result ≡ 0 → Reports (F.held files.old) path.now (U.ahead users.old) (H.ahead hosts.old) (map (λ s. s.name) sources.items) (map (λ s. R.ahead s.reader) sources.items) (O.taken out.old) (O.taken out.new) }
     ensures untouched { result ≢ 0 → O.stalled_writes out.new ≡ O.stalled_writes out.old → O.taken out.new ≡ O.taken out.old }
+    ensures told { O.stalled_writes out.new ≡ O.stalled_writes out.old → ((result ≡ 0) × Reports (F.held files.old) path.now (U.ahead users.old) (H.ahead hosts.old) (map (λ s. s.name) sources.items) (map (λ s. R.ahead s.reader) sources.items) (O.taken out.old) (O.taken out.new) × (E.taken err.new ≡ E.taken err.old)) ⊎ ((O.taken out.new ≡ O.taken out.old) × (Refuses (F.held files.old) path.now result (E.stalled_writes err.new ≡ E.stalled_writes err.old) (E.taken err.old) (E.taken err.new) ⊎ Complains (IsNotAudited (F.held files.old) path.now) result (E.stalled_writes err.new ≡ E.stalled_writes err.old) (E.taken err.old) (E.taken err.new))) }
+    ensures lost { O.stalled_writes out.new ≢ O.stalled_writes out.old → Complains IsLost result (E.stalled_writes err.new ≡ E.stalled_writes err.old) (E.taken err.old) (E.taken err.new) }
 {
     match audited(alloc, rt, path, files, users, hosts, sources, workers) {
-        Ok(Reported::Report(text)) => match write_all_of(out, &text) {
-            Ok(()) => 0,
-            Err(fault) => complain(
-                alloc,
-                &Fault::Write {
-                    written: fault.written,
-                },
-                err,
-            ),
-        },
-        Ok(Reported::Errors(lines)) => {
-            let _ = write_all_of(err, &lines);
-            1
-        }
+        Ok(Reported::Report(text)) => hand_out(alloc, &text, 0, out, err),
+        Ok(Reported::Errors(lines)) => print_errors(&lines, err),
         Err(fault) => complain(alloc, &fault, err),
     }
 }

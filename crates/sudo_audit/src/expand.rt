@@ -1,12 +1,13 @@
 //! `expand`: an alias written out.
-ghost use Rattle.std.specs.Prelude.{◌≡◌, ◌≢◌, ◌≤◌, ◌++◌, flat_map, IfOk, OnOk};
-ghost use Rattle.sudo_audit.specs.Expanding.{line_of, AreAliasLines, IsPrintedOf, IsPrinted, Prints};
+ghost use Rattle.std.specs.Prelude.{◌≡◌, ◌≢◌, ◌≤◌, ◌⊎◌, ◌++◌, flat_map, IfErr, IfOk, OnOk};
+ghost use Rattle.sudo_audit.specs.Expanding.{line_of, AreAliasLines, IsNotExpanded, IsNotExpandedOf, IsPrintedOf, IsPrinted, Prints};
+ghost use Rattle.sudo_audit.specs.Telling.{Complains, IsLost, Refuses};
 
 use crate::check::finding_lines;
-use crate::fault::{Fault, complain};
+use crate::fault::{Fault, complain, hand_out, print_errors};
 use crate::files::Files;
 use crate::loading::policy_of;
-use audit_device::{Sink, write_all_of};
+use audit_device::Sink;
 use std::alloc::{AllocError, Global};
 use sudo_parser::member_text;
 use sudo_policy::{CheckFault, Checked, ExpandFault, check, expand};
@@ -43,7 +44,8 @@ fn push_member(alloc: Global, lines: &mut Vec<u8>, member: &Signed) -> Result<()
 
 /// The lines of an alias of a checked policy.
 fn alias_lines(alloc: Global, checked: &Checked, kind: Kind, name: &[u8]) -> Result<Vec<u8>, Fault>
-    ensures { IfOk result (λ lines. AreAliasLines checked.now kind name.now lines.items) }
+    ensures lines { IfOk result (λ lines. AreAliasLines checked.now kind name.now lines.items) }
+    ensures fault { IfErr result (IsNotExpandedOf checked.now kind name.now) }
 {
     match expand(alloc, checked, kind, name) {
         Ok(members) => Ok(member_lines(alloc, members.as_slice())?),
@@ -54,7 +56,8 @@ fn alias_lines(alloc: Global, checked: &Checked, kind: Kind, name: &[u8]) -> Res
 
 /// What a policy that is loaded gives to print.
 fn written_out(alloc: Global, policy: Policy, kind: Kind, name: &[u8]) -> Result<Printed, Fault>
-    ensures { IfOk result (IsPrintedOf policy kind name.now) }
+    ensures printed { IfOk result (IsPrintedOf policy kind name.now) }
+    ensures fault { IfErr result (IsNotExpandedOf policy kind name.now) }
 {
     match check(alloc, policy) {
         Ok(checked) => match alias_lines(alloc, &checked, kind, name) {
@@ -77,7 +80,8 @@ fn printed_for<F: Files>(
     kind: Kind,
     name: &[u8],
 ) -> Result<Printed, Fault>
-    ensures { IfOk result (IsPrinted (F.held files.old) path.now kind name.now) }
+    ensures printed { IfOk result (IsPrinted (F.held files.old) path.now kind name.now) }
+    ensures fault { IfErr result (IsNotExpanded (F.held files.old) path.now kind name.now) }
 {
     match policy_of(alloc, path, files) {
         Ok(policy) => written_out(alloc, policy, kind, name),
@@ -102,22 +106,12 @@ pub fn expand_run<F: Files, O: Sink, E: Sink>(
     ensures status { result ≤ 4 }
     ensures printed { result ≡ 0 → Prints (F.held files.old) path.now kind name.now (O.taken out.old) (O.taken out.new) }
     ensures untouched { result ≢ 0 → O.stalled_writes out.new ≡ O.stalled_writes out.old → O.taken out.new ≡ O.taken out.old }
+    ensures told { O.stalled_writes out.new ≡ O.stalled_writes out.old → ((result ≡ 0) × Prints (F.held files.old) path.now kind name.now (O.taken out.old) (O.taken out.new) × (E.taken err.new ≡ E.taken err.old)) ⊎ ((O.taken out.new ≡ O.taken out.old) × (Refuses (F.held files.old) path.now result (E.stalled_writes err.new ≡ E.stalled_writes err.old) (E.taken err.old) (E.taken err.new) ⊎ Complains (IsNotExpanded (F.held files.old) path.now kind name.now) result (E.stalled_writes err.new ≡ E.stalled_writes err.old) (E.taken err.old) (E.taken err.new))) }
+    ensures lost { O.stalled_writes out.new ≢ O.stalled_writes out.old → Complains IsLost result (E.stalled_writes err.new ≡ E.stalled_writes err.old) (E.taken err.old) (E.taken err.new) }
 {
     match printed_for(alloc, path, files, kind, name) {
-        Ok(Printed::Members(lines)) => match write_all_of(out, &lines) {
-            Ok(()) => 0,
-            Err(fault) => complain(
-                alloc,
-                &Fault::Write {
-                    written: fault.written,
-                },
-                err,
-            ),
-        },
-        Ok(Printed::Errors(lines)) => {
-            let _ = write_all_of(err, &lines);
-            1
-        }
+        Ok(Printed::Members(lines)) => hand_out(alloc, &lines, 0, out, err),
+        Ok(Printed::Errors(lines)) => print_errors(&lines, err),
         Err(fault) => complain(alloc, &fault, err),
     }
 }

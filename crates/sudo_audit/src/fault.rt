@@ -1,9 +1,13 @@
 //! What ends the program with another status than 0, and its text.
-ghost use Rattle.std.specs.Prelude.{◌≤◌, ◌<◌};
+ghost use Rattle.std.specs.Io.KnownBytes.{Appends};
+ghost use Rattle.std.specs.Prelude.{◌≡◌, ◌≢◌, ◌⊎◌, ◌++◌, IfOk, OnOk, ℕ, List, codes, decimal};
+ghost use Rattle.sudo_audit.specs.Faults.{audit_status as status_of_audit, file_status as status_of_file, status_of};
+ghost use Rattle.sudo_audit.specs.FaultLines.{fault_file, has_parts as two_have, part_text, text_file, IsAuditSaid, IsCollectSaid, IsDirectorySaid, IsFaultLine, IsFileSaid, IsLine, IsLoadSaid, IsParseSaid, IsRefusalSaid, IsRequestSaid, IsSaid, IsSenderSaid, IsSourceSaid, Tells};
+ghost use Rattle.sudo_audit.specs.Telling.{Complains, IsLost};
 
 use crate::lines::{push, push_path, push_shown};
 use audit_collect::{CollectFault, Refused, RosterFault, Unfinished};
-use audit_device::{Sink, write_all_of};
+use audit_device::{Sink, WriteFault, write_all_of};
 use audit_files::FileFault;
 use audit_run::AuditFault;
 use std::alloc::{AllocError, AllocFailed, Global};
@@ -38,12 +42,22 @@ pub enum Fault {
 }
 
 impl From<AllocError> for Fault {
+    ghost use Rattle.std.specs.Prelude.{◌≡◌};
+    ghost use Rattle.sudo_audit.specs.declared.fault.Fault.TheVariants.{Memory};
+
+    ghost from_gives = { λ _ e. e ≡ Memory };
+
     fn from(_: AllocError) -> Fault {
         Fault::Memory
     }
 }
 
 impl<T: Drop> From<AllocFailed<T>> for Fault {
+    ghost use Rattle.std.specs.Prelude.{◌≡◌};
+    ghost use Rattle.sudo_audit.specs.declared.fault.Fault.TheVariants.{Memory};
+
+    ghost from_gives = { λ _ e. e ≡ Memory };
+
     fn from(_: AllocFailed<T>) -> Fault {
         Fault::Memory
     }
@@ -53,8 +67,7 @@ impl Fault {
     /// The exit status: 1 where the policy is refused or has no such alias, 2 for a bad sender, 3 where the users, the hosts
     /// or the requests are refused, 4 where reading, writing, a thread or memory failed.
     pub fn status(&self) -> u8
-        ensures low { 0 < result }
-        ensures high { result ≤ 4 }
+        ensures { result ≡ status_of self.now }
     {
         match self {
             Fault::Refused(..) | Fault::NoSuchAlias(_) => 1,
@@ -70,8 +83,7 @@ impl Fault {
 
 /// The exit status for a file that is refused.
 fn file_status(fault: FileFault) -> u8
-    ensures low { 0 < result }
-    ensures high { result ≤ 4 }
+    ensures { result ≡ status_of_file fault }
 {
     match fault {
         FileFault::Read | FileFault::Memory => 4,
@@ -81,8 +93,7 @@ fn file_status(fault: FileFault) -> u8
 
 /// The exit status for an audit without a report.
 fn audit_status(fault: &AuditFault) -> u8
-    ensures low { 0 < result }
-    ensures high { result ≤ 4 }
+    ensures { result ≡ status_of_audit fault.now }
 {
     match fault {
         AuditFault::Sender { fault, .. } => file_status(*fault),
@@ -95,7 +106,9 @@ fn audit_status(fault: &AuditFault) -> u8
 }
 
 /// The number of the file in which a fault stands.
-fn file_of(fault: &ParseFault) -> u32 {
+fn file_of(fault: &ParseFault) -> u32
+    ensures { result ≡ fault_file fault.now }
+{
     match fault {
         ParseFault::Syntax { place, .. }
         | ParseFault::Unsupported { place, .. }
@@ -108,7 +121,9 @@ fn file_of(fault: &ParseFault) -> u32 {
 }
 
 /// The number of the file in which a fault of a text stands.
-fn text_file_of(fault: &TextFault) -> u32 {
+fn text_file_of(fault: &TextFault) -> u32
+    ensures { result ≡ text_file fault.now }
+{
     match fault {
         TextFault::BadQuote { place, .. }
         | TextFault::BadHex { place, .. }
@@ -125,7 +140,9 @@ fn push_parse_fault(
     line: &mut Vec<u8>,
     files: &[Seq<u8>],
     fault: &ParseFault,
-) -> Result<(), AllocError> {
+) -> Result<(), AllocError>
+    ensures { OnOk result (IsParseSaid files.now fault.now line.old.items line.new.items) }
+{
     push_path(line, files, file_of(fault))?;
     let mark = if matches!(fault, ParseFault::Text(TextFault::TooLong { .. })) {
         b": ".as_slice()
@@ -142,7 +159,9 @@ fn push_load_fault(
     line: &mut Vec<u8>,
     files: &[Seq<u8>],
     fault: &LoadFault,
-) -> Result<(), AllocError> {
+) -> Result<(), AllocError>
+    ensures { OnOk result (IsLoadSaid files.now fault.now line.old.items line.new.items) }
+{
     match fault {
         LoadFault::Parse(fault) => push_parse_fault(alloc, line, files, fault),
         LoadFault::TooNested { place } | LoadFault::TooMany { place } => {
@@ -153,7 +172,7 @@ fn push_load_fault(
         LoadFault::Missing { place, path } => {
             push_path(line, files, place.file)?;
             push(line, b":")?;
-            push_shown(alloc, line, place)?;
+            push_shown(alloc, line, &place.line)?;
             push(line, b": missing ")?;
             push(line, path.as_slice())
         }
@@ -182,21 +201,16 @@ fn sender_at(names: &[Seq<u8>], place: u32) -> Option<&Seq<u8>> {
 }
 
 /// Whether two sources have the name.
-fn has_parts(names: &[Seq<u8>], name: &Seq<u8>) -> bool {
-    let mut found = false;
-    for other in names {
-        if other == name {
-            if found {
-                return true;
-            }
-            found = true;
-        }
-    }
-    false
+fn has_parts(names: &[Seq<u8>], name: &Seq<u8>) -> bool
+    ensures { result ≡ two_have names.now name.now }
+{
+    names.iter().filter(|other| *other == name).count() > 1
 }
 
 /// Appends `sender NAME`, by the sender's place in the roster.
-fn push_sender(line: &mut Vec<u8>, names: &[Seq<u8>], place: u32) -> Result<(), AllocError> {
+fn push_sender(line: &mut Vec<u8>, names: &[Seq<u8>], place: u32) -> Result<(), AllocError>
+    ensures { OnOk result ((name : List ℕ) × (line.new.items ≡ line.old.items ++ codes "sender " ++ name)) }
+{
     push(line, b"sender ")?;
     match sender_at(names, place) {
         Some(name) => push(line, name.as_slice()),
@@ -210,7 +224,9 @@ fn push_request(
     line: &mut Vec<u8>,
     number: u32,
     what: &[u8],
-) -> Result<(), AllocError> {
+) -> Result<(), AllocError>
+    ensures { OnOk result (line.new.items ≡ line.old.items ++ codes ": request " ++ decimal number ++ what.now) }
+{
     push(line, b": request ")?;
     push_shown(alloc, line, &number)?;
     push(line, what)
@@ -222,7 +238,9 @@ fn push_refused(
     line: &mut Vec<u8>,
     names: &[Seq<u8>],
     refused: Refused,
-) -> Result<(), AllocError> {
+) -> Result<(), AllocError>
+    ensures { OnOk result (IsRefusalSaid refused line.old.items line.new.items) }
+{
     match refused {
         Refused::Double { sender, number } => {
             push_sender(line, names, sender)?;
@@ -249,7 +267,9 @@ fn push_collect(
     line: &mut Vec<u8>,
     names: &[Seq<u8>],
     fault: &CollectFault,
-) -> Result<(), AllocError> {
+) -> Result<(), AllocError>
+    ensures { OnOk result (IsCollectSaid fault.now line.old.items line.new.items) }
+{
     match fault {
         CollectFault::Roster(RosterFault::SenderTwice { name }) => {
             push(line, b"sender ")?;
@@ -270,23 +290,66 @@ fn push_collect(
     }
 }
 
+/// Appends ` part PART` where two sources have the name.
+fn push_part(
+    alloc: Global,
+    line: &mut Vec<u8>,
+    names: &[Seq<u8>],
+    name: &Seq<u8>,
+    part: u32,
+) -> Result<(), AllocError>
+    ensures { OnOk result (line.new.items ≡ line.old.items ++ part_text names.now name.now part) }
+{
+    if !has_parts(names, name) {
+        return Ok(());
+    }
+    push(line, b" part ")?;
+    push_shown(alloc, line, &part)
+}
+
+/// Appends `sender NAME: `, with the part where two sources have the name.
+fn push_owner(
+    alloc: Global,
+    line: &mut Vec<u8>,
+    names: &[Seq<u8>],
+    name: &Seq<u8>,
+    part: u32,
+) -> Result<(), AllocError>
+    ensures { OnOk result (line.new.items ≡ line.old.items ++ codes "sender " ++ name.now ++ part_text names.now name.now part ++ codes ": ") }
+{
+    push(line, b"sender ")?;
+    push(line, name.as_slice())?;
+    push_part(alloc, line, names, name, part)?;
+    push(line, b": ")
+}
+
+/// Appends the text of a source that is refused.
+fn push_source(
+    alloc: Global,
+    line: &mut Vec<u8>,
+    names: &[Seq<u8>],
+    name: &Seq<u8>,
+    part: u32,
+    fault: FileFault,
+) -> Result<(), AllocError>
+    ensures { OnOk result (IsSourceSaid names.now name.now part line.old.items line.new.items) }
+{
+    push_owner(alloc, line, names, name, part)?;
+    push_shown(alloc, line, &fault)
+}
+
 /// Appends the text of an audit without a report.
 fn push_audit(
     alloc: Global,
     line: &mut Vec<u8>,
     names: &[Seq<u8>],
     fault: &AuditFault,
-) -> Result<(), AllocError> {
+) -> Result<(), AllocError>
+    ensures { OnOk result (IsAuditSaid names.now fault.now line.old.items line.new.items) }
+{
     match fault {
         AuditFault::Sender { name, part, fault } => {
-            push(line, b"sender ")?;
-            push(line, name.as_slice())?;
-            if has_parts(names, name) {
-                push(line, b" part ")?;
-                push_shown(alloc, line, part)?;
-            }
-            push(line, b": ")?;
-            push_shown(alloc, line, fault)
+            push_source(alloc, line, names, name, *part, *fault)
         }
         AuditFault::Collect(fault) => push_collect(alloc, line, names, fault),
         AuditFault::NoThread => push(line, b"no thread"),
@@ -296,7 +359,9 @@ fn push_audit(
 }
 
 /// Appends the text of why rows make no directory.
-fn push_directory(line: &mut Vec<u8>, fault: &DirFault) -> Result<(), AllocError> {
+fn push_directory(line: &mut Vec<u8>, fault: &DirFault) -> Result<(), AllocError>
+    ensures { OnOk result (IsDirectorySaid fault.now line.old.items line.new.items) }
+{
     let (before, name, after) = match fault {
         DirFault::UserTwice { name } => (
             b"user ".as_slice(),
@@ -336,7 +401,9 @@ fn push_file(
     line: &mut Vec<u8>,
     file: &[u8],
     fault: FileFault,
-) -> Result<(), AllocError> {
+) -> Result<(), AllocError>
+    ensures { OnOk result (IsFileSaid file.now fault line.old.items line.new.items) }
+{
     if fault == FileFault::Memory {
         return push(line, b"out of memory");
     }
@@ -345,7 +412,9 @@ fn push_file(
 }
 
 /// Appends the text of a fault.
-fn push_fault(alloc: Global, line: &mut Vec<u8>, fault: &Fault) -> Result<(), AllocError> {
+fn push_fault(alloc: Global, line: &mut Vec<u8>, fault: &Fault) -> Result<(), AllocError>
+    ensures { OnOk result (IsSaid fault.now line.old.items line.new.items) }
+{
     match fault {
         Fault::CannotRead(path) => {
             push(line, b"cannot read ")?;
@@ -374,7 +443,9 @@ fn push_fault(alloc: Global, line: &mut Vec<u8>, fault: &Fault) -> Result<(), Al
 }
 
 /// The line of a fault.
-fn fault_line(alloc: Global, fault: &Fault) -> Result<Vec<u8>, AllocError> {
+fn fault_line(alloc: Global, fault: &Fault) -> Result<Vec<u8>, AllocError>
+    ensures { IfOk result (λ line. IsFaultLine fault.now line.items) }
+{
     let mut line = Vec::new(alloc);
     push(&mut line, b"sudo_audit: ")?;
     push_fault(alloc, &mut line, fault)?;
@@ -384,8 +455,8 @@ fn fault_line(alloc: Global, fault: &Fault) -> Result<Vec<u8>, AllocError> {
 
 /// Prints a fault on one line and gives its status. A line that cannot be printed is left out.
 pub fn complain<E: Sink>(alloc: Global, fault: &Fault, err: &mut E) -> u8
-    ensures low { 0 < result }
-    ensures high { result ≤ 4 }
+    ensures status { result ≡ status_of fault.now }
+    ensures told { E.stalled_writes err.new ≡ E.stalled_writes err.old → Tells (IsLine fault.now) (E.taken err.old) (E.taken err.new) }
 {
     let printed = match fault_line(alloc, fault) {
         Ok(line) => write_all_of(err, &line),
@@ -393,4 +464,32 @@ pub fn complain<E: Sink>(alloc: Global, fault: &Fault, err: &mut E) -> u8
     };
     let _ = printed;
     fault.status()
+}
+
+/// Prints bytes on `out` and gives this status. A write that fails is a fault.
+pub(crate) fn hand_out<O: Sink, E: Sink>(
+    alloc: Global,
+    bytes: &[u8],
+    status: u8,
+    out: &mut O,
+    err: &mut E,
+) -> u8
+    ensures which { (result ≡ status) ⊎ (result ≡ 4) }
+    ensures whole { result ≢ 4 → Appends (O.taken out.old) (O.taken out.new) bytes.now }
+    ensures went { O.stalled_writes out.new ≡ O.stalled_writes out.old → (result ≡ status) × Appends (O.taken out.old) (O.taken out.new) bytes.now × (E.taken err.new ≡ E.taken err.old) }
+    ensures lost { O.stalled_writes out.new ≢ O.stalled_writes out.old → Complains IsLost result (E.stalled_writes err.new ≡ E.stalled_writes err.old) (E.taken err.old) (E.taken err.new) }
+{
+    match write_all_of(out, bytes) {
+        Ok(()) => status,
+        Err(WriteFault { written }) => complain(alloc, &Fault::Write { written }, err),
+    }
+}
+
+/// Prints the lines of a policy's errors as far as that goes, and gives the status of a policy that is refused.
+pub(crate) fn print_errors<E: Sink>(lines: &[u8], err: &mut E) -> u8
+    ensures status { result ≡ 1 }
+    ensures told { E.stalled_writes err.new ≡ E.stalled_writes err.old → Appends (E.taken err.old) (E.taken err.new) lines.now }
+{
+    let _ = write_all_of(err, lines);
+    1
 }

@@ -1,7 +1,7 @@
 //! A policy from its files.
-ghost use Rattle.std.specs.Prelude.{◌≡◌, Some, IfOk, OnOk};
+ghost use Rattle.std.specs.Prelude.{◌≡◌, Some, IfErr, IfOk, OnOk};
 ghost use Rattle.sudo_audit.specs.Holding.{AreHeld, HoldsFile, IsHeld};
-ghost use Rattle.sudo_audit.specs.Loading.{IsLoaded};
+ghost use Rattle.sudo_audit.specs.Loading.{IsLoaded, IsNoPolicy, IsUnread};
 
 use crate::fault::Fault;
 use crate::files::{Files, FilesFault};
@@ -14,10 +14,22 @@ use sudo_tree::Policy;
 const MOST_CALLS: usize = 2048;
 
 /// Why a file or a folder is not handed in.
-fn unread(path: Seq<u8>, fault: FilesFault) -> Fault {
+fn unread(path: Seq<u8>, fault: FilesFault) -> Fault
+    ensures { IsUnread result }
+{
     match fault {
         FilesFault::Failed => Fault::CannotRead(path),
         FilesFault::Memory => Fault::Memory,
+    }
+}
+
+/// Why the main file cannot be read.
+fn unread_main(alloc: Global, path: &[u8]) -> Fault
+    ensures { IsUnread result }
+{
+    match Seq::from_slice(alloc, path) {
+        Ok(path) => Fault::CannotRead(path),
+        Err(_) => Fault::Memory,
     }
 }
 
@@ -25,6 +37,7 @@ fn unread(path: Seq<u8>, fault: FilesFault) -> Fault {
 fn fetch<F: Files>(alloc: Global, files: &mut F, want: Want) -> Result<Supply, Fault>
     ensures held { IfOk result (IsHeld (F.held files.old)) }
     ensures same { F.held files.new ≡ F.held files.old }
+    ensures fault { IfErr result IsUnread }
 {
     match want {
         Want::File(path) => match files.file(alloc, path.as_slice()) {
@@ -42,17 +55,11 @@ fn fetch<F: Files>(alloc: Global, files: &mut F, want: Want) -> Result<Supply, F
 fn main_text<F: Files>(alloc: Global, files: &mut F, path: &[u8]) -> Result<Seq<u8>, Fault>
     ensures held { IfOk result (λ text. HoldsFile (F.held files.old) path.now (Some text)) }
     ensures same { F.held files.new ≡ F.held files.old }
+    ensures fault { IfErr result IsUnread }
 {
     match files.file(alloc, path) {
         Ok(Some(text)) => Ok(text),
-        Ok(None) => match Seq::from_slice(alloc, path) {
-            Ok(path) => Err(Fault::CannotRead(path)),
-            Err(_) => Err(Fault::Memory),
-        },
-        Err(FilesFault::Failed) => match Seq::from_slice(alloc, path) {
-            Ok(path) => Err(Fault::CannotRead(path)),
-            Err(_) => Err(Fault::Memory),
-        },
+        Ok(None) | Err(FilesFault::Failed) => Err(unread_main(alloc, path)),
         Err(FilesFault::Memory) => Err(Fault::Memory),
     }
 }
@@ -111,6 +118,7 @@ fn read_one<F: Files>(
     requires { AreHeld (F.held files.old) supplies.old.items }
     ensures held { OnOk result (AreHeld (F.held files.new) supplies.new.items) }
     ensures same { F.held files.new ≡ F.held files.old }
+    ensures fault { IfErr result IsUnread }
 {
     match fetch(alloc, files, want) {
         Ok(supply) => {
@@ -131,6 +139,7 @@ fn read_ahead<F: Files>(
 ) -> Result<Vec<Supply>, Fault>
     ensures held { IfOk result (λ handed. AreHeld (F.held files.new) handed.items) }
     ensures same { F.held files.new ≡ F.held files.old }
+    ensures fault { IfErr result IsUnread }
 {
     let mut supplies = Vec::new(alloc);
     let mut pending = included(alloc, path, text)?;
@@ -155,6 +164,7 @@ fn push_wanted<F: Files>(
     requires { AreHeld (F.held files.old) supplies.old.items }
     ensures held { OnOk result (AreHeld (F.held files.new) supplies.new.items) }
     ensures same { F.held files.new ≡ F.held files.old }
+    ensures fault { IfErr result IsUnread }
 {
     Ok(supplies.push(fetch(alloc, files, want)?)?)
 }
@@ -171,6 +181,7 @@ fn hand_in<F: Files>(
     requires { AreHeld (F.held files.old) supplies.old.items }
     ensures held { OnOk result (AreHeld (F.held files.new) supplies.new.items) }
     ensures same { F.held files.new ≡ F.held files.old }
+    ensures fault { IfErr result IsUnread }
 {
     if supplies.is_empty() {
         *supplies = read_ahead(alloc, files, path, text)?;
@@ -187,7 +198,8 @@ pub(crate) fn policy_of<F: Files>(
     path: &[u8],
     files: &mut F,
 ) -> Result<Policy, Fault>
-    ensures { IfOk result (λ policy. IsLoaded (F.held files.old) path.now policy) }
+    ensures loaded { IfOk result (λ policy. IsLoaded (F.held files.old) path.now policy) }
+    ensures fault { IfErr result (IsNoPolicy (F.held files.old) path.now) }
 {
     let text = main_text(alloc, files, path)?;
     let text = text.as_slice();

@@ -1,14 +1,17 @@
-use Rattle.std.proofs.Common.{◌∙◌, sym, ap}
-use Rattle.sudo_policy.specs.Found.{has_error}
+use Rattle.std.proofs.Common.{◌≡◌, subst}
+use Rattle.sudo_audit.specs.Telling.{check_status, check_text}
 use Rattle.sudo_audit.proofs.check.examined.Goals as goal
 
-pub returns : goal.returns
-returns g c = λ e. (
-  c.in_ok-policy.policy,
-  c.in_ok-policy.ensures,
-  record {
-    found = c.in_ok-found.found.items;
-    are = c.in_ok-found.ensures;
-    none = ap has_error (sym c.deref-2.ensures.value) ∙ (sym c.has_error.ensures ∙ c.if-has_error.false);
-  },
-)
+pub returns-clause-printed : goal.returns-clause-printed
+returns-clause-printed g c =
+    let printed = c.in_ok-examined_lines.field-0 in
+    record {
+      policy = c.in_ok-policy.policy;
+      loaded = c.in_ok-policy.ensures.loaded;
+      found = c.in_ok-found.found.items;
+      are = c.in_ok-found.ensures;
+      text_is =
+          subst (λ files. printed.lines.items ≡ check_text files c.in_ok-found.found.items) c.as_slice.ensures
+          (subst (λ found. printed.lines.items ≡ check_text c.as_slice.result.now found) c.deref.ensures.value c.in_ok-examined_lines.ensures.text);
+      status_is = subst (λ found. printed.status ≡ check_status found) c.deref.ensures.value c.in_ok-examined_lines.ensures.status;
+    }
