@@ -245,8 +245,11 @@ impl Postings {
         ensures within { result ≤ end }
         ensures none { (rule : ℕ) → result ≤ rule → rule < end → misses self.now.lists.items rule user.now ≡ true }
     {
-        let mut last = self
-            .end_at(EVERYONE, end)
+        let for_everyone = self.end_at(EVERYONE, end);
+        if for_everyone == end {
+            return end;
+        }
+        let mut last = for_everyone
             .max(self.end_at(user_number(user.name.as_slice()), end))
             .max(self.end_at(uid_number(user.uid), end));
         let mut left = user.groups.as_slice();

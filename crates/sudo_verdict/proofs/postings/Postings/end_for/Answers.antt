@@ -6,14 +6,14 @@ use Rattle.sudo_verdict.proofs.postings.Postings.end_for.Goals as goal
 
 pub loop-group-init : goal.loop-group-init
 loop-group-init c = record {
-  within = let one = c.end_at.ensures.within in let two = c.end_at-2.ensures.within in let three = c.end_at-3.ensures.within in
+  within = let one = c.end_at-for_everyone.ensures.within in let two = c.end_at.ensures.within in let three = c.end_at-2.ensures.within in
       omega (arith, c.max.ensures, c.max-last.ensures, one, two, three);
   none = λ rule h m groups.
       let lists = c.args.self.now.lists.items in
       misses-all lists rule c.args.user.now
-      (ap not (c.end_at.ensures.none rule (omega (arith, c.max.ensures, c.max-last.ensures, h)) m))
-      (ap not (ap (λ k. posted lists k rule) (sym (c.user_number.ensures.value ∙ ap user_number c.as_slice.ensures)) ∙ c.end_at-2.ensures.none rule (omega (arith, c.max.ensures, c.max-last.ensures, h)) m))
-      (ap not (ap (λ k. posted lists k rule) (sym c.uid_number.ensures.value) ∙ c.end_at-3.ensures.none rule (omega (arith, c.max.ensures, c.max-last.ensures, h)) m))
+      (ap not (c.end_at-for_everyone.ensures.none rule (omega (arith, c.max.ensures, c.max-last.ensures, h)) m))
+      (ap not (ap (λ k. posted lists k rule) (sym (c.user_number.ensures.value ∙ ap user_number c.as_slice.ensures)) ∙ c.end_at.ensures.none rule (omega (arith, c.max.ensures, c.max-last.ensures, h)) m))
+      (ap not (ap (λ k. posted lists k rule) (sym c.uid_number.ensures.value) ∙ c.end_at-2.ensures.none rule (omega (arith, c.max.ensures, c.max-last.ensures, h)) m))
       (ap (list_all (misses_group lists rule)) (sym c.as_slice-left.ensures) ∙ groups);
 }
 
