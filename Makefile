@@ -1,9 +1,16 @@
-# Both targets do all the set-up there is on a machine that has the Rattle toolchain.
-.PHONY: test run
+# All targets do all the set-up there is on a machine that has the Rattle toolchain.
+.PHONY: test run tools-test
 
-# Proves every crate from nothing, tries the wrong bodies in must-fail/, and runs the tests and the program.
-test:
+# Runs the tests of the tools, proves every crate from nothing, tries the wrong bodies in must-fail/, and runs the tests and
+# the program.
+test: tools-test
 	rt ci
+
+# Runs the tests of the commands in tools/. What they need is installed where that is allowed; else what is missing is told,
+# and what needs it is skipped.
+tools-test:
+	tools/tests/prepare
+	/usr/bin/python3 -m unittest discover -s tools/tests
 
 # Builds the program, checks the example policy, writes two of its aliases out, and audits the example's requests.
 run:
@@ -13,3 +20,5 @@ run:
 	cd crates/sudo_audit && rt run -- audit ../../examples/sudoers \
 		--users ../../examples/users.csv --hosts ../../examples/hosts.csv \
 		web=../../examples/web.csv ops=../../examples/ops-odd.csv ops=../../examples/ops-even.csv
+
+include packaging/install.mk

@@ -1,5 +1,6 @@
 -- What a pass gains, and what is gathered, step after step.
-use Rattle.std.proofs.Common.{◌≡◌, inl, inr, List, [], ◌∷◌, ◌++◌, map, sym, ap, ◌∙◌, ⊎_elim, refl, append_assoc, append-nil}
+use Rattle.std.proofs.Common.{◌≡◌, ℕ, inl, inr, List, [], ◌∷◌, ◌++◌, map, sym, ap, ◌∙◌, ⊎_elim, refl, arith, append_assoc, append-nil}
+use Rattle.audit_collect.proofs.Members.{count_by-append}
 use Rattle.std.proofs.lemmas.List.{map-append}
 use Rattle.audit_collect.specs.declared.arrival.Arrival.{Arrival}
 use Rattle.audit_run.specs.declared.gather.Gathering.{Gathering}
@@ -11,7 +12,7 @@ use Rattle.audit_handoff.specs.Names.{answer}
 use Rattle.audit_handoff.specs.Passes.{PassView, with_job_taken, with_outcome_put, with_job_put}
 use Rattle.audit_run.specs.Passes.{gaining}
 use Rattle.audit_outcome.specs.Arrivals.{arrivals_of}
-use Rattle.audit_run.specs.Gathered.{comes_of, IsOutOfMemory, Gathers, Conducts, Drains}
+use Rattle.audit_run.specs.Gathered.{comes_of, is_end, is_stopped, IsOutOfMemory, Counts, Gathers, Conducts, HasConducted, Drains}
 
 pub gaining_none : (p : PassView) → gaining p [] [] [] [] ≡ p
 gaining_none p = λ i. record p { jobs_put = append-nil p.jobs_put i; jobs_taken = append-nil p.jobs_taken i; outcomes_put = append-nil p.outcomes_put i; outcomes_taken = append-nil p.outcomes_taken i }
@@ -41,25 +42,45 @@ gathers_more g h k xs ys one two = record {
       two.same;
 }
 
+pub counts_none : (g : Gathering) → Counts g [] g
+counts_none g = record { sources = omega arith; workers = omega arith }
+
+pub counts_more : (g h k : Gathering) (xs ys : List Outcome) → Counts g xs h → Counts h ys k → Counts g (xs ++ ys) k
+counts_more g h k xs ys one two = record {
+  sources = omega (arith, count_by-append is_end xs ys, one.sources, two.sources);
+  workers = omega (arith, count_by-append is_stopped xs ys, one.workers, two.workers);
+}
+
 pub conducts_none : (p : PassView) (g : Gathering) → Conducts p g [] p g
-conducts_none p g = record { outcomes = []; pass = sym (gaining_none p); gathered = gathers_none g }
+conducts_none p g = record { outcomes = []; pass = sym (gaining_none p); gathered = gathers_none g; counted = counts_none g }
 
 pub conducts_more : (p q r : PassView) (g h k : Gathering) (js ks : List Job) → Conducts p g js q h → Conducts q h ks r k → Conducts p g (js ++ ks) r k
 conducts_more p q r g h k js ks one two = record {
   outcomes = one.outcomes ++ two.outcomes;
   pass = two.pass ∙ (ap (λ x. gaining x ks [] [] two.outcomes) one.pass ∙ gaining_more p js [] [] one.outcomes ks [] [] two.outcomes);
   gathered = gathers_more g h k one.outcomes two.outcomes one.gathered two.gathered;
+  counted = counts_more g h k one.outcomes two.outcomes one.counted two.counted;
+}
+
+-- it does not matter how many threads ran
+pub conducted : (p q : PassView) (g h : Gathering) (js : List Job) (sources workers : ℕ)
+    → Conducts p (record g { sources_running = sources; workers_running = workers }) js q h → HasConducted p g js q h
+conducted p q g h js sources workers one = record {
+  outcomes = one.outcomes;
+  pass = one.pass;
+  gathered = record { stuck = one.gathered.stuck; same = one.gathered.same };
 }
 
 -- the pass was as it is now
 pub conducts_from : (p q r : PassView) (g h : Gathering) (js : List Job) → q ≡ p → Conducts q g js r h → Conducts p g js r h
-conducts_from p q r g h js same one = record { outcomes = one.outcomes; pass = one.pass ∙ ap (λ x. gaining x js [] [] one.outcomes) same; gathered = one.gathered }
+conducts_from p q r g h js same one = record { outcomes = one.outcomes; pass = one.pass ∙ ap (λ x. gaining x js [] [] one.outcomes) same; gathered = one.gathered; counted = one.counted }
 
 pub conducts_put : (p q r : PassView) (g h : Gathering) (js : List Job) (job : Job) → Conducts p g js q h → r ≡ with_job_put q job → Conducts p g (js ++ job ∷ []) r h
 conducts_put p q r g h js job one put = record {
   outcomes = one.outcomes;
   pass = put ∙ (ap (λ x. with_job_put x job) one.pass ∙ (λ i. record p { jobs_put = append_assoc p.jobs_put js (job ∷ []) i; jobs_taken = p.jobs_taken ++ []; outcomes_put = p.outcomes_put ++ []; outcomes_taken = p.outcomes_taken ++ one.outcomes }));
   gathered = one.gathered;
+  counted = one.counted;
 }
 
 pub drains_none : (names : Names) (p : PassView) (g : Gathering) → Drains names p g p g

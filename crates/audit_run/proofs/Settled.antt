@@ -6,7 +6,9 @@ use Rattle.audit_files.specs.Files.{States}
 use Rattle.audit_files.specs.Requests.{sent}
 use Rattle.std.proofs.lemmas.List.{map-append}
 use Rattle.std.proofs.lemmas.List.Sorted.{IsPermutation-map, IsPermutation-trans}
+use Rattle.audit_collect.specs.Complete.{IsReportOf}
 use Rattle.audit_collect.specs.Held.{Held, after, start}
+use Rattle.audit_collect.proofs.CompleteLaw.{finished_report}
 use Rattle.audit_collect.specs.Roster.{IsRoster}
 use Rattle.audit_collect.specs.declared.arrival.Arrival.{Arrival}
 use Rattle.audit_collect.specs.declared.fault.Refused.{Refused}
@@ -31,7 +33,7 @@ use Rattle.audit_outcome.proofs.Holding.{lacking, whole as whole_sources}
 use Rattle.audit_outcome.proofs.Owned.{all_owned, all_rise}
 use Rattle.audit_outcome.proofs.Refusing.{refused_of_sources}
 use Rattle.audit_outcome.proofs.Reporting.{reported}
-use Rattle.audit_run.specs.Audited.{Audited, IsOutcome, Ran, most_parts}
+use Rattle.audit_run.specs.Audited.{Audited, IsOutcome, IsReportOfArrived, Ran, most_parts}
 use Rattle.audit_run.specs.Concluded.{Answers, RefusesSenders}
 use Rattle.audit_outcome.specs.Arrivals.{arrivals_of}
 use Rattle.audit_run.specs.Gathered.{comes_of, IsOutOfMemory, Gathers, Drains}
@@ -102,7 +104,7 @@ any_arrivals sources faults comes (Ok report) a = absurd (ok_or_err _ _ a.1.1)
   where
     ok_or_err : (x : Refused) (held : List Held) → Err x ≡ Ok held → ⊥
     ok_or_err x held e = cc
-any_arrivals sources faults comes (Err (Sender name part fault)) a = a
+any_arrivals sources faults comes (Err (Sender name part fault)) a = absurd (a.1 refl)
 any_arrivals sources faults comes (Err (Collect (collect.Roster why))) a = a
 any_arrivals sources faults comes (Err (Collect (collect.Refused refused.Memory))) a = a
 any_arrivals sources faults comes (Err (Collect (collect.Refused (refused.Stranger s)))) a = absurd (let e = a.1 in cc)
@@ -140,7 +142,7 @@ come_to names sources told states workers outcomes (Ok report) read all (sound, 
   whole_sources names (roster sources) workers (owned sources states) outcomes all held ran finished,
   subst (IsReport names (roster sources) (owned sources states)) (sym is) (reported names (roster sources) workers (owned sources states) outcomes all held ran finished),
 )
-come_to names sources told states workers outcomes (Err (Sender name part fault)) read all a = a
+come_to names sources told states workers outcomes (Err (Sender name part fault)) read all a = a.0
 come_to names sources told states workers outcomes (Err (Collect (collect.Roster why))) read all a = a
 come_to names sources told states workers outcomes (Err (Collect (collect.Refused refused.Memory))) read all a = absurd a
 come_to names sources told states workers outcomes (Err (Collect (collect.Refused (refused.Stranger s)))) read all a = (a.0, refused_by names sources told states workers outcomes (refused.Stranger s) read all a.1)
@@ -154,6 +156,13 @@ come_to names sources told states workers outcomes (Err NoThread) read all a = t
 come_to names sources told states workers outcomes (Err Memory) read all a = tt
 come_to names sources told states workers outcomes (Err TooManyParts) read all a = absurd a
 
+-- where there is a report, the arrivals are complete
+arrived_of : (sources : List (List ℕ)) (faults : List (Option FileFault)) (outcomes : List Outcome) (result : Result Report AuditFault)
+    → Answers sources faults (after (start (roster sources)) (arrivals_of outcomes)) result → IsReportOfArrived sources outcomes result
+arrived_of sources faults outcomes (Ok report) (sound, (held, ran, finished, is)) =
+    subst (IsReportOf (roster sources) (arrivals_of outcomes)) (sym is) (finished_report (roster sources) (arrivals_of outcomes) held ran finished)
+arrived_of sources faults outcomes (Err fault) a = tt
+
 -- an answer of a run
 audited : (names : Names) (sources : List (List ℕ)) (told : List (Option Ahead)) (workers : ℕ) (old new : PassView) (faults : List (Option FileFault)) (comes : Result (List Held) Refused) (result : Result Report AuditFault)
     → Answers sources faults comes result → Ran names sources told workers old new result → Audited names sources told workers old new result
@@ -164,7 +173,7 @@ audited names sources told workers old new faults comes (Err (Collect (collect.R
 audited names sources told workers old new faults comes (Err (Collect (collect.Roster (roster_fault.SenderTwice name)))) a ran = absurd a
 audited names sources told workers old new faults comes (Err (Collect (collect.Refused why))) a ran = ran
 audited names sources told workers old new faults comes (Err (Collect (collect.Unfinished what))) a ran = ran
-audited names sources told workers old new faults comes (Err NoThread) a ran = tt
+audited names sources told workers old new faults comes (Err NoThread) a ran = (ran.few, ran.is_roster)
 audited names sources told workers old new faults comes (Err Memory) a ran = tt
 audited names sources told workers old new faults comes (Err TooManyParts) a ran = absurd a
 
@@ -218,6 +227,7 @@ settled names sources told count workers p p1 p2 p3 crew ended g result few is_r
       gained = ap (λ (x : PassView). x.outcomes_taken) three;
       all = all_answered names p p3 put taken outcomes three empty nothing;
       outcome = come_to names sources told states workers outcomes result stated.1 (all_answered names p p3 put taken outcomes three empty nothing) decided;
+      arrived = arrived_of sources (faults_of states) outcomes result decided;
       whole = ap (λ (x : PassView). x.weight) three ∙ whole;
       same_handoff = ap (λ (x : PassView). x.handoff) three;
       same_names = ap (λ (x : PassView). x.names) three;

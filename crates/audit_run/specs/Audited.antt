@@ -1,5 +1,6 @@
 -- What an audit answers, and what it leaves.
 use Rattle.std.specs.Prelude.{◌≡◌, ℕ, ◌<◌, ◌≤◌, ◌++◌, ⊤, List, map, length, slice_get, Option, Some, None, Result, Ok, Err, IsPermutation}
+use Rattle.audit_collect.specs.Complete.{IsReportOf}
 use Rattle.audit_collect.specs.Roster.{IsRoster, most_senders}
 use Rattle.audit_collect.specs.declared.fault.CollectFault.TheVariants as collect
 use Rattle.audit_collect.specs.declared.fault.RosterFault.TheVariants as roster_fault
@@ -13,6 +14,7 @@ use Rattle.audit_handoff.specs.Names.{answer}
 use Rattle.audit_handoff.specs.Passes.{PassView, IsEmpty, IsWhole}
 use Rattle.audit_run.specs.declared.fault.AuditFault.{AuditFault}
 use Rattle.audit_run.specs.declared.fault.AuditFault.TheVariants.{Sender, Collect, NoThread, Memory, TooManyParts}
+use Rattle.audit_outcome.specs.Arrivals.{arrivals_of}
 use Rattle.audit_outcome.specs.Outcome.{AreWhole, HaveRefused, IsReport, Lack}
 use Rattle.audit_outcome.specs.Parts.{AreRead, Stated, faults_of, owned, run_jobs}
 use Rattle.audit_outcome.specs.Roster.{part_at, roster}
@@ -40,13 +42,23 @@ IsOfFile file.TooMany = ⊤
 IsOfFile file.Read = ⊤
 IsOfFile file.Memory = ⊥
 
+-- This is the first source that is refused: its name, its number among the sources of that name, and why.
+abbrev pub IsRefusedSource : List (List ℕ) → List (Option FileFault) → List ℕ → ℕ → FileFault → Type 0
+IsRefusedSource sources faults name part fault =
+    (place : ℕ) × IsFirstFault faults place fault × IsOfFile fault
+    × (slice_get sources place ≡ Some name) × (part ≡ part_at sources place name)
+
+-- Where there is a report, what the workers put for the collector is a complete list of arrivals, and it is the report of them.
+abbrev pub IsReportOfArrived : List (List ℕ) → List Outcome → Result Report AuditFault → Type 0
+IsReportOfArrived sources outcomes (Ok report) = IsReportOf (roster sources) (arrivals_of outcomes) report
+IsReportOfArrived sources outcomes (Err fault) = ⊤
+
 -- What an audit of these sources answers, by what they state. The report, where each sender is whole over all its sources; else the
 -- first source, in their order, that is refused; else what a collector refuses or lacks. Of `NoThread` and `Memory` nothing is said.
 abbrev pub IsOutcome : Names → List (List ℕ) → List Stated → Result Report AuditFault → Type 0
 IsOutcome names sources states (Ok report) =
     NoneRefused (faults_of states) × AreWhole (length (roster sources)) (owned sources states) × IsReport names (roster sources) (owned sources states) report
-IsOutcome names sources states (Err (Sender name part fault)) =
-    (place : ℕ) × IsFirstFault (faults_of states) place fault × IsOfFile fault × (slice_get sources place ≡ Some name) × (part ≡ part_at sources place name)
+IsOutcome names sources states (Err (Sender name part fault)) = IsRefusedSource sources (faults_of states) name part fault
 IsOutcome names sources states (Err (Collect (collect.Roster why))) = ⊥
 IsOutcome names sources states (Err (Collect (collect.Refused why))) = NoneRefused (faults_of states) × HaveRefused (owned sources states) why
 IsOutcome names sources states (Err (Collect (collect.Unfinished what))) = NoneRefused (faults_of states) × Lack (length (roster sources)) (owned sources states) what
@@ -65,12 +77,14 @@ pub record Ran (names : Names) (sources : List (List ℕ)) (told : List (Option 
   pub gained : new.outcomes_taken ≡ old.outcomes_taken ++ outcomes
   pub all : IsPermutation (map (answer names) (run_jobs workers (owned sources states))) outcomes
   pub outcome : IsOutcome names sources states result
+  pub arrived : IsReportOfArrived sources outcomes result
   pub whole : IsWhole new
   pub same_handoff : new.handoff ≡ old.handoff
   pub same_names : new.names ≡ old.names
   pub empty : IsEmpty new
 
--- Faults of the roster come before any thread starts, and leave the pass as it was. After `NoThread` and `Memory` nothing is said.
+-- Faults of the roster come before any thread starts, and leave the pass as it was. `NoThread` comes only where they have none;
+-- of the pass nothing is said then, nor after `Memory`.
 abbrev pub Audited : Names → List (List ℕ) → List (Option Ahead) → ℕ → PassView → PassView → Result Report AuditFault → Type 0
 Audited names sources told workers old new (Ok report) = Ran names sources told workers old new (Ok report)
 Audited names sources told workers old new (Err (Sender name part fault)) = Ran names sources told workers old new (Err (Sender name part fault))
@@ -79,6 +93,6 @@ Audited names sources told workers old new (Err (Collect (collect.Roster roster_
 Audited names sources told workers old new (Err (Collect (collect.Roster (roster_fault.SenderTwice name)))) = ⊥
 Audited names sources told workers old new (Err (Collect (collect.Refused why))) = Ran names sources told workers old new (Err (Collect (collect.Refused why)))
 Audited names sources told workers old new (Err (Collect (collect.Unfinished what))) = Ran names sources told workers old new (Err (Collect (collect.Unfinished what)))
-Audited names sources told workers old new (Err NoThread) = ⊤
+Audited names sources told workers old new (Err NoThread) = (length sources ≤ most_parts) × IsRoster (roster sources)
 Audited names sources told workers old new (Err Memory) = ⊤
 Audited names sources told workers old new (Err TooManyParts) = (most_parts < length sources) × (new ≡ old)

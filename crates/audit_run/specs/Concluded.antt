@@ -12,7 +12,7 @@ use Rattle.audit_files.specs.declared.fault.FileFault.{FileFault}
 use Rattle.audit_outcome.specs.Roster.{part_at}
 use Rattle.audit_run.specs.declared.fault.AuditFault.{AuditFault}
 use Rattle.audit_run.specs.declared.fault.AuditFault.TheVariants.{Sender, Collect, NoThread, Memory, TooManyParts}
-use Rattle.audit_run.specs.Audited.{IsFirstFault, IsOfFile, NoneRefused}
+use Rattle.audit_run.specs.Audited.{IsRefusedSource, NoneRefused}
 
 -- why there is no collector for the senders
 abbrev pub RefusesSenders : List (List ℕ) → AuditFault → Type 0
@@ -27,10 +27,12 @@ RefusesSenders senders Memory = ⊤
 RefusesSenders senders TooManyParts = ⊥
 
 -- The answer where the threads ran. `faults` says why each source is refused, if it is, and `comes` what a collector holds
--- after all arrivals, or why it refuses the first one that it refuses. A refused source comes before all else.
+-- after all arrivals, or why it refuses the first one that it refuses. Memory that was refused comes before all else, then a
+-- refused source.
 abbrev pub Answers : List (List ℕ) → List (Option FileFault) → Result (List Held) Refused → Result Report AuditFault → Type 0
 Answers names faults comes (Ok report) = NoneRefused faults × ((held : List Held) × (comes ≡ Ok held) × AllFinished held × (report ≡ report_of held))
-Answers names faults comes (Err (Sender name part fault)) = (place : ℕ) × IsFirstFault faults place fault × IsOfFile fault × (slice_get names place ≡ Some name) × (part ≡ part_at names place name)
+Answers names faults comes (Err (Sender name part fault)) =
+    IsRefusedSource names faults name part fault × (comes ≡ Err refused.Memory → ⊥)
 Answers names faults comes (Err (Collect (collect.Roster why))) = ⊥
 Answers names faults comes (Err (Collect (collect.Refused refused.Memory))) = ⊥
 Answers names faults comes (Err (Collect (collect.Refused (refused.Stranger sender)))) = NoneRefused faults × (comes ≡ Err (refused.Stranger sender))

@@ -1,5 +1,5 @@
 -- What the caller's thread does: it takes outcomes and offers each arrival to one collector, up to the first refusal.
-use Rattle.std.specs.Prelude.{◌≡◌, ◌⊎◌, List, [], ◌++◌, map, Option, Some, None, Result, Err}
+use Rattle.std.specs.Prelude.{◌≡◌, ◌⊎◌, ℕ, ◌-◌, Bool, true, false, List, [], ◌++◌, map, count_by, Option, Some, None, Result, Err}
 use Rattle.audit_collect.specs.Held.{Held, after}
 use Rattle.audit_collect.specs.declared.arrival.Arrival.{Arrival}
 use Rattle.audit_collect.specs.declared.fault.Refused.{Refused}
@@ -7,8 +7,11 @@ use Rattle.audit_collect.specs.declared.fault.Refused.TheVariants.{Memory}
 use Rattle.audit_handoff.specs.declared.message.Job.{Job}
 use Rattle.audit_handoff.specs.declared.message.Names.{Names}
 use Rattle.audit_handoff.specs.declared.message.Outcome.{Outcome}
+use Rattle.audit_handoff.specs.declared.message.Outcome.TheVariants.{Arrived, End, Stopped}
 use Rattle.audit_handoff.specs.Names.{answer}
 use Rattle.audit_handoff.specs.Passes.{PassView}
+use Rattle.audit_run.specs.declared.gather.Awaited.{Awaited}
+use Rattle.audit_run.specs.declared.gather.Awaited.TheVariants.{Sources, Workers}
 use Rattle.audit_run.specs.declared.gather.Gathering.{Gathering}
 use Rattle.audit_outcome.specs.Arrivals.{arrivals_of}
 use Rattle.audit_run.specs.Passes.{gaining}
@@ -28,8 +31,41 @@ pub record Gathers (g : Gathering) (outcomes : List Outcome) (h : Gathering) : T
   pub stuck : IsOutOfMemory g → IsOutOfMemory h
   pub same : IsOutOfMemory h ⊎ ((rest : List Arrival) → comes_of g.collector g.refused (arrivals_of outcomes ++ rest) ≡ comes_of h.collector h.refused rest)
 
+-- whether an outcome is the last of a source
+abbrev pub is_end : Outcome → Bool
+is_end (Arrived arrival) = false
+is_end (End sender) = true
+is_end Stopped = false
+
+-- whether an outcome is the last of a worker
+abbrev pub is_stopped : Outcome → Bool
+is_stopped (Arrived arrival) = false
+is_stopped (End sender) = false
+is_stopped Stopped = true
+
+-- how many of the threads that are waited for still run
+abbrev pub running_of : Awaited → Gathering → ℕ
+running_of Sources g = g.sources_running
+running_of Workers g = g.workers_running
+
+-- each source and each worker whose last outcome is among these runs no longer
+pub record Counts (g : Gathering) (outcomes : List Outcome) (h : Gathering) : Type 0 where
+  pub sources : h.sources_running ≡ g.sources_running - count_by is_end outcomes
+  pub workers : h.workers_running ≡ g.workers_running - count_by is_stopped outcomes
+
+pub record HasSameCounts (g h : Gathering) : Type 0 where
+  pub sources : h.sources_running ≡ g.sources_running
+  pub workers : h.workers_running ≡ g.workers_running
+
 -- the pass has put these jobs, has taken outcomes, and these were gathered
 pub record Conducts (p : PassView) (g : Gathering) (jobs : List Job) (q : PassView) (h : Gathering) : Type 0 where
+  pub outcomes : List Outcome
+  pub pass : q ≡ gaining p jobs [] [] outcomes
+  pub gathered : Gathers g outcomes h
+  pub counted : Counts g outcomes h
+
+-- the same, whatever threads were waited for
+pub record HasConducted (p : PassView) (g : Gathering) (jobs : List Job) (q : PassView) (h : Gathering) : Type 0 where
   pub outcomes : List Outcome
   pub pass : q ≡ gaining p jobs [] [] outcomes
   pub gathered : Gathers g outcomes h

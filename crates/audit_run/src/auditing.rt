@@ -11,6 +11,7 @@ ghost use Rattle.audit_outcome.specs.Roster.{part_at};
 ghost use Rattle.audit_run.specs.Run.{HasRun, IsReady};
 ghost use Rattle.audit_run.specs.Work.{told_by};
 ghost use Rattle.audit_run.specs.declared.fault.AuditFault.TheVariants.{TooManyParts};
+ghost use Rattle.sudo_verdict.specs.Postings.{Indexes};
 
 use crate::conduct::{conduct, drain};
 use crate::crew::{Crew, Ended, muster};
@@ -30,8 +31,9 @@ use std::sync::Wait;
 use std::thread;
 use std::thread::{Scope, Threads};
 use sudo_match::Directory;
+use sudo_policy::Checked;
 use sudo_text::Seq;
-use sudo_verdict::Indexed;
+use sudo_verdict::RuleIndex;
 
 /// The most sources that an audit may have.
 pub const MOST_PARTS: usize = 256;
@@ -41,7 +43,8 @@ fn run<'s, 'e: 's, R: Threads + Wait + Sync, F: Feed + Drop + Send + 'e, G: Gate
     alloc: Global,
     rt: &'e R,
     scope: &Scope<'s, &'e ()>,
-    policy: &'e Indexed,
+    policy: &'e Checked,
+    index: &'e RuleIndex,
     directory: &'e Directory,
     handoff: &'e Handoff,
     gate: &'e G,
@@ -50,6 +53,7 @@ fn run<'s, 'e: 's, R: Threads + Wait + Sync, F: Feed + Drop + Send + 'e, G: Gate
     mut readers: Vec<ReaderHandle<F>>,
 ) -> Ended
     requires ready { IsReady handoff.now policy.now directory.now (vec_len parts) crew }
+    requires index { Indexes policy.now index.now }
     requires room { (vec_len readers ≡ 0) × (vec_len parts ≤ vec_capacity readers) }
     ensures { IsTrue result.all_started → HasRun (names_of policy.now directory.now) (map (λ p. told_by p.owner (F.ahead p.reader)) parts.items) (vec_len parts) crew result }
 {
@@ -67,6 +71,7 @@ fn run<'s, 'e: 's, R: Threads + Wait + Sync, F: Feed + Drop + Send + 'e, G: Gate
         handoff,
         worker_passes,
         policy,
+        index,
         directory,
         gate,
         &mut workers,
@@ -103,7 +108,8 @@ fn run<'s, 'e: 's, R: Threads + Wait + Sync, F: Feed + Drop + Send + 'e, G: Gate
 fn run_scoped<R: Threads + Wait + Sync, F: Feed + Drop + Send, G: Gate + Sync>(
     alloc: Global,
     rt: &R,
-    policy: &Indexed,
+    policy: &Checked,
+    index: &RuleIndex,
     directory: &Directory,
     handoff: &Handoff,
     gate: &G,
@@ -112,6 +118,7 @@ fn run_scoped<R: Threads + Wait + Sync, F: Feed + Drop + Send, G: Gate + Sync>(
     readers: Vec<ReaderHandle<F>>,
 ) -> Ended
     requires ready { IsReady handoff.now policy.now directory.now (vec_len parts) crew }
+    requires index { Indexes policy.now index.now }
     requires room { (vec_len readers ≡ 0) × (vec_len parts ≤ vec_capacity readers) }
     ensures { IsTrue result.all_started → HasRun (names_of policy.now directory.now) (map (λ p. told_by p.owner (F.ahead p.reader)) parts.items) (vec_len parts) crew result }
 {
@@ -120,11 +127,12 @@ fn run_scoped<R: Threads + Wait + Sync, F: Feed + Drop + Send, G: Gate + Sync>(
         rt,
         move |scope| -> Ended
             requires ready { IsReady handoff.now policy.now directory.now (vec_len parts) crew }
+            requires index { Indexes policy.now index.now }
             requires room { (vec_len readers ≡ 0) × (vec_len parts ≤ vec_capacity readers) }
             ensures { IsTrue result.all_started → HasRun (names_of policy.entry.now directory.entry.now) (map (λ p. told_by p.owner (F.ahead p.reader)) parts.items) (vec_len parts) crew result }
         {
             run(
-                alloc, rt, scope, policy, directory, handoff, gate, crew, parts, readers,
+                alloc, rt, scope, policy, index, directory, handoff, gate, crew, parts, readers,
             )
         },
     )
@@ -178,7 +186,7 @@ fn conclude(
     ensures { Answers names.items faults.now (comes_of gathering.collector gathering.refused []) result }
 {
     let mut names = names;
-    if wants_memory(faults) {
+    if wants_memory(faults) || matches!(gathering.refused, Some(Refused::Memory)) {
         return Err(AuditFault::Memory);
     }
     if let Some((place, fault)) = first_fault(faults) {
@@ -186,7 +194,11 @@ fn conclude(
         let name = names.swap_remove(place);
         return Err(AuditFault::Sender { name, part, fault });
     }
-    let Gathering { collector, refused } = gathering;
+    let Gathering {
+        collector,
+        refused,
+        ..
+    } = gathering;
     match refused {
         Some(Refused::Memory) => Err(AuditFault::Memory),
         Some(refused) => Err(AuditFault::Collect(CollectFault::Refused(refused))),
@@ -209,7 +221,7 @@ fn conclude(
 pub fn audit<R: Threads + Wait + Sync, F: Feed + Drop + Send, G: Gate + Sync>(
     alloc: Global,
     rt: &R,
-    policy: &Indexed,
+    policy: &Checked,
     directory: &Directory,
     handoff: &Handoff,
     pass: &mut Pass,
@@ -233,6 +245,7 @@ pub fn audit<R: Threads + Wait + Sync, F: Feed + Drop + Send, G: Gate + Sync>(
         Ok(entered) => entered,
         Err(fault) => return Err(fault),
     };
+    let index = RuleIndex::of(alloc, policy)?;
     let handles = Vec::with_capacity(alloc, parts.len())?;
     let crew = muster(
         alloc,
@@ -251,12 +264,21 @@ pub fn audit<R: Threads + Wait + Sync, F: Feed + Drop + Send, G: Gate + Sync>(
         faults,
         all_started,
     } = run_scoped(
-        alloc, rt, policy, directory, handoff, gate, crew, parts, handles,
+        alloc, rt, policy, &index, directory, handoff, gate, crew, parts, handles,
     );
     if !all_started {
         return Err(AuditFault::NoThread);
     }
     pass.join(rt, handoff, mine);
-    drain(rt, handoff, pass, &mut gathering, policy, directory, gate);
+    drain(
+        rt,
+        handoff,
+        pass,
+        &mut gathering,
+        policy,
+        &index,
+        directory,
+        gate,
+    );
     conclude(names, &faults, gathering)
 }

@@ -1,24 +1,27 @@
 //! The caller's part while the threads run: takes outcomes, offers arrivals, stops the workers.
-ghost use Rattle.std.specs.Prelude.{◌≡◌, [], ◌∷◌, IfNone, replicate};
+ghost use Rattle.std.specs.Prelude.{◌≡◌, [], ◌∷◌, false, replicate};
 ghost use Rattle.audit_handoff.specs.Names.{names_of};
 ghost use Rattle.audit_handoff.specs.Passes.{IsWhole, OutcomesLeft, JobsLeft};
 ghost use Rattle.audit_handoff.specs.declared.message.Job.TheVariants as job;
 ghost use Rattle.audit_handoff.specs.declared.message.Outcome.TheVariants.{Arrived};
-ghost use Rattle.audit_run.specs.Gathered.{Conducts, Drains, Gathers};
+ghost use Rattle.audit_run.specs.Gathered.{Conducts, Drains, Gathers, HasConducted, HasSameCounts, running_of};
+ghost use Rattle.sudo_verdict.specs.Postings.{Indexes};
 
 use crate::gate::Gate;
-use crate::gather::{Gathering, Taken};
+use crate::gather::{Awaited, Gathering};
 use crate::worker::answer_job;
 use audit_collect::Arrival;
 use audit_handoff::{Handoff, Job, Outcome, Pass};
 use std::sync::Wait;
 use std::thread;
 use sudo_match::Directory;
-use sudo_verdict::Indexed;
+use sudo_policy::Checked;
+use sudo_verdict::RuleIndex;
 
 /// Offers an arrival, unless one was refused before.
 fn offer(gathering: &mut Gathering, arrival: Arrival)
-    ensures { Gathers gathering.old (Arrived arrival ∷ []) gathering.new }
+    ensures gathers { Gathers gathering.old (Arrived arrival ∷ []) gathering.new }
+    ensures counts { HasSameCounts gathering.old gathering.new }
 {
     if gathering.refused.is_some() {
         return;
@@ -28,53 +31,52 @@ fn offer(gathering: &mut Gathering, arrival: Arrival)
     }
 }
 
-/// Takes an outcome and offers it. `None` where there was none at one moment of the call.
+/// Takes an outcome, and counts its thread as ended or offers its arrival. Returns whether there was one; there was none at
+/// one moment of the call if not.
 fn gather_one<R: Wait>(
     rt: &R,
     handoff: &Handoff,
     pass: &mut Pass,
     gathering: &mut Gathering,
-) -> Option<Taken>
+) -> bool
     requires { pass.old.handoff ≡ handoff.now }
     ensures taken { Conducts pass.old gathering.old [] pass.new gathering.new }
-    ensures left { IsWhole pass.old → IfNone result ((pass.new ≡ pass.old) × OutcomesLeft pass.old []) }
+    ensures left { IsWhole pass.old → result ≡ false → (pass.new ≡ pass.old) × OutcomesLeft pass.old [] }
 {
-    match handoff.take_outcome(rt, pass)? {
-        Outcome::Arrived(arrival) => {
-            offer(gathering, arrival);
-            Some(Taken::Arrival)
+    match handoff.take_outcome(rt, pass) {
+        None => return false,
+        Some(Outcome::Arrived(arrival)) => offer(gathering, arrival),
+        Some(Outcome::End { sender: _ }) => {
+            gathering.sources_running = gathering.sources_running.saturating_sub(1);
         }
-        Outcome::End { sender: _ } => Some(Taken::End),
-        Outcome::Stopped => Some(Taken::Stopped),
+        Some(Outcome::Stopped) => {
+            gathering.workers_running = gathering.workers_running.saturating_sub(1);
+        }
     }
+    true
 }
 
-/// Gathers until so many outcomes of this kind came.
-fn gather_until<R: Wait>(
+/// Gathers until none of these threads runs.
+fn gather_until_ended<R: Wait>(
     rt: &R,
     handoff: &Handoff,
     pass: &mut Pass,
     gathering: &mut Gathering,
-    kind: Taken,
-    count: usize,
+    awaited: Awaited,
 )
     requires { pass.old.handoff ≡ handoff.now }
-    ensures { Conducts pass.old gathering.old [] pass.new gathering.new }
+    ensures taken { Conducts pass.old gathering.old [] pass.new gathering.new }
+    ensures ended { running_of awaited gathering.new ≡ 0 }
 {
-    let mut seen = 0;
     for _ in rt.forever() {
-        if seen >= count {
-            break;
+        if gathering.running(awaited) == 0 {
+            return;
         }
-        match gather_one(rt, handoff, pass, gathering) {
-            Some(taken) => {
-                if taken == kind {
-                    seen += 1;
-                }
-            }
-            None => thread::yield_now(),
+        if !gather_one(rt, handoff, pass, gathering) {
+            thread::yield_now();
         }
     }
+    unreachable!()
 }
 
 /// Puts `Stop`. While the jobs are full, an outcome is gathered between tries.
@@ -86,7 +88,7 @@ fn put_stop<R: Wait>(rt: &R, handoff: &Handoff, pass: &mut Pass, gathering: &mut
         match handoff.put_job(rt, pass, Job::Stop) {
             Ok(()) => return,
             Err(_full) => {
-                if gather_one(rt, handoff, pass, gathering).is_none() {
+                if !gather_one(rt, handoff, pass, gathering) {
                     thread::yield_now();
                 }
             }
@@ -110,21 +112,25 @@ fn put_stops<R: Wait>(
     }
 }
 
-/// Gathers until each sender has ended, stops the workers, and gathers until each has stopped.
+/// Gathers until each source has ended, stops the workers, and gathers until each has stopped. Each outcome is counted when
+/// it is taken, so it does not matter in which order they come.
 pub fn conduct<R: Wait>(
     rt: &R,
     handoff: &Handoff,
     pass: &mut Pass,
     gathering: &mut Gathering,
-    senders: usize,
+    sources: usize,
     workers: usize,
 )
     requires { pass.old.handoff ≡ handoff.now }
-    ensures { Conducts pass.old gathering.old (replicate workers job.Stop) pass.new gathering.new }
+    ensures taken { HasConducted pass.old gathering.old (replicate workers job.Stop) pass.new gathering.new }
+    ensures ended { (gathering.new.sources_running ≡ 0) × (gathering.new.workers_running ≡ 0) }
 {
-    gather_until(rt, handoff, pass, gathering, Taken::End, senders);
+    gathering.sources_running = sources;
+    gathering.workers_running = workers;
+    gather_until_ended(rt, handoff, pass, gathering, Awaited::Sources);
     put_stops(rt, handoff, pass, gathering, workers);
-    gather_until(rt, handoff, pass, gathering, Taken::Stopped, workers);
+    gather_until_ended(rt, handoff, pass, gathering, Awaited::Workers);
 }
 
 /// Gathers until there is no outcome.
@@ -134,7 +140,7 @@ fn gather_rest<R: Wait>(rt: &R, handoff: &Handoff, pass: &mut Pass, gathering: &
     ensures left { IsWhole pass.old → OutcomesLeft pass.new [] }
 {
     for _ in rt.forever() {
-        if gather_one(rt, handoff, pass, gathering).is_none() {
+        if !gather_one(rt, handoff, pass, gathering) {
             return;
         }
     }
@@ -147,19 +153,21 @@ pub fn drain<R: Wait, G: Gate>(
     handoff: &Handoff,
     pass: &mut Pass,
     gathering: &mut Gathering,
-    policy: &Indexed,
+    policy: &Checked,
+    index: &RuleIndex,
     directory: &Directory,
     gate: &G,
 )
     requires pass { pass.old.handoff ≡ handoff.now }
     requires names { pass.old.names ≡ names_of policy.now directory.now }
+    requires index { Indexes policy.now index.now }
     ensures taken { Drains (names_of policy.now directory.now) pass.old gathering.old pass.new gathering.new }
     ensures left { IsWhole pass.old → JobsLeft pass.new [] × OutcomesLeft pass.new [] }
 {
     for _ in rt.forever() {
         gather_rest(rt, handoff, pass, gathering);
         match handoff.take_job(rt, pass) {
-            Some(job) => answer_job(rt, handoff, pass, policy, directory, gate, job),
+            Some(job) => answer_job(rt, handoff, pass, policy, index, directory, gate, job),
             None => return,
         }
     }

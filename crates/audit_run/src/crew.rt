@@ -13,7 +13,7 @@ use audit_handoff::{Handoff, Pass};
 use std::alloc::{AllocError, Global};
 use std::sync::Wait;
 use sudo_match::Directory;
-use sudo_verdict::Indexed;
+use sudo_policy::Checked;
 
 /// What a run begins with: a pass for the caller and one for each thread, and room for what the threads leave.
 #[derive(Drop)]
@@ -58,7 +58,7 @@ fn split_passes<R: Wait>(
 pub fn muster<R: Wait>(
     alloc: Global,
     rt: &R,
-    policy: &Indexed,
+    policy: &Checked,
     directory: &Directory,
     handoff: &Handoff,
     pass: &mut Pass,
@@ -82,6 +82,8 @@ pub fn muster<R: Wait>(
         gathering: Gathering {
             collector,
             refused: None,
+            sources_running: 0,
+            workers_running: 0,
         },
         source_passes,
         worker_passes,

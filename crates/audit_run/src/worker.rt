@@ -4,6 +4,7 @@ ghost use Rattle.audit_handoff.specs.Names.{names_of, answer, IsRight};
 ghost use Rattle.audit_handoff.specs.Passes.{with_outcome_put};
 ghost use Rattle.audit_handoff.specs.declared.message.Job.{Job};
 ghost use Rattle.audit_run.specs.Work.{worked};
+ghost use Rattle.sudo_verdict.specs.Postings.{Indexes};
 
 use crate::gate::Gate;
 use audit_collect::{Answer, Arrival};
@@ -11,8 +12,9 @@ use audit_handoff::{Handoff, Job, Outcome, Pass};
 use std::sync::Wait;
 use std::thread;
 use sudo_match::Directory;
+use sudo_policy::Checked;
 use sudo_rows::Request;
-use sudo_verdict::Indexed;
+use sudo_verdict::RuleIndex;
 
 /// Puts an outcome, and tries again while the queue is full.
 pub fn hand_on<R: Wait>(rt: &R, handoff: &Handoff, pass: &mut Pass, outcome: Outcome)
@@ -37,7 +39,8 @@ fn answer_request<R: Wait, G: Gate>(
     rt: &R,
     handoff: &Handoff,
     pass: &mut Pass,
-    policy: &Indexed,
+    policy: &Checked,
+    index: &RuleIndex,
     directory: &Directory,
     gate: &G,
     sender: u32,
@@ -45,11 +48,12 @@ fn answer_request<R: Wait, G: Gate>(
 )
     requires pass { pass.old.handoff ≡ handoff.now }
     requires names { pass.old.names ≡ names_of policy.now directory.now }
+    requires index { Indexes policy.now index.now }
     ensures { pass.new ≡ with_outcome_put pass.old (answer (names_of policy.now directory.now) (Job.Ask sender request)) }
 {
     let number = request.number;
     gate.before(sender, number);
-    let verdict = policy.verdict(directory, &request);
+    let verdict = index.verdict(policy, directory, &request);
     let reply = Answer {
         sender,
         request,
@@ -64,18 +68,22 @@ pub fn answer_job<R: Wait, G: Gate>(
     rt: &R,
     handoff: &Handoff,
     pass: &mut Pass,
-    policy: &Indexed,
+    policy: &Checked,
+    index: &RuleIndex,
     directory: &Directory,
     gate: &G,
     job: Job,
 )
     requires pass { pass.old.handoff ≡ handoff.now }
     requires names { pass.old.names ≡ names_of policy.now directory.now }
+    requires index { Indexes policy.now index.now }
     ensures { pass.new ≡ with_outcome_put pass.old (answer (names_of policy.now directory.now) job) }
 {
     let outcome = match job {
         Job::Ask { sender, request } => {
-            return answer_request(rt, handoff, pass, policy, directory, gate, sender, request);
+            return answer_request(
+                rt, handoff, pass, policy, index, directory, gate, sender, request,
+            );
         }
         Job::Close { sender, count } => Outcome::Arrived(Arrival::Close { sender, count }),
         Job::End { sender } => Outcome::End { sender },
@@ -89,12 +97,14 @@ pub fn work<R: Wait, G: Gate>(
     rt: &R,
     handoff: &Handoff,
     mut pass: Pass,
-    policy: &Indexed,
+    policy: &Checked,
+    index: &RuleIndex,
     directory: &Directory,
     gate: &G,
 ) -> Pass
     requires pass { pass.handoff ≡ handoff.now }
     requires names { pass.names ≡ names_of policy.now directory.now }
+    requires index { Indexes policy.now index.now }
     ensures { (jobs : List Job) × (result ≡ worked (names_of policy.now directory.now) pass (jobs ++ Job.Stop ∷ [])) }
 {
     for _ in rt.forever() {
@@ -104,7 +114,7 @@ pub fn work<R: Wait, G: Gate>(
                 hand_on(rt, handoff, &mut pass, Outcome::Stopped);
                 return pass;
             }
-            Some(job) => answer_job(rt, handoff, &mut pass, policy, directory, gate, job),
+            Some(job) => answer_job(rt, handoff, &mut pass, policy, index, directory, gate, job),
         }
     }
     unreachable!()

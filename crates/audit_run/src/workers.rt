@@ -4,6 +4,7 @@ ghost use Rattle.audit_handoff.specs.Names.{names_of};
 ghost use Rattle.audit_handoff.specs.declared.message.Job.{Job};
 ghost use Rattle.audit_run.specs.Passes.{fresh};
 ghost use Rattle.audit_run.specs.Work.{HasWorked, joined_workers};
+ghost use Rattle.sudo_verdict.specs.Postings.{Indexes};
 
 use crate::gate::Gate;
 use crate::worker::work;
@@ -12,7 +13,8 @@ use std::snapshot::Snapshot;
 use std::sync::Wait;
 use std::thread::{Promise, PromisedHandle, Scope, Threads};
 use sudo_match::Directory;
-use sudo_verdict::Indexed;
+use sudo_policy::Checked;
+use sudo_verdict::RuleIndex;
 
 /// What a worker's thread leaves of its pass: it has put the answer of each job that it took, once.
 #[derive(Drop)]
@@ -31,12 +33,14 @@ fn start_worker<'s, 'e: 's, R: Threads + Wait + Sync, G: Gate + Sync>(
     scope: &Scope<'s, &'e ()>,
     handoff: &'e Handoff,
     pass: Pass,
-    policy: &'e Indexed,
+    policy: &'e Checked,
+    index: &'e RuleIndex,
     directory: &'e Directory,
     gate: &'e G,
 ) -> Option<WorkerHandle>
     requires pass { pass.handoff ≡ handoff.now }
     requires names { pass.names ≡ names_of policy.now directory.now }
+    requires index { Indexes policy.now index.now }
     ensures { IfSome result (λ h. h.promise.before.value ≡ pass) }
 {
     let promise = WorkerRan {
@@ -45,8 +49,9 @@ fn start_worker<'s, 'e: 's, R: Threads + Wait + Sync, G: Gate + Sync>(
     let body = move || -> Pass
         requires pass { pass.handoff ≡ handoff.now }
         requires names { pass.names ≡ names_of policy.now directory.now }
+        requires index { Indexes policy.now index.now }
         ensures { HasWorked pass result }
-    { work(rt, handoff, pass, policy, directory, gate) };
+    { work(rt, handoff, pass, policy, index, directory, gate) };
     scope.spawn_with(promise, body).ok()
 }
 
@@ -56,19 +61,22 @@ pub fn start_workers<'s, 'e: 's, R: Threads + Wait + Sync, G: Gate + Sync>(
     scope: &Scope<'s, &'e ()>,
     handoff: &'e Handoff,
     passes: Vec<Pass>,
-    policy: &'e Indexed,
+    policy: &'e Checked,
+    index: &'e RuleIndex,
     directory: &'e Directory,
     gate: &'e G,
     handles: &mut Vec<WorkerHandle>,
 ) -> bool
     requires passes { All (λ p. p ≡ fresh handoff.now policy.now directory.now) passes.items }
     requires fresh { All (λ h. h.promise.before.value ≡ fresh handoff.now policy.now directory.now) handles.old.items }
+    requires index { Indexes policy.now index.now }
     requires room { vec_len handles.old + vec_len passes ≤ vec_capacity handles.old }
     ensures fresh { All (λ h. h.promise.before.value ≡ fresh handoff.now policy.now directory.now) handles.new.items }
     ensures all { IsTrue result → vec_len handles.new ≡ vec_len handles.old + vec_len passes }
 {
     for pass in passes {
-        let Some(handle) = start_worker(rt, scope, handoff, pass, policy, directory, gate) else {
+        let Some(handle) = start_worker(rt, scope, handoff, pass, policy, index, directory, gate)
+        else {
             return false;
         };
         let Ok(()) = handles.push(handle) else {
@@ -82,7 +90,7 @@ pub fn start_workers<'s, 'e: 's, R: Threads + Wait + Sync, G: Gate + Sync>(
 pub fn join_workers<R: Threads + Wait>(
     rt: &R,
     handoff: &Handoff,
-    policy: &Indexed,
+    policy: &Checked,
     directory: &Directory,
     pass: &mut Pass,
     handles: Vec<WorkerHandle>,

@@ -8,10 +8,9 @@ use std::test::Fail;
 use std::thread::Threads;
 use sudo_load::{Supply, load};
 use sudo_match::Directory;
-use sudo_policy::check;
+use sudo_policy::{Checked, check};
 use sudo_rows::{Group, Interface, Machine, Person};
 use sudo_text::Seq;
-use sudo_verdict::Indexed;
 
 const HEADER: &[u8] = b"number,user,host,runas_user,runas_group,command,arguments\n";
 
@@ -30,7 +29,7 @@ fn person(alloc: Global, name: &[u8], id: u32) -> Result<Person, AllocError> {
 
 /// `root` and `alice`, and the host `web1.example.org`.
 fn directory(alloc: Global) -> Result<Directory, Fail> {
-    let mut people = Seq::new(alloc);
+    let mut people = Vec::new(alloc);
     people.push(person(alloc, b"root", 0)?)?;
     people.push(person(alloc, b"alice", 1000)?)?;
     let mut interfaces = Seq::new(alloc);
@@ -38,7 +37,7 @@ fn directory(alloc: Global) -> Result<Directory, Fail> {
         addr: 0x0a01_0203,
         bits: 16,
     })?;
-    let mut machines = Seq::new(alloc);
+    let mut machines = Vec::new(alloc);
     machines.push(Machine {
         name: Seq::from_slice(alloc, b"web1.example.org")?,
         interfaces,
@@ -50,15 +49,12 @@ fn directory(alloc: Global) -> Result<Directory, Fail> {
 }
 
 /// A policy under which alice may run `/bin/kill` on web1 without a password, and not `/bin/su`.
-fn policy(alloc: Global) -> Result<Indexed, Fail> {
+fn policy(alloc: Global) -> Result<Checked, Fail> {
     let text = b"alice web1 = NOPASSWD: /bin/kill, !/bin/su\n";
     let supplies: [Supply; 0] = [];
     match load(alloc, b"sudoers", text, &supplies) {
         Ok(policy) => match check(alloc, policy) {
-            Ok(checked) => match Indexed::of(alloc, checked) {
-                Ok(indexed) => Ok(indexed),
-                Err(_) => Err(Fail::new("no memory")),
-            },
+            Ok(checked) => Ok(checked),
             Err(_) => Err(Fail::new("the policy has errors")),
         },
         Err(_) => Err(Fail::new("the policy is not read")),
@@ -68,7 +64,7 @@ fn policy(alloc: Global) -> Result<Indexed, Fail> {
 /// What requests are judged by.
 #[derive(Drop)]
 pub(crate) struct Ground {
-    pub policy: Indexed,
+    pub policy: Checked,
     pub directory: Directory,
 }
 
@@ -113,7 +109,7 @@ fn audited_by<R: Threads + Wait + Sync, F: Feed + Drop + Send, G: Gate + Sync>(
 {
     let policy = &ground.policy;
     let directory = &ground.directory;
-    let (handoff, mut pass) = Handoff::new(alloc, policy.checked(), directory)?;
+    let (handoff, mut pass) = Handoff::new(alloc, policy, directory)?;
     Ok(audit(
         alloc, rt, policy, directory, &handoff, &mut pass, sources, workers, gate,
     ))

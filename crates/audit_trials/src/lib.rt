@@ -8,6 +8,8 @@ mod queue_trials;
 #[cfg(test)]
 mod reader_trials;
 #[cfg(test)]
+mod refusal_trials;
+#[cfg(test)]
 mod rows;
 #[cfg(test)]
 mod size_trials;

@@ -69,7 +69,7 @@ fn used_by<R: Wait>(
     rt: &R,
     ground: &Ground,
 ) -> Result<(u32, bool, Option<u32>), Fail> {
-    let (handoff, mut pass) = Handoff::new(alloc, ground.policy.checked(), &ground.directory)?;
+    let (handoff, mut pass) = Handoff::new(alloc, &ground.policy, &ground.directory)?;
     Ok(used(rt, &handoff, &mut pass))
 }
 

@@ -7,7 +7,8 @@ use Rattle.clap.specs.Simple.{on_top}
 use Rattle.clap.specs.Lexer.{usize_max}
 use Rattle.clap.specs.declared.builder.value_parser.ValueParser.TheVariants as vp
 use Rattle.clap.specs.declared.error.Error.{Error}
-use Rattle.clap.specs.declared.error.ErrorKind.TheVariants.{OutOfMemory}
+use Rattle.clap.specs.declared.error.ErrorKind.{ErrorKind}
+use Rattle.clap.specs.declared.error.ErrorKind.TheVariants.{OutOfMemory, ValueValidation}
 use Rattle.sudo_tree.specs.declared.kind.Kind.{Kind}
 use Rattle.sudo_tree.specs.declared.kind.Kind.TheVariants as kind
 use Rattle.audit_words.specs.declared.request.Asked.{Asked}
@@ -93,3 +94,7 @@ IsMisuse words =
 -- why words are refused: memory was refused, or they are misuse
 abbrev pub IsRefusal : List Text → Error → Type 0
 IsRefusal words error = (kind_of error ≡ OutOfMemory) ⊎ IsMisuse words
+
+-- Words that are not read are misuse, as of a value that is none; or memory was refused.
+abbrev pub IsUnread : ErrorKind → Type 0
+IsUnread kind = (kind ≡ ValueValidation) ⊎ (kind ≡ OutOfMemory)

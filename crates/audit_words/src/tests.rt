@@ -1,6 +1,8 @@
 //! Command lines as a user gives them.
-use crate::{Asked, asked};
+use crate::{Asked, asked, unread};
+use clap::error::ErrorKind;
 use std::alloc::Global;
+use std::io::ErrorKind as ReadKind;
 use std::test::Fail;
 use sudo_tree::Kind;
 
@@ -84,4 +86,13 @@ fn refuses_other_words(rt: HostRuntime) {
     assert!(rt; asked(alloc, other.as_slice()).is_err());
     let no_users = ["x", "audit", "p", "--hosts", "h"];
     assert!(rt; asked(alloc, no_users.as_slice()).is_err());
+}
+
+#[test]
+fn tells_words_that_are_not_read(rt: HostRuntime) {
+    let alloc = rt.alloc();
+    let text = unread(alloc, ReadKind::InvalidData);
+    assert!(rt; text.use_stderr() && text.kind() == ErrorKind::ValueValidation);
+    let memory = unread(alloc, ReadKind::OutOfMemory);
+    assert!(rt; memory.kind() == ErrorKind::OutOfMemory);
 }

@@ -1,7 +1,7 @@
 //! The words of the command line.
 ghost use Rattle.std.specs.Prelude.{◌≡◌, ◌≢◌, ◌≤◌, [], None, Some, IfErr, IfOk, IfSome, List, map, unwrap_or};
 ghost use Rattle.clap.specs.Words.{Row, Text, all_of, first_of, found_of, kind_of as error_kind, rows_of, subcommand_of};
-ghost use Rattle.audit_words.specs.Words.{AsksNothing, IsNumberIn, IsRefusal, States, WorkersFit, kind_word, program_app};
+ghost use Rattle.audit_words.specs.Words.{AsksNothing, IsNumberIn, IsRefusal, IsUnread, States, WorkersFit, kind_word, program_app};
 
 use crate::program::program;
 use crate::request::Asked;
@@ -9,6 +9,7 @@ use clap::error::ErrorKind;
 use clap::{ArgMatches, Error};
 use std::alloc::{AllocError, Global};
 use std::convert::AsStr;
+use std::io::ErrorKind as ReadKind;
 use sudo_tree::Kind;
 
 /// The kind that a word names.
@@ -126,4 +127,30 @@ pub fn asked<'a, S: AsStr>(alloc: Global, words: &'a [S]) -> Result<Asked<'a>, E
     }
     let text = "KIND is user, runas, host or cmnd";
     Err(command.error(ErrorKind::InvalidValue, text)?)
+}
+
+/// What is said of a word that is no text.
+fn no_text(alloc: Global) -> Result<Error, AllocError>
+    ensures { IfOk result (λ e. error_kind e ≡ ErrorKind.ValueValidation) }
+{
+    let mut program = program(alloc)?;
+    program.error(
+        ErrorKind::ValueValidation,
+        "invalid UTF-8 was detected in one or more arguments",
+    )
+}
+
+/// Why the words of the command line are not read, by the kind of what reading them answers: memory was refused, or else
+/// a word is no text, which is misuse.
+pub fn unread(alloc: Global, kind: ReadKind) -> Error
+    ensures memory { kind ≡ ReadKind.OutOfMemory → error_kind result ≡ ErrorKind.OutOfMemory }
+    ensures kinds { IsUnread (error_kind result) }
+{
+    if kind == ReadKind::OutOfMemory {
+        return Error::from(AllocError);
+    }
+    match no_text(alloc) {
+        Ok(error) => error,
+        Err(refused) => Error::from(refused),
+    }
 }

@@ -51,6 +51,34 @@ fn depth_and_width_are_limited(rt: HostRuntime) -> Result<(), Fail> {
     Ok(())
 }
 
+/// Aliases `A0`, which names itself, to `A` and this number, each of which names the one before ten times.
+fn hanging(alloc: Global, last: u32) -> Result<String, AllocError> {
+    let mut text = String::from_str(alloc, "Cmnd_Alias A0 = A0\n")?;
+    for earlier in 0..last {
+        let number = earlier.saturating_add(1);
+        let line = format!(in alloc; "Cmnd_Alias A{number} = A{earlier}")?;
+        text.push_str(line.as_str())?;
+        let further = format!(in alloc; ", A{earlier}")?;
+        for _ in 1..10 {
+            text.push_str(further.as_str())?;
+        }
+        text.push('\n')?;
+    }
+    let rule = format!(in alloc; "alice ALL = A{last}\n")?;
+    text.push_str(rule.as_str())?;
+    Ok(text)
+}
+
+#[test]
+fn a_long_way_to_a_cycle_is_on_none(rt: HostRuntime) -> Result<(), Fail> {
+    let alloc = rt.alloc();
+    assert_eq!(rt;
+        found(alloc, hanging(alloc, 300)?.as_str())?.as_str(),
+        "1 cycle cmnd A0;"
+    );
+    Ok(())
+}
+
 /// Policies, and what is found in them.
 const POLICIES: &str = "
 // The empty file.
@@ -63,6 +91,14 @@ Cmnd_Alias A = A`alice ALL = A => 1 cycle cmnd A;
 // An alias that leads to a cycle and is not on it.
 Cmnd_Alias A = B : B = C, /bin/ls : C = B`alice ALL = A => 1 cycle cmnd B;1 cycle cmnd C;
 Cmnd_Alias A = B`Cmnd_Alias B = C`Cmnd_Alias C = A`Cmnd_Alias D = A`Host_Alias WEB = web1`alice NET = D => 6 undefined host NET;1 cycle cmnd A;2 cycle cmnd B;3 cycle cmnd C;5 unused host WEB;
+// An alias that a cycle leads to and that leads to another is on none.
+Cmnd_Alias A = A, M : M = B : B = C : C = B`alice ALL = A => 1 cycle cmnd A;1 cycle cmnd B;1 cycle cmnd C;
+Cmnd_Alias C = B : B = C : M = B : A = M, A`alice ALL = A => 1 cycle cmnd C;1 cycle cmnd B;1 cycle cmnd A;
+Cmnd_Alias I = A : A = B : B = A, O : O = P : P = /bin/ls`alice ALL = I => 1 cycle cmnd A;1 cycle cmnd B;
+// Two cycles with an alias of both; one of a cycle that names one that is on none.
+Cmnd_Alias X = G : G = X, Y : Y = G`alice ALL = Y => 1 cycle cmnd X;1 cycle cmnd G;1 cycle cmnd Y;
+Cmnd_Alias Y = /bin/ls : X = G : G = X, Y`alice ALL = G => 1 cycle cmnd X;1 cycle cmnd G;
+Cmnd_Alias A = B : B = C : C = B, D : D = A, E : E = F : F = /bin/ls, E`alice ALL = A => 1 cycle cmnd A;1 cycle cmnd B;1 cycle cmnd C;1 cycle cmnd D;1 cycle cmnd E;1 cycle cmnd F;
 // What a bound Defaults line names is used, through aliases too.
 Cmnd_Alias A = B : B = /bin/ls`Defaults!A noexec =>
 Defaults !authenticate`Defaults!PAGERS noexec => 2 undefined cmnd PAGERS;

@@ -4,11 +4,11 @@ use crate::rows::wrong_rows;
 use std::alloc::{AllocError, Global};
 use std::test::Fail;
 use sudo_parser::parse;
-use sudo_text::{Seq, lines};
+use sudo_text::lines;
 use sudo_tree::{Entry, ParseFault};
 
 /// The entries of a file, or its fault.
-fn read(alloc: Global, text: &str) -> Result<Seq<Entry>, ParseFault> {
+fn read(alloc: Global, text: &str) -> Result<Vec<Entry>, ParseFault> {
     match lines(alloc, 0, text.as_bytes()) {
         Ok(lines) => parse(alloc, &lines),
         Err(fault) => Err(ParseFault::Text(fault)),

@@ -1,6 +1,8 @@
 pub mod Held
-pub mod Printing
+pub mod Rosters
 pub mod SenderLemmas
-pub mod AuditSteps
 pub mod Statuses
-pub mod CheckSteps
+pub mod EndingLemmas
+pub mod Steps
+pub mod AuditSteps
+pub mod Openings

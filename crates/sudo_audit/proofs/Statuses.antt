@@ -60,6 +60,7 @@ audit_positive audits.TooManyParts = lit< tt
 
 positive : (fault : Fault) → 0 < status_of fault
 positive (faults.Refused files fault) = lit< tt
+positive (faults.Errors lines) = lit< tt
 positive (faults.NoSuchAlias name) = lit< tt
 positive (faults.BadSender word) = lit< tt
 positive (faults.Users fault) = file_positive fault

@@ -15,7 +15,7 @@ use Rattle.sudo_match.specs.declared.fault.DirFault.TheVariants as directories
 use Rattle.sudo_audit.specs.declared.fault.Fault.{Fault}
 use Rattle.sudo_audit.specs.declared.fault.Fault.TheVariants as faults
 
--- 1 says that the policy is refused or has no such alias, 2 that a word of the command line names no sender, 3 that the users,
+-- 1 says that the policy is refused, has errors or has no such alias, 2 that a word of the command line names no sender, 3 that the users,
 -- the hosts or the requests are refused, 4 that reading, writing, a thread or memory failed.
 
 -- the status for a file that is refused: reading it failed, memory failed, or what it holds is refused
@@ -70,6 +70,7 @@ audit_status audits.TooManyParts = 3
 -- the exit status of each fault
 abbrev pub status_of : Fault → ℕ
 status_of (faults.Refused files fault) = 1
+status_of (faults.Errors lines) = 1
 status_of (faults.NoSuchAlias name) = 1
 status_of (faults.BadSender word) = 2
 status_of (faults.Users fault) = file_status fault

@@ -1,13 +1,12 @@
 -- The lines of findings.
-use Rattle.std.specs.Prelude.{ℕ, Bool, not, List, [], ◌∷◌, ◌++◌, ◌||◌, codes, decimal, flat_map, if◌then◌else◌}
+use Rattle.std.specs.Prelude.{ℕ, Bool, not, List, [], ◌∷◌, ◌++◌, ◌||◌, codes, flat_map, if◌then◌else◌}
 use Rattle.sudo_policy.specs.declared.finding.Class.{Class}
 use Rattle.sudo_policy.specs.declared.finding.Class.TheVariants.{Redefined, Undefined, Cycle, TooDeep, TooWide, Unused}
 use Rattle.sudo_policy.specs.declared.finding.Finding.{Finding}
 use Rattle.sudo_policy.specs.Found.{is_error}
-use Rattle.sudo_text.specs.declared.line.Place.{Place}
 use Rattle.sudo_tree.specs.declared.kind.Kind.{Kind}
 use Rattle.sudo_tree.specs.declared.kind.Kind.TheVariants as kinds
-use Rattle.sudo_audit.specs.FaultLines.{path_of}
+use Rattle.sudo_audit.specs.Places.{place_text}
 
 -- the keyword of a kind of alias
 abbrev pub keyword : Kind → List ℕ
@@ -24,10 +23,6 @@ class_text Cycle = codes ": error: cycle "
 class_text TooDeep = codes ": error: too deep "
 class_text TooWide = codes ": error: too wide "
 class_text Unused = codes ": warning: unused "
-
--- the path of the file of a place, a colon, and the line
-abbrev pub place_text : List (List ℕ) → Place → List ℕ
-place_text files place = path_of files place.file ++ codes ":" ++ decimal place.line
 
 -- the line of a finding on a policy of these files
 abbrev pub finding_line : List (List ℕ) → Finding → List ℕ

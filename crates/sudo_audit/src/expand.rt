@@ -1,25 +1,19 @@
 //! `expand`: an alias written out.
-ghost use Rattle.std.specs.Prelude.{◌≡◌, ◌≢◌, ◌≤◌, ◌⊎◌, ◌++◌, flat_map, IfErr, IfOk, OnOk};
-ghost use Rattle.sudo_audit.specs.Expanding.{line_of, AreAliasLines, IsNotExpanded, IsNotExpandedOf, IsPrintedOf, IsPrinted, Prints};
-ghost use Rattle.sudo_audit.specs.Telling.{Complains, IsLost, Refuses};
+ghost use Rattle.std.specs.Prelude.{◌≡◌, ◌++◌, flat_map, IfErr, IfOk, OnOk};
+ghost use Rattle.sudo_audit.specs.Endings.{written as sent, Ends};
+ghost use Rattle.sudo_audit.specs.Expanding.{line_of, AreAliasLines, IsExpanded, IsNotExpanded, IsNotExpandedOf};
 
-use crate::check::finding_lines;
-use crate::fault::{Fault, complain, hand_out, print_errors};
+use crate::ending::end_run;
+use crate::fault::Fault;
 use crate::files::Files;
-use crate::loading::policy_of;
+use crate::loading::checked_policy;
+use crate::printed::Printed;
 use audit_device::Sink;
 use std::alloc::{AllocError, Global};
 use sudo_parser::member_text;
-use sudo_policy::{CheckFault, Checked, ExpandFault, check, expand};
+use sudo_policy::{Checked, ExpandFault, expand};
 use sudo_text::Seq;
-use sudo_tree::{Kind, Policy, Signed};
-
-/// What `expand` prints: the members of the alias, or the errors of a policy that is refused.
-#[derive(Drop)]
-enum Printed {
-    Members(Vec<u8>),
-    Errors(Vec<u8>),
-}
+use sudo_tree::{Kind, Signed};
 
 /// A line for each member.
 fn member_lines(alloc: Global, members: &[Signed]) -> Result<Vec<u8>, AllocError>
@@ -54,37 +48,20 @@ fn alias_lines(alloc: Global, checked: &Checked, kind: Kind, name: &[u8]) -> Res
     }
 }
 
-/// What a policy that is loaded gives to print.
-fn written_out(alloc: Global, policy: Policy, kind: Kind, name: &[u8]) -> Result<Printed, Fault>
-    ensures printed { IfOk result (IsPrintedOf policy kind name.now) }
-    ensures fault { IfErr result (IsNotExpandedOf policy kind name.now) }
-{
-    match check(alloc, policy) {
-        Ok(checked) => match alias_lines(alloc, &checked, kind, name) {
-            Ok(lines) => Ok(Printed::Members(lines)),
-            Err(fault) => Err(fault),
-        },
-        Err(CheckFault::Findings(policy, findings)) => {
-            let errors = finding_lines(alloc, policy.files.as_slice(), findings.as_slice(), true)?;
-            Ok(Printed::Errors(errors))
-        }
-        Err(CheckFault::Memory(_)) => Err(Fault::Memory),
-    }
-}
-
 /// What the alias of the policy of a file gives to print.
-fn printed_for<F: Files>(
+fn expanded<F: Files>(
     alloc: Global,
     path: &[u8],
     files: &mut F,
     kind: Kind,
     name: &[u8],
 ) -> Result<Printed, Fault>
-    ensures printed { IfOk result (IsPrinted (F.held files.old) path.now kind name.now) }
+    ensures printed { IfOk result (λ p. IsExpanded (F.held files.old) path.now kind name.now p.text.items p.status) }
     ensures fault { IfErr result (IsNotExpanded (F.held files.old) path.now kind name.now) }
 {
-    match policy_of(alloc, path, files) {
-        Ok(policy) => written_out(alloc, policy, kind, name),
+    let checked = checked_policy(alloc, path, files)?;
+    match alias_lines(alloc, &checked, kind, name) {
+        Ok(text) => Ok(Printed { text, status: 0 }),
         Err(fault) => Err(fault),
     }
 }
@@ -103,15 +80,10 @@ pub fn expand_run<F: Files, O: Sink, E: Sink>(
     out: &mut O,
     err: &mut E,
 ) -> u8
-    ensures status { result ≤ 4 }
-    ensures printed { result ≡ 0 → Prints (F.held files.old) path.now kind name.now (O.taken out.old) (O.taken out.new) }
-    ensures untouched { result ≢ 0 → O.stalled_writes out.new ≡ O.stalled_writes out.old → O.taken out.new ≡ O.taken out.old }
-    ensures told { O.stalled_writes out.new ≡ O.stalled_writes out.old → ((result ≡ 0) × Prints (F.held files.old) path.now kind name.now (O.taken out.old) (O.taken out.new) × (E.taken err.new ≡ E.taken err.old)) ⊎ ((O.taken out.new ≡ O.taken out.old) × (Refuses (F.held files.old) path.now result (E.stalled_writes err.new ≡ E.stalled_writes err.old) (E.taken err.old) (E.taken err.new) ⊎ Complains (IsNotExpanded (F.held files.old) path.now kind name.now) result (E.stalled_writes err.new ≡ E.stalled_writes err.old) (E.taken err.old) (E.taken err.new))) }
-    ensures lost { O.stalled_writes out.new ≢ O.stalled_writes out.old → Complains IsLost result (E.stalled_writes err.new ≡ E.stalled_writes err.old) (E.taken err.old) (E.taken err.new) }
+    ensures { Ends (IsExpanded (F.held files.old) path.now kind name.now)
+        (IsNotExpanded (F.held files.old) path.now kind name.now) result
+        (sent O.taken O.stalled_writes out.old out.new) (sent E.taken E.stalled_writes err.old err.new) }
 {
-    match printed_for(alloc, path, files, kind, name) {
-        Ok(Printed::Members(lines)) => hand_out(alloc, &lines, 0, out, err),
-        Ok(Printed::Errors(lines)) => print_errors(&lines, err),
-        Err(fault) => complain(alloc, &fault, err),
-    }
+    let ended = expanded(alloc, path, files, kind, name);
+    end_run(alloc, ended, out, err)
 }

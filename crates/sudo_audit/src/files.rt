@@ -1,7 +1,6 @@
 //! The files of a policy.
-ghost use Rattle.std.specs.Prelude.{◌≡◌, List, Option, None, IfOk};
-ghost use Rattle.sudo_load.specs.declared.supply.Supply.{Supply};
-ghost use Rattle.sudo_audit.specs.Holding.{HoldsFile, HoldsFolder};
+ghost use Rattle.std.specs.Prelude.{◌≡◌, Option, None, IfErr, IfOk};
+ghost use Rattle.sudo_audit.specs.Holding.{Holdings, HoldsFile, HoldsFolder, IsUnreadable};
 
 use audit_device::{Device, ReadFault, read_whole};
 use std::alloc::{AllocError, Global};
@@ -30,17 +29,19 @@ impl From<AllocError> for FilesFault {
 
 /// Where the files of a policy are read.
 pub trait Files {
-    // The files and folders that there are, where it tells them.
-    ghost held: { Self → Option (List Supply) };
+    // The files and folders that there are, and the paths at which reading fails, where it tells them.
+    ghost held: { Self → Option Holdings };
 
     /// The text of a file, cut one byte past the limit for a text; `None` where there is no such file.
     fn file(&mut self, alloc: Global, path: &[u8]) -> Result<Option<Seq<u8>>, FilesFault>
         ensures text { IfOk result (λ text. HoldsFile (held self.old) path.now text) }
+        ensures failed { IfErr result (λ e. e ≡ FilesFault.Failed → IsUnreadable (held self.old) path.now) }
         ensures same { held self.new ≡ held self.old };
 
     /// The names of a folder's regular files; none where there is no such folder.
     fn folder(&mut self, alloc: Global, path: &[u8]) -> Result<Seq<Seq<u8>>, FilesFault>
         ensures names { IfOk result (λ names. HoldsFolder (held self.old) path.now names) }
+        ensures failed { IfErr result (λ e. e ≡ FilesFault.Failed → IsUnreadable (held self.old) path.now) }
         ensures same { held self.new ≡ held self.old };
 }
 

@@ -1,10 +1,10 @@
 //! Lines that the program prints.
-ghost use Rattle.std.specs.Prelude.{◌≡◌, ◌++◌, IfSome, OnOk};
-ghost use Rattle.sudo_audit.specs.FaultLines.{GoesOn, path_of};
-ghost use Rattle.sudo_audit.specs.FindingLines.{class_text, finding_line, keyword as keyword_of, listed_line, place_text};
+ghost use Rattle.std.specs.Prelude.{◌≡◌, ◌++◌, IfOk, OnOk, decimal};
+ghost use Rattle.sudo_audit.specs.FindingLines.{class_text, finding_line, finding_lines as lines_of, keyword as keyword_of, listed_line};
+ghost use Rattle.sudo_audit.specs.Places.{path_of, place_text};
 
+use itoa::Buffer;
 use std::alloc::{AllocError, Global};
-use std::fmt::Display;
 use sudo_policy::{Class, Finding};
 use sudo_text::{Place, Seq};
 use sudo_tree::Kind;
@@ -16,19 +16,20 @@ pub(crate) fn push(line: &mut Vec<u8>, bytes: &[u8]) -> Result<(), AllocError>
     line.extend_from_slice(bytes)
 }
 
-/// Appends the text of a value.
-pub(crate) fn push_shown<T: Display>(
-    alloc: Global,
-    line: &mut Vec<u8>,
-    value: &T,
-) -> Result<(), AllocError>
-    ensures front { OnOk result (GoesOn line.old.items line.new.items) }
-    ensures text { OnOk result (IfSome (T.output value.now) (λ text. line.new.items ≡ line.old.items ++ text)) }
+/// Appends two texts, one after the other.
+pub(crate) fn push_both(line: &mut Vec<u8>, first: &[u8], second: &[u8]) -> Result<(), AllocError>
+    ensures { OnOk result (line.new.items ≡ line.old.items ++ (first.now ++ second.now)) }
 {
-    match format!(in alloc; "{value}") {
-        Ok(text) => line.extend_from_slice(text.as_str().as_bytes()),
-        Err(_) => Err(AllocError),
-    }
+    push(line, first)?;
+    push(line, second)
+}
+
+/// Appends a number.
+pub(crate) fn push_number(line: &mut Vec<u8>, number: u64) -> Result<(), AllocError>
+    ensures { OnOk result (line.new.items ≡ line.old.items ++ decimal number) }
+{
+    let mut digits = Buffer::new();
+    line.extend_from_slice(digits.format(number).as_bytes())
 }
 
 /// Appends the path of a file by its number.
@@ -39,6 +40,19 @@ pub(crate) fn push_path(line: &mut Vec<u8>, files: &[Seq<u8>], file: u32) -> Res
         Some(path) => line.extend_from_slice(path.as_slice()),
         None => Ok(()),
     }
+}
+
+/// Appends a place, as `PATH:LINE`.
+pub(crate) fn push_place(
+    line: &mut Vec<u8>,
+    files: &[Seq<u8>],
+    place: Place,
+) -> Result<(), AllocError>
+    ensures { OnOk result (line.new.items ≡ line.old.items ++ place_text files.now place) }
+{
+    push_path(line, files, place.file)?;
+    push(line, b":")?;
+    push_number(line, u64::from(place.line))
 }
 
 /// The keyword of a kind of alias.
@@ -67,30 +81,11 @@ fn called(class: Class) -> &'static [u8]
     }
 }
 
-/// Appends a place, as `PATH:LINE`.
-fn push_place(
-    alloc: Global,
-    lines: &mut Vec<u8>,
-    files: &[Seq<u8>],
-    place: Place,
-) -> Result<(), AllocError>
-    ensures { OnOk result (lines.new.items ≡ lines.old.items ++ place_text files.now place) }
-{
-    push_path(lines, files, place.file)?;
-    push(lines, b":")?;
-    push_shown(alloc, lines, &place.line)
-}
-
 /// Appends the line of a finding, as `PATH:LINE: error: undefined Host_Alias NAME`.
-fn push_finding(
-    alloc: Global,
-    lines: &mut Vec<u8>,
-    files: &[Seq<u8>],
-    finding: &Finding,
-) -> Result<(), AllocError>
+fn push_finding(lines: &mut Vec<u8>, files: &[Seq<u8>], finding: &Finding) -> Result<(), AllocError>
     ensures { OnOk result (lines.new.items ≡ lines.old.items ++ finding_line files.now finding.now) }
 {
-    push_place(alloc, lines, files, finding.place)?;
+    push_place(lines, files, finding.place)?;
     push(lines, called(finding.class))?;
     push(lines, keyword(finding.kind))?;
     push(lines, b" ")?;
@@ -99,8 +94,7 @@ fn push_finding(
 }
 
 /// Appends the line of a finding, but of a warning where errors alone are listed.
-pub(crate) fn push_listed(
-    alloc: Global,
+fn push_listed(
     lines: &mut Vec<u8>,
     files: &[Seq<u8>],
     finding: &Finding,
@@ -109,8 +103,24 @@ pub(crate) fn push_listed(
     ensures { OnOk result (lines.new.items ≡ lines.old.items ++ listed_line files.now errors_alone finding.now) }
 {
     if !errors_alone || finding.class.is_error() {
-        push_finding(alloc, lines, files, finding)
+        push_finding(lines, files, finding)
     } else {
         Ok(())
     }
+}
+
+/// A line for each finding.
+pub(crate) fn finding_lines(
+    alloc: Global,
+    files: &[Seq<u8>],
+    findings: &[Finding],
+    errors_alone: bool,
+) -> Result<Vec<u8>, AllocError>
+    ensures { IfOk result (λ lines. lines.items ≡ lines_of files.now errors_alone findings.now) }
+{
+    let mut lines = Vec::new(alloc);
+    for finding in findings {
+        push_listed(&mut lines, files, finding, errors_alone)?;
+    }
+    Ok(lines)
 }

@@ -1,31 +1,24 @@
 //! A policy from its files.
-ghost use Rattle.std.specs.Prelude.{◌≡◌, Some, IfErr, IfOk, OnOk};
-ghost use Rattle.sudo_audit.specs.Holding.{AreHeld, HoldsFile, IsHeld};
-ghost use Rattle.sudo_audit.specs.Loading.{IsLoaded, IsNoPolicy, IsUnread};
+ghost use Rattle.std.specs.Prelude.{◌≡◌, ◌⊎◌, Some, IfErr, IfOk, OnOk};
+ghost use Rattle.sudo_policy.specs.Checking.{Passes};
+ghost use Rattle.sudo_audit.specs.Holding.{AreHeld, HoldsFile, IsHeld, IsUnreadable};
+ghost use Rattle.sudo_audit.specs.Loading.{IsChecked, IsLoaded, IsNoPolicy, IsNotChecked, IsNotCheckedOf};
 
 use crate::fault::Fault;
 use crate::files::{Files, FilesFault};
+use crate::lines::finding_lines;
 use std::alloc::{AllocError, Global};
 use sudo_load::{LoadFault, Supply, Want, folder_files, included, load};
+use sudo_policy::{CheckFault, Checked, check};
 use sudo_text::Seq;
 use sudo_tree::Policy;
 
 /// How often files are asked for, at most.
 const MOST_CALLS: usize = 2048;
 
-/// Why a file or a folder is not handed in.
-fn unread(path: Seq<u8>, fault: FilesFault) -> Fault
-    ensures { IsUnread result }
-{
-    match fault {
-        FilesFault::Failed => Fault::CannotRead(path),
-        FilesFault::Memory => Fault::Memory,
-    }
-}
-
 /// Why the main file cannot be read.
 fn unread_main(alloc: Global, path: &[u8]) -> Fault
-    ensures { IsUnread result }
+    ensures { (result ≡ Fault.Memory) ⊎ (result ≡ Fault.CannotRead path.now) }
 {
     match Seq::from_slice(alloc, path) {
         Ok(path) => Fault::CannotRead(path),
@@ -33,34 +26,38 @@ fn unread_main(alloc: Global, path: &[u8]) -> Fault
     }
 }
 
-/// The file or the folder that is wanted.
-fn fetch<F: Files>(alloc: Global, files: &mut F, want: Want) -> Result<Supply, Fault>
-    ensures held { IfOk result (IsHeld (F.held files.old)) }
-    ensures same { F.held files.new ≡ F.held files.old }
-    ensures fault { IfErr result IsUnread }
-{
-    match want {
-        Want::File(path) => match files.file(alloc, path.as_slice()) {
-            Ok(text) => Ok(Supply::File { path, text }),
-            Err(fault) => Err(unread(path, fault)),
-        },
-        Want::Folder(path) => match files.folder(alloc, path.as_slice()) {
-            Ok(names) => Ok(Supply::Folder { path, names }),
-            Err(fault) => Err(unread(path, fault)),
-        },
-    }
-}
-
 /// The text of the main file, which has to be there.
 fn main_text<F: Files>(alloc: Global, files: &mut F, path: &[u8]) -> Result<Seq<u8>, Fault>
     ensures held { IfOk result (λ text. HoldsFile (F.held files.old) path.now (Some text)) }
     ensures same { F.held files.new ≡ F.held files.old }
-    ensures fault { IfErr result IsUnread }
+    ensures fault { IfErr result (IsNoPolicy (F.held files.old) path.now) }
 {
     match files.file(alloc, path) {
         Ok(Some(text)) => Ok(text),
         Ok(None) | Err(FilesFault::Failed) => Err(unread_main(alloc, path)),
         Err(FilesFault::Memory) => Err(Fault::Memory),
+    }
+}
+
+/// The file or the folder that is wanted; or its path, and why it is not read.
+fn fetch<F: Files>(
+    alloc: Global,
+    files: &mut F,
+    want: Want,
+) -> Result<Supply, (Seq<u8>, FilesFault)>
+    ensures held { IfOk result (IsHeld (F.held files.old)) }
+    ensures same { F.held files.new ≡ F.held files.old }
+    ensures failed { IfErr result (λ e. e.1 ≡ FilesFault.Failed → IsUnreadable (F.held files.old) e.0) }
+{
+    match want {
+        Want::File(path) => match files.file(alloc, path.as_slice()) {
+            Ok(text) => Ok(Supply::File { path, text }),
+            Err(fault) => Err((path, fault)),
+        },
+        Want::Folder(path) => match files.folder(alloc, path.as_slice()) {
+            Ok(names) => Ok(Supply::Folder { path, names }),
+            Err(fault) => Err((path, fault)),
+        },
     }
 }
 
@@ -107,66 +104,70 @@ fn named_by(alloc: Global, supply: &Supply) -> Result<Vec<Want>, AllocError> {
 }
 
 /// Reads a file or a folder, and notes what it names. What can't be read is left: whether it is wanted at all is not
-/// known yet.
+/// known yet. `Err` comes only where memory was refused.
 fn read_one<F: Files>(
     alloc: Global,
     files: &mut F,
     want: Want,
     supplies: &mut Vec<Supply>,
     pending: &mut Vec<Want>,
-) -> Result<(), Fault>
+) -> Result<(), AllocError>
     requires { AreHeld (F.held files.old) supplies.old.items }
-    ensures held { OnOk result (AreHeld (F.held files.new) supplies.new.items) }
+    ensures held { AreHeld (F.held files.new) supplies.new.items }
     ensures same { F.held files.new ≡ F.held files.old }
-    ensures fault { IfErr result IsUnread }
 {
     match fetch(alloc, files, want) {
         Ok(supply) => {
             pending.append(&mut named_by(alloc, &supply)?)?;
             Ok(supplies.push(supply)?)
         }
-        Err(Fault::CannotRead(_)) => Ok(()),
-        Err(fault) => Err(fault),
+        Err((_, FilesFault::Failed)) => Ok(()),
+        Err((_, FilesFault::Memory)) => Err(AllocError),
     }
 }
 
-/// Reads ahead what a file includes, so that little is left to be asked for and no file is parsed again and again.
-fn read_ahead<F: Files>(
-    alloc: Global,
-    files: &mut F,
-    path: &[u8],
-    text: &[u8],
-) -> Result<Vec<Supply>, Fault>
-    ensures held { IfOk result (λ handed. AreHeld (F.held files.new) handed.items) }
+/// Reads ahead what a file includes, so that little is left to be asked for and no file is parsed again and again. It
+/// decides nothing: it ends where memory is refused, and what it left is read when it is wanted.
+fn read_ahead<F: Files>(alloc: Global, files: &mut F, path: &[u8], text: &[u8]) -> Vec<Supply>
+    ensures held { AreHeld (F.held files.new) result.items }
     ensures same { F.held files.new ≡ F.held files.old }
-    ensures fault { IfErr result IsUnread }
 {
     let mut supplies = Vec::new(alloc);
-    let mut pending = included(alloc, path, text)?;
+    let Ok(mut pending) = included(alloc, path, text) else {
+        return supplies;
+    };
     for _turn in 0..MOST_CALLS {
         let Some(want) = pending.pop() else {
             break;
         };
-        if !is_read(&supplies, &want) {
-            read_one(alloc, files, want, &mut supplies, &mut pending)?;
+        if is_read(&supplies, &want) {
+            continue;
+        }
+        if read_one(alloc, files, want, &mut supplies, &mut pending).is_err() {
+            break;
         }
     }
-    Ok(supplies)
+    supplies
 }
 
 /// Reads a file or a folder that is wanted.
 fn push_wanted<F: Files>(
     alloc: Global,
     files: &mut F,
+    path: &[u8],
     want: Want,
     supplies: &mut Vec<Supply>,
 ) -> Result<(), Fault>
     requires { AreHeld (F.held files.old) supplies.old.items }
     ensures held { OnOk result (AreHeld (F.held files.new) supplies.new.items) }
     ensures same { F.held files.new ≡ F.held files.old }
-    ensures fault { IfErr result IsUnread }
+    ensures fault { IfErr result (IsNoPolicy (F.held files.old) path.now) }
 {
-    Ok(supplies.push(fetch(alloc, files, want)?)?)
+    match fetch(alloc, files, want) {
+        Ok(supply) => Ok(supplies.push(supply)?),
+        Err((unread, FilesFault::Failed)) => Err(Fault::CannotRead(unread)),
+        Err((_, FilesFault::Memory)) => Err(Fault::Memory),
+    }
 }
 
 /// Reads what is wanted. The first time, all that the main file includes is read ahead.
@@ -181,15 +182,15 @@ fn hand_in<F: Files>(
     requires { AreHeld (F.held files.old) supplies.old.items }
     ensures held { OnOk result (AreHeld (F.held files.new) supplies.new.items) }
     ensures same { F.held files.new ≡ F.held files.old }
-    ensures fault { IfErr result IsUnread }
+    ensures fault { IfErr result (IsNoPolicy (F.held files.old) path.now) }
 {
     if supplies.is_empty() {
-        *supplies = read_ahead(alloc, files, path, text)?;
+        *supplies = read_ahead(alloc, files, path, text);
     }
     if is_read(supplies, &want) {
         return Ok(());
     }
-    push_wanted(alloc, files, want, supplies)
+    push_wanted(alloc, files, path, want, supplies)
 }
 
 /// The policy of a file and of all that it includes: what is wanted is read, and the loading begins anew.
@@ -217,4 +218,33 @@ pub(crate) fn policy_of<F: Files>(
         }
     }
     Err(Fault::Memory)
+}
+
+/// The policy of a file and of all that it includes, if it passes the check.
+pub(crate) fn checked_policy<F: Files>(
+    alloc: Global,
+    path: &[u8],
+    files: &mut F,
+) -> Result<Checked, Fault>
+    ensures checked { IfOk result (IsChecked (F.held files.old) path.now) }
+    ensures fault { IfErr result (IsNotChecked (F.held files.old) path.now) }
+{
+    let policy = policy_of(alloc, path, files)?;
+    passed(alloc, policy)
+}
+
+/// A policy that passes the check; or the lines of its errors.
+fn passed(alloc: Global, policy: Policy) -> Result<Checked, Fault>
+    ensures same { IfOk result (λ checked. checked ≡ policy) }
+    ensures passes { IfOk result (λ checked. Passes policy) }
+    ensures fault { IfErr result (IsNotCheckedOf policy) }
+{
+    match check(alloc, policy) {
+        Ok(checked) => Ok(checked),
+        Err(CheckFault::Findings(policy, findings)) => {
+            let lines = finding_lines(alloc, policy.files.as_slice(), findings.as_slice(), true)?;
+            Err(Fault::Errors(lines))
+        }
+        Err(CheckFault::Memory(_)) => Err(Fault::Memory),
+    }
 }

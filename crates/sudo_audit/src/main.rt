@@ -7,11 +7,17 @@ mod audit;
 #[cfg(test)]
 mod audit_tests;
 mod check;
+mod ending;
 mod expand;
 mod fault;
+mod fault_text;
 mod files;
 mod lines;
 mod loading;
+mod opening;
+mod printed;
+#[cfg(test)]
+mod run_tests;
 mod sender;
 mod sources;
 #[cfg(test)]
@@ -19,12 +25,13 @@ mod tests;
 
 pub use audit::audit_into;
 use audit_device::Device;
-pub use audit_words::{Asked, asked};
+pub use audit_words::{Asked, asked, unread};
 pub use check::check_run;
 use clap::Error;
 use clap::error::ErrorKind;
+use ending::complain;
 pub use expand::expand_run;
-use fault::{Fault, complain};
+use fault::Fault;
 use files::Disk;
 pub use files::{Files, FilesFault};
 pub use sender::sender_of;
@@ -80,16 +87,20 @@ fn refuse(rt: &HostRuntime, error: &Error) -> u8 {
     }
 }
 
+/// The words of the command line, the program's own name first.
+fn words(rt: &HostRuntime) -> Result<Vec<String>, Error> {
+    match env::args(rt) {
+        Ok(words) => Ok(words.collect(rt.alloc())?),
+        Err(error) => Err(unread(rt.alloc(), error.kind())),
+    }
+}
+
 fn main(rt: HostRuntime) -> ExitCode {
-    let alloc = rt.alloc();
-    let mut err = Device::new(rt.stderr());
-    let Ok(arguments) = env::args(&rt) else {
-        return ExitCode::from(complain(alloc, &Fault::Memory, &mut err));
+    let words = match words(&rt) {
+        Ok(words) => words,
+        Err(error) => return ExitCode::from(refuse(&rt, &error)),
     };
-    let Ok(words) = arguments.collect::<Vec<String>>(alloc) else {
-        return ExitCode::from(complain(alloc, &Fault::Memory, &mut err));
-    };
-    match asked(alloc, words.as_slice()) {
+    match asked(rt.alloc(), words.as_slice()) {
         Ok(asked) => ExitCode::from(run(&rt, &rt, asked)),
         Err(error) => ExitCode::from(refuse(&rt, &error)),
     }

@@ -1,20 +1,26 @@
 //! The files that an audit is asked for, opened.
-ghost use Rattle.std.specs.Prelude.{◌≤◌};
+ghost use Rattle.std.specs.Prelude.{◌≡◌, ◌≤◌, ℕ, List, IfErr, IfOk, map};
+ghost use Rattle.sudo_audit.specs.Opening.{AreOpened, AreSenders, AreSources, IsNotOpened};
 
 use crate::audit::audit_into;
-use crate::fault::{Fault, complain};
+use crate::ending::complain;
+use crate::fault::Fault;
 use crate::files::Disk;
+use crate::opening::{Machine, Opener};
 use crate::sender::sender_of;
 use audit_device::Device;
 use audit_run::Source;
 use std::alloc::Global;
-use std::fs::File;
 use std::sync::Wait;
 use std::thread::Threads;
 use sudo_text::Seq;
 
 /// The senders and paths of the words, each as `NAME=PATH`; or the first word that is not.
-fn senders_of<'a>(alloc: Global, words: &[&'a str]) -> Result<Vec<(&'a str, &'a str)>, Fault> {
+fn senders_of<'a>(alloc: Global, words: &[&'a str]) -> Result<Vec<(&'a str, &'a str)>, Fault>
+    ensures senders { let words = map (λ w. w.now) words.now in
+        IfOk result (λ pairs. AreSenders words (map (λ p. (p.0.now, p.1.now)) pairs.items)) }
+    ensures fault { IfErr result (IsNotOpened (λ _. ⊥) (map (λ w. w.now) words.now)) }
+{
     let mut senders = Vec::new(alloc);
     for word in words {
         match sender_of(word) {
@@ -26,46 +32,95 @@ fn senders_of<'a>(alloc: Global, words: &[&'a str]) -> Result<Vec<(&'a str, &'a 
 }
 
 /// Opens a file, or names it.
-fn open(rt: &HostRuntime, path: &str) -> Result<Device<File>, Fault> {
-    match File::open(rt, path) {
-        Ok(file) => Ok(Device::new(file)),
-        Err(_) => Err(Fault::CannotRead(Seq::from_slice(rt.alloc(), path.as_bytes())?)),
+fn open<R, O: Opener<R>>(alloc: Global, opener: &O, path: &str) -> Result<R, Fault>
+    ensures opened { IfOk result (O.opens opener.now path.now) }
+    ensures fault { (words : List (List ℕ)) → IfErr result (IsNotOpened (O.closed opener.now) words) }
+{
+    match opener.open(path) {
+        Some(reader) => Ok(reader),
+        None => Err(Fault::CannotRead(Seq::from_slice(alloc, path.as_bytes())?)),
+    }
+}
+
+/// Opens the requests file of a sender.
+fn open_source<R, O: Opener<R>>(
+    alloc: Global,
+    opener: &O,
+    name: &str,
+    path: &str,
+) -> Result<Source<R>, Fault>
+    ensures opened { IfOk result (λ s. (s.name ≡ name.now) × O.opens opener.now path.now s.reader) }
+    ensures fault { (words : List (List ℕ)) → IfErr result (IsNotOpened (O.closed opener.now) words) }
+{
+    let name = match Seq::from_slice(alloc, name.as_bytes()) {
+        Ok(name) => name,
+        Err(_) => return Err(Fault::Memory),
+    };
+    match open(alloc, opener, path) {
+        Ok(reader) => Ok(Source { name, reader }),
+        Err(fault) => Err(fault),
     }
 }
 
 /// Opens the requests files, in the order in which they are named.
-fn open_sources(
-    rt: &HostRuntime,
+fn open_sources<R: Drop, O: Opener<R>>(
+    alloc: Global,
+    opener: &O,
     senders: &[(&str, &str)],
-) -> Result<Vec<Source<Device<File>>>, Fault> {
-    let mut sources = Vec::new(rt.alloc());
+) -> Result<Vec<Source<R>>, Fault>
+    ensures opened { let pairs = map (λ p. (p.0.now, p.1.now)) senders.now in
+        IfOk result (λ s. AreOpened (O.opens opener.now) pairs s.items) }
+    ensures fault { (words : List (List ℕ)) → IfErr result (IsNotOpened (O.closed opener.now) words) }
+{
+    let mut sources = Vec::new(alloc);
     for (name, path) in senders {
-        let reader = open(rt, path)?;
-        let name = Seq::from_slice(rt.alloc(), name.as_bytes())?;
-        sources.push(Source { name, reader })?;
+        match open_source(alloc, opener, name, path) {
+            Ok(source) => sources.push(source)?,
+            Err(fault) => return Err(fault),
+        }
     }
     Ok(sources)
 }
 
 /// The files of users, of hosts and of requests.
 #[derive(Drop)]
-struct Opened {
-    users: Device<File>,
-    hosts: Device<File>,
-    sources: Vec<Source<Device<File>>>,
+pub(crate) struct Opened<R> {
+    pub(crate) users: R,
+    pub(crate) hosts: R,
+    pub(crate) sources: Vec<Source<R>>,
 }
 
 /// Opens the files, or names the first that cannot be opened; a bad sender comes before that.
-fn open_all(rt: &HostRuntime, users: &str, hosts: &str, words: &[&str]) -> Result<Opened, Fault> {
-    let senders = senders_of(rt.alloc(), words)?;
-    let users = open(rt, users)?;
-    let hosts = open(rt, hosts)?;
-    let sources = open_sources(rt, &senders)?;
-    Ok(Opened {
-        users,
-        hosts,
-        sources,
-    })
+pub(crate) fn open_all<R: Drop, O: Opener<R>>(
+    alloc: Global,
+    opener: &O,
+    users: &str,
+    hosts: &str,
+    words: &[&str],
+) -> Result<Opened<R>, Fault>
+    ensures users { IfOk result (λ files. O.opens opener.now users.now files.users) }
+    ensures hosts { IfOk result (λ files. O.opens opener.now hosts.now files.hosts) }
+    ensures sources { let words = map (λ w. w.now) words.now in
+        IfOk result (λ files. AreSources (O.opens opener.now) words files.sources.items) }
+    ensures fault { IfErr result (IsNotOpened (O.closed opener.now) (map (λ w. w.now) words.now)) }
+{
+    let senders = senders_of(alloc, words)?;
+    let users = match open(alloc, opener, users) {
+        Ok(users) => users,
+        Err(fault) => return Err(fault),
+    };
+    let hosts = match open(alloc, opener, hosts) {
+        Ok(hosts) => hosts,
+        Err(fault) => return Err(fault),
+    };
+    match open_sources(alloc, opener, &senders) {
+        Ok(sources) => Ok(Opened {
+            users,
+            hosts,
+            sources,
+        }),
+        Err(fault) => Err(fault),
+    }
 }
 
 /// Answers the requests of the files that the words `NAME=PATH` name, and gives the exit status. `threads` is the runtime,
@@ -84,7 +139,7 @@ pub(crate) fn audit_run_of<T: Threads + Wait + Sync>(
     let alloc = rt.alloc();
     let mut out = Device::new(rt.stdout());
     let mut err = Device::new(rt.stderr());
-    match open_all(rt, users, hosts, words) {
+    match open_all(alloc, &Machine::new(rt), users, hosts, words) {
         Ok(files) => {
             let Opened {
                 mut users,

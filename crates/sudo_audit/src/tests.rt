@@ -57,13 +57,16 @@ impl Files for Alone {
     ghost use Rattle.std.specs.Prelude.{Some, [], ◌∷◌};
     ghost use Rattle.sudo_load.specs.declared.supply.Supply.TheVariants.{File};
 
-    ghost held = { λ s. Some (File s.path (Some s.text) ∷ []) };
+    ghost held = { λ s. Some (record { supplies = File s.path (Some s.text) ∷ []; unreadable = [] }) };
 
     fn file(&mut self, alloc: Global, path: &[u8]) -> Result<Option<Seq<u8>>, FilesFault> {
         if self.path.as_slice() != path {
             return Ok(None);
         }
-        Ok(Some(Seq::from_slice(alloc, self.text.as_slice())?))
+        match Seq::from_slice(alloc, self.text.as_slice()) {
+            Ok(text) => Ok(Some(text)),
+            Err(_) => Err(FilesFault::Memory),
+        }
     }
 
     fn folder(&mut self, alloc: Global, _path: &[u8]) -> Result<Seq<Seq<u8>>, FilesFault> {

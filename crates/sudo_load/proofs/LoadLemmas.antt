@@ -48,7 +48,7 @@ folder_supplied include supplies loaded place path found outcome few is loads =
 -- What is given by one relation is given by another that follows from it.
 pub gives : (P Q : Outcome → Type 0) (result : Result Loaded Refusal) → GivesBy P result → ((outcome : Outcome) → P outcome → Q outcome) → GivesBy Q result
 gives P Q (Ok loaded) given follows = follows (Ok loaded) given
-gives P Q (Err refusal) given follows = λ no_memory. follows (Err refusal) (given no_memory)
+gives P Q (Err refusal) given follows = (λ no_memory. follows (Err refusal) (given.0 no_memory), given.1)
 
 pub names_load : (include : Inclusion) (loaded : Loaded) (place : Place) (path p : List ℕ) (names n : List (List ℕ)) (paths : List (List ℕ)) (outcome : Outcome)
     → p ≡ path → n ≡ names → (ordered : List (List ℕ)) × IsFolderOrder n ordered × (paths ≡ map (in_folder p) ordered)

@@ -13,7 +13,10 @@ pub(crate) fn read(alloc: Global, file: u32, text: &[u8]) -> Result<Seq<Entry>, 
     ensures fault { IfErr result (λ fault. fault ≢ ParseFault.Memory → Reads file text.now (Err fault)) }
 {
     match lines(alloc, file, text) {
-        Ok(lines) => parse(alloc, &lines),
+        Ok(lines) => match parse(alloc, &lines) {
+            Ok(entries) => Ok(Seq::from_vec(entries)),
+            Err(fault) => Err(fault),
+        },
         Err(TextFault::Memory) => Err(ParseFault::Memory),
         Err(fault) => Err(ParseFault::Text(fault)),
     }

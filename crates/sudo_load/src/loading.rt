@@ -1,5 +1,5 @@
 //! Files that include files, to one policy.
-ghost use Rattle.std.specs.Prelude.{◌≡◌, ℕ, ◌≤◌, ◌<◌, ◌^◌, List, length, map, filter, IfOk, IfErr, Ok};
+ghost use Rattle.std.specs.Prelude.{◌≡◌, ℕ, ◌≤◌, ◌<◌, ◌^◌, List, length, map, filter, IfOk, IfErr, Ok, []};
 ghost use Rattle.sudo_load.specs.Unfolding.{FileLoads, FilesLoad, FolderLoads, EntryLoads, EntriesLoad, TextLoads, nothing as spec_nothing, with_file as spec_with_file, with_entry as spec_with_entry};
 ghost use Rattle.sudo_parser.specs.Parsed.{over_limit};
 ghost use Rattle.sudo_load.specs.Outcomes.{GivesBy};
@@ -36,9 +36,9 @@ pub(crate) struct Loaded {
 /// The files read by then, and the fault.
 pub(crate) type Refusal = (Seq<Seq<u8>>, LoadFault);
 
-/// Memory was refused.
+/// Memory was refused. The paths of the files read by then are not handed back.
 fn out_of_memory(alloc: Global) -> Refusal
-    ensures { result.1 ≡ LoadFault.Memory }
+    ensures { (result.0 ≡ []) × (result.1 ≡ LoadFault.Memory) }
 {
     (Seq::new(alloc), LoadFault::Memory)
 }
@@ -269,7 +269,7 @@ fn closed(loaded: Loaded) -> Result<Policy, Refusal>
 /// the first of these that holds: for a file `TooNested` past 128 levels, `TooMany` past 1,024 files, `Wanted` where
 /// it is not handed in, `Missing`, and `Parse`; for a folder `TooMany` past 1,024 folders, and `Wanted`. Last,
 /// `Parse(TooMany)` comes for the first definition past 4,096 of its kind in all files. `Memory` comes only where
-/// memory was refused. The file number in a fault is below the number of paths. What is handed in and not asked for changes nothing.
+/// memory was refused, with no paths. The file number in a fault is below the number of paths. What is handed in and not asked for changes nothing.
 pub fn load(
     alloc: Global,
     path: &[u8],
@@ -277,6 +277,7 @@ pub fn load(
     supplies: &[Supply],
 ) -> Result<Policy, (Seq<Seq<u8>>, LoadFault)>
     ensures load { LoadGives path.now text.now supplies.now result }
+    ensures memory { IfErr result (λ refusal. refusal.1 ≡ LoadFault.Memory → refusal.0 ≡ []) }
     ensures placed { IfErr result (λ refusal. IsPlaced refusal) }
 {
     let Ok(path) = Seq::from_slice(alloc, path) else {

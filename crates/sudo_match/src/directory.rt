@@ -36,11 +36,24 @@ impl Model for Directory {
 }
 
 impl Directory {
-    /// The directory of these rows, which are kept as they are. About linear in their number, on average.
+    /// Returns the directory of these rows, which are kept as they are, in time about linear in their number on average.
     ///
-    /// The first fault of `UserTwice`, `HostTwice`, `GroupClash`, `NoGroup` and `NoRoot`, in this order, is answered
-    /// exactly where the rows have it; `Memory` where memory was refused.
+    /// Returns the first fault of `UserTwice`, `HostTwice`, `GroupClash`, `NoGroup` and `NoRoot`, in this order, exactly
+    /// if the rows have it, and `Memory` if memory is refused.
     pub fn new(
+        alloc: Global,
+        people: Vec<Person>,
+        machines: Vec<Machine>,
+    ) -> Result<Directory, DirFault>
+        ensures known { IfOk result (λ d. (d.people ≡ people.items) × (d.machines ≡ machines.items)) }
+        ensures faultless { IfOk result (λ d. directory_fault people.items machines.items ≡ None) }
+        ensures fault { IfErr result (IsRefusal (directory_fault people.items machines.items)) }
+    {
+        Directory::of_rows(alloc, Seq::from_vec(people), Seq::from_vec(machines))
+    }
+
+    /// Returns the directory of these rows, or their fault.
+    fn of_rows(
         alloc: Global,
         people: Seq<Person>,
         machines: Seq<Machine>,

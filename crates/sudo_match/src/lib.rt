@@ -16,6 +16,7 @@ pub use fault::DirFault;
 pub use laws::{brackets_are_cut, characters_are_parts, unclosed_brackets_are_bytes};
 pub use matchers::{command_matches, group_matches, host_matches, user_matches};
 pub use patterns::{Pattern, Slash};
+pub use sudo_rows::{Group, Interface, Machine, Person};
 
 #[cfg(test)]
 mod tests;

@@ -285,16 +285,16 @@ fn users_and_groups(rt: HostRuntime) -> Result<(), Fail> {
 }
 
 /// The users `root` of the group `root`, and `alice` of this group.
-fn users(alloc: Global, group_of_alice: Group) -> Result<Seq<Person>, AllocError> {
-    let mut people = Seq::new(alloc);
+fn users(alloc: Global, group_of_alice: Group) -> Result<Vec<Person>, AllocError> {
+    let mut people = Vec::new(alloc);
     people.push(person(alloc, b"root", group(alloc, b"root", 0)?)?)?;
     people.push(person(alloc, b"alice", group_of_alice)?)?;
     Ok(people)
 }
 
 /// The host `web1`, and another of this name.
-fn two_hosts(alloc: Global, name: &[u8]) -> Result<Seq<Machine>, AllocError> {
-    let mut machines = Seq::new(alloc);
+fn two_hosts(alloc: Global, name: &[u8]) -> Result<Vec<Machine>, AllocError> {
+    let mut machines = Vec::new(alloc);
     machines.push(machine(alloc, b"web1", 1)?)?;
     machines.push(machine(alloc, name, 2)?)?;
     Ok(machines)
@@ -327,7 +327,7 @@ fn numbered(alloc: Global, number: u32) -> Result<Seq<u8>, AllocError> {
 #[test]
 fn large_directories_are_fast(rt: HostRuntime) -> Result<(), Fail> {
     let mut people = users(rt.alloc(), group(rt.alloc(), b"adm", 4)?)?;
-    let mut machines = Seq::new(rt.alloc());
+    let mut machines = Vec::new(rt.alloc());
     for number in 0..100000u32 {
         let name = numbered(rt.alloc(), number)?;
         let own = group(rt.alloc(), name.as_slice(), 1000 + number)?;
@@ -346,7 +346,7 @@ fn large_directories_are_fast(rt: HostRuntime) -> Result<(), Fail> {
 }
 
 /// The fault of rows, or none.
-fn fault(alloc: Global, people: Seq<Person>, machines: Seq<Machine>) -> Option<DirFault> {
+fn fault(alloc: Global, people: Vec<Person>, machines: Vec<Machine>) -> Option<DirFault> {
     match Directory::new(alloc, people, machines) {
         Ok(_) => None,
         Err(fault) => Some(fault),
@@ -372,29 +372,29 @@ fn names_stand_once(rt: HostRuntime) -> Result<(), Fail> {
 fn groups_agree(rt: HostRuntime) -> Result<(), Fail> {
     let people = users(rt.alloc(), group(rt.alloc(), b"adm", 0)?)?;
     let name = Seq::from_slice(rt.alloc(), b"adm")?;
-    let found = fault(rt.alloc(), people, Seq::new(rt.alloc()));
+    let found = fault(rt.alloc(), people, Vec::new(rt.alloc()));
     assert_eq!(rt; found, Some(DirFault::GroupClash { name }));
 
     let people = users(rt.alloc(), group(rt.alloc(), b"root", 4)?)?;
     let name = Seq::from_slice(rt.alloc(), b"root")?;
-    let found = fault(rt.alloc(), people, Seq::new(rt.alloc()));
+    let found = fault(rt.alloc(), people, Vec::new(rt.alloc()));
     assert_eq!(rt; found, Some(DirFault::GroupClash { name }));
     Ok(())
 }
 
 #[test]
 fn users_have_groups_and_root_is_one(rt: HostRuntime) -> Result<(), Fail> {
-    let mut people = Seq::new(rt.alloc());
+    let mut people = Vec::new(rt.alloc());
     people.push(Person {
         name: Seq::from_slice(rt.alloc(), b"bob")?,
         uid: 7,
         groups: Seq::new(rt.alloc()),
     })?;
     let user = Seq::from_slice(rt.alloc(), b"bob")?;
-    let found = fault(rt.alloc(), people, Seq::new(rt.alloc()));
+    let found = fault(rt.alloc(), people, Vec::new(rt.alloc()));
     assert_eq!(rt; found, Some(DirFault::NoGroup { user }));
 
-    let found = fault(rt.alloc(), Seq::new(rt.alloc()), Seq::new(rt.alloc()));
+    let found = fault(rt.alloc(), Vec::new(rt.alloc()), Vec::new(rt.alloc()));
     assert_eq!(rt; found, Some(DirFault::NoRoot));
     Ok(())
 }

@@ -109,16 +109,31 @@ fn add_line(
     }
 }
 
-/// The entries of a file's lines, in order; a line without tokens gives none.
+/// Returns the entries of a file's lines, in order; a line without tokens gives none.
 ///
-/// The first faulty line decides, and in it the leftmost fault: `Text` with the fault of its text where it has one;
+/// The first faulty line decides, and in it the leftmost fault: returns `Text` with the fault of its text if it has one;
 /// else `Syntax`, `NotCommand` and `BadNumber` with the column of the first token that cannot stand there, or of the
 /// line's end, `Unsupported` for a form of sudoers(5) that is known and refused, and `TooMany` for the definition past
-/// 4,096 of its kind. `Memory` comes only where memory was refused.
-pub fn parse(alloc: Global, lines: &[Line]) -> Result<Seq<Entry>, ParseFault>
+/// 4,096 of its kind. Returns `Memory` only if memory is refused.
+pub fn parse(alloc: Global, lines: &[Line]) -> Result<Vec<Entry>, ParseFault>
+    requires { All (λ line. length line.text ≤ TEXT_LIMIT) lines.now }
+    ensures entries { IfOk result (λ entries. AreEntries lines.now entries.items) }
+    // Lines that have entries are read, unless memory was refused.
+    ensures only { (entries : List AnEntry) → AreEntries lines.now entries → MatchResult result
+        (λ read. read.items ≡ entries)
+        (λ fault. fault ≡ ParseFault.Memory) }
+    ensures fault { IfErr result (λ fault. fault ≢ ParseFault.Memory → IsFirstFault lines.now fault) }
+{
+    match entries_of(alloc, lines) {
+        Ok(entries) => Ok(entries.into_vec()),
+        Err(fault) => Err(fault),
+    }
+}
+
+/// Returns the entries of lines, or the first fault.
+fn entries_of(alloc: Global, lines: &[Line]) -> Result<Seq<Entry>, ParseFault>
     requires { All (λ line. length line.text ≤ TEXT_LIMIT) lines.now }
     ensures entries { IfOk result (λ entries. AreEntries lines.now entries) }
-    // Lines that have entries are read, unless memory was refused.
     ensures only { (entries : List AnEntry) → AreEntries lines.now entries → GivesOr entries result }
     ensures fault { IfErr result (λ fault. fault ≢ ParseFault.Memory → IsFirstFault lines.now fault) }
 {

@@ -7,7 +7,7 @@ use sudo_tree::{Atom, Entry, Expected, ParseFault, Signed, Unsupported};
 const PLACE: Place = Place { file: 0, line: 1 };
 
 /// The entries of a text, or why it has none.
-fn read(alloc: Global, text: &[u8]) -> Result<Result<Seq<Entry>, ParseFault>, Fail> {
+fn read(alloc: Global, text: &[u8]) -> Result<Result<Vec<Entry>, ParseFault>, Fail> {
     let lines = lines(alloc, 0, text)?;
     Ok(parse(alloc, &lines))
 }

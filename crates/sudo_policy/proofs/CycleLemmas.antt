@@ -1,16 +1,19 @@
 -- An alias that has a measure reaches no cycle.
-use Rattle.std.proofs.Common.{◌≡◌, ℕ, zero, suc, ◌+◌, ◌≤◌, ◌<◌, Bool, true, false, ◌||◌, List, [], ◌∷◌, length, Option, None, Some, refl, sym, ◌∙◌, ap, subst, arith, inl, inr, ◌⊎◌}
+use Rattle.std.proofs.Common.{◌≡◌, ℕ, zero, suc, ◌<◌, Bool, true, false, ◌||◌, not, List, [], ◌∷◌, length, map, set, Option, None, Some, refl, sym, ◌∙◌, ap, subst, arith, inl, inr, ◌⊎◌}
 use Rattle.std.specs.Prelude.{slice_get, Contains, option_map, option_and_then}
 use Rattle.std.specs.List.{list_any}
+use Rattle.std.proofs.lemmas.List.{length-map}
 use Rattle.std.proofs.lemmas.List.Elements.{Contains-append_cases}
 use Rattle.sudo_policy.specs.declared.graph.Measure.{Measure}
 use Rattle.sudo_policy.specs.declared.graph.State.{State}
 use Rattle.sudo_policy.specs.declared.graph.State.TheVariants.{New, Open, Done, Looped}
 use Rattle.sudo_policy.specs.Graph.{Links, Edge, Path, step, more, ReachesCycle, beside, deeper, link_measure, row_measure, measure_within, MarksOf, StateHolds, StatesHold, IsSettled, is_looped}
-use Rattle.sudo_policy.specs.Marking.{IsMarked, CycleMarks, CycleMarked}
+use Rattle.sudo_policy.specs.Marking.{IsMarked, IsUnmarked, AreSet, PathPast, TurnedTo, IsWhole, Decided}
 use Rattle.sudo_policy.proofs.FollowingLemmas.{joined_parts, option_map_some}
-use Rattle.sudo_policy.proofs.MarkingLemmas.{one_in, none_in}
-use Rattle.sudo_policy.proofs.StateLemmas.{get_within, within_get, same_or_not}
+use Rattle.sudo_policy.proofs.GraphLemmas.{Path-edge, Path-path}
+use Rattle.sudo_policy.proofs.MarkingLemmas.{one_in, none_in, marked_or_not, marked_more, AreSet-kept, AreSet-cases}
+use Rattle.sudo_policy.proofs.PastLemmas.{PathPast-path, PathPast-end, path_past}
+use Rattle.sudo_policy.proofs.StateLemmas.{get_set_cases, get_within, within_get, length_set}
 
 -- the first edge of a path
 path_first : (g : Links) (i j : ℕ) → Path g i j → (k : ℕ) × Edge g i k × ((k ≡ j) ⊎ Path g k j)
@@ -78,7 +81,7 @@ any_at (s ∷ ss) (suc i) h = by (is_looped s) (any_at ss i h)
 edge_inside : (g : Links) (i j : ℕ) → Edge g i j → i < length g
 edge_inside g i j e = within_get g i e.row e.row_is
 
-path_inside : (g : Links) (i j : ℕ) → Path g i j → i < length g
+pub path_inside : (g : Links) (i j : ℕ) → Path g i j → i < length g
 path_inside g i j path = let k = path_first g i j path in edge_inside g i k.0 k.1
 
 pub on_cycle_inside : (g : Links) (i : ℕ) → Path g i i → i < length g
@@ -103,28 +106,121 @@ no_marks g marks long blank free = record {
   );
 }
 
-pub CycleMarks-none : (g : Links) (marks : List Bool) → length marks ≡ length g → ((j : ℕ) (m : Bool) → slice_get marks j ≡ Some m → m ≡ false) → CycleMarks g marks 0
-CycleMarks-none g marks long blank = record {
-  same_length = long;
-  sound = λ i h. (let e : true ≡ false = blank i true h in cc);
-  found = λ i less path. absurd (omega (arith, less));
-}
+-- ---- The aliases round an alias
 
-pub CycleMarks-next : (g : Links) (old new : List Bool) (at : ℕ) → CycleMarks g old at → CycleMarked g at old new → CycleMarks g new (at + 1)
-CycleMarks-next g old new at s m = record {
-  same_length = m.same_length ∙ s.same_length;
-  sound = λ i h. elim (m.only i h) [ inl was ↦ s.sound i was | inr path ↦ path ];
-  found = λ i less path. elim (same_or_not i at) [
-    | inl same ↦ subst (IsMarked new) (sym same) (m.here (subst (λ (k : ℕ). Path g k k) same path))
-    | inr apart ↦ m.kept i (s.found i (omega (arith, less, apart)) path)
+-- a path along links that are turned round
+Path-turned : (g back : Links) → ((i j : ℕ) → Edge back j i → Edge g i j) → (i j : ℕ) → Path back j i → Path g i j
+Path-turned g back only i j (step e) = step (only i j e)
+Path-turned g back only i j (more e path) = Path-edge g i _ j (Path-turned g back only i _ path) (only _ j e)
+
+path_back : (g back : Links) → TurnedTo g (length g) back → (i j : ℕ) → Path g i j → Path back j i
+path_back g back t i j (step e) = step (t.all i j (edge_inside g i j e) e)
+path_back g back t i j (more e path) = Path-edge back j _ i (path_back g back t _ j path) (t.all i _ (edge_inside g i _ e) e)
+
+-- behind an alias that is not done are, past those that are done, all that it leads to and is reached from
+in_behind : (g back : Links) (node : ℕ) (done : List Bool) (behind : List ℕ) → TurnedTo g (length g) back → length done ≡ length g → IsWhole g done → IsUnmarked done node → ((i : ℕ) → PathPast back done node i → Contains behind i) → (i : ℕ) → Path g node i → Path g i node → Contains behind i
+in_behind g back node done behind t long whole new found i there back_path = found i (path_past back done node i (path_back g back t i node back_path) free)
+  where
+    free : (k : ℕ) → Path back node k → (k ≡ i) ⊎ Path back k i → IsUnmarked done k
+    free k from on =
+        let to_node : Path g k node = Path-turned g back t.only k node from in
+        let from_node : Path g node k = elim on [
+          | inl same ↦ subst (Path g node) (sym same) there
+          | inr path ↦ Path-path g node i k there (Path-turned g back t.only i k path)
+        ] in
+        let less = path_inside g k node to_node in
+        let m = get_within done k (omega (arith, less, long)) in
+        elim (marked_or_not done k m.0 m.1) [
+          | inl marked ↦ (let was : IsMarked done node = whole k node marked to_node from_node in let both : Some false ≡ Some true = sym new ∙ was in cc)
+          | inr not ↦ m.1 ∙ ap Some not
+        ]
+
+-- of those behind an alias, those that it leads to past the others are the ones on a cycle with it
+pub round_is : (g back : Links) (node : ℕ) (done aside mid : List Bool) (behind round : List ℕ)
+    → TurnedTo g (length g) back → length done ≡ length g → IsWhole g done → IsUnmarked done node
+    → ((i : ℕ) (m : Bool) → slice_get aside i ≡ Some m → m ≡ true) → AreSet false behind aside mid
+    → ((i : ℕ) → (Contains behind i → PathPast back done node i) × (PathPast back done node i → Contains behind i))
+    → ((i : ℕ) → (Contains round i → PathPast g mid node i) × (PathPast g mid node i → Contains round i))
+    → (i : ℕ) → (Contains round i → Path g node i × Path g i node) × (Path g node i × Path g i node → Contains round i)
+round_is g back node done aside mid behind round t long whole new full s behind_is found i = (
+  (λ h. (let path = (found i).0 h in (PathPast-path g mid node i path, to_node i (PathPast-end g mid node i path)))),
+  (λ both. (found i).1 (path_past g mid node i both.0 (λ k from on. s.those k (in_behind g back node done behind t long whole new (λ j. (behind_is j).1) k from (onward k on both.1))))),
+)
+  where
+    to_node : (k : ℕ) → IsUnmarked mid k → Path g k node
+    to_node k free = elim (s.only k false free) [
+      | inl was ↦ (let e : false ≡ true = full k false was in cc)
+      | inr here ↦ Path-turned g back t.only k node (PathPast-path back done node k ((behind_is k).0 here.0))
+    ]
+
+    onward : (k : ℕ) → (k ≡ i) ⊎ Path g k i → Path g i node → Path g k node
+    onward k (inl same) path = subst (λ (j : ℕ). Path g j node) (sym same) path
+    onward k (inr on) path = Path-path g k i node on path
+
+-- ---- What is decided
+
+-- the aliases that reach no cycle are done
+pub Decided-begin : (g : Links) (states : List State) (done cyclic : List Bool) → StatesHold g states → ((i : ℕ) (s : State) → slice_get states i ≡ Some s → IsSettled s) → length states ≡ length g → done ≡ map (λ s. not (is_looped s)) states → length cyclic ≡ length g → ((i : ℕ) (m : Bool) → slice_get cyclic i ≡ Some m → m ≡ false) → Decided g done cyclic
+Decided-begin g states done cyclic held settled long is cyclic_long blank = record {
+  done_length = ap length is ∙ length-map states (λ s. not (is_looped s)) ∙ long;
+  cyclic_length = cyclic_long;
+  whole = λ i j h there back. absurd (free i h (Path-path g i j i there back));
+  sound = λ i h. (let e : true ≡ false = blank i true h in cc);
+  found = λ i h path. absurd (free i h path);
+}
+  where
+    unlooped : (ss : List State) (i : ℕ) → IsMarked (map (λ s. not (is_looped s)) ss) i → (s : State) × (slice_get ss i ≡ Some s) × (s ≡ Looped → ⊥)
+    unlooped [] i h = cc
+    unlooped (s ∷ ss) zero h = (s, refl, λ e. (let was : Some (not (is_looped s)) ≡ Some true = h in let k : not (is_looped s) ≡ false = ap (λ (x : State). not (is_looped x)) e in cc))
+    unlooped (s ∷ ss) (suc i) h = unlooped ss i h
+
+    free : (i : ℕ) → IsMarked done i → Path g i i → ⊥
+    free i h path =
+        let s = unlooped states i (ap (λ (xs : List Bool). slice_get xs i) (sym is) ∙ h) in
+        not_looped g i s.0 (held i s.0 s.1) (settled i s.0 s.1) s.2 path
+
+-- an alias and those round it are done
+pub Decided-next : (g : Links) (node : ℕ) (done cyclic : List Bool) (round : List ℕ) (new_cyclic mid : List Bool) → node < length g → Decided g done cyclic → ((i : ℕ) → (Contains round i → Path g node i × Path g i node) × (Path g node i × Path g i node → Contains round i)) → AreSet true round cyclic new_cyclic → AreSet true round done mid → Decided g (set mid node true) new_cyclic
+Decided-next g node done cyclic round new_cyclic mid inside d round_are c s = record {
+  done_length = length_set mid node true ∙ s.same_length ∙ d.done_length;
+  cyclic_length = c.same_length ∙ d.cyclic_length;
+  whole = λ i j h there back. elim (cases i h) [
+    | inl was ↦ marked_more mid node j mid_inside (AreSet-kept round done mid j s (d.whole i j was there back))
+    | inr near ↦ marked_more mid node j mid_inside (s.those j ((round_are j).1 (leads i j near there, returns i j near back)))
+  ];
+  sound = λ i h. elim (AreSet-cases round cyclic new_cyclic i c h) [
+    | inl was ↦ d.sound i was
+    | inr here ↦ (let way = (round_are i).0 here in Path-path g i node i way.1 way.0)
+  ];
+  found = λ i h path. elim (cases i h) [
+    | inl was ↦ AreSet-kept round cyclic new_cyclic i c (d.found i was path)
+    | inr near ↦ c.those i ((round_are i).1 (leads i i near path, returns i i near path))
   ];
 }
+  where
+    mid_inside : node < length mid
+    mid_inside = let long = s.same_length in let sizes = d.done_length in omega (arith, inside, long, sizes)
 
-pub CycleMarks-end : (g : Links) (marks : List Bool) (at : ℕ) → length g ≤ at → CycleMarks g marks at → MarksOf (length g) (λ i. Path g i i) marks
-CycleMarks-end g marks at past s = record {
-  same_length = s.same_length;
-  exact = λ i mark is. (
-    (λ h. s.sound i (is ∙ ap Some h)),
-    (λ path. (let less = path_inside g i i path in let found : IsMarked marks i = s.found i (omega (arith, less, past)) path in let e : Some mark ≡ Some true = sym is ∙ found in cc)),
+    -- what is done was done before, or is the alias, or is round it
+    cases : (i : ℕ) → IsMarked (set mid node true) i → IsMarked done i ⊎ ((i ≡ node) ⊎ Contains round i)
+    cases i h = elim (get_set_cases mid node i true true mid_inside h) [
+      | inl here ↦ inr (inl here.0)
+      | inr other ↦ (elim (AreSet-cases round done mid i s other.1) [ inl was ↦ inl was | inr here ↦ inr (inr here) ])
+    ]
+
+    leads : (i j : ℕ) → (i ≡ node) ⊎ Contains round i → Path g i j → Path g node j
+    leads i j (inl same) path = subst (λ (k : ℕ). Path g k j) same path
+    leads i j (inr here) path = Path-path g node i j ((round_are i).0 here).0 path
+
+    returns : (i j : ℕ) → (i ≡ node) ⊎ Contains round i → Path g j i → Path g j node
+    returns i j (inl same) path = subst (Path g j) same path
+    returns i j (inr here) path = Path-path g j i node path ((round_are i).0 here).1
+
+pub Decided-end : (g : Links) (done cyclic : List Bool) → Decided g done cyclic → ((i : ℕ) → i < length g → IsMarked done i) → MarksOf (length g) (λ i. Path g i i) cyclic
+Decided-end g done cyclic d all = record {
+  same_length = d.cyclic_length;
+  exact = λ i mark at. (
+    (λ h. d.sound i (at ∙ ap Some h)),
+    (λ path. (let found : IsMarked cyclic i = d.found i (all i (path_inside g i i path)) path in let e : Some mark ≡ Some true = sym at ∙ found in cc)),
   );
 }

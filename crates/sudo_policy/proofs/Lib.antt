@@ -6,6 +6,7 @@ pub mod CycleLemmas
 pub mod WritingLemmas
 pub mod SoundLemmas
 pub mod MarkingLemmas
+pub mod PastLemmas
 pub mod Laws
 pub mod FollowingLemmas
 pub mod GraphLemmas

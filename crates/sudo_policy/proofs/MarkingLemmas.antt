@@ -1,12 +1,11 @@
 -- Laws of the marking of aliases.
-use Rattle.std.proofs.Common.{◌≡◌, ℕ, zero, suc, ◌+◌, ◌≤◌, ◌<◌, Bool, true, false, ◌&&◌, ◌||◌, List, [], ◌∷◌, ◌++◌, take, set, get_or, replicate, length, Option, None, Some, refl, sym, ◌∙◌, ap, subst, arith, inl, inr, ◌⊎◌, length-append}
+use Rattle.std.proofs.Common.{◌≡◌, ℕ, zero, suc, ◌+◌, ◌<◌, Bool, true, false, List, [], ◌∷◌, ◌++◌, take, set, get_or, replicate, length, Option, None, Some, refl, sym, ◌∙◌, ap, subst, arith, inl, inr, ◌⊎◌, length-append}
 use Rattle.std.specs.Prelude.{slice_get, Contains}
 use Rattle.std.proofs.lemmas.Option.{slice_get-get_or}
 use Rattle.std.proofs.lemmas.List.Elements.{Contains-get_or, Contains-append_left, Contains-append_right, Contains-append_cases, Contains-push, Contains-push_cases}
-use Rattle.sudo_policy.specs.Graph.{Links, Edge, Path, step, more, IsReached, IsInside, IsClosed, MarksOf}
-use Rattle.sudo_policy.specs.Marking.{IsMarked, unmarked, Marked, Spreads, BothMarked, CycleMarked, RowTurned, TurnedTo}
-use Rattle.sudo_policy.proofs.GraphLemmas.{Path-edge, Path-path}
-use Rattle.sudo_policy.proofs.StateLemmas.{get_set_same, get_set_other, get_within, within_get, length_set, same_or_not}
+use Rattle.sudo_policy.specs.Graph.{Links, Edge, IsInside, IsClosed}
+use Rattle.sudo_policy.specs.Marking.{IsMarked, IsUnmarked, unmarked, Marked, AreSet, RowTurned, TurnedTo}
+use Rattle.sudo_policy.proofs.StateLemmas.{get_set_same, get_set_other, get_set_cases, get_within, within_get, length_set, same_or_not}
 
 -- ---- Elements
 
@@ -26,7 +25,7 @@ in_at (y ∷ xs) (suc i) x h = Contains-append_right (y ∷ []) xs x (in_at xs i
 
 -- ---- Marks
 
-marked_or_not : (marks : List Bool) (i : ℕ) (m : Bool) → slice_get marks i ≡ Some m → IsMarked marks i ⊎ (m ≡ false)
+pub marked_or_not : (marks : List Bool) (i : ℕ) (m : Bool) → slice_get marks i ≡ Some m → IsMarked marks i ⊎ (m ≡ false)
 marked_or_not marks i true h = inl h
 marked_or_not marks i false h = inr refl
 
@@ -40,7 +39,6 @@ Marked-same row marks work known = record {
   same_length = refl;
   kept = λ i h. h;
   all = known;
-  only = λ i h. inl h;
   noted = λ i h. inl h;
   still = λ i h. h;
   waits = λ i h. inl h;
@@ -66,10 +64,6 @@ Marked-new marks work link alias is new =
         | inr apart ↦ get_set_other marks alias i true apart ∙ h
       ];
       all = λ i h. (let e : Some alias ≡ Some i = sym is ∙ one_in link (Some i) h in let same : alias ≡ i = cc in subst (IsMarked (set marks alias true)) same here);
-      only = λ i h. elim (same_or_not i alias) [
-        | inl same ↦ inr (subst (λ (k : ℕ). Contains (link ∷ []) (Some k)) (sym same) (subst (λ (l : Option ℕ). Contains (l ∷ []) (Some alias)) (sym is) (is_one (Some alias))))
-        | inr apart ↦ inl (sym (get_set_other marks alias i true apart) ∙ h)
-      ];
       noted = λ i h. elim (same_or_not i alias) [
         | inl same ↦ inr (subst (Contains (work ++ alias ∷ [])) (sym same) (Contains-push work alias))
         | inr apart ↦ inl (sym (get_set_other marks alias i true apart) ∙ h)
@@ -77,10 +71,23 @@ Marked-new marks work link alias is new =
       still = λ i h. Contains-append_left work (alias ∷ []) i h;
       waits = λ i h. elim (Contains-push_cases work alias i h) [
         | inl old ↦ inl old
-        | inr same ↦ inr (subst (IsMarked (set marks alias true)) same here)
+        | inr same ↦ inr (
+          subst (IsUnmarked marks) same new,
+          subst (λ (k : ℕ). Contains (link ∷ []) (Some k)) same (subst (λ (l : Option ℕ). Contains (l ∷ []) (Some alias)) (sym is) (is_one (Some alias))),
+        )
       ];
       falls = omega (arith, fewer, long);
     }
+
+-- what is not marked was not marked
+pub unmarked_before : (old new : List Bool) (i : ℕ) → length new ≡ length old → ((j : ℕ) → IsMarked old j → IsMarked new j) → IsUnmarked new i → IsUnmarked old i
+unmarked_before old new i long kept free =
+    let inside = within_get new i false free in
+    let m = get_within old i (omega (arith, inside, long)) in
+    elim (marked_or_not old i m.0 m.1) [
+      | inl marked ↦ (let both : Some true ≡ Some false = sym (kept i marked) ∙ free in cc)
+      | inr false_is ↦ m.1 ∙ ap Some false_is
+    ]
 
 -- one row and then another
 pub Marked-append : (xs ys : List (Option ℕ)) (a b c : List Bool) (u v w : List ℕ) → Marked xs a u b v → Marked ys b v c w → Marked (xs ++ ys) a u c w
@@ -94,201 +101,88 @@ Marked-append xs ys a b c u v w f g =
         | inl left ↦ g.kept i (f.all i left)
         | inr right ↦ g.all i right
       ];
-      only = λ i h. elim (g.only i h) [
-        | inl old ↦ (elim (f.only i old) [ inl older ↦ inl older | inr here ↦ inr (Contains-append_left xs ys (Some i) here) ])
-        | inr here ↦ inr (Contains-append_right xs ys (Some i) here)
-      ];
       noted = λ i h. elim (g.noted i h) [
         | inl old ↦ (elim (f.noted i old) [ inl older ↦ inl older | inr waiting ↦ inr (g.still i waiting) ])
         | inr waiting ↦ inr waiting
       ];
       still = λ i h. g.still i (f.still i h);
       waits = λ i h. elim (g.waits i h) [
-        | inl before ↦ (elim (f.waits i before) [ inl first ↦ inl first | inr marked ↦ inr (g.kept i marked) ])
-        | inr marked ↦ inr marked
+        | inl before ↦ (elim (f.waits i before) [ inl first ↦ inl first | inr here ↦ inr (here.0, Contains-append_left xs ys (Some i) here.1) ])
+        | inr here ↦ inr (unmarked_before a b i f.same_length f.kept here.0, Contains-append_right xs ys (Some i) here.1)
       ];
       falls = omega (arith, first, second);
     }
 
--- ---- Spreading
-
-none_marked : (n i : ℕ) (marks : List Bool) → ((j : ℕ) (m : Bool) → slice_get marks j ≡ Some m → m ≡ false) → IsMarked marks i → ⊥
-none_marked n i marks all h = let e = all i true h in cc
-
--- the roots are marked
-pub Spreads-begin : (g : Links) (roots : List (Option ℕ)) (blank marks : List Bool) (before work : List ℕ) → length blank ≡ length g → ((j : ℕ) (m : Bool) → slice_get blank j ≡ Some m → m ≡ false) → ((j : ℕ) → Contains before j → ⊥) → Marked roots blank before marks work → Spreads g roots marks work
-Spreads-begin g roots blank marks before work long none empty m = record {
-  same_length = m.same_length ∙ long;
-  sound = λ i h. elim (m.only i h) [
-    | inl old ↦ absurd (none_marked 0 i blank none old)
-    | inr root ↦ record { root = i; among = root; way = inl refl }
-  ];
-  begun = m.all;
-  spread = λ i h. elim (m.noted i h) [ inl old ↦ absurd (none_marked 0 i blank none old) | inr waiting ↦ inl waiting ];
-  waits = λ i h. elim (m.waits i h) [ inl old ↦ absurd (empty i old) | inr marked ↦ marked ];
-}
-
-IsReached-edge : (g : Links) (roots : List (Option ℕ)) (i j : ℕ) → IsReached g roots i → Edge g i j → IsReached g roots j
-IsReached-edge g roots i j r e = record {
-  root = r.root;
-  among = r.among;
-  way = elim r.way [
-    | inl same ↦ inr (step (subst (λ (k : ℕ). Edge g k j) (sym same) e))
-    | inr path ↦ inr (Path-edge g r.root i j path e)
-  ];
-}
-
--- one alias that waited is done
-pub Spreads-next : (g : Links) (roots : List (Option ℕ)) (row : List (Option ℕ)) (alias : ℕ) (a b : List Bool) (all u w : List ℕ) → all ≡ u ++ alias ∷ [] → slice_get g alias ≡ Some row → Spreads g roots a all → Marked row a u b w → Spreads g roots b w
-Spreads-next g roots row alias a b all u w split at s m =
-    let here : IsMarked a alias = s.waits alias (subst (λ (x : List ℕ). Contains x alias) (sym split) (Contains-push u alias)) in
-    record {
-      same_length = m.same_length ∙ s.same_length;
-      sound = λ i h. elim (m.only i h) [
-        | inl old ↦ s.sound i old
-        | inr named ↦ IsReached-edge g roots alias i (s.sound alias here) (record { row = row; row_is = at; has = named })
-      ];
-      begun = λ i h. m.kept i (s.begun i h);
-      spread = λ i h. elim (m.noted i h) [
-        | inl old ↦ (elim (s.spread i old) [
-          | inl waits ↦ (elim (Contains-push_cases u alias i (subst (λ (x : List ℕ). Contains x i) split waits)) [
-            | inl still ↦ inl (m.still i still)
-            | inr same ↦ inr (λ j e. m.all j (row_has i j same e))
-          ])
-          | inr leads ↦ inr (λ j e. m.kept j (leads j e))
-        ])
-        | inr waiting ↦ inl waiting
-      ];
-      waits = λ i h. elim (m.waits i h) [
-        | inl before ↦ m.kept i (s.waits i (subst (λ (x : List ℕ). Contains x i) (sym split) (Contains-append_left u (alias ∷ []) i before)))
-        | inr marked ↦ marked
-      ];
-    }
-  where
-    row_has : (i j : ℕ) → alias ≡ i → Edge g i j → Contains row (Some j)
-    row_has i j same e =
-        let there : slice_get g alias ≡ Some e.row = ap (slice_get g) same ∙ e.row_is in
-        let is : e.row ≡ row = cc in
-        subst (λ (r : List (Option ℕ)). Contains r (Some j)) is e.has
-
--- nothing waits
-pub Spreads-end : (g : Links) (roots : List (Option ℕ)) (marks : List Bool) (work : List ℕ) → ((i : ℕ) → Contains work i → ⊥) → Spreads g roots marks work → MarksOf (length g) (IsReached g roots) marks
-Spreads-end g roots marks work none s = record {
-  same_length = s.same_length;
-  exact = λ i mark at. (
-    (λ h. s.sound i (subst (λ (b : Bool). slice_get marks i ≡ Some b) h at)),
-    (λ r. (let found : IsMarked marks i = reach i r in let e : Some mark ≡ Some true = sym at ∙ found in cc)),
-  );
-}
-  where
-    on : (i j : ℕ) → IsMarked marks i → Edge g i j → IsMarked marks j
-    on i j h e = elim (s.spread i h) [ inl waiting ↦ absurd (none i waiting) | inr leads ↦ leads j e ]
-
-    along : (i j : ℕ) → IsMarked marks i → Path g i j → IsMarked marks j
-    along i j h (step e) = on i j h e
-    along i j h (more e path) = along _ j (on i _ h e) path
-
-    reach : (i : ℕ) → IsReached g roots i → IsMarked marks i
-    reach i r = elim r.way [
-      | inl same ↦ subst (IsMarked marks) same (s.begun r.root r.among)
-      | inr path ↦ along r.root i (s.begun r.root r.among) path
-    ]
-
--- ---- What two lists mark
-
-pub record BothUpto (ahead behind old : List Bool) (n : ℕ) (marks : List Bool) : Type 0 where
-  pub same_length : length marks ≡ length old
-  pub kept : (i : ℕ) → IsMarked old i → IsMarked marks i
-  pub all : (i : ℕ) → i < n → IsMarked ahead i → IsMarked behind i → IsMarked marks i
-  pub only : (i : ℕ) → IsMarked marks i → IsMarked old i ⊎ (IsMarked ahead i × IsMarked behind i)
-
-pub BothUpto-none : (ahead behind old : List Bool) → BothUpto ahead behind old 0 old
-BothUpto-none ahead behind old = record { same_length = refl; kept = λ i h. h; all = λ i less f g. absurd (omega (arith, less)); only = λ i h. inl h }
-
-or_cases : (m a b : Bool) → (m || (a && b)) ≡ true → (m ≡ true) ⊎ ((a ≡ true) × (b ≡ true))
-or_cases true a b h = inl refl
-or_cases false true true h = inr (refl, refl)
-or_cases false true false h = cc
-or_cases false false b h = cc
-
-pub BothUpto-next : (ahead behind old : List Bool) (n : ℕ) (marks : List Bool) (m a b v : Bool) → slice_get marks n ≡ Some m → slice_get ahead n ≡ Some a → slice_get behind n ≡ Some b → v ≡ (m || (a && b)) → BothUpto ahead behind old n marks → BothUpto ahead behind old (n + 1) (set marks n v)
-BothUpto-next ahead behind old n marks m a b v at_m at_a at_b is s =
-    let inside = within_get marks n m at_m in
-    let here : slice_get (set marks n v) n ≡ Some v = get_set_same marks n v inside in
-    record {
-      same_length = length_set marks n v ∙ s.same_length;
-      kept = λ i h. elim (same_or_not i n) [
-        | inl same ↦ subst (IsMarked (set marks n v)) (sym same)
-            (here ∙ ap Some (is ∙ marked_value m a b (let k : IsMarked marks n = subst (IsMarked marks) same (s.kept i h) in let e : Some m ≡ Some true = sym at_m ∙ k in cc)))
-        | inr apart ↦ get_set_other marks n i v apart ∙ s.kept i h
-      ];
-      all = λ i less f g. elim (same_or_not i n) [
-        | inl same ↦ subst (IsMarked (set marks n v)) (sym same)
-            (here ∙ ap Some (is ∙ both_value m a b
-            (let k : IsMarked ahead n = subst (IsMarked ahead) same f in let e : Some a ≡ Some true = sym at_a ∙ k in cc)
-            (let k : IsMarked behind n = subst (IsMarked behind) same g in let e : Some b ≡ Some true = sym at_b ∙ k in cc)))
-        | inr apart ↦ get_set_other marks n i v apart ∙ s.all i (omega (arith, less, apart)) f g
-      ];
-      only = λ i h. elim (same_or_not i n) [
-        | inl same ↦
-            (let now : Some v ≡ Some true = sym here ∙ subst (IsMarked (set marks n v)) same h in
-            let t : v ≡ true = cc in
-            elim (or_cases m a b (sym is ∙ t)) [
-              | inl was ↦ subst (λ (k : ℕ). IsMarked old k ⊎ (IsMarked ahead k × IsMarked behind k)) (sym same) (s.only n (at_m ∙ ap Some was))
-              | inr two ↦ inr (subst (IsMarked ahead) (sym same) (at_a ∙ ap Some two.0), subst (IsMarked behind) (sym same) (at_b ∙ ap Some two.1))
-            ])
-        | inr apart ↦ s.only i (sym (get_set_other marks n i v apart) ∙ h)
-      ];
-    }
-  where
-    marked_value : (m a b : Bool) → m ≡ true → (m || (a && b)) ≡ true
-    marked_value true a b h = refl
-    marked_value false a b h = cc
-
-    both_value : (m a b : Bool) → a ≡ true → b ≡ true → (m || (a && b)) ≡ true
-    both_value true a b f g = refl
-    both_value false true true f g = refl
-    both_value false true false f g = cc
-    both_value false false b f g = cc
-
-pub BothUpto-end : (ahead behind old : List Bool) (n : ℕ) (marks : List Bool) → length old ≤ n → BothUpto ahead behind old n marks → length ahead ≡ length old → BothMarked ahead behind old marks
-BothUpto-end ahead behind old n marks past s long = record {
-  same_length = s.same_length;
-  kept = s.kept;
-  all = λ i f g. (let inside = within_get ahead i true f in s.all i (omega (arith, inside, long, past)) f g);
-  only = s.only;
-}
-
--- ---- Cycles
-
-pub none_marked_in : (marks : List Bool) → ((j : ℕ) (m : Bool) → slice_get marks j ≡ Some m → m ≡ false) → (i : ℕ) → IsMarked marks i → ⊥
-none_marked_in marks all i h = let e = all i true h in cc
-
-pub CycleMarked-same : (g : Links) (node : ℕ) (marks : List Bool) → (Path g node node → IsMarked marks node) → CycleMarked g node marks marks
-CycleMarked-same g node marks here = record { same_length = refl; kept = λ i h. h; only = λ i h. inl h; here = here }
-
-Path-turned : (g back : Links) → ((i j : ℕ) → Edge back j i → Edge g i j) → (i j : ℕ) → Path back j i → Path g i j
-Path-turned g back only i j (step e) = step (only i j e)
-Path-turned g back only i j (more e path) = Path-edge g i _ j (Path-turned g back only i _ path) (only _ j e)
-
--- what an alias's row reaches is what the alias leads to
-pub reached_path : (g : Links) (node : ℕ) (row : List (Option ℕ)) → slice_get g node ≡ Some row → (i : ℕ) → IsReached g row i → Path g node i
-reached_path g node row at i r =
-    let e : Edge g node r.root = record { row = row; row_is = at; has = r.among } in
-    elim r.way [
-      | inl same ↦ subst (Path g node) same (step e)
-      | inr path ↦ more e path
-    ]
-
-row_of : (g : Links) (node i : ℕ) (row : List (Option ℕ)) → slice_get g node ≡ Some row → Edge g node i → Contains row (Some i)
+pub row_of : (g : Links) (node i : ℕ) (row : List (Option ℕ)) → slice_get g node ≡ Some row → Edge g node i → Contains row (Some i)
 row_of g node i row at e =
     let both : Some e.row ≡ Some row = sym e.row_is ∙ at in
     let is : e.row ≡ row = cc in
     subst (λ (r : List (Option ℕ)). Contains r (Some i)) is e.has
 
-pub path_reached : (g : Links) (node : ℕ) (row : List (Option ℕ)) → slice_get g node ≡ Some row → (i : ℕ) → Path g node i → IsReached g row i
-path_reached g node row at i (step e) = record { root = i; among = row_of g node i row at e; way = inl refl }
-path_reached g node row at i (more e path) = record { root = _; among = row_of g node _ row at e; way = inr path }
+-- ---- Marks that are set
+
+pub AreSet-none : (mark : Bool) (marks : List Bool) → AreSet mark [] marks marks
+AreSet-none mark marks = record { same_length = refl; those = λ i h. absurd (none_in i h); only = λ i m at. inl at }
+
+pub AreSet-next : (mark : Bool) (aliases : List ℕ) (at : ℕ) (old marks : List Bool) → at < length marks → AreSet mark aliases old marks → AreSet mark (aliases ++ at ∷ []) old (set marks at mark)
+AreSet-next mark aliases at old marks inside s = record {
+  same_length = length_set marks at mark ∙ s.same_length;
+  those = λ i h. elim (same_or_not i at) [
+    | inl same ↦ ap (slice_get (set marks at mark)) same ∙ get_set_same marks at mark inside
+    | inr apart ↦ (elim (Contains-push_cases aliases at i h) [
+      | inl before ↦ get_set_other marks at i mark apart ∙ s.those i before
+      | inr same ↦ absurd (apart (sym same))
+    ])
+  ];
+  only = λ i m is. elim (get_set_cases marks at i mark m inside is) [
+    | inl here ↦ inr (subst (Contains (aliases ++ at ∷ [])) (sym here.0) (Contains-push aliases at), here.1)
+    | inr other ↦ (elim (s.only i m other.1) [
+      | inl was ↦ inl was
+      | inr set_before ↦ inr (Contains-append_left aliases (at ∷ []) i set_before.0, set_before.1)
+    ])
+  ];
+}
+
+-- marks that are added leave those that were
+pub AreSet-kept : (aliases : List ℕ) (old new : List Bool) (i : ℕ) → AreSet true aliases old new → IsMarked old i → IsMarked new i
+AreSet-kept aliases old new i s was =
+    let inside = within_get old i true was in
+    let long = s.same_length in
+    let m = get_within new i (omega (arith, inside, long)) in
+    elim (s.only i m.0 m.1) [
+      | inl same ↦ (let both : Some true ≡ Some m.0 = sym was ∙ same in m.1 ∙ sym both)
+      | inr here ↦ m.1 ∙ ap Some here.1
+    ]
+
+-- one more mark leaves those that were
+pub marked_more : (marks : List Bool) (at i : ℕ) → at < length marks → IsMarked marks i → IsMarked (set marks at true) i
+marked_more marks at i inside h = elim (same_or_not i at) [
+  | inl same ↦ subst (IsMarked (set marks at true)) (sym same) (get_set_same marks at true inside)
+  | inr apart ↦ get_set_other marks at i true apart ∙ h
+]
+
+pub AreSet-cases : (aliases : List ℕ) (old new : List Bool) (i : ℕ) → AreSet true aliases old new → IsMarked new i → IsMarked old i ⊎ Contains aliases i
+AreSet-cases aliases old new i s now = elim (s.only i true now) [ inl was ↦ inl was | inr here ↦ inr here.0 ]
+
+same_list : {X : Type 0} (xs ys : List X) → length xs ≡ length ys → ((i : ℕ) (x : X) → slice_get xs i ≡ Some x → slice_get ys i ≡ Some x) → xs ≡ ys
+same_list [] [] long same = refl
+same_list [] (y ∷ ys) long same = absurd (omega (arith, long))
+same_list (x ∷ xs) [] long same = absurd (omega (arith, long))
+same_list (x ∷ xs) (y ∷ ys) long same =
+    let first : Some y ≡ Some x = same 0 x refl in
+    let others : xs ≡ ys = same_list xs ys (omega (arith, long)) (λ i z at. same (suc i) z at) in
+    cc
+
+-- marks that are set and set back are as they were
+pub AreSet-back : (there back : Bool) (aliases : List ℕ) (old mid new : List Bool) → AreSet there aliases old mid → AreSet back aliases mid new → ((i : ℕ) → Contains aliases i → slice_get old i ≡ Some back) → new ≡ old
+AreSet-back there back aliases old mid new s t before = same_list new old (t.same_length ∙ s.same_length)
+    (λ i m at. elim (t.only i m at) [
+      | inl was ↦ (elim (s.only i m was) [ inl older ↦ older | inr here ↦ again i m here.0 at ])
+      | inr here ↦ again i m here.0 at
+    ])
+  where
+    again : (i : ℕ) (m : Bool) → Contains aliases i → slice_get new i ≡ Some m → slice_get old i ≡ Some m
+    again i m here at = before i here ∙ sym (t.those i here) ∙ at
 
 -- ---- Reads and writes
 
@@ -310,13 +204,14 @@ take_front (x ∷ xs) zs = ap (λ ys. x ∷ ys) (take_front xs zs)
 pub written_back : {X : Type 0} (n : ℕ) (xs zs : List X) → length xs ≡ n → take n (xs ++ zs) ≡ xs
 written_back n xs zs long = ap (λ k. take k (xs ++ zs)) (sym long) ∙ take_front xs zs
 
-pub all_false : (n j : ℕ) (m : Bool) → slice_get (replicate n false) j ≡ Some m → m ≡ false
-all_false zero j m h = cc
-all_false (suc n) zero m h = cc
-all_false (suc n) (suc j) m h = all_false n j m h
+-- one value over and over
+all_same : {X : Type 0} (n i : ℕ) (v x : X) → slice_get (replicate n v) i ≡ Some x → x ≡ v
+all_same zero i v x h = cc
+all_same (suc n) zero v x h = cc
+all_same (suc n) (suc i) v x h = all_same n i v x h
 
-pub blank_marks : (n : ℕ) (marks : List Bool) → marks ≡ replicate n false → (j : ℕ) (m : Bool) → slice_get marks j ≡ Some m → m ≡ false
-blank_marks n marks is j m at = all_false n j m (ap (λ xs. slice_get xs j) (sym is) ∙ at)
+pub same_marks : (n : ℕ) (v : Bool) (marks : List Bool) → marks ≡ replicate n v → (i : ℕ) (m : Bool) → slice_get marks i ≡ Some m → m ≡ v
+same_marks n v marks is i m at = all_same n i v m (ap (λ xs. slice_get xs i) (sym is) ∙ at)
 
 -- ---- Links turned round
 
@@ -407,60 +302,7 @@ IsClosed-turned g back t i j e =
     let same = t.same_length in
     omega (arith, less, same)
 
--- ---- One search for a cycle
-
-pub CycleMarked-search : (g back : Links) (node : ℕ) (row turned_row : List (Option ℕ)) (ahead behind old new : List Bool)
-    → slice_get g node ≡ Some row → slice_get back node ≡ Some turned_row → TurnedTo g (length g) back
-    → MarksOf (length g) (IsReached g row) ahead → MarksOf (length back) (IsReached back turned_row) behind
-    → length old ≡ length g → IsMarked ahead node → BothMarked ahead behind old new → CycleMarked g node old new
-CycleMarked-search g back node row turned_row ahead behind old new at back_at t a b long here both = record {
-  same_length = both.same_length;
-  kept = both.kept;
-  only = λ i h. elim (both.only i h) [
-    | inl was ↦ inl was
-    | inr two ↦
-        (let there : Path g node i = reached_path g node row at i ((a.exact i true two.0).0 refl) in
-        let back_path : Path back node i = reached_path back node turned_row back_at i ((b.exact i true two.1).0 refl) in
-        inr (Path-path g i node i (Path-turned g back t.only i node back_path) there))
-  ];
-  here = λ path. both.all node here (found (get_within behind node (omega (arith, inside, b_long, t_long))) path);
-}
-  where
-    inside : node < length g
-    inside = within_get g node row at
-
-    b_long : length behind ≡ length back
-    b_long = b.same_length
-
-    t_long : length back ≡ length g
-    t_long = t.same_length
-
-    round : (i j : ℕ) → Path g i j → Path back j i
-    round i j (step e) = step (t.all i j (within_edge i j e) e)
-      where
-        within_edge : (i j : ℕ) → Edge g i j → i < length g
-        within_edge i j e = within_get g i e.row e.row_is
-    round i j (more e path) = Path-edge back j _ i (round _ j path) (t.all i _ (within_edge i _ e) e)
-      where
-        within_edge : (i j : ℕ) → Edge g i j → i < length g
-        within_edge i j e = within_get g i e.row e.row_is
-
-    found : (m : Bool) × (slice_get behind node ≡ Some m) → Path g node node → IsMarked behind node
-    found m path = m.1 ∙ ap Some ((b.exact node m.0 m.1).1 (path_reached back node turned_row back_at node (round node node path)))
-
--- the alias is not reached from itself
-pub CycleMarked-not : (g : Links) (node : ℕ) (row : List (Option ℕ)) (ahead old : List Bool) → slice_get g node ≡ Some row → MarksOf (length g) (IsReached g row) ahead → slice_get ahead node ≡ Some false → CycleMarked g node old old
-CycleMarked-not g node row ahead old at a not_here = CycleMarked-same g node old (λ path.
-    (let e : false ≡ true = (a.exact node false not_here).1 (path_reached g node row at node path) in cc))
-
--- ---- Where the aliases that wait are
-
-pub waiting_inside : (g : Links) (roots : List (Option ℕ)) (marks : List Bool) (all rest : List ℕ) (alias : ℕ) → Spreads g roots marks all → all ≡ rest ++ alias ∷ [] → alias < length g
-waiting_inside g roots marks all rest alias s split =
-    let here = s.waits alias (subst (λ (x : List ℕ). Contains x alias) (sym split) (Contains-push rest alias)) in
-    let less = within_get marks alias true here in
-    let long = s.same_length in
-    omega (arith, less, long)
+-- ---- Rows
 
 pub row_inside : (g : Links) (at : ℕ) (row : List (Option ℕ)) → IsClosed g → slice_get g at ≡ Some row → IsInside row (length g)
 row_inside g at row closed is i h = closed at i (record { row = row; row_is = is; has = h })

@@ -172,7 +172,7 @@ known_next g states node rest m (Some next) closed long held near seen edge h =
     (λ open_next. near next (s.1 ∙ ap Some open_next))
     e h)
 
--- a state of a list after one was written
+-- an element of a list after one was written
 pub get_set_cases : {X : Type 0} (xs : List X) (i j : ℕ) (v x : X) → i < length xs → slice_get (set xs i v) j ≡ Some x → ((j ≡ i) × (x ≡ v)) ⊎ ((j ≢ i) × (slice_get xs j ≡ Some x))
 get_set_cases xs i j v x inside h =
     elim (same_or_not j i) [

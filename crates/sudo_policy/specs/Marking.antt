@@ -1,9 +1,12 @@
 -- The marking of aliases that are reached: words that only proofs need.
-use Rattle.std.specs.Prelude.{◌≡◌, ℕ, ◌+◌, ◌*◌, ◌≤◌, ◌<◌, Bool, true, List, [], ◌∷◌, Option, Some, Contains, length, slice_get, if◌then◌else◌, ◌⊎◌}
-use Rattle.sudo_policy.specs.Graph.{Links, Edge, IsReached, Path}
+use Rattle.std.specs.Prelude.{◌≡◌, ℕ, ◌+◌, ◌*◌, ◌≤◌, ◌<◌, Bool, true, false, List, [], ◌∷◌, Option, Some, Contains, length, slice_get, if◌then◌else◌, ◌⊎◌}
+use Rattle.sudo_policy.specs.Graph.{Links, Edge, Path}
 
 abbrev pub IsMarked : List Bool → ℕ → Type 0
 IsMarked marks i = slice_get marks i ≡ Some true
+
+abbrev pub IsUnmarked : List Bool → ℕ → Type 0
+IsUnmarked marks i = slice_get marks i ≡ Some false
 
 -- how many are not marked
 abbrev pub unmarked : List Bool → ℕ
@@ -15,32 +18,28 @@ pub record Marked (row : List (Option ℕ)) (old : List Bool) (before : List ℕ
   pub same_length : length new ≡ length old
   pub kept : (i : ℕ) → IsMarked old i → IsMarked new i
   pub all : (i : ℕ) → Contains row (Some i) → IsMarked new i
-  pub only : (i : ℕ) → IsMarked new i → IsMarked old i ⊎ Contains row (Some i)
   pub noted : (i : ℕ) → IsMarked new i → IsMarked old i ⊎ Contains waiting i
   pub still : (i : ℕ) → Contains before i → Contains waiting i
-  pub waits : (i : ℕ) → Contains waiting i → Contains before i ⊎ IsMarked new i
+  pub waits : (i : ℕ) → Contains waiting i → Contains before i ⊎ (IsUnmarked old i × Contains row (Some i))
   pub falls : 2 * unmarked new + length waiting ≤ 2 * unmarked old + length before
 
--- marked are the roots and what they lead to, as far as it is known; what a marked alias leads to is marked, or the alias waits
-pub record Spreads (g : Links) (roots : List (Option ℕ)) (marks : List Bool) (waiting : List ℕ) : Type 0 where
-  pub same_length : length marks ≡ length g
-  pub sound : (i : ℕ) → IsMarked marks i → IsReached g roots i
-  pub begun : (i : ℕ) → Contains roots (Some i) → IsMarked marks i
-  pub spread : (i : ℕ) → IsMarked marks i → Contains waiting i ⊎ ((j : ℕ) → Edge g i j → IsMarked marks j)
-  pub waits : (i : ℕ) → Contains waiting i → IsMarked marks i
-
--- aliases on cycles are marked, as far as it is known
-pub record CycleMarks (g : Links) (marks : List Bool) (upto : ℕ) : Type 0 where
-  pub same_length : length marks ≡ length g
-  pub sound : (i : ℕ) → IsMarked marks i → Path g i i
-  pub found : (i : ℕ) → i < upto → Path g i i → IsMarked marks i
-
--- those are marked besides the old ones that both of the others mark
-pub record BothMarked (ahead behind old new : List Bool) : Type 0 where
+-- the marks of these aliases are set, and no others change
+pub record AreSet (mark : Bool) (aliases : List ℕ) (old new : List Bool) : Type 0 where
   pub same_length : length new ≡ length old
-  pub kept : (i : ℕ) → IsMarked old i → IsMarked new i
-  pub all : (i : ℕ) → IsMarked ahead i → IsMarked behind i → IsMarked new i
-  pub only : (i : ℕ) → IsMarked new i → IsMarked old i ⊎ (IsMarked ahead i × IsMarked behind i)
+  pub those : (i : ℕ) → Contains aliases i → slice_get new i ≡ Some mark
+  pub only : (i : ℕ) (m : Bool) → slice_get new i ≡ Some m → (slice_get old i ≡ Some m) ⊎ (Contains aliases i × (m ≡ mark))
+
+-- one or more edges, each to an alias that is not marked
+pub data PathPast (g : Links) (marks : List Bool) : ℕ → ℕ → Type 0 where
+  last : {i j : ℕ} → Edge g i j → IsUnmarked marks j → PathPast g marks i j
+  next : {i j k : ℕ} → Edge g i j → IsUnmarked marks j → PathPast g marks j k → PathPast g marks i k
+
+-- a root that is not marked is i, or leads to it past those that are marked
+pub record ReachedPast (g : Links) (roots : List (Option ℕ)) (marks : List Bool) (i : ℕ) : Type 0 where
+  pub root : ℕ
+  pub among : Contains roots (Some root)
+  pub free : IsUnmarked marks root
+  pub way : (root ≡ i) ⊎ PathPast g marks root i
 
 -- the links of a row are turned round besides those that were
 pub record RowTurned (from : ℕ) (row : List (Option ℕ)) (old new : Links) : Type 0 where
@@ -55,9 +54,14 @@ pub record TurnedTo (g : Links) (upto : ℕ) (back : Links) : Type 0 where
   pub all : (i j : ℕ) → i < upto → Edge g i j → Edge back j i
   pub only : (i j : ℕ) → Edge back j i → Edge g i j
 
--- if the alias `node` is on a cycle it is marked, and so may be others on cycles
-pub record CycleMarked (g : Links) (node : ℕ) (old new : List Bool) : Type 0 where
-  pub same_length : length new ≡ length old
-  pub kept : (i : ℕ) → IsMarked old i → IsMarked new i
-  pub only : (i : ℕ) → IsMarked new i → IsMarked old i ⊎ Path g i i
-  pub here : Path g node node → IsMarked new node
+-- with an alias that is done, each is done that it both leads to and is reached from
+abbrev pub IsWhole : Links → List Bool → Type 0
+IsWhole g done = (i j : ℕ) → IsMarked done i → Path g i j → Path g j i → IsMarked done j
+
+-- of the aliases that are done those on cycles are marked, and no others
+pub record Decided (g : Links) (done cyclic : List Bool) : Type 0 where
+  pub done_length : length done ≡ length g
+  pub cyclic_length : length cyclic ≡ length g
+  pub whole : IsWhole g done
+  pub sound : (i : ℕ) → IsMarked cyclic i → Path g i i
+  pub found : (i : ℕ) → IsMarked done i → Path g i i → IsMarked cyclic i

@@ -1,44 +1,50 @@
 //! Which aliases are on a cycle.
-ghost use Rattle.std.specs.Prelude.{◌≡◌, ◌<◌, ◌∷◌, [], ℕ, IfOk, OnOk, length};
+ghost use Rattle.std.specs.Prelude.{◌≡◌, ◌↔◌, ◌<◌, ◌∷◌, [], ℕ, Contains, IfOk, OnOk, length, map, not, replicate, true};
 ghost use Rattle.sudo_policy.specs.Graph.{IsClosed, IsInside, MarksOf, Path, StatesHold, IsSettled, is_looped};
 ghost use Rattle.sudo_policy.specs.declared.graph.State.{State};
 ghost use Rattle.std.specs.Prelude.{Some, slice_get};
 ghost use Rattle.std.specs.List.{list_any};
-ghost use Rattle.sudo_policy.specs.Marking.{BothMarked, CycleMarked, RowTurned, TurnedTo};
+ghost use Rattle.sudo_policy.specs.Marking.{AreSet, Decided, IsMarked, IsUnmarked, IsWhole, PathPast, RowTurned, TurnedTo};
 
 use crate::graph::State;
-use crate::reach::reached;
+use crate::reach::spread;
 use std::alloc::{AllocError, Global};
 use sudo_text::Seq;
 
 /// For each alias whether it is reached from itself.
+///
+/// The answer is the same in any order of `looped`. The time is linear where these are the aliases that reach a
+/// cycle, in the order in which their visits ended.
 pub(crate) fn cycles(
     alloc: Global,
     links: &[Seq<Option<usize>>],
     states: &[State],
+    looped: &[usize],
 ) -> Result<Vec<bool>, AllocError>
     requires closed { IsClosed links.now }
     requires sizes { length states.now ≡ length links.now }
     requires holds { StatesHold links.now states.now }
     requires settled { (i : ℕ) (s : State) → slice_get states.now i ≡ Some s → IsSettled s }
-    ensures { IfOk result (λ marks. MarksOf (length links.now) (λ i. Path links.now i i) marks.items) }
+    ensures { IfOk result (λ marks.
+        MarksOf (length links.now) (λ i. Path links.now i i) marks.items) }
 {
-    let mut marks = vec![in alloc; false; links.len()]?;
+    let mut cyclic = vec![in alloc; false; links.len()]?;
     if !any_looped(states) {
-        return Ok(marks);
+        return Ok(cyclic);
     }
     let back = reversed(alloc, links)?;
-    for node in 0..links.len() {
-        mark_cycle(
-            alloc,
-            links,
-            back.as_slice(),
-            states,
-            node,
-            marks.as_mut_slice(),
-        )?;
-    }
-    Ok(marks)
+    let mut done = not_looped(alloc, states)?;
+    let mut aside = vec![in alloc; true; links.len()]?;
+    decide_all(
+        alloc,
+        links,
+        back.as_slice(),
+        looped,
+        done.as_mut_slice(),
+        aside.as_mut_slice(),
+        cyclic.as_mut_slice(),
+    )?;
+    Ok(cyclic)
 }
 
 /// Whether some alias reaches a cycle.
@@ -48,46 +54,126 @@ fn any_looped(states: &[State]) -> bool
     states.iter().any(|state| matches!(state, State::Looped))
 }
 
-/// Marks the aliases that an alias both leads to and is reached from, where it is reached from itself.
-fn mark_cycle(
+/// For each alias whether it reaches no cycle.
+fn not_looped(alloc: Global, states: &[State]) -> Result<Vec<bool>, AllocError>
+    ensures { IfOk result (λ marks. marks.items ≡ map (λ s. not (is_looped s)) states.now) }
+{
+    states
+        .iter()
+        .map(|state| !matches!(state, State::Looped))
+        .collect(alloc)
+}
+
+/// Decides of each alias whether it is on a cycle: first of those that reach one, beginning with the last of them.
+fn decide_all(
     alloc: Global,
     links: &[Seq<Option<usize>>],
     back: &[Seq<Option<usize>>],
-    states: &[State],
-    node: usize,
-    marks: &mut [bool],
+    looped: &[usize],
+    done: &mut [bool],
+    aside: &mut [bool],
+    cyclic: &mut [bool],
 ) -> Result<(), AllocError>
     requires closed { IsClosed links.now }
     requires turned { TurnedTo links.now (length links.now) back.now }
-    requires states { length states.now ≡ length links.now }
-    requires holds { StatesHold links.now states.now }
-    requires settled { (i : ℕ) (s : State) → slice_get states.now i ≡ Some s → IsSettled s }
-    requires inside { node < length links.now }
-    requires sizes { length marks.old ≡ length links.now }
-    ensures { OnOk result (CycleMarked links.now node marks.old marks.new) }
+    requires decided { Decided links.now done.old cyclic.old }
+    requires aside { aside.old ≡ replicate (length links.now) true }
+    ensures { OnOk result (MarksOf (length links.now) (λ i. Path links.now i i) cyclic.new) }
 {
-    let State::Looped = states[node] else {
-        return Ok(());
-    };
-    if marks[node] {
-        return Ok(());
+    for node in looped.iter().rev() {
+        decide(alloc, links, back, *node, done, aside, cyclic)?;
     }
-    let ahead = reached(alloc, links, links[node].as_slice())?;
-    if ahead[node] {
-        let behind = reached(alloc, back, back[node].as_slice())?;
-        mark_both(ahead.as_slice(), behind.as_slice(), marks);
+    for node in 0..links.len() {
+        decide(alloc, links, back, node, done, aside, cyclic)?;
     }
     Ok(())
 }
 
-/// Marks what both mark.
-fn mark_both(ahead: &[bool], behind: &[bool], marks: &mut [bool])
-    requires ahead { length ahead.now ≡ length marks.old }
-    requires behind { length behind.now ≡ length marks.old }
-    ensures { BothMarked ahead.now behind.now marks.old marks.new }
+/// Decides whether an alias is on a cycle, and with it those that are on one with it.
+fn decide(
+    alloc: Global,
+    links: &[Seq<Option<usize>>],
+    back: &[Seq<Option<usize>>],
+    node: usize,
+    done: &mut [bool],
+    aside: &mut [bool],
+    cyclic: &mut [bool],
+) -> Result<(), AllocError>
+    requires closed { IsClosed links.now }
+    requires turned { TurnedTo links.now (length links.now) back.now }
+    requires decided { Decided links.now done.old cyclic.old }
+    requires aside { aside.old ≡ replicate (length links.now) true }
+    ensures decided { OnOk result (Decided links.now done.new cyclic.new) }
+    ensures aside { OnOk result (aside.new ≡ aside.old) }
+    ensures kept { OnOk result ((i : ℕ) → IsMarked done.old i → IsMarked done.new i) }
+    ensures here { OnOk result (node < length links.now → IsMarked done.new node) }
 {
-    for at in 0..marks.len() {
-        marks[at] = marks[at] | (ahead[at] & behind[at]);
+    if node >= done.len() || done[node] {
+        return Ok(());
+    }
+    let round = round(alloc, links, back, node, done, aside)?;
+    set_marks(true, round.as_slice(), cyclic);
+    set_marks(true, round.as_slice(), done);
+    done[node] = true;
+    Ok(())
+}
+
+/// The aliases that an alias both leads to and is reached from.
+///
+/// What is done is passed over: with an alias that is done those are done that it leads to and is reached from.
+/// `aside` marks every alias, before and after.
+fn round(
+    alloc: Global,
+    links: &[Seq<Option<usize>>],
+    back: &[Seq<Option<usize>>],
+    node: usize,
+    done: &mut [bool],
+    aside: &mut [bool],
+) -> Result<Vec<usize>, AllocError>
+    requires closed { IsClosed links.now }
+    requires turned { TurnedTo links.now (length links.now) back.now }
+    requires sizes { length done.old ≡ length links.now }
+    requires whole { IsWhole links.now done.old }
+    requires new { IsUnmarked done.old node }
+    requires aside { aside.old ≡ replicate (length links.now) true }
+    ensures found { IfOk result (λ round. (i : ℕ) →
+        Contains round.items i ↔ (Path links.now node i × Path links.now i node)) }
+    ensures same { OnOk result (done.new ≡ done.old) }
+    ensures aside { OnOk result (aside.new ≡ aside.old) }
+{
+    let behind = ahead(alloc, back, node, done)?;
+    set_marks(false, behind.as_slice(), aside);
+    let round = ahead(alloc, links, node, aside)?;
+    set_marks(true, behind.as_slice(), aside);
+    Ok(round)
+}
+
+/// The aliases that an alias leads to, past those that are marked.
+fn ahead(
+    alloc: Global,
+    links: &[Seq<Option<usize>>],
+    node: usize,
+    marks: &mut [bool],
+) -> Result<Vec<usize>, AllocError>
+    requires closed { IsClosed links.now }
+    requires inside { node < length links.now }
+    requires sizes { length marks.old ≡ length links.now }
+    ensures found { IfOk result (λ found. (i : ℕ) →
+        Contains found.items i ↔ PathPast links.now marks.old node i) }
+    ensures same { OnOk result (marks.new ≡ marks.old) }
+{
+    let found = spread(alloc, links, links[node].as_slice(), marks)?;
+    set_marks(false, found.as_slice(), marks);
+    Ok(found)
+}
+
+/// Sets the marks of some aliases.
+fn set_marks(mark: bool, aliases: &[usize], marks: &mut [bool])
+    requires inside { (i : ℕ) → Contains aliases.now i → i < length marks.old }
+    ensures { AreSet mark aliases.now marks.old marks.new }
+{
+    for alias in aliases {
+        marks[*alias] = mark;
     }
 }
 

@@ -13,7 +13,7 @@ ghost use Rattle.sudo_policy.specs.Positions.{IsIndex};
 ghost use Rattle.sudo_policy.specs.Resolving.{IsSound};
 
 use crate::cycle::cycles;
-use crate::graph::{State, states};
+use crate::graph::{State, Visited, all_visited};
 use crate::index::Index;
 use crate::member::alias_name;
 use crate::reach::reached;
@@ -74,8 +74,13 @@ fn judge(alloc: Global, survey: &Survey<'_>, lists: &[Listed<'_>]) -> Result<Jud
     ensures { IfOk result (λ judged. (p : Policy) → IsSurvey p (policies.definitions p) survey.now → map listed_view lists.now ≡ policies.lists p → IsJudged p judged) }
 {
     let links = links(alloc, &survey.index, survey.aliases.as_slice())?;
-    let states = states(alloc, links.as_slice())?;
-    let cyclic = cycles(alloc, links.as_slice(), states.as_slice())?;
+    let Visited { states, looped } = all_visited(alloc, links.as_slice())?;
+    let cyclic = cycles(
+        alloc,
+        links.as_slice(),
+        states.as_slice(),
+        looped.as_slice(),
+    )?;
     let deep = too_deep(alloc, states.as_slice())?;
     let wide = too_wide(alloc, states.as_slice())?;
     let roots = roots(alloc, &survey.index, lists)?;

@@ -8,7 +8,6 @@ ghost use Rattle.sudo_policy.specs.Written.{differ, negated_if, written, Written
 use crate::Checked;
 use crate::member::{alias_name, atom_copied, is_negated};
 use std::alloc::{AllocError, Global};
-use sudo_text::Seq;
 use sudo_tree::{Kind, Member, Signed};
 use thiserror::Error;
 
@@ -41,16 +40,19 @@ fn differ(a: bool, b: bool) -> bool
     if a { !b } else { b }
 }
 
-/// The alias written out, as cvtsudoers(1) does with its option -e: its members in order, with each alias in its place, each negated once for each odd negation on the way to it.
+/// Returns the alias written out, as cvtsudoers(1) does with its option -e: its members in order, with each alias in its
+/// place, each negated once for each odd negation on the way to it.
 ///
-/// `NoSuchAlias` is answered exactly where the name has no definition of that kind, `Memory` where memory was refused.
+/// Returns `NoSuchAlias` exactly if the name has no definition of that kind, and `Memory` if memory is refused.
 pub fn expand(
     alloc: Global,
     checked: &Checked,
     kind: Kind,
     name: &[u8],
-) -> Result<Seq<Signed>, ExpandFault>
-    ensures written { IfOk result (λ atoms. (members : List Member) × (in_force kind checked.now name.now ≡ Some members) × Written kind checked.now members atoms) }
+) -> Result<Vec<Signed>, ExpandFault>
+    ensures written { IfOk result (λ atoms. (members : List Member)
+        × (in_force kind checked.now name.now ≡ Some members)
+        × Written kind checked.now members atoms.items) }
     ensures no_such_alias { in_force kind checked.now name.now ≡ None → result ≡ Err ExpandFault.NoSuchAlias }
     ensures known { IfErr result (λ fault. fault ≡ ExpandFault.NoSuchAlias → in_force kind checked.now name.now ≡ None) }
 {
@@ -59,7 +61,7 @@ pub fn expand(
     };
     let mut atoms = Vec::new(alloc);
     write_out(alloc, checked, kind, members, false, &mut atoms)?;
-    Ok(Seq::from_vec(atoms))
+    Ok(atoms)
 }
 
 /// Appends a list written out, each member negated once more where told to.

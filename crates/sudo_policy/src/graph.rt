@@ -1,5 +1,5 @@
 //! Aliases as a graph of numbers: which reach a cycle, and how deep and wide the others are.
-ghost use Rattle.std.specs.Prelude.{◌≡◌, ◌<◌, ℕ, IfOk, Some, List, Option, length, option_map, slice_get};
+ghost use Rattle.std.specs.Prelude.{◌≡◌, ◌<◌, ℕ, IfOk, OnOk, Some, List, Option, length, option_map, slice_get};
 ghost use Rattle.sudo_policy.specs.declared.graph.State.{State};
 ghost use Rattle.sudo_policy.specs.Following.{joined};
 ghost use Rattle.sudo_policy.specs.Graph.{Edge, IsClosed, StatesHold, OpenLead, OpenNear, NoneOpen, Turned, IsSettled, beside, deeper, one_member, no_member, link_measure, done_measure};
@@ -76,17 +76,31 @@ fn joined(a: Option<Measure>, b: Option<Measure>) -> Option<Measure>
     }
 }
 
+/// What is known of the aliases when all were visited.
+#[derive(Drop)]
+pub(crate) struct Visited {
+    /// For each alias whether it reaches a cycle, and else the measure of its definition.
+    pub(crate) states: Vec<State>,
+    /// The aliases that reach a cycle, in the order in which their visits ended.
+    pub(crate) looped: Vec<usize>,
+}
+
 /// Visits an alias that is new and, before it is over, the new ones that it reaches.
 #[cycle(visiting)]
-fn visit(links: &[Seq<Option<usize>>], states: &mut [State], node: usize)
+fn visit(
+    links: &[Seq<Option<usize>>],
+    states: &mut [State],
+    looped: &mut Vec<usize>,
+    node: usize,
+) -> Result<(), AllocError>
     requires closed { IsClosed links.now }
     requires sizes { length states.old ≡ length links.now }
     requires new { slice_get states.old node ≡ Some State.New }
     requires held { StatesHold links.now states.old }
     requires lead { OpenLead links.now states.old node }
-    ensures holds { StatesHold links.now states.new }
-    ensures turned { Turned states.old states.new }
-    ensures settled { (s : State) → slice_get states.new node ≡ Some s → IsSettled s }
+    ensures holds { OnOk result (StatesHold links.now states.new) }
+    ensures turned { OnOk result (Turned states.old states.new) }
+    ensures settled { OnOk result ((s : State) → slice_get states.new node ≡ Some s → IsSettled s) }
 {
     states[node] = State::Open;
     let row = links[node].as_slice();
@@ -95,71 +109,100 @@ fn visit(links: &[Seq<Option<usize>>], states: &mut [State], node: usize)
     while at > 0 {
         at -= 1;
         let link = row[at];
-        visit_link(links, states, node, link);
+        visit_link(links, states, looped, node, link)?;
         measure = joined(link_measure(states, link), measure);
     }
     states[node] = match measure {
         Some(measure) => State::Done(measure),
-        None => State::Looped,
+        None => {
+            looped.push(node)?;
+            State::Looped
+        }
     };
+    Ok(())
 }
 
 /// Visits the alias that a link of an open one leads to, where it is new.
 #[cycle(visiting)]
-fn visit_link(links: &[Seq<Option<usize>>], states: &mut [State], from: usize, link: Option<usize>)
+fn visit_link(
+    links: &[Seq<Option<usize>>],
+    states: &mut [State],
+    looped: &mut Vec<usize>,
+    from: usize,
+    link: Option<usize>,
+) -> Result<(), AllocError>
     requires closed { IsClosed links.now }
     requires sizes { length states.old ≡ length links.now }
     requires held { StatesHold links.now states.old }
     requires lead { OpenNear links.now states.old from }
     requires edge { (next : ℕ) → link ≡ Some next → Edge links.now from next }
-    ensures holds { StatesHold links.now states.new }
-    ensures turned { Turned states.old states.new }
-    ensures visited { (next : ℕ) → link ≡ Some next → slice_get states.new next ≡ Some State.New → ⊥ }
+    ensures holds { OnOk result (StatesHold links.now states.new) }
+    ensures turned { OnOk result (Turned states.old states.new) }
+    ensures visited { OnOk result ((next : ℕ) → link ≡ Some next →
+        slice_get states.new next ≡ Some State.New → ⊥) }
 {
     if let Some(next) = link {
         if let State::New = states[next] {
-            visit(links, states, next);
+            visit(links, states, looped, next)?;
         }
     }
+    Ok(())
 }
 
-/// For each alias whether it reaches a cycle, and else the measure of its definition.
-pub(crate) fn states(alloc: Global, links: &[Seq<Option<usize>>]) -> Result<Vec<State>, AllocError>
+/// What the visits of all aliases come to.
+pub(crate) fn all_visited(
+    alloc: Global,
+    links: &[Seq<Option<usize>>],
+) -> Result<Visited, AllocError>
     requires closed { IsClosed links.now }
-    ensures holds { IfOk result (λ states. StatesHold links.now states.items) }
-    ensures sizes { IfOk result (λ states. length states.items ≡ length links.now) }
-    ensures settled { IfOk result (λ states. (i : ℕ) (s : State) → slice_get states.items i ≡ Some s → IsSettled s) }
+    ensures holds { IfOk result (λ visited. StatesHold links.now visited.states.items) }
+    ensures sizes { IfOk result (λ visited. length visited.states.items ≡ length links.now) }
+    ensures settled { IfOk result (λ visited.
+        (i : ℕ) (s : State) → slice_get visited.states.items i ≡ Some s → IsSettled s) }
 {
     let mut states = vec![in alloc; State::New; links.len()]?;
-    visit_all(links, states.as_mut_slice());
-    Ok(states)
+    let mut looped = Vec::new(alloc);
+    visit_all(links, states.as_mut_slice(), &mut looped)?;
+    Ok(Visited { states, looped })
 }
 
-/// Visits all aliases.
-fn visit_all(links: &[Seq<Option<usize>>], states: &mut [State])
+/// Visits each of the aliases.
+fn visit_all(
+    links: &[Seq<Option<usize>>],
+    states: &mut [State],
+    looped: &mut Vec<usize>,
+) -> Result<(), AllocError>
     requires closed { IsClosed links.now }
     requires sizes { length states.old ≡ length links.now }
     requires new { (i : ℕ) (s : State) → slice_get states.old i ≡ Some s → s ≡ State.New }
-    ensures holds { StatesHold links.now states.new }
-    ensures settled { (i : ℕ) (s : State) → slice_get states.new i ≡ Some s → IsSettled s }
+    ensures holds { OnOk result (StatesHold links.now states.new) }
+    ensures settled { OnOk result ((i : ℕ) (s : State) →
+        slice_get states.new i ≡ Some s → IsSettled s) }
 {
     for node in 0..states.len() {
-        visit_new(links, states, node);
+        visit_new(links, states, looped, node)?;
     }
+    Ok(())
 }
 
 /// Visits an alias, where it is new and none is open.
-fn visit_new(links: &[Seq<Option<usize>>], states: &mut [State], node: usize)
+fn visit_new(
+    links: &[Seq<Option<usize>>],
+    states: &mut [State],
+    looped: &mut Vec<usize>,
+    node: usize,
+) -> Result<(), AllocError>
     requires closed { IsClosed links.now }
     requires sizes { length states.old ≡ length links.now }
     requires inside { node < length states.old }
     requires held { StatesHold links.now states.old }
     requires calm { NoneOpen states.old }
-    ensures holds { StatesHold links.now states.new }
-    ensures turned { Turned states.old states.new }
-    ensures settled { (s : State) → slice_get states.new node ≡ Some s → IsSettled s }
+    ensures holds { OnOk result (StatesHold links.now states.new) }
+    ensures turned { OnOk result (Turned states.old states.new) }
+    ensures settled { OnOk result ((s : State) → slice_get states.new node ≡ Some s → IsSettled s) }
 {
     if let State::New = states[node] {
-        visit(links, states, node);
+        visit(links, states, looped, node)?;
     }
+    Ok(())
 }

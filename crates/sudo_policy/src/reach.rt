@@ -1,7 +1,7 @@
 //! Which aliases links lead to.
-ghost use Rattle.std.specs.Prelude.{◌≡◌, ◌∷◌, [], ℕ, Some, Contains, IfOk, OnOk, length};
+ghost use Rattle.std.specs.Prelude.{◌≡◌, ◌↔◌, ◌∷◌, [], ℕ, true, Some, Contains, IfOk, OnOk, length};
 ghost use Rattle.sudo_policy.specs.Graph.{IsClosed, IsInside, IsReached, MarksOf};
-ghost use Rattle.sudo_policy.specs.Marking.{Marked};
+ghost use Rattle.sudo_policy.specs.Marking.{AreSet, Marked, ReachedPast};
 
 use std::alloc::{AllocError, Global};
 use sudo_text::Seq;
@@ -17,12 +17,32 @@ pub(crate) fn reached(
     ensures { IfOk result (λ marks. MarksOf (length links.now) (IsReached links.now roots.now) marks.items) }
 {
     let mut marks = vec![in alloc; false; links.len()]?;
-    let mut work = Vec::new(alloc);
-    mark_row(roots, marks.as_mut_slice(), &mut work)?;
-    while let Some(alias) = work.pop() {
-        mark_row(links[alias].as_slice(), marks.as_mut_slice(), &mut work)?;
-    }
+    spread(alloc, links, roots, marks.as_mut_slice())?;
     Ok(marks)
+}
+
+/// Marks the aliases that some root is or leads to, past those that were marked before, and returns them.
+pub(crate) fn spread(
+    alloc: Global,
+    links: &[Seq<Option<usize>>],
+    roots: &[Option<usize>],
+    marks: &mut [bool],
+) -> Result<Vec<usize>, AllocError>
+    requires closed { IsClosed links.now }
+    requires inside { IsInside roots.now (length links.now) }
+    requires sizes { length marks.old ≡ length links.now }
+    ensures found { IfOk result (λ found. (i : ℕ) →
+        Contains found.items i ↔ ReachedPast links.now roots.now marks.old i) }
+    ensures marked { IfOk result (λ found. AreSet true found.items marks.old marks.new) }
+{
+    let mut found = Vec::new(alloc);
+    let mut work = Vec::new(alloc);
+    mark_row(roots, marks, &mut work)?;
+    while let Some(alias) = work.pop() {
+        found.push(alias)?;
+        mark_row(links[alias].as_slice(), marks, &mut work)?;
+    }
+    Ok(found)
 }
 
 /// Marks the aliases that a row leads to, and notes those that were not marked before.

@@ -1,4 +1,4 @@
--- The lists of an index of rules: under which numbers a rule is found. Only bodies' proofs need it.
+-- The lists of an index of rules: under which numbers a rule is found.
 use Rattle.std.specs.Prelude.{◌≡◌, ℕ, ◌+◌, ◌*◌, ◌%◌, ◌==◌, ◌<◌, Bool, true, false, not, ◌&&◌, List, [], ◌∷◌, length, slice_get, Option, Some, None, Vec}
 use Rattle.std.specs.List.{list_any, list_all, AllWithin}
 use Rattle.std.specs.List.Sorted.{IsNonDecreasingBy}
@@ -82,3 +82,8 @@ Grows old new = (number rule : ℕ) → posted old number rule ≡ true → post
 -- of the first n entries, those that stand in no list of a user decide nothing for that user
 abbrev pub Covers : Policy → ℕ → Lists → Type 0
 Covers p n lists = (q : Question) (rule : ℕ) (e : Entry) → rule < n → slice_get p.entries rule ≡ Some e → misses lists rule q.user ≡ true → entry_found p q e ≡ None
+
+-- The lists are an index of the policy's rules by user.
+pub record Indexes (p : Policy) (lists : Lists) : Type 0 where
+  pub lists_are : AreLists (length p.entries) lists
+  pub covers : Covers p (length p.entries) lists

@@ -4,15 +4,15 @@
 #![tactic(auto)]
 
 mod decision;
-mod indexed;
 mod listing;
 mod postings;
 mod query;
+mod rule_index;
 mod search;
 mod tags;
 
-pub use indexed::Indexed;
 pub use listing::verdict_by_listing;
+pub use rule_index::RuleIndex;
 pub use search::verdict;
 pub use sudo_rows::{Request, Tags, Verdict, What};
 pub use tags::tags_in_report_order;

@@ -6,10 +6,10 @@ use std::alloc::{AllocError, Global};
 use std::test::Fail;
 use sudo_load::{Supply, load};
 use sudo_match::Directory;
-use sudo_policy::{Tag, check};
+use sudo_policy::{Checked, Tag, check};
 use sudo_text::Seq;
 use sudo_verdict::{
-    Indexed, Request, Verdict, What, tags_in_report_order, verdict, verdict_by_listing,
+    Request, RuleIndex, Verdict, What, tags_in_report_order, verdict, verdict_by_listing,
 };
 
 const USERS: &str =
@@ -22,21 +22,18 @@ const HEADER: &str = "number,user,host,runas_user,runas_group,command,arguments\
 /// The users root, alice, bob and operator, and the hosts web1 and web2.
 pub(crate) fn directory(alloc: Global) -> Result<Directory, Fail> {
     let mut users = Script::of(alloc, USERS.as_bytes(), 4096)?;
-    let people = Seq::from_vec(read_users(alloc, &mut users)?);
+    let people = read_users(alloc, &mut users)?;
     let mut hosts = Script::of(alloc, HOSTS.as_bytes(), 4096)?;
-    let machines = Seq::from_vec(read_hosts(alloc, &mut hosts)?);
+    let machines = read_hosts(alloc, &mut hosts)?;
     Ok(Directory::new(alloc, people, machines)?)
 }
 
-/// The policy of one file, checked and indexed.
-pub(crate) fn indexed(alloc: Global, text: &str) -> Result<Indexed, Fail> {
+/// The policy of one file, checked.
+pub(crate) fn checked(alloc: Global, text: &str) -> Result<Checked, Fail> {
     let supplies: [Supply; 0] = [];
     match load(alloc, b"sudoers", text.as_bytes(), &supplies) {
         Ok(policy) => match check(alloc, policy) {
-            Ok(checked) => match Indexed::of(alloc, checked) {
-                Ok(indexed) => Ok(indexed),
-                Err(_) => Err(Fail::new("no memory")),
-            },
+            Ok(checked) => Ok(checked),
             Err(_) => Err(Fail::new("the policy has errors")),
         },
         Err(_) => Err(Fail::new("the policy is not read")),
@@ -59,15 +56,16 @@ pub(crate) fn requests(alloc: Global, lines: &str) -> Result<Seq<Request>, Fail>
 /// What the three bodies say to a request: by the index, by the search and by listing.
 pub(crate) fn said(
     alloc: Global,
-    indexed: &Indexed,
+    checked: &Checked,
     directory: &Directory,
     request: &Request,
 ) -> Result<Verdict, Fail> {
-    let found = indexed.verdict(directory, request);
-    if verdict(indexed.checked(), directory, request) != found {
+    let index = RuleIndex::of(alloc, checked)?;
+    let found = index.verdict(checked, directory, request);
+    if verdict(checked, directory, request) != found {
         return Err(Fail::new("the index and the search differ"));
     }
-    if verdict_by_listing(alloc, indexed.checked(), directory, request)? != found {
+    if verdict_by_listing(alloc, checked, directory, request)? != found {
         return Err(Fail::new("the index and the listing differ"));
     }
     Ok(found)
@@ -153,11 +151,11 @@ fn verdicts(
     policy: &str,
     lines: &str,
 ) -> Result<String, Fail> {
-    let indexed = indexed(alloc, policy)?;
+    let checked = checked(alloc, policy)?;
     let requests = requests(alloc, lines)?;
     let mut text = String::new(alloc);
     for request in requests.as_slice() {
-        append(alloc, &mut text, said(alloc, &indexed, directory, request)?)?;
+        append(alloc, &mut text, said(alloc, &checked, directory, request)?)?;
     }
     Ok(text)
 }

@@ -1,6 +1,6 @@
 //! What the verdicts must be comes from sudoers(5).
 
-use crate::fixtures::{directory, holds, indexed, requests, rows_hold, said};
+use crate::fixtures::{checked, directory, holds, requests, rows_hold, said};
 use std::alloc::Global;
 use std::test::Fail;
 use sudo_match::Directory;
@@ -179,11 +179,11 @@ const ASKS: &str =
 /// How many of the requests a policy of two rules allows. Fails where the three bodies differ.
 fn allowed(alloc: Global, directory: &Directory, first: &str, second: &str) -> Result<u32, Fail> {
     let text = format!(in alloc; "{ALIASES}{first}\n{second}")?;
-    let indexed = indexed(alloc, text.as_str())?;
+    let checked = checked(alloc, text.as_str())?;
     let requests = requests(alloc, ASKS)?;
     let mut count = 0u32;
     for request in requests.as_slice() {
-        if let Verdict::Allow { .. } = said(alloc, &indexed, directory, request)? {
+        if let Verdict::Allow { .. } = said(alloc, &checked, directory, request)? {
             count = count.saturating_add(1);
         }
     }

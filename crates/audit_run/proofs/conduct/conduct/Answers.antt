@@ -1,11 +1,20 @@
-use Rattle.std.proofs.Common.{[], replicate, subst, append-nil}
+use Rattle.std.proofs.Common.{[], replicate, subst, append-nil, arith}
 use Rattle.audit_handoff.specs.declared.message.Job.TheVariants as job
-use Rattle.audit_run.specs.Gathered.{Conducts}
-use Rattle.audit_run.proofs.Gains.{conducts_more}
+use Rattle.audit_run.specs.Gathered.{HasConducted}
+use Rattle.audit_run.proofs.Gains.{conducted, conducts_more}
 use Rattle.audit_run.proofs.conduct.conduct.Goals as goal
 
-pub returns : goal.returns
-returns g c =
+pub returns-clause-taken : goal.returns-clause-taken
+returns-clause-taken g c =
     let stops = replicate c.args.workers job.Stop in
-    subst (λ js. Conducts c.args.pass.now c.args.gathering.now js c.gather_until-2.new.pass c.gather_until-2.new.gathering) (append-nil stops)
-    (conducts_more _ _ _ _ _ _ stops [] (conducts_more _ _ _ _ _ _ [] stops c.gather_until.ensures c.put_stops.ensures) c.gather_until-2.ensures)
+    subst (λ js. HasConducted c.args.pass.now c.args.gathering.now js c.gather_until_ended-2.new.pass c.gather_until_ended-2.new.gathering) (append-nil stops)
+    (conducted _ _ c.args.gathering.now _ _ c.args.sources c.args.workers
+    (conducts_more _ _ _ _ _ _ stops [] (conducts_more _ _ _ _ _ _ [] stops c.gather_until_ended.ensures.taken c.put_stops.ensures) c.gather_until_ended-2.ensures.taken))
+
+pub returns-clause-ended : goal.returns-clause-ended
+returns-clause-ended g c =
+    let sources = c.gather_until_ended.ensures.ended in
+    let stopping = c.put_stops.ensures.counted.sources in
+    let waiting = c.gather_until_ended-2.ensures.taken.counted.sources in
+    let workers = c.gather_until_ended-2.ensures.ended in
+    (omega (arith, sources, stopping, waiting), workers)

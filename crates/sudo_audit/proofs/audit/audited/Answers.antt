@@ -1,12 +1,43 @@
-use Rattle.std.proofs.Common.{map, subst}
-use Rattle.sudo_audit.specs.Auditing.{IsVetted}
-use Rattle.sudo_audit.proofs.AuditSteps.{by_policy, unreported_of}
+use Rattle.std.proofs.Common.{map}
+use Rattle.sudo_audit.specs.Auditing.{Given}
+use Rattle.sudo_audit.proofs.AuditSteps.{no_directory, reported_of, unreported_of}
 use Rattle.sudo_audit.proofs.audit.audited.Goals as goal
 
-pub returns-in-Ok-Passes-clause-audited : goal.returns-in-Ok-Passes-clause-audited
-returns-in-Ok-Passes-clause-audited g c =
-    by_policy (g.F.Files.held c.args.files.now) c.args.path.now c.in-Ok-Passes.policy (g.U.Feed.ahead c.args.users.now) (g.H.Feed.ahead c.args.hosts.now) (map (λ s. s.name) c.args.sources.items)
-    (map (λ s. g.R.Feed.ahead s.reader) c.args.sources.items) c.report_by.result (subst (IsVetted (g.F.Files.held c.args.files.now) c.args.path.now) c.in-Ok-Passes.field-0-is c.in-Ok-Passes.ensures.vetted) c.report_by.ensures.reported
+pub returns-in-Ok-clause-report : goal.returns-in-Ok-clause-report
+returns-in-Ok-clause-report g c =
+    let given : Given = record {
+      held = g.F.Files.held c.args.files.now;
+      path = c.args.path.now;
+      users = g.U.Feed.ahead c.args.users.now;
+      hosts = g.H.Feed.ahead c.args.hosts.now;
+      sources = map (λ s. s.name) c.args.sources.items;
+      told = map (λ s. g.R.Feed.ahead s.reader) c.args.sources.items;
+      workers = c.args.workers;
+    } in
+    reported_of given c.in_ok-policy.policy c.in-Ok.directory c.report_under.result c.in_ok-policy.ensures.checked c.in-Ok.ensures.directory c.report_under.ensures.report
 
-pub returns-in-Ok-Passes-clause-fault : goal.returns-in-Ok-Passes-clause-fault
-returns-in-Ok-Passes-clause-fault g c = unreported_of (g.F.Files.held c.args.files.now) c.args.path.now c.report_by.result c.report_by.ensures.fault
+pub returns-in-Ok-clause-fault : goal.returns-in-Ok-clause-fault
+returns-in-Ok-clause-fault g c =
+    let given : Given = record {
+      held = g.F.Files.held c.args.files.now;
+      path = c.args.path.now;
+      users = g.U.Feed.ahead c.args.users.now;
+      hosts = g.H.Feed.ahead c.args.hosts.now;
+      sources = map (λ s. s.name) c.args.sources.items;
+      told = map (λ s. g.R.Feed.ahead s.reader) c.args.sources.items;
+      workers = c.args.workers;
+    } in
+    unreported_of given c.in_ok-policy.policy c.in-Ok.directory c.report_under.result c.in_ok-policy.ensures.checked c.in-Ok.ensures.directory c.report_under.ensures.fault
+
+pub returns-in-Err-clause-fault : goal.returns-in-Err-clause-fault
+returns-in-Err-clause-fault g c =
+    let given : Given = record {
+      held = g.F.Files.held c.args.files.now;
+      path = c.args.path.now;
+      users = g.U.Feed.ahead c.args.users.now;
+      hosts = g.H.Feed.ahead c.args.hosts.now;
+      sources = map (λ s. s.name) c.args.sources.items;
+      told = map (λ s. g.R.Feed.ahead s.reader) c.args.sources.items;
+      workers = c.args.workers;
+    } in
+    no_directory given c.in_ok-policy.policy c.in-Err.fault c.in_ok-policy.ensures.checked c.in-Err.ensures.fault

@@ -1,7 +1,24 @@
-use Rattle.sudo_audit.proofs.CheckSteps.{fine, zero_of}
+use Rattle.sudo_audit.specs.Endings.{written as sent}
+use Rattle.sudo_audit.specs.Examining.{IsExamined}
+use Rattle.sudo_audit.specs.Loading.{IsNoPolicy}
+use Rattle.sudo_audit.proofs.EndingLemmas.{run_ends, zero_prints}
+use Rattle.sudo_audit.proofs.Steps.{fine_of}
 use Rattle.sudo_audit.proofs.check.check_run.Goals as goal
 
-pub returns-in-Ok-clause-fine : goal.returns-in-Ok-clause-fine
-returns-in-Ok-clause-fine g c = λ e.
-    let printed = c.in-Ok.printed in
-    fine (g.F.Files.held c.args.files.now) c.args.path.now printed.lines.items printed.status c.in-Ok.ensures.printed (zero_of c.hand_out.result printed.status c.hand_out.ensures.which e)
+pub returns-clause-ends : goal.returns-clause-ends
+returns-clause-ends g c =
+    let held = g.F.Files.held c.args.files.now in
+    let out = sent g.O.Sink.taken g.O.Sink.stalled_writes c.args.out.now c.end_run.new.out in
+    let err = sent g.E.Sink.taken g.E.Sink.stalled_writes c.args.err.now c.end_run.new.err in
+    run_ends (IsExamined held c.args.path.now) (IsNoPolicy held c.args.path.now) c.examined-ended.result c.end_run.result out err
+    c.examined-ended.ensures.printed c.examined-ended.ensures.fault c.end_run.ensures
+
+pub returns-clause-fine : goal.returns-clause-fine
+returns-clause-fine g c = λ e.
+    let held = g.F.Files.held c.args.files.now in
+    let out = sent g.O.Sink.taken g.O.Sink.stalled_writes c.args.out.now c.end_run.new.out in
+    let err = sent g.E.Sink.taken g.E.Sink.stalled_writes c.args.err.now c.end_run.new.err in
+    let ends =
+    run_ends (IsExamined held c.args.path.now) (IsNoPolicy held c.args.path.now) c.examined-ended.result c.end_run.result out err
+    c.examined-ended.ensures.printed c.examined-ended.ensures.fault c.end_run.ensures in
+    fine_of held c.args.path.now c.end_run.result out err (zero_prints (IsExamined held c.args.path.now) (IsNoPolicy held c.args.path.now) c.end_run.result out err ends e) e

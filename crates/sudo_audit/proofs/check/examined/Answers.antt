@@ -1,5 +1,5 @@
 use Rattle.std.proofs.Common.{◌≡◌, subst}
-use Rattle.sudo_audit.specs.Telling.{check_status, check_text}
+use Rattle.sudo_audit.specs.Examining.{check_status, check_text}
 use Rattle.sudo_audit.proofs.check.examined.Goals as goal
 
 pub returns-clause-printed : goal.returns-clause-printed
@@ -11,7 +11,7 @@ returns-clause-printed g c =
       found = c.in_ok-found.found.items;
       are = c.in_ok-found.ensures;
       text_is =
-          subst (λ files. printed.lines.items ≡ check_text files c.in_ok-found.found.items) c.as_slice.ensures
-          (subst (λ found. printed.lines.items ≡ check_text c.as_slice.result.now found) c.deref.ensures.value c.in_ok-examined_lines.ensures.text);
+          subst (λ files. printed.text.items ≡ check_text files c.in_ok-found.found.items) c.as_slice.ensures
+          (subst (λ found. printed.text.items ≡ check_text c.as_slice.result.now found) c.deref.ensures.value c.in_ok-examined_lines.ensures.text);
       status_is = subst (λ found. printed.status ≡ check_status found) c.deref.ensures.value c.in_ok-examined_lines.ensures.status;
     }

@@ -3,8 +3,8 @@ use Rattle.sudo_audit.specs.Holding.{AreHeld}
 use Rattle.sudo_audit.proofs.Held.{held_push}
 use Rattle.sudo_audit.proofs.loading.push_wanted.Goals as goal
 
-pub returns-clause-held : goal.returns-clause-held
-returns-clause-held g c =
+pub returns-in_ok-push-in-Ok-clause-held : goal.returns-in_ok-push-in-Ok-clause-held
+returns-in_ok-push-in-Ok-clause-held g c =
     let held = g.F.Files.held c.args.files.now in
     subst (λ h. AreHeld h c.push.new.self.items) (sym c.fetch.ensures.same)
-    (subst (AreHeld held) (sym c.in_ok-push.ensures.items) (held_push held c.args.supplies.now.items c.in_ok-fetch.field-0 c.requires c.in_ok-fetch.ensures.held))
+    (subst (AreHeld held) (sym c.in_ok-push-in-Ok.ensures.items) (held_push held c.args.supplies.now.items c.in-Ok.supply c.requires c.in-Ok.ensures.held))

@@ -3,8 +3,8 @@ use Rattle.sudo_audit.specs.Holding.{AreHeld}
 use Rattle.sudo_audit.proofs.Held.{held_push}
 use Rattle.sudo_audit.proofs.loading.read_one.Goals as goal
 
-pub returns-in_ok-push-in-Ok-clause-held : goal.returns-in_ok-push-in-Ok-clause-held
-returns-in_ok-push-in-Ok-clause-held g c =
+pub returns-in-Ok-clause-held : goal.returns-in-Ok-clause-held
+returns-in-Ok-clause-held g c =
     let held = g.F.Files.held c.args.files.now in
     subst (λ h. AreHeld h c.push.new.self.items) (sym c.fetch.ensures.same)
     (subst (AreHeld held) (sym c.in_ok-push-in-Ok.ensures.items) (held_push held c.args.supplies.now.items c.in-Ok.supply c.requires c.in-Ok.ensures.held))

@@ -5,21 +5,27 @@ use Rattle.sudo_load.proofs.LoadLemmas.{nested, full, supplied, folder_supplied,
 use Rattle.sudo_load.proofs.loading.+loading.Goals as goal
 
 pub load_file-returns-then-levels-eq0 : goal.load_file-returns-then-levels-eq0
-load_file-returns-then-levels-eq0 t c = λ no_memory. nested c.args.levels c.args.supplies.now c.args.loaded c.args.place c.args.path (search rules)
+load_file-returns-then-levels-eq0 t c = (λ no_memory. nested c.args.levels c.args.supplies.now c.args.loaded c.args.place c.args.path (search rules), λ memory. (cc))
 
 pub load_file-returns-then-len-ge-READING_LIMIT : goal.load_file-returns-then-len-ge-READING_LIMIT
-load_file-returns-then-len-ge-READING_LIMIT t c = λ no_memory.
-    full c.args.levels c.args.supplies.now c.args.loaded c.args.place c.args.path (search rules) (search rules)
+load_file-returns-then-len-ge-READING_LIMIT t c = (
+  λ no_memory. full c.args.levels c.args.supplies.now c.args.loaded c.args.place c.args.path (search rules) (search rules),
+  λ memory. (cc),
+)
 
 pub load_file-returns-in-None : goal.load_file-returns-in-None
-load_file-returns-in-None t c = λ no_memory.
-    supplied c.args.levels c.args.supplies.now c.args.loaded c.args.place c.args.path None _ (search rules) (search rules)
-    (c.in-None.ensures ∙ ap (supplied_file c.args.supplies.now) c.as_slice.ensures) refl
+load_file-returns-in-None t c = (
+  λ no_memory. supplied c.args.levels c.args.supplies.now c.args.loaded c.args.place c.args.path None _ (search rules) (search rules)
+      (c.in-None.ensures ∙ ap (supplied_file c.args.supplies.now) c.as_slice.ensures) refl,
+  λ memory. (cc),
+)
 
 pub load_file-returns-in-Some-None : goal.load_file-returns-in-Some-None
-load_file-returns-in-Some-None t c = λ no_memory.
-    supplied c.args.levels c.args.supplies.now c.args.loaded c.args.place c.args.path (Some None) _ (search rules) (search rules)
-    (sym (ap Some c.in-Some-None.field-0-is) ∙ c.in-Some-None.ensures ∙ ap (supplied_file c.args.supplies.now) c.as_slice.ensures) refl
+load_file-returns-in-Some-None t c = (
+  λ no_memory. supplied c.args.levels c.args.supplies.now c.args.loaded c.args.place c.args.path (Some None) _ (search rules) (search rules)
+      (sym (ap Some c.in-Some-None.field-0-is) ∙ c.in-Some-None.ensures ∙ ap (supplied_file c.args.supplies.now) c.as_slice.ensures) refl,
+  λ memory. (cc),
+)
 
 pub load_file-returns-in-Some-Some : goal.load_file-returns-in-Some-Some
 load_file-returns-in-Some-Some t c =

@@ -6,8 +6,8 @@ closed-requires c = start_fine 128 c.in-Ok.path c.args.text.now c.args.supplies.
 
 pub returns-in-Err-clause-load : goal.returns-in-Err-clause-load
 returns-in-Err-clause-load c = λ no_memory.
-    start_refused c.args.path.now c.in-Ok.path c.args.text.now c.args.supplies.now c.nothing.result c.in-Err.refusal c.nothing.ensures c.in-Ok.ensures (c.in-Err.ensures no_memory)
+    start_refused c.args.path.now c.in-Ok.path c.args.text.now c.args.supplies.now c.nothing.result c.in-Err.refusal c.nothing.ensures c.in-Ok.ensures (c.in-Err.ensures.0 no_memory)
 
 pub returns-in-Err-clause-placed : goal.returns-in-Err-clause-placed
 returns-in-Err-clause-placed c =
-    refusal_placed c.in-Ok.path c.args.text.now c.args.supplies.now c.nothing.result c.in-Err.refusal c.nothing.ensures c.in-Err.ensures
+    refusal_placed c.in-Ok.path c.args.text.now c.args.supplies.now c.nothing.result c.in-Err.refusal c.nothing.ensures c.in-Err.ensures.0

@@ -11,9 +11,8 @@ returns-clause-written c =
     let ms = c.in-Some.members.now in
     let known : in_force c.args.kind p c.args.name.now ≡ Some ms = sym c.definition.ensures.value ∙ ap option_copied c.in-Some.is in
     let all = is_written c.args.kind p ms c.in-Some.ensures.resolves in
-    let same : written c.args.kind p ms ≡ c.from_vec.result =
+    let same : written c.args.kind p ms ≡ c.write_out.new.atoms.items =
     sym (negated_never (written c.args.kind p ms))
     ∙ ap (λ (xs : List Signed). xs ++ map (negated_if false) (written c.args.kind p ms)) (sym c.new-atoms.ensures.items)
-    ∙ sym c.in_ok-write_out.ensures
-    ∙ sym c.from_vec.ensures in
+    ∙ sym c.in_ok-write_out.ensures in
     (ms, known, subst (Written c.args.kind p ms) same all)

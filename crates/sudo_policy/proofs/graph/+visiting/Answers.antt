@@ -10,7 +10,7 @@ use Rattle.sudo_policy.specs.Graph.{Edge, Path, step, Turned, beside, link_measu
 use Rattle.sudo_policy.proofs.GraphLemmas.{Path-edge}
 use Rattle.sudo_policy.proofs.StateLemmas.{Known, settled_as, known_none, near_open, known_next, start_holds, end_holds, end_turned, end_settled, row_edge, new_count-below, length_set, within_get, Turned-refl, Turned-trans}
 use Rattle.sudo_policy.proofs.graph.+visiting.Goals as goal
-use Rattle.sudo_policy.proofs.graph.+visiting.Goals.{visit-in-Some, visit-in-None}
+use Rattle.sudo_policy.proofs.graph.+visiting.Goals.{visit-in-Some, visit-in-None+in_ok-push-in-None}
 
 pub visit-loop-at-init : goal.visit-loop-at-init
 visit-loop-at-init t c =
@@ -71,13 +71,13 @@ visit-loop-at-preserved t c =
     let inside : at < length row = omega (arith, within, positive) in
     let up : at + 1 ≡ c.loop-at.at = omega (arith, positive) in
     let long : length states ≡ length start = c.visit_link.auto.states ∙ v.same_length in
-    let turned : Turned (set start node Open) states = Turned-trans (set start node Open) c.loop-at.states states (v.same_length ∙ sym (length_set start node Open)) v.turned c.visit_link.ensures.turned in
+    let turned : Turned (set start node Open) states = Turned-trans (set start node Open) c.loop-at.states states (v.same_length ∙ sym (length_set start node Open)) v.turned c.in_ok-visit_link.ensures.turned in
     let near = near_open g start states node long c.requires.new c.requires.lead turned in
     let edge : (next : ℕ) → link ≡ Some next → Edge g node next =
     λ next named. row_edge g node at next row link (row_at c.args.links.now c.args.states.now c.args.node c.index-links-node.result c.as_slice-row.result.now c.requires.new c.requires.sizes c.index-links-node.is c.as_slice-row.ensures) inside refl named in
     let known : Known g node (drop (at + 1) row) c.loop-at.measure = subst (λ (k : ℕ). Known g node (drop k row) c.loop-at.measure) (sym up) v.known in
     let next : Known g node (link ∷ drop (at + 1) row) (joined beside (link_measure (done_measure states) link) c.loop-at.measure) =
-    known_next g states node (drop (at + 1) row) c.loop-at.measure link c.requires.closed (long ∙ c.requires.sizes) c.visit_link.ensures.holds near c.visit_link.ensures.visited edge known in
+    known_next g states node (drop (at + 1) row) c.loop-at.measure link c.requires.closed (long ∙ c.requires.sizes) c.in_ok-visit_link.ensures.holds near c.in_ok-visit_link.ensures.visited edge known in
     let split : drop at row ≡ link ∷ drop (at + 1) row = drop_more row at None inside in
     let same : c.joined-measure.result ≡ joined beside (link_measure (done_measure states) link) c.loop-at.measure =
     c.joined-measure.ensures ∙ ap (λ (o : Option Measure). joined beside o c.loop-at.measure) c.link_measure.ensures in
@@ -85,7 +85,7 @@ visit-loop-at-preserved t c =
     record {
       within = omega (arith, inside);
       visiting = record {
-        held = c.visit_link.ensures.holds;
+        held = c.in_ok-visit_link.ensures.holds;
         turned = turned;
         same_length = long;
         known = subst (λ (o : Option Measure). Known g node (drop at row) o) (sym same) one;
@@ -96,7 +96,7 @@ visit-loop-at-preserved t c =
 settled_is : {t : ℕ} (c : goal.visit-Joined-measure t) → c.match-measure.states ≡ settled_as c.loop-at.measure
 settled_is c = elim c.match-measure.branch [
   | visit-in-Some w ↦ w.states-is ∙ ap settled_as (sym w.in-Some.is)
-  | visit-in-None w ↦ w.states-is ∙ ap settled_as (sym w.in-None.is)
+  | visit-in-None+in_ok-push-in-None w ↦ w.states-is ∙ ap settled_as (sym w.in-None.is)
 ]
 
 node_inside : {t : ℕ} (c : goal.visit-Joined-measure t) → c.args.node < length c.loop-at.states
@@ -176,10 +176,10 @@ visit_link-visit-requires t c =
       ),
     )
 
-pub visit_link-returns-in-New-clause-visited : goal.visit_link-returns-in-New-clause-visited
-visit_link-returns-in-New-clause-visited t c next is at =
+pub visit_link-returns-in_ok-visit-clause-visited : goal.visit_link-returns-in_ok-visit-clause-visited
+visit_link-returns-in_ok-visit-clause-visited t c next is at =
     let same : next ≡ c.in-Some.next = (let k = c.in-Some.is in cc) in
-    c.visit.ensures.settled New (subst (λ (n : ℕ). slice_get c.visit.new.states n ≡ Some New) same at)
+    c.in_ok-visit.ensures.settled New (subst (λ (n : ℕ). slice_get c.visit.new.states n ≡ Some New) same at)
 
 pub visit_link-returns-in_default-states : goal.visit_link-returns-in_default-states
 visit_link-returns-in_default-states t c = record {

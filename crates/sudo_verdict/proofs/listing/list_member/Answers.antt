@@ -7,13 +7,13 @@ use Rattle.sudo_verdict.proofs.listing.list_member.Goals as goal
 pub returns-in-Some : goal.returns-in-Some
 returns-in-Some g c =
     ap Some (c.negated_if.ensures ∙ ap (λ b. negated_once b c.in-Some.decision) c.is_negated.ensures)
-    ∙ listed_decides c.args.kind c.args.checked.now (g.S.Subject.fits c.args.subject.now) c.args.member.now c.in-Alias.name c.in-Ok.atoms c.in-Alias.is c.requires
-    (rw c.as_slice.ensures at c.in-Ok.ensures.written) c.in-Some.decision (rw c.as_slice-in-Ok.ensures at c.in-Some.ensures)
+    ∙ listed_decides c.args.kind c.args.checked.now (g.S.Subject.fits c.args.subject.now) c.args.member.now c.in-Alias.name c.in-Ok.atoms.items c.in-Alias.is c.requires
+    (rw c.as_slice.ensures at c.in-Ok.ensures.written) c.in-Some.decision (rw c.as_slice-in-Ok.ensures.value at c.in-Some.ensures)
 
 pub returns-in-Ok : goal.returns-in-Ok
 returns-in-Ok g c =
-    listed_silent c.args.kind c.args.checked.now (g.S.Subject.fits c.args.subject.now) c.args.member.now c.in-Alias.name c.in-Ok.atoms c.in-Alias.is c.requires
-    (rw c.as_slice.ensures at c.in-Ok.ensures.written) (rw c.as_slice-in-Ok.ensures at c.in-None.ensures)
+    listed_silent c.args.kind c.args.checked.now (g.S.Subject.fits c.args.subject.now) c.args.member.now c.in-Alias.name c.in-Ok.atoms.items c.in-Alias.is c.requires
+    (rw c.as_slice.ensures at c.in-Ok.ensures.written) (rw c.as_slice-in-Ok.ensures.value at c.in-None.ensures)
 
 pub unreachable-requires : goal.unreachable-requires
 unreachable-requires g c =

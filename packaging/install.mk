@@ -1,0 +1,26 @@
+# Installs the program and the tools, builds a package of Debian, and tries the example without proofs.
+#   make install PREFIX=/usr/local DESTDIR=     make uninstall PREFIX= DESTDIR=     make deb     make try
+.PHONY: install uninstall deb try
+
+PREFIX ?= /usr/local
+DESTDIR ?=
+BUILT := crates/sudo_audit/out/sudo_audit
+PROGRAM ?= $(BUILT)
+
+install: $(PROGRAM)
+	packaging/install install --prefix "$(PREFIX)" --destdir "$(DESTDIR)" --program "$(PROGRAM)"
+
+uninstall:
+	packaging/install uninstall --prefix "$(PREFIX)" --destdir "$(DESTDIR)"
+
+deb: $(PROGRAM)
+	packaging/deb "$(PROGRAM)"
+
+# A first build proves every crate below the program, which takes 8 to 25 minutes.
+$(BUILT):
+	@command -v rt >/dev/null || { echo "$@ is not built, and there is no rt: build it where the toolchain is, or give PROGRAM=PATH"; exit 1; }
+	@echo "proving and building sudo_audit: 8 to 25 minutes where nothing is built yet"
+	cd crates/sudo_audit && rt run -- --help >/dev/null
+
+try:
+	packaging/try/run

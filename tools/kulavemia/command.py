@@ -1,0 +1,74 @@
+"""How the commands begin and end: their options, faults, warnings and exit statuses."""
+
+import argparse
+import os
+import sys
+from collections.abc import Callable, Mapping
+from typing import NoReturn
+
+from kulavemia.text import visible
+
+DONE = 0
+FOUND = 1
+WORDS = 2
+REFUSED = 3
+FAILED = 4
+PROGRAM = 5
+
+MEANINGS = {
+    DONE: "done",
+    WORDS: "the words of the command line are wrong",
+    REFUSED: "an input is refused; its file and line are named where it has them",
+    FAILED: "reading or writing failed",
+}
+
+
+class Fault(Exception):
+    """Ends a command with a line on standard error and a status."""
+
+    def __init__(self, text: str, status: int = REFUSED) -> None:
+        super().__init__(text)
+        self.status = status
+
+
+def name() -> str:
+    """Returns the name of the running command."""
+    return os.path.basename(sys.argv[0])
+
+
+def warn(text: str) -> None:
+    """Writes a warning to standard error."""
+    print(f"{name()}: warning: {visible(text)}", file=sys.stderr)
+
+
+def parser(purpose: str, more: Mapping[int, str] | None = None) -> argparse.ArgumentParser:
+    """Returns a parser whose help says what the command does and how it ends."""
+    meanings = dict(sorted({**MEANINGS, **(more or {})}.items()))
+    statuses = "\n".join(f"  {status}  {meaning}" for status, meaning in meanings.items())
+    return argparse.ArgumentParser(
+        description=purpose,
+        epilog=f"exit status:\n{statuses}",
+        formatter_class=argparse.RawDescriptionHelpFormatter,
+    )
+
+
+def run(main: Callable[[], int]) -> NoReturn:
+    """Runs a command and ends the process with its status."""
+    for stream, errors in ((sys.stdout, "surrogateescape"), (sys.stderr, "backslashreplace")):
+        stream.reconfigure(encoding="utf-8", errors=errors)
+    try:
+        status = main()
+        sys.stdout.flush()
+    except Fault as fault:
+        print(f"{name()}: {visible(str(fault))}", file=sys.stderr)
+        status = fault.status
+    except BrokenPipeError:
+        os.dup2(os.open(os.devnull, os.O_WRONLY), sys.stdout.fileno())
+        status = FAILED
+    except OSError as error:
+        place = f"{error.filename}: " if error.filename is not None else ""
+        print(f"{name()}: {visible(place + (error.strerror or str(error)))}", file=sys.stderr)
+        status = FAILED
+    except KeyboardInterrupt:
+        status = 130
+    sys.exit(status)

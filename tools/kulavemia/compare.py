@@ -1,0 +1,117 @@
+"""What changes between two audits of the same requests."""
+
+import contextlib
+import tempfile
+from collections import Counter
+from collections.abc import Iterator, Sequence
+from typing import IO, NamedTuple
+
+from kulavemia.answers import ALLOW, Answer, Verdict, answers, verdicts
+from kulavemia.command import Fault
+from kulavemia.requests import HEADER, Source
+from kulavemia.rows import row
+
+CHANGES = ("gained", "gained and lost", "lost", "other")
+GAINS = ("gained", "gained and lost")
+CHANGE_HEADER = (
+    "change",
+    "sender",
+    "number",
+    *HEADER[1:],
+    "old_verdict",
+    "new_verdict",
+    "old_tags",
+    "new_tags",
+    "old_place",
+    "new_place",
+)
+
+# Tags that free a grant, and tags that bind it.
+_FREEING = frozenset(("NOPASSWD", "SETENV", "FOLLOW"))
+_BINDING = frozenset(("NOEXEC", "INTERCEPT"))
+
+
+class Change(NamedTuple):
+    """A request whose verdict or tags differ."""
+
+    kind: str
+    old: Answer
+    new: Verdict
+
+
+def _freedoms(tags: str) -> frozenset[str]:
+    words = frozenset(tags.split())
+    return (words & _FREEING) | frozenset(f"not {tag}" for tag in _BINDING - words)
+
+
+def kind_of(old: Verdict, new: Verdict) -> str | None:
+    """Returns which change there is, or `None` where verdict and tags are the same."""
+    if (old.verdict, old.tags) == (new.verdict, new.tags):
+        return None
+    if old.verdict != ALLOW and new.verdict != ALLOW:
+        return "other"
+    if old.verdict != ALLOW or new.verdict != ALLOW:
+        return "gained" if new.verdict == ALLOW else "lost"
+    before, after = _freedoms(old.tags), _freedoms(new.tags)
+    if after - before:
+        return "gained and lost" if before - after else "gained"
+    return "lost" if before - after else "other"
+
+
+def changes(old: str, new: str, sources: Sequence[Source]) -> Iterator[Change]:
+    """Yields the changes between two reports of the same requests, in their order."""
+    after = verdicts(new)
+    for answer in answers(old, sources):
+        found = next(after, None)
+        if found is None:
+            raise Fault(f"{new}: no row for request {answer.number} of {answer.sender}")
+        line, sender, number, verdict = found
+        if (sender, number) != (answer.sender, answer.number):
+            raise Fault(
+                f"{new}:{line}: request {number} of {sender}, and {old} has request {answer.number} of"
+                f" {answer.sender} there"
+            )
+        kind = kind_of(answer.verdict, verdict)
+        if kind is not None:
+            yield Change(kind, answer, verdict)
+    further = next(after, None)
+    if further is not None:
+        raise Fault(f"{new}:{further[0]}: request {further[2]} of {further[1]} has no row in {old}")
+
+
+def _row(change: Change) -> str:
+    old, new = change.old.verdict, change.new
+    return row(
+        (
+            change.kind,
+            change.old.sender,
+            str(change.old.number),
+            *change.old.request,
+            old.verdict,
+            new.verdict,
+            old.tags,
+            new.tags,
+            old.place,
+            new.place,
+        )
+    )
+
+
+def write(found: Iterator[Change], out: IO[str]) -> Counter[str]:
+    """Writes the changes, each kind apart in the order of `CHANGES`, and returns how many of each there are."""
+    counts: Counter[str] = Counter()
+    with contextlib.ExitStack() as stack:
+        parts = {
+            kind: stack.enter_context(
+                tempfile.TemporaryFile("w+", encoding="utf-8", errors="surrogateescape", newline="")
+            )
+            for kind in CHANGES
+        }
+        for change in found:
+            counts[change.kind] += 1
+            parts[change.kind].write(_row(change))
+        out.write(row(CHANGE_HEADER))
+        for part in parts.values():
+            part.seek(0)
+            out.writelines(part)
+    return counts

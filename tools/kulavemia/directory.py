@@ -1,0 +1,314 @@
+"""Users with their groups, and hosts with their addresses."""
+
+import enum
+import grp
+import ipaddress
+import json
+import os
+import pwd
+import shutil
+import socket
+import subprocess
+from collections.abc import Iterable, Iterator, Mapping
+from typing import Any, NamedTuple
+
+from kulavemia.command import Fault, warn
+from kulavemia.rows import header_of, open_read, records, write_rows
+
+USERS_HEADER = ("user", "uid", "groups")
+HOSTS_HEADER = ("host", "interfaces")
+MEMBERSHIPS_HEADER = ("user", "uid", "gid", "group")
+ROWS_LIMIT = 100_000
+_ID_LIMIT = 1 << 32
+
+
+class Unwritable(enum.Enum):
+    """What becomes of a group whose name users.csv cannot hold."""
+
+    NUMBER = "number"
+    LEAVE = "leave"
+    REFUSE = "refuse"
+
+
+class Person(NamedTuple):
+    """A user with groups as `NAME:GID`, the primary group first."""
+
+    name: str
+    uid: int
+    groups: tuple[str, ...]
+
+
+class Machine(NamedTuple):
+    """A host with interfaces as `ADDRESS/BITS`."""
+
+    name: str
+    interfaces: tuple[str, ...]
+
+
+class Host(NamedTuple):
+    """What was copied of a host."""
+
+    folder: str
+    people: list[Person]
+    machine: Machine
+
+
+class Account(NamedTuple):
+    """A line of a passwd file."""
+
+    name: str
+    uid: int
+    gid: int
+
+
+class Groups:
+    """The groups of a machine, and how each is written."""
+
+    def __init__(self, mode: Unwritable, place: str) -> None:
+        self.mode = mode
+        self.place = place
+        self.names: dict[int, str] = {}
+        self.of_user: dict[str, list[int]] = {}
+
+    def add(self, name: str, gid: int, members: Iterable[str]) -> None:
+        """Adds a group; of several names of one ID the first counts."""
+        self.names.setdefault(gid, name)
+        for member in members:
+            self.of_user.setdefault(member, []).append(gid)
+
+    def person(self, account: Account, gids: Iterable[int] | None = None) -> Person:
+        """Returns the user of an account, with these further groups or those that name him."""
+        further = self.of_user.get(account.name, ()) if gids is None else gids
+        found = dict.fromkeys((account.gid, *further))
+        written = (self._written(account.name, gid, gid == account.gid) for gid in found)
+        return Person(account.name, account.uid, tuple(group for group in written if group))
+
+    def _written(self, user: str, gid: int, is_primary: bool) -> str:
+        name = self.names.get(gid)
+        if name is None:
+            return f"#{gid}:{gid}"
+        if name and " " not in name and ":" not in name:
+            return f"{name}:{gid}"
+        said = f"{self.place}: user {user}: users.csv cannot hold the name of the group {name!r} ({gid})"
+        if self.mode is Unwritable.REFUSE:
+            raise Fault(said)
+        if self.mode is Unwritable.LEAVE and not is_primary:
+            warn(f"{said}; it is left out")
+            return ""
+        warn(f"{said}; it is written #{gid}, and rules that name it do not find it")
+        return f"#{gid}:{gid}"
+
+
+def _unique(accounts: Iterable[Account], place: str) -> list[Account]:
+    """Returns the first account of each name."""
+    found: dict[str, Account] = {}
+    for account in accounts:
+        if account.name not in found:
+            found[account.name] = account
+        elif found[account.name] != account:
+            warn(f"{place}: user {account.name} stands twice; the first counts")
+    return list(found.values())
+
+
+def of_this_machine(names: Iterable[str], mode: Unwritable) -> tuple[list[Person], list[Machine]]:
+    """Returns this machine's users, these among them, and its host."""
+    entries = pwd.getpwall()
+    listed = {entry.pw_name for entry in entries}
+    further = [_looked_up(name) for name in names if name not in listed]
+    groups = Groups(mode, "this machine")
+    for group in grp.getgrall():
+        groups.add(group.gr_name, group.gr_gid, group.gr_mem)
+    accounts = _unique((Account(entry.pw_name, entry.pw_uid, entry.pw_gid) for entry in entries), "this machine")
+    people = [groups.person(account) for account in accounts]
+    for entry in further:
+        gids = os.getgrouplist(entry.pw_name, entry.pw_gid)
+        _name_groups(groups, gids)
+        people.append(groups.person(Account(entry.pw_name, entry.pw_uid, entry.pw_gid), gids))
+    return people, [Machine(_own_name(), _own_addresses())]
+
+
+def _own_name() -> str:
+    """Returns this machine's name with its domain, where it has one."""
+    name = socket.gethostname()
+    try:
+        return socket.getaddrinfo(name, None, flags=socket.AI_CANONNAME)[0][3] or name
+    except OSError:
+        return name
+
+
+def _looked_up(name: str) -> pwd.struct_passwd:
+    try:
+        return pwd.getpwnam(name)
+    except KeyError:
+        raise Fault(f"--user {name}: this machine knows no such user") from None
+
+
+def _name_groups(groups: Groups, gids: Iterable[int]) -> None:
+    """Looks up the names of groups that the machine does not list."""
+    for gid in gids:
+        if gid not in groups.names:
+            try:
+                groups.names[gid] = grp.getgrgid(gid).gr_name
+            except KeyError:
+                continue
+
+
+def _own_addresses() -> tuple[str, ...]:
+    if shutil.which("ip") is None:
+        warn("this machine has no command ip: its host is written without addresses")
+        return ()
+    done = subprocess.run(["ip", "-j", "addr"], stdout=subprocess.PIPE, check=False)
+    if done.returncode != 0:
+        raise Fault(f"ip -j addr ended with status {done.returncode}")
+    return _addresses(done.stdout.decode("utf-8", "surrogateescape"), "ip -j addr")
+
+
+def _addresses(text: str, place: str) -> tuple[str, ...]:
+    """Returns the IPv4 addresses of what `ip -j addr` writes."""
+    try:
+        links = json.loads(text) if text.strip() else []
+        found = [_address(info) for link in links for info in link.get("addr_info", ()) if info.get("family") == "inet"]
+    except (ValueError, AttributeError, KeyError, TypeError) as error:
+        raise Fault(f"{place}: not what ip -j addr writes: {error}") from None
+    return tuple(dict.fromkeys(found))
+
+
+def _address(info: Mapping[str, Any]) -> str:
+    address, bits = ipaddress.IPv4Address(info["local"]), int(info["prefixlen"])
+    if not 0 <= bits <= 32:
+        raise ValueError(f"{bits} bits")
+    return f"{address}/{bits}"
+
+
+def collected(source: str, mode: Unwritable) -> list[Host]:
+    """Returns the hosts whose files a folder has, in the order of their names."""
+    if os.path.exists(os.path.join(source, "passwd")):
+        return [_host(source, os.path.basename(os.path.abspath(source)), mode)]
+    names = sorted(name for name in os.listdir(source) if os.path.exists(os.path.join(source, name, "passwd")))
+    if not names:
+        raise Fault(f"{source}: no passwd and no HOST/passwd is there")
+    for name in sorted(set(os.listdir(source)) - set(names)):
+        warn(f"{os.path.join(source, name)} has no passwd: passed over")
+    return [_host(os.path.join(source, name), name, mode) for name in names]
+
+
+def _host(folder: str, name: str, mode: Unwritable) -> Host:
+    groups = Groups(mode, folder)
+    for fields in _lines(os.path.join(folder, "group"), 4, slice(2, 3)):
+        groups.add(fields[0], int(fields[2]), filter(None, fields[3].split(",")))
+    found = (
+        Account(fields[0], int(fields[2]), int(fields[3]))
+        for fields in _lines(os.path.join(folder, "passwd"), 7, slice(2, 4))
+    )
+    people = [groups.person(account) for account in _unique(found, folder)]
+    return Host(name, people, Machine(_host_name(folder, name), _copied_addresses(folder)))
+
+
+def _lines(path: str, count: int, numbers: slice) -> Iterator[list[str]]:
+    """Yields the lines of a passwd or group file as their fields. Raises `Fault` at one of another form."""
+    with open_read(path) as file:
+        for line, text in enumerate(file, 1):
+            text = text.rstrip("\r\n")
+            if not text or text.startswith(("#", "+", "-")):
+                if text.startswith(("+", "-")):
+                    warn(f"{path}:{line}: {text[:40]}: what other databases hold is not followed")
+                continue
+            fields = text.split(":")
+            if len(fields) != count or not fields[0] or not all(_is_id(number) for number in fields[numbers]):
+                raise Fault(f"{path}:{line}: not a line of such a file")
+            yield fields
+
+
+def _is_id(text: str) -> bool:
+    return text.isascii() and text.isdecimal() and int(text) < _ID_LIMIT
+
+
+def _host_name(folder: str, name: str) -> str:
+    path = os.path.join(folder, "hostname")
+    if not os.path.exists(path):
+        return name
+    with open_read(path) as file:
+        written = file.readline().strip()
+    if not written:
+        raise Fault(f"{path}:1: no name")
+    return written
+
+
+def _copied_addresses(folder: str) -> tuple[str, ...]:
+    path = os.path.join(folder, "addr.json")
+    if not os.path.exists(path):
+        warn(f"{path} is not there: the host is written without addresses")
+        return ()
+    with open_read(path) as file:
+        return _addresses(file.read(), path)
+
+
+def merged(hosts: Iterable[Host]) -> list[Person]:
+    """Returns the users of all hosts. Raises `Fault` where hosts say different things of a user or a group."""
+    found: dict[str, tuple[Person, str]] = {}
+    names: dict[str, tuple[str, str]] = {}
+    gids: dict[str, tuple[str, str]] = {}
+    differences: list[str] = []
+    for host in hosts:
+        for person in host.people:
+            first, place = found.setdefault(person.name, (person, host.folder))
+            if (
+                first.uid != person.uid
+                or first.groups[:1] != person.groups[:1]
+                or set(first.groups) != set(person.groups)
+            ):
+                differences.append(f"user {person.name} of {place} and of {host.folder} differ")
+            for group in person.groups:
+                differences.extend(_clashes(names, gids, group, host.folder))
+    if differences:
+        more = f" (and {len(differences) - 1} more)" if len(differences) > 1 else ""
+        raise Fault(f"{differences[0]}{more}; --each writes the files of each host apart")
+    return [person for person, _ in found.values()]
+
+
+def _clashes(
+    names: dict[str, tuple[str, str]], gids: dict[str, tuple[str, str]], group: str, folder: str
+) -> Iterator[str]:
+    name, _, gid = group.rpartition(":")
+    for seen, key, value in ((names, name, gid), (gids, gid, name)):
+        before, place = seen.setdefault(key, (value, folder))
+        if before != value:
+            yield f"group {name} ({gid}) of {folder} is another one on {place}"
+
+
+def users_in(path: str) -> dict[str, str]:
+    """Returns the users of a users file with their IDs, whether it has a row for a user or for a membership."""
+    by_membership = header_of(path) == list(MEMBERSHIPS_HEADER)
+    found: dict[str, str] = {}
+    for _, fields in records(path, MEMBERSHIPS_HEADER if by_membership else USERS_HEADER):
+        found.setdefault(fields[0], fields[1])
+    return found
+
+
+def hosts_in(path: str) -> list[str]:
+    """Returns the hosts of a hosts file."""
+    return [fields[0] for _, fields in records(path, HOSTS_HEADER)]
+
+
+def write(folder: str, people: Iterable[Person], machines: Iterable[Machine]) -> None:
+    """Writes users.csv and hosts.csv into a folder."""
+    os.makedirs(folder, exist_ok=True)
+    users = [(person.name, str(person.uid), " ".join(person.groups)) for person in people]
+    hosts = [(machine.name, " ".join(machine.interfaces)) for machine in machines]
+    _warn_of_clashes(user[2] for user in users)
+    for kind, rows in (("users", users), ("hosts", hosts)):
+        if len(rows) > ROWS_LIMIT:
+            raise Fault(f"{len(rows)} {kind}, and an audit takes {ROWS_LIMIT}")
+    if all(user[0] != "root" for user in users):
+        warn("there is no user root, and an audit wants one")
+    write_rows(os.path.join(folder, "users.csv"), USERS_HEADER, sorted(users))
+    write_rows(os.path.join(folder, "hosts.csv"), HOSTS_HEADER, hosts)
+
+
+def _warn_of_clashes(groups: Iterable[str]) -> None:
+    """Warns of a group name with two numbers, which an audit refuses."""
+    names: dict[str, str] = {}
+    for group in dict.fromkeys(word for words in groups for word in words.split(" ") if word):
+        name, _, gid = group.rpartition(":")
+        if names.setdefault(name, gid) != gid:
+            warn(f"group {name} has the numbers {names[name]} and {gid}: an audit refuses that")

@@ -1,0 +1,361 @@
+"""Logs that tell of sudo: syslog's lines, sudo's own file, the journal as JSON, and sudo's JSON events."""
+
+import bz2
+import datetime
+import errno
+import gzip
+import io
+import json
+import lzma
+import os
+import re
+import sys
+from collections import deque
+from collections.abc import Callable, Iterator
+from typing import IO, Any, NamedTuple
+
+from kulavemia.messages import Event, Pairs, event_of, event_of_json, json_events
+
+LINE_LIMIT = 1 << 22
+WINDOW = 256
+SYSLOG_LENGTH = 980
+_CONTINUED = "(command continued)"
+_CONTINUED_LENGTH = len("%8s : (command continued) %s") - 5
+
+_MONTHS = {name: number for number, name in enumerate("Jan Feb Mar Apr May Jun Jul Aug Sep Oct Nov Dec".split(), 1)}
+_DATE = r"(?P<month>[A-Z][a-z]{2}) (?P<day>[ \d]?\d)"
+_CLOCK = r"(?P<clock>\d\d:\d\d:\d\d(?:\.\d+)?)"
+_SYSLOG = re.compile(
+    r"(?:<\d{1,3}>)?(?:(?P<iso>\d{4}-\d\d-\d\d[T ]\d\d:\d\d:\S+)|(?P<before>\d{4} )?"
+    + _DATE
+    + r" (?P<middle>\d{4} )?"
+    + _CLOCK
+    + r"(?P<after> \d{4})?(?: [A-Z]{3,5})?) (?P<host>\S+) (?P<tag>[^\s\[:]+)(?:\[(?P<pid>\d+)\])?: ?(?P<text>.*)",
+    re.DOTALL,
+)
+_FRAMED = re.compile(
+    (
+        r"<\d{1,3}>1 (?P<iso>\S+) (?P<host>\S+) (?P<tag>\S+) (?P<pid>\S+) \S+"
+        r" (?:-|(?:\[(?:[^\]\"]|\"(?:[^\"\\]|\\.)*\")*\])+) ?(?P<text>.*)"
+    ),
+    re.DOTALL,
+)
+_OWN = re.compile(_DATE + " " + _CLOCK + r"(?P<after> \d{4})? : (?P<user>.*?) : (?P<text>.*)", re.DOTALL)
+_REPEATED = re.compile(r"message repeated (\d+) times: \[ ?(.*)\]$", re.DOTALL)
+_STRING = re.compile(r'"(?:[^"\\]|\\.)*"')
+_HALVES = re.compile("[\ud800-\udbff\udc00-\udc7f\udd00-\udfff]")
+
+
+class Options(NamedTuple):
+    """How logs are read."""
+
+    host: str = ""
+    year: int | None = None
+    quoting: str = "auto"
+    syslog_length: int = SYSLOG_LENGTH
+
+
+class Found(NamedTuple):
+    """A line of a log, with its time and event, or why it tells of no request."""
+
+    line: int
+    time: str
+    event: Event | str
+
+
+class _Message:
+    """A message of sudo whose end may still come."""
+
+    __slots__ = ("line", "time", "host", "user", "text", "last", "note")
+
+    def __init__(self, line: int, time: str, host: str, user: str, text: str, note: str = "") -> None:
+        self.line = line
+        self.time = time
+        self.host = host
+        self.user = user
+        self.text = text
+        self.last = text
+        self.note = note
+
+    def add(self, text: str, length: int) -> None:
+        """Adds a further piece. sudo cuts at a blank, or at its limit of bytes where the piece has no blank."""
+        size = len(self.last.encode("utf-8", "surrogateescape")) + len(self.user.encode("utf-8", "surrogateescape"))
+        cut = " " not in self.last and size == length - _CONTINUED_LENGTH
+        self.text += text if cut else " " + text
+        self.last = text
+
+    def found(self, quoting: str) -> Found:
+        """Returns what the whole message says."""
+        event = event_of(self.user, self.host, self.text, quoting)
+        if self.note and isinstance(event, Event):
+            event = event._replace(note=f"{event.note}, {self.note}" if event.note else self.note)
+        return Found(self.line, self.time, event)
+
+
+def opened(path: str) -> tuple[IO[bytes], IO[bytes]]:
+    """Opens a log, also a compressed one; `-` is standard input. Returns the bytes as stored and as they read."""
+    raw: IO[bytes] = sys.stdin.buffer if path == "-" else open(path, "rb")
+    if path == "-":
+        return raw, raw
+    start = raw.read(6)
+    raw.seek(0)
+    if start.startswith(b"\x1f\x8b"):
+        return raw, gzip.open(raw)
+    if start.startswith(b"BZh"):
+        return raw, bz2.open(raw)
+    if start == b"\xfd7zXZ\0":
+        return raw, lzma.open(raw)
+    return raw, raw
+
+
+def size_of(path: str) -> int:
+    """Returns how many bytes a log has as it is stored; 0 for standard input."""
+    return 0 if path == "-" else os.stat(path).st_size
+
+
+class Log:
+    """Reads a log from its start to its end."""
+
+    def __init__(self, path: str, options: Options, at: Callable[[int], None] = lambda done: None) -> None:
+        self.path = path
+        self.options = options
+        self.at = at
+        self.raw, inner = opened(path)
+        self.file = io.TextIOWrapper(inner, encoding="utf-8", errors="surrogateescape", newline="\n")
+        newest = os.stat(path).st_mtime if path != "-" else None
+        self.newest = datetime.datetime.fromtimestamp(newest) if newest else datetime.datetime.now()
+        self.waiting: deque[_Message | Found] = deque()
+        self.latest: dict[tuple[str, str], _Message] = {}
+        self.dates: dict[tuple[str | Any, ...], str] = {}
+
+    def __iter__(self) -> Iterator[Found]:
+        """Yields what each line says, in their order."""
+        with self.raw, self.file:
+            try:
+                for line, text, own in self._entries():
+                    self._read(line, text, own)
+                    while len(self.waiting) > WINDOW:
+                        yield self._next()
+            except (EOFError, lzma.LZMAError, gzip.BadGzipFile) as error:
+                raise OSError(errno.EIO, str(error), self.path) from None
+        while self.waiting:
+            yield self._next()
+
+    def _next(self) -> Found:
+        first = self.waiting.popleft()
+        if isinstance(first, Found):
+            return first
+        if self.latest.get((first.host, first.user)) is first:
+            del self.latest[first.host, first.user]
+        return first.found(self.options.quoting)
+
+    def _lines(self) -> Iterator[tuple[int, str]]:
+        """Yields the physical lines; one that is too long is passed over and told."""
+        line = 0
+        while text := self.file.readline(LINE_LIMIT):
+            line += 1
+            if line % 4096 == 0 and self.path != "-":
+                self.at(self.raw.tell())
+            if len(text) == LINE_LIMIT and not text.endswith("\n"):
+                while text and not text.endswith("\n"):
+                    text = self.file.readline(LINE_LIMIT)
+                self._skip(line, "the line is too long")
+                continue
+            yield line, text.rstrip("\r\n")
+
+    def _entries(self) -> Iterator[tuple[int, str, bool]]:
+        """Yields lines, and whether they are of sudo's own file; its folded lines and those of JSON are put together."""
+        held: tuple[int, str] | None = None
+        lines = self._lines()
+        for line, text in lines:
+            if held is not None:
+                if text.startswith("    ") and len(held[1]) < LINE_LIMIT:
+                    held = held[0], held[1] + " " + text[4:]
+                    continue
+                yield *held, True
+                held = None
+            if _OWN.match(text):
+                held = line, text
+            elif text.startswith(("{", "[")):
+                self._json(line, text, lines)
+            else:
+                yield line, text, False
+        if held is not None:
+            yield *held, True
+
+    def _skip(self, line: int, reason: str, time: str = "") -> None:
+        self.waiting.append(Found(line, time, reason))
+
+    def _read(self, line: int, text: str, is_own: bool) -> None:
+        own = _OWN.match(text) if is_own else None
+        if own:
+            time = self._day(own.group("month", "day", "after")) + own["clock"]
+            self._hold(_Message(line, time, self.options.host, own["user"], own["text"]))
+            return
+        match = _SYSLOG.match(text) or _FRAMED.match(text)
+        if match is None:
+            self._skip(line, "an empty line" if not text.strip() else "no line of a log that is known")
+            return
+        time = self._time(match)
+        host, tag, message = match.group("host", "tag", "text")
+        if tag in ("sudo", "sudoedit"):
+            self._message(line, time, host, message)
+        else:
+            self._skip(line, "not of sudo", time)
+
+    def _message(self, line: int, time: str, host: str, text: str) -> None:
+        """Takes a message of sudo in a log of the system."""
+        repeated = _REPEATED.match(text) if text.startswith("message repeated") else None
+        note = f"repeated {repeated[1]} times" if repeated else ""
+        text = repeated[2] if repeated else text
+        if text.startswith("@cee:"):
+            self._values(line, time, host, text[5:])
+            return
+        user, colon, rest = text.partition(" : ")
+        user = user.strip(" ")
+        if not colon:
+            self._skip(line, f"no request: {text.strip()[:80]}", time)
+        elif rest.startswith(_CONTINUED):
+            self._continue(line, time, host, user, rest[len(_CONTINUED) + 1 :])
+        else:
+            self._hold(_Message(line, time, host, user, rest, note))
+
+    def _hold(self, message: _Message) -> None:
+        self.waiting.append(message)
+        self.latest[message.host, message.user] = message
+
+    def _continue(self, line: int, time: str, host: str, user: str, text: str) -> None:
+        message = self.latest.get((host, user))
+        if message is None or len(message.text) > LINE_LIMIT:
+            self._skip(line, "continues a command that does not stand before it", time)
+        else:
+            message.add(text, self.options.syslog_length)
+
+    def _time(self, match: re.Match[str]) -> str:
+        if match["iso"] is not None:
+            return match["iso"].replace(" ", "T")
+        return self._day(match.group("month", "day", "before", "middle", "after")) + match["clock"]
+
+    def _day(self, date: tuple[str | Any, ...]) -> str:
+        """Returns the part of a time before the clock's; the last one is kept."""
+        if date not in self.dates:
+            self.dates = {date: self._date(*date)}
+        return self.dates[date]
+
+    def _date(self, name: str, day: str, *years: str | None) -> str:
+        """Returns a month, a day and years as the part of a time before the clock's.
+
+        A year that is not given is the last one that fits the log's end.
+        """
+        month = _MONTHS.get(name)
+        if month is None:
+            return ""
+        given = next((int(year) for year in years if year), self.options.year)
+        later = (month, int(day)) > (self.newest.month, self.newest.day)
+        year = given if given is not None else self.newest.year - later
+        return f"{year:04}-{month:02}-{int(day):02}T"
+
+    def _json(self, line: int, text: str, lines: Iterator[tuple[int, str]]) -> None:
+        """Takes a line of JSON, or the lines over which a value goes."""
+        try:
+            value = parsed(text)
+        except ValueError:
+            self._long_json(line, text, lines)
+            return
+        self._value(line, "", "", value)
+
+    def _long_json(self, line: int, text: str, lines: Iterator[tuple[int, str]]) -> None:
+        """Takes the members of an object that goes over several lines, one at a time."""
+        depth, start, parts, size = 0, line, [], 0
+        while True:
+            bare = _STRING.sub("", text)
+            opened_at = depth
+            depth += bare.count("{") + bare.count("[") - bare.count("}") - bare.count("]")
+            if opened_at == 0:
+                text = text.lstrip()[1:]
+            if text.strip(" ,]}") or parts:
+                start = start if parts else line
+                parts.append(text)
+                size += len(text)
+            if depth <= 1 and parts:
+                self._member(start, "".join(parts), depth)
+                parts, size = [], 0
+            if depth <= 0 or size > LINE_LIMIT:
+                break
+            following = next(lines, None)
+            if following is None:
+                break
+            line, text = following
+        if depth > 0:
+            self._skip(start if parts else line, "JSON that does not end")
+
+    def _member(self, line: int, text: str, depth: int) -> None:
+        text = text.strip().rstrip(",")
+        if depth <= 0 and text.endswith("}"):
+            text = text[:-1]
+        self._values(line, "", "", "{" + text + "}")
+
+    def _values(self, line: int, time: str, host: str, text: str) -> None:
+        try:
+            self._value(line, time, host, parsed(text))
+        except ValueError:
+            self._skip(line, "no JSON", time)
+
+    def _value(self, line: int, time: str, host: str, value: Any) -> None:
+        """Takes a JSON value: events of sudo's own, or an entry of the journal."""
+        events = json_events(value)
+        for kind, body in events:
+            its_time, event = event_of_json(kind, body, host or self.options.host)
+            self.waiting.append(Found(line, its_time or time, event))
+        if not events:
+            self._journal(line, dict(value) if isinstance(value, Pairs) else {})
+
+    def _journal(self, line: int, fields: dict[str, Any]) -> None:
+        time = _journal_time(fields.get("__REALTIME_TIMESTAMP"))
+        if not fields:
+            self._skip(line, "JSON without an event of sudo")
+        elif fields.get("SYSLOG_IDENTIFIER", fields.get("_COMM")) not in ("sudo", "sudoedit"):
+            self._skip(line, "not of sudo", time)
+        else:
+            text = _journal_text(fields.get("MESSAGE"))
+            host = fields.get("_HOSTNAME")
+            if text is None:
+                self._skip(line, "no message", time)
+            else:
+                self._message(line, time, host if isinstance(host, str) else "", text)
+
+
+def _clean(value: Any) -> Any:
+    """Returns a JSON value whose texts can be written as UTF-8 and bytes that are none."""
+    if isinstance(value, str):
+        return _HALVES.sub("\ufffd", value)
+    if isinstance(value, Pairs):
+        return Pairs((_clean(key), _clean(inner)) for key, inner in value)
+    if isinstance(value, list):
+        return [_clean(inner) for inner in value]
+    return value
+
+
+def parsed(text: str) -> Any:
+    """Returns a JSON value, an object as its pairs. Raises `ValueError`."""
+    try:
+        value = json.loads(text, object_pairs_hook=Pairs)
+    except RecursionError:
+        raise ValueError("nested too deep") from None
+    return _clean(value) if _HALVES.search(text) or "\\u" in text else value
+
+
+def _journal_time(stamp: Any) -> str:
+    if not isinstance(stamp, str) or not stamp.isdecimal() or len(stamp) > 17:
+        return ""
+    moment = datetime.datetime.fromtimestamp(int(stamp) / 1e6, datetime.timezone.utc)
+    return moment.strftime("%Y-%m-%dT%H:%M:%SZ")
+
+
+def _journal_text(message: Any) -> str | None:
+    """Returns a message of the journal, which has bytes as numbers where they are no text."""
+    if isinstance(message, str):
+        return message
+    if isinstance(message, list) and all(isinstance(byte, int) and 0 <= byte < 256 for byte in message):
+        return bytes(message).decode("utf-8", "surrogateescape")
+    return None

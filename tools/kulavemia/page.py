@@ -1,0 +1,200 @@
+"""One page of HTML, whole in itself, out of the reports of audits."""
+
+import base64
+import hashlib
+import json
+import os
+from collections.abc import Sequence
+from dataclasses import dataclass, field
+from typing import Any, NamedTuple
+
+from kulavemia.answers import answers
+from kulavemia.command import FAILED, Fault
+from kulavemia.compare import CHANGE_HEADER, CHANGES
+from kulavemia.requests import LOG_KEY, PROBE_KEY, sources_of
+from kulavemia.roots import LEVELS, Numbering, Roots
+from kulavemia.rows import records
+from kulavemia.rules import Rule, Rules
+from kulavemia.text import visible
+from kulavemia.uses import TEXT_LIMIT, Uses, texts_of
+
+TEMPLATES = os.path.join(os.path.dirname(__file__), "templates")
+REPORT = "report.csv"
+
+
+class Inputs(NamedTuple):
+    """What a page is made of; what is empty is left out."""
+
+    title: str
+    policy: str = ""
+    root: str = ""
+    old_policy: str = ""
+    old_root: str = ""
+    probe: str = ""
+    requests: str = ""
+    changes: str = ""
+    rows: int = 1000
+    facts: Sequence[tuple[str, str]] = ()
+
+
+class Step(NamedTuple):
+    """From what to what the answer to somebody changes."""
+
+    user: str
+    runas_user: str
+    runas_group: str
+    old_verdict: str
+    old_tags: str
+    old_place: str
+    new_verdict: str
+    new_tags: str
+    new_place: str
+
+
+@dataclass
+class Changes:
+    """The changes of one kind: the same steps together, with the hosts and commands of each."""
+
+    kind: str
+    count: int = 0
+    steps: dict[Step, tuple[dict[str, None], dict[str, None]]] = field(default_factory=dict)
+
+    def add(self, fields: dict[str, str]) -> None:
+        """Adds a row of a comparison."""
+        self.count += 1
+        hosts, commands = self.steps.setdefault(Step(*(fields[name] for name in Step._fields)), ({}, {}))
+        hosts[fields["host"]] = None
+        commands[f"{fields['command']} {fields['arguments']}".rstrip(" ")] = None
+
+
+class Page:
+    """What the template shows."""
+
+    def __init__(self, inputs: Inputs) -> None:
+        self.inputs = inputs
+        self.places: Numbering[str] = Numbering()
+        self.rules = Rules(inputs.policy, inputs.root) if inputs.policy else None
+        self.old_rules = Rules(inputs.old_policy, inputs.old_root) if inputs.old_policy else None
+        if self.rules:
+            for rule in self.rules.all():
+                self.places.of(rule.place)
+        self.roots = self._roots() if inputs.probe else None
+        self.uses = self._uses() if inputs.requests else None
+        self.changes = self._changes() if inputs.changes else None
+        self.log_texts = self._log_texts()
+
+    def _roots(self) -> Roots:
+        roots = Roots(self.places)
+        folder = self.inputs.probe
+        roots.take_all(answers(os.path.join(folder, REPORT), sources_of(folder), PROBE_KEY))
+        return roots
+
+    def _uses(self) -> Uses:
+        uses = Uses()
+        folder = self.inputs.requests
+        uses.take_all(answers(os.path.join(folder, REPORT), sources_of(folder), LOG_KEY))
+        return uses
+
+    def _changes(self) -> list[Changes]:
+        found = {kind: Changes(kind) for kind in CHANGES}
+        for line, fields in records(self.inputs.changes, CHANGE_HEADER):
+            if fields[0] not in found:
+                raise Fault(f"{self.inputs.changes}:{line}: {fields[0]} is no change")
+            found[fields[0]].add(dict(zip(CHANGE_HEADER, fields)))
+        return list(found.values())
+
+    def _log_texts(self) -> dict[tuple[str, int], str]:
+        if self.uses is None:
+            return {}
+        kinds = (self.uses.denied, self.uses.allowed, self.uses.unknown)
+        return texts_of(asked for kind in kinds for asked in kind.list()[: self.inputs.rows])
+
+    def rule_text(self, place: str) -> str:
+        """Returns the text of the rule at a place of the policy."""
+        return self.rules.text(place) if self.rules else ""
+
+    def old_rule_text(self, place: str) -> str:
+        """Returns the text of the rule at a place of the policy before."""
+        return self.old_rules.text(place) if self.old_rules else ""
+
+    def log_text(self, log: str, line: int) -> str:
+        """Returns the text of a line of a log."""
+        return self.log_texts.get((log, line), "")[:TEXT_LIMIT]
+
+    def shown_rules(self) -> list[Rule]:
+        """Returns the rules of the policy, and further places of the reports with their texts."""
+        rules = self.rules.all() if self.rules else []
+        known = {rule.place for rule in rules}
+        return rules + [Rule(place, self.rule_text(place)) for place in self.places.list() if place not in known]
+
+    def unused(self) -> list[Rule]:
+        """Returns the rules that decided no request of the logs."""
+        if self.rules is None or self.uses is None:
+            return []
+        return [rule for rule in self.rules.all() if rule.place not in self.uses.places]
+
+    def anchor(self, place: str) -> str:
+        """Returns the anchor of a place."""
+        return f"rule-{self.places.of(place)}"
+
+    def data(self) -> dict[str, Any]:
+        """Returns what the page's script reads."""
+        return {
+            "levels": LEVELS,
+            "places": [[visible(place), visible(self.rule_text(place))] for place in self.places.list()],
+            "roots": self.roots.data() if self.roots else None,
+        }
+
+
+def as_json(value: Any) -> str:
+    """Returns JSON that may stand in a page: ASCII, and no byte that ends or begins a tag."""
+    text = json.dumps(value, separators=(",", ":"), ensure_ascii=True)
+    return text.replace("<", "\\u003c").replace(">", "\\u003e").replace("&", "\\u0026")
+
+
+def _sum(text: str) -> str:
+    return "sha256-" + base64.b64encode(hashlib.sha256(text.encode()).digest()).decode()
+
+
+def _part(name: str) -> str:
+    with open(os.path.join(TEMPLATES, name), encoding="utf-8") as file:
+        return file.read()
+
+
+def rendered(page: Page) -> str:
+    """Returns the page's text."""
+    try:
+        import jinja2
+        import markupsafe
+    except ModuleNotFoundError:
+        raise Fault("the Python package jinja2 is not there: apt-get install python3-jinja2", FAILED) from None
+
+    def shown(value: Any) -> Any:
+        return visible(value) if isinstance(value, str) and not hasattr(value, "__html__") else value
+
+    environment = jinja2.Environment(
+        loader=jinja2.FileSystemLoader(TEMPLATES),
+        autoescape=True,
+        undefined=jinja2.StrictUndefined,
+        finalize=shown,
+        trim_blocks=True,
+        lstrip_blocks=True,
+    )
+    script, style = _part("page.js"), _part("page.css")
+    return environment.get_template("page.html").render(
+        page=page,
+        inputs=page.inputs,
+        levels=LEVELS,
+        script=markupsafe.Markup(script),
+        style=markupsafe.Markup(style),
+        script_sum=_sum(script),
+        style_sum=_sum(style),
+        data=markupsafe.Markup(as_json(page.data())),
+    )
+
+
+def write(page: Page, path: str) -> None:
+    """Writes the page."""
+    text = rendered(page)
+    with open(path, "w", encoding="utf-8") as file:
+        file.write(text)

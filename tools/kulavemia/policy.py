@@ -1,0 +1,130 @@
+"""The lines of a policy, for showing them; what they mean is for the proved program to say."""
+
+import os
+import re
+from collections.abc import Callable, Iterator
+from typing import NamedTuple
+
+from kulavemia.command import Fault
+
+FILES_LIMIT = 1024
+_INCLUDE = re.compile(rb"[@#]include(dir)?(?:[ \t]+(.*))?$", re.DOTALL)
+_QUOTED_PATH = re.compile(rb'"((?:[^"\\]|\\.)*)"', re.DOTALL)
+_BARE_PATH = re.compile(rb'(?:[^ \t"\\]|\\.)*', re.DOTALL)
+_ESCAPED = re.compile(rb"\\(.)", re.DOTALL)
+_KEYWORD = re.compile(rb"(User|Runas|Host|Cmnd|Cmd)_Alias(?![^ \t!=,:()#\"])")
+_DEFAULTS = re.compile(rb"Defaults(?![^ \t@:!>])")
+_COMMENT = re.compile(rb"#(?!\d)(?!include(?:dir)?(?:[ \t]|$))")
+
+
+class Line(NamedTuple):
+    """A logical line: its first physical line, how many there are, and its text."""
+
+    number: int
+    count: int
+    text: bytes
+
+    def is_rule(self) -> bool:
+        """Tells whether the line says who may do what: whether it is no other line."""
+        others = (_COMMENT, _INCLUDE, _KEYWORD, _DEFAULTS)
+        return bool(self.text) and not any(pattern.match(self.text) for pattern in others)
+
+
+class Include(NamedTuple):
+    """An include line: its place, whether it names a folder, and the path as it is meant."""
+
+    line: Line
+    of_folder: bool
+    path: bytes
+
+
+def lines_of(text: bytes) -> Iterator[Line]:
+    """Yields the logical lines: a line that ends in an odd number of backslashes goes on in the next one."""
+    physical = text.split(b"\n")
+    if physical and physical[-1] == b"":
+        physical.pop()
+    parts: list[bytes] = []
+    start = 0
+    for number, raw in enumerate(physical, 1):
+        line = raw.removesuffix(b"\r").lstrip(b" \t")
+        start = start if parts else number
+        goes_on = (len(line) - len(line.rstrip(b"\\"))) % 2 == 1
+        if goes_on and (parts or not _COMMENT.match(line)):
+            parts.append(line[:-1])
+            continue
+        yield Line(start, number - start + 1, b"".join((*parts, line)))
+        parts = []
+    if parts:
+        yield Line(start, len(physical) - start + 1, b"".join(parts))
+
+
+def include_of(line: Line) -> Include | None:
+    """Returns the include that a line is, or `None`."""
+    match = _INCLUDE.match(line.text)
+    if match is None:
+        return None
+    rest = match[2] or b""
+    quoted = _QUOTED_PATH.match(rest)
+    bare = _BARE_PATH.match(rest)
+    written = quoted[1] if quoted else bare[0] if bare else b""
+    return Include(line, bool(match[1]), _ESCAPED.sub(rb"\1", written))
+
+
+def written_include(of_folder: bool, path: bytes) -> bytes:
+    """Returns an include line of a path."""
+    escaped = re.sub(rb'([ \t"\\])', rb"\\\1", path)
+    return (b"@includedir " if of_folder else b"@include ") + escaped
+
+
+def beside(file: bytes, path: bytes) -> bytes:
+    """Returns the path that a file names: a relative one is in the file's folder."""
+    return path if path.startswith(b"/") else file[: file.rfind(b"/") + 1] + path
+
+
+def kept_files(folder: bytes) -> list[bytes]:
+    """Returns the files of an included folder that are read, in the order of their names' bytes."""
+    try:
+        names = sorted(os.listdir(folder))
+    except FileNotFoundError:
+        return []
+    start = folder if folder.endswith(b"/") else folder + b"/"
+    kept = [name for name in names if b"." not in name and not name.endswith(b"~")]
+    return [start + name for name in kept if os.path.isfile(start + name)]
+
+
+def read(path: bytes) -> bytes:
+    """Returns the bytes of a policy's file."""
+    with open(path, "rb") as file:
+        return file.read()
+
+
+def files_of(main: str) -> dict[str, list[Line]]:
+    """Returns the logical lines of a policy's files by the paths that the program gives them, each file once."""
+    found: dict[str, list[Line]] = {}
+    waiting = [os.fsencode(main)]
+    while waiting:
+        path = waiting.pop(0)
+        shown = os.fsdecode(path)
+        if shown in found:
+            continue
+        if len(found) == FILES_LIMIT:
+            raise Fault(f"{main}: includes more than {FILES_LIMIT} files")
+        found[shown] = list(lines_of(read(path)))
+        for line in found[shown]:
+            include = include_of(line)
+            if include is not None:
+                named = beside(path, include.path)
+                waiting.extend(kept_files(named) if include.of_folder else [named])
+    return found
+
+
+def rewritten(text: bytes, path_of: Callable[[Include], bytes | None]) -> bytes:
+    """Returns a policy's text with other paths in its include lines; the number of each line stays."""
+    physical = text.split(b"\n")
+    for line in lines_of(text):
+        include = include_of(line)
+        path = path_of(include) if include is not None else None
+        if include is not None and path is not None:
+            physical[line.number - 1] = written_include(include.of_folder, path)
+            physical[line.number : line.number - 1 + line.count] = [b""] * (line.count - 1)
+    return b"\n".join(physical)

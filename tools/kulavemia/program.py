@@ -1,0 +1,118 @@
+"""The proved program: where it is, and how it is asked."""
+
+import csv
+import hashlib
+import io
+import os
+import shutil
+import subprocess
+import tempfile
+from argparse import ArgumentParser
+from collections.abc import Iterable, Sequence
+from typing import IO, NamedTuple
+
+from kulavemia.answers import REPORT_HEADER
+from kulavemia.command import PROGRAM, Fault
+from kulavemia.progress import Progress
+from kulavemia.requests import Source, batches
+from kulavemia.rows import row
+
+NAME = "sudo_audit"
+BUILT = os.path.join(os.path.dirname(__file__), "..", "..", "crates", NAME, "out", NAME)
+MEANING = {PROGRAM: "the program sudo_audit is not there, or refuses; its own line is told"}
+
+
+class Policy(NamedTuple):
+    """What requests are judged by. Places in a copy below a root folder are told without that folder."""
+
+    file: str
+    users: str
+    hosts: str
+    root: str = ""
+
+
+def add_options(words: ArgumentParser) -> None:
+    """Adds the options that say which program is asked, and how."""
+    words.add_argument(
+        "--program",
+        metavar="PATH",
+        help="the program sudo_audit (default: $SUDO_AUDIT, else that of PATH, else this repository's own build)",
+    )
+    words.add_argument(
+        "--workers", type=int, default=2, metavar="N", help="how many threads judge, 1 to 16 (default 2)"
+    )
+
+
+def find(given: str | None) -> str:
+    """Returns the path of the program. Raises `Fault` where it is not there."""
+    named = given or os.environ.get("SUDO_AUDIT")
+    if named:
+        if not os.access(named, os.X_OK) or os.path.isdir(named):
+            raise Fault(f"{named}: no program", PROGRAM)
+        return named
+    found = shutil.which(NAME) or os.path.normpath(BUILT)
+    if not os.access(found, os.X_OK):
+        raise Fault(f"no program {NAME}: build it, or name it by --program or $SUDO_AUDIT", PROGRAM)
+    return found
+
+
+def sum_of(program: str) -> str:
+    """Returns a sum of the program's bytes, to tell which one answered."""
+    with open(program, "rb") as file:
+        return hashlib.file_digest(file, "sha256").hexdigest()
+
+
+def _said(program: str, done: subprocess.CompletedProcess[bytes], out: bytes, root: str) -> Fault:
+    """Returns what the program said where it refused."""
+    said = os.fsdecode(done.stderr or out).strip()
+    return Fault(
+        said.replace(root, "") if root and said else said or f"{program} ended with status {done.returncode}", PROGRAM
+    )
+
+
+def check(program: str, policy: str, root: str = "") -> str:
+    """Returns the program's findings on a policy. Raises `Fault` where it refuses the policy."""
+    done = subprocess.run([program, "check", policy], stdout=subprocess.PIPE, stderr=subprocess.PIPE, check=False)
+    if done.returncode != 0:
+        raise _said(program, done, done.stdout, root)
+    found = os.fsdecode(done.stdout)
+    return found.replace(root, "") if root else found
+
+
+def audit(program: str, policy: Policy, sources: Sequence[Source], out: str, workers: int = 2) -> None:
+    """Writes the report of all sources, in runs that the program takes. Raises `Fault` where it refuses."""
+    total = len(sources)
+    done = 0
+    with open(out, "wb") as report, Progress("judging", total) as progress:
+        report.write(os.fsencode(row(REPORT_HEADER)))
+        for batch in batches(sources):
+            _audit_batch(program, policy, batch, report, workers)
+            done += len(batch)
+            progress.at(done)
+
+
+def _audit_batch(program: str, policy: Policy, batch: Iterable[Source], report: IO[bytes], workers: int) -> None:
+    words = [program, "audit", policy.file, "--users", policy.users, "--hosts", policy.hosts, "--workers", str(workers)]
+    words += [f"{source.sender}={source.file}" for source in batch]
+    with tempfile.TemporaryFile() as part:
+        done = subprocess.run(words, stdout=part, stderr=subprocess.PIPE, check=False)
+        part.seek(0)
+        if done.returncode != 0:
+            raise _said(program, done, part.read(), policy.root)
+        header = part.readline()
+        if header != os.fsencode(row(REPORT_HEADER)):
+            raise Fault(f"{program}: its report has the header {os.fsdecode(header).strip()}", PROGRAM)
+        if policy.root:
+            _copy_shown(part, report, policy.root)
+        else:
+            shutil.copyfileobj(part, report)
+
+
+def _copy_shown(part: IO[bytes], report: IO[bytes], root: str) -> None:
+    """Copies rows of a report, with their places without the root folder."""
+    text = io.TextIOWrapper(part, encoding="utf-8", errors="surrogateescape", newline="")
+    place = REPORT_HEADER.index("line")
+    for fields in csv.reader(text):
+        fields[place] = fields[place].removeprefix(root)
+        report.write(row(fields).encode("utf-8", "surrogateescape"))
+    text.detach()

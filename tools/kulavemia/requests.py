@@ -1,0 +1,216 @@
+"""Folders of requests files, within what one run of the program takes.
+
+FOLDER/requests has the requests files, FOLDER/keys beside each a file of the same name that says of each request where it
+comes from, and FOLDER/senders.csv a row for each file.
+"""
+
+import os
+import re
+from collections.abc import Iterable, Iterator, Sequence
+from typing import NamedTuple
+
+from kulavemia.command import WORDS, Fault
+from kulavemia.rows import open_write, records, row, write_rows
+
+REQUESTS_LIMIT = 1_000_000
+BYTES_LIMIT = 268_435_456
+SENDERS_LIMIT = 64
+FILES_LIMIT = 256
+NAME_LIMIT = 64
+
+HEADER = ("number", "user", "host", "runas_user", "runas_group", "command", "arguments")
+SENDERS_HEADER = ("sender", "name", "requests", "file", "key")
+LOG_KEY = ("number", "log", "line", "time", "outcome", "reason", "note")
+PROBE_KEY = ("number", "kind")
+
+_BUFFERED = 4 << 20
+_CLOSE_ROOM = 64
+
+
+class Request(NamedTuple):
+    """What somebody asked for."""
+
+    user: str
+    host: str
+    runas_user: str
+    runas_group: str
+    command: str
+    arguments: str
+
+
+class Source(NamedTuple):
+    """A requests file of a sender, and its key where there is one."""
+
+    sender: str
+    name: str
+    requests: int
+    file: str
+    key: str | None
+
+
+def fault_of(request: Request) -> str | None:
+    """Returns why the program would not take the request, or `None`."""
+    if not request.user:
+        return "no user"
+    if not request.host:
+        return "no host"
+    if not request.command.startswith("/") and request.command != "sudoedit":
+        return "the command is no path"
+    return None
+
+
+class Appender:
+    """Appends to many files; keeps little of it in memory and none of them open."""
+
+    def __init__(self) -> None:
+        self.waiting: dict[str, list[str]] = {}
+        self.size = 0
+
+    def append(self, path: str, text: str) -> None:
+        """Appends a text to a file."""
+        self.waiting.setdefault(path, []).append(text)
+        self.size += len(text)
+        if self.size >= _BUFFERED:
+            self.flush()
+
+    def flush(self) -> None:
+        """Writes out what waits."""
+        for path, texts in self.waiting.items():
+            with open_write(path, "a") as file:
+                file.writelines(texts)
+        self.waiting.clear()
+        self.size = 0
+
+
+def _stem(sender: str, part: int) -> str:
+    return sender if part == 1 else f"{sender}.{part}"
+
+
+class _Sender:
+    """How far a sender's files are written."""
+
+    def __init__(self, sender: str, name: str) -> None:
+        self.sender = sender
+        self.name = name
+        self.number = 0
+        self.parts: list[int] = []
+        self.bytes = 0
+        self.requests = ""
+        self.keys = ""
+
+    def start(self, folder: str) -> None:
+        """Begins a further part."""
+        self.parts.append(0)
+        stem = _stem(self.sender, len(self.parts))
+        self.requests = f"{folder}/requests/{stem}.csv"
+        self.keys = f"{folder}/keys/{stem}.csv"
+
+
+class Writer:
+    """Writes a folder of requests, a list for each sender, as long files in parts."""
+
+    def __init__(self, folder: str, key_header: Sequence[str]) -> None:
+        self.folder = folder
+        self.key_header = key_header
+        self.senders: dict[str, _Sender] = {}
+        self.taken: set[str] = set()
+        self.files = Appender()
+        for below in ("requests", "keys"):
+            path = os.path.join(folder, below)
+            os.makedirs(path, exist_ok=True)
+            if os.listdir(path):
+                raise Fault(f"{path} is not empty; remove it, or name another folder", WORDS)
+
+    def add(self, name: str, request: Request, key: Sequence[str]) -> int:
+        """Adds a request to the list that has this name, and returns its number."""
+        sender = self.senders.get(name) or self._new(name)
+        text = row((str(sender.number + 1), *request))
+        size = len(text) if text.isascii() else len(text.encode("utf-8", "surrogateescape"))
+        if sender.parts[-1] >= REQUESTS_LIMIT or sender.bytes + size + _CLOSE_ROOM > BYTES_LIMIT:
+            self._start(sender)
+        sender.number += 1
+        sender.parts[-1] += 1
+        sender.bytes += size
+        self.files.append(sender.requests, text)
+        self.files.append(sender.keys, row((str(sender.number), *key)))
+        return sender.number
+
+    def finish(self) -> int:
+        """Closes each sender's list, writes the table of senders, and returns how many requests there are."""
+        for sender in self.senders.values():
+            self.files.append(sender.requests, f"close,{sender.number},,,,,\n")
+        self.files.flush()
+        write_rows(os.path.join(self.folder, "senders.csv"), SENDERS_HEADER, self._rows())
+        return sum(sender.number for sender in self.senders.values())
+
+    def _new(self, name: str) -> _Sender:
+        sender = _Sender(self._sender_name(name), name)
+        self.senders[name] = sender
+        self._start(sender)
+        return sender
+
+    def _start(self, sender: _Sender) -> None:
+        sender.start(self.folder)
+        sender.bytes = len(row(HEADER))
+        self.files.append(sender.requests, row(HEADER))
+        self.files.append(sender.keys, row(self.key_header))
+
+    def _sender_name(self, name: str) -> str:
+        plain = re.sub(r"[^A-Za-z0-9_-]", "_", name)[: NAME_LIMIT - 8] or "_"
+        sender, more = plain, 1
+        while sender.lower() in self.taken:
+            more += 1
+            sender = f"{plain}_{more}"
+        self.taken.add(sender.lower())
+        return sender
+
+    def _rows(self) -> Iterator[Sequence[str]]:
+        for sender in self.senders.values():
+            for part, requests in enumerate(sender.parts, 1):
+                stem = _stem(sender.sender, part)
+                yield sender.sender, sender.name, str(requests), f"requests/{stem}.csv", f"keys/{stem}.csv"
+
+
+def sources_of(folder: str) -> list[Source]:
+    """Returns the requests files of a folder that a `Writer` wrote."""
+    path = os.path.join(folder, "senders.csv")
+    return [
+        Source(sender, name, int(requests), os.path.join(folder, file), os.path.join(folder, key))
+        for _, (sender, name, requests, file, key) in records(path, SENDERS_HEADER)
+    ]
+
+
+def named_sources(words: Iterable[str]) -> list[Source]:
+    """Returns the requests files that words `NAME=PATH` name."""
+    sources = []
+    for word in words:
+        sender, equals, path = word.partition("=")
+        if not equals or not re.fullmatch(r"[A-Za-z0-9_-]{1,64}", sender):
+            raise Fault(f"{word}: expected NAME=PATH with a NAME of 1 to 64 letters, digits, _ or -", WORDS)
+        sources.append(Source(sender, sender, 0, path, None))
+    return sources
+
+
+def by_sender(sources: Iterable[Source]) -> dict[str, list[Source]]:
+    """Returns the files of each sender, the senders in the order in which they first appear."""
+    found: dict[str, list[Source]] = {}
+    for source in sources:
+        found.setdefault(source.sender, []).append(source)
+    return found
+
+
+def batches(sources: Iterable[Source]) -> Iterator[list[Source]]:
+    """Yields the sources as lists that one run takes, in order; a sender's files stay together."""
+    batch: list[Source] = []
+    senders = requests = 0
+    for files in by_sender(sources).values():
+        count = sum(source.requests for source in files)
+        full = senders == SENDERS_LIMIT or len(batch) + len(files) > FILES_LIMIT or requests + count > REQUESTS_LIMIT
+        if batch and full:
+            yield batch
+            batch, senders, requests = [], 0, 0
+        batch = batch + files
+        senders += 1
+        requests += count
+    if batch:
+        yield batch

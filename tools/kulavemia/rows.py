@@ -1,0 +1,78 @@
+"""CSV as the program reads and writes it.
+
+Bytes that are no UTF-8 pass through unchanged.
+"""
+
+import csv
+import io
+import re
+from collections.abc import Iterable, Iterator, Sequence
+
+from kulavemia.command import Fault
+
+csv.field_size_limit(1 << 28)
+
+_QUOTED = re.compile('[",\r\n]')
+
+
+def open_read(path: str) -> io.TextIOWrapper:
+    """Opens a file for reading, whatever its bytes are."""
+    return open(path, encoding="utf-8", errors="surrogateescape", newline="")
+
+
+def open_write(path: str, mode: str = "w") -> io.TextIOWrapper:
+    """Opens a file for writing, whatever its bytes will be."""
+    return open(path, mode, encoding="utf-8", errors="surrogateescape", newline="")
+
+
+def row(fields: Sequence[str]) -> str:
+    """Returns a row; a field with a comma, a quote or an end of a line is quoted."""
+    text = ",".join(fields)
+    if text.count(",") < len(fields) and '"' not in text and "\n" not in text and "\r" not in text:
+        return text + "\n"
+    return ",".join(_field(field) for field in fields) + "\n"
+
+
+def _field(text: str) -> str:
+    if _QUOTED.search(text):
+        return '"' + text.replace('"', '""') + '"'
+    return text
+
+
+def write_rows(path: str, header: Sequence[str], body: Iterable[Sequence[str]]) -> None:
+    """Writes a file of a header and rows."""
+    with open_write(path) as file:
+        file.write(row(header))
+        file.writelines(row(fields) for fields in body)
+
+
+def header_of(path: str) -> list[str]:
+    """Returns the first record of a file, empty where there is none."""
+    with open_read(path) as file:
+        try:
+            return _first(csv.reader(file, strict=True))
+        except csv.Error as error:
+            raise Fault(f"{path}:1: {error}") from None
+
+
+def _first(reader: Iterator[list[str]]) -> list[str]:
+    """Returns the first record that is left, without a byte order mark."""
+    first = next(reader, [])
+    return [first[0].removeprefix("\ufeff"), *first[1:]] if first else []
+
+
+def records(path: str, header: Sequence[str]) -> Iterator[tuple[int, list[str]]]:
+    """Yields each record after the header with its line. Raises `Fault` at another header or number of fields."""
+    with open_read(path) as file:
+        reader = csv.reader(file, strict=True)
+        try:
+            if _first(reader) != list(header):
+                raise Fault(f"{path}:1: bad header, expected {','.join(header)}")
+            for fields in reader:
+                if not fields:
+                    continue
+                if len(fields) != len(header):
+                    raise Fault(f"{path}:{reader.line_num}: {len(fields)} fields, expected {len(header)}")
+                yield reader.line_num, fields
+        except csv.Error as error:
+            raise Fault(f"{path}:{reader.line_num}: {error}") from None

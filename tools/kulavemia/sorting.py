@@ -1,0 +1,198 @@
+"""Requests of an audit out of logs: whose list each belongs to, and how its names are written."""
+
+import argparse
+import os
+from collections import Counter
+from collections.abc import Sequence
+from typing import IO
+
+from kulavemia.directory import users_in
+from kulavemia.logs import SYSLOG_LENGTH, Log, Options, size_of
+from kulavemia.messages import ASKED_TO_LIST, EDITORS, Event, with_editor
+from kulavemia.progress import Progress
+from kulavemia.requests import LOG_KEY, Request, Writer, fault_of
+from kulavemia.rows import open_write, records, row
+
+LISTS_HEADER = (
+    "log",
+    "line",
+    "time",
+    "user",
+    "host",
+    "runas_user",
+    "runas_group",
+    "asked",
+    "arguments",
+    "outcome",
+    "reason",
+)
+SKIPPED_HEADER = ("log", "line", "time", "reason")
+MAP_HEADER = ("from", "to")
+
+
+def add_options(words: argparse.ArgumentParser) -> None:
+    """Adds the options that say how logs are read and names are written."""
+    _add_naming_options(words)
+    _add_reading_options(words)
+
+
+def _add_naming_options(words: argparse.ArgumentParser) -> None:
+    words.add_argument(
+        "--by", choices=("host", "user", "all"), default="host", help="one list of requests for each (default host)"
+    )
+    words.add_argument("--host", default="", metavar="NAME", help="the host of logs that name none")
+    words.add_argument(
+        "--host-map",
+        metavar="FILE",
+        help="a CSV file with the header from,to: hosts of logs, and their names in hosts.csv",
+    )
+    words.add_argument("--domain", metavar="NAME", help="put behind hosts that have no dot and are not in the host map")
+    words.add_argument(
+        "--link",
+        action="append",
+        default=[],
+        metavar="FROM=TO",
+        type=_link,
+        help=(
+            "a command under the folder FROM is written under TO, as the rules write it; may be given again, the first"
+            " that fits counts"
+        ),
+    )
+    words.add_argument("--users", metavar="FILE", help="users.csv: a target #UID is then written by its name")
+
+
+def _add_reading_options(words: argparse.ArgumentParser) -> None:
+    words.add_argument("--year", type=int, help="the year of lines that have none (default: by the time of the file)")
+    words.add_argument(
+        "--quoting",
+        choices=("auto", "sudo", "literal"),
+        default="auto",
+        help=(
+            "how arguments are written: sudo from 1.9.13 on quotes those with blanks; literal reads them as they stand"
+            " (default auto)"
+        ),
+    )
+    words.add_argument(
+        "--editor",
+        action="append",
+        default=[],
+        metavar="NAME",
+        help="a further editor whose name, with -- behind it, is what sudo 1.9 logs for sudoedit",
+    )
+    words.add_argument("--plain-editors", action="store_true", help="no editor with -- is taken for sudoedit")
+    words.add_argument(
+        "--syslog-length",
+        type=int,
+        default=SYSLOG_LENGTH,
+        metavar="N",
+        help=f"sudo's syslog_maxlen (default {SYSLOG_LENGTH})",
+    )
+
+
+def _link(word: str) -> tuple[str, str]:
+    start, _, end = word.partition("=")
+    if not start.startswith("/") or not end.startswith("/"):
+        raise argparse.ArgumentTypeError(f"{word}: expected FROM=TO, two absolute folders")
+    return start.rstrip("/") + "/", end.rstrip("/") + "/"
+
+
+class Names:
+    """Writes hosts, targets and commands as the directory and the rules write them."""
+
+    def __init__(self, given: argparse.Namespace) -> None:
+        self.links: list[tuple[str, str]] = given.link
+        self.domain: str = f".{given.domain}" if given.domain else ""
+        self.hosts = (
+            {fields[0]: fields[1] for _, fields in records(given.host_map, MAP_HEADER)} if given.host_map else {}
+        )
+        users = users_in(given.users) if given.users else {}
+        self.uids = {f"#{uid}": user for user, uid in reversed(users.items())}
+
+    def host(self, name: str) -> str:
+        """Returns the name of a host."""
+        mapped = self.hosts.get(name)
+        if mapped is not None:
+            return mapped
+        return name + self.domain if name and "." not in name else name
+
+    def command(self, path: str) -> str:
+        """Returns the path of a command, with the first link that fits taken."""
+        for start, end in self.links:
+            if path.startswith(start):
+                return end + path[len(start) :]
+        return path
+
+    def named(self, request: Request) -> Request:
+        """Returns the request with its names so written."""
+        user, host, runas_user, runas_group, command, arguments = request
+        return Request(
+            user, self.host(host), self.uids.get(runas_user, runas_user), runas_group, self.command(command), arguments
+        )
+
+
+class Sorter:
+    """Puts what logs say into the files of a folder."""
+
+    def __init__(self, given: argparse.Namespace, folder: str, lists: IO[str], skipped: IO[str]) -> None:
+        self.names = Names(given)
+        self.by = given.by
+        self.editors = frozenset() if given.plain_editors else EDITORS.union(given.editor)
+        self.writer = Writer(folder, LOG_KEY)
+        self.lists = lists
+        self.skipped = skipped
+        self.counts: Counter[str] = Counter()
+
+    def take(self, log: str, line: int, time: str, event: Event | str) -> None:
+        """Takes what a line says."""
+        if isinstance(event, str):
+            self._skip(log, line, time, event)
+            return
+        event = with_editor(event, self.editors)
+        request = self.names.named(event.request)
+        if request.command in ASKED_TO_LIST:
+            self.counts["lists"] += 1
+            self.lists.write(row((log, str(line), time, *request, event.outcome, event.reason)))
+            return
+        reason = fault_of(request)
+        if reason:
+            said = f": {event.reason}" if event.reason else ""
+            self._skip(log, line, time, f"{reason} ({request.command[:80]}){said}")
+            return
+        self.counts[event.outcome] += 1
+        name = request.host if self.by == "host" else request.user if self.by == "user" else "log"
+        self.writer.add(name, request, (log, str(line), time, event.outcome, event.reason, event.note))
+
+    def _skip(self, log: str, line: int, time: str, reason: str) -> None:
+        self.counts["skipped"] += 1
+        self.skipped.write(row((log, str(line), time, reason)))
+
+
+def sort(logs: Sequence[str], folder: str, given: argparse.Namespace) -> Counter[str]:
+    """Puts what logs say into a folder, and returns how much of each kind there was."""
+    how = Options(given.host, given.year, given.quoting, given.syslog_length)
+    total = sum(size_of(path) for path in logs)
+    os.makedirs(folder, exist_ok=True)
+    with (
+        open_write(os.path.join(folder, "lists.csv")) as lists,
+        open_write(os.path.join(folder, "skipped.csv")) as skipped,
+        Progress("reading", total) as progress,
+    ):
+        lists.write(row(LISTS_HEADER))
+        skipped.write(row(SKIPPED_HEADER))
+        sorter = Sorter(given, folder, lists, skipped)
+        before = 0
+        for path in logs:
+            for line, time, event in Log(path, how, lambda done, before=before: progress.at(before + done)):
+                sorter.take(path, line, time, event)
+            before += size_of(path)
+        sorter.writer.finish()
+        sorter.counts["senders"] = len(sorter.writer.senders)
+    return sorter.counts
+
+
+def told(counts: Counter[str]) -> str:
+    """Returns what was found, in a line."""
+    return (
+        f"{counts['accepted']} accepted, {counts['refused']} refused and {counts['failed']} failed requests of "
+        f"{counts['senders']} senders; {counts['lists']} to list, {counts['skipped']} other lines"
+    )

@@ -1,0 +1,106 @@
+"""The policy of a replay: this machine's own, or a copy of another machine's files."""
+
+import os
+from typing import NamedTuple
+
+from kulavemia.command import Fault
+from kulavemia.policy import Include, Line, beside, include_of, kept_files, lines_of, read, rewritten
+
+HOW = "gather its files by tools/collect and name their folder by --collected, or the copied files by --tree"
+
+
+class Prepared(NamedTuple):
+    """A policy that can be audited: its main file below a root folder, which is empty for this machine's own."""
+
+    main: str
+    root: str
+
+    def file(self) -> str:
+        """Returns the path of the main file."""
+        return self.root + self.main
+
+
+def of_this_machine(main: str, trusted: bool) -> Prepared:
+    """Returns a policy whose includes are its own. Raises `Fault` at one that would read another place of this machine."""
+    home = os.fsencode(os.path.dirname(os.path.abspath(main)))
+    waiting, seen = [os.fsencode(main)], set()
+    while waiting and not trusted:
+        path = waiting.pop(0)
+        if path in seen or not os.path.exists(path):
+            continue
+        seen.add(path)
+        for include in _includes(read(path)):
+            named = beside(path, include.path)
+            if os.path.commonpath((home, os.path.abspath(named))) != home:
+                raise Fault(
+                    f"{_place(path, include.line)}: the policy includes {os.fsdecode(include.path)} of this machine. If"
+                    f" it is another machine's policy, {HOW}; if it is this machine's own, say --this-machine"
+                )
+            waiting.extend(kept_files(named) if include.of_folder else [named])
+    return Prepared(main, "")
+
+
+def _place(path: bytes, line: Line) -> str:
+    return f"{os.fsdecode(path)}:{line.number}"
+
+
+def _includes(text: bytes) -> list[Include]:
+    return [include for include in map(include_of, lines_of(text)) if include is not None]
+
+
+class _Copy:
+    """A copy of the files of a policy, whose includes stay below its root."""
+
+    def __init__(self, tree: str, root: str) -> None:
+        self.tree = os.fsencode(os.path.abspath(tree))
+        self.root = os.fsencode(os.path.abspath(root))
+        self.seen: set[bytes] = set()
+
+    def take(self, path: bytes) -> None:
+        """Copies a file, named as on its own machine, and what it includes."""
+        if path in self.seen or not os.path.lexists(self.tree + path):
+            return
+        self.seen.add(path)
+        self._want_inside(path)
+        text = read(self.tree + path)
+        for include in _includes(text):
+            named = beside(path, include.path)
+            if b".." in include.path.split(b"/"):
+                raise Fault(f"{_place(self.tree + path, include.line)}: an include with .. may leave the copied files")
+            if include.of_folder:
+                self._take_folder(named)
+            else:
+                self.take(named)
+        os.makedirs(os.path.dirname(self.root + path), exist_ok=True)
+        with open(self.root + path, "wb") as file:
+            file.write(rewritten(text, self._path_of))
+
+    def _take_folder(self, folder: bytes) -> None:
+        for found in kept_files(self.tree + folder):
+            self.take(found.removeprefix(self.tree))
+
+    def _path_of(self, include: Include) -> bytes | None:
+        return self.root + include.path if include.path.startswith(b"/") else None
+
+    def _want_inside(self, path: bytes) -> None:
+        whole = self.tree + path
+        if os.path.realpath(whole) != os.path.join(os.path.realpath(self.tree), path.lstrip(b"/")):
+            raise Fault(
+                f"{os.fsdecode(whole)}: a link, or a path that is not in its plain form; copied files have none"
+            )
+
+
+def of_tree(tree: str, main: str, root: str) -> Prepared:
+    """Returns a copy, below a root folder, of the policy whose files lie below a tree."""
+    if not main.startswith("/"):
+        raise Fault(f"{main}: the policy is named by its path on its own machine, as /etc/sudoers")
+    if not os.path.exists(tree + main):
+        raise Fault(f"{tree}{main} is not there")
+    _Copy(tree, root).take(os.fsencode(main))
+    return Prepared(main, os.path.abspath(root))
+
+
+def main_of(collected: str) -> str:
+    """Returns the path of the main file, as tools/collect noted it."""
+    with open(os.path.join(collected, "policy"), encoding="utf-8", errors="surrogateescape") as file:
+        return file.read().rstrip("\n")

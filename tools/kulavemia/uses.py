@@ -1,0 +1,142 @@
+"""What an audit says of the requests of logs: what changed since, and which rules decided."""
+
+import itertools
+from collections import Counter
+from collections.abc import Iterable
+from dataclasses import dataclass, field
+from typing import NamedTuple
+
+from kulavemia.answers import ALLOW, Answer, Verdict
+from kulavemia.logs import opened
+from kulavemia.messages import ACCEPTED, FAILED, REFUSED
+from kulavemia.requests import Request
+
+GROUPS_LIMIT = 100_000
+LINES_SHOWN = 3
+TEXT_LIMIT = 2000
+
+
+class LogLine(NamedTuple):
+    """Where a request stands in a log."""
+
+    log: str
+    line: int
+    time: str
+
+
+@dataclass
+class Asked:
+    """A request with its verdict, how often it was made, and some of its log lines."""
+
+    request: Request
+    verdict: Verdict
+    reason: str
+    count: int = 0
+    lines: list[LogLine] = field(default_factory=list)
+    notes: set[str] = field(default_factory=set)
+
+    def add(self, line: LogLine, note: str) -> None:
+        """Adds one time that it was made."""
+        self.count += 1
+        if len(self.lines) < LINES_SHOWN:
+            self.lines.append(line)
+        if note:
+            self.notes.add(note)
+
+
+class Kind:
+    """Requests of one kind, the same ones together."""
+
+    def __init__(self) -> None:
+        self.found: dict[tuple[Request, Verdict, str], Asked] = {}
+        self.count = 0
+        self.left_out = 0
+
+    def add(self, answer: Answer, reason: str, line: LogLine, note: str) -> None:
+        """Adds a request."""
+        self.count += 1
+        key = answer.request, answer.verdict, reason
+        if key not in self.found:
+            if len(self.found) == GROUPS_LIMIT:
+                self.left_out += 1
+                return
+            self.found[key] = Asked(answer.request, answer.verdict, reason)
+        self.found[key].add(line, note)
+
+    def list(self) -> list[Asked]:
+        """Returns the requests, those that were made most often first."""
+        return sorted(self.found.values(), key=lambda asked: -asked.count)
+
+
+class Uses:
+    """Sorts the answers to the requests of logs."""
+
+    def __init__(self) -> None:
+        self.denied = Kind()
+        self.allowed = Kind()
+        self.unknown = Kind()
+        self.same = 0
+        self.failed = 0
+        self.count = 0
+        self.places: Counter[str] = Counter()
+
+    def take_all(self, answers: Iterable[Answer]) -> None:
+        """Takes all answers, with the keys that tools/requests wrote."""
+        for answer in answers:
+            log, line, time, outcome, reason, note = answer.key
+            self.count += 1
+            self.places[answer.verdict.place] += 1
+            kind = self._kind(answer.verdict.verdict, outcome)
+            if kind is not None:
+                kind.add(answer, reason, LogLine(log, int(line), time), note)
+            elif outcome == FAILED:
+                self.failed += 1
+            else:
+                self.same += 1
+
+    def _kind(self, verdict: str, outcome: str) -> Kind | None:
+        if verdict.startswith("unknown"):
+            return self.unknown
+        if outcome == ACCEPTED and verdict != ALLOW:
+            return self.denied
+        if outcome == REFUSED and verdict == ALLOW:
+            return self.allowed
+        return None
+
+
+def texts_of(asked: Iterable[Asked]) -> dict[tuple[str, int], str]:
+    """Returns the text of each log line that is shown, where its log can be read."""
+    wanted: dict[str, set[int]] = {}
+    for line in itertools.chain.from_iterable(request.lines for request in asked):
+        wanted.setdefault(line.log, set()).add(line.line)
+    found = {}
+    for log, numbers in wanted.items():
+        for number, text in _lines(log, numbers):
+            found[log, number] = text
+    return found
+
+
+def _lines(log: str, numbers: set[int]) -> Iterable[tuple[int, str]]:
+    """Yields these lines of a log; what is folded behind one belongs to it."""
+    if log == "-":
+        return
+    try:
+        raw, file = opened(log)
+    except OSError:
+        return
+    with raw, file:
+        open_line, text, left = 0, "", len(numbers)
+        for number, line in enumerate(file, 1):
+            if open_line and line.startswith(b"    "):
+                if len(text) < TEXT_LIMIT:
+                    text += " " + line.decode("utf-8", "surrogateescape").strip()
+                continue
+            if open_line:
+                yield open_line, text
+                open_line = 0
+            if not left:
+                break
+            if number in numbers:
+                open_line, text, left = number, line.decode("utf-8", "surrogateescape").rstrip("\r\n"), left - 1
+        if open_line:
+            yield open_line, text

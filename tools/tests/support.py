@@ -1,0 +1,93 @@
+"""What the tests of the tools share."""
+
+import os
+import shutil
+import subprocess
+import sys
+import tempfile
+import unittest
+
+TOOLS = os.path.dirname(os.path.dirname(os.path.abspath(__file__)))
+DATA = os.path.join(TOOLS, "tests", "data")
+EXAMPLES = os.path.join(os.path.dirname(TOOLS), "examples")
+if TOOLS not in sys.path:
+    sys.path.insert(0, TOOLS)
+
+from kulavemia.command import Fault  # noqa: E402
+from kulavemia.program import find  # noqa: E402
+
+
+def program() -> str | None:
+    """Returns the path of the built program, or `None`."""
+    try:
+        return find(None)
+    except Fault:
+        return None
+
+
+def has_jinja() -> bool:
+    """Tells whether pages can be made."""
+    done = subprocess.run(["/usr/bin/python3", "-c", "import jinja2"], stderr=subprocess.DEVNULL, check=False)
+    return done.returncode == 0
+
+
+PROGRAM = program()
+BROWSER = shutil.which("chromium") or shutil.which("chromium-browser")
+JINJA = has_jinja()
+needs_program = unittest.skipUnless(PROGRAM, "the program sudo_audit is not built")
+needs_jinja = unittest.skipUnless(JINJA, "python3-jinja2 is not installed")
+needs_browser = unittest.skipUnless(BROWSER, "chromium is not installed")
+
+for there, missing in (
+    (PROGRAM, "the program sudo_audit is not built"),
+    (JINJA, "python3-jinja2 is not installed"),
+    (BROWSER, "chromium is not installed"),
+):
+    if not there:
+        print(f"tests of the tools: {missing}; what needs it is skipped", file=sys.stderr)
+
+
+class Case(unittest.TestCase):
+    """A test with a folder of its own."""
+
+    maxDiff = None
+
+    def setUp(self) -> None:
+        holder = tempfile.TemporaryDirectory()
+        self.addCleanup(holder.cleanup)
+        self.folder = holder.name
+
+    def path(self, *names: str) -> str:
+        """Returns a path in the test's folder."""
+        return os.path.join(self.folder, *names)
+
+    def write(self, name: str, text: str | bytes) -> str:
+        """Writes a file into the test's folder and returns its path."""
+        path = self.path(name)
+        os.makedirs(os.path.dirname(path), exist_ok=True)
+        with open(path, "wb") as file:
+            file.write(text if isinstance(text, bytes) else text.encode("utf-8", "surrogateescape"))
+        return path
+
+    def read(self, *names: str) -> str:
+        """Returns the text of a file in the test's folder."""
+        with open(self.path(*names), encoding="utf-8", errors="surrogateescape", newline="") as file:
+            return file.read()
+
+    def rows(self, *names: str) -> list[str]:
+        """Returns the lines of a file in the test's folder."""
+        return self.read(*names).splitlines()
+
+    def run_tool(self, name: str, *words: str, status: int = 0, stdin: bytes = b"") -> tuple[str, str]:
+        """Runs a command and returns what it wrote, on standard output and on standard error."""
+        done = subprocess.run(
+            [os.path.join(TOOLS, name), *words],
+            input=stdin,
+            stdout=subprocess.PIPE,
+            stderr=subprocess.PIPE,
+            cwd=self.folder,
+            check=False,
+        )
+        out, err = os.fsdecode(done.stdout), os.fsdecode(done.stderr)
+        self.assertEqual(done.returncode, status, f"{name} {' '.join(words)}\n{out}{err}")
+        return out, err

@@ -1,0 +1,66 @@
+"""What is gathered on a host."""
+
+import io
+import os
+import subprocess
+import tarfile
+import unittest
+
+from support import TOOLS, Case
+
+
+class Collect(Case):
+    def collect(self, *words: str, status: int = 0) -> tuple[dict[str, bytes], str]:
+        """Runs the script as ssh would, and returns the files of its tar."""
+        with open(os.path.join(TOOLS, "collect"), "rb") as script:
+            done = subprocess.run(
+                ["sh", "-s", "--", *words], stdin=script, stdout=subprocess.PIPE, stderr=subprocess.PIPE, check=False
+            )
+        err = os.fsdecode(done.stderr)
+        self.assertEqual(done.returncode, status, err)
+        if not done.stdout or not words[:1] or words[0] == "--help":
+            return {}, err
+        with tarfile.open(fileobj=io.BytesIO(done.stdout)) as tar:
+            files = [member for member in tar.getmembers() if member.isfile()]
+            return {member.name.partition("/")[2]: tar.extractfile(member).read() for member in files}, err
+
+    def test_the_policy_and_what_it_includes(self) -> None:
+        main = self.write(
+            "etc/sudoers",
+            '@includedir d\n#include "with \\"space"\n# note \\\n@include\\\n  later\n@includedir gone\nx ALL = ALL\n',
+        )
+        self.write("etc/d/10", f"@include {self.folder}/opt/far\n")
+        self.write("etc/d/no.x", "")
+        self.write('etc/with "space', "")
+        self.write("etc/later", "")
+        self.write("opt/far", "@include ../etc/sudoers\n")
+        files, _ = self.collect("--policy", main, "--no-logs")
+        tree = {name.removeprefix(f"tree{self.folder}/") for name in files if name.startswith("tree/")}
+        self.assertTrue({"etc/sudoers", "etc/d/10", 'etc/with "space', "opt/far"} <= tree, tree)
+        self.assertNotIn("etc/d/no.x", tree)
+        self.assertEqual(files["policy"].decode(), main + "\n")
+        self.assertIn(b"root:", files["passwd"])
+        self.assertIn(b"root:", files["group"])
+
+    def test_what_is_missing_is_named(self) -> None:
+        main = self.write("sudoers", "@include gone\n")
+        files, err = self.collect("--policy", main, "--user", "no-such-user", "--no-logs", status=3)
+        self.assertIn(f"{self.folder}/gone: cannot be read", err)
+        self.assertIn(b"user no-such-user: not known", files["missing"])
+
+    def test_words(self) -> None:
+        for words in (["--wrong"], ["--policy"], ["--policy", "relative"]):
+            self.assertIn("collect: ", self.collect(*words, status=2)[1])
+        self.collect("--help")
+
+    def test_nothing_is_left_behind(self) -> None:
+        main = self.write("sudoers", "")
+        os.makedirs(self.path("tmp"))
+        os.environ["TMPDIR"] = self.path("tmp")
+        self.addCleanup(os.environ.pop, "TMPDIR")
+        self.collect("--policy", main, "--no-logs")
+        self.assertEqual(os.listdir(self.path("tmp")), [])
+
+
+if __name__ == "__main__":
+    unittest.main()

@@ -1,0 +1,131 @@
+"""Users and hosts."""
+
+import unittest
+
+from support import Case, needs_program
+
+PASSWD = "root:x:0:0::/root:/bin/sh\njim:x:5001:5000::/home/jim:/bin/sh\nann:x:5002:100::/home/ann:/bin/sh\nghost:x:5003:5999::/:/bin/sh\n"
+GROUP = "root:x:0:\nusers:x:100:jim\ndomain users:x:5000:\nit staff:x:5001:jim,ann\nadm:x:4:ann\n"
+ADDR = '[{"ifname":"eth0","addr_info":[{"family":"inet","local":"192.0.2.7","prefixlen":24},{"family":"inet6","local":"fe80::1","prefixlen":64}]},{"ifname":"none"}]'
+
+
+class Directory(Case):
+    def host(self, name: str, passwd: str = PASSWD, group: str = GROUP, addr: str = ADDR) -> None:
+        """Writes the copied files of a host."""
+        for file, text in (("passwd", passwd), ("group", group), ("addr.json", addr)):
+            self.write(f"{name}/{file}", text)
+
+    def test_this_machine(self) -> None:
+        self.run_tool("directory", "out")
+        users, hosts = self.rows("out", "users.csv"), self.rows("out", "hosts.csv")
+        self.assertEqual(users[0], "user,uid,groups")
+        self.assertTrue(any(row.startswith("root,0,root:0") for row in users))
+        self.assertEqual((hosts[0], len(hosts)), ("host,interfaces", 2))
+
+    def test_a_user_that_is_named(self) -> None:
+        self.run_tool("directory", "out", "--user", "root")
+        self.assertEqual(sum(row.startswith("root,") for row in self.rows("out", "users.csv")), 1)
+        self.assertIn(
+            "--user no-such-user: this machine knows no such user",
+            self.run_tool("directory", "out", "--user", "no-such-user", status=3)[1],
+        )
+
+    def test_copied_files_of_a_host(self) -> None:
+        self.host("web1")
+        _, err = self.run_tool("directory", "--from", "web1", "out")
+        self.assertEqual(
+            self.rows("out", "users.csv"),
+            [
+                "user,uid,groups",
+                "ann,5002,users:100 #5001:5001 adm:4",
+                "ghost,5003,#5999:5999",
+                "jim,5001,#5000:5000 users:100 #5001:5001",
+                "root,0,root:0",
+            ],
+        )
+        self.assertEqual(self.rows("out", "hosts.csv"), ["host,interfaces", "web1,192.0.2.7/24"])
+        self.assertIn(
+            "user jim: users.csv cannot hold the name of the group 'domain users' (5000); it is written #5000", err
+        )
+
+    def test_groups_that_cannot_be_written(self) -> None:
+        self.host("web1")
+        _, err = self.run_tool("directory", "--from", "web1", "out", "--unwritable", "leave")
+        self.assertIn("jim,5001,#5000:5000 users:100", self.rows("out", "users.csv"))
+        self.assertIn("user ann: users.csv cannot hold the name of the group 'it staff' (5001); it is left out", err)
+        self.assertIn(
+            "domain users", self.run_tool("directory", "--from", "web1", "out", "--unwritable", "refuse", status=3)[1]
+        )
+
+    def test_many_hosts(self) -> None:
+        self.host("all/web1")
+        self.host("all/web2", addr="[]")
+        self.write("all/web2/hostname", "web2.example.org\n")
+        self.write("all/notes", "")
+        _, err = self.run_tool("directory", "--from", "all", "out")
+        self.assertEqual(self.rows("out", "hosts.csv")[1:], ["web1,192.0.2.7/24", "web2.example.org,"])
+        self.assertEqual(len(self.rows("out", "users.csv")), 5)
+        self.assertIn("all/notes has no passwd: passed over", err)
+
+    def test_hosts_that_differ(self) -> None:
+        self.host("all/web1")
+        self.host("all/web2", passwd=PASSWD.replace("5002", "6002"))
+        self.assertIn(
+            "user ann of web1 and of web2 differ; --each writes",
+            self.run_tool("directory", "--from", "all", "out", status=3)[1],
+        )
+        self.host("all/web2", group=GROUP.replace("adm:x:4", "adm:x:5"))
+        self.assertIn("(and 1 more)", self.run_tool("directory", "--from", "all", "out", status=3)[1])
+        self.run_tool("directory", "--from", "all", "out", "--each")
+        self.assertIn("adm:5", self.read("out", "web2", "users.csv"))
+        self.assertIn("adm:4", self.read("out", "web1", "users.csv"))
+
+    def test_files_of_another_form(self) -> None:
+        for name, kind, text, said in (
+            ("a", "passwd", "root:x:0:0::/root\n", "a/passwd:1: not a line of such a file"),
+            ("b", "passwd", PASSWD + "x:x:-1:0:::\n", "b/passwd:5: not a line of such a file"),
+            ("c", "group", "root:x:4294967296:\n", "c/group:1: not a line of such a file"),
+            ("d", "addr", "{", "d/addr.json: not what ip -j addr writes"),
+            (
+                "e",
+                "addr",
+                '[{"addr_info":[{"family":"inet","local":"1.2.3","prefixlen":24}]}]',
+                "e/addr.json: not what",
+            ),
+            (
+                "f",
+                "addr",
+                '[{"addr_info":[{"family":"inet","local":"1.2.3.4","prefixlen":33}]}]',
+                "f/addr.json: not what ip -j addr writes: 33 bits",
+            ),
+        ):
+            self.host(name, **{kind: text})
+            _, err = self.run_tool("directory", "--from", name, "out", status=3)
+            self.assertIn(said, err)
+        self.write("none/readme", "")
+        self.assertIn(
+            "no passwd and no HOST/passwd is there", self.run_tool("directory", "--from", "none", "out", status=3)[1]
+        )
+
+    def test_lines_of_other_databases(self) -> None:
+        self.host("a", passwd=PASSWD + "+::::::\n# note\n\n" + PASSWD)
+        _, err = self.run_tool("directory", "--from", "a", "out")
+        self.assertIn("a/passwd:5: +::::::: what other databases hold is not followed", err)
+
+    @needs_program
+    def test_the_program_takes_it(self) -> None:
+        self.host("web1")
+        self.run_tool("directory", "--from", "web1", "out")
+        self.write(
+            "r.csv", "number,user,host,runas_user,runas_group,command,arguments\n1,jim,web1,,,/bin/id,\nclose,1,,,,,\n"
+        )
+        self.write("old", "root ALL = ALL\n")
+        self.write("new", "%#5000 web1 = ALL\n")
+        out, _ = self.run_tool(
+            "compare", "old", "new", "--users", "out/users.csv", "--hosts", "out/hosts.csv", "s=r.csv", status=1
+        )
+        self.assertIn("gained,s,1,jim,web1,,,/bin/id,,nomatch,allow,,SETENV,,new:1", out)
+
+
+if __name__ == "__main__":
+    unittest.main()

@@ -1,0 +1,155 @@
+"""Tests of `packaging/install` and `packaging/deb`, with a stub in the program's place."""
+
+import gzip
+import os
+import re
+import shutil
+import subprocess
+import tempfile
+import unittest
+
+TESTS = os.path.dirname(os.path.realpath(__file__))
+REPOSITORY = os.path.dirname(os.path.dirname(TESTS))
+STUB = os.path.join(TESTS, "lint_stub")
+
+
+def text_of(*names):
+    """Returns the text of a file of the repository."""
+    with open(os.path.join(REPOSITORY, *names), encoding="utf-8") as file:
+        return file.read()
+
+
+def all_below(folder):
+    """Returns the paths of all that stands below a folder."""
+    return sorted(os.path.relpath(os.path.join(place, name), folder)
+                  for place, folders, files in os.walk(folder) for name in folders + files)
+
+
+def run(*words, **options):
+    """Runs a command that has to succeed, and returns what it prints."""
+    return subprocess.run(words, check=True, capture_output=True, text=True, **options).stdout
+
+
+class Installed(unittest.TestCase):
+    """An installation below a folder that stands for the root."""
+
+    def setUp(self):
+        self.root = self.enterContext(tempfile.TemporaryDirectory())
+
+    def at(self, path):
+        """Returns where a path of the installed system stands."""
+        return os.path.join(self.root, path.lstrip("/"))
+
+    def do(self, action, prefix="/usr/local"):
+        """Installs or uninstalls below the folder."""
+        return run(os.path.join(REPOSITORY, "packaging", "install"), action, "--prefix", prefix,
+                   "--destdir", self.root, "--program", STUB)
+
+    def write(self, path, text=""):
+        """Writes a file below the folder."""
+        os.makedirs(os.path.dirname(self.at(path)), exist_ok=True)
+        with open(self.at(path), "w", encoding="utf-8") as file:
+            file.write(text)
+
+    def test_uninstall_leaves_nothing(self):
+        self.do("install")
+        self.assertTrue(os.access(self.at("/usr/local/bin/sudo_audit"), os.X_OK))
+        self.do("uninstall")
+        self.assertEqual(all_below(self.root), [])
+
+    def test_uninstall_leaves_what_was_there(self):
+        self.write("/usr/local/bin/other")
+        self.write("/usr/local/lib/kulavemia/notes")
+        os.makedirs(self.at("/usr/local/share/man/man1"))
+        before = all_below(self.root)
+        self.do("install")
+        self.do("uninstall")
+        self.assertEqual(all_below(self.root), before)
+
+    def test_a_second_install_takes_the_place_of_the_first(self):
+        self.do("install")
+        first = all_below(self.root)
+        self.write("/usr/local/lib/kulavemia/tools/old")
+        with open(self.at("/usr/local/lib/kulavemia/installed"), "a", encoding="utf-8") as listed:
+            listed.write("file /usr/local/lib/kulavemia/tools/old\n")
+        self.do("install")
+        self.assertEqual(all_below(self.root), first)
+        self.do("uninstall")
+        self.assertEqual(all_below(self.root), [])
+
+    def test_compiled_modules_are_removed(self):
+        self.do("install")
+        self.write("/usr/local/lib/kulavemia/tools/kulavemia/__pycache__/x.pyc")
+        self.do("uninstall")
+        self.assertEqual(all_below(self.root), [])
+
+    def test_uninstall_of_nothing_says_so(self):
+        with self.assertRaises(subprocess.CalledProcessError) as raised:
+            self.do("uninstall")
+        self.assertIn("nothing is installed", raised.exception.stderr)
+
+    def test_installed_lint_finds_the_installed_program(self):
+        self.do("install", "/opt/k")
+        answers = self.enterContext(tempfile.TemporaryDirectory())
+        for kind, text in (("output", "ok\n"), ("complaint", ""), ("status", "0")):
+            with open(os.path.join(answers, f"a.{kind}"), "w", encoding="utf-8") as file:
+                file.write(text)
+        environment = {"PATH": "/usr/bin:/bin", "LINT_ANSWERS": answers}
+        lint = self.at("/opt/k/bin/kulavemia-lint")
+        self.assertEqual(run(lint, "a", env=environment), "a: ok\n")
+        self.assertEqual(run(lint, "--version", env=environment), f"kulavemia-lint {text_of('VERSION')}")
+
+    def test_each_command_has_a_page_and_completions(self):
+        self.do("install")
+        commands = [name for name in os.listdir(self.at("/usr/local/bin"))]
+        self.assertIn("kulavemia-lint", commands)
+        for name in commands:
+            with self.subTest(name):
+                with gzip.open(self.at(f"/usr/local/share/man/man1/{name}.1.gz"), "rt") as page:
+                    head = page.readline()
+                self.assertRegex(head, rf'^\.TH {re.escape(name.upper())} 1 "\d{{4}}-\d\d-\d\d" "Kulavemia ')
+                self.assertTrue(os.path.exists(self.at(f"/usr/local/share/bash-completion/completions/{name}")))
+
+
+class Versions(unittest.TestCase):
+    """The version stands in the file VERSION, and the lists of changes have it."""
+
+    def test_lists_of_changes_begin_with_the_version(self):
+        version = text_of("VERSION").strip()
+        self.assertEqual(re.search(r"^## \[([^]]*)\]", text_of("CHANGELOG.md"), re.MULTILINE)[1], version)
+        self.assertTrue(text_of("packaging", "debian", "changelog").startswith(f"kulavemia ({version}) "))
+
+
+@unittest.skipUnless(shutil.which("dpkg-deb"), "dpkg-deb is not installed")
+class Package(unittest.TestCase):
+    """The package of Debian."""
+
+    def build(self):
+        """Builds the package, and returns its path."""
+        folder = self.enterContext(tempfile.TemporaryDirectory())
+        run(os.path.join(REPOSITORY, "packaging", "deb"), STUB, folder)
+        name, = os.listdir(folder)
+        return os.path.join(folder, name)
+
+    def test_package(self):
+        package = self.build()
+        fields = run("dpkg-deb", "--field", package)
+        self.assertIn("Package: kulavemia\n", fields)
+        self.assertIn(f"Version: {text_of('VERSION')}", fields)
+        self.assertRegex(fields, r"\nDepends: .*python3")
+        self.assertIn("\nRecommends: python3-jinja2\n", fields)
+        listing = run("dpkg-deb", "--contents", package)
+        for path in ("usr/bin/sudo_audit", "usr/bin/kulavemia-lint -> ../lib/kulavemia/tools/lint",
+                     "usr/share/doc/kulavemia/copyright", "usr/share/man/man1/sudo_audit.1.gz"):
+            self.assertIn(f" ./{path}\n", listing)
+        self.assertNotIn("lib/kulavemia/installed", listing)
+        self.assertTrue(all(line.split()[1] == "root/root" for line in listing.splitlines()))
+
+    def test_the_same_tree_gives_the_same_package(self):
+        first, second = self.build(), self.build()
+        with open(first, "rb") as one, open(second, "rb") as other:
+            self.assertEqual(one.read(), other.read())
+
+
+if __name__ == "__main__":
+    unittest.main()

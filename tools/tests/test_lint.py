@@ -1,0 +1,282 @@
+"""Tests of tools/lint: physical places, what is read of the program's answers, formats and folders."""
+
+import json
+import os
+import subprocess
+import sys
+import tempfile
+import unittest
+
+TESTS = os.path.dirname(os.path.realpath(__file__))
+TOOLS = os.path.dirname(TESTS)
+LINT = os.path.join(TOOLS, "lint")
+STUB = os.path.join(TESTS, "lint_stub")
+sys.path[:0] = [TOOLS, TESTS]
+
+from kulavemia.lint_answers import FAILED, RULES, fault_of, report_of
+from kulavemia.lint_formats import github_property, github_text
+from kulavemia.lint_places import physical_place
+from kulavemia.lint_program import find_program
+from kulavemia.lint_show import picture, shown
+from lint_cases import CASES
+
+
+class Folder(unittest.TestCase):
+    """A test in a folder of its own, with a stub in the program's place."""
+
+    def setUp(self):
+        self.folder = self.enterContext(tempfile.TemporaryDirectory())
+        self.answers = self.enterContext(tempfile.TemporaryDirectory())
+
+    def write(self, name, text=b"", folder=None):
+        """Writes a file of the folder, or of another one."""
+        path = f"{folder or self.folder}/{name}"
+        os.makedirs(os.path.dirname(path), exist_ok=True)
+        with open(path, "wb") as file:
+            file.write(text)
+
+    def answer(self, name, status, output, complaint=""):
+        """Has the stub answer so to the check of a file."""
+        for kind, text in (("status", str(status)), ("output", output), ("complaint", complaint)):
+            self.write(f"{name}.{kind}", text.encode(), self.answers)
+
+    def lint(self, *words, program=STUB):
+        """Runs the tool in the folder, and returns its status and what it prints."""
+        environment = {**os.environ, "LINT_ANSWERS": self.answers}
+        done = subprocess.run(
+            [LINT, "--program", program, *words], cwd=self.folder, capture_output=True, check=False, env=environment)
+        return done.returncode, done.stdout.decode(), done.stderr.decode()
+
+    def lint_case(self, case, *words):
+        """Runs the tool on one of the recorded cases."""
+        self.write("case", case.policy)
+        self.answer("case", case.status, case.output, case.complaint)
+        return self.lint(*words, "case")
+
+
+class Places(Folder):
+    """Physical places."""
+
+    def test_places_counted_by_hand(self):
+        for name, case in CASES.items():
+            self.write(name, case.policy)
+            self.answer(name, case.status, case.output.replace("case:", f"{name}:"),
+                        case.complaint.replace("case:", f"{name}:"))
+        status, output, _ = self.lint("--format", "json", *CASES)
+        self.assertEqual(status, 1)
+        for (name, case), report in zip(CASES.items(), json.loads(output)["files"], strict=True):
+            with self.subTest(name):
+                self.assertEqual(report["status"], case.status)
+                self.assertEqual(tuple((f["line"], f["column"]) for f in report["findings"]), case.places)
+
+    def test_place_that_is_not_there(self):
+        self.assertIsNone(physical_place([b"a"], 2, 1))
+        self.assertIsNone(physical_place([], 1, 1))
+        self.assertIsNone(physical_place([b"a"], 1, 3))
+
+    def test_real_answers_are_the_recorded_ones(self):
+        program = find_program(None)
+        if program is None:
+            self.skipTest("the program sudo_audit is not built")
+        for name, case in CASES.items():
+            with self.subTest(name):
+                self.write("case", case.policy)
+                done = subprocess.run([program, "check", "case"], cwd=self.folder, capture_output=True, check=False)
+                answer = (done.returncode, done.stdout.decode(), done.stderr.decode())
+                self.assertEqual(answer, (case.status, case.output, case.complaint))
+
+
+class Pictures(unittest.TestCase):
+    """Pictures of places."""
+
+    def test_caret_stands_under_the_place(self):
+        self.assertEqual(picture(b"alice ALL = ls", 7, 13), ["    7 | alice ALL = ls", "      |             ^"])
+
+    def test_tabs_stay(self):
+        self.assertEqual(picture(b"\ta\tb", 1, 4), ["    1 | \ta\tb", "      | \t \t^"])
+
+    def test_wide_and_combining_letters(self):
+        self.assertEqual(picture("漢e\u0301x".encode(), 1, 4)[1], "      |    ^")
+
+    def test_what_steers_a_terminal_is_escaped(self):
+        self.assertEqual(
+            picture(b"a\x1b[31m\xffb", 1, 8), ["    1 | a\\x1b[31m\\xffb", "      |              ^"])
+        self.assertEqual(shown("a\u202eb\n\u2028"), "a\\u202eb\\x0a\\u2028")
+
+    def test_long_lines_are_cut(self):
+        source, caret = picture(b"a" * 500 + b"!" + b"b" * 500, 1, 501)
+        self.assertEqual(source[caret.index("^")], "!")
+        self.assertTrue(source.endswith("b...") and len(source) < 220)
+
+
+class Answers(unittest.TestCase):
+    """What is read of the program's answers."""
+
+    def test_each_text_of_a_fault(self):
+        texts = {
+            "p:1:2: bad quote": "bad-quote", "p:1:2: syntax error, expected )": "syntax-error",
+            "p:1:2: syntax error, expected end of line": "syntax-error", "p: text too long": "text-too-long",
+            "p:1: too many aliases": "too-many-aliases", "p:1: unsupported %h": "unsupported",
+            "p:1: includes too deep": "includes-too-deep", "p:1: too many files": "too-many-files",
+            "p:1: missing q": "missing-file", "cannot read p": "cannot-read",
+        }
+        for text, rule in texts.items():
+            with self.subTest(text):
+                found = fault_of(text)
+                self.assertEqual((found.path, found.rule), ("p", rule))
+
+    def test_paths_that_look_like_places(self):
+        self.assertEqual(fault_of("a:1:2: bad quote:3:4: bad quote").path, "a:1:2: bad quote")
+        self.assertEqual(fault_of("a b\nc:1: unsupported list").path, "a b\nc")
+        self.assertEqual(fault_of("p:2: missing q:1: missing r").text, "missing q:1: missing r")
+
+    def test_what_is_not_understood_is_no_ok(self):
+        for status, output, complaint in (
+                (0, "", ""), (0, "okay\n", ""), (1, "ok\n", ""), (0, "p:1: error: cycle Cmnd_Alias A\nok\n", ""),
+                (0, "ok\n", "warning\n"), (4, "", "sudo_audit: out of memory\n"), (-9, "", ""),
+                (0, "", "sudo_audit: p:1: missing q\n"), (127, "", "p: not found\n")):
+            with self.subTest(output + complaint):
+                report = report_of("p", status, output, complaint)
+                self.assertEqual((report.status, report.findings[0].rule), (FAILED, "no-answer"))
+
+
+class Formats(Folder):
+    """The four formats."""
+
+    def test_text(self):
+        status, output, complaint = self.lint_case(CASES["joined twice"])
+        self.assertEqual((status, complaint), (1, ""))
+        self.assertEqual(output.splitlines(), [
+            "case:3:3: error: syntax error, expected command",
+            "    3 |   , /bin/su",
+            "      |   ^",
+            "      = sudo_audit: case:1:32: syntax error, expected command",
+            "case: refused",
+        ])
+
+    def test_text_of_findings(self):
+        _, output, _ = self.lint_case(CASES["a warning"])
+        self.assertEqual(output.splitlines(), [
+            "case:2: warning: unused Host_Alias W", "    2 | Host_Alias W = web1", "case: ok"])
+
+    def test_sarif_has_what_version_2_1_0_asks_for(self):
+        _, output, _ = self.lint_case(CASES["joined twice"], "--format", "sarif")
+        log = json.loads(output)
+        self.assertEqual((log["version"], len(log["runs"])), ("2.1.0", 1))
+        run = log["runs"][0]
+        self.assertEqual(set(run), {"tool", "columnKind", "invocations", "results"})
+        rules = [rule["id"] for rule in run["tool"]["driver"]["rules"]]
+        self.assertEqual(rules, list(RULES))
+        self.assertEqual(run["invocations"], [{"executionSuccessful": True, "exitCode": 1}])
+        result, = run["results"]
+        self.assertEqual(rules[result["ruleIndex"]], result["ruleId"])
+        self.assertEqual((result["level"], result["message"]), ("error", {"text": "syntax error, expected command"}))
+        self.assertEqual(result["locations"], [{"physicalLocation": {
+            "artifactLocation": {"uri": "case", "uriBaseId": "%SRCROOT%"},
+            "region": {"startLine": 3, "startColumn": 3}}}])
+
+    def test_sarif_names_files_by_uris(self):
+        self.write("a b:1%", b"x\n")
+        self.answer("a b:1%", 1, "", "sudo_audit: a b:1%:1:2: bad quote\n")
+        self.answer("/gone", 4, "", "sudo_audit: cannot read /gone\n")
+        _, output, _ = self.lint("--format", "sarif", "a b:1%", "/gone")
+        first, second = json.loads(output)["runs"][0]["results"]
+        self.assertEqual(first["locations"][0]["physicalLocation"]["artifactLocation"]["uri"], "a%20b%3A1%25")
+        self.assertEqual(second["locations"], [{"physicalLocation": {"artifactLocation": {"uri": "file:///gone"}}}])
+
+    def test_github(self):
+        _, output, _ = self.lint_case(CASES["joined twice"], "--format", "github")
+        self.assertEqual(
+            output, "::error file=case,line=3,col=3,title=syntax-error::syntax error, expected command\n")
+        self.assertEqual(github_property("a:b,c%\n"), "a%3Ab%2Cc%25%0A")
+        self.assertEqual(github_text("a:b,c%\r\n"), "a:b,c%25%0D%0A")
+
+    def test_github_commands_cannot_be_forged(self):
+        self.write("p\n::error::x", b"y\n")
+        self.answer("p\n::error::x", 0, "p\n::error::x:1: warning: unused Cmnd_Alias A\nok\n")
+        _, output, _ = self.lint("--format", "github", "p\n::error::x")
+        self.assertEqual(output, "::warning file=p%0A%3A%3Aerror%3A%3Ax,line=1,title=unused::unused Cmnd_Alias A\n")
+
+    def test_a_finding_of_a_shared_file_is_told_once(self):
+        for name in ("a", "b"):
+            self.answer(name, 1, "", "sudo_audit: case:1:1: bad quote\n")
+        _, output, _ = self.lint("--format", "github", "a", "b")
+        self.assertEqual(len(output.splitlines()), 1)
+
+
+class Inputs(Folder):
+    """Files and folders."""
+
+    def test_goes_on_to_the_end(self):
+        self.answer("a", 1, "", "sudo_audit: a:1:1: bad quote\n")
+        self.answer("b", 4, "", "sudo_audit: cannot read b\n")
+        self.answer("c", 0, "ok\n")
+        status, output, _ = self.lint("a", "b", "c")
+        self.assertEqual(status, 4)
+        self.assertEqual([line for line in output.splitlines() if line.count(":") == 1],
+                         ["a: refused", "b: not checked", "c: ok"])
+        self.assertIn("b: error: cannot read (No such file or directory)", output)
+
+    def test_folder_as_sudo_reads_it(self):
+        for name in ("d/20-b", "d/10-a", "d/x.conf", "d/old~", "d/sub/z"):
+            self.write(name)
+        for name in ("d/20-b", "d/10-a"):
+            self.answer(name, 0, "ok\n")
+        os.symlink("gone", os.path.join(self.folder, "d/link"))
+        status, output, _ = self.lint("d")
+        self.assertEqual(status, 0)
+        self.assertEqual(output.splitlines(), [
+            "d/link: note: passed over, as sudo does: No such file or directory",
+            "d/old~: note: passed over, as sudo does: its name ends in ~",
+            "d/sub: note: passed over, as sudo does: it is no regular file",
+            "d/x.conf: note: passed over, as sudo does: its name has a dot",
+            "d/10-a: ok", "d/20-b: ok"])
+
+    def test_a_named_file_is_checked_whatever_its_name(self):
+        self.answer("d/x.conf", 0, "ok\n")
+        self.assertEqual(self.lint("d/x.conf")[:2], (0, "d/x.conf: ok\n"))
+
+    def test_a_name_that_begins_with_a_dash(self):
+        self.answer("./-x", 0, "ok\n")
+        self.assertEqual(self.lint("--", "-x")[:2], (0, "./-x: ok\n"))
+
+    def test_an_empty_folder_is_named(self):
+        os.mkdir(os.path.join(self.folder, "d"))
+        self.assertEqual(self.lint("d")[:2], (0, "d: note: no file to check\n"))
+
+    def test_a_program_that_is_not_there(self):
+        status, output, complaint = self.lint("a", program="/gone")
+        self.assertEqual((status, output), (4, ""))
+        self.assertIn("not found", complaint)
+
+    def test_output_that_cannot_be_written(self):
+        self.answer("a", 0, "ok\n")
+        with open("/dev/full", "wb") as full:
+            done = subprocess.run([LINT, "--program", STUB, "a"], cwd=self.folder, stdout=full, check=False,
+                                  stderr=subprocess.PIPE, env={**os.environ, "LINT_ANSWERS": self.answers})
+        self.assertEqual((done.returncode, done.stderr), (4, b"lint: standard output: No space left on device\n"))
+
+
+class RealRuns(Folder):
+    """Runs of the real program."""
+
+    def setUp(self):
+        super().setUp()
+        self.program = find_program(None)
+        if self.program is None:
+            self.skipTest("the program sudo_audit is not built")
+
+    def test_example(self):
+        example = os.path.join(os.path.dirname(TOOLS), "examples", "sudoers")
+        self.assertEqual(self.lint(example, program=self.program)[:2], (0, f"{example}: ok\n"))
+
+    def test_a_fault_in_an_included_file(self):
+        self.write("main", b"@includedir main.d\n")
+        self.write("main.d/10", b"alice ALL = \\\n   ls\n")
+        status, output, _ = self.lint("main", program=self.program)
+        self.assertEqual(status, 1)
+        self.assertEqual(output.splitlines()[0], "main.d/10:2:4: error: not a command")
+
+
+if __name__ == "__main__":
+    unittest.main()

@@ -1,0 +1,114 @@
+"""Logs of each form."""
+
+import gzip
+import os
+import unittest
+
+from support import DATA, Case
+from kulavemia.logs import Found, Log, Options
+from kulavemia.messages import Event
+
+ALICE = "Nov 20 10:01:02 web1 sudo[1]: alice : "
+COMMAND = "TTY=pts/0 ; PWD=/ ; USER=root ; COMMAND="
+
+
+class Logs(Case):
+    def found(self, path: str, **options: object) -> list[Found]:
+        return list(Log(path, Options(**{"year": 2026, **options})))
+
+    def events(self, path: str, **options: object) -> list[Event]:
+        return [found.event for found in self.found(path, **options) if isinstance(found.event, Event)]
+
+    def commands(self, path: str, **options: object) -> list[str]:
+        return [f"{event.request.command} {event.request.arguments}".strip() for event in self.events(path, **options)]
+
+    def test_lines_of_syslog(self) -> None:
+        found = self.found(os.path.join(DATA, "auth.log"))
+        self.assertEqual([entry.line for entry in found], [1, 2, 3, 4, 5, 6, 7, 8, *range(10, 22)])
+        times = {entry.line: entry.time for entry in found}
+        self.assertEqual(times[2], "2026-11-20T10:01:02")
+        self.assertEqual(times[5], "2026-11-20T10:03:00.123456+01:00")
+        self.assertEqual(times[6], "2026-11-20T10:03:30Z")
+        said = {entry.line: entry.event for entry in found if isinstance(entry.event, str)}
+        self.assertEqual(said[1], "not of sudo")
+        self.assertTrue(said[3].startswith("no request: pam_unix"))
+        self.assertEqual(said[18], "continues a command that does not stand before it")
+        self.assertEqual(said[19], "no line of a log that is known")
+        self.assertEqual(said[20], "an empty line")
+
+    def test_a_continued_command_beside_another_user(self) -> None:
+        commands = self.commands(os.path.join(DATA, "auth.log"))
+        self.assertIn("/usr/bin/psql -c select 'a ; b', \"x,y\" --long tail of the arguments ; of COMMAND=x", commands)
+
+    def test_a_word_cut_at_the_limit_is_put_together(self) -> None:
+        # The limit, less what stands before the text, less the user's name.
+        piece = "x" * (100 - 23 - len("alice"))
+        text = f"{ALICE}{COMMAND}/bin/echo\n{ALICE}(command continued) {piece}\n{ALICE}(command continued) y z\n"
+        path = self.write("log", text)
+        self.assertEqual(self.commands(path, syslog_length=100), [f"/bin/echo {piece}y z"])
+        self.assertEqual(self.commands(path), [f"/bin/echo {piece} y z"])
+
+    def test_the_own_file_says_what_the_json_says(self) -> None:
+        own = [event.request for event in self.events(os.path.join(DATA, "sudo.log"))]
+        other = [event.request for event in self.events(os.path.join(DATA, "eventlog.json"))]
+        self.assertEqual(len(own), 14)
+        hostile = next(at for at, request in enumerate(own) if request.command == "/bin/evil")
+        self.assertEqual(own[:hostile] + own[hostile + 1 :], other[:hostile] + other[hostile + 1 :])
+
+    def test_the_journal(self) -> None:
+        found = self.found(os.path.join(DATA, "journal.json"))
+        events = [entry.event for entry in found if isinstance(entry.event, Event)]
+        self.assertEqual([event.request.user for event in events], ["alice", "bob", "carol"])
+        self.assertEqual(events[1].request.arguments, "\udcff")
+        self.assertEqual(events[2].request.arguments, "-u \ufffd")
+        self.assertEqual(found[0].time, "2025-11-20T10:01:02Z")
+        said = [entry.event for entry in found if isinstance(entry.event, str)]
+        self.assertEqual(said, ["not of sudo", "no message", "no JSON", "JSON that does not end"])
+
+    def test_events_over_several_lines(self) -> None:
+        found = self.found(os.path.join(DATA, "server.json"))
+        self.assertEqual([entry.line for entry in found], [1, 3, 8, 11])
+        self.assertEqual(found[1].event.request.arguments, "restart my } unit")
+        self.assertEqual([entry.event for entry in found[2:]], ["an event of the kind exit", "no command: no command"])
+
+    def test_the_year_is_the_last_that_fits(self) -> None:
+        path = self.write(
+            "log", f"Dec 31 23:59:59{ALICE[15:]}{COMMAND}/bin/a\nJan  2 00:00:00{ALICE[15:]}{COMMAND}/bin/b\n"
+        )
+        os.utime(path, (1767312000, 1767312000))
+        self.assertEqual([entry.time[:10] for entry in self.found(path, year=None)], ["2025-12-31", "2026-01-02"])
+
+    def test_compressed_logs_and_those_that_are_cut(self) -> None:
+        whole = gzip.compress(f"{ALICE}{COMMAND}/bin/a\n".encode() * 3000)
+        self.assertEqual(len(self.commands(self.write("log.gz", whole))), 3000)
+        with self.assertRaisesRegex(OSError, "cut.gz|end-of-stream|marker"):
+            self.commands(self.write("cut.gz", whole[: len(whole) // 2]))
+
+    def test_bytes_that_are_no_text(self) -> None:
+        path = self.write("log", ALICE.encode() + COMMAND.encode() + b"/bin/ls caf\xe9 \xff\x00\r\n")
+        self.assertEqual(self.commands(path), ["/bin/ls caf\udce9 \udcff\0"])
+
+    def test_a_line_that_is_too_long(self) -> None:
+        path = self.write("log", "x" * (1 << 23) + f"\n{ALICE}{COMMAND}/bin/a\n")
+        self.assertEqual([entry.event for entry in self.found(path)][0], "the line is too long")
+        self.assertEqual(self.commands(path), ["/bin/a"])
+
+    def test_hostile_json(self) -> None:
+        for text in (
+            "{" * 100000,
+            "[" * 100000,
+            '{"accept":5}',
+            '{"accept":{"command":5}}',
+            "{}",
+            "[]",
+            '{"a":NaN',
+            '{"sudo":[1,{}]}',
+            '{\n"a"',
+        ):
+            found = self.found(self.write("log", text + "\n"))
+            self.assertTrue(found, text[:20])
+            self.assertTrue(all(isinstance(entry.event, str) for entry in found), text[:20])
+
+
+if __name__ == "__main__":
+    unittest.main()

@@ -1,0 +1,123 @@
+"""The lines of a policy, and copies of its files."""
+
+import os
+import unittest
+
+from support import Case
+from kulavemia.command import Fault
+from kulavemia.policy import files_of, include_of, lines_of, rewritten
+from kulavemia.rules import Rules
+from kulavemia.tree import of_this_machine, of_tree
+
+
+class Lines(Case):
+    def test_joined_lines(self) -> None:
+        text = b"a, \\\n  b\\\\\\\n c\r\n# note \\\nnext\\\\\n#1 = x \\\nlast\n\n"
+        self.assertEqual(
+            [tuple(line) for line in lines_of(text)],
+            [
+                (1, 3, b"a, b\\\\c"),
+                (4, 1, b"# note \\"),
+                (5, 1, b"next\\\\"),
+                (6, 2, b"#1 = x last"),
+                (8, 1, b""),
+            ],
+        )
+
+    def test_rules_are_the_lines_that_are_nothing_else(self) -> None:
+        others = (
+            "",
+            "# x",
+            "User_Alias A = b",
+            "Cmd_Alias A = /b",
+            "Defaults x",
+            "Defaults:a x",
+            "Defaults!A x",
+            "@include x",
+            "#include",
+            "#includedir /x",
+        )
+        rules = (
+            "alice ALL = ALL",
+            "#12 ALL = ALL",
+            "User_Aliases ALL = ALL",
+            "Defaultsx ALL = ALL",
+            "#includes ALL = ALL"[1:],
+            "%x ALL = ALL",
+            '"User_Alias" ALL = ALL',
+        )
+        for text, wanted in [(text, False) for text in others] + [(text, True) for text in rules]:
+            found = list(lines_of(text.encode()))
+            self.assertEqual([line.is_rule() for line in found], [wanted] * len(found), text)
+
+    def test_includes(self) -> None:
+        for text, of_folder, path in (
+            (b"@include x", False, b"x"),
+            (b"#includedir\t/etc/d  # note", True, b"/etc/d"),
+            (b'@include "a \\"b"', False, b'a "b'),
+            (b"@include a\\ b", False, b"a b"),
+        ):
+            found = include_of(next(lines_of(text)))
+            assert found is not None
+            self.assertEqual((found.of_folder, found.path), (of_folder, path))
+        self.assertIsNone(include_of(next(lines_of(b"@includes x"))))
+
+    def test_other_paths_keep_the_numbers_of_lines(self) -> None:
+        text = b"a\n@include \\\n  /x\\\n y\nb\n"
+        self.assertEqual(
+            rewritten(text, lambda include: b"/new place" + include.path), b"a\n@include /new\\ place/xy\n\n\nb\n"
+        )
+        self.assertEqual(rewritten(text, lambda include: None), text)
+
+    def test_files_and_places(self) -> None:
+        main = self.write("sudoers", "a ALL = ALL, \\\n  !ALL\n@includedir d\n@include sudoers\n")
+        self.write("d/10-x", "b ALL = ALL\n")
+        self.write("d/20.x", "c ALL = ALL\n")
+        self.write("d/30-x~", "c ALL = ALL\n")
+        self.assertEqual(list(files_of(main)), [main, self.path("d/10-x")])
+        rules = Rules("/sudoers", self.folder)
+        self.assertEqual(
+            [tuple(rule) for rule in rules.all()], [("/sudoers:1", "a ALL = ALL, !ALL"), ("/d/10-x:1", "b ALL = ALL")]
+        )
+        self.assertEqual(rules.text("/gone:1"), "")
+
+
+class Trees(Case):
+    def test_another_machines_policy_is_refused(self) -> None:
+        main = self.write("web1/etc/sudoers", "a ALL = ALL\n@includedir /etc/sudoers.d\n")
+        with self.assertRaisesRegex(
+            Fault, r"etc/sudoers:2: the policy includes /etc/sudoers.d of this machine.*tools/collect"
+        ):
+            of_this_machine(main, False)
+        self.assertEqual(of_this_machine(main, True).file(), main)
+        self.write("web1/etc/d/x", "@include ../../../up\n")
+        self.write("web1/etc/sudoers", "@includedir d\n")
+        with self.assertRaisesRegex(Fault, "etc/d/x:1"):
+            of_this_machine(main, False)
+
+    def test_a_copy_reads_the_copied_files_alone(self) -> None:
+        self.write("tree/etc/sudoers", "a ALL = ALL\n@includedir /etc/sudoers.d\n@include local\n@include /gone\n")
+        self.write("tree/etc/sudoers.d/10", "@include /opt/x\n")
+        self.write("tree/etc/local", "b ALL = ALL\n")
+        self.write("tree/opt/x", "c ALL = ALL\n")
+        found = of_tree(self.path("tree"), "/etc/sudoers", self.path("copy"))
+        self.assertEqual(found.file(), self.path("copy/etc/sudoers"))
+        self.assertEqual(self.rows("copy/etc/sudoers")[1], f"@includedir {self.path('copy')}/etc/sudoers.d")
+        self.assertEqual(self.read("copy/etc/sudoers.d/10"), f"@include {self.path('copy')}/opt/x\n")
+        self.assertEqual(self.read("copy/opt/x"), "c ALL = ALL\n")
+
+    def test_a_copy_does_not_leave_the_copied_files(self) -> None:
+        for text in ("@include /../../etc/passwd\n", "@include ../x\n", "@includedir /etc/..\n"):
+            self.write("tree/etc/sudoers", text)
+            with self.assertRaisesRegex(Fault, r"etc/sudoers:1: an include with \.\. may leave"):
+                of_tree(self.path("tree"), "/etc/sudoers", self.path("copy"))
+        self.write("tree/etc/sudoers", "@include /etc/link\n")
+        os.symlink("/etc/passwd", self.path("tree/etc/link"))
+        with self.assertRaisesRegex(Fault, "tree/etc/link: a link"):
+            of_tree(self.path("tree"), "/etc/sudoers", self.path("copy"))
+        with self.assertRaisesRegex(Fault, "is not there"):
+            of_tree(self.path("tree"), "/etc/gone", self.path("copy"))
+
+
+if __name__ == "__main__":
+    unittest.main()

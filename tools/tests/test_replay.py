@@ -1,0 +1,112 @@
+"""From logs to the page."""
+
+import os
+import unittest
+
+from support import EXAMPLES, Case, needs_jinja, needs_program
+
+LOG = """Nov 20 10:01:02 web1 sudo[1]:    steve : TTY=pts/0 ; PWD=/ ; USER=operator ; COMMAND=/usr/local/op_commands/rotate
+Nov 20 10:02:02 web1 sudo[2]:    jen : TTY=pts/0 ; PWD=/ ; USER=root ; COMMAND=/usr/bin/id <script>alert(1)</script>
+Nov 20 10:03:02 web1 sudo[3]:    millert : command not allowed ; TTY=pts/0 ; PWD=/ ; USER=root ; COMMAND=/usr/bin/bash
+Nov 20 10:04:02 web1 sudo[4]:    guest : 3 incorrect password attempts ; TTY=pts/0 ; PWD=/ ; USER=root ; COMMAND=/usr/bin/id
+"""
+PROGRAMS = "kind,command,arguments\nany command,/none/such,\nshell,/usr/bin/bash,\n"
+
+
+@needs_program
+@needs_jinja
+class Replay(Case):
+    def setUp(self) -> None:
+        super().setUp()
+        self.write("auth.log", LOG)
+        self.write("programs.csv", PROGRAMS)
+
+    def replay(self, *words: str, status: int = 0) -> tuple[str, str]:
+        """Runs the command over the test's log."""
+        return self.run_tool(
+            "replay",
+            "--out",
+            "out",
+            "--programs",
+            "programs.csv",
+            "--domain",
+            "example.org",
+            *words,
+            "auth.log",
+            status=status,
+        )
+
+    def test_the_example(self) -> None:
+        out, _ = self.replay("--policy", f"{EXAMPLES}/sudoers", "--directory", EXAMPLES)
+        self.assertIn("logs: 2 accepted, 1 refused and 1 failed requests of 1 senders", out)
+        self.assertEqual(
+            self.rows("out", "requests", "report.csv")[1:],
+            [
+                f"web1_example_org,1,allow,{EXAMPLES}/sudoers:54,",
+                "web1_example_org,2,nomatch,,",
+                f"web1_example_org,3,allow,{EXAMPLES}/sudoers:45,NOPASSWD SETENV",
+                "web1_example_org,4,nomatch,,",
+            ],
+        )
+        page = self.read("out", "page.html")
+        for part in (
+            "Would be denied now: 1",
+            "Would be allowed now: 1",
+            "&lt;script&gt;alert(1)",
+            "auth.log:2",
+            "Rules that decided no request of the logs: 18 of 20",
+        ):
+            self.assertTrue(part in page, part)
+        self.assertEqual(len(self.rows("out", "probe", "report.csv")), 1 + 32 * 7 * 2)
+
+    def test_what_a_change_does(self) -> None:
+        with open(f"{EXAMPLES}/sudoers", encoding="utf-8") as file:
+            text = file.read().replace("@includedir sudoers.d", "")
+        old = self.write("old", text)
+        new = self.write("new", text.replace("jen ALL, !SERVERS", "jen ALL"))
+        out, _ = self.replay("--policy", new, "--old-policy", old, "--directory", EXAMPLES, status=1)
+        self.assertIn("changes: 11 gained, 0 gained and lost, 0 lost, 0 other", out)
+        self.assertTrue(all(row.startswith("gained,") for row in self.rows("out", "changes.csv")[1:]))
+
+    def test_what_was_collected(self) -> None:
+        self.write("web1/policy", "/etc/sudoers\n")
+        self.write("web1/tree/etc/sudoers", "root ALL = ALL\n@includedir /etc/sudoers.d\n")
+        self.write("web1/tree/etc/sudoers.d/10-jen", "jen ALL = \\\n  ALL\n")
+        self.write("web1/passwd", "root:x:0:0::/:/bin/sh\njen:x:1:1::/:/bin/sh\n")
+        self.write("web1/group", "root:x:0:\njen:x:1:\n")
+        self.write("web1/addr.json", "[]")
+        self.write("web1/hostname", "web1.example.org\n")
+        self.replay("--collected", "web1")
+        self.assertIn(
+            "web1_example_org,2,allow,/etc/sudoers.d/10-jen:1,SETENV", self.rows("out", "requests", "report.csv")
+        )
+        self.assertNotIn(
+            self.folder, self.read("out", "page.html").partition("<dt>Program</dt>")[2].partition("</dd>")[2]
+        )
+        self.assertIn("jen ALL = ALL", self.read("out", "page.html"))
+
+    def test_a_policy_of_another_machine(self) -> None:
+        policy = self.write("web1/sudoers", "@includedir /etc/sudoers.d\n")
+        err = self.replay("--policy", policy, "--directory", EXAMPLES, status=3)[1]
+        self.assertIn(f"{policy}:1: the policy includes /etc/sudoers.d of this machine", err)
+        self.assertIn("tools/collect", err)
+
+    def test_a_policy_that_is_refused_is_told_by_its_own_path(self) -> None:
+        self.write("tree/etc/sudoers", "@include /etc/more\n")
+        self.write("tree/etc/more", "a b c\n")
+        err = self.replay("--tree", "tree", "--directory", EXAMPLES, status=5)[1]
+        self.assertIn("replay: sudo_audit: /etc/more:1:5: syntax error", err)
+
+    def test_words(self) -> None:
+        self.assertIn(
+            "--directory or --collected is wanted", self.replay("--policy", f"{EXAMPLES}/sudoers", status=2)[1]
+        )
+        os.makedirs(self.path("out"), exist_ok=True)
+        self.write("out/x", "")
+        self.assertIn(
+            "out is not empty", self.replay("--policy", f"{EXAMPLES}/sudoers", "--directory", EXAMPLES, status=2)[1]
+        )
+
+
+if __name__ == "__main__":
+    unittest.main()
