@@ -1,6 +1,6 @@
 //! What arrives at a collector.
 
-use sudo_rows::{Request, Verdict};
+use sudo_match::{Request, Verdict};
 
 /// The verdict for one request of a sender.
 #[derive(Clone, Debug, Drop, PartialEq, Eq)]

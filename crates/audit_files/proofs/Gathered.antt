@@ -6,7 +6,7 @@ use Rattle.std.proofs.lemmas.Bool.{lt-leb}
 use Rattle.audit_files.specs.Users.{row_fault, row_limit}
 use Rattle.std.specs.List.{cons_option}
 use Rattle.std.proofs.lemmas.List.Elements.{filter_map-append}
-use Rattle.sudo_rows.specs.declared.request.Request.{Request}
+use Rattle.sudo_match.specs.declared.request.Request.{Request}
 use Rattle.audit_files.specs.Numerals.{number_of}
 use Rattle.audit_files.specs.Requests.{close_of, closes_in, fields_in, order_fault, request_fault, request_of, requests_in}
 use Rattle.audit_files.specs.Rows.{Fields}

@@ -3,7 +3,7 @@ use Rattle.std.proofs.Common.{◌≡◌, ◌≤◌, ◌<◌, ℕ, Bool, true, fa
 use Rattle.std.proofs.Math.Bridge.{le_prop}
 use Rattle.std.proofs.lemmas.Bool.{leb-false, leb-true}
 use Rattle.audit_files.specs.Hosts.{interface_if, interface_with}
-use Rattle.sudo_rows.specs.declared.people.Interface.{Interface}
+use Rattle.sudo_match.specs.declared.people.Interface.{Interface}
 
 -- an interface whose bits are in range is the one that they write
 pub interface_is : (addr bits : ℕ) (fit : bits ≤ 32) → Some (record { addr = addr; bits = bits; in_range = fit }) ≡ interface_with addr bits

@@ -1,3 +1,5 @@
+pub mod Failing
+pub mod Took
 pub mod Cuts
 pub mod Digits
 pub mod FieldLemmas

@@ -1,12 +1,12 @@
 -- From the bytes that are read to what they state.
 use Rattle.std.proofs.Common.{◌≡◌, ℕ, suc, List, [], length, refl, arith, Option, None, Some, Result, Ok, Err, IfOk, IfErr, true, false, Bool, cond}
-use Rattle.audit_device.specs.Feeding.{Ahead}
+use Rattle.audit_files.specs.Feeding.{Ahead}
 use Rattle.std.proofs.Common.{◌≤◌, IfSome, nat_lt}
 use Rattle.std.proofs.Math.ListN.{replicate}
 use Rattle.std.proofs.lemmas.Bool.{le-ltb, lt-ltb}
 use Rattle.std.proofs.lemmas.List.{length-replicate}
-use Rattle.audit_device.specs.Whole.{whole_of}
-use Rattle.audit_device.specs.declared.whole.ReadFault.TheVariants as why
+use Rattle.audit_files.specs.Whole.{whole_of}
+use Rattle.audit_files.specs.declared.whole.ReadFault.TheVariants as why
 use Rattle.audit_files.specs.Faults.{IsNoMemory}
 use Rattle.audit_files.specs.Files.{IsRead, States, byte_limit, bytes_read, bytes_upto, itself, stated_in}
 use Rattle.audit_files.specs.declared.fault.FileFault.{FileFault}

@@ -3,7 +3,7 @@ use Rattle.std.proofs.Common.{◌≡◌, ◌<◌, ◌+◌, ◌-◌, ℕ, Bool, t
 use Rattle.std.specs.Prelude.{not, ◌==◌, is_some}
 use Rattle.std.specs.Option.{option_map_or, option_or}
 use Rattle.std.proofs.lemmas.Bool.{leb-false}
-use Rattle.sudo_rows.specs.declared.request.Request.{Request}
+use Rattle.sudo_match.specs.declared.request.Request.{Request}
 use Rattle.audit_files.specs.Files.{headed, stated_by}
 use Rattle.audit_files.specs.Requests.{AreRising, RiseAbove, close_of, closes_in, last_number, request_fault, request_limit, request_of, requests_header, requests_in, requests_of, sent, shape_fault}
 use Rattle.audit_files.specs.Rows.{Fields, first_fault, records_of}

@@ -1,7 +1,7 @@
 -- What the records of a file state, and what is read.
 use Rattle.std.specs.Prelude.{◌≡◌, ⊤, ℕ, Bool, List, [], ◌∷◌, length, nat_eq, nat_lt, slice_index_or, Option, Some, None, Result, Ok, Err, if◌then◌else◌}
 use Rattle.std.specs.Cmp.Lexicographic.{pointwise}
-use Rattle.audit_device.specs.Feeding.{Ahead}
+use Rattle.audit_files.specs.Feeding.{Ahead}
 use Rattle.audit_files.specs.Faults.{IsNoMemory, unless}
 use Rattle.audit_files.specs.Rows.{Fields, first_fault}
 use Rattle.audit_files.specs.declared.fault.FileFault.{FileFault}

@@ -1,8 +1,8 @@
 -- What a hosts file states.
 use Rattle.std.specs.Prelude.{◌≡◌, refl, Bool, true, false, nat_le, ℕ, List, [], ◌∷◌, ◌+◌, ◌*◌, nat_lt, codes, filter_map, Option, Some, None, Result, option_map, option_and_then, if◌then◌else◌}
 use Rattle.std.proofs.lemmas.Bool.{leb-true}
-use Rattle.sudo_rows.specs.declared.people.Interface.{Interface}
-use Rattle.sudo_rows.specs.declared.people.Machine.{Machine}
+use Rattle.sudo_match.specs.declared.people.Interface.{Interface}
+use Rattle.sudo_match.specs.declared.people.Machine.{Machine}
 use Rattle.audit_files.specs.Files.{stated}
 use Rattle.audit_files.specs.Numerals.{is_empty, number_of}
 use Rattle.audit_files.specs.Parts.{cut_at, items_of}

@@ -2,7 +2,7 @@
 use Rattle.std.specs.Prelude.{⊤, ◌<◌, ℕ, suc, Bool, false, not, List, [], ◌∷◌, ◌+◌, ◌-◌, ◌==◌, ◌&&◌, ◌||◌, nat_le, nat_eq, length, codes, filter_map, slice_get, is_some, Option, Some, None, Result, option_map, if◌then◌else◌}
 use Rattle.std.specs.Option.{option_map_or}
 use Rattle.std.specs.Cmp.Lexicographic.{pointwise}
-use Rattle.sudo_rows.specs.declared.request.Request.{Request}
+use Rattle.sudo_match.specs.declared.request.Request.{Request}
 use Rattle.audit_files.specs.Files.{stated}
 use Rattle.audit_files.specs.Numerals.{is_empty, number_of}
 use Rattle.audit_files.specs.Rows.{Fields, records_of}

@@ -1,7 +1,7 @@
 -- What a users file states.
 use Rattle.std.specs.Prelude.{ℕ, List, [], ◌∷◌, ◌+◌, nat_le, length, codes, filter_map, Option, Some, None, Result, option_map, option_and_then, if◌then◌else◌}
-use Rattle.sudo_rows.specs.declared.people.Group.{Group}
-use Rattle.sudo_rows.specs.declared.people.Person.{Person}
+use Rattle.sudo_match.specs.declared.people.Group.{Group}
+use Rattle.sudo_match.specs.declared.people.Person.{Person}
 use Rattle.audit_files.specs.Files.{stated}
 use Rattle.audit_files.specs.Numerals.{is_empty, number_of}
 use Rattle.audit_files.specs.Parts.{cut_at, items_of}

@@ -4,16 +4,15 @@ ghost use Rattle.audit_files.specs.Faults.{IsNoMemory, failures_in, read_failure
 ghost use Rattle.audit_files.specs.Files.{IsRead};
 ghost use Rattle.audit_files.specs.Hosts.{address_by, address_of, interface_of, interface_with, machine_of, machines, octet_of};
 
-use crate::FileFault;
 use crate::fields::field;
 use crate::number::number;
 use crate::parts::{Item, cut, items};
 use crate::table::{Table, gather};
 use crate::text::read_text;
-use audit_device::Feed;
+use crate::{Feed, FileFault};
 use csv::ByteRecord;
 use std::alloc::{AllocError, Global};
-use sudo_rows::{Interface, Machine};
+use sudo_match::{Interface, Machine};
 use sudo_text::Seq;
 
 // A byte of an address.
@@ -186,8 +185,10 @@ fn machines_in(alloc: Global, text: &[u8]) -> Result<Vec<Machine>, FileFault>
 /// read, `Read` where a read failed, `Memory` where memory was refused.
 pub fn read_hosts<R: Feed>(alloc: Global, reader: &mut R) -> Result<Vec<Machine>, FileFault>
     ensures stated { IfOk result (λ list. IsRead machines (R.ahead reader.old) (Ok list.items)) }
-    ensures fault { IfErr result (λ e. IsNoMemory e → IsRead machines (R.ahead reader.old) (Err e)) }
-    ensures failures { R.failed_reads reader.new ≡ R.failed_reads reader.old + read_failures result }
+    ensures fault { IfErr result (λ e. IsNoMemory e
+        → IsRead machines (R.ahead reader.old) (Err e)) }
+    ensures failures { R.failed_reads reader.new
+        ≡ R.failed_reads reader.old + read_failures result }
 {
     match read_text(alloc, reader) {
         Ok(text) => machines_in(alloc, text.as_slice()),

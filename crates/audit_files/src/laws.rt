@@ -5,5 +5,6 @@ ghost use Rattle.audit_files.specs.declared.requests.Requests.{Requests};
 
 /// The numbers of the requests that a file states are at least 1, and each is greater than the one before it.
 pub fn numbers_rise()
-    ensures { (text : List ℕ) (requests : Requests) → sent text ≡ Ok requests → AreRising requests.list }
+    ensures { (text : List ℕ) (requests : Requests) → sent text ≡ Ok requests
+        → AreRising requests.list }
 {}

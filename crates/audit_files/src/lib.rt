@@ -1,22 +1,37 @@
-//! The files of the audit: users, hosts and requests.
+//! The files of an audit: readers and writers whose contracts say what goes through them and how often they failed, the
+//! users, hosts and requests read from CSV, and the text of a report.
 #![tactic(auto)]
 
+mod count;
+mod device;
+mod failed;
 mod fault;
+mod feed;
 mod fields;
 mod hosts;
 pub mod laws;
 mod number;
 mod parts;
+mod records;
+mod report;
 mod requests;
 mod rows;
+mod script;
+mod sink;
 mod table;
 mod text;
 mod users;
+mod whole;
 
+pub use count::Count;
+pub use device::Device;
+pub use failed::Failed;
 pub use fault::FileFault;
+pub use feed::Feed;
 pub use hosts::read_hosts;
+pub use report::report_text;
 pub use requests::{Requests, read_requests};
+pub use script::Script;
+pub use sink::{Sink, WriteFault, write_all_of};
 pub use users::read_users;
-
-#[cfg(test)]
-mod tests;
+pub use whole::{ReadFault, read_whole};

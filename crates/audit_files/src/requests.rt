@@ -4,15 +4,14 @@ ghost use Rattle.audit_files.specs.Faults.{IsNoMemory, failures_in, read_failure
 ghost use Rattle.audit_files.specs.Files.{States, same_fields};
 ghost use Rattle.audit_files.specs.Requests.{asked_for, asked_number as number_asked, close_of, fields_in, requests_header, sent, is_command as command_test, last_number as number_of_last, order_fault as fault_of_order, request_of};
 
-use crate::FileFault;
 use crate::fields::field;
 use crate::number::number;
 use crate::table::{Table, gather};
 use crate::text::read_text;
-use audit_device::Feed;
+use crate::{Feed, FileFault};
 use csv::ByteRecord;
 use std::alloc::{AllocError, Global};
-use sudo_rows::Request;
+use sudo_match::Request;
 use sudo_text::Seq;
 
 /// What a requests file states: its requests in order, and the count of its close row, if it has one.
@@ -82,7 +81,8 @@ impl<'a> RequestRow<'a> {
 
     // The number, where this is a request.
     fn asked_number(self) -> Option<u32>
-        ensures { result ≡ number_asked self.entry.number.now self.entry.user.now self.entry.host.now self.entry.command.now }
+        ensures { result ≡ number_asked self.entry.number.now self.entry.user.now
+            self.entry.host.now self.entry.command.now }
     {
         if self.user.is_empty() || self.host.is_empty() || !is_command(self.command) {
             return None;
@@ -95,7 +95,8 @@ impl<'a> RequestRow<'a> {
 
     // The request, of which this is the number.
     fn request(self, alloc: Global, number: u32) -> Result<Request, AllocError>
-        requires { number_asked self.number.now self.user.now self.host.now self.command.now ≡ Some number }
+        requires { number_asked self.number.now self.user.now self.host.now self.command.now
+            ≡ Some number }
         ensures stated { IfOk result (λ r. request_of (fields_in self.entry) ≡ Some r) }
         ensures number { IfOk result (λ r. r.number ≡ number) }
     {
@@ -205,8 +206,10 @@ impl Table for Sent {
 impl Sent {
     // Keeps the request, of which this is the number.
     fn keep(&mut self, fields: RequestRow<'_>, number: u32) -> Result<(), AllocError>
-        requires { number_asked fields.number.now fields.user.now fields.host.now fields.command.now ≡ Some number }
-        ensures kept { OnOk result ((r : Request) × (request_of (fields_in fields.entry) ≡ Some r) × (r.number ≡ number)
+        requires { number_asked fields.number.now fields.user.now fields.host.now fields.command.now
+            ≡ Some number }
+        ensures kept { OnOk result ((r : Request) × (request_of (fields_in fields.entry) ≡ Some r)
+            × (r.number ≡ number)
             × (self.new.list.items ≡ self.old.list.items ++ r ∷ [])) }
         ensures close { self.new.close ≡ self.old.close }
     {
@@ -246,7 +249,8 @@ pub(crate) fn requests_of_text(alloc: Global, text: &[u8]) -> Result<Requests, F
 /// faulty record decides.
 pub fn read_requests<R: Feed>(alloc: Global, reader: &mut R) -> Result<Requests, FileFault>
     ensures states { States sent (R.ahead reader.old) result }
-    ensures failures { R.failed_reads reader.new ≡ R.failed_reads reader.old + read_failures result }
+    ensures failures { R.failed_reads reader.new
+        ≡ R.failed_reads reader.old + read_failures result }
 {
     match read_text(alloc, reader) {
         Ok(text) => requests_of_text(alloc, text.as_slice()),

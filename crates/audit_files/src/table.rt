@@ -26,9 +26,12 @@ pub(crate) trait Table {
 
     /// Takes the next record, which is the one of this number.
     fn add(&mut self, row: u32, record: &ByteRecord) -> Result<(), FileFault>
-        ensures ok { OnOk result ((before : List Fields) → holds self.old before → row ≡ length before + 2
-            → (fault before (fields_of record.now) ≡ None) × holds self.new (before ++ fields_of record.now ∷ [])) }
-        ensures err { IfErr result (λ e. IsNoMemory e → (before : List Fields) → holds self.old before → row ≡ length before + 2
+        ensures ok { OnOk result ((before : List Fields) → holds self.old before
+            → row ≡ length before + 2
+            → (fault before (fields_of record.now) ≡ None)
+            × holds self.new (before ++ fields_of record.now ∷ [])) }
+        ensures err { IfErr result (λ e. IsNoMemory e → (before : List Fields)
+            → holds self.old before → row ≡ length before + 2
             → fault before (fields_of record.now) ≡ Some e) }
         ensures no_read { IfErr result (λ e. failures_in e ≡ 0) };
 }
@@ -37,8 +40,10 @@ pub(crate) trait Table {
 fn fill<T: Table>(rows: &mut Rows<'_>, table: &mut T) -> Result<(), FileFault>
     requires reading { IsReading rows.old }
     requires empty { T.holds table.old [] }
-    ensures ok { OnOk result ((first_fault T.fault [] (rows_left rows.old) ≡ None) × T.holds table.new (rows_left rows.old)) }
-    ensures err { IfErr result (λ e. IsNoMemory e → first_fault T.fault [] (rows_left rows.old) ≡ Some e) }
+    ensures ok { OnOk result ((first_fault T.fault [] (rows_left rows.old) ≡ None)
+        × T.holds table.new (rows_left rows.old)) }
+    ensures err { IfErr result (λ e. IsNoMemory e
+        → first_fault T.fault [] (rows_left rows.old) ≡ Some e) }
     ensures no_read { IfErr result (λ e. failures_in e ≡ 0) }
 {
     for row in 2..u32::MAX {
@@ -53,9 +58,11 @@ fn fill<T: Table>(rows: &mut Rows<'_>, table: &mut T) -> Result<(), FileFault>
 /// Gathers the records of a text under the header, up to the first fault.
 pub(crate) fn gather<T: Table>(alloc: Global, text: &[u8], table: &mut T) -> Result<(), FileFault>
     requires { T.holds table.old [] }
-    ensures ok { OnOk result ((rest : List Fields) × (headed T.header (records_of text.now) ≡ Some rest)
+    ensures ok { OnOk result ((rest : List Fields)
+        × (headed T.header (records_of text.now) ≡ Some rest)
         × (first_fault T.fault [] rest ≡ None) × T.holds table.new rest) }
-    ensures err { IfErr result (λ e. IsNoMemory e → fault_after T.fault (headed T.header (records_of text.now)) ≡ Some e) }
+    ensures err { IfErr result (λ e. IsNoMemory e
+        → fault_after T.fault (headed T.header (records_of text.now)) ≡ Some e) }
     ensures no_read { IfErr result (λ e. failures_in e ≡ 0) }
 {
     let mut rows = Rows::new(alloc, text);

@@ -3,8 +3,7 @@ ghost use Rattle.std.specs.Prelude.{◌≡◌, ◌+◌, Ok, Err, IfOk, IfErr};
 ghost use Rattle.audit_files.specs.Faults.{IsNoMemory, read_failures};
 ghost use Rattle.audit_files.specs.Files.{IsRead, itself};
 
-use crate::FileFault;
-use audit_device::{Feed, ReadFault, read_whole};
+use crate::{Feed, FileFault, ReadFault, read_whole};
 use std::alloc::Global;
 
 /// How many bytes a file may have.
@@ -14,7 +13,8 @@ const BYTE_LIMIT: usize = 268_435_456;
 pub(crate) fn read_text<R: Feed>(alloc: Global, reader: &mut R) -> Result<Vec<u8>, FileFault>
     ensures text { IfOk result (λ text. IsRead itself (R.ahead reader.old) (Ok text.items)) }
     ensures fault { IfErr result (λ e. IsNoMemory e → IsRead itself (R.ahead reader.old) (Err e)) }
-    ensures failures { R.failed_reads reader.new ≡ R.failed_reads reader.old + read_failures result }
+    ensures failures { R.failed_reads reader.new
+        ≡ R.failed_reads reader.old + read_failures result }
 {
     match read_whole(alloc, reader, BYTE_LIMIT) {
         Ok(text) => Ok(text),

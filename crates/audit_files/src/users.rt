@@ -4,16 +4,15 @@ ghost use Rattle.audit_files.specs.Faults.{IsNoMemory, failures_in, read_failure
 ghost use Rattle.audit_files.specs.Files.{IsRead};
 ghost use Rattle.audit_files.specs.Users.{group_of, people, person_of};
 
-use crate::FileFault;
 use crate::fields::field;
 use crate::number::number;
 use crate::parts::{Item, cut, items};
 use crate::table::{Table, gather};
 use crate::text::read_text;
-use audit_device::Feed;
+use crate::{Feed, FileFault};
 use csv::ByteRecord;
 use std::alloc::{AllocError, Global};
-use sudo_rows::{Group, Person};
+use sudo_match::{Group, Person};
 use sudo_text::Seq;
 
 impl Item for Group {
@@ -147,7 +146,8 @@ fn people_in(alloc: Global, text: &[u8]) -> Result<Vec<Person>, FileFault>
 pub fn read_users<R: Feed>(alloc: Global, reader: &mut R) -> Result<Vec<Person>, FileFault>
     ensures stated { IfOk result (λ list. IsRead people (R.ahead reader.old) (Ok list.items)) }
     ensures fault { IfErr result (λ e. IsNoMemory e → IsRead people (R.ahead reader.old) (Err e)) }
-    ensures failures { R.failed_reads reader.new ≡ R.failed_reads reader.old + read_failures result }
+    ensures failures { R.failed_reads reader.new
+        ≡ R.failed_reads reader.old + read_failures result }
 {
     match read_text(alloc, reader) {
         Ok(text) => people_in(alloc, text.as_slice()),

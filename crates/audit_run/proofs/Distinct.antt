@@ -3,7 +3,7 @@ use Rattle.std.proofs.Common.{◌≡◌, ◌≢◌, ℕ, zero, suc, ◌<◌, Boo
 use Rattle.std.specs.Prelude.{⊤, not, bytes_eq, slice_get}
 use Rattle.std.proofs.lemmas.Slice.Eq.{bytes_eq-Decides}
 use Rattle.audit_collect.specs.Roster.{AreDistinct}
-use Rattle.audit_outcome.specs.Roster.{roster, without}
+use Rattle.audit_run.specs.Roster.{roster, without}
 
 none_is_some : (x : List ℕ) → None ≡ Some x → ⊥
 none_is_some x e = cc

@@ -4,14 +4,14 @@ use Rattle.audit_collect.proofs.Members.{count_by-append}
 use Rattle.std.proofs.lemmas.List.{map-append}
 use Rattle.audit_collect.specs.declared.arrival.Arrival.{Arrival}
 use Rattle.audit_run.specs.declared.gather.Gathering.{Gathering}
-use Rattle.audit_handoff.specs.declared.message.Names.{Names}
-use Rattle.audit_handoff.specs.declared.message.Job.{Job}
-use Rattle.audit_handoff.specs.declared.message.Outcome.{Outcome}
-use Rattle.audit_handoff.specs.declared.message.Outcome.TheVariants.{Arrived, End, Stopped}
-use Rattle.audit_handoff.specs.Names.{answer}
-use Rattle.audit_handoff.specs.Passes.{PassView, with_job_taken, with_outcome_put, with_job_put}
-use Rattle.audit_run.specs.Passes.{gaining}
-use Rattle.audit_outcome.specs.Arrivals.{arrivals_of}
+use Rattle.audit_run.specs.declared.message.Names.{Names}
+use Rattle.audit_run.specs.declared.message.Job.{Job}
+use Rattle.audit_run.specs.declared.message.Outcome.{Outcome}
+use Rattle.audit_run.specs.declared.message.Outcome.TheVariants.{Arrived, End, Stopped}
+use Rattle.audit_run.specs.Names.{answer}
+use Rattle.audit_run.specs.Passes.{PassView, with_job_taken, with_outcome_put, with_job_put}
+use Rattle.audit_run.specs.FreshPasses.{gaining}
+use Rattle.audit_run.specs.Arrivals.{arrivals_of}
 use Rattle.audit_run.specs.Gathered.{comes_of, is_end, is_stopped, IsOutOfMemory, Counts, Gathers, Conducts, HasConducted, Drains}
 
 pub gaining_none : (p : PassView) → gaining p [] [] [] [] ≡ p

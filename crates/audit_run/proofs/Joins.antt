@@ -2,17 +2,17 @@
 use Rattle.std.proofs.Common.{◌≡◌, ℕ, ◌+◌, List, [], ◌∷◌, ◌++◌, map, Option, sym, ap, ◌∙◌, arith, append_assoc, append-nil}
 use Rattle.std.proofs.lemmas.List.{map-append}
 use Rattle.std.proofs.lemmas.List.Concat.{flat_map-append}
-use Rattle.audit_device.specs.Feeding.{Ahead}
+use Rattle.audit_files.specs.Feeding.{Ahead}
 use Rattle.audit_files.specs.declared.fault.FileFault.{FileFault}
-use Rattle.audit_handoff.specs.declared.message.Names.{Names}
-use Rattle.audit_handoff.specs.declared.message.Job.{Job}
-use Rattle.audit_handoff.specs.Names.{answer}
-use Rattle.audit_handoff.specs.Passes.{HandoffId, PassView, with_joined}
-use Rattle.audit_outcome.specs.Parts.{Stated, fault_in, put_by_sources, put_of}
-use Rattle.audit_run.specs.Passes.{fresh, fresh_with}
+use Rattle.audit_run.specs.declared.message.Names.{Names}
+use Rattle.audit_run.specs.declared.message.Job.{Job}
+use Rattle.audit_run.specs.Names.{answer}
+use Rattle.audit_run.specs.Passes.{HandoffId, PassView, with_joined}
+use Rattle.audit_run.specs.Parts.{Stated, fault_in, put_by_sources, put_of}
+use Rattle.audit_run.specs.FreshPasses.{fresh, fresh_with}
 use Rattle.audit_run.specs.Work.{AreParts, IsPart, worked, joined_workers, joined_sources, putting_jobs}
 use Rattle.sudo_match.specs.Known.{Known}
-use Rattle.sudo_tree.specs.declared.policy.Policy.{Policy}
+use Rattle.sudo_grammar.specs.declared.policy.Policy.{Policy}
 
 pub one_worker : (names : Names) (p : PassView) (handoff : HandoffId) (policy : Policy) (directory : Known) (n : ℕ) (old new : List Job)
     → with_joined (joined_workers names p n old) (worked names (fresh handoff policy directory) new) ≡ joined_workers names p (n + 1) (old ++ new)

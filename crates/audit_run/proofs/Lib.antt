@@ -1,3 +1,11 @@
+pub mod Rules
+pub mod Counted
+pub mod Twice
+pub mod Refusing
+pub mod Holding
+pub mod Reporting
+pub mod Owned
+pub mod Excluding
 pub mod Distinct
 pub mod Gains
 pub mod Joins

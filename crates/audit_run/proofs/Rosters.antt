@@ -4,7 +4,7 @@ use Rattle.std.specs.Prelude.{not, bytes_eq, filter, if◌then◌else◌}
 use Rattle.std.specs.List.{list_any, zip}
 use Rattle.std.proofs.lemmas.List.Folds.{list_any-append}
 use Rattle.std.proofs.lemmas.Slice.Eq.{bytes_eq-Decides}
-use Rattle.audit_outcome.specs.Roster.{owners, place_of, places_in, roster, without}
+use Rattle.audit_run.specs.Roster.{owners, place_of, places_in, roster, without}
 
 -- whether the name was found before
 abbrev pub stands : List (List ℕ) → List ℕ → Bool

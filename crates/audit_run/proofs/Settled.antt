@@ -13,12 +13,12 @@ use Rattle.audit_collect.specs.Roster.{IsRoster}
 use Rattle.audit_collect.specs.declared.arrival.Arrival.{Arrival}
 use Rattle.audit_collect.specs.declared.fault.Refused.{Refused}
 use Rattle.audit_collect.specs.declared.report.Report.{Report}
-use Rattle.audit_device.specs.Feeding.{Ahead}
-use Rattle.audit_handoff.specs.declared.message.Names.{Names}
-use Rattle.audit_handoff.specs.declared.message.Job.{Job}
-use Rattle.audit_handoff.specs.declared.message.Outcome.{Outcome}
-use Rattle.audit_handoff.specs.Names.{answer}
-use Rattle.audit_handoff.specs.Passes.{PassView, split_off, with_joined, IsEmpty, IsWhole}
+use Rattle.audit_files.specs.Feeding.{Ahead}
+use Rattle.audit_run.specs.declared.message.Names.{Names}
+use Rattle.audit_run.specs.declared.message.Job.{Job}
+use Rattle.audit_run.specs.declared.message.Outcome.{Outcome}
+use Rattle.audit_run.specs.Names.{answer}
+use Rattle.audit_run.specs.Passes.{PassView, split_off, with_joined, IsEmpty, IsWhole}
 use Rattle.audit_run.specs.declared.crew.Crew.{Crew}
 use Rattle.audit_run.specs.declared.crew.Ended.{Ended}
 use Rattle.audit_run.specs.declared.fault.AuditFault.{AuditFault}
@@ -28,18 +28,18 @@ use Rattle.audit_collect.specs.declared.fault.Refused.TheVariants as refused
 use Rattle.audit_collect.specs.declared.fault.RosterFault.TheVariants as roster_fault
 use Rattle.audit_files.specs.declared.fault.FileFault.{FileFault}
 use Rattle.audit_run.specs.declared.fault.AuditFault.TheVariants.{Sender, Collect, NoThread, Memory, TooManyParts}
-use Rattle.audit_outcome.specs.Outcome.{HaveRefused, IsReport}
-use Rattle.audit_outcome.proofs.Holding.{lacking, whole as whole_sources}
-use Rattle.audit_outcome.proofs.Owned.{all_owned, all_rise}
-use Rattle.audit_outcome.proofs.Refusing.{refused_of_sources}
-use Rattle.audit_outcome.proofs.Reporting.{reported}
+use Rattle.audit_run.specs.Outcome.{HaveRefused, IsReport}
+use Rattle.audit_run.proofs.Holding.{lacking, whole as whole_sources}
+use Rattle.audit_run.proofs.Owned.{all_owned, all_rise}
+use Rattle.audit_run.proofs.Refusing.{refused_of_sources}
+use Rattle.audit_run.proofs.Reporting.{reported}
 use Rattle.audit_run.specs.Audited.{Audited, IsOutcome, IsReportOfArrived, Ran, most_parts}
 use Rattle.audit_run.specs.Concluded.{Answers, RefusesSenders}
-use Rattle.audit_outcome.specs.Arrivals.{arrivals_of}
+use Rattle.audit_run.specs.Arrivals.{arrivals_of}
 use Rattle.audit_run.specs.Gathered.{comes_of, IsOutOfMemory, Gathers, Drains}
-use Rattle.audit_outcome.specs.Parts.{AreRead, Stated, fault_in, faults_of, owned, run_jobs}
-use Rattle.audit_run.specs.Passes.{gaining, lighter}
-use Rattle.audit_outcome.specs.Roster.{owners, place_of, roster}
+use Rattle.audit_run.specs.Parts.{AreRead, Stated, fault_in, faults_of, owned, run_jobs}
+use Rattle.audit_run.specs.FreshPasses.{gaining, lighter}
+use Rattle.audit_run.specs.Roster.{owners, place_of, roster}
 use Rattle.audit_run.specs.Run.{HasRun}
 use Rattle.audit_run.specs.Work.{AreParts, IsPart, after_run}
 use Rattle.audit_run.proofs.Gains.{gaining_more, gathers_more}

@@ -5,19 +5,19 @@ use Rattle.audit_collect.specs.Roster.{IsRoster, most_senders}
 use Rattle.audit_collect.specs.declared.fault.CollectFault.TheVariants as collect
 use Rattle.audit_collect.specs.declared.fault.RosterFault.TheVariants as roster_fault
 use Rattle.audit_collect.specs.declared.report.Report.{Report}
-use Rattle.audit_device.specs.Feeding.{Ahead}
+use Rattle.audit_files.specs.Feeding.{Ahead}
 use Rattle.audit_files.specs.declared.fault.FileFault.{FileFault}
 use Rattle.audit_files.specs.declared.fault.FileFault.TheVariants as file
-use Rattle.audit_handoff.specs.declared.message.Names.{Names}
-use Rattle.audit_handoff.specs.declared.message.Outcome.{Outcome}
-use Rattle.audit_handoff.specs.Names.{answer}
-use Rattle.audit_handoff.specs.Passes.{PassView, IsEmpty, IsWhole}
+use Rattle.audit_run.specs.declared.message.Names.{Names}
+use Rattle.audit_run.specs.declared.message.Outcome.{Outcome}
+use Rattle.audit_run.specs.Names.{answer}
+use Rattle.audit_run.specs.Passes.{PassView, IsEmpty, IsWhole}
 use Rattle.audit_run.specs.declared.fault.AuditFault.{AuditFault}
 use Rattle.audit_run.specs.declared.fault.AuditFault.TheVariants.{Sender, Collect, NoThread, Memory, TooManyParts}
-use Rattle.audit_outcome.specs.Arrivals.{arrivals_of}
-use Rattle.audit_outcome.specs.Outcome.{AreWhole, HaveRefused, IsReport, Lack}
-use Rattle.audit_outcome.specs.Parts.{AreRead, Stated, faults_of, owned, run_jobs}
-use Rattle.audit_outcome.specs.Roster.{part_at, roster}
+use Rattle.audit_run.specs.Arrivals.{arrivals_of}
+use Rattle.audit_run.specs.Outcome.{AreWhole, HaveRefused, IsReport, Lack}
+use Rattle.audit_run.specs.Parts.{AreRead, Stated, faults_of, owned, run_jobs}
+use Rattle.audit_run.specs.Roster.{part_at, roster}
 
 -- the most sources that an audit may have
 abbrev pub most_parts : ℕ

@@ -9,7 +9,7 @@ use Rattle.audit_collect.specs.declared.fault.Refused.TheVariants as refused
 use Rattle.audit_collect.specs.declared.fault.RosterFault.TheVariants as roster_fault
 use Rattle.audit_collect.specs.declared.report.Report.{Report}
 use Rattle.audit_files.specs.declared.fault.FileFault.{FileFault}
-use Rattle.audit_outcome.specs.Roster.{part_at}
+use Rattle.audit_run.specs.Roster.{part_at}
 use Rattle.audit_run.specs.declared.fault.AuditFault.{AuditFault}
 use Rattle.audit_run.specs.declared.fault.AuditFault.TheVariants.{Sender, Collect, NoThread, Memory, TooManyParts}
 use Rattle.audit_run.specs.Audited.{IsRefusedSource, NoneRefused}

@@ -4,17 +4,17 @@ use Rattle.audit_collect.specs.Held.{Held, after}
 use Rattle.audit_collect.specs.declared.arrival.Arrival.{Arrival}
 use Rattle.audit_collect.specs.declared.fault.Refused.{Refused}
 use Rattle.audit_collect.specs.declared.fault.Refused.TheVariants.{Memory}
-use Rattle.audit_handoff.specs.declared.message.Job.{Job}
-use Rattle.audit_handoff.specs.declared.message.Names.{Names}
-use Rattle.audit_handoff.specs.declared.message.Outcome.{Outcome}
-use Rattle.audit_handoff.specs.declared.message.Outcome.TheVariants.{Arrived, End, Stopped}
-use Rattle.audit_handoff.specs.Names.{answer}
-use Rattle.audit_handoff.specs.Passes.{PassView}
+use Rattle.audit_run.specs.declared.message.Job.{Job}
+use Rattle.audit_run.specs.declared.message.Names.{Names}
+use Rattle.audit_run.specs.declared.message.Outcome.{Outcome}
+use Rattle.audit_run.specs.declared.message.Outcome.TheVariants.{Arrived, End, Stopped}
+use Rattle.audit_run.specs.Names.{answer}
+use Rattle.audit_run.specs.Passes.{PassView}
 use Rattle.audit_run.specs.declared.gather.Awaited.{Awaited}
 use Rattle.audit_run.specs.declared.gather.Awaited.TheVariants.{Sources, Workers}
 use Rattle.audit_run.specs.declared.gather.Gathering.{Gathering}
-use Rattle.audit_outcome.specs.Arrivals.{arrivals_of}
-use Rattle.audit_run.specs.Passes.{gaining}
+use Rattle.audit_run.specs.Arrivals.{arrivals_of}
+use Rattle.audit_run.specs.FreshPasses.{gaining}
 
 -- Only the bodies' proofs need the words that follow.
 

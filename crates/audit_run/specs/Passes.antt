@@ -1,32 +1,71 @@
--- Further words for passes. Only the bodies' proofs need them.
-use Rattle.std.specs.Prelude.{◌≡◌, ℕ, ◌-◌, List, [], ◌++◌}
-use Rattle.audit_handoff.specs.declared.message.Job.{Job}
-use Rattle.audit_handoff.specs.declared.message.Names.{Names}
-use Rattle.audit_handoff.specs.declared.message.Outcome.{Outcome}
-use Rattle.audit_handoff.specs.Names.{names_of}
-use Rattle.audit_handoff.specs.Passes.{HandoffId, PassView}
+-- What a pass of a handoff knows, and what each call does to it. A pass is what one thread puts and takes messages with.
+use Rattle.std.specs.Prelude.{◌≡◌, ℕ, ◌+◌, ◌-◌, ◌≤◌, List, [], ◌∷◌, ◌++◌, length, IsPermutation}
+use Rattle.atomic_table.specs.Seated.{TableId}
 use Rattle.sudo_match.specs.Known.{Known}
-use Rattle.sudo_tree.specs.declared.policy.Policy.{Policy}
+use Rattle.sudo_grammar.specs.declared.policy.Policy.{Policy}
+use Rattle.audit_run.specs.declared.message.Names.{Names}
+use Rattle.audit_run.specs.declared.message.Job.{Job}
+use Rattle.audit_run.specs.declared.message.Outcome.{Outcome}
+use Rattle.audit_run.specs.Names.{names_of}
 
--- a pass that was just split off
-abbrev pub fresh_with : HandoffId → Names → PassView
-fresh_with handoff names = record { handoff = handoff; names = names; weight = 1; jobs_put = []; jobs_taken = []; outcomes_put = []; outcomes_taken = [] }
+-- which handoff it is: the queue of jobs and the queue of outcomes
+abbrev pub HandoffId : Type 0
+HandoffId = TableId × TableId
 
-abbrev pub fresh : HandoffId → Policy → Known → PassView
-fresh handoff policy directory = fresh_with handoff (names_of policy directory)
+-- The handoff, the policy and the directory, the weight, and what was put and taken, in order. The weights of all passes of a
+-- handoff add up to 1,024.
+pub record PassView : Type 0 where
+  pub handoff : HandoffId
+  pub names : Names
+  pub weight : ℕ
+  pub jobs_put : List Job
+  pub jobs_taken : List Job
+  pub outcomes_put : List Outcome
+  pub outcomes_taken : List Outcome
 
-abbrev pub IsFresh : HandoffId → PassView → Type 0
-IsFresh handoff p = p ≡ fresh_with handoff p.names
+abbrev pub new_pass : HandoffId → Policy → Known → PassView
+new_pass handoff policy directory = record { handoff = handoff; names = names_of policy directory; weight = 1024; jobs_put = []; jobs_taken = []; outcomes_put = []; outcomes_taken = [] }
 
--- so many passes were split off
-abbrev pub lighter : PassView → ℕ → PassView
-lighter p n = record p { weight = p.weight - n }
+abbrev pub with_job_put : PassView → Job → PassView
+with_job_put p job = record p { jobs_put = p.jobs_put ++ job ∷ [] }
 
--- the same pass with more put and taken
-abbrev pub gaining : PassView → List Job → List Job → List Outcome → List Outcome → PassView
-gaining p jobs_put jobs_taken outcomes_put outcomes_taken = record p {
-  jobs_put = p.jobs_put ++ jobs_put;
-  jobs_taken = p.jobs_taken ++ jobs_taken;
-  outcomes_put = p.outcomes_put ++ outcomes_put;
-  outcomes_taken = p.outcomes_taken ++ outcomes_taken;
+abbrev pub with_job_taken : PassView → Job → PassView
+with_job_taken p job = record p { jobs_taken = p.jobs_taken ++ job ∷ [] }
+
+abbrev pub with_outcome_put : PassView → Outcome → PassView
+with_outcome_put p outcome = record p { outcomes_put = p.outcomes_put ++ outcome ∷ [] }
+
+abbrev pub with_outcome_taken : PassView → Outcome → PassView
+with_outcome_taken p outcome = record p { outcomes_taken = p.outcomes_taken ++ outcome ∷ [] }
+
+-- a split moves 1 of the weight to a new pass of the same handoff and names
+abbrev pub after_split : PassView → PassView
+after_split p = record p { weight = p.weight - 1 }
+
+abbrev pub split_off : PassView → PassView
+split_off p = record { handoff = p.handoff; names = p.names; weight = 1; jobs_put = []; jobs_taken = []; outcomes_put = []; outcomes_taken = [] }
+
+-- a join adds the weights and puts the lists together, the joined ones last
+abbrev pub with_joined : PassView → PassView → PassView
+with_joined p q = record p {
+  weight = p.weight + q.weight;
+  jobs_put = p.jobs_put ++ q.jobs_put;
+  jobs_taken = p.jobs_taken ++ q.jobs_taken;
+  outcomes_put = p.outcomes_put ++ q.outcomes_put;
+  outcomes_taken = p.outcomes_taken ++ q.outcomes_taken;
 }
+
+-- it is the one pass of its handoff
+abbrev pub IsWhole : PassView → Type 0
+IsWhole p = p.weight ≡ 1024
+
+-- as often as they were put, the messages are those taken and those left, at most 256
+abbrev pub JobsLeft : PassView → List Job → Type 0
+JobsLeft p left = IsPermutation p.jobs_put (p.jobs_taken ++ left) × (length left ≤ 256)
+
+abbrev pub OutcomesLeft : PassView → List Outcome → Type 0
+OutcomesLeft p left = IsPermutation p.outcomes_put (p.outcomes_taken ++ left) × (length left ≤ 256)
+
+-- nothing is left in either queue
+abbrev pub IsEmpty : PassView → Type 0
+IsEmpty p = JobsLeft p [] × OutcomesLeft p []

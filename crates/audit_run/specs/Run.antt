@@ -1,18 +1,18 @@
 -- What a run asks for, and what it leaves. Only the bodies' proofs need these words.
 use Rattle.std.specs.Prelude.{◌≡◌, ℕ, ◌+◌, ◌≤◌, List, [], All, Option, map, vec_len, vec_capacity}
-use Rattle.audit_device.specs.Feeding.{Ahead}
-use Rattle.audit_handoff.specs.declared.message.Job.{Job}
-use Rattle.audit_handoff.specs.declared.message.Names.{Names}
-use Rattle.audit_handoff.specs.declared.message.Outcome.{Outcome}
-use Rattle.audit_handoff.specs.Passes.{HandoffId}
+use Rattle.audit_files.specs.Feeding.{Ahead}
+use Rattle.audit_run.specs.declared.message.Job.{Job}
+use Rattle.audit_run.specs.declared.message.Names.{Names}
+use Rattle.audit_run.specs.declared.message.Outcome.{Outcome}
+use Rattle.audit_run.specs.Passes.{HandoffId}
 use Rattle.audit_run.specs.declared.crew.Crew.{Crew}
 use Rattle.audit_run.specs.declared.crew.Ended.{Ended}
 use Rattle.audit_run.specs.Gathered.{Gathers}
-use Rattle.audit_outcome.specs.Parts.{Stated, fault_in, run_jobs}
-use Rattle.audit_run.specs.Passes.{IsFresh, fresh}
+use Rattle.audit_run.specs.Parts.{Stated, fault_in, run_jobs}
+use Rattle.audit_run.specs.FreshPasses.{IsFresh, fresh}
 use Rattle.audit_run.specs.Work.{AreParts, after_run}
 use Rattle.sudo_match.specs.Known.{Known}
-use Rattle.sudo_tree.specs.declared.policy.Policy.{Policy}
+use Rattle.sudo_grammar.specs.declared.policy.Policy.{Policy}
 
 -- each thread of so many sources and of the workers has a pass of the handoff, and there is room for what they leave
 pub record IsReady (handoff : HandoffId) (policy : Policy) (directory : Known) (sources : ℕ) (crew : Crew) : Type 0 where

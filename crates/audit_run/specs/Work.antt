@@ -1,16 +1,16 @@
 -- What the threads of an audit do with their passes. Only the bodies' proofs need these words.
 use Rattle.std.specs.Prelude.{◌≡◌, ℕ, ◌+◌, List, ◌++◌, Option, map}
 use Rattle.std.specs.List.{AllZip}
-use Rattle.audit_device.specs.Feeding.{Ahead}
+use Rattle.audit_files.specs.Feeding.{Ahead}
 use Rattle.audit_files.specs.Files.{States}
 use Rattle.audit_files.specs.Requests.{sent as sent_by}
-use Rattle.audit_handoff.specs.declared.message.Job.{Job}
-use Rattle.audit_handoff.specs.declared.message.Names.{Names}
-use Rattle.audit_handoff.specs.declared.message.Outcome.{Outcome}
-use Rattle.audit_handoff.specs.Names.{answer}
-use Rattle.audit_handoff.specs.Passes.{PassView}
+use Rattle.audit_run.specs.declared.message.Job.{Job}
+use Rattle.audit_run.specs.declared.message.Names.{Names}
+use Rattle.audit_run.specs.declared.message.Outcome.{Outcome}
+use Rattle.audit_run.specs.Names.{answer}
+use Rattle.audit_run.specs.Passes.{PassView}
 use Rattle.audit_run.specs.declared.readers.Sent.{Sent}
-use Rattle.audit_outcome.specs.Parts.{Stated, fault_in, put_of}
+use Rattle.audit_run.specs.Parts.{Stated, fault_in, put_of}
 
 -- the jobs were taken, and what answers them was put
 abbrev pub worked : Names → PassView → List Job → PassView

@@ -2,12 +2,12 @@
 ghost use Rattle.std.specs.Prelude.{◌≡◌, ◌+◌, ◌<◌, ◌≤◌, [], Ok, Err, ℕ, List, IfOk, IfErr, OnOk, None, Some, Option, MatchOption, map, slice_get, vec_len, vec_capacity, length, IsTrue, IfSome, IfNone, ◌↔◌};
 ghost use Rattle.std.specs.List.{zip};
 ghost use Rattle.audit_files.specs.declared.fault.FileFault.TheVariants.{Memory};
-ghost use Rattle.audit_handoff.specs.Names.{names_of};
-ghost use Rattle.audit_handoff.specs.Passes.{IsEmpty, IsWhole};
+ghost use Rattle.audit_run.specs.Names.{names_of};
+ghost use Rattle.audit_run.specs.Passes.{IsEmpty, IsWhole};
 ghost use Rattle.audit_run.specs.Audited.{Audited, IsFirstFault, IsOfFile, NoneRefused, most_parts};
 ghost use Rattle.audit_run.specs.Concluded.{Answers};
 ghost use Rattle.audit_run.specs.Gathered.{comes_of};
-ghost use Rattle.audit_outcome.specs.Roster.{part_at};
+ghost use Rattle.audit_run.specs.Roster.{part_at};
 ghost use Rattle.audit_run.specs.Run.{HasRun, IsReady};
 ghost use Rattle.audit_run.specs.Work.{told_by};
 ghost use Rattle.audit_run.specs.declared.fault.AuditFault.TheVariants.{TooManyParts};
@@ -22,10 +22,9 @@ use crate::readers::{ReaderHandle, join_readers, start_readers};
 use crate::roster::{Entered, enter};
 use crate::source::{Part, Source};
 use crate::workers::{join_workers, start_workers};
+use crate::{Handoff, Pass};
 use audit_collect::{CollectFault, Refused, Report};
-use audit_device::Feed;
-use audit_files::FileFault;
-use audit_handoff::{Handoff, Pass};
+use audit_files::{Feed, FileFault};
 use std::alloc::Global;
 use std::sync::Wait;
 use std::thread;
@@ -55,7 +54,8 @@ fn run<'s, 'e: 's, R: Threads + Wait + Sync, F: Feed + Drop + Send + 'e, G: Gate
     requires ready { IsReady handoff.now policy.now directory.now (vec_len parts) crew }
     requires index { Indexes policy.now index.now }
     requires room { (vec_len readers ≡ 0) × (vec_len parts ≤ vec_capacity readers) }
-    ensures { IsTrue result.all_started → HasRun (names_of policy.now directory.now) (map (λ p. told_by p.owner (F.ahead p.reader)) parts.items) (vec_len parts) crew result }
+    ensures { IsTrue result.all_started → HasRun (names_of policy.now directory.now)
+        (map (λ p. told_by p.owner (F.ahead p.reader)) parts.items) (vec_len parts) crew result }
 {
     let Crew {
         mut pass,
@@ -120,7 +120,8 @@ fn run_scoped<R: Threads + Wait + Sync, F: Feed + Drop + Send, G: Gate + Sync>(
     requires ready { IsReady handoff.now policy.now directory.now (vec_len parts) crew }
     requires index { Indexes policy.now index.now }
     requires room { (vec_len readers ≡ 0) × (vec_len parts ≤ vec_capacity readers) }
-    ensures { IsTrue result.all_started → HasRun (names_of policy.now directory.now) (map (λ p. told_by p.owner (F.ahead p.reader)) parts.items) (vec_len parts) crew result }
+    ensures { IsTrue result.all_started → HasRun (names_of policy.now directory.now)
+        (map (λ p. told_by p.owner (F.ahead p.reader)) parts.items) (vec_len parts) crew result }
 {
     thread::scope(
         thread::scope_env(),
@@ -129,7 +130,10 @@ fn run_scoped<R: Threads + Wait + Sync, F: Feed + Drop + Send, G: Gate + Sync>(
             requires ready { IsReady handoff.now policy.now directory.now (vec_len parts) crew }
             requires index { Indexes policy.now index.now }
             requires room { (vec_len readers ≡ 0) × (vec_len parts ≤ vec_capacity readers) }
-            ensures { IsTrue result.all_started → HasRun (names_of policy.entry.now directory.entry.now) (map (λ p. told_by p.owner (F.ahead p.reader)) parts.items) (vec_len parts) crew result }
+            ensures { IsTrue result.all_started
+                → HasRun (names_of policy.entry.now directory.entry.now)
+                (map (λ p. told_by p.owner (F.ahead p.reader)) parts.items)
+                (vec_len parts) crew result }
         {
             run(
                 alloc, rt, scope, policy, index, directory, handoff, gate, crew, parts, readers,
@@ -152,7 +156,8 @@ fn wants_memory(faults: &[Option<FileFault>]) -> bool
 
 // The first source that is refused.
 fn first_fault(faults: &[Option<FileFault>]) -> Option<(usize, FileFault)>
-    ensures { MatchOption result (NoneRefused faults.now) (λ first. IsFirstFault faults.now first.0 first.1) }
+    ensures { MatchOption result (NoneRefused faults.now)
+        (λ first. IsFirstFault faults.now first.0 first.1) }
 {
     for place in 0..faults.len() {
         if let Some(fault) = faults[place] {
@@ -183,7 +188,8 @@ fn conclude(
     gathering: Gathering,
 ) -> Result<Report, AuditFault>
     requires { (length faults.now ≡ vec_len names) × (vec_len names ≤ 256) }
-    ensures { Answers names.items faults.now (comes_of gathering.collector gathering.refused []) result }
+    ensures { Answers names.items faults.now (comes_of gathering.collector gathering.refused [])
+        result }
 {
     let mut names = names;
     if wants_memory(faults) || matches!(gathering.refused, Some(Refused::Memory)) {
@@ -229,10 +235,12 @@ pub fn audit<R: Threads + Wait + Sync, F: Feed + Drop + Send, G: Gate + Sync>(
     workers: u32,
     gate: &G,
 ) -> Result<Report, AuditFault>
-    requires pass { IsWhole pass.old × IsEmpty pass.old × (pass.old.handoff ≡ handoff.now) × (pass.old.names ≡ names_of policy.now directory.now) }
+    requires pass { IsWhole pass.old × IsEmpty pass.old × (pass.old.handoff ≡ handoff.now)
+        × (pass.old.names ≡ names_of policy.now directory.now) }
     requires workers { (1 ≤ workers) × (workers ≤ 16) }
     ensures parts { (result ≡ Err TooManyParts) ↔ (most_parts < vec_len sources) }
-    ensures outcome { Audited (names_of policy.now directory.now) (map (λ s. s.name) sources.items) (map (λ s. F.ahead s.reader) sources.items) workers pass.old pass.new result }
+    ensures outcome { Audited (names_of policy.now directory.now) (map (λ s. s.name) sources.items)
+        (map (λ s. F.ahead s.reader) sources.items) workers pass.old pass.new result }
 {
     if sources.len() > MOST_PARTS {
         return Err(AuditFault::TooManyParts);

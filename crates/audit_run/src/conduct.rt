@@ -1,17 +1,17 @@
 //! The caller's part while the threads run: takes outcomes, offers arrivals, stops the workers.
 ghost use Rattle.std.specs.Prelude.{◌≡◌, [], ◌∷◌, false, replicate};
-ghost use Rattle.audit_handoff.specs.Names.{names_of};
-ghost use Rattle.audit_handoff.specs.Passes.{IsWhole, OutcomesLeft, JobsLeft};
-ghost use Rattle.audit_handoff.specs.declared.message.Job.TheVariants as job;
-ghost use Rattle.audit_handoff.specs.declared.message.Outcome.TheVariants.{Arrived};
+ghost use Rattle.audit_run.specs.Names.{names_of};
+ghost use Rattle.audit_run.specs.Passes.{IsWhole, OutcomesLeft, JobsLeft};
+ghost use Rattle.audit_run.specs.declared.message.Job.TheVariants as job;
+ghost use Rattle.audit_run.specs.declared.message.Outcome.TheVariants.{Arrived};
 ghost use Rattle.audit_run.specs.Gathered.{Conducts, Drains, Gathers, HasConducted, HasSameCounts, running_of};
 ghost use Rattle.sudo_verdict.specs.Postings.{Indexes};
 
 use crate::gate::Gate;
 use crate::gather::{Awaited, Gathering};
 use crate::worker::answer_job;
+use crate::{Handoff, Job, Outcome, Pass};
 use audit_collect::Arrival;
-use audit_handoff::{Handoff, Job, Outcome, Pass};
 use std::sync::Wait;
 use std::thread;
 use sudo_match::Directory;
@@ -41,7 +41,8 @@ fn gather_one<R: Wait>(
 ) -> bool
     requires { pass.old.handoff ≡ handoff.now }
     ensures taken { Conducts pass.old gathering.old [] pass.new gathering.new }
-    ensures left { IsWhole pass.old → result ≡ false → (pass.new ≡ pass.old) × OutcomesLeft pass.old [] }
+    ensures left { IsWhole pass.old → result ≡ false
+        → (pass.new ≡ pass.old) × OutcomesLeft pass.old [] }
 {
     match handoff.take_outcome(rt, pass) {
         None => return false,
@@ -123,7 +124,8 @@ pub fn conduct<R: Wait>(
     workers: usize,
 )
     requires { pass.old.handoff ≡ handoff.now }
-    ensures taken { HasConducted pass.old gathering.old (replicate workers job.Stop) pass.new gathering.new }
+    ensures taken { HasConducted pass.old gathering.old
+        (replicate workers job.Stop) pass.new gathering.new }
     ensures ended { (gathering.new.sources_running ≡ 0) × (gathering.new.workers_running ≡ 0) }
 {
     gathering.sources_running = sources;
@@ -161,7 +163,8 @@ pub fn drain<R: Wait, G: Gate>(
     requires pass { pass.old.handoff ≡ handoff.now }
     requires names { pass.old.names ≡ names_of policy.now directory.now }
     requires index { Indexes policy.now index.now }
-    ensures taken { Drains (names_of policy.now directory.now) pass.old gathering.old pass.new gathering.new }
+    ensures taken { Drains (names_of policy.now directory.now) pass.old gathering.old pass.new
+        gathering.new }
     ensures left { IsWhole pass.old → JobsLeft pass.new [] × OutcomesLeft pass.new [] }
 {
     for _ in rt.forever() {

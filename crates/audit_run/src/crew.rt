@@ -1,15 +1,15 @@
 //! What the threads of a run need, made before any of them starts.
 ghost use Rattle.std.specs.Prelude.{◌≡◌, ◌+◌, ◌<◌, None, All, IfOk, vec_len};
-ghost use Rattle.audit_handoff.specs.Names.{names_of};
-ghost use Rattle.audit_handoff.specs.Passes.{split_off};
-ghost use Rattle.audit_run.specs.Passes.{lighter};
+ghost use Rattle.audit_run.specs.Names.{names_of};
+ghost use Rattle.audit_run.specs.Passes.{split_off};
+ghost use Rattle.audit_run.specs.FreshPasses.{lighter};
 ghost use Rattle.audit_run.specs.Run.{IsReady};
 
 use crate::gather::Gathering;
 use crate::workers::WorkerHandle;
+use crate::{Handoff, Pass};
 use audit_collect::Collector;
 use audit_files::FileFault;
-use audit_handoff::{Handoff, Pass};
 use std::alloc::{AllocError, Global};
 use std::sync::Wait;
 use sudo_match::Directory;
@@ -45,7 +45,8 @@ fn split_passes<R: Wait>(
 ) -> Result<Vec<Pass>, AllocError>
     requires pass { pass.old.handoff ≡ handoff.now }
     requires weight { count < pass.old.weight }
-    ensures { IfOk result (λ v. (vec_len v ≡ count) × All (λ p. p ≡ split_off pass.old) v.items × (pass.new ≡ lighter pass.old count)) }
+    ensures { IfOk result (λ v. (vec_len v ≡ count) × All (λ p. p ≡ split_off pass.old) v.items
+        × (pass.new ≡ lighter pass.old count)) }
 {
     let mut passes = Vec::with_capacity(alloc, count)?;
     for _place in 0..count {
@@ -66,12 +67,16 @@ pub fn muster<R: Wait>(
     sources: usize,
     workers: usize,
 ) -> Result<Crew, AllocError>
-    requires pass { (pass.old.handoff ≡ handoff.now) × (pass.old.names ≡ names_of policy.now directory.now) }
+    requires pass { (pass.old.handoff ≡ handoff.now)
+        × (pass.old.names ≡ names_of policy.now directory.now) }
     requires weight { (sources + workers) + 1 < pass.old.weight }
-    ensures ready { IfOk result (λ crew. IsReady handoff.now policy.now directory.now sources crew) }
+    ensures ready { IfOk result (λ crew. IsReady handoff.now policy.now directory.now sources
+        crew) }
     ensures workers { IfOk result (λ crew. vec_len crew.worker_passes ≡ workers) }
-    ensures gathering { IfOk result (λ crew. (crew.gathering.collector ≡ collector) × (crew.gathering.refused ≡ None)) }
-    ensures passes { IfOk result (λ crew. (crew.pass ≡ split_off pass.old) × (pass.new ≡ lighter pass.old ((sources + workers) + 1))) }
+    ensures gathering { IfOk result (λ crew. (crew.gathering.collector ≡ collector)
+        × (crew.gathering.refused ≡ None)) }
+    ensures passes { IfOk result (λ crew. (crew.pass ≡ split_off pass.old)
+        × (pass.new ≡ lighter pass.old ((sources + workers) + 1))) }
 {
     let source_passes = split_passes(alloc, rt, handoff, pass, sources)?;
     let worker_passes = split_passes(alloc, rt, handoff, pass, workers)?;

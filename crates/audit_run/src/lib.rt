@@ -1,4 +1,8 @@
 //! Audits requests against a policy with several threads: one for each source of requests, and workers that judge them.
+//!
+//! Two queues join the threads, and each thread uses them with a pass: senders put jobs, workers take them and put outcomes,
+//! and the caller takes those. What a pass has put and taken is known to contracts, so that no message is lost, doubled or
+//! invented between threads, whatever order they run in. `laws` tie what has arrived to what the sources state.
 #![tactic(auto)]
 
 mod auditing;
@@ -7,8 +11,12 @@ mod crew;
 mod fault;
 mod gate;
 mod gather;
+mod handoff;
+pub mod laws;
+mod message;
 mod readers;
 mod roster;
+mod rule;
 mod sender;
 mod source;
 mod worker;
@@ -17,11 +25,13 @@ mod workers;
 pub use audit_collect::{
     Answer, Arrival, CollectFault, Refused, Report, RosterFault, SenderReport, Unfinished,
 };
-pub use audit_device::{Device, Failed, Feed, Script, Sink, WriteFault, write_all_of};
-pub use audit_files::{FileFault, Requests, read_hosts, read_requests, read_users};
-pub use audit_handoff::{Handoff, Job, Outcome, Pass};
-pub use audit_report::report_text;
+pub use audit_files::{
+    Device, Failed, Feed, FileFault, Requests, Script, Sink, WriteFault, read_hosts, read_requests,
+    read_users, report_text, write_all_of,
+};
 pub use auditing::audit;
 pub use fault::AuditFault;
 pub use gate::{Gate, Open};
+pub use handoff::{Handoff, Pass};
+pub use message::{Job, Names, Outcome};
 pub use source::Source;

@@ -1,14 +1,13 @@
 //! Starts a thread for each source of requests, and joins them.
 ghost use Rattle.std.specs.Prelude.{◌≡◌, [], ℕ, ◌+◌, ◌≤◌, List, All, IfSome, map, vec_len, vec_capacity, IsTrue};
-ghost use Rattle.audit_outcome.specs.Parts.{Stated, fault_in, put_by_sources};
-ghost use Rattle.audit_run.specs.Passes.{IsFresh};
+ghost use Rattle.audit_run.specs.Parts.{Stated, fault_in, put_by_sources};
+ghost use Rattle.audit_run.specs.FreshPasses.{IsFresh};
 ghost use Rattle.audit_run.specs.Work.{AreParts, HasSent, joined_sources, told_by};
 
 use crate::sender::{put_job, send};
 use crate::source::Part;
-use audit_device::Feed;
-use audit_files::{FileFault, read_requests};
-use audit_handoff::{Handoff, Job, Pass};
+use crate::{Handoff, Job, Pass};
+use audit_files::{Feed, FileFault, read_requests};
 use std::alloc::Global;
 use std::snapshot::Snapshot;
 use std::sync::Wait;
@@ -72,7 +71,8 @@ fn start_reader<'s, 'e: 's, R: Threads + Wait + Sync, F: Feed + Drop + Send + 'e
 ) -> Option<ReaderHandle<F>>
     requires { pass.handoff ≡ handoff.now }
     ensures before { IfSome result (λ h. h.promise.before.value ≡ pass) }
-    ensures told { IfSome result (λ h. told_by h.promise.owner (F.ahead h.promise.reader.value) ≡ told_by part.owner (F.ahead part.reader)) }
+    ensures told { IfSome result (λ h. told_by h.promise.owner (F.ahead h.promise.reader.value)
+        ≡ told_by part.owner (F.ahead part.reader)) }
 {
     let promise = SourceRan {
         before: Snapshot::of(&pass),
@@ -96,11 +96,14 @@ pub fn start_readers<'s, 'e: 's, R: Threads + Wait + Sync, F: Feed + Drop + Send
     parts: Vec<Part<F>>,
     handles: &mut Vec<ReaderHandle<F>>,
 ) -> bool
-    requires passes { All (λ p. IsFresh handoff.now p) passes.items × (vec_len passes ≡ vec_len parts) }
+    requires passes { All (λ p. IsFresh handoff.now p) passes.items
+        × (vec_len passes ≡ vec_len parts) }
     requires room { (vec_len parts ≤ vec_capacity handles.old) × (vec_len handles.old ≡ 0) }
     ensures fresh { All (λ h. IsFresh handoff.now h.promise.before.value) handles.new.items }
     ensures few { vec_len handles.new ≤ vec_len parts }
-    ensures all { IsTrue result → map (λ h. told_by h.promise.owner (F.ahead h.promise.reader.value)) handles.new.items ≡ map (λ p. told_by p.owner (F.ahead p.reader)) parts.items }
+    ensures all { IsTrue result → map (λ h. told_by h.promise.owner
+        (F.ahead h.promise.reader.value)) handles.new.items
+        ≡ map (λ p. told_by p.owner (F.ahead p.reader)) parts.items }
 {
     for part in parts {
         let Some(pass) = passes.pop() else {
@@ -128,8 +131,10 @@ pub fn join_readers<R: Threads + Wait, F: Feed>(
     requires fresh { All (λ h. IsFresh handoff.now h.promise.before.value) handles.items }
     requires empty { faults.old.items ≡ [] }
     requires room { vec_len faults.old + vec_len handles ≤ vec_capacity faults.old }
-    ensures { (parts : List (ℕ × Stated)) × AreParts (map (λ h. told_by h.promise.owner (F.ahead h.promise.reader.value)) handles.items) parts
-        × (pass.new ≡ joined_sources pass.old (vec_len handles) (put_by_sources parts)) × (faults.new.items ≡ map (λ part. fault_in part.1) parts) }
+    ensures { (parts : List (ℕ × Stated)) × AreParts
+        (map (λ h. told_by h.promise.owner (F.ahead h.promise.reader.value)) handles.items) parts
+        × (pass.new ≡ joined_sources pass.old (vec_len handles) (put_by_sources parts))
+        × (faults.new.items ≡ map (λ part. fault_in part.1) parts) }
 {
     for handle in handles {
         let Sent { pass: other, fault } = handle.join(rt);

@@ -4,13 +4,13 @@ ghost use Rattle.std.specs.List.{zip};
 ghost use Rattle.audit_collect.specs.Held.{start};
 ghost use Rattle.audit_collect.specs.Roster.{AreDistinct, IsRoster};
 ghost use Rattle.audit_run.specs.Concluded.{RefusesSenders};
-ghost use Rattle.audit_outcome.specs.Roster.{owners, place_of, places_in, roster};
+ghost use Rattle.audit_run.specs.Roster.{owners, place_of, places_in, roster};
 ghost use Rattle.audit_run.specs.Work.{told_by};
 
 use crate::fault::AuditFault;
 use crate::source::{Part, Source};
 use audit_collect::{CollectFault, Collector, RosterFault};
-use audit_device::Feed;
+use audit_files::Feed;
 use std::alloc::{AllocError, Global};
 use sudo_text::Seq;
 
@@ -21,7 +21,8 @@ fn split_sources<F: Drop>(
 ) -> Result<(Vec<Seq<u8>>, Vec<F>), AllocError>
     ensures names { IfOk result (λ r. r.0.items ≡ map (λ s. s.name) sources.items) }
     ensures readers { IfOk result (λ r. r.1.items ≡ map (λ s. s.reader) sources.items) }
-    ensures lengths { IfOk result (λ r. (vec_len r.0 ≡ vec_len sources) × (vec_len r.1 ≡ vec_len sources)) }
+    ensures lengths { IfOk result (λ r. (vec_len r.0 ≡ vec_len sources)
+        × (vec_len r.1 ≡ vec_len sources)) }
 {
     let mut names = Vec::with_capacity(alloc, sources.len())?;
     let mut readers = Vec::with_capacity(alloc, sources.len())?;
@@ -74,7 +75,8 @@ fn parts_of<F: Feed + Drop>(
     readers: Vec<F>,
 ) -> Result<Vec<Part<F>>, AllocError>
     requires { (length names.now ≡ vec_len readers) × (length roster.now < 2 ^ 32) }
-    ensures parts { IfOk result (λ r. map (λ p. told_by p.owner (F.ahead p.reader)) r.items ≡ zip (places_in roster.now names.now) (map F.ahead readers.items)) }
+    ensures parts { IfOk result (λ r. map (λ p. told_by p.owner (F.ahead p.reader)) r.items
+        ≡ zip (places_in roster.now names.now) (map F.ahead readers.items)) }
     ensures length { IfOk result (λ r. vec_len r ≡ vec_len readers) }
 {
     let mut parts = Vec::with_capacity(alloc, readers.len())?;
@@ -121,9 +123,14 @@ pub fn enter<F: Feed + Drop>(
 ) -> Result<Entered<F>, AuditFault>
     requires { vec_len sources ≤ 256 }
     ensures names { IfOk result (λ e. e.names.items ≡ map (λ s. s.name) sources.items) }
-    ensures parts { IfOk result (λ e. map (λ p. told_by p.owner (F.ahead p.reader)) e.parts.items ≡ zip (owners (map (λ s. s.name) sources.items)) (map (λ s. F.ahead s.reader) sources.items)) }
-    ensures lengths { IfOk result (λ e. (vec_len e.names ≡ vec_len sources) × (vec_len e.parts ≡ vec_len sources)) }
-    ensures collector { IfOk result (λ e. (e.collector ≡ start (roster (map (λ s. s.name) sources.items))) × IsRoster (roster (map (λ s. s.name) sources.items))) }
+    ensures parts { IfOk result (λ e. map (λ p. told_by p.owner (F.ahead p.reader)) e.parts.items
+        ≡ zip (owners (map (λ s. s.name) sources.items))
+        (map (λ s. F.ahead s.reader) sources.items)) }
+    ensures lengths { IfOk result (λ e. (vec_len e.names ≡ vec_len sources)
+        × (vec_len e.parts ≡ vec_len sources)) }
+    ensures collector { IfOk result (λ e. (e.collector
+        ≡ start (roster (map (λ s. s.name) sources.items)))
+        × IsRoster (roster (map (λ s. s.name) sources.items))) }
     ensures err { IfErr result (RefusesSenders (roster (map (λ s. s.name) sources.items))) }
 {
     let (names, readers) = split_sources(alloc, sources)?;

@@ -1,11 +1,11 @@
 //! A sender: puts the jobs of one requests file.
 ghost use Rattle.std.specs.Prelude.{◌≡◌};
-ghost use Rattle.audit_handoff.specs.Passes.{with_job_put};
-ghost use Rattle.audit_outcome.specs.Parts.{jobs_of};
+ghost use Rattle.audit_run.specs.Passes.{with_job_put};
+ghost use Rattle.audit_run.specs.Parts.{jobs_of};
 ghost use Rattle.audit_run.specs.Work.{putting_jobs};
 
+use crate::{Handoff, Job, Pass};
 use audit_files::Requests;
-use audit_handoff::{Handoff, Job, Pass};
 use std::sync::Wait;
 use std::thread;
 

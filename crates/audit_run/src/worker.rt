@@ -1,19 +1,18 @@
 //! A worker: takes jobs and puts what answers them.
 ghost use Rattle.std.specs.Prelude.{◌≡◌, ◌∷◌, ◌++◌, [], List};
-ghost use Rattle.audit_handoff.specs.Names.{names_of, answer, IsRight};
-ghost use Rattle.audit_handoff.specs.Passes.{with_outcome_put};
-ghost use Rattle.audit_handoff.specs.declared.message.Job.{Job};
+ghost use Rattle.audit_run.specs.Names.{names_of, answer, IsRight};
+ghost use Rattle.audit_run.specs.Passes.{with_outcome_put};
+ghost use Rattle.audit_run.specs.declared.message.Job.{Job};
 ghost use Rattle.audit_run.specs.Work.{worked};
 ghost use Rattle.sudo_verdict.specs.Postings.{Indexes};
 
 use crate::gate::Gate;
+use crate::{Handoff, Job, Outcome, Pass};
 use audit_collect::{Answer, Arrival};
-use audit_handoff::{Handoff, Job, Outcome, Pass};
 use std::sync::Wait;
 use std::thread;
-use sudo_match::Directory;
+use sudo_match::{Directory, Request};
 use sudo_policy::Checked;
-use sudo_rows::Request;
 use sudo_verdict::RuleIndex;
 
 /// Puts an outcome, and tries again while the queue is full.
@@ -49,7 +48,8 @@ fn answer_request<R: Wait, G: Gate>(
     requires pass { pass.old.handoff ≡ handoff.now }
     requires names { pass.old.names ≡ names_of policy.now directory.now }
     requires index { Indexes policy.now index.now }
-    ensures { pass.new ≡ with_outcome_put pass.old (answer (names_of policy.now directory.now) (Job.Ask sender request)) }
+    ensures { pass.new ≡ with_outcome_put pass.old
+        (answer (names_of policy.now directory.now) (Job.Ask sender request)) }
 {
     let number = request.number;
     gate.before(sender, number);
@@ -77,7 +77,8 @@ pub fn answer_job<R: Wait, G: Gate>(
     requires pass { pass.old.handoff ≡ handoff.now }
     requires names { pass.old.names ≡ names_of policy.now directory.now }
     requires index { Indexes policy.now index.now }
-    ensures { pass.new ≡ with_outcome_put pass.old (answer (names_of policy.now directory.now) job) }
+    ensures { pass.new ≡ with_outcome_put pass.old
+        (answer (names_of policy.now directory.now) job) }
 {
     let outcome = match job {
         Job::Ask { sender, request } => {
@@ -105,7 +106,8 @@ pub fn work<R: Wait, G: Gate>(
     requires pass { pass.handoff ≡ handoff.now }
     requires names { pass.names ≡ names_of policy.now directory.now }
     requires index { Indexes policy.now index.now }
-    ensures { (jobs : List Job) × (result ≡ worked (names_of policy.now directory.now) pass (jobs ++ Job.Stop ∷ [])) }
+    ensures { (jobs : List Job) × (result ≡ worked (names_of policy.now directory.now) pass
+        (jobs ++ Job.Stop ∷ [])) }
 {
     for _ in rt.forever() {
         match handoff.take_job(rt, &mut pass) {

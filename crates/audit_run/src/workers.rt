@@ -1,14 +1,14 @@
 //! Starts the workers of an audit, and joins them.
 ghost use Rattle.std.specs.Prelude.{◌≡◌, ◌+◌, ◌≤◌, List, All, IfSome, vec_len, vec_capacity, IsTrue};
-ghost use Rattle.audit_handoff.specs.Names.{names_of};
-ghost use Rattle.audit_handoff.specs.declared.message.Job.{Job};
-ghost use Rattle.audit_run.specs.Passes.{fresh};
+ghost use Rattle.audit_run.specs.Names.{names_of};
+ghost use Rattle.audit_run.specs.declared.message.Job.{Job};
+ghost use Rattle.audit_run.specs.FreshPasses.{fresh};
 ghost use Rattle.audit_run.specs.Work.{HasWorked, joined_workers};
 ghost use Rattle.sudo_verdict.specs.Postings.{Indexes};
 
 use crate::gate::Gate;
 use crate::worker::work;
-use audit_handoff::{Handoff, Pass};
+use crate::{Handoff, Pass};
 use std::snapshot::Snapshot;
 use std::sync::Wait;
 use std::thread::{Promise, PromisedHandle, Scope, Threads};
@@ -68,10 +68,12 @@ pub fn start_workers<'s, 'e: 's, R: Threads + Wait + Sync, G: Gate + Sync>(
     handles: &mut Vec<WorkerHandle>,
 ) -> bool
     requires passes { All (λ p. p ≡ fresh handoff.now policy.now directory.now) passes.items }
-    requires fresh { All (λ h. h.promise.before.value ≡ fresh handoff.now policy.now directory.now) handles.old.items }
+    requires fresh { All (λ h. h.promise.before.value
+        ≡ fresh handoff.now policy.now directory.now) handles.old.items }
     requires index { Indexes policy.now index.now }
     requires room { vec_len handles.old + vec_len passes ≤ vec_capacity handles.old }
-    ensures fresh { All (λ h. h.promise.before.value ≡ fresh handoff.now policy.now directory.now) handles.new.items }
+    ensures fresh { All (λ h. h.promise.before.value
+        ≡ fresh handoff.now policy.now directory.now) handles.new.items }
     ensures all { IsTrue result → vec_len handles.new ≡ vec_len handles.old + vec_len passes }
 {
     for pass in passes {
@@ -96,8 +98,10 @@ pub fn join_workers<R: Threads + Wait>(
     handles: Vec<WorkerHandle>,
 )
     requires pass { pass.old.handoff ≡ handoff.now }
-    requires fresh { All (λ h. h.promise.before.value ≡ fresh handoff.now policy.now directory.now) handles.items }
-    ensures { (jobs : List Job) × (pass.new ≡ joined_workers (names_of policy.now directory.now) pass.old (vec_len handles) jobs) }
+    requires fresh { All (λ h. h.promise.before.value
+        ≡ fresh handoff.now policy.now directory.now) handles.items }
+    ensures { (jobs : List Job) × (pass.new ≡ joined_workers
+        (names_of policy.now directory.now) pass.old (vec_len handles) jobs) }
 {
     for handle in handles {
         let other = handle.join(rt);

@@ -7,9 +7,8 @@ use std::sync::Wait;
 use std::test::Fail;
 use std::thread::Threads;
 use sudo_load::{Supply, load};
-use sudo_match::Directory;
+use sudo_match::{Directory, Group, Interface, Machine, Person};
 use sudo_policy::{Checked, check};
-use sudo_rows::{Group, Interface, Machine, Person};
 use sudo_text::Seq;
 
 const HEADER: &[u8] = b"number,user,host,runas_user,runas_group,command,arguments\n";

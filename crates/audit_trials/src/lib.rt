@@ -1,14 +1,25 @@
-//! Tests of whole audits, from the bytes of requests files to the text of the report.
+//! Tests of whole audits, from the bytes of requests files to the text of the report; and of what an audit stands on: readers
+//! and writers, the CSV files, the collector in every order of arrival.
 #![tactic(auto)]
 
 #[cfg(test)]
+mod collector_trials;
+#[cfg(test)]
+mod device_trials;
+#[cfg(test)]
+mod file_trials;
+#[cfg(test)]
 mod fixtures;
+#[cfg(test)]
+mod order_trials;
 #[cfg(test)]
 mod queue_trials;
 #[cfg(test)]
 mod reader_trials;
 #[cfg(test)]
 mod refusal_trials;
+#[cfg(test)]
+mod report_trials;
 #[cfg(test)]
 mod rows;
 #[cfg(test)]

@@ -2,7 +2,7 @@
 use Rattle.std.proofs.Common.{◌≡◌, List, Some, codes, sym, ◌∙◌}
 use Rattle.std.specs.Prelude.{◌≢◌}
 use Rattle.clap.specs.Words.{Row, Text, first_of}
-use Rattle.sudo_tree.specs.declared.kind.Kind.{Kind}
+use Rattle.sudo_grammar.specs.declared.kind.Kind.{Kind}
 use Rattle.audit_words.specs.declared.request.Asked.TheVariants.{Check, Expand, Audit}
 use Rattle.audit_words.specs.Words.{AsksNothing, kind_word}
 

@@ -1,6 +1,6 @@
 //! What the command line asks for.
 
-use sudo_tree::Kind;
+use sudo_grammar::Kind;
 
 /// What the command line asks for, its texts as given.
 #[derive(Debug, Drop)]

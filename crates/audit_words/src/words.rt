@@ -10,7 +10,7 @@ use clap::{ArgMatches, Error};
 use std::alloc::{AllocError, Global};
 use std::convert::AsStr;
 use std::io::ErrorKind as ReadKind;
-use sudo_tree::Kind;
+use sudo_grammar::Kind;
 
 /// The kind that a word names.
 fn kind_of(word: &str) -> Option<Kind>
@@ -35,7 +35,8 @@ fn kind_of(word: &str) -> Option<Kind>
 /// The value of an argument.
 #[tactic(auto, using(crate::proofs::RowLemmas::row_lemmas))]
 fn value<'a>(given: &ArgMatches<'a>, id: &str) -> Result<&'a str, Error>
-    ensures value { IfOk result (λ text. first_of id.now (rows_of (found_of given.now)) ≡ Some text.now) }
+    ensures value { IfOk result (λ text. first_of id.now (rows_of (found_of given.now))
+        ≡ Some text.now) }
     ensures memory { IfErr result (λ e. error_kind e ≡ ErrorKind.OutOfMemory) }
 {
     match given.get_str(id) {
@@ -47,7 +48,8 @@ fn value<'a>(given: &ArgMatches<'a>, id: &str) -> Result<&'a str, Error>
 /// The values of an argument, which may be none.
 #[tactic(auto, using(crate::proofs::RowLemmas::row_lemmas))]
 fn values<'a>(alloc: Global, given: &ArgMatches<'a>, id: &str) -> Result<Vec<&'a str>, Error>
-    ensures values { IfOk result (λ v. unwrap_or (all_of id.now (rows_of (found_of given.now))) [] ≡ map (λ s. s.now) v.items) }
+    ensures values { IfOk result (λ v. unwrap_or (all_of id.now (rows_of (found_of given.now))) []
+        ≡ map (λ s. s.now) v.items) }
     ensures memory { IfErr result (λ e. error_kind e ≡ ErrorKind.OutOfMemory) }
 {
     match given.get_strs(id) {
@@ -75,9 +77,11 @@ fn asked_by<'a>(
     name: &str,
     given: &ArgMatches<'a>,
 ) -> Result<Option<Asked<'a>>, Error>
-    ensures stated { IfOk result (λ o. IfSome o (λ a. States a (name.now, rows_of (found_of given.now)))) }
+    ensures stated { IfOk result (λ o. IfSome o
+        (λ a. States a (name.now, rows_of (found_of given.now)))) }
     ensures workers { IfOk result (λ o. IfSome o WorkersFit) }
-    ensures none { IfOk result (λ o. o ≡ None → AsksNothing (name.now, rows_of (found_of given.now))) }
+    ensures none { IfOk result (λ o. o ≡ None
+        → AsksNothing (name.now, rows_of (found_of given.now))) }
     ensures memory { IfErr result (λ e. error_kind e ≡ ErrorKind.OutOfMemory) }
 {
     if name == "check" {
@@ -114,7 +118,8 @@ fn asked_by<'a>(
 /// The error is `clap`'s. Memory aside, it comes exactly where `clap` does not take the words (they are no such command,
 /// or ask for help) or KIND is none of the four.
 pub fn asked<'a, S: AsStr>(alloc: Global, words: &'a [S]) -> Result<Asked<'a>, Error>
-    ensures stated { IfOk result (λ a. (p : Text × List Row) × (subcommand_of program_app (map S.text words.entry.now) ≡ Some p) × States a p) }
+    ensures stated { IfOk result (λ a. (p : Text × List Row)
+        × (subcommand_of program_app (map S.text words.entry.now) ≡ Some p) × States a p) }
     ensures workers { IfOk result WorkersFit }
     ensures refused { IfErr result (λ e. IsRefusal (map S.text words.entry.now) e) }
 {

@@ -3,9 +3,9 @@
 use crate::rows::wrong_rows;
 use std::alloc::{AllocError, Global};
 use std::test::Fail;
+use sudo_grammar::{Entry, ParseFault};
 use sudo_parser::parse;
 use sudo_text::lines;
-use sudo_tree::{Entry, ParseFault};
 
 /// The entries of a file, or its fault.
 fn read(alloc: Global, text: &str) -> Result<Vec<Entry>, ParseFault> {

@@ -10,6 +10,8 @@ mod grammar_trials;
 #[cfg(test)]
 mod include_trials;
 #[cfg(test)]
+mod parser_trials;
+#[cfg(test)]
 mod rows;
 #[cfg(test)]
 mod shown;

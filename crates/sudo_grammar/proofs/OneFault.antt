@@ -1,7 +1,7 @@
 -- A line has one fault or is one entry; and a place means the forms that are left there.
 use Rattle.std.proofs.Common.{cond, inl, inr, ◌⊎◌, ◌≡◌, List, [], ◌∷◌, ◌++◌, length, refl, ap, sym, ◌∙◌, append-nil, le-ltb, ltb, Option, None, Some, Result, Ok, Err, false}
 use Rattle.sudo_text.specs.declared.token.Token.{Token}
-use Rattle.sudo_tree.specs.declared.policy.EntryBody.{EntryBody}
+use Rattle.sudo_grammar.specs.declared.policy.EntryBody.{EntryBody}
 use Rattle.sudo_grammar.specs.Forms.{Writes}
 use Rattle.sudo_grammar.specs.Places.{Place, Start, AliasName, AfterName, Room, at_alias_name, step, ended, place_after}
 use Rattle.sudo_grammar.specs.Reading.{entry_or_stop, reading, stop_at, Stop}

@@ -7,17 +7,17 @@ use Rattle.sudo_text.specs.declared.token.Mark.TheVariants as marks
 use Rattle.sudo_text.specs.declared.token.Token.{Token}
 use Rattle.sudo_text.specs.declared.token.TokenKind.{TokenKind}
 use Rattle.sudo_text.specs.declared.token.TokenKind.TheVariants as tokens
-use Rattle.sudo_tree.specs.declared.kind.Kind.{Kind}
-use Rattle.sudo_tree.specs.declared.kind.Kind.TheVariants as kinds
-use Rattle.sudo_tree.specs.declared.kind.Atom.{Atom}
-use Rattle.sudo_tree.specs.declared.kind.Member.{Member}
-use Rattle.sudo_tree.specs.declared.policy.Definition.{Definition}
-use Rattle.sudo_tree.specs.declared.policy.EntryBody.{EntryBody}
-use Rattle.sudo_tree.specs.declared.fault.Expected.{Expected}
-use Rattle.sudo_tree.specs.declared.fault.Expected.TheVariants as wants
-use Rattle.sudo_tree.specs.declared.fault.Refusal.{Refusal}
-use Rattle.sudo_tree.specs.declared.fault.Refusal.TheVariants as refusals
-use Rattle.sudo_tree.specs.declared.fault.Unsupported.TheVariants as forms
+use Rattle.sudo_grammar.specs.declared.kind.Kind.{Kind}
+use Rattle.sudo_grammar.specs.declared.kind.Kind.TheVariants as kinds
+use Rattle.sudo_grammar.specs.declared.kind.Atom.{Atom}
+use Rattle.sudo_grammar.specs.declared.kind.Member.{Member}
+use Rattle.sudo_grammar.specs.declared.policy.Definition.{Definition}
+use Rattle.sudo_grammar.specs.declared.policy.EntryBody.{EntryBody}
+use Rattle.sudo_grammar.specs.declared.fault.Expected.{Expected}
+use Rattle.sudo_grammar.specs.declared.fault.Expected.TheVariants as wants
+use Rattle.sudo_grammar.specs.declared.fault.Refusal.{Refusal}
+use Rattle.sudo_grammar.specs.declared.fault.Refusal.TheVariants as refusals
+use Rattle.sudo_grammar.specs.declared.fault.Unsupported.TheVariants as forms
 use Rattle.sudo_grammar.specs.Words.{name_of, plain_word, kind_of_keyword, is_digest_name}
 use Rattle.sudo_grammar.specs.Members.{atom_of, expected_in}
 use Rattle.sudo_grammar.specs.Openings.{Opening, Keyword, DefaultsLine, Directive, BadDirective, Other, opening_of, plain_opening, is_direct, is_word, is_percent, spells}

@@ -8,22 +8,22 @@ use Rattle.sudo_text.specs.declared.token.Mark.{Mark}
 use Rattle.sudo_text.specs.declared.token.Mark.TheVariants as marks
 use Rattle.sudo_text.specs.declared.token.Token.{Token}
 use Rattle.sudo_text.specs.declared.token.TokenKind.TheVariants as tokens
-use Rattle.sudo_tree.specs.declared.kind.Kind.TheVariants as kinds
-use Rattle.sudo_tree.specs.declared.kind.Atom.TheVariants as atoms
-use Rattle.sudo_tree.specs.declared.kind.Atom.{Atom}
-use Rattle.sudo_tree.specs.declared.kind.Member.{Member}
-use Rattle.sudo_tree.specs.declared.policy.CommandSpec.{CommandSpec}
-use Rattle.sudo_tree.specs.declared.policy.EntryBody.{EntryBody}
-use Rattle.sudo_tree.specs.declared.policy.EntryBody.TheVariants as entries
-use Rattle.sudo_tree.specs.declared.policy.Operator.TheVariants as operators
-use Rattle.sudo_tree.specs.declared.policy.Parameter.TheVariants as parameters
-use Rattle.sudo_tree.specs.declared.policy.Binding.TheVariants as bindings
-use Rattle.sudo_tree.specs.declared.policy.Tag.TheVariants as tags
-use Rattle.sudo_tree.specs.declared.fault.Expected.{Expected}
-use Rattle.sudo_tree.specs.declared.fault.Expected.TheVariants as wants
-use Rattle.sudo_tree.specs.declared.fault.Unsupported.TheVariants as forms
-use Rattle.sudo_tree.specs.declared.fault.Refusal.{Refusal}
-use Rattle.sudo_tree.specs.declared.fault.Refusal.TheVariants as refusals
+use Rattle.sudo_grammar.specs.declared.kind.Kind.TheVariants as kinds
+use Rattle.sudo_grammar.specs.declared.kind.Atom.TheVariants as atoms
+use Rattle.sudo_grammar.specs.declared.kind.Atom.{Atom}
+use Rattle.sudo_grammar.specs.declared.kind.Member.{Member}
+use Rattle.sudo_grammar.specs.declared.policy.CommandSpec.{CommandSpec}
+use Rattle.sudo_grammar.specs.declared.policy.EntryBody.{EntryBody}
+use Rattle.sudo_grammar.specs.declared.policy.EntryBody.TheVariants as entries
+use Rattle.sudo_grammar.specs.declared.policy.Operator.TheVariants as operators
+use Rattle.sudo_grammar.specs.declared.policy.Parameter.TheVariants as parameters
+use Rattle.sudo_grammar.specs.declared.policy.Binding.TheVariants as bindings
+use Rattle.sudo_grammar.specs.declared.policy.Tag.TheVariants as tags
+use Rattle.sudo_grammar.specs.declared.fault.Expected.{Expected}
+use Rattle.sudo_grammar.specs.declared.fault.Expected.TheVariants as wants
+use Rattle.sudo_grammar.specs.declared.fault.Unsupported.TheVariants as forms
+use Rattle.sudo_grammar.specs.declared.fault.Refusal.{Refusal}
+use Rattle.sudo_grammar.specs.declared.fault.Refusal.TheVariants as refusals
 use Rattle.sudo_grammar.specs.Places.{Room, Start}
 use Rattle.sudo_grammar.specs.Reading.{reading, Stop}
 

@@ -1,3 +1,4 @@
+pub mod Includes
 pub mod Words
 pub mod Members
 pub mod Openings

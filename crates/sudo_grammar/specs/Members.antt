@@ -7,15 +7,15 @@ use Rattle.std.specs.Str.{bytes_eq}
 use Rattle.sudo_text.specs.declared.token.Ch.{Ch}
 use Rattle.sudo_text.specs.declared.token.TokenKind.{TokenKind}
 use Rattle.sudo_text.specs.declared.token.TokenKind.TheVariants as tokens
-use Rattle.sudo_tree.specs.declared.kind.Kind.{Kind}
-use Rattle.sudo_tree.specs.declared.kind.Kind.TheVariants as kinds
-use Rattle.sudo_tree.specs.declared.kind.Atom.{Atom}
-use Rattle.sudo_tree.specs.declared.kind.Atom.TheVariants as atoms
-use Rattle.sudo_tree.specs.declared.fault.Expected.{Expected}
-use Rattle.sudo_tree.specs.declared.fault.Expected.TheVariants as wants
-use Rattle.sudo_tree.specs.declared.fault.Unsupported.TheVariants as forms
-use Rattle.sudo_tree.specs.declared.fault.Refusal.{Refusal}
-use Rattle.sudo_tree.specs.declared.fault.Refusal.TheVariants as refusals
+use Rattle.sudo_grammar.specs.declared.kind.Kind.{Kind}
+use Rattle.sudo_grammar.specs.declared.kind.Kind.TheVariants as kinds
+use Rattle.sudo_grammar.specs.declared.kind.Atom.{Atom}
+use Rattle.sudo_grammar.specs.declared.kind.Atom.TheVariants as atoms
+use Rattle.sudo_grammar.specs.declared.fault.Expected.{Expected}
+use Rattle.sudo_grammar.specs.declared.fault.Expected.TheVariants as wants
+use Rattle.sudo_grammar.specs.declared.fault.Unsupported.TheVariants as forms
+use Rattle.sudo_grammar.specs.declared.fault.Refusal.{Refusal}
+use Rattle.sudo_grammar.specs.declared.fault.Refusal.TheVariants as refusals
 use Rattle.sudo_grammar.specs.Words.{bytes_of, is_plain, plain_word, is_name, is_digit}
 
 -- what must stand in a list of a kind

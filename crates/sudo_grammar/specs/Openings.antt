@@ -9,10 +9,10 @@ use Rattle.sudo_text.specs.declared.token.Mark.TheVariants as marks
 use Rattle.sudo_text.specs.declared.token.Token.{Token}
 use Rattle.sudo_text.specs.declared.token.TokenKind.{TokenKind}
 use Rattle.sudo_text.specs.declared.token.TokenKind.TheVariants as tokens
-use Rattle.sudo_tree.specs.declared.kind.Kind.{Kind}
-use Rattle.sudo_tree.specs.declared.kind.Kind.TheVariants as kinds
-use Rattle.sudo_tree.specs.declared.policy.Operator.{Operator}
-use Rattle.sudo_tree.specs.declared.policy.Operator.TheVariants as operators
+use Rattle.sudo_grammar.specs.declared.kind.Kind.{Kind}
+use Rattle.sudo_grammar.specs.declared.kind.Kind.TheVariants as kinds
+use Rattle.sudo_grammar.specs.declared.policy.Operator.{Operator}
+use Rattle.sudo_grammar.specs.declared.policy.Operator.TheVariants as operators
 use Rattle.sudo_grammar.specs.Words.{plain_word, kind_of_keyword}
 
 pub data Opening : Type 0 where

@@ -6,24 +6,24 @@ use Rattle.sudo_text.specs.declared.token.Mark.TheVariants as marks
 use Rattle.sudo_text.specs.declared.token.Token.{Token}
 use Rattle.sudo_text.specs.declared.token.TokenKind.{TokenKind}
 use Rattle.sudo_text.specs.declared.token.TokenKind.TheVariants as tokens
-use Rattle.sudo_tree.specs.declared.kind.Kind.{Kind}
-use Rattle.sudo_tree.specs.declared.kind.Kind.TheVariants as kinds
-use Rattle.sudo_tree.specs.declared.kind.Atom.{Atom}
-use Rattle.sudo_tree.specs.declared.kind.Member.{Member}
+use Rattle.sudo_grammar.specs.declared.kind.Kind.{Kind}
+use Rattle.sudo_grammar.specs.declared.kind.Kind.TheVariants as kinds
+use Rattle.sudo_grammar.specs.declared.kind.Atom.{Atom}
+use Rattle.sudo_grammar.specs.declared.kind.Member.{Member}
 use Rattle.sudo_text.specs.declared.token.Ch.{Ch}
-use Rattle.sudo_tree.specs.declared.policy.Definition.{Definition}
-use Rattle.sudo_tree.specs.declared.policy.Runas.{Runas}
-use Rattle.sudo_tree.specs.declared.policy.Tag.{Tag}
-use Rattle.sudo_tree.specs.declared.policy.CommandSpec.{CommandSpec}
-use Rattle.sudo_tree.specs.declared.policy.Section.{Section}
-use Rattle.sudo_tree.specs.declared.policy.Binding.{Binding}
-use Rattle.sudo_tree.specs.declared.policy.Binding.TheVariants as bindings
-use Rattle.sudo_tree.specs.declared.policy.Parameter.{Parameter}
-use Rattle.sudo_tree.specs.declared.policy.Parameter.TheVariants as parameters
-use Rattle.sudo_tree.specs.declared.policy.Operator.{Operator}
-use Rattle.sudo_tree.specs.declared.policy.EntryBody.{EntryBody}
-use Rattle.sudo_tree.specs.declared.policy.EntryBody.TheVariants as entries
-use Rattle.sudo_tree.specs.declared.fault.Refusal.{Refusal}
+use Rattle.sudo_grammar.specs.declared.policy.Definition.{Definition}
+use Rattle.sudo_grammar.specs.declared.policy.Runas.{Runas}
+use Rattle.sudo_grammar.specs.declared.policy.Tag.{Tag}
+use Rattle.sudo_grammar.specs.declared.policy.CommandSpec.{CommandSpec}
+use Rattle.sudo_grammar.specs.declared.policy.Section.{Section}
+use Rattle.sudo_grammar.specs.declared.policy.Binding.{Binding}
+use Rattle.sudo_grammar.specs.declared.policy.Binding.TheVariants as bindings
+use Rattle.sudo_grammar.specs.declared.policy.Parameter.{Parameter}
+use Rattle.sudo_grammar.specs.declared.policy.Parameter.TheVariants as parameters
+use Rattle.sudo_grammar.specs.declared.policy.Operator.{Operator}
+use Rattle.sudo_grammar.specs.declared.policy.EntryBody.{EntryBody}
+use Rattle.sudo_grammar.specs.declared.policy.EntryBody.TheVariants as entries
+use Rattle.sudo_grammar.specs.declared.fault.Refusal.{Refusal}
 use Rattle.sudo_grammar.specs.Words.{name_of}
 use Rattle.sudo_grammar.specs.Forms.{as_tag}
 use Rattle.sudo_grammar.specs.Openings.{Opening, Keyword, DefaultsLine, Directive, BadDirective, Other, opening_of, is_direct, kind_of_mark, operator_of}

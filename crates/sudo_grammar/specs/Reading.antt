@@ -2,8 +2,8 @@
 -- `expected` of a fault needs, and that the parser's steps are compared with; what an entry is, `Forms` says.
 use Rattle.std.specs.Prelude.{List, [], ◌∷◌, Option, None, Some, Result, Ok, Err}
 use Rattle.sudo_text.specs.declared.token.Token.{Token}
-use Rattle.sudo_tree.specs.declared.policy.EntryBody.{EntryBody}
-use Rattle.sudo_tree.specs.declared.fault.Refusal.{Refusal}
+use Rattle.sudo_grammar.specs.declared.policy.EntryBody.{EntryBody}
+use Rattle.sudo_grammar.specs.declared.fault.Refusal.{Refusal}
 use Rattle.sudo_grammar.specs.Places.{Place, Room, step, ended}
 use Rattle.sudo_grammar.specs.Refusals.{refused_at}
 

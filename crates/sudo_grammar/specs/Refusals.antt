@@ -16,15 +16,15 @@
 use Rattle.std.specs.Prelude.{ℕ, Bool, false, List, [], ◌∷◌, length, Option, None, Some, Result, Ok, Err, if◌then◌else◌, is_some, ◌&&◌, ◌==◌, ◌-◌, slice_get}
 use Rattle.sudo_text.specs.declared.token.Mark.TheVariants as marks
 use Rattle.sudo_text.specs.declared.token.Token.{Token}
-use Rattle.sudo_tree.specs.declared.kind.Kind.{Kind}
-use Rattle.sudo_tree.specs.declared.kind.Kind.TheVariants as kinds
-use Rattle.sudo_tree.specs.declared.kind.Atom.{Atom}
-use Rattle.sudo_tree.specs.declared.kind.Member.{Member}
+use Rattle.sudo_grammar.specs.declared.kind.Kind.{Kind}
+use Rattle.sudo_grammar.specs.declared.kind.Kind.TheVariants as kinds
+use Rattle.sudo_grammar.specs.declared.kind.Atom.{Atom}
+use Rattle.sudo_grammar.specs.declared.kind.Member.{Member}
 use Rattle.sudo_text.specs.declared.token.Mark.{Mark}
-use Rattle.sudo_tree.specs.declared.fault.Expected.TheVariants as wants
-use Rattle.sudo_tree.specs.declared.fault.Refusal.{Refusal}
-use Rattle.sudo_tree.specs.declared.fault.Refusal.TheVariants as refusals
-use Rattle.sudo_tree.specs.declared.fault.Unsupported.TheVariants as forms
+use Rattle.sudo_grammar.specs.declared.fault.Expected.TheVariants as wants
+use Rattle.sudo_grammar.specs.declared.fault.Refusal.{Refusal}
+use Rattle.sudo_grammar.specs.declared.fault.Refusal.TheVariants as refusals
+use Rattle.sudo_grammar.specs.declared.fault.Unsupported.TheVariants as forms
 use Rattle.sudo_grammar.specs.Words.{name_of, plain_word, is_option_name, is_digest_name}
 use Rattle.sudo_grammar.specs.Openings.{Opening, BadDirective, opening_of, is_percent, is_mark, spells}
 use Rattle.sudo_grammar.specs.Members.{atom_of, expected_in}

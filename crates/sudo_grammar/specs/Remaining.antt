@@ -4,19 +4,19 @@
 use Rattle.std.specs.Prelude.{◌≡◌, ℕ, zero, suc, ◌+◌, List, [], ◌∷◌, ◌++◌, Option, None, Some, ◌⊎◌}
 use Rattle.sudo_text.specs.declared.token.Mark.TheVariants as marks
 use Rattle.sudo_text.specs.declared.token.Token.{Token}
-use Rattle.sudo_tree.specs.declared.kind.Kind.TheVariants as kinds
-use Rattle.sudo_tree.specs.declared.kind.Member.{Member}
-use Rattle.sudo_tree.specs.declared.policy.Definition.{Definition}
-use Rattle.sudo_tree.specs.declared.policy.Runas.{Runas}
-use Rattle.sudo_tree.specs.declared.policy.Tag.{Tag}
-use Rattle.sudo_tree.specs.declared.policy.CommandSpec.{CommandSpec}
-use Rattle.sudo_tree.specs.declared.policy.Section.{Section}
-use Rattle.sudo_tree.specs.declared.policy.Binding.{Binding}
-use Rattle.sudo_tree.specs.declared.policy.Operator.{Operator}
-use Rattle.sudo_tree.specs.declared.policy.Parameter.{Parameter}
-use Rattle.sudo_tree.specs.declared.policy.Parameter.TheVariants as parameters
-use Rattle.sudo_tree.specs.declared.policy.EntryBody.{EntryBody}
-use Rattle.sudo_tree.specs.declared.policy.EntryBody.TheVariants as entries
+use Rattle.sudo_grammar.specs.declared.kind.Kind.TheVariants as kinds
+use Rattle.sudo_grammar.specs.declared.kind.Member.{Member}
+use Rattle.sudo_grammar.specs.declared.policy.Definition.{Definition}
+use Rattle.sudo_grammar.specs.declared.policy.Runas.{Runas}
+use Rattle.sudo_grammar.specs.declared.policy.Tag.{Tag}
+use Rattle.sudo_grammar.specs.declared.policy.CommandSpec.{CommandSpec}
+use Rattle.sudo_grammar.specs.declared.policy.Section.{Section}
+use Rattle.sudo_grammar.specs.declared.policy.Binding.{Binding}
+use Rattle.sudo_grammar.specs.declared.policy.Operator.{Operator}
+use Rattle.sudo_grammar.specs.declared.policy.Parameter.{Parameter}
+use Rattle.sudo_grammar.specs.declared.policy.Parameter.TheVariants as parameters
+use Rattle.sudo_grammar.specs.declared.policy.EntryBody.{EntryBody}
+use Rattle.sudo_grammar.specs.declared.policy.EntryBody.TheVariants as entries
 use Rattle.sudo_grammar.specs.Openings.{operator_of}
 use Rattle.sudo_grammar.specs.Forms.{◌▸◌, Form, never, one, mark, bangs, member, more_items, list, more_definitions, definitions, optional, runas, groups, tags, as_tag, more_specs, specs, more_sections, sections, binding, the_word, parameter, more_parameters, parameter_list, Writes}
 use Rattle.sudo_grammar.specs.Places.{Granting, Purpose, Defines, Users, Hosts, RunasUsers, RunasGroups, Binds, kind_for, bound_to, Place, Start, AliasName, AfterName, Item, AfterItem, Command, AfterCommand, RunasStart, GroupsStart, DefaultsStart, AtParameter, AfterSwitch, AtValue, AfterValue, Included}

@@ -1,9 +1,9 @@
 //! Laws of the grammar.
 ghost use Rattle.std.specs.Prelude.{◌≡◌, ◌++◌, ◌⊎◌, List, Some, Ok, Err};
 ghost use Rattle.sudo_text.specs.declared.token.Token.{Token};
-ghost use Rattle.sudo_tree.specs.declared.policy.EntryBody.{EntryBody};
-ghost use Rattle.sudo_tree.specs.declared.fault.Expected.{Expected};
-ghost use Rattle.sudo_tree.specs.declared.fault.Refusal.TheVariants.{Syntax};
+ghost use Rattle.sudo_grammar.specs.declared.policy.EntryBody.{EntryBody};
+ghost use Rattle.sudo_grammar.specs.declared.fault.Expected.{Expected};
+ghost use Rattle.sudo_grammar.specs.declared.fault.Refusal.TheVariants.{Syntax};
 ghost use Rattle.sudo_grammar.specs.Forms.{Writes};
 ghost use Rattle.sudo_grammar.specs.Places.{Room, Place, Start, place_after};
 ghost use Rattle.sudo_grammar.specs.Reading.{Stop, reading};
@@ -13,17 +13,20 @@ ghost use Rattle.sudo_grammar.specs.Standing.{CanStand};
 
 /// Each written form of an entry within the limits is read as that entry.
 pub fn forms_are_read()
-    ensures { (room : Room) (e : EntryBody) (ts : List Token) → Writes e ts → HasRoom room e → reading room Start ts ≡ Ok e }
+    ensures { (room : Room) (e : EntryBody) (ts : List Token) → Writes e ts → HasRoom room e
+        → reading room Start ts ≡ Ok e }
 {}
 
 /// What is read is a written form of the entry that is read, within the limits.
 pub fn what_is_read_is_written()
-    ensures { (room : Room) (e : EntryBody) (ts : List Token) → reading room Start ts ≡ Ok e → Writes e ts × HasRoom room e }
+    ensures { (room : Room) (e : EntryBody) (ts : List Token) → reading room Start ts ≡ Ok e
+        → Writes e ts × HasRoom room e }
 {}
 
 /// Where a line is no entry, the reading stops at the line's grammar fault.
 pub fn faults_are_leftmost()
-    ensures { (room : Room) (ts : List Token) (stop : Stop) → reading room Start ts ≡ Err stop → IsGrammarFault room ts stop }
+    ensures { (room : Room) (ts : List Token) (stop : Stop) → reading room Start ts ≡ Err stop
+        → IsGrammarFault room ts stop }
 {}
 
 /// No list of tokens is a written form of two entries.
@@ -33,24 +36,33 @@ pub fn forms_have_one_entry()
 
 /// No list of tokens has two grammar faults.
 pub fn lines_have_one_fault()
-    ensures { (room : Room) (ts : List Token) (a b : Stop) → IsGrammarFault room ts a → IsGrammarFault room ts b → a ≡ b }
+    ensures { (room : Room) (ts : List Token) (a b : Stop) → IsGrammarFault room ts a
+        → IsGrammarFault room ts b → a ≡ b }
 {}
 
 /// A list of tokens is a written form of an entry within the limits or has a grammar fault, and never both.
 pub fn lines_are_written_or_faulty()
-    ensures some { (room : Room) (ts : List Token) → ((e : EntryBody) × WritesWithin room e ts) ⊎ ((stop : Stop) × IsGrammarFault room ts stop) }
-    ensures one { (room : Room) (ts : List Token) (e : EntryBody) (stop : Stop) → WritesWithin room e ts → IsGrammarFault room ts stop → ⊥ }
+    ensures some { (room : Room) (ts : List Token)
+        → ((e : EntryBody) × WritesWithin room e ts)
+        ⊎ ((stop : Stop) × IsGrammarFault room ts stop) }
+    ensures one { (room : Room) (ts : List Token) (e : EntryBody) (stop : Stop)
+        → WritesWithin room e ts → IsGrammarFault room ts stop → ⊥ }
 {}
 
 /// Whatever a syntax error expects could have stood at its place, after the tokens before it; and where it expects the
 /// end of the line, the line could have ended there.
 pub fn expected_could_stand()
-    ensures { (room : Room) (ts : List Token) (stop : Stop) (fault : IsGrammarFault room ts stop) (x : Expected) → stop.refusal ≡ Syntax x → CanStand x fault.front }
+    ensures { (room : Room) (ts : List Token) (stop : Stop) (fault : IsGrammarFault room ts stop)
+        (x : Expected) → stop.refusal ≡ Syntax x → CanStand x fault.front }
 {}
 
 /// A place means the forms that are left there: after the tokens that lead to it, a line goes on as an entry exactly
 /// where it goes on by these forms.
 pub fn places_mean_forms()
-    ensures goes_on { (room : Room) (front : List Token) (place : Place) (e : EntryBody) (ts : List Token) → place_after room Start front ≡ Some place → Writes e (front ++ ts) → GoesOn place e ts }
-    ensures is_written { (room : Room) (front : List Token) (place : Place) (e : EntryBody) (ts : List Token) → place_after room Start front ≡ Some place → GoesOn place e ts → Writes e (front ++ ts) }
+    ensures goes_on { (room : Room) (front : List Token) (place : Place) (e : EntryBody)
+        (ts : List Token) → place_after room Start front ≡ Some place → Writes e (front ++ ts)
+        → GoesOn place e ts }
+    ensures is_written { (room : Room) (front : List Token) (place : Place) (e : EntryBody)
+        (ts : List Token) → place_after room Start front ≡ Some place → GoesOn place e ts
+        → Writes e (front ++ ts) }
 {}

@@ -1,11 +1,21 @@
-//! The whole grammar of sudoers(5): written forms, places of a line and grammar faults, with the laws between them.
+//! The grammar of sudoers(5): the tree of a policy, why a text has none, and the written forms of every entry.
 //!
-//! A crate of definitions, which live in its contracts; the parser is proved against them. Each function is a law.
+//! The tree and its faults are types. The grammar is a crate of definitions, which live in its contracts; the parser is
+//! proved against them. Each function is a law.
 #![tactic(auto)]
 
+mod fault;
+mod kind;
 mod laws;
+mod policy;
 
+pub use fault::{Expected, ParseFault, Refusal, Unsupported};
+pub use kind::{Atom, Kind, Member, Signed};
 pub use laws::{
     expected_could_stand, faults_are_leftmost, forms_are_read, forms_have_one_entry,
     lines_are_written_or_faulty, lines_have_one_fault, places_mean_forms, what_is_read_is_written,
+};
+pub use policy::{
+    Binding, CommandSpec, Definition, Entry, EntryBody, Operator, Parameter, Policy, Runas,
+    Section, Tag,
 };

@@ -4,10 +4,10 @@ use Rattle.std.specs.Prelude.{filter, map, nat_lt}
 use Rattle.sudo_text.specs.declared.line.Line.{Line}
 use Rattle.sudo_text.specs.declared.line.Place.{Place}
 use Rattle.sudo_text.specs.Lines.{lines_of}
-use Rattle.sudo_tree.specs.declared.policy.Entry.{Entry}
-use Rattle.sudo_tree.specs.declared.policy.Policy.{Policy}
-use Rattle.sudo_tree.specs.declared.fault.ParseFault.{ParseFault}
-use Rattle.sudo_tree.specs.declared.fault.ParseFault.TheVariants as parses
+use Rattle.sudo_grammar.specs.declared.policy.Entry.{Entry}
+use Rattle.sudo_grammar.specs.declared.policy.Policy.{Policy}
+use Rattle.sudo_grammar.specs.declared.fault.ParseFault.{ParseFault}
+use Rattle.sudo_grammar.specs.declared.fault.ParseFault.TheVariants as parses
 use Rattle.sudo_parser.specs.Parsed.{AreEntries, IsFirstFault, over_limit}
 use Rattle.sudo_parser.proofs.OneReading.{one_entries, one_first_fault, entries_no_fault}
 use Rattle.sudo_load.specs.declared.loading.Loaded.{Loaded}

@@ -8,16 +8,16 @@ use Rattle.sudo_text.specs.declared.line.Place.{Place}
 use Rattle.sudo_text.specs.declared.fault.TextFault.{TextFault}
 use Rattle.sudo_text.specs.declared.fault.TextFault.TheVariants as texts
 use Rattle.sudo_text.specs.Lines.{runs, is_cut_short, line_of, with_front, numbered, lines_of, physical_lines}
-use Rattle.sudo_tree.specs.declared.policy.Entry.{Entry}
-use Rattle.sudo_tree.specs.declared.policy.EntryBody.{EntryBody}
-use Rattle.sudo_tree.specs.declared.policy.EntryBody.TheVariants as bodies
-use Rattle.sudo_tree.specs.declared.fault.ParseFault.{ParseFault}
-use Rattle.sudo_tree.specs.Includes.{is_include}
-use Rattle.sudo_tree.specs.declared.fault.Refusal.{Refusal as GrammarRefusal}
-use Rattle.sudo_tree.specs.declared.fault.Refusal.TheVariants as refusals
+use Rattle.sudo_grammar.specs.declared.policy.Entry.{Entry}
+use Rattle.sudo_grammar.specs.declared.policy.EntryBody.{EntryBody}
+use Rattle.sudo_grammar.specs.declared.policy.EntryBody.TheVariants as bodies
+use Rattle.sudo_grammar.specs.declared.fault.ParseFault.{ParseFault}
+use Rattle.sudo_grammar.specs.Includes.{is_include}
+use Rattle.sudo_grammar.specs.declared.fault.Refusal.{Refusal as GrammarRefusal}
+use Rattle.sudo_grammar.specs.declared.fault.Refusal.TheVariants as refusals
 use Rattle.sudo_text.specs.Tokens.{fault_place}
 use Rattle.sudo_text.proofs.FaultPlace.{faults_placed}
-use Rattle.sudo_tree.specs.declared.kind.Kind.{Kind}
+use Rattle.sudo_grammar.specs.declared.kind.Kind.{Kind}
 use Rattle.sudo_parser.specs.Limits.{less}
 use Rattle.sudo_parser.specs.Parsed.{AreEntriesAfter, entry_of, IsLineFault, IsFirstFaultAfter, room_after, column, fault_at, fits, over_limit_from}
 use Rattle.sudo_load.specs.FaultFiles.{text_file, parse_file, IsBelow, IsPlaced}

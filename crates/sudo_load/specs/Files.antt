@@ -3,9 +3,9 @@ use Rattle.std.specs.Prelude.{◌≡◌, ℕ, List, Result, Ok, Err, ◌⊎◌}
 use Rattle.sudo_text.specs.declared.line.Line.{Line}
 use Rattle.sudo_text.specs.declared.fault.TextFault.{TextFault}
 use Rattle.sudo_text.specs.Lines.{lines_of}
-use Rattle.sudo_tree.specs.declared.policy.Entry.{Entry}
-use Rattle.sudo_tree.specs.declared.fault.ParseFault.{ParseFault}
-use Rattle.sudo_tree.specs.declared.fault.ParseFault.TheVariants as faults
+use Rattle.sudo_grammar.specs.declared.policy.Entry.{Entry}
+use Rattle.sudo_grammar.specs.declared.fault.ParseFault.{ParseFault}
+use Rattle.sudo_grammar.specs.declared.fault.ParseFault.TheVariants as faults
 use Rattle.sudo_parser.specs.Parsed.{AreEntries, IsFirstFault}
 
 -- The file of this number says these entries, or it has this fault.

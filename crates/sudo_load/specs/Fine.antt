@@ -1,8 +1,8 @@
 -- What a policy keeps, of what is loaded; a body's proof alone needs these words.
 use Rattle.std.specs.Prelude.{◌≡◌, ℕ, Bool, true, not, nat_lt, List, length}
 use Rattle.std.specs.List.{list_all}
-use Rattle.sudo_tree.specs.declared.policy.Entry.{Entry}
-use Rattle.sudo_tree.specs.Includes.{is_include}
+use Rattle.sudo_grammar.specs.declared.policy.Entry.{Entry}
+use Rattle.sudo_grammar.specs.Includes.{is_include}
 use Rattle.sudo_load.specs.declared.loading.Loaded.{Loaded}
 
 abbrev pub placed_in : ℕ → List Entry → Bool

@@ -2,8 +2,8 @@
 use Rattle.std.specs.Prelude.{◌≡◌, ℕ, Bool, true, false, List, [], Option, Result, Ok, Err}
 use Rattle.std.specs.List.{filter_map}
 use Rattle.std.specs.Option.{option_map}
-use Rattle.sudo_tree.specs.declared.policy.Entry.{Entry}
-use Rattle.sudo_tree.specs.declared.fault.ParseFault.{ParseFault}
+use Rattle.sudo_grammar.specs.declared.policy.Entry.{Entry}
+use Rattle.sudo_grammar.specs.declared.fault.ParseFault.{ParseFault}
 use Rattle.sudo_load.specs.declared.fault.Want.{Want}
 use Rattle.sudo_load.specs.declared.fault.Want.TheVariants.{File, Folder}
 use Rattle.sudo_load.specs.Files.{Reads}

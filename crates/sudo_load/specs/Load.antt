@@ -1,8 +1,8 @@
 -- The policy of a main file and of all that it includes.
 use Rattle.std.specs.Prelude.{◌≡◌, ◌≢◌, ℕ, List, Option, None, Some, Result, Ok, Err}
 use Rattle.sudo_text.specs.declared.line.Place.{Place}
-use Rattle.sudo_tree.specs.declared.policy.Policy.{Policy}
-use Rattle.sudo_tree.specs.declared.fault.ParseFault.TheVariants as parse_faults
+use Rattle.sudo_grammar.specs.declared.policy.Policy.{Policy}
+use Rattle.sudo_grammar.specs.declared.fault.ParseFault.TheVariants as parse_faults
 use Rattle.sudo_parser.specs.Parsed.{over_limit}
 use Rattle.sudo_load.specs.declared.fault.LoadFault.TheVariants as faults
 use Rattle.sudo_load.specs.declared.loading.Loaded.{Loaded}

@@ -1,8 +1,8 @@
 //! Why files are no policy.
 
 use std::alloc::AllocError;
+use sudo_grammar::ParseFault;
 use sudo_text::{Place, Seq};
-use sudo_tree::ParseFault;
 use thiserror::Error;
 
 /// A file or a folder that is wanted, by its path.

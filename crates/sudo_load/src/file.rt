@@ -3,14 +3,15 @@ ghost use Rattle.std.specs.Prelude.{◌≡◌, ◌≢◌, Ok, Err, IfOk, IfErr};
 ghost use Rattle.sudo_load.specs.Files.{Reads};
 
 use std::alloc::Global;
+use sudo_grammar::{Entry, ParseFault};
 use sudo_parser::parse;
 use sudo_text::{Seq, TextFault, lines};
-use sudo_tree::{Entry, ParseFault};
 
 /// The entries of the file of a number.
 pub(crate) fn read(alloc: Global, file: u32, text: &[u8]) -> Result<Seq<Entry>, ParseFault>
     ensures entries { IfOk result (λ entries. Reads file text.now (Ok entries)) }
-    ensures fault { IfErr result (λ fault. fault ≢ ParseFault.Memory → Reads file text.now (Err fault)) }
+    ensures fault { IfErr result (λ fault. fault ≢ ParseFault.Memory
+        → Reads file text.now (Err fault)) }
 {
     match lines(alloc, file, text) {
         Ok(lines) => match parse(alloc, &lines) {

@@ -9,8 +9,8 @@ use crate::fault::Want;
 use crate::file::read;
 use crate::paths::{beside, bytes, in_folder, is_kept};
 use std::alloc::{AllocError, Global};
+use sudo_grammar::{Entry, EntryBody, ParseFault};
 use sudo_text::Seq;
-use sudo_tree::{Entry, EntryBody, ParseFault};
 
 /// The files of a folder that are read, in the order of their names' bytes.
 fn folder_order(alloc: Global, names: &[Seq<u8>]) -> Result<Vec<Seq<u8>>, AllocError>
@@ -52,7 +52,8 @@ pub fn folder_files(
     folder: &[u8],
     names: &[Seq<u8>],
 ) -> Result<Vec<Seq<u8>>, AllocError>
-    ensures { IfOk result (λ v. (ordered : List (List ℕ)) × IsFolderOrder names.now ordered × (v.items ≡ map (spec_in_folder folder.now) ordered)) }
+    ensures { IfOk result (λ v. (ordered : List (List ℕ)) × IsFolderOrder names.now ordered
+        × (v.items ≡ map (spec_in_folder folder.now) ordered)) }
 {
     let ordered = folder_order(alloc, names)?;
     paths_in(alloc, folder, &ordered)

@@ -1,11 +1,12 @@
 //! A law of loading.
 ghost use Rattle.std.specs.Prelude.{ℕ, List, Result};
-ghost use Rattle.sudo_tree.specs.declared.policy.Policy.{Policy};
+ghost use Rattle.sudo_grammar.specs.declared.policy.Policy.{Policy};
 ghost use Rattle.sudo_load.specs.declared.supply.Supply.{Supply};
 ghost use Rattle.sudo_load.specs.Load.{IsLoad, SameLoad};
 ghost use Rattle.sudo_load.specs.Unfolding.{Refusal};
 
 /// A main file, with what is handed in, has one policy or one refusal at most.
 pub fn files_have_one_load()
-    ensures { (path text : List ℕ) (supplies : List Supply) (a b : Result Policy Refusal) → IsLoad path text supplies a → IsLoad path text supplies b → SameLoad a b }
+    ensures { (path text : List ℕ) (supplies : List Supply) (a b : Result Policy Refusal)
+        → IsLoad path text supplies a → IsLoad path text supplies b → SameLoad a b }
 {}

@@ -12,9 +12,9 @@ use crate::file::read;
 use crate::include::{folder_files, followed};
 use crate::supply::{Supply, find_file, find_folder};
 use std::alloc::{AllocError, Global};
+use sudo_grammar::{Entry, ParseFault, Policy};
 use sudo_parser::first_over_limit;
 use sudo_text::{Place, Seq};
-use sudo_tree::{Entry, ParseFault, Policy};
 
 /// How many files, and how many folders, may be read.
 const READING_LIMIT: usize = 1024;
@@ -145,7 +145,8 @@ fn load_folder(
     place: Place,
     path: Seq<u8>,
 ) -> Result<Loaded, Refusal>
-    ensures { GivesBy (FolderLoads (FileLoads levels supplies.now) supplies.now loaded place path) result }
+    ensures { GivesBy (FolderLoads (FileLoads levels supplies.now) supplies.now loaded place path)
+        result }
 {
     if loaded.folders >= READING_LIMIT {
         return Err((loaded.files, LoadFault::TooMany { place }));
@@ -174,7 +175,8 @@ fn load_entry(
     loaded: Loaded,
     entry: Entry,
 ) -> Result<Loaded, Refusal>
-    ensures { GivesBy (EntryLoads (FileLoads levels supplies.now) supplies.now file.now loaded entry) result }
+    ensures { GivesBy (EntryLoads (FileLoads levels supplies.now) supplies.now file.now loaded
+        entry) result }
 {
     let place = entry.place;
     match followed(alloc, file, &entry.body) {
@@ -198,7 +200,8 @@ fn load_entries(
     loaded: Loaded,
     entries: Vec<Entry>,
 ) -> Result<Loaded, Refusal>
-    ensures { GivesBy (EntriesLoad (FileLoads levels supplies.now) supplies.now file.now loaded entries.items) result }
+    ensures { GivesBy (EntriesLoad (FileLoads levels supplies.now) supplies.now file.now loaded
+        entries.items) result }
 {
     let mut loaded = loaded;
     for entry in entries {
@@ -221,7 +224,8 @@ fn load_text(
     text: &[u8],
 ) -> Result<Loaded, Refusal>
     requires { length loaded.files < 1024 }
-    ensures { GivesBy (TextLoads (FileLoads levels supplies.now) supplies.now loaded path text.now) result }
+    ensures { GivesBy (TextLoads (FileLoads levels supplies.now) supplies.now loaded path text.now)
+        result }
 {
     let number = loaded.files.len() as u32;
     let Ok(loaded) = with_file(loaded, &path) else {

@@ -2,12 +2,12 @@
 use Rattle.std.proofs.Common.{◌≡◌, ℕ, List, length, ap, sym, ◌∙◌, refl}
 use Rattle.std.specs.Prelude.{slice_get, find, bytes_eq, option_and_then}
 use Rattle.std.proofs.Math.Seq.{take-length}
-use Rattle.sudo_rows.specs.declared.people.Person.{Person}
-use Rattle.sudo_rows.specs.declared.people.Group.{Group}
-use Rattle.sudo_rows.specs.declared.people.Machine.{Machine}
+use Rattle.sudo_match.specs.declared.people.Person.{Person}
+use Rattle.sudo_match.specs.declared.people.Group.{Group}
+use Rattle.sudo_match.specs.declared.people.Machine.{Machine}
 use Rattle.sudo_match.specs.Class.{lower_text}
-use Rattle.sudo_names.specs.Indexes.{Indexes}
-use Rattle.sudo_names.specs.Places.{place_of}
+use Rattle.sudo_base.specs.Indexes.{Indexes}
+use Rattle.sudo_base.specs.Places.{place_of}
 use Rattle.sudo_match.specs.Known.{Known, user_named, host_named, group_named, groups_of}
 
 pub user_named-is :

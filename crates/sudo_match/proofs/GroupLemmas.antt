@@ -6,10 +6,10 @@ use Rattle.std.specs.Option.{option_or}
 use Rattle.std.proofs.lemmas.Bool.{eqb-true}
 use Rattle.std.proofs.lemmas.List.{take_all}
 use Rattle.std.proofs.lemmas.List.Folds.{find-append}
-use Rattle.sudo_rows.specs.declared.people.Group.{Group}
-use Rattle.sudo_names.specs.Indexes.{Indexes}
-use Rattle.sudo_names.specs.Places.{place_of}
-use Rattle.sudo_names.proofs.IndexLemmas.{take-some, list_any-append, bytes_eq-is, indexes-none, indexes-more, place_of-append, place_of-empty, none-is}
+use Rattle.sudo_match.specs.declared.people.Group.{Group}
+use Rattle.sudo_base.specs.Indexes.{Indexes}
+use Rattle.sudo_base.specs.Places.{place_of}
+use Rattle.sudo_base.proofs.IndexLemmas.{take-some, list_any-append, bytes_eq-is, indexes-none, indexes-more, place_of-append, place_of-empty, none-is}
 use Rattle.sudo_match.specs.Indexing.{AreApart, differs, noted}
 use Rattle.sudo_match.specs.Known.{groups_clash, clashes_at}
 use Rattle.sudo_match.proofs.ClashLemmas.{NoneBefore, none-first, none-more, clash-here, clash-none}

@@ -1,9 +1,9 @@
 -- Worked examples of the definitions in `specs/Matching.antt`, each by computation.
 use Rattle.std.proofs.Common.{◌≡◌, ℕ, Bool, true, false, List, [], ◌∷◌, ◌++◌, refl, Some, None, ◌+◌, ◌*◌, lit≤}
 use Rattle.std.specs.Prelude.{codes}
-use Rattle.sudo_tree.specs.declared.kind.Atom.{Atom}
-use Rattle.sudo_tree.specs.declared.kind.Atom.TheVariants as atom
-use Rattle.sudo_rows.specs.declared.people.Machine.{Machine}
+use Rattle.sudo_grammar.specs.declared.kind.Atom.{Atom}
+use Rattle.sudo_grammar.specs.declared.kind.Atom.TheVariants as atom
+use Rattle.sudo_match.specs.declared.people.Machine.{Machine}
 use Rattle.sudo_match.specs.Pattern.{begins, range_at, items_after, bracket_after, part_at, parts_after, cuts, fits}
 use Rattle.sudo_match.specs.HostNames.{free_bangs, host_chars, quoted_chars}
 use Rattle.sudo_match.specs.Matching.{host_fits, command_fits}

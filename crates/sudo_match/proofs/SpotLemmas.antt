@@ -4,9 +4,9 @@ use Rattle.std.specs.Prelude.{slice_get, option_map, option_and_then}
 use Rattle.std.proofs.lemmas.Option.{slice_get-map, slice_get_cases}
 use Rattle.std.proofs.lemmas.List.{map-append, take_all}
 use Rattle.std.proofs.lemmas.Grind.{flat_map-append}
-use Rattle.sudo_rows.specs.declared.people.Person.{Person}
-use Rattle.sudo_rows.specs.declared.people.Group.{Group}
-use Rattle.sudo_names.proofs.IndexLemmas.{take-some}
+use Rattle.sudo_match.specs.declared.people.Person.{Person}
+use Rattle.sudo_match.specs.declared.people.Group.{Group}
+use Rattle.sudo_base.proofs.IndexLemmas.{take-some}
 use Rattle.sudo_match.specs.declared.spots.Spot.{Spot}
 use Rattle.sudo_match.specs.Indexing.{group_there, AreSpots}
 use Rattle.sudo_match.specs.Known.{groups_of}

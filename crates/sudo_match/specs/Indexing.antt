@@ -1,10 +1,10 @@
 -- What the indexes behind a directory hold. Only the bodies' proofs need these words.
 use Rattle.std.specs.Prelude.{◌≡◌, ℕ, Bool, false, not, List, [], ◌∷◌, ◌++◌, map, length, Option, Some, None, slice_get, option_and_then, is_some, if◌then◌else◌}
-use Rattle.sudo_rows.specs.declared.people.Person.{Person}
-use Rattle.sudo_rows.specs.declared.people.Group.{Group}
-use Rattle.sudo_rows.specs.declared.people.Machine.{Machine}
-use Rattle.sudo_names.specs.Indexes.{Indexes}
-use Rattle.sudo_names.specs.Places.{place_of}
+use Rattle.sudo_match.specs.declared.people.Person.{Person}
+use Rattle.sudo_match.specs.declared.people.Group.{Group}
+use Rattle.sudo_match.specs.declared.people.Machine.{Machine}
+use Rattle.sudo_base.specs.Indexes.{Indexes}
+use Rattle.sudo_base.specs.Places.{place_of}
 use Rattle.sudo_match.specs.declared.spots.Spot.{Spot}
 use Rattle.sudo_match.specs.Class.{lower_text}
 use Rattle.sudo_match.specs.Known.{first_clash, groups_of, directory_fault}

@@ -1,9 +1,9 @@
 -- The users, groups and hosts that a directory knows, as in passwd(5), group(5) and hosts(5), and the faults of its rows.
 use Rattle.std.specs.Prelude.{ℕ, Bool, true, false, not, ◌&&◌, ◌||◌, ◌==◌, if◌then◌else◌, List, [], ◌∷◌, Option, Some, None, find, flat_map, option_map, option_and_then, take, length, slice_get, bytes_eq, codes, ◌≡◌, ◌⊎◌}
 use Rattle.std.specs.List.{list_any, range_with_len}
-use Rattle.sudo_rows.specs.declared.people.Person.{Person}
-use Rattle.sudo_rows.specs.declared.people.Group.{Group}
-use Rattle.sudo_rows.specs.declared.people.Machine.{Machine}
+use Rattle.sudo_match.specs.declared.people.Person.{Person}
+use Rattle.sudo_match.specs.declared.people.Group.{Group}
+use Rattle.sudo_match.specs.declared.people.Machine.{Machine}
 use Rattle.sudo_match.specs.declared.fault.DirFault.{DirFault}
 use Rattle.sudo_match.specs.declared.fault.DirFault.TheVariants.{UserTwice, HostTwice, GroupClash, NoGroup, NoRoot, Memory}
 use Rattle.sudo_match.specs.Class.{lower_text}

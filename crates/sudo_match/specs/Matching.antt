@@ -3,12 +3,12 @@
 use Rattle.std.specs.Prelude.{ℕ, ◌-◌, ◌/◌, ◌^◌, Bool, true, false, not, ◌&&◌, ◌||◌, ◌==◌, if◌then◌else◌, List, [], ◌∷◌, map, length, bit_and, bytes_eq, codes, Option, Some, None}
 use Rattle.std.specs.List.{list_any, before_first}
 use Rattle.sudo_text.specs.declared.token.Ch.{Ch}
-use Rattle.sudo_tree.specs.declared.kind.Atom.{Atom}
-use Rattle.sudo_tree.specs.declared.kind.Atom.TheVariants as atom
-use Rattle.sudo_rows.specs.declared.people.Person.{Person}
-use Rattle.sudo_rows.specs.declared.people.Group.{Group}
-use Rattle.sudo_rows.specs.declared.people.Machine.{Machine}
-use Rattle.sudo_rows.specs.declared.people.Interface.{Interface}
+use Rattle.sudo_grammar.specs.declared.kind.Atom.{Atom}
+use Rattle.sudo_grammar.specs.declared.kind.Atom.TheVariants as atom
+use Rattle.sudo_match.specs.declared.people.Person.{Person}
+use Rattle.sudo_match.specs.declared.people.Group.{Group}
+use Rattle.sudo_match.specs.declared.people.Machine.{Machine}
+use Rattle.sudo_match.specs.declared.people.Interface.{Interface}
 use Rattle.sudo_match.specs.declared.patterns.Slash.{Slash}
 use Rattle.sudo_match.specs.declared.patterns.Slash.TheVariants.{Any, Not}
 use Rattle.sudo_match.specs.Pattern.{is_byte, is_plain, begins, parts, path_chars, fits}

@@ -4,13 +4,12 @@ ghost use Rattle.std.specs.Option.{option_copied};
 ghost use Rattle.sudo_match.specs.Class.{lower_text};
 ghost use Rattle.sudo_match.specs.Known.{user_named, host_named, group_named, directory_fault, is_no_group, IsRefusal};
 
-use crate::DirFault;
 use crate::indexing::{group_names, host_names, host_place, user_names};
 use crate::spots::{Spot, group_found, spots_of};
+use crate::{DirFault, Group, Machine, Person};
 use std::alloc::Global;
 use std::marker::Model;
-use sudo_names::Names;
-use sudo_rows::{Group, Machine, Person};
+use sudo_base::Names;
 use sudo_text::Seq;
 
 /// The users and hosts that are known, which contracts see as the rows that were handed in. The rows have no fault.
@@ -45,7 +44,8 @@ impl Directory {
         people: Vec<Person>,
         machines: Vec<Machine>,
     ) -> Result<Directory, DirFault>
-        ensures known { IfOk result (λ d. (d.people ≡ people.items) × (d.machines ≡ machines.items)) }
+        ensures known { IfOk result (λ d. (d.people ≡ people.items)
+            × (d.machines ≡ machines.items)) }
         ensures faultless { IfOk result (λ d. directory_fault people.items machines.items ≡ None) }
         ensures fault { IfErr result (IsRefusal (directory_fault people.items machines.items)) }
     {
@@ -135,7 +135,8 @@ fn is_same_host(a: &[u8], b: &[u8]) -> bool
 
 /// The first host of this name, looked for one by one.
 fn scanned<'a>(machines: &'a [Machine], name: &[u8]) -> Option<&'a Machine>
-    ensures { option_copied result ≡ find (λ m. bytes_eq (lower_text m.name) (lower_text name.now)) machines.now }
+    ensures { option_copied result ≡ find (λ m. bytes_eq (lower_text m.name) (lower_text name.now))
+        machines.now }
 {
     let mut left = machines;
     while let Some((machine, rest)) = left.split_first() {

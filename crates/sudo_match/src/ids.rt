@@ -1,6 +1,6 @@
 //! Group IDs with places.
 ghost use Rattle.std.specs.Prelude.{◌≡◌, [], ◌∷◌, OnOk};
-ghost use Rattle.sudo_names.specs.Places.{place_of};
+ghost use Rattle.sudo_base.specs.Places.{place_of};
 ghost use Rattle.sudo_match.specs.Indexing.{noted};
 
 use indexmap::IndexMap;

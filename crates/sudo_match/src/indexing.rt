@@ -1,17 +1,16 @@
 //! Users, hosts and groups by their names.
 ghost use Rattle.std.specs.Prelude.{◌≡◌, ◌==◌, ◌||◌, ◌∷◌, [], ◌≤◌, IfOk, IfErr, OnOk, length, bytes_eq, option_and_then, slice_get};
 ghost use Rattle.std.specs.Option.{option_copied};
-ghost use Rattle.sudo_names.specs.Places.{place_of};
+ghost use Rattle.sudo_base.specs.Places.{place_of};
 ghost use Rattle.sudo_match.specs.Class.{lower_text};
 ghost use Rattle.sudo_match.specs.Known.{same_user, same_host, groups_clash, groups_of, user_fault, host_fault, group_fault, IsRefusal};
 ghost use Rattle.sudo_match.specs.Indexing.{AreApart, AreSpots, noted, differs};
 
-use crate::DirFault;
 use crate::ids::Ids;
 use crate::spots::{Spot, group_at, group_found};
+use crate::{DirFault, Group, Machine, Person};
 use std::alloc::{AllocError, Global};
-use sudo_names::Names;
-use sudo_rows::{Group, Machine, Person};
+use sudo_base::Names;
 
 /// The places of users by name, or the fault of the first one whose name an earlier one has.
 pub(crate) fn user_names(alloc: Global, people: &[Person]) -> Result<Names, DirFault>
@@ -106,8 +105,10 @@ fn clashes(
     group: &Group,
 ) -> bool
     requires { AreSpots people.now spots.now }
-    ensures { result ≡ (differs (λ g. g.gid == group.now.gid) (option_and_then (slice_get (groups_of people.now)) by_name)
-        || differs (λ g. bytes_eq g.name group.now.name) (option_and_then (slice_get (groups_of people.now)) by_id)) }
+    ensures { result ≡ (differs (λ g. g.gid == group.now.gid)
+        (option_and_then (slice_get (groups_of people.now)) by_name)
+        || differs (λ g. bytes_eq g.name group.now.name)
+        (option_and_then (slice_get (groups_of people.now)) by_id)) }
 {
     has_other_id(group_found(people, spots, by_name), group.gid)
         | has_other_name(group_found(people, spots, by_id), group.name.as_slice())

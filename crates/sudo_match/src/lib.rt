@@ -1,4 +1,5 @@
-//! Patterns, the directory of users and machines, and the matching of one atom of a policy.
+//! The rows of an audit (users, hosts, requests and verdicts), patterns, the directory of known users and hosts, and the
+//! matching of one atom of a policy.
 #![tactic(auto)]
 
 mod directory;
@@ -8,6 +9,8 @@ mod indexing;
 mod laws;
 mod matchers;
 mod patterns;
+mod people;
+mod request;
 mod spots;
 mod unclosed;
 
@@ -16,7 +19,5 @@ pub use fault::DirFault;
 pub use laws::{brackets_are_cut, characters_are_parts, unclosed_brackets_are_bytes};
 pub use matchers::{command_matches, group_matches, host_matches, user_matches};
 pub use patterns::{Pattern, Slash};
-pub use sudo_rows::{Group, Interface, Machine, Person};
-
-#[cfg(test)]
-mod tests;
+pub use people::{Group, Interface, Machine, Person};
+pub use request::{Request, Tags, Verdict, What};

@@ -3,10 +3,9 @@ ghost use Rattle.std.specs.Prelude.{◌≡◌, ◌==◌, ◌^◌, ◌-◌, ◌�
 ghost use Rattle.std.specs.List.{list_any};
 ghost use Rattle.sudo_match.specs.Matching.{user_fits, group_fits, host_fits, command_fits, compared_name, short_name, has_dot, mask_of, is_loopback, address_fits, net_fits, spells, arguments_fit, arguments_slash};
 
-use crate::{Pattern, Slash};
-use sudo_rows::{Group, Interface, Machine, Person};
+use crate::{Group, Interface, Machine, Pattern, Person, Slash};
+use sudo_grammar::Atom;
 use sudo_text::{Ch, Seq};
-use sudo_tree::Atom;
 
 /// Whether the atom matches the user. False for an alias and for an atom of another kind.
 #[tactic(auto, unfolding(crate::specs::Matching::user_fits))]

@@ -465,7 +465,8 @@ impl<'a> Chars<'a> {
     fn items_start(&self, at: usize) -> usize
         requires { at ≤ length (seen self.now) }
         ensures within { result ≤ length (seen self.now) }
-        ensures open { bracket_after (drop at (seen self.now)) ≡ None → items_after 0 true (drop result (seen self.now)) ≡ None }
+        ensures open { bracket_after (drop at (seen self.now)) ≡ None
+            → items_after 0 true (drop result (seen self.now)) ≡ None }
     {
         if self.is_plain_at(at, b'!') {
             at + 1
@@ -479,7 +480,8 @@ impl<'a> Chars<'a> {
     fn items_hold(&self, start: usize, byte: u8, known: Unclosed) -> Option<(bool, usize)>
         requires within { start ≤ length (seen self.now) }
         requires knows { Knows (seen self.now) known }
-        ensures value { result ≡ option_map (λ r. (list_any (item_holds byte) r.0, r.1)) (items_after 0 true (drop start (seen self.now))) }
+        ensures value { result ≡ option_map (λ r. (list_any (item_holds byte) r.0, r.1))
+            (items_after 0 true (drop start (seen self.now))) }
         ensures within { IfSome result (λ r. start + r.1 ≤ length (seen self.now)) }
     {
         let mut known = known;
@@ -511,7 +513,8 @@ impl<'a> Chars<'a> {
     ) -> Option<(bool, usize)>
         requires within { at ≤ length (seen self.now) }
         requires knows { Knows (seen self.now) known }
-        ensures value { result ≡ option_map (λ r. (set_holds slash r.0 byte, r.1)) (bracket_after (drop at (seen self.now))) }
+        ensures value { result ≡ option_map (λ r. (set_holds slash r.0 byte, r.1))
+            (bracket_after (drop at (seen self.now))) }
         ensures within { IfSome result (λ r. at + r.1 ≤ length (seen self.now)) }
     {
         let is_free = slash.is_free(byte);
@@ -536,7 +539,9 @@ impl<'a> Chars<'a> {
     ) -> Option<(bool, usize)>
         requires within { at < length (seen self.now) }
         requires knows { Knows (seen self.now) known.old }
-        ensures value { result ≡ (if is_plain 91 first then option_map (λ r. (set_holds slash r.0 byte, r.1)) (bracket_after (drop (at + 1) (seen self.now))) else None) }
+        ensures value { result ≡ (if is_plain 91 first then option_map
+            (λ r. (set_holds slash r.0 byte, r.1))
+            (bracket_after (drop (at + 1) (seen self.now))) else None) }
         ensures within { IfSome result (λ r. at + r.1 < length (seen self.now)) }
         ensures knows { Knows (seen self.now) known.new }
     {
@@ -561,7 +566,8 @@ impl<'a> Chars<'a> {
     ) -> Option<(bool, usize)>
         requires within { at ≤ length (seen self.now) }
         requires knows { Knows (seen self.now) known.old }
-        ensures value { result ≡ option_map (λ r. (part_holds slash r.0 byte, r.1)) (part_of (drop at (seen self.now))) }
+        ensures value { result ≡ option_map (λ r. (part_holds slash r.0 byte, r.1))
+            (part_of (drop at (seen self.now))) }
         ensures within { IfSome result (λ r. at + r.1 < length (seen self.now)) }
         ensures knows { Knows (seen self.now) known.new }
     {

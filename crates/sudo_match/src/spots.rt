@@ -4,8 +4,8 @@ ghost use Rattle.std.specs.Option.{option_copied};
 ghost use Rattle.sudo_match.specs.Indexing.{AreSpots};
 ghost use Rattle.sudo_match.specs.Known.{groups_of};
 
+use crate::{Group, Person};
 use std::alloc::{AllocError, Global};
-use sudo_rows::{Group, Person};
 
 /// Where a group stands: the place of its user, and its place among the groups of that user.
 #[derive(Clone, Copy, Debug, PartialEq, Eq)]

@@ -44,7 +44,13 @@ impl Unclosed {
 
     /// With its first place known.
     pub fn with_first(self) -> Unclosed
-        ensures { result ≡ record { at = self.at; first = true; second = self.second; third = self.third } }
+        ensures { result ≡ record {
+          at = self.at;
+          first = true;
+          second = self.second;
+          third =
+              self.third;
+        } }
     {
         Unclosed {
             first: true,

@@ -5,13 +5,13 @@ use Rattle.sudo_text.specs.declared.token.Mark.TheVariants as marks
 use Rattle.sudo_text.specs.declared.token.Token.{Token}
 use Rattle.sudo_text.specs.declared.token.TokenKind.{TokenKind}
 use Rattle.sudo_text.specs.declared.token.TokenKind.TheVariants as tokens
-use Rattle.sudo_tree.specs.declared.kind.Kind.{Kind}
-use Rattle.sudo_tree.specs.declared.kind.Member.{Member}
-use Rattle.sudo_tree.specs.declared.policy.Definition.{Definition}
-use Rattle.sudo_tree.specs.declared.fault.Expected.TheVariants as wants
-use Rattle.sudo_tree.specs.declared.fault.Refusal.{Refusal}
-use Rattle.sudo_tree.specs.declared.fault.Refusal.TheVariants as refusals
-use Rattle.sudo_tree.specs.declared.fault.Unsupported.TheVariants as forms
+use Rattle.sudo_grammar.specs.declared.kind.Kind.{Kind}
+use Rattle.sudo_grammar.specs.declared.kind.Member.{Member}
+use Rattle.sudo_grammar.specs.declared.policy.Definition.{Definition}
+use Rattle.sudo_grammar.specs.declared.fault.Expected.TheVariants as wants
+use Rattle.sudo_grammar.specs.declared.fault.Refusal.{Refusal}
+use Rattle.sudo_grammar.specs.declared.fault.Refusal.TheVariants as refusals
+use Rattle.sudo_grammar.specs.declared.fault.Unsupported.TheVariants as forms
 use Rattle.sudo_parser.specs.declared.stops.Stopped.TheVariants as stops
 use Rattle.sudo_parser.specs.Stops.{Stops, IsNotNext}
 use Rattle.sudo_grammar.specs.Reading.{reading}

@@ -4,17 +4,17 @@ use Rattle.sudo_text.specs.declared.token.Mark.TheVariants as marks
 use Rattle.sudo_text.specs.declared.token.Token.{Token}
 use Rattle.sudo_text.specs.declared.token.TokenKind.{TokenKind}
 use Rattle.sudo_text.specs.declared.token.TokenKind.TheVariants as tokens
-use Rattle.sudo_tree.specs.declared.policy.Binding.{Binding}
-use Rattle.sudo_tree.specs.declared.policy.Parameter.{Parameter}
-use Rattle.sudo_tree.specs.declared.policy.Parameter.TheVariants as parameters
-use Rattle.sudo_tree.specs.declared.fault.Expected.TheVariants as wants
-use Rattle.sudo_tree.specs.declared.fault.Refusal.TheVariants as refusals
+use Rattle.sudo_grammar.specs.declared.policy.Binding.{Binding}
+use Rattle.sudo_grammar.specs.declared.policy.Parameter.{Parameter}
+use Rattle.sudo_grammar.specs.declared.policy.Parameter.TheVariants as parameters
+use Rattle.sudo_grammar.specs.declared.fault.Expected.TheVariants as wants
+use Rattle.sudo_grammar.specs.declared.fault.Refusal.TheVariants as refusals
 use Rattle.sudo_parser.specs.declared.stops.Stopped.{Stopped}
 use Rattle.sudo_parser.specs.declared.stops.Stopped.TheVariants as stops
 use Rattle.sudo_parser.specs.Stops.{Stops, IsNotNext}
 use Rattle.sudo_grammar.specs.Reading.{reading}
 use Rattle.sudo_parser.proofs.Steps.{reading-step, reading-stuck, stops-here, stops-same}
-use Rattle.sudo_tree.specs.declared.policy.Operator.{Operator}
+use Rattle.sudo_grammar.specs.declared.policy.Operator.{Operator}
 use Rattle.sudo_grammar.specs.Openings.{is_word, operator_of}
 use Rattle.sudo_grammar.specs.Places.{AtParameter, AfterSwitch, AtValue, Room, at_parameter, after_switch, at_operator, at_value}
 use Rattle.sudo_parser.specs.Lists.{ReadsBangs}

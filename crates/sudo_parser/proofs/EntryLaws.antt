@@ -2,7 +2,7 @@
 use Rattle.std.proofs.Common.{List, subst, Result, Ok, Err}
 use Rattle.std.specs.Result.{IfOk, IfErr}
 use Rattle.sudo_text.specs.declared.token.Token.{Token}
-use Rattle.sudo_tree.specs.declared.policy.EntryBody.{EntryBody}
+use Rattle.sudo_grammar.specs.declared.policy.EntryBody.{EntryBody}
 use Rattle.sudo_parser.specs.declared.stops.Stopped.{Stopped}
 use Rattle.sudo_parser.specs.declared.stops.Stopped.TheVariants as stops
 use Rattle.sudo_grammar.specs.Places.{Room, Start}

@@ -4,15 +4,15 @@ use Rattle.std.proofs.Math.Seq.{drop-append_seam}
 use Rattle.sudo_text.specs.declared.token.Token.{Token}
 use Rattle.sudo_text.specs.declared.line.Line.{Line}
 use Rattle.sudo_text.specs.Tokens.{spells}
-use Rattle.sudo_tree.specs.declared.fault.Refusal.{Refusal}
-use Rattle.sudo_tree.specs.declared.fault.ParseFault.{ParseFault}
+use Rattle.sudo_grammar.specs.declared.fault.Refusal.{Refusal}
+use Rattle.sudo_grammar.specs.declared.fault.ParseFault.{ParseFault}
 use Rattle.sudo_parser.specs.declared.stops.Stopped.TheVariants as stops
 use Rattle.sudo_grammar.specs.Places.{Room}
 use Rattle.sudo_grammar.specs.Faults.{WritesWithin}
 use Rattle.sudo_parser.specs.Faults.{IsFaultOf}
 use Rattle.sudo_parser.specs.Parsed.{column, fault_at, IsLineFault, Says}
 use Rattle.std.proofs.Common.{Some}
-use Rattle.sudo_tree.specs.declared.policy.EntryBody.{EntryBody}
+use Rattle.sudo_grammar.specs.declared.policy.EntryBody.{EntryBody}
 
 -- What is left of a list whose end has this length.
 rest_of : {A : Type 0} (front rest : List A) → drop (length (front ++ rest) - length rest) (front ++ rest) ≡ rest

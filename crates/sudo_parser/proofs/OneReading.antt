@@ -5,10 +5,10 @@ use Rattle.sudo_text.specs.declared.token.Token.{Token}
 use Rattle.sudo_text.proofs.OneList.{one_list}
 use Rattle.sudo_text.proofs.NoFault.{no_fault}
 use Rattle.sudo_text.proofs.OneFault.{one_fault}
-use Rattle.sudo_tree.specs.declared.policy.Entry.{Entry}
-use Rattle.sudo_tree.specs.declared.policy.EntryBody.{EntryBody}
-use Rattle.sudo_tree.specs.declared.fault.ParseFault.{ParseFault}
-use Rattle.sudo_tree.specs.declared.fault.ParseFault.TheVariants as faults
+use Rattle.sudo_grammar.specs.declared.policy.Entry.{Entry}
+use Rattle.sudo_grammar.specs.declared.policy.EntryBody.{EntryBody}
+use Rattle.sudo_grammar.specs.declared.fault.ParseFault.{ParseFault}
+use Rattle.sudo_grammar.specs.declared.fault.ParseFault.TheVariants as faults
 use Rattle.sudo_grammar.specs.Forms.{Writes}
 use Rattle.sudo_grammar.specs.Places.{Room}
 use Rattle.sudo_grammar.specs.Reading.{Stop}

@@ -7,12 +7,12 @@ use Rattle.std.proofs.lemmas.List.Sums.{sum_by-append}
 use Rattle.std.proofs.lemmas.List.{append-nil}
 use Rattle.sudo_text.specs.declared.line.Line.{Line}
 use Rattle.sudo_text.specs.declared.line.Place.{Place}
-use Rattle.sudo_tree.specs.declared.kind.Kind.{Kind}
-use Rattle.sudo_tree.specs.declared.policy.Entry.{Entry}
-use Rattle.sudo_tree.specs.declared.policy.Definition.{Definition}
-use Rattle.sudo_tree.specs.declared.policy.EntryBody.{EntryBody}
-use Rattle.sudo_tree.specs.declared.policy.EntryBody.TheVariants as bodies
-use Rattle.sudo_tree.specs.declared.fault.ParseFault.{ParseFault}
+use Rattle.sudo_grammar.specs.declared.kind.Kind.{Kind}
+use Rattle.sudo_grammar.specs.declared.policy.Entry.{Entry}
+use Rattle.sudo_grammar.specs.declared.policy.Definition.{Definition}
+use Rattle.sudo_grammar.specs.declared.policy.EntryBody.{EntryBody}
+use Rattle.sudo_grammar.specs.declared.policy.EntryBody.TheVariants as bodies
+use Rattle.sudo_grammar.specs.declared.fault.ParseFault.{ParseFault}
 use Rattle.sudo_parser.specs.Limits.{same_kind, defined, less}
 use Rattle.sudo_grammar.specs.Places.{Room}
 use Rattle.sudo_parser.specs.Parsed.{room_after, Says, entry_of, AreEntriesAfter, AreEntries, IsLineFault, IsFirstFaultAfter, IsFirstFault, Adds, fits, over_limit_from}

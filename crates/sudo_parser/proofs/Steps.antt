@@ -3,8 +3,8 @@ use Rattle.std.proofs.Common.{arith, ◌<◌, ◌≡◌, List, [], ◌∷◌, le
 use Rattle.std.specs.Result.{IfErr, IsErrAnd}
 use Rattle.sudo_text.specs.declared.token.Mark.{Mark}
 use Rattle.sudo_text.specs.declared.token.Token.{Token}
-use Rattle.sudo_tree.specs.declared.policy.EntryBody.{EntryBody}
-use Rattle.sudo_tree.specs.declared.fault.Refusal.{Refusal}
+use Rattle.sudo_grammar.specs.declared.policy.EntryBody.{EntryBody}
+use Rattle.sudo_grammar.specs.declared.fault.Refusal.{Refusal}
 use Rattle.sudo_parser.specs.declared.stops.Stopped.{Stopped}
 use Rattle.sudo_parser.specs.declared.stops.Stopped.TheVariants as stops
 use Rattle.sudo_grammar.specs.Places.{Place, Room, step, ended}

@@ -3,7 +3,7 @@ use Rattle.std.proofs.Common.{◌≡◌, List, [], ◌∷◌, ◌++◌, refl, No
 use Rattle.std.specs.Prelude.{map, codes}
 use Prim.Native.String.{String}
 use Rattle.sudo_text.specs.declared.token.Ch.{Ch}
-use Rattle.sudo_tree.specs.declared.kind.Atom.TheVariants as atoms
+use Rattle.sudo_grammar.specs.declared.kind.Atom.TheVariants as atoms
 use Rattle.sudo_parser.specs.Texts.{text_of, atom_text}
 
 abbrev chars : String → List Ch

@@ -2,13 +2,13 @@
 use Rattle.std.specs.Prelude.{◌≡◌, ◌<◌, ◌≤◌, true, false, List, [], ◌∷◌, ◌++◌, length, Option, None, Some, Ok}
 use Rattle.sudo_text.specs.declared.token.Mark.TheVariants as marks
 use Rattle.sudo_text.specs.declared.token.Token.{Token}
-use Rattle.sudo_tree.specs.declared.policy.Binding.{Binding}
-use Rattle.sudo_tree.specs.declared.policy.Parameter.{Parameter}
-use Rattle.sudo_tree.specs.declared.policy.Parameter.TheVariants as parameters
-use Rattle.sudo_tree.specs.declared.policy.Operator.{Operator}
-use Rattle.sudo_tree.specs.declared.policy.EntryBody.TheVariants as entries
-use Rattle.sudo_tree.specs.declared.fault.Expected.{Expected}
-use Rattle.sudo_tree.specs.declared.fault.Refusal.TheVariants as refusals
+use Rattle.sudo_grammar.specs.declared.policy.Binding.{Binding}
+use Rattle.sudo_grammar.specs.declared.policy.Parameter.{Parameter}
+use Rattle.sudo_grammar.specs.declared.policy.Parameter.TheVariants as parameters
+use Rattle.sudo_grammar.specs.declared.policy.Operator.{Operator}
+use Rattle.sudo_grammar.specs.declared.policy.EntryBody.TheVariants as entries
+use Rattle.sudo_grammar.specs.declared.fault.Expected.{Expected}
+use Rattle.sudo_grammar.specs.declared.fault.Refusal.TheVariants as refusals
 use Rattle.sudo_parser.specs.declared.stops.Stopped.{Stopped}
 use Rattle.sudo_parser.specs.declared.stops.Stopped.TheVariants as stops
 use Rattle.sudo_grammar.specs.Openings.{is_word, operator_of}

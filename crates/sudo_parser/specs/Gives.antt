@@ -2,7 +2,7 @@
 use Rattle.std.specs.Prelude.{◌≡◌, Result, Ok, Err}
 use Rattle.sudo_parser.specs.declared.members.Declined.{Declined}
 use Rattle.sudo_parser.specs.declared.members.Declined.TheVariants as declines
-use Rattle.sudo_tree.specs.declared.fault.Refusal.{Refusal}
+use Rattle.sudo_grammar.specs.declared.fault.Refusal.{Refusal}
 
 abbrev pub Declines : {X : Type 0} → Declined → Result X Refusal → Type 0
 Declines (declines.Refused refusal) given = given ≡ Err refusal

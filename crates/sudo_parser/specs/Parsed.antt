@@ -10,13 +10,13 @@ use Rattle.sudo_text.specs.declared.line.Place.{Place}
 use Rattle.sudo_text.specs.declared.fault.TextFault.{TextFault}
 use Rattle.sudo_text.specs.declared.fault.TextFault.TheVariants as texts
 use Rattle.sudo_text.specs.Tokens.{spells, LeftmostFault}
-use Rattle.sudo_tree.specs.declared.policy.Entry.{Entry}
-use Rattle.sudo_tree.specs.declared.policy.EntryBody.{EntryBody}
-use Rattle.sudo_tree.specs.declared.policy.EntryBody.TheVariants as bodies
-use Rattle.sudo_tree.specs.declared.fault.Refusal.{Refusal}
-use Rattle.sudo_tree.specs.declared.fault.Refusal.TheVariants as refusals
-use Rattle.sudo_tree.specs.declared.fault.ParseFault.{ParseFault}
-use Rattle.sudo_tree.specs.declared.fault.ParseFault.TheVariants as faults
+use Rattle.sudo_grammar.specs.declared.policy.Entry.{Entry}
+use Rattle.sudo_grammar.specs.declared.policy.EntryBody.{EntryBody}
+use Rattle.sudo_grammar.specs.declared.policy.EntryBody.TheVariants as bodies
+use Rattle.sudo_grammar.specs.declared.fault.Refusal.{Refusal}
+use Rattle.sudo_grammar.specs.declared.fault.Refusal.TheVariants as refusals
+use Rattle.sudo_grammar.specs.declared.fault.ParseFault.{ParseFault}
+use Rattle.sudo_grammar.specs.declared.fault.ParseFault.TheVariants as faults
 use Rattle.sudo_parser.specs.Limits.{defined, less}
 use Rattle.sudo_grammar.specs.Places.{Room}
 use Rattle.sudo_grammar.specs.Reading.{Stop}

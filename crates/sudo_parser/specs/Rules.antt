@@ -2,12 +2,12 @@
 use Rattle.std.specs.Prelude.{◌≡◌, ◌<◌, ◌≤◌, false, List, [], ◌∷◌, ◌++◌, length, Option, None, Some, Ok, ◌⊎◌}
 use Rattle.sudo_text.specs.declared.token.Mark.TheVariants as marks
 use Rattle.sudo_text.specs.declared.token.Token.{Token}
-use Rattle.sudo_tree.specs.declared.kind.Member.{Member}
-use Rattle.sudo_tree.specs.declared.policy.Runas.{Runas}
-use Rattle.sudo_tree.specs.declared.policy.Tag.{Tag}
-use Rattle.sudo_tree.specs.declared.policy.CommandSpec.{CommandSpec}
-use Rattle.sudo_tree.specs.declared.policy.Section.{Section}
-use Rattle.sudo_tree.specs.declared.policy.EntryBody.TheVariants as entries
+use Rattle.sudo_grammar.specs.declared.kind.Member.{Member}
+use Rattle.sudo_grammar.specs.declared.policy.Runas.{Runas}
+use Rattle.sudo_grammar.specs.declared.policy.Tag.{Tag}
+use Rattle.sudo_grammar.specs.declared.policy.CommandSpec.{CommandSpec}
+use Rattle.sudo_grammar.specs.declared.policy.Section.{Section}
+use Rattle.sudo_grammar.specs.declared.policy.EntryBody.TheVariants as entries
 use Rattle.sudo_parser.specs.declared.stops.Stopped.{Stopped}
 use Rattle.sudo_grammar.specs.Words.{tag_of}
 use Rattle.sudo_grammar.specs.Forms.{as_tag}

@@ -10,8 +10,8 @@ use crate::stops::{Stopped, wants};
 use crate::tokens::{after_mark, first_token};
 use crate::words::name;
 use std::alloc::Global;
+use sudo_grammar::{Definition, EntryBody, Expected, Kind, Refusal};
 use sudo_text::{Mark, Seq, Token};
-use sudo_tree::{Definition, EntryBody, Expected, Kind, Refusal};
 
 /// The name of a definition, and the tokens after it. There may be none where the kind's aliases are as many as may be.
 fn definition_name(
@@ -67,7 +67,8 @@ pub(crate) fn aliases(
     tokens: &[Token],
 ) -> Result<EntryBody, Stopped>
     requires { length tokens.now < 2 ^ 32 }
-    ensures { (room : Room) → room kind ≡ limit → GivesEntry result (reading room (AliasName kind []) tokens.now) }
+    ensures { (room : Room) → room kind ≡ limit
+        → GivesEntry result (reading room (AliasName kind []) tokens.now) }
 {
     let mut definitions = Seq::new(alloc);
     let mut rest = tokens;

@@ -10,8 +10,8 @@ use crate::lists::members;
 use crate::stops::{Stopped, wants};
 use crate::tokens::{after_mark, bangs, copy_of, first_token};
 use std::alloc::Global;
+use sudo_grammar::{Binding, EntryBody, Expected, Kind, Member, Operator, Parameter};
 use sudo_text::{Mark, Seq, Token, TokenKind};
-use sudo_tree::{Binding, EntryBody, Expected, Kind, Member, Operator, Parameter};
 
 /// How many bytes `Defaults` has: where a mark begins right after it, the line is bound.
 const DEFAULTS_LEN: u32 = 8;
@@ -90,7 +90,8 @@ fn operator_named(token: &TokenKind) -> Option<Operator>
 
 /// The operator that comes next, if one does, and the tokens after it.
 fn next_operator(tokens: &[Token]) -> Option<(Operator, &[Token])>
-    ensures { MatchOption result (IsNoOperatorNext tokens.now) (λ r. IsOperatorNext tokens.now r.0 r.1.now) }
+    ensures { MatchOption result (IsNoOperatorNext tokens.now)
+        (λ r. IsOperatorNext tokens.now r.0 r.1.now) }
 {
     match first_token(tokens) {
         Some((first, rest)) => match operator_named(&first.kind) {

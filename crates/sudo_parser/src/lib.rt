@@ -13,8 +13,6 @@ mod room;
 mod rules;
 mod runas;
 mod stops;
-#[cfg(test)]
-mod tests;
 mod tokens;
 mod words;
 mod writing;

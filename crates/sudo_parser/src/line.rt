@@ -9,7 +9,7 @@ ghost use Rattle.sudo_grammar.specs.Places as places;
 ghost use Rattle.sudo_grammar.specs.Places.{Start};
 ghost use Rattle.sudo_grammar.specs.Reading.{reading};
 ghost use Rattle.sudo_grammar.specs.Faults.{WritesWithin};
-ghost use Rattle.sudo_tree.specs.declared.policy.EntryBody.{EntryBody};
+ghost use Rattle.sudo_grammar.specs.declared.policy.EntryBody.{EntryBody};
 ghost use Rattle.sudo_parser.specs.Stops.{GivesEntry};
 ghost use Rattle.sudo_parser.specs.Openings.{opened, IsInclude};
 ghost use Rattle.sudo_parser.specs.Limits.{room_of};
@@ -23,8 +23,8 @@ use crate::stops::{Stopped, wants};
 use crate::tokens::first_token;
 use crate::words::{is_unescaped, spells};
 use std::alloc::Global;
+use sudo_grammar::{EntryBody, Expected, Kind, Refusal, Unsupported};
 use sudo_text::{Ch, Seq, Token, TokenKind};
-use sudo_tree::{EntryBody, Expected, Kind, Refusal, Unsupported};
 
 /// What a line begins with, if that is no include directive.
 #[derive(Clone, Copy)]
@@ -106,7 +106,8 @@ fn include(
     rest: &[Token],
 ) -> Result<EntryBody, Stopped>
     requires { left ≡ length rest.now + 1 }
-    ensures { (room : places.Room) (t : Token) → t.kind ≡ tokens.Include folder hash path.now → GivesEntry result (reading room Start (t ∷ rest.now)) }
+    ensures { (room : places.Room) (t : Token) → t.kind ≡ tokens.Include folder hash path.now
+        → GivesEntry result (reading room Start (t ∷ rest.now)) }
 {
     if path.is_empty() {
         return Err(wants(Expected::Path, left));
@@ -149,7 +150,8 @@ fn read(alloc: Global, room: &Room, tokens: &[Token]) -> Result<EntryBody, Stopp
 pub(crate) fn entry(alloc: Global, room: &Room, tokens: &[Token]) -> Result<EntryBody, Stopped>
     requires { length tokens.now < 2 ^ 32 }
     ensures written { IfOk result (λ e. WritesWithin (room_of room.now) e tokens.now) }
-    ensures only { (e : EntryBody) → WritesWithin (room_of room.now) e tokens.now → GivesEntry result (Ok e) }
+    ensures only { (e : EntryBody) → WritesWithin (room_of room.now) e tokens.now
+        → GivesEntry result (Ok e) }
     ensures fault { IfErr result (IsFaultOf (room_of room.now) tokens.now) }
 {
     read(alloc, room, tokens)

@@ -11,8 +11,8 @@ use crate::tokens::{
 };
 use crate::words::{is_digest, is_option, is_percent};
 use std::alloc::Global;
+use sudo_grammar::{Kind, Member, Refusal, Unsupported};
 use sudo_text::{Mark, Seq, Token};
-use sudo_tree::{Kind, Member, Refusal, Unsupported};
 
 /// The refusal of a token, or a better one by what comes next: `%` and a colon directly after it is a group of
 /// another kind, and the name of a digest and a colon is a digest.

@@ -9,8 +9,8 @@ ghost use Rattle.sudo_grammar.specs.Members;
 use crate::numbers::{address, cut, mask, number};
 use crate::words::{ALL, bytes, is_alias_name, is_text, is_unescaped, plain};
 use std::alloc::{AllocError, Global};
+use sudo_grammar::{Atom, Expected, Kind, Refusal, Unsupported};
 use sudo_text::{Ch, Seq, TokenKind};
-use sudo_tree::{Atom, Expected, Kind, Refusal, Unsupported};
 
 const LIST: &[u8] = b"list";
 
@@ -63,7 +63,8 @@ fn host_name(alloc: Global, chars: &[Ch], quoted: bool) -> Result<Atom, Declined
 
 /// An unquoted host word without escapes: an address, a network or a name.
 fn plain_host(alloc: Global, chars: &[Ch]) -> Result<Atom, Declined>
-    ensures { Gives result (plain_host_of chars.now (bytes_of chars.now) (cut_at 47 (bytes_of chars.now))) }
+    ensures { Gives result (plain_host_of chars.now (bytes_of chars.now)
+        (cut_at 47 (bytes_of chars.now))) }
 {
     let bytes = bytes(alloc, chars)?;
     match cut(&bytes, b'/') {

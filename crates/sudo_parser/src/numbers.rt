@@ -5,7 +5,7 @@ ghost use Rattle.std.specs.List.{list_all};
 ghost use Rattle.sudo_grammar.specs.Words.{is_digit};
 ghost use Rattle.sudo_grammar.specs.Members.{number_of, cut_at, groups_of, address_of, mask_of, joined, is_octet, octet_of, mask_of_bits};
 
-use sudo_tree::Refusal;
+use sudo_grammar::Refusal;
 
 /// The value of one or more decimal digits, where it fits 32 bits.
 pub(crate) fn number(bytes: &[u8]) -> Option<u32>
@@ -69,7 +69,8 @@ struct Groups<'a> {
 }
 
 fn four_groups(bytes: &[u8]) -> Option<Groups<'_>>
-    ensures { option_map (λ g. (g.first.now, g.second.now, g.third.now, g.fourth.now)) result ≡ groups_of bytes.now }
+    ensures { option_map (λ g. (g.first.now, g.second.now, g.third.now, g.fourth.now)) result
+        ≡ groups_of bytes.now }
 {
     let (first, rest) = cut(bytes, b'.')?;
     let (second, rest) = cut(rest, b'.')?;

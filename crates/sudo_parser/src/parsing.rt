@@ -1,8 +1,8 @@
 //! The lines of a file to its entries.
 ghost use Rattle.std.specs.Prelude.{◌≡◌, ◌≢◌, ◌≤◌, ◌<◌, ◌-◌, ◌++◌, List, Option, [], length, drop, IfOk, IfErr, OnOk, MatchResult, All, true};
 ghost use Rattle.sudo_text.specs.Tokens.{spells};
-ghost use Rattle.sudo_tree.specs.declared.policy.Entry.{Entry as AnEntry};
-ghost use Rattle.sudo_tree.specs.declared.policy.EntryBody.{EntryBody as ABody};
+ghost use Rattle.sudo_grammar.specs.declared.policy.Entry.{Entry as AnEntry};
+ghost use Rattle.sudo_grammar.specs.declared.policy.EntryBody.{EntryBody as ABody};
 ghost use Rattle.sudo_parser.specs.Limits.{room_of};
 ghost use Rattle.sudo_parser.specs.Parsed as spec;
 ghost use Rattle.sudo_parser.specs.Parsed.{room_after, Says, entry_of, AreEntries, IsLineFault, IsFirstFault, GivesOr, Adds, over_limit};
@@ -11,8 +11,8 @@ use crate::line::entry;
 use crate::room::Room;
 use crate::stops::Stopped;
 use std::alloc::Global;
+use sudo_grammar::{Entry, EntryBody, ParseFault, Refusal};
 use sudo_text::{Line, Place, Seq, TEXT_LIMIT, TextFault, Token, tokens};
-use sudo_tree::{Entry, EntryBody, ParseFault, Refusal};
 
 /// The fault of a text, as one of a policy.
 fn text_fault(fault: TextFault) -> ParseFault
@@ -42,7 +42,8 @@ fn refused(line: &Line, tokens: &[Token], refusal: Refusal, left: usize) -> Pars
     requires left { left ≤ length tokens.now }
     requires short { length line.now.text ≤ TEXT_LIMIT }
     requires inside { All (λ t. t.start < length line.now.text) tokens.now }
-    ensures { result ≡ spec.fault_at line.now.first (spec.column line.now (drop (length tokens.now - left) tokens.now)) refusal }
+    ensures { result ≡ spec.fault_at line.now.first
+        (spec.column line.now (drop (length tokens.now - left) tokens.now)) refusal }
 {
     let (place, col) = (line.first, column(line, tokens, left));
     match refusal {
@@ -62,8 +63,10 @@ fn refused(line: &Line, tokens: &[Token], refusal: Refusal, left: usize) -> Pars
 fn said(alloc: Global, room: &Room, line: &Line) -> Result<Option<EntryBody>, ParseFault>
     requires { length line.now.text ≤ TEXT_LIMIT }
     ensures says { IfOk result (λ body. Says (room_of room.now) line.now body) }
-    ensures only { (body : Option ABody) → Says (room_of room.now) line.now body → GivesOr body result }
-    ensures fault { IfErr result (λ fault. fault ≢ ParseFault.Memory → IsLineFault (room_of room.now) line.now fault) }
+    ensures only { (body : Option ABody) → Says (room_of room.now) line.now body
+        → GivesOr body result }
+    ensures fault { IfErr result (λ fault. fault ≢ ParseFault.Memory
+        → IsLineFault (room_of room.now) line.now fault) }
 {
     let tokens = match tokens(alloc, line) {
         Ok(tokens) => tokens,
@@ -90,10 +93,12 @@ fn add_line(
     requires room { room_of room.old ≡ room_after entries.old }
     ensures room { OnOk result (room_of room.new ≡ room_after entries.new) }
     ensures added { OnOk result (Adds entries.old line.now entries.new) }
-    ensures only { (body : Option ABody) → Says (room_after entries.old) line.now body → MatchResult result
+    ensures only { (body : Option ABody) → Says (room_after entries.old) line.now body
+        → MatchResult result
         (λ _. entries.new ≡ entries.old ++ entry_of line.now body)
         (λ fault. fault ≡ ParseFault.Memory) }
-    ensures fault { IfErr result (λ fault. fault ≢ ParseFault.Memory → IsLineFault (room_after entries.old) line.now fault) }
+    ensures fault { IfErr result (λ fault. fault ≢ ParseFault.Memory
+        → IsLineFault (room_after entries.old) line.now fault) }
 {
     match said(alloc, room, line) {
         Ok(None) => Ok(()),
@@ -122,7 +127,8 @@ pub fn parse(alloc: Global, lines: &[Line]) -> Result<Vec<Entry>, ParseFault>
     ensures only { (entries : List AnEntry) → AreEntries lines.now entries → MatchResult result
         (λ read. read.items ≡ entries)
         (λ fault. fault ≡ ParseFault.Memory) }
-    ensures fault { IfErr result (λ fault. fault ≢ ParseFault.Memory → IsFirstFault lines.now fault) }
+    ensures fault { IfErr result (λ fault. fault ≢ ParseFault.Memory
+        → IsFirstFault lines.now fault) }
 {
     match entries_of(alloc, lines) {
         Ok(entries) => Ok(entries.into_vec()),
@@ -134,8 +140,10 @@ pub fn parse(alloc: Global, lines: &[Line]) -> Result<Vec<Entry>, ParseFault>
 fn entries_of(alloc: Global, lines: &[Line]) -> Result<Seq<Entry>, ParseFault>
     requires { All (λ line. length line.text ≤ TEXT_LIMIT) lines.now }
     ensures entries { IfOk result (λ entries. AreEntries lines.now entries) }
-    ensures only { (entries : List AnEntry) → AreEntries lines.now entries → GivesOr entries result }
-    ensures fault { IfErr result (λ fault. fault ≢ ParseFault.Memory → IsFirstFault lines.now fault) }
+    ensures only { (entries : List AnEntry) → AreEntries lines.now entries
+        → GivesOr entries result }
+    ensures fault { IfErr result (λ fault. fault ≢ ParseFault.Memory
+        → IsFirstFault lines.now fault) }
 {
     let mut room = Room::whole();
     let mut entries = Seq::new(alloc);

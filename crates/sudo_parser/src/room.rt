@@ -1,7 +1,7 @@
 //! The room for definitions of aliases.
 ghost use Rattle.std.specs.Prelude.{◌≡◌};
 
-use sudo_tree::{EntryBody, Kind};
+use sudo_grammar::{EntryBody, Kind};
 
 /// The most definitions of aliases of one kind.
 const ALIAS_LIMIT: u32 = 4096;

@@ -11,12 +11,13 @@ use crate::stops::{Stopped, wants};
 use crate::tokens::{after_mark, first_token};
 use crate::words::tag;
 use std::alloc::{AllocError, Global};
+use sudo_grammar::{CommandSpec, EntryBody, Expected, Kind, Section, Tag};
 use sudo_text::{Mark, Seq, Token};
-use sudo_tree::{CommandSpec, EntryBody, Expected, Kind, Section, Tag};
 
 /// The tag that comes next with a colon after it, if one does, and the tokens after the colon.
 fn next_tag(alloc: Global, tokens: &[Token]) -> Result<Option<(Tag, &[Token])>, AllocError>
-    ensures { IfOk result (λ r. MatchOption r (IsNoTagNext tokens.now) (λ x. IsTagNext tokens.now x.0 x.1.now)) }
+    ensures { IfOk result (λ r. MatchOption r (IsNoTagNext tokens.now)
+        (λ x. IsTagNext tokens.now x.0 x.1.now)) }
 {
     let (first, rest) = match first_token(tokens) {
         Some(found) => found,

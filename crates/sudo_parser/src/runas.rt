@@ -6,8 +6,8 @@ use crate::lists::members;
 use crate::stops::{Stopped, wants};
 use crate::tokens::{after_mark, is_next};
 use std::alloc::Global;
+use sudo_grammar::{Expected, Kind, Member, Runas};
 use sudo_text::{Mark, Seq, Token};
-use sudo_tree::{Expected, Kind, Member, Runas};
 
 /// The users, if there are any, and the tokens after them.
 fn runas_users(alloc: Global, tokens: &[Token]) -> Result<(Option<Seq<Member>>, &[Token]), Stopped>

@@ -2,7 +2,7 @@
 ghost use Rattle.std.specs.Prelude.{◌≡◌};
 
 use std::alloc::AllocError;
-use sudo_tree::{Expected, Refusal};
+use sudo_grammar::{Expected, Refusal};
 
 /// Why a line is no entry: the refusal, and how many tokens there are from the one at which it stands.
 #[derive(Clone, Copy, Debug)]

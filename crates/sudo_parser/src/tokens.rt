@@ -35,7 +35,8 @@ pub(crate) fn copy_of(token: &Token) -> Result<Token, AllocError>
 
 /// The tokens after a mark, if it comes next.
 pub(crate) fn after_mark(tokens: &[Token], mark: Mark) -> Option<&[Token]>
-    ensures { MatchOption result (IsNotNext mark tokens.now) (λ rest. IsNext mark tokens.now rest.now) }
+    ensures { MatchOption result (IsNotNext mark tokens.now)
+        (λ rest. IsNext mark tokens.now rest.now) }
 {
     match first_token(tokens) {
         Some((first, rest)) => {

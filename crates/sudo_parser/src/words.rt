@@ -6,8 +6,8 @@ ghost use Rattle.sudo_grammar.specs.Words.{bytes_of, is_plain, plain_word, is_na
 ghost use Rattle.sudo_grammar.specs.Openings as openings;
 
 use std::alloc::{AllocError, Global};
+use sudo_grammar::Tag;
 use sudo_text::{Ch, Seq, TokenKind};
-use sudo_tree::Tag;
 
 pub(crate) const ALL: &[u8] = b"ALL";
 

@@ -7,8 +7,8 @@ ghost use Rattle.sudo_parser.specs.Texts.{hex_digit, is_special, is_control, byt
 use crate::words::{ALL, is_alias_name};
 use itoa::Buffer;
 use std::alloc::{AllocError, Global};
+use sudo_grammar::{Atom, Signed};
 use sudo_text::{Ch, Seq};
-use sudo_tree::{Atom, Signed};
 
 /// A hexadecimal digit, in lower case.
 fn hex(digit: u8) -> u8

@@ -1,8 +1,8 @@
 -- A list and another after it.
 use Rattle.std.proofs.Common.{◌≡◌, ℕ, zero, suc, List, [], ◌∷◌, ◌++◌, Option, None, Some, refl, sym, ◌∙◌, ap}
-use Rattle.sudo_tree.specs.declared.kind.Kind.{Kind}
-use Rattle.sudo_tree.specs.declared.kind.Member.{Member}
-use Rattle.sudo_tree.specs.declared.policy.Policy.{Policy}
+use Rattle.sudo_grammar.specs.declared.kind.Kind.{Kind}
+use Rattle.sudo_grammar.specs.declared.kind.Member.{Member}
+use Rattle.sudo_grammar.specs.declared.policy.Policy.{Policy}
 use Rattle.sudo_policy.specs.Following.{Reading, joined, member_reading, list_reading, reading_within, definition_of_member}
 
 module _ {R : Type 0} (g : Reading R) (unit : (r : R) → g.join g.nothing r ≡ r) (assoc : (a b c : R) → g.join (g.join a b) c ≡ g.join a (g.join b c)) (kind : Kind) (p : Policy) where

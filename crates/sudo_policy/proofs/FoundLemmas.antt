@@ -3,7 +3,7 @@ use Rattle.std.proofs.Common.{◌≡◌, ℕ, suc, Bool, true, false, List, [], 
 use Rattle.std.specs.Prelude.{slice_get, IsTrue}
 use Rattle.std.specs.List.{items_where_true}
 use Rattle.sudo_policy.specs.declared.finding.Finding.{Finding}
-use Rattle.sudo_tree.specs.declared.policy.Policy.{Policy}
+use Rattle.sudo_grammar.specs.declared.policy.Policy.{Policy}
 use Rattle.sudo_policy.specs.Definitions.{Defined, aliases}
 use Rattle.sudo_policy.specs.Found.{Marks, AreFindings, found_by}
 use Rattle.sudo_policy.proofs.StateLemmas.{get_within, within_get}

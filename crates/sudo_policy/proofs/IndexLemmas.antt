@@ -1,12 +1,12 @@
 -- The index of a survey gives the definitions in force.
 use Rattle.std.proofs.Common.{◌≡◌, ℕ, Option, None, Some, map, refl, sym, ◌∙◌, ap}
 use Rattle.std.specs.Prelude.{slice_get, option_map, option_and_then}
-use Rattle.sudo_tree.specs.declared.policy.Policy.{Policy}
+use Rattle.sudo_grammar.specs.declared.policy.Policy.{Policy}
 use Rattle.sudo_policy.specs.declared.survey.Survey.{Survey}
 use Rattle.sudo_policy.specs.Definitions.{Defined, definitions}
 use Rattle.sudo_policy.specs.Named.{IsSurvey, named_view}
 use Rattle.sudo_policy.specs.Positions.{IsIndex, members_at, names_of}
-use Rattle.sudo_names.specs.Places.{place_of}
+use Rattle.sudo_base.specs.Places.{place_of}
 
 pub IsIndex-survey : (p : Policy) (survey : Survey) → IsSurvey p (definitions p) survey → IsIndex p survey.index
 IsIndex-survey p survey s kind name =

@@ -3,10 +3,10 @@ use Rattle.std.proofs.Common.{◌≡◌, ℕ, suc, ◌<◌, Bool, true, false, L
 use Rattle.std.specs.Prelude.{slice_get, Contains, option_map, option_and_then, option_to_list, find, flat_map, IsSome, if◌then◌else◌}
 use Rattle.std.proofs.lemmas.Option.{slice_get-map}
 use Rattle.std.proofs.lemmas.List.Elements.{Contains-append_left, Contains-append_right, Contains-append_cases}
-use Rattle.sudo_names.specs.Places.{place_of}
-use Rattle.sudo_tree.specs.declared.kind.Kind.{Kind}
-use Rattle.sudo_tree.specs.declared.kind.Member.{Member}
-use Rattle.sudo_tree.specs.declared.policy.Policy.{Policy}
+use Rattle.sudo_base.specs.Places.{place_of}
+use Rattle.sudo_grammar.specs.declared.kind.Kind.{Kind}
+use Rattle.sudo_grammar.specs.declared.kind.Member.{Member}
+use Rattle.sudo_grammar.specs.declared.policy.Policy.{Policy}
 use Rattle.sudo_policy.specs.declared.index.Position.{Position}
 use Rattle.sudo_policy.specs.Definitions.{Defined, Listed, defines, definitions, in_force, alias_named, names_used, Refers, Reaches, step as one_step, more as more_steps, lists}
 use Rattle.sudo_policy.specs.Found.{IsCyclic, IsUsed}

@@ -2,16 +2,16 @@
 use Rattle.std.proofs.Common.{◌≡◌, ℕ, zero, suc, Bool, true, false, cond, List, [], ◌∷◌, Option, None, Some, map, refl, sym, ◌∙◌, ap, subst}
 use Rattle.std.specs.Prelude.{slice_get, find, option_map, option_and_then}
 use Rattle.std.proofs.lemmas.Option.{slice_get-map}
-use Rattle.sudo_tree.specs.declared.kind.Kind.{Kind}
+use Rattle.sudo_grammar.specs.declared.kind.Kind.{Kind}
 use Rattle.sudo_policy.specs.declared.graph.Measure.{Measure}
 use Rattle.sudo_policy.specs.declared.index.Position.{Position}
-use Rattle.sudo_tree.specs.declared.kind.Member.{Member}
-use Rattle.sudo_tree.specs.declared.policy.Policy.{Policy}
+use Rattle.sudo_grammar.specs.declared.kind.Member.{Member}
+use Rattle.sudo_grammar.specs.declared.policy.Policy.{Policy}
 use Rattle.sudo_policy.specs.Definitions.{Defined, defines, definitions, in_force, alias_named}
 use Rattle.sudo_policy.specs.Following.{joined, member_reading, list_reading, reading_within, definition_of_member}
 use Rattle.sudo_policy.specs.Graph.{Links, beside, deeper, measured, link_measure, row_measure, measure_within}
 use Rattle.sudo_policy.specs.Named.{IsIndexed, link_among}
-use Rattle.sudo_names.specs.Places.{place_of}
+use Rattle.sudo_base.specs.Places.{place_of}
 use Rattle.sudo_policy.proofs.StateLemmas.{get_within}
 use Rattle.sudo_policy.proofs.SurveyLemmas.{defines-same}
 

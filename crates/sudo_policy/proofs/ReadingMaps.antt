@@ -1,10 +1,10 @@
 -- Readings that are maps of one another.
 use Rattle.std.proofs.Common.{◌≡◌, ℕ, zero, suc, ◌+◌, min, max, List, [], ◌∷◌, Option, None, Some, refl, sym, ◌∙◌, ap, arith}
 use Rattle.std.specs.Prelude.{option_map}
-use Rattle.sudo_tree.specs.declared.kind.Kind.{Kind}
+use Rattle.sudo_grammar.specs.declared.kind.Kind.{Kind}
 use Rattle.sudo_policy.specs.declared.graph.Measure.{Measure}
-use Rattle.sudo_tree.specs.declared.kind.Member.{Member}
-use Rattle.sudo_tree.specs.declared.policy.Policy.{Policy}
+use Rattle.sudo_grammar.specs.declared.kind.Member.{Member}
+use Rattle.sudo_grammar.specs.declared.policy.Policy.{Policy}
 use Rattle.sudo_policy.specs.Following.{Reading, joined, member_reading, list_reading, reading_within, definition_of_member, depth, width}
 use Rattle.sudo_policy.specs.Graph.{beside, deeper, measured}
 use Rattle.sudo_policy.proofs.FollowingLemmas.{option_map_some}

@@ -3,17 +3,17 @@ use Rattle.std.proofs.Common.{◌≡◌, ℕ, Bool, true, false, cond, ◌&&◌,
 use Rattle.std.specs.Prelude.{option_map, option_copied, find, flat_map, IfSome, IsTrue, Contains}
 use Rattle.std.specs.List.{list_all}
 use Rattle.std.proofs.lemmas.Bool.{and_parts, and_from}
-use Rattle.sudo_tree.specs.declared.kind.Kind.{Kind}
-use Rattle.sudo_tree.specs.declared.kind.Kind.TheVariants.{User, Runas, Host, Cmnd}
-use Rattle.sudo_tree.specs.declared.kind.Member.{Member}
-use Rattle.sudo_tree.specs.declared.policy.CommandSpec.{CommandSpec}
-use Rattle.sudo_tree.specs.declared.policy.Definition.{Definition}
-use Rattle.sudo_tree.specs.declared.policy.Entry.{Entry}
-use Rattle.sudo_tree.specs.declared.policy.EntryBody.{EntryBody}
-use Rattle.sudo_tree.specs.declared.policy.EntryBody.TheVariants.{Aliases, Defaults, Rule, Include}
-use Rattle.sudo_tree.specs.declared.policy.Policy.{Policy}
-use Rattle.sudo_tree.specs.declared.policy.Runas.{Runas as RunasPart}
-use Rattle.sudo_tree.specs.declared.policy.Section.{Section}
+use Rattle.sudo_grammar.specs.declared.kind.Kind.{Kind}
+use Rattle.sudo_grammar.specs.declared.kind.Kind.TheVariants.{User, Runas, Host, Cmnd}
+use Rattle.sudo_grammar.specs.declared.kind.Member.{Member}
+use Rattle.sudo_grammar.specs.declared.policy.CommandSpec.{CommandSpec}
+use Rattle.sudo_grammar.specs.declared.policy.Definition.{Definition}
+use Rattle.sudo_grammar.specs.declared.policy.Entry.{Entry}
+use Rattle.sudo_grammar.specs.declared.policy.EntryBody.{EntryBody}
+use Rattle.sudo_grammar.specs.declared.policy.EntryBody.TheVariants.{Aliases, Defaults, Rule, Include}
+use Rattle.sudo_grammar.specs.declared.policy.Policy.{Policy}
+use Rattle.sudo_grammar.specs.declared.policy.Runas.{Runas as RunasPart}
+use Rattle.sudo_grammar.specs.declared.policy.Section.{Section}
 use Rattle.sudo_text.specs.declared.line.Place.{Place}
 use Rattle.sudo_policy.specs.Definitions.{Defined, Listed, definitions, definitions_of, definitions_of_body, definitions_of_list, defines, in_force, lists, lists_of, lists_of_body, lists_of_list, option_lists, runas_lists, command_lists, section_lists}
 use Rattle.sudo_policy.specs.Resolving.{resolves, IsSound, AreWritten, list_resolves, runas_resolves, command_resolves, section_resolves, rule_resolves}

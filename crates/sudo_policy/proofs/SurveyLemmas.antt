@@ -4,25 +4,25 @@ use Rattle.std.specs.Prelude.{slice_get, find, is_some, option_map, option_and_t
 use Rattle.std.specs.Option.{option_or}
 use Rattle.std.proofs.lemmas.List.Folds.{find-append}
 use Rattle.std.specs.Cmp.Lexicographic.{bytes_decides}
-use Rattle.sudo_tree.specs.declared.kind.Kind.{Kind}
-use Rattle.sudo_tree.specs.declared.kind.Kind.TheVariants.{User, Runas, Host, Cmnd}
+use Rattle.sudo_grammar.specs.declared.kind.Kind.{Kind}
+use Rattle.sudo_grammar.specs.declared.kind.Kind.TheVariants.{User, Runas, Host, Cmnd}
 use Rattle.sudo_policy.specs.declared.index.Position.{Position}
-use Rattle.sudo_tree.specs.declared.kind.Member.{Member}
-use Rattle.sudo_tree.specs.declared.policy.Policy.{Policy}
+use Rattle.sudo_grammar.specs.declared.kind.Member.{Member}
+use Rattle.sudo_grammar.specs.declared.policy.Policy.{Policy}
 use Rattle.sudo_policy.specs.Definitions.{Defined, defines, same_kind, is_defined_in, firsts, repeats}
 use Rattle.std.proofs.lemmas.List.Elements.{All-push}
 use Rattle.std.specs.Prelude.{All, flat_map}
 use Rattle.std.proofs.lemmas.List.{map_push, drop_more}
 use Rattle.sudo_text.specs.declared.line.Place.{Place}
-use Rattle.sudo_tree.specs.declared.policy.Definition.{Definition}
-use Rattle.sudo_tree.specs.declared.policy.Entry.{Entry}
-use Rattle.sudo_tree.specs.declared.policy.EntryBody.{EntryBody}
-use Rattle.sudo_tree.specs.declared.policy.EntryBody.TheVariants.{Aliases}
+use Rattle.sudo_grammar.specs.declared.policy.Definition.{Definition}
+use Rattle.sudo_grammar.specs.declared.policy.Entry.{Entry}
+use Rattle.sudo_grammar.specs.declared.policy.EntryBody.{EntryBody}
+use Rattle.sudo_grammar.specs.declared.policy.EntryBody.TheVariants.{Aliases}
 use Rattle.sudo_policy.specs.declared.survey.Named.{Named}
 use Rattle.sudo_policy.specs.Named.{IsIndexed, IsPlaced, StandAt}
 use Rattle.sudo_policy.proofs.StateLemmas.{get_within}
 use Rattle.sudo_policy.specs.Positions.{members_at, definition_at_body}
-use Rattle.sudo_names.specs.Places.{place_of}
+use Rattle.sudo_base.specs.Places.{place_of}
 
 -- a definition that comes last
 firsts-last : (before ds : List Defined) (d : Defined) → firsts before (ds ++ d ∷ []) ≡ firsts before ds ++ (if is_defined_in (before ++ ds) d then [] else d ∷ [])

@@ -3,7 +3,7 @@ use Rattle.std.specs.Prelude.{◌≡◌, true, false, List}
 use Rattle.sudo_policy.specs.declared.checking.CheckFault.{CheckFault}
 use Rattle.sudo_policy.specs.declared.checking.CheckFault.TheVariants.{Findings, Memory}
 use Rattle.sudo_policy.specs.declared.finding.Finding.{Finding}
-use Rattle.sudo_tree.specs.declared.policy.Policy.{Policy}
+use Rattle.sudo_grammar.specs.declared.policy.Policy.{Policy}
 use Rattle.sudo_policy.specs.Found.{AreFindings, has_error}
 
 -- the findings of the policy have no error

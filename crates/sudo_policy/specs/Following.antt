@@ -1,8 +1,8 @@
 -- What a list of members comes to, where each alias stands for what its definition comes to. sudoers(5), "Aliases".
 use Rattle.std.specs.Prelude.{ℕ, zero, suc, ◌+◌, max, List, [], ◌∷◌, Option, Some, None, option_map, option_and_then, ◌≡◌}
-use Rattle.sudo_tree.specs.declared.kind.Kind.{Kind}
-use Rattle.sudo_tree.specs.declared.kind.Member.{Member}
-use Rattle.sudo_tree.specs.declared.policy.Policy.{Policy}
+use Rattle.sudo_grammar.specs.declared.kind.Kind.{Kind}
+use Rattle.sudo_grammar.specs.declared.kind.Member.{Member}
+use Rattle.sudo_grammar.specs.declared.policy.Policy.{Policy}
 use Rattle.sudo_policy.specs.Definitions.{in_force, alias_named}
 
 -- how members are read: what no member comes to, what a first member and the others come to together, what a member comes to that is no defined alias, if anything, and what a member comes to whose definition comes to r

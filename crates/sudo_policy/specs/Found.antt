@@ -4,7 +4,7 @@ use Rattle.std.specs.List.{items_where_true, list_any}
 use Rattle.sudo_policy.specs.declared.finding.Class.{Class}
 use Rattle.sudo_policy.specs.declared.finding.Class.TheVariants.{Redefined, Undefined, Cycle, TooDeep, TooWide, Unused}
 use Rattle.sudo_policy.specs.declared.finding.Finding.{Finding}
-use Rattle.sudo_tree.specs.declared.policy.Policy.{Policy}
+use Rattle.sudo_grammar.specs.declared.policy.Policy.{Policy}
 use Rattle.sudo_policy.specs.Definitions.{Defined, Listed, aliases, repeats, definitions, lists, names_used, in_force, Reaches}
 use Rattle.sudo_policy.specs.Following.{ReadsAs, depth, width}
 

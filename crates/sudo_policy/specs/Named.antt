@@ -1,17 +1,17 @@
 -- Definitions, lists and links as the survey of a policy holds them: words that only proofs need.
 use Rattle.std.specs.Prelude.{◌≡◌, ◌<◌, ℕ, List, [], Option, Some, map, find, option_map, option_and_then, slice_get, length, if◌then◌else◌}
-use Rattle.sudo_tree.specs.declared.kind.Kind.{Kind}
+use Rattle.sudo_grammar.specs.declared.kind.Kind.{Kind}
 use Rattle.sudo_policy.specs.declared.index.Index.{Index}
 use Rattle.sudo_policy.specs.declared.index.Position.{Position}
-use Rattle.sudo_tree.specs.declared.kind.Member.{Member}
-use Rattle.sudo_tree.specs.declared.policy.Definition.{Definition}
-use Rattle.sudo_tree.specs.declared.policy.Policy.{Policy}
+use Rattle.sudo_grammar.specs.declared.kind.Member.{Member}
+use Rattle.sudo_grammar.specs.declared.policy.Definition.{Definition}
+use Rattle.sudo_grammar.specs.declared.policy.Policy.{Policy}
 use Rattle.sudo_policy.specs.declared.survey.Named.{Named}
 use Rattle.sudo_policy.specs.declared.survey.Listed.{Listed as HeldList}
 use Rattle.sudo_policy.specs.declared.survey.Survey.{Survey}
 use Rattle.sudo_policy.specs.Definitions.{Defined, Listed, defines, firsts, repeats, alias_named}
 use Rattle.sudo_policy.specs.Positions.{names_of, members_at}
-use Rattle.sudo_names.specs.Places.{place_of}
+use Rattle.sudo_base.specs.Places.{place_of}
 
 -- the definition, without its position
 abbrev pub named_view : Named → Defined

@@ -1,13 +1,13 @@
 -- Lists whose aliases can be followed to their end. sudoers(5), "Aliases".
 use Rattle.std.specs.Prelude.{ℕ, max, Bool, true, ◌&&◌, List, [], ◌∷◌, Option, Some, None, IsTrue, is_some, unwrap_or, Contains}
 use Rattle.std.specs.List.{list_all}
-use Rattle.sudo_tree.specs.declared.kind.Kind.{Kind}
-use Rattle.sudo_tree.specs.declared.kind.Kind.TheVariants.{User, Runas, Host, Cmnd}
-use Rattle.sudo_tree.specs.declared.kind.Member.{Member}
-use Rattle.sudo_tree.specs.declared.policy.CommandSpec.{CommandSpec}
-use Rattle.sudo_tree.specs.declared.policy.Policy.{Policy}
-use Rattle.sudo_tree.specs.declared.policy.Runas.{Runas as RunasPart}
-use Rattle.sudo_tree.specs.declared.policy.Section.{Section}
+use Rattle.sudo_grammar.specs.declared.kind.Kind.{Kind}
+use Rattle.sudo_grammar.specs.declared.kind.Kind.TheVariants.{User, Runas, Host, Cmnd}
+use Rattle.sudo_grammar.specs.declared.kind.Member.{Member}
+use Rattle.sudo_grammar.specs.declared.policy.CommandSpec.{CommandSpec}
+use Rattle.sudo_grammar.specs.declared.policy.Policy.{Policy}
+use Rattle.sudo_grammar.specs.declared.policy.Runas.{Runas as RunasPart}
+use Rattle.sudo_grammar.specs.declared.policy.Section.{Section}
 use Rattle.sudo_policy.specs.Definitions.{lists, Listed}
 use Rattle.sudo_policy.specs.Following.{depth, reading_within}
 use Rattle.sudo_policy.specs.Written.{writing, Written, written}

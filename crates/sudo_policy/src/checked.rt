@@ -7,7 +7,7 @@ ghost use Rattle.sudo_policy.specs.Resolving.{resolves, IsSound};
 
 use crate::index::{Index, members_at};
 use std::marker::Model;
-use sudo_tree::{Kind, Member, Policy};
+use sudo_grammar::{Kind, Member, Policy};
 
 /// A policy that was checked and has no error among its findings. Contracts see the policy.
 #[derive(Drop)]
@@ -17,7 +17,7 @@ pub struct Checked {
 }
 
 impl Model for Checked {
-    ghost use Rattle.sudo_tree.specs.declared.policy.Policy.{Policy};
+    ghost use Rattle.sudo_grammar.specs.declared.policy.Policy.{Policy};
     ghost use Rattle.sudo_policy.specs.Checking.{Passes};
     ghost use Rattle.sudo_policy.specs.Positions.{IsIndex};
     ghost use Rattle.sudo_policy.specs.Resolving.{IsSound};

@@ -6,8 +6,8 @@ ghost use Rattle.sudo_policy.specs.Found.{has_error, is_error};
 use crate::examination::examine;
 use crate::{Checked, Class, Finding};
 use std::alloc::Global;
+use sudo_grammar::Policy;
 use sudo_text::Seq;
-use sudo_tree::Policy;
 use thiserror::Error;
 
 /// Why a policy was not accepted. Both hand the policy back.

@@ -1,7 +1,7 @@
 //! The findings on a policy's aliases.
 ghost use Rattle.std.specs.Prelude.{◌≡◌, ◌++◌, List, false, map, flat_map, not, option_copied, IfOk, OnOk};
 ghost use Rattle.std.specs.List.{items_where_true};
-ghost use Rattle.sudo_tree.specs.declared.policy.Policy.{Policy};
+ghost use Rattle.sudo_grammar.specs.declared.policy.Policy.{Policy};
 ghost use Rattle.sudo_policy.specs.Definitions as policies;
 ghost use Rattle.std.specs.Prelude.{◌∷◌, []};
 ghost use Rattle.sudo_policy.specs.Found.{AreFindings, has_error};
@@ -20,8 +20,8 @@ use crate::reach::reached;
 use crate::survey::{Listed, Named, Survey, definitions, links, lists, roots, surveyed};
 use crate::{Class, Finding};
 use std::alloc::{AllocError, Global};
+use sudo_grammar::{Kind, Policy};
 use sudo_text::{Place, Seq};
-use sudo_tree::{Kind, Policy};
 
 /// The findings on a policy, with the index of its definitions.
 #[derive(Drop)]
@@ -53,7 +53,8 @@ pub fn findings(alloc: Global, policy: &Policy) -> Result<Vec<Finding>, AllocErr
 pub(crate) fn examine(alloc: Global, policy: &Policy) -> Result<Examined, AllocError>
     ensures findings { IfOk result (λ examined. AreFindings policy.now examined.findings.items) }
     ensures index { IfOk result (λ examined. IsIndex policy.now examined.index) }
-    ensures sound { IfOk result (λ examined. has_error examined.findings.items ≡ false → IsSound policy.now) }
+    ensures sound { IfOk result (λ examined. has_error examined.findings.items ≡ false
+        → IsSound policy.now) }
 {
     let all = definitions(alloc, policy)?;
     let lists = lists(alloc, policy)?;
@@ -71,7 +72,8 @@ pub(crate) fn examine(alloc: Global, policy: &Policy) -> Result<Examined, AllocE
 /// What there is to say of each alias in force.
 fn judge(alloc: Global, survey: &Survey<'_>, lists: &[Listed<'_>]) -> Result<Judged, AllocError>
     requires inside { LeadsInside survey.now }
-    ensures { IfOk result (λ judged. (p : Policy) → IsSurvey p (policies.definitions p) survey.now → map listed_view lists.now ≡ policies.lists p → IsJudged p judged) }
+    ensures { IfOk result (λ judged. (p : Policy) → IsSurvey p (policies.definitions p) survey.now
+        → map listed_view lists.now ≡ policies.lists p → IsJudged p judged) }
 {
     let links = links(alloc, &survey.index, survey.aliases.as_slice())?;
     let Visited { states, looped } = all_visited(alloc, links.as_slice())?;
@@ -141,7 +143,9 @@ fn collected(
     lists: &[Listed<'_>],
     judged: &Judged,
 ) -> Result<Vec<Finding>, AllocError>
-    ensures { IfOk result (λ all. all.items ≡ found_in survey.now.index (map named_view survey.now.aliases.items) (map named_view survey.now.repeats.items) (map listed_view lists.now) judged.now) }
+    ensures { IfOk result (λ all. all.items ≡ found_in survey.now.index
+        (map named_view survey.now.aliases.items) (map named_view survey.now.repeats.items)
+        (map listed_view lists.now) judged.now) }
 {
     let aliases = survey.aliases.as_slice();
     let mut found = Vec::new(alloc);
@@ -196,7 +200,9 @@ fn push_repeats(
     repeats: &[Named<'_>],
     findings: &mut Vec<Finding>,
 ) -> Result<(), AllocError>
-    ensures { OnOk result (findings.new.items ≡ findings.old.items ++ map (found.finding_on Class.Redefined) (map named_view repeats.now)) }
+    ensures { OnOk result (findings.new.items
+        ≡ findings.old.items ++ map (found.finding_on Class.Redefined)
+        (map named_view repeats.now)) }
 {
     for alias in repeats {
         findings.push(finding_on(alloc, Class::Redefined, alias)?)?;
@@ -212,7 +218,9 @@ fn push_marked(
     marks: &[bool],
     findings: &mut Vec<Finding>,
 ) -> Result<(), AllocError>
-    ensures { OnOk result (findings.new.items ≡ findings.old.items ++ map (found.finding_on class) (items_where_true marks.now (map named_view aliases.now))) }
+    ensures { OnOk result (findings.new.items
+        ≡ findings.old.items ++ map (found.finding_on class)
+        (items_where_true marks.now (map named_view aliases.now))) }
 {
     for (alias, mark) in aliases.iter().zip(marks) {
         push_if(alloc, class, alias, *mark, findings)?;
@@ -228,7 +236,9 @@ fn push_if(
     mark: bool,
     findings: &mut Vec<Finding>,
 ) -> Result<(), AllocError>
-    ensures { OnOk result (findings.new.items ≡ findings.old.items ++ map (found.finding_on class) (items_where_true (mark ∷ []) (named_view alias.now ∷ []))) }
+    ensures { OnOk result (findings.new.items
+        ≡ findings.old.items ++ map (found.finding_on class)
+        (items_where_true (mark ∷ []) (named_view alias.now ∷ []))) }
 {
     if mark {
         findings.push(finding_on(alloc, class, alias)?)?;
@@ -243,7 +253,8 @@ fn push_undefined(
     lists: &[Listed<'_>],
     findings: &mut Vec<Finding>,
 ) -> Result<(), AllocError>
-    ensures { OnOk result (findings.new.items ≡ findings.old.items ++ flat_map (missing_in index.now) (map listed_view lists.now)) }
+    ensures { OnOk result (findings.new.items
+        ≡ findings.old.items ++ flat_map (missing_in index.now) (map listed_view lists.now)) }
 {
     for list in lists {
         push_uses(alloc, index, list, findings)?;
@@ -258,7 +269,8 @@ fn push_uses(
     list: &Listed<'_>,
     findings: &mut Vec<Finding>,
 ) -> Result<(), AllocError>
-    ensures { OnOk result (findings.new.items ≡ findings.old.items ++ missing_in index.now (listed_view list.now)) }
+    ensures { OnOk result (findings.new.items
+        ≡ findings.old.items ++ missing_in index.now (listed_view list.now)) }
 {
     for member in list.members {
         push_use(
@@ -282,7 +294,8 @@ fn push_use(
     name: Option<&[u8]>,
     findings: &mut Vec<Finding>,
 ) -> Result<(), AllocError>
-    ensures { OnOk result (findings.new.items ≡ findings.old.items ++ atom_missing index.now kind place (option_copied name.entry)) }
+    ensures { OnOk result (findings.new.items
+        ≡ findings.old.items ++ atom_missing index.now kind place (option_copied name.entry)) }
 {
     let Some(name) = name else {
         return Ok(());

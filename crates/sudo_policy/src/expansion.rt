@@ -8,7 +8,7 @@ ghost use Rattle.sudo_policy.specs.Written.{differ, negated_if, written, Written
 use crate::Checked;
 use crate::member::{alias_name, atom_copied, is_negated};
 use std::alloc::{AllocError, Global};
-use sudo_tree::{Kind, Member, Signed};
+use sudo_grammar::{Kind, Member, Signed};
 use thiserror::Error;
 
 /// Why an alias cannot be written out.
@@ -53,8 +53,10 @@ pub fn expand(
     ensures written { IfOk result (λ atoms. (members : List Member)
         × (in_force kind checked.now name.now ≡ Some members)
         × Written kind checked.now members atoms.items) }
-    ensures no_such_alias { in_force kind checked.now name.now ≡ None → result ≡ Err ExpandFault.NoSuchAlias }
-    ensures known { IfErr result (λ fault. fault ≡ ExpandFault.NoSuchAlias → in_force kind checked.now name.now ≡ None) }
+    ensures no_such_alias { in_force kind checked.now name.now ≡ None
+        → result ≡ Err ExpandFault.NoSuchAlias }
+    ensures known { IfErr result (λ fault. fault ≡ ExpandFault.NoSuchAlias
+        → in_force kind checked.now name.now ≡ None) }
 {
     let Some(members) = checked.definition(kind, name) else {
         return Err(ExpandFault::NoSuchAlias);
@@ -74,7 +76,8 @@ fn write_out(
     atoms: &mut Vec<Signed>,
 ) -> Result<(), AllocError>
     requires { IsTrue (resolves kind checked.now members.now) }
-    ensures { OnOk result (atoms.new.items ≡ atoms.old.items ++ map (negated_if negate) (written kind checked.now members.now)) }
+    ensures { OnOk result (atoms.new.items ≡ atoms.old.items
+        ++ map (negated_if negate) (written kind checked.now members.now)) }
 {
     for member in members {
         let negated = differ(negate, is_negated(member));

@@ -1,7 +1,7 @@
 //! What the check of a policy's aliases finds.
 
+use sudo_grammar::Kind;
 use sudo_text::{Place, Seq};
-use sudo_tree::Kind;
 
 /// The classes of findings, in the order in which they are listed: those of the strict check of visudo(8). The first five are errors, the last one is a warning.
 #[derive(Clone, Copy, Debug, PartialEq, Eq)]

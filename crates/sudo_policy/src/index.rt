@@ -1,13 +1,13 @@
 //! Where definitions stand.
 ghost use Rattle.std.specs.Prelude.{◌≡◌, None, [], ◌∷◌, ◌++◌, false, OnOk, length, option_copied};
-ghost use Rattle.sudo_names.specs.Places.{place_of};
-ghost use Rattle.sudo_tree.specs.declared.kind.Kind.{Kind};
+ghost use Rattle.sudo_base.specs.Places.{place_of};
+ghost use Rattle.sudo_grammar.specs.declared.kind.Kind.{Kind};
 ghost use Rattle.sudo_policy.specs.Definitions.{same_kind};
 ghost use Rattle.sudo_policy.specs.Positions.{position_in, members_at, names_of};
 
 use std::alloc::{AllocError, Global};
-use sudo_names::Names;
-use sudo_tree::{EntryBody, Kind, Member, Policy};
+use sudo_base::Names;
+use sudo_grammar::{EntryBody, Kind, Member, Policy};
 
 /// Where a definition stands: the entry, and the definition in it, both from 0.
 #[derive(Clone, Copy, Debug)]
@@ -50,9 +50,12 @@ impl Index {
         position: Position,
     ) -> Result<(), AllocError>
         requires { place_of (names_of self.old kind) name.now ≡ None }
-        ensures names { OnOk result (names_of self.new kind ≡ names_of self.old kind ++ (name.now, length self.old.positions.items) ∷ []) }
-        ensures others { OnOk result ((other : Kind) → same_kind other kind ≡ false → names_of self.new other ≡ names_of self.old other) }
-        ensures positions { OnOk result (self.new.positions.items ≡ self.old.positions.items ++ position ∷ []) }
+        ensures names { OnOk result (names_of self.new kind
+            ≡ names_of self.old kind ++ (name.now, length self.old.positions.items) ∷ []) }
+        ensures others { OnOk result ((other : Kind) → same_kind other kind ≡ false
+            → names_of self.new other ≡ names_of self.old other) }
+        ensures positions { OnOk result (self.new.positions.items
+            ≡ self.old.positions.items ++ position ∷ []) }
     {
         let number = self.positions.len();
         self.positions.push(position)?;

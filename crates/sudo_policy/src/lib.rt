@@ -23,8 +23,8 @@ pub use expansion::{ExpandFault, expand};
 pub use finding::{Class, Finding};
 pub use law::{findings_are_one_list, lists_are_written, written_form_is_one};
 pub use member::{alias_name, is_negated};
-pub use sudo_parser::{member_text, parse};
-pub use sudo_tree::{
+pub use sudo_grammar::{
     Atom, Binding, CommandSpec, Definition, Entry, EntryBody, Expected, Kind, Member, Operator,
     Parameter, ParseFault, Policy, Runas, Section, Signed, Tag, Unsupported,
 };
+pub use sudo_parser::{member_text, parse};

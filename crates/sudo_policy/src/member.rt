@@ -4,8 +4,8 @@ ghost use Rattle.sudo_policy.specs.Definitions.{alias_named};
 ghost use Rattle.sudo_policy.specs.Written as written;
 
 use std::alloc::{AllocError, Global};
+use sudo_grammar::{Atom, Member};
 use sudo_text::{Ch, Seq};
-use sudo_tree::{Atom, Member};
 
 /// The alias that an atom names.
 pub fn alias_name(atom: &Atom) -> Option<&[u8]>

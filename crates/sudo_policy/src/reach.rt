@@ -14,7 +14,8 @@ pub(crate) fn reached(
 ) -> Result<Vec<bool>, AllocError>
     requires closed { IsClosed links.now }
     requires inside { IsInside roots.now (length links.now) }
-    ensures { IfOk result (λ marks. MarksOf (length links.now) (IsReached links.now roots.now) marks.items) }
+    ensures { IfOk result (λ marks. MarksOf (length links.now)
+        (IsReached links.now roots.now) marks.items) }
 {
     let mut marks = vec![in alloc; false; links.len()]?;
     spread(alloc, links, roots, marks.as_mut_slice())?;

@@ -1,16 +1,16 @@
 //! The definitions and the lists of a policy, in the order of the file.
 ghost use Rattle.std.specs.Prelude.{◌≡◌, ◌++◌, [], ◌∷◌, List, All, map, flat_map, IfOk, OnOk, Some, slice_get};
-ghost use Rattle.sudo_tree.specs.declared.policy.Policy.{Policy};
+ghost use Rattle.sudo_grammar.specs.declared.policy.Policy.{Policy};
 ghost use Rattle.sudo_policy.specs.Definitions.{Defined, definitions, definitions_of, definitions_of_list, lists, lists_of_body, lists_of_list, binding_lists_of, section_lists, command_lists, runas_lists, option_lists, granting_list};
 ghost use Rattle.sudo_policy.specs.Named.{named_view, listed_view, row_of, row_of_alias, granting_row, IsSurvey, IsPlaced, StandAt};
 
 use crate::index::{Index, Position};
 use crate::member::alias_name;
 use std::alloc::{AllocError, Global};
-use sudo_text::{Place, Seq};
-use sudo_tree::{
+use sudo_grammar::{
     Binding, CommandSpec, Definition, Entry, EntryBody, Kind, Member, Policy, Runas, Section,
 };
+use sudo_text::{Place, Seq};
 
 /// A definition of an alias, and where it stands.
 #[derive(Clone, Copy)]
@@ -45,8 +45,10 @@ pub(crate) fn definitions(alloc: Global, policy: &Policy) -> Result<Vec<Named<'_
 
 /// Appends the definitions of an entry.
 fn push_entry<'a>(entry: &'a Entry, at: usize, all: &mut Vec<Named<'a>>) -> Result<(), AllocError>
-    ensures placed { OnOk result ((p : Policy) → slice_get p.entries at ≡ Some entry.now → All (IsPlaced p) all.old.items → All (IsPlaced p) all.new.items) }
-    ensures all { OnOk result (map named_view all.new.items ≡ map named_view all.old.items ++ definitions_of entry.now) }
+    ensures placed { OnOk result ((p : Policy) → slice_get p.entries at ≡ Some entry.now
+        → All (IsPlaced p) all.old.items → All (IsPlaced p) all.new.items) }
+    ensures all { OnOk result (map named_view all.new.items
+        ≡ map named_view all.old.items ++ definitions_of entry.now) }
 {
     match &entry.body {
         EntryBody::Aliases { kind, definitions } => {
@@ -67,8 +69,10 @@ fn push_definitions<'a>(
     definitions: &'a [Definition],
     all: &mut Vec<Named<'a>>,
 ) -> Result<(), AllocError>
-    ensures placed { OnOk result ((p : Policy) → StandAt p entry definitions.now → All (IsPlaced p) all.old.items → All (IsPlaced p) all.new.items) }
-    ensures all { OnOk result (map named_view all.new.items ≡ map named_view all.old.items ++ definitions_of_list kind place definitions.now) }
+    ensures placed { OnOk result ((p : Policy) → StandAt p entry definitions.now
+        → All (IsPlaced p) all.old.items → All (IsPlaced p) all.new.items) }
+    ensures all { OnOk result (map named_view all.new.items
+        ≡ map named_view all.old.items ++ definitions_of_list kind place definitions.now) }
 {
     for (at, definition) in definitions.iter().enumerate() {
         all.push(Named {
@@ -102,7 +106,8 @@ fn push_lists<'a>(
     body: &'a EntryBody,
     all: &mut Vec<Listed<'a>>,
 ) -> Result<(), AllocError>
-    ensures { OnOk result (map listed_view all.new.items ≡ map listed_view all.old.items ++ lists_of_body place body.now) }
+    ensures { OnOk result (map listed_view all.new.items
+        ≡ map listed_view all.old.items ++ lists_of_body place body.now) }
 {
     match body {
         EntryBody::Aliases { kind, definitions } => {
@@ -128,7 +133,8 @@ fn push_defined<'a>(
     definitions: &'a [Definition],
     all: &mut Vec<Listed<'a>>,
 ) -> Result<(), AllocError>
-    ensures { OnOk result (map listed_view all.new.items ≡ map listed_view all.old.items ++ lists_of_list kind place definitions.now) }
+    ensures { OnOk result (map listed_view all.new.items
+        ≡ map listed_view all.old.items ++ lists_of_list kind place definitions.now) }
 {
     for definition in definitions {
         all.push(Listed {
@@ -148,7 +154,8 @@ fn push_granting<'a>(
     members: &'a [Member],
     all: &mut Vec<Listed<'a>>,
 ) -> Result<(), AllocError>
-    ensures { OnOk result (map listed_view all.new.items ≡ map listed_view all.old.items ++ granting_list kind place members.now ∷ []) }
+    ensures { OnOk result (map listed_view all.new.items
+        ≡ map listed_view all.old.items ++ granting_list kind place members.now ∷ []) }
 {
     all.push(Listed {
         kind,
@@ -165,7 +172,8 @@ fn push_binding<'a>(
     binding: &'a Binding,
     all: &mut Vec<Listed<'a>>,
 ) -> Result<(), AllocError>
-    ensures { OnOk result (map listed_view all.new.items ≡ map listed_view all.old.items ++ binding_lists_of place binding.now) }
+    ensures { OnOk result (map listed_view all.new.items
+        ≡ map listed_view all.old.items ++ binding_lists_of place binding.now) }
 {
     match binding {
         Binding::Hosts(members) => push_granting(Kind::Host, place, members.as_slice(), all),
@@ -181,7 +189,8 @@ fn push_sections<'a>(
     sections: &'a [Section],
     all: &mut Vec<Listed<'a>>,
 ) -> Result<(), AllocError>
-    ensures { OnOk result (map listed_view all.new.items ≡ map listed_view all.old.items ++ flat_map (section_lists place) sections.now) }
+    ensures { OnOk result (map listed_view all.new.items
+        ≡ map listed_view all.old.items ++ flat_map (section_lists place) sections.now) }
 {
     for section in sections {
         push_granting(Kind::Host, place, section.hosts.as_slice(), all)?;
@@ -196,7 +205,8 @@ fn push_commands<'a>(
     commands: &'a [CommandSpec],
     all: &mut Vec<Listed<'a>>,
 ) -> Result<(), AllocError>
-    ensures { OnOk result (map listed_view all.new.items ≡ map listed_view all.old.items ++ flat_map (command_lists place) commands.now) }
+    ensures { OnOk result (map listed_view all.new.items
+        ≡ map listed_view all.old.items ++ flat_map (command_lists place) commands.now) }
 {
     for command in commands {
         push_command(place, command, all)?;
@@ -210,7 +220,8 @@ fn push_command<'a>(
     command: &'a CommandSpec,
     all: &mut Vec<Listed<'a>>,
 ) -> Result<(), AllocError>
-    ensures { OnOk result (map listed_view all.new.items ≡ map listed_view all.old.items ++ command_lists place command.now) }
+    ensures { OnOk result (map listed_view all.new.items
+        ≡ map listed_view all.old.items ++ command_lists place command.now) }
 {
     push_runas(place, &command.runas, all)?;
     push_granting(
@@ -227,7 +238,8 @@ fn push_runas<'a>(
     runas: &'a Option<Runas>,
     all: &mut Vec<Listed<'a>>,
 ) -> Result<(), AllocError>
-    ensures { OnOk result (map listed_view all.new.items ≡ map listed_view all.old.items ++ runas_lists place runas.now) }
+    ensures { OnOk result (map listed_view all.new.items
+        ≡ map listed_view all.old.items ++ runas_lists place runas.now) }
 {
     match runas {
         Some(runas) => {
@@ -244,7 +256,8 @@ fn push_option<'a>(
     members: &'a Option<Seq<Member>>,
     all: &mut Vec<Listed<'a>>,
 ) -> Result<(), AllocError>
-    ensures { OnOk result (map listed_view all.new.items ≡ map listed_view all.old.items ++ option_lists Kind.Runas place members.now) }
+    ensures { OnOk result (map listed_view all.new.items
+        ≡ map listed_view all.old.items ++ option_lists Kind.Runas place members.now) }
 {
     match members {
         Some(members) => push_granting(Kind::Runas, place, members.as_slice(), all),
@@ -263,7 +276,9 @@ pub(crate) struct Survey<'a> {
 impl<'a> Survey<'a> {
     /// Adds a definition: to those in force where its name is new, else to the others.
     fn add(&mut self, alloc: Global, definition: Named<'a>) -> Result<(), AllocError>
-        ensures kept { OnOk result ((p : Policy) (done : List Defined) → IsPlaced p definition.entry → IsSurvey p done self.old → IsSurvey p (done ++ named_view definition.entry ∷ []) self.new) }
+        ensures kept { OnOk result ((p : Policy) (done : List Defined) → IsPlaced p definition.entry
+            → IsSurvey p done self.old → IsSurvey p
+            (done ++ named_view definition.entry ∷ []) self.new) }
     {
         match self.index.number(definition.kind, definition.name) {
             Some(_) => self.repeats.push(definition)?,
@@ -281,7 +296,8 @@ pub(crate) fn surveyed<'a>(
     alloc: Global,
     definitions: &[Named<'a>],
 ) -> Result<Survey<'a>, AllocError>
-    ensures { IfOk result (λ survey. (p : Policy) → All (IsPlaced p) definitions.now → IsSurvey p (map named_view definitions.now) survey) }
+    ensures { IfOk result (λ survey. (p : Policy) → All (IsPlaced p) definitions.now
+        → IsSurvey p (map named_view definitions.now) survey) }
 {
     let mut survey = Survey {
         aliases: Vec::new(alloc),
@@ -300,7 +316,8 @@ pub(crate) fn links(
     index: &Index,
     aliases: &[Named<'_>],
 ) -> Result<Vec<Seq<Option<usize>>>, AllocError>
-    ensures { IfOk result (λ rows. rows.items ≡ map (row_of_alias index.now) (map named_view aliases.now)) }
+    ensures { IfOk result (λ rows. rows.items
+        ≡ map (row_of_alias index.now) (map named_view aliases.now)) }
 {
     let mut rows = Vec::new(alloc);
     for alias in aliases {
@@ -335,7 +352,8 @@ pub(crate) fn roots(
     index: &Index,
     lists: &[Listed<'_>],
 ) -> Result<Vec<Option<usize>>, AllocError>
-    ensures { IfOk result (λ roots. roots.items ≡ flat_map (granting_row index.now) (map listed_view lists.now)) }
+    ensures { IfOk result (λ roots. roots.items
+        ≡ flat_map (granting_row index.now) (map listed_view lists.now)) }
 {
     let mut roots = Vec::new(alloc);
     for list in lists {
@@ -351,7 +369,8 @@ fn push_roots(
     list: &Listed<'_>,
     roots: &mut Vec<Option<usize>>,
 ) -> Result<(), AllocError>
-    ensures { OnOk result (roots.new.items ≡ roots.old.items ++ granting_row index.now (listed_view list.now)) }
+    ensures { OnOk result (roots.new.items ≡ roots.old.items
+        ++ granting_row index.now (listed_view list.now)) }
 {
     if list.granting {
         let row = row(alloc, index, list.kind, list.members)?;

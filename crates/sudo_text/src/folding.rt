@@ -100,7 +100,8 @@ fn logical_line(
     requires some { 0 < length text.now }
     requires fits { first + length text.now < 2 ^ 32 }
     ensures folded { MatchResult result
-        (λ x. folded_from file first (physical_lines text.now) ≡ with_front (x.0 ∷ []) (folded_from file x.2 (physical_lines x.1.now)))
+        (λ x. folded_from file first (physical_lines text.now)
+        ≡ with_front (x.0 ∷ []) (folded_from file x.2 (physical_lines x.1.now)))
         (λ fault. Fails fault (folded_from file first (physical_lines text.now))) }
     ensures shorter { IfOk result (λ x. length x.1.now < length text.now) }
     ensures short { IfOk result (λ x. length x.0.text ≤ length text.now) }
@@ -145,7 +146,8 @@ pub fn lines(alloc: Global, file: u32, text: &[u8]) -> Result<Vec<Line>, TextFau
     // Each line is short enough for its tokens to be read.
     ensures short { IfOk result (λ v. All (λ line. length line.text ≤ TEXT_LIMIT) v.items) }
     // A text over the limit is refused before anything grows.
-    ensures memory { IfErr result (λ fault. fault ≡ TextFault.Memory → length text.now ≤ TEXT_LIMIT) }
+    ensures memory { IfErr result (λ fault. fault ≡ TextFault.Memory
+        → length text.now ≤ TEXT_LIMIT) }
 {
     if text.len() > TEXT_LIMIT {
         return Err(TextFault::TooLong { file });

@@ -13,7 +13,6 @@ mod piece;
 mod rules;
 mod run;
 mod scan;
-mod seq;
 mod token;
 
 pub use fault::TextFault;
@@ -25,5 +24,5 @@ pub use laws::{
 };
 pub use line::{Line, Place};
 pub use scan::tokens;
-pub use seq::Seq;
+pub use sudo_base::Seq;
 pub use token::{Ch, Mark, Token, TokenKind};

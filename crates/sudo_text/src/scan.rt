@@ -229,7 +229,8 @@ fn next_token(
     requires from { from ≤ length line.now.text }
     requires fits { length line.now.text < 2 ^ 32 }
     requires kind { KindFits kind (length line.now.text) }
-    ensures none { IsDone result → closes_line kind line.now.text line.now.joins from before ≡ true }
+    ensures none { IsDone result → closes_line kind line.now.text line.now.joins from before
+        ≡ true }
     ensures some { IfToken result (λ t. stands kind line.now.text from before t ≡ true) }
     ensures within { IfToken result (λ t. (from < t.end) × (t.end ≤ length line.now.text)) }
     ensures inside_text { IfToken result (λ t. t.start < length line.now.text) }
@@ -314,7 +315,8 @@ pub fn tokens(alloc: Global, line: &Line) -> Result<Vec<Token>, TextFault>
     ensures few { IfOk result (λ v. length v.items ≤ length line.now.text) }
     ensures inside { IfOk result (λ v. All (λ t. t.start < length line.now.text) v.items) }
     // What is spelled so is read, unless memory was refused.
-    ensures only { (ts : List Token) → spells line.now ts ≡ true → Gives (λ v. v.items) result (Ok ts) }
+    ensures only { (ts : List Token) → spells line.now ts ≡ true
+        → Gives (λ v. v.items) result (Ok ts) }
     // Which fault it is.
     ensures fault { IfErr result (λ f. f ≢ TextFault.Memory → LeftmostFault line.now f) }
 {

@@ -3,6 +3,5 @@ pub mod Deciding
 pub mod Tagging
 pub mod Searching
 pub mod Resolving
-pub mod Forward
 pub mod VerdictVectors
 pub mod Posting

@@ -2,25 +2,25 @@
 use Rattle.std.proofs.Common.{◌≡◌, ℕ, zero, suc, ◌+◌, Bool, true, false, not, cond, ◌&&◌, List, [], ◌∷◌, ◌++◌, map, length, take, flat_map, Option, Some, None, refl, sym, ◌∙◌, ap, arith, option_to_list}
 use Rattle.std.specs.Option.{option_or, option_map, unwrap_or}
 use Rattle.std.specs.List.{slice_get}
-use Rattle.sudo_tree.specs.declared.kind.Kind.TheVariants as kind
-use Rattle.sudo_tree.specs.declared.kind.Signed.{Signed}
-use Rattle.sudo_tree.specs.declared.kind.Member.{Member}
-use Rattle.sudo_tree.specs.declared.policy.CommandSpec.{CommandSpec}
-use Rattle.sudo_tree.specs.declared.policy.Section.{Section}
-use Rattle.sudo_tree.specs.declared.policy.Entry.{Entry}
-use Rattle.sudo_tree.specs.declared.policy.EntryBody.{EntryBody}
-use Rattle.sudo_tree.specs.declared.policy.EntryBody.TheVariants.{Rule}
-use Rattle.sudo_tree.specs.declared.policy.Policy.{Policy}
+use Rattle.sudo_grammar.specs.declared.kind.Kind.TheVariants as kind
+use Rattle.sudo_grammar.specs.declared.kind.Signed.{Signed}
+use Rattle.sudo_grammar.specs.declared.kind.Member.{Member}
+use Rattle.sudo_grammar.specs.declared.policy.CommandSpec.{CommandSpec}
+use Rattle.sudo_grammar.specs.declared.policy.Section.{Section}
+use Rattle.sudo_grammar.specs.declared.policy.Entry.{Entry}
+use Rattle.sudo_grammar.specs.declared.policy.EntryBody.{EntryBody}
+use Rattle.sudo_grammar.specs.declared.policy.EntryBody.TheVariants.{Rule}
+use Rattle.sudo_grammar.specs.declared.policy.Policy.{Policy}
 use Rattle.sudo_policy.specs.Written.{written}
 use Rattle.sudo_policy.specs.Resolving.{resolves, command_resolves, runas_resolves}
 use Rattle.sudo_text.specs.declared.line.Place.{Place}
 use Rattle.sudo_match.specs.Matching.{command_fits}
-use Rattle.sudo_rows.specs.declared.request.Verdict.{Verdict}
-use Rattle.sudo_rows.specs.declared.request.Verdict.TheVariants.{NoMatch, Unknown}
-use Rattle.sudo_rows.specs.declared.request.Request.{Request}
-use Rattle.sudo_rows.specs.declared.request.What.{What}
+use Rattle.sudo_match.specs.declared.request.Verdict.{Verdict}
+use Rattle.sudo_match.specs.declared.request.Verdict.TheVariants.{NoMatch, Unknown}
+use Rattle.sudo_match.specs.declared.request.Request.{Request}
+use Rattle.sudo_match.specs.declared.request.What.{What}
 use Rattle.sudo_match.specs.Known.{Known}
-use Rattle.sudo_tree.specs.declared.policy.Runas.{Runas}
+use Rattle.sudo_grammar.specs.declared.policy.Runas.{Runas}
 use Rattle.std.proofs.Common.{Ok, Err, length-append, add-one}
 use Rattle.std.proofs.lemmas.Bool.{and_parts}
 use Rattle.std.specs.List.{list_all, enumerate_from}

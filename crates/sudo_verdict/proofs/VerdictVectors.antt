@@ -6,27 +6,27 @@ use Rattle.sudo_text.specs.declared.line.Place.{Place}
 use Rattle.sudo_text.specs.declared.token.Ch.{Ch}
 use Rattle.sudo_text.specs.declared.token.Mark.TheVariants.{Bang}
 use Rattle.sudo_text.specs.declared.token.TokenKind.TheVariants as token
-use Rattle.sudo_tree.specs.Includes.{is_include}
-use Rattle.sudo_tree.specs.declared.kind.Kind.{Kind}
-use Rattle.sudo_tree.specs.declared.kind.Kind.TheVariants as kind
-use Rattle.sudo_tree.specs.declared.kind.Atom.{Atom}
-use Rattle.sudo_tree.specs.declared.kind.Atom.TheVariants as atom
-use Rattle.sudo_tree.specs.declared.kind.Member.{Member}
-use Rattle.sudo_tree.specs.declared.policy.Tag.{Tag}
-use Rattle.sudo_tree.specs.declared.policy.Tag.TheVariants as tag
-use Rattle.sudo_tree.specs.declared.policy.Runas.{Runas}
-use Rattle.sudo_tree.specs.declared.policy.CommandSpec.{CommandSpec}
-use Rattle.sudo_tree.specs.declared.policy.Section.{Section}
-use Rattle.sudo_tree.specs.declared.policy.Entry.{Entry}
-use Rattle.sudo_tree.specs.declared.policy.EntryBody.TheVariants.{Aliases, Rule}
-use Rattle.sudo_tree.specs.declared.policy.Policy.{Policy}
-use Rattle.sudo_rows.specs.declared.people.Person.{Person}
-use Rattle.sudo_rows.specs.declared.people.Group.{Group}
-use Rattle.sudo_rows.specs.declared.request.Tags.{Tags}
-use Rattle.sudo_rows.specs.declared.request.Request.{Request}
-use Rattle.sudo_rows.specs.declared.request.What.TheVariants as what
-use Rattle.sudo_rows.specs.declared.request.Verdict.{Verdict}
-use Rattle.sudo_rows.specs.declared.request.Verdict.TheVariants.{Allow, Deny, NoMatch, Unknown}
+use Rattle.sudo_grammar.specs.Includes.{is_include}
+use Rattle.sudo_grammar.specs.declared.kind.Kind.{Kind}
+use Rattle.sudo_grammar.specs.declared.kind.Kind.TheVariants as kind
+use Rattle.sudo_grammar.specs.declared.kind.Atom.{Atom}
+use Rattle.sudo_grammar.specs.declared.kind.Atom.TheVariants as atom
+use Rattle.sudo_grammar.specs.declared.kind.Member.{Member}
+use Rattle.sudo_grammar.specs.declared.policy.Tag.{Tag}
+use Rattle.sudo_grammar.specs.declared.policy.Tag.TheVariants as tag
+use Rattle.sudo_grammar.specs.declared.policy.Runas.{Runas}
+use Rattle.sudo_grammar.specs.declared.policy.CommandSpec.{CommandSpec}
+use Rattle.sudo_grammar.specs.declared.policy.Section.{Section}
+use Rattle.sudo_grammar.specs.declared.policy.Entry.{Entry}
+use Rattle.sudo_grammar.specs.declared.policy.EntryBody.TheVariants.{Aliases, Rule}
+use Rattle.sudo_grammar.specs.declared.policy.Policy.{Policy}
+use Rattle.sudo_match.specs.declared.people.Person.{Person}
+use Rattle.sudo_match.specs.declared.people.Group.{Group}
+use Rattle.sudo_match.specs.declared.request.Tags.{Tags}
+use Rattle.sudo_match.specs.declared.request.Request.{Request}
+use Rattle.sudo_match.specs.declared.request.What.TheVariants as what
+use Rattle.sudo_match.specs.declared.request.Verdict.{Verdict}
+use Rattle.sudo_match.specs.declared.request.Verdict.TheVariants.{Allow, Deny, NoMatch, Unknown}
 use Rattle.sudo_policy.specs.Following.{reading_within}
 use Rattle.sudo_policy.specs.Written.{written}
 use Rattle.sudo_match.specs.Known.{Known, user_named, host_named, group_named}

@@ -1,10 +1,10 @@
 -- How a list decides: by the last atom of the written-out list that passes a test. Only a body's proof needs it.
 use Rattle.std.specs.Prelude.{Bool, List, Option, option_map}
-use Rattle.sudo_tree.specs.declared.kind.Kind.{Kind}
-use Rattle.sudo_tree.specs.declared.kind.Atom.{Atom}
-use Rattle.sudo_tree.specs.declared.kind.Signed.{Signed}
-use Rattle.sudo_tree.specs.declared.kind.Member.{Member}
-use Rattle.sudo_tree.specs.declared.policy.Policy.{Policy}
+use Rattle.sudo_grammar.specs.declared.kind.Kind.{Kind}
+use Rattle.sudo_grammar.specs.declared.kind.Atom.{Atom}
+use Rattle.sudo_grammar.specs.declared.kind.Signed.{Signed}
+use Rattle.sudo_grammar.specs.declared.kind.Member.{Member}
+use Rattle.sudo_grammar.specs.declared.policy.Policy.{Policy}
 use Rattle.sudo_policy.specs.Written.{differ, written}
 use Rattle.sudo_verdict.specs.declared.decision.Decision.{Decision}
 use Rattle.sudo_verdict.specs.Last.{last_that}

@@ -1,11 +1,11 @@
 -- A request whose names are known. sudo(8), options -u and -g; sudoers(5), "Runas_Spec".
 use Rattle.std.specs.Prelude.{ℕ, List, codes, Option, Some, None, Result, Ok, Err, option_map}
-use Rattle.sudo_rows.specs.declared.people.Person.{Person}
-use Rattle.sudo_rows.specs.declared.people.Group.{Group}
-use Rattle.sudo_rows.specs.declared.people.Machine.{Machine}
-use Rattle.sudo_rows.specs.declared.request.Request.{Request}
-use Rattle.sudo_rows.specs.declared.request.What.{What}
-use Rattle.sudo_rows.specs.declared.request.What.TheVariants.{User, Host, Target, Group as GroupAsked}
+use Rattle.sudo_match.specs.declared.people.Person.{Person}
+use Rattle.sudo_match.specs.declared.people.Group.{Group}
+use Rattle.sudo_match.specs.declared.people.Machine.{Machine}
+use Rattle.sudo_match.specs.declared.request.Request.{Request}
+use Rattle.sudo_match.specs.declared.request.What.{What}
+use Rattle.sudo_match.specs.declared.request.What.TheVariants.{User, Host, Target, Group as GroupAsked}
 use Rattle.sudo_match.specs.Known.{Known, user_named, host_named, group_named}
 
 -- who asks and where, as whom, and for which command

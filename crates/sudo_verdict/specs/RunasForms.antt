@@ -1,12 +1,12 @@
 -- As whom a command may be run: the five forms of a runas. sudoers(5), "Runas_Spec".
 use Rattle.std.specs.Prelude.{Bool, true, false, ◌&&◌, ◌==◌, List, bytes_eq, codes, Option, Some, None, is_some, unwrap_or}
 use Rattle.std.specs.List.{list_any}
-use Rattle.sudo_tree.specs.declared.kind.Kind.TheVariants as kind
-use Rattle.sudo_tree.specs.declared.kind.Member.{Member}
-use Rattle.sudo_tree.specs.declared.policy.Policy.{Policy}
-use Rattle.sudo_tree.specs.declared.policy.Runas.{Runas}
-use Rattle.sudo_rows.specs.declared.people.Person.{Person}
-use Rattle.sudo_rows.specs.declared.people.Group.{Group}
+use Rattle.sudo_grammar.specs.declared.kind.Kind.TheVariants as kind
+use Rattle.sudo_grammar.specs.declared.kind.Member.{Member}
+use Rattle.sudo_grammar.specs.declared.policy.Policy.{Policy}
+use Rattle.sudo_grammar.specs.declared.policy.Runas.{Runas}
+use Rattle.sudo_match.specs.declared.people.Person.{Person}
+use Rattle.sudo_match.specs.declared.people.Group.{Group}
 use Rattle.sudo_match.specs.Matching.{user_fits, group_fits}
 use Rattle.sudo_verdict.specs.Values.{value, allows}
 use Rattle.sudo_verdict.specs.Questions.{Question}

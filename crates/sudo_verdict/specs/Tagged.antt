@@ -1,11 +1,11 @@
 -- The tags and the runas of a command place: what stands before a command holds for the later commands of its section. sudoers(5), "Tag_Spec" and "Runas_Spec".
 use Rattle.std.specs.Prelude.{ℕ, ◌+◌, Bool, true, false, cond, List, [], ◌∷◌, map, take, flat_map, Option, Some, None}
 use Rattle.std.specs.Option.{option_or}
-use Rattle.sudo_tree.specs.declared.policy.Tag.{Tag}
-use Rattle.sudo_tree.specs.declared.policy.Tag.TheVariants as tag
-use Rattle.sudo_tree.specs.declared.policy.CommandSpec.{CommandSpec}
-use Rattle.sudo_tree.specs.declared.policy.Runas.{Runas}
-use Rattle.sudo_rows.specs.declared.request.Tags.{Tags}
+use Rattle.sudo_grammar.specs.declared.policy.Tag.{Tag}
+use Rattle.sudo_grammar.specs.declared.policy.Tag.TheVariants as tag
+use Rattle.sudo_grammar.specs.declared.policy.CommandSpec.{CommandSpec}
+use Rattle.sudo_grammar.specs.declared.policy.Runas.{Runas}
+use Rattle.sudo_match.specs.declared.request.Tags.{Tags}
 use Rattle.sudo_verdict.specs.Last.{last_set}
 
 -- what a tag says of each pair, if anything

@@ -1,11 +1,11 @@
 -- What a list says of a user, a group, a host or a command. sudoers(5), "User_List", "Host_List", "Cmnd_List".
 use Rattle.std.specs.Prelude.{Bool, true, false, not, List, Option, option_map, unwrap_or}
-use Rattle.sudo_tree.specs.declared.kind.Kind.{Kind}
-use Rattle.sudo_tree.specs.declared.kind.Kind.TheVariants as kind
-use Rattle.sudo_tree.specs.declared.kind.Atom.{Atom}
-use Rattle.sudo_tree.specs.declared.kind.Atom.TheVariants.{All}
-use Rattle.sudo_tree.specs.declared.kind.Member.{Member}
-use Rattle.sudo_tree.specs.declared.policy.Policy.{Policy}
+use Rattle.sudo_grammar.specs.declared.kind.Kind.{Kind}
+use Rattle.sudo_grammar.specs.declared.kind.Kind.TheVariants as kind
+use Rattle.sudo_grammar.specs.declared.kind.Atom.{Atom}
+use Rattle.sudo_grammar.specs.declared.kind.Atom.TheVariants.{All}
+use Rattle.sudo_grammar.specs.declared.kind.Member.{Member}
+use Rattle.sudo_grammar.specs.declared.policy.Policy.{Policy}
 use Rattle.sudo_policy.specs.Written.{written}
 use Rattle.sudo_match.specs.Matching.{user_fits, host_fits}
 use Rattle.sudo_verdict.specs.Last.{last_that}

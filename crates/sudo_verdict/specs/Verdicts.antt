@@ -1,12 +1,12 @@
 -- The verdict on a request: the last grant that applies decides. sudoers(5), "SUDOERS FILE FORMAT": the last match is used.
 use Rattle.std.specs.Prelude.{Bool, cond, Option, Some, None, Result, Ok, Err}
 use Rattle.sudo_text.specs.declared.line.Place.{Place}
-use Rattle.sudo_tree.specs.declared.policy.Policy.{Policy}
-use Rattle.sudo_rows.specs.declared.request.Request.{Request}
-use Rattle.sudo_rows.specs.declared.request.Tags.{Tags}
-use Rattle.sudo_rows.specs.declared.request.What.{What}
-use Rattle.sudo_rows.specs.declared.request.Verdict.{Verdict}
-use Rattle.sudo_rows.specs.declared.request.Verdict.TheVariants.{Allow, Deny, NoMatch, Unknown}
+use Rattle.sudo_grammar.specs.declared.policy.Policy.{Policy}
+use Rattle.sudo_match.specs.declared.request.Request.{Request}
+use Rattle.sudo_match.specs.declared.request.Tags.{Tags}
+use Rattle.sudo_match.specs.declared.request.What.{What}
+use Rattle.sudo_match.specs.declared.request.Verdict.{Verdict}
+use Rattle.sudo_match.specs.declared.request.Verdict.TheVariants.{Allow, Deny, NoMatch, Unknown}
 use Rattle.sudo_match.specs.Known.{Known}
 use Rattle.sudo_verdict.specs.Last.{last_that}
 use Rattle.sudo_verdict.specs.Tagged.{tags_given}

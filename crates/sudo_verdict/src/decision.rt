@@ -1,15 +1,16 @@
 //! How a list decides about a user, a group, a host or a command.
 
 ghost use Rattle.std.specs.Prelude.{◌≡◌, ◌∷◌, [], Bool, IsTrue};
-ghost use Rattle.sudo_tree.specs.declared.kind.Atom.{Atom};
+ghost use Rattle.sudo_grammar.specs.declared.kind.Atom.{Atom};
 ghost use Rattle.sudo_policy.specs.Resolving.{resolves};
 ghost use Rattle.sudo_match.specs.Matching.{user_fits, group_fits, host_fits, command_fits};
 ghost use Rattle.sudo_verdict.specs.Values as values;
 ghost use Rattle.sudo_verdict.specs.Decided.{decided, negated_once};
 
-use sudo_match::{command_matches, group_matches, host_matches, user_matches};
+use sudo_match::{
+    Group, Machine, Person, command_matches, group_matches, host_matches, user_matches,
+};
 use sudo_policy::{Atom, Checked, Kind, Member, is_negated};
-use sudo_rows::{Group, Machine, Person};
 
 /// What the members of a list are matched with.
 pub(crate) trait Subject {

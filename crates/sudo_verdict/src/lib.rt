@@ -4,15 +4,13 @@
 #![tactic(auto)]
 
 mod decision;
-mod listing;
 mod postings;
 mod query;
 mod rule_index;
 mod search;
 mod tags;
 
-pub use listing::verdict_by_listing;
 pub use rule_index::RuleIndex;
 pub use search::verdict;
-pub use sudo_rows::{Request, Tags, Verdict, What};
+pub use sudo_match::{Request, Tags, Verdict, What};
 pub use tags::tags_in_report_order;

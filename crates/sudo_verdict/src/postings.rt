@@ -6,8 +6,8 @@
 ghost use Rattle.std.specs.Prelude.{ℕ, ◌≡◌, ◌+◌, ◌*◌, ◌%◌, ◌≤◌, ◌<◌, true, false, None, [], ◌∷◌, IsTrue, IfOk, OnOk, length, ◌==◌};
 ghost use Rattle.std.specs.List.{list_any};
 ghost use Rattle.std.specs.List.Sorted.{IsNonDecreasingBy};
-ghost use Rattle.sudo_tree.specs.declared.kind.Kind.TheVariants as kind;
-ghost use Rattle.sudo_rows.specs.declared.people.Person.{Person};
+ghost use Rattle.sudo_grammar.specs.declared.kind.Kind.TheVariants as kind;
+ghost use Rattle.sudo_match.specs.declared.people.Person.{Person};
 ghost use Rattle.sudo_policy.specs.Resolving.{resolves};
 ghost use Rattle.sudo_match.specs.Matching.{user_fits};
 ghost use Rattle.sudo_verdict.specs.Decided.{decided};
@@ -18,8 +18,8 @@ ghost use Rattle.sudo_verdict.specs.Postings as postings;
 ghost use Rattle.sudo_verdict.specs.Postings.{AreLists, Covers, Grows, misses, posted};
 
 use std::alloc::{AllocError, Global};
+use sudo_match::Person;
 use sudo_policy::{Atom, Checked, Entry, EntryBody, Kind, Member};
-use sudo_rows::Person;
 
 /// How many lists there are; each number is below it.
 const LISTS: usize = 16_384;
@@ -110,7 +110,8 @@ fn atom_number(atom: &Atom) -> usize
 fn end_in(rules: &[usize], end: usize) -> usize
     requires { IsNonDecreasingBy (λ rule. rule) rules.now }
     ensures within { result ≤ end }
-    ensures none { (rule : ℕ) → result ≤ rule → rule < end → list_any (λ other. other == rule) rules.now ≡ false }
+    ensures none { (rule : ℕ) → result ≤ rule → rule < end
+        → list_any (λ other. other == rule) rules.now ≡ false }
 {
     let count = rules.partition_point(|rule| *rule < end);
     if count == 0 { 0 } else { rules[count - 1] + 1 }
@@ -161,7 +162,8 @@ impl Postings {
         requires resolves { IsTrue (resolves kind.User checked.now members.now) }
         ensures lists { AreLists (rule + 1) self.new.lists.items }
         ensures grows { Grows self.old.lists.items self.new.lists.items }
-        ensures covers { OnOk result ((u : Person) → misses self.new.lists.items rule u ≡ true → decided kind.User checked.now members.now (λ a. user_fits a u) ≡ None) }
+        ensures covers { OnOk result ((u : Person) → misses self.new.lists.items rule u ≡ true
+            → decided kind.User checked.now members.now (λ a. user_fits a u) ≡ None) }
     {
         let mut left = members;
         while let Some((member, rest)) = left.split_last() {
@@ -183,7 +185,8 @@ impl Postings {
         requires resolves { IsTrue (resolves kind.User checked.now (member.now ∷ [])) }
         ensures lists { AreLists (rule + 1) self.new.lists.items }
         ensures grows { Grows self.old.lists.items self.new.lists.items }
-        ensures covers { OnOk result ((u : Person) → misses self.new.lists.items rule u ≡ true → decided kind.User checked.now (member.now ∷ []) (λ a. user_fits a u) ≡ None) }
+        ensures covers { OnOk result ((u : Person) → misses self.new.lists.items rule u ≡ true
+            → decided kind.User checked.now (member.now ∷ []) (λ a. user_fits a u) ≡ None) }
     {
         if self.left == 0 {
             return self.post(EVERYONE, rule);
@@ -209,7 +212,9 @@ impl Postings {
         requires resolves { IsTrue (body_resolves checked.now entry.now.body) }
         ensures lists { AreLists (rule + 1) self.new.lists.items }
         ensures grows { Grows self.old.lists.items self.new.lists.items }
-        ensures covers { OnOk result ((q : Question) → misses self.new.lists.items rule q.user ≡ true → entry_found checked.now q entry.now ≡ None) }
+        ensures covers { OnOk result ((q : Question)
+            → misses self.new.lists.items rule q.user ≡ true
+            → entry_found checked.now q entry.now ≡ None) }
     {
         match &entry.body {
             EntryBody::Rule { users, .. } => self.post_members(checked, users.as_slice(), rule),
@@ -219,7 +224,8 @@ impl Postings {
 
     /// The rules of a policy.
     pub(crate) fn of(alloc: Global, checked: &Checked) -> Result<Postings, AllocError>
-        ensures { IfOk result (λ all. AreLists (length checked.now.entries) all.lists.items × Covers checked.now (length checked.now.entries) all.lists.items) }
+        ensures { IfOk result (λ all. AreLists (length checked.now.entries) all.lists.items
+            × Covers checked.now (length checked.now.entries) all.lists.items) }
     {
         let mut all = Postings::new(alloc)?;
         let entries = checked.policy().entries.as_slice();
@@ -234,7 +240,8 @@ impl Postings {
         requires number { number < 16384 }
         requires lists { (n : ℕ) × AreLists n self.now.lists.items }
         ensures within { result ≤ end }
-        ensures none { (rule : ℕ) → result ≤ rule → rule < end → posted self.now.lists.items number rule ≡ false }
+        ensures none { (rule : ℕ) → result ≤ rule → rule < end
+            → posted self.now.lists.items number rule ≡ false }
     {
         end_in(self.lists[number].as_slice(), end)
     }
@@ -243,7 +250,8 @@ impl Postings {
     pub(crate) fn end_for(&self, user: &Person, end: usize) -> usize
         requires { (n : ℕ) × AreLists n self.now.lists.items }
         ensures within { result ≤ end }
-        ensures none { (rule : ℕ) → result ≤ rule → rule < end → misses self.now.lists.items rule user.now ≡ true }
+        ensures none { (rule : ℕ) → result ≤ rule → rule < end
+            → misses self.now.lists.items rule user.now ≡ true }
     {
         let for_everyone = self.end_at(EVERYONE, end);
         if for_everyone == end {

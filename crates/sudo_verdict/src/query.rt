@@ -1,7 +1,7 @@
 //! A request whose names are known, and what it asks of the lists of a rule.
 
 ghost use Rattle.std.specs.Prelude.{◌≡◌, ◌∷◌, [], IsTrue, Option, Some, None, MatchResult, Ok, Err, option_copied, is_some, unwrap_or, bytes_eq, codes};
-ghost use Rattle.sudo_tree.specs.declared.kind.Kind.TheVariants as kind;
+ghost use Rattle.sudo_grammar.specs.declared.kind.Kind.TheVariants as kind;
 ghost use Rattle.sudo_policy.specs.Resolving.{resolves, list_resolves, runas_resolves};
 ghost use Rattle.sudo_match.specs.Known.{user_named};
 ghost use Rattle.sudo_verdict.specs.Values as values;
@@ -10,9 +10,8 @@ ghost use Rattle.sudo_verdict.specs.Questions.{question_of, target_of};
 ghost use Rattle.sudo_verdict.specs.Queries.{question};
 
 use crate::decision::{AsGroup, AsHost, AsUser, value};
-use sudo_match::Directory;
+use sudo_match::{Directory, Group, Machine, Person, Request, What};
 use sudo_policy::{Checked, Kind, Member, Runas};
-use sudo_rows::{Group, Machine, Person, Request, What};
 use sudo_text::Seq;
 
 /// A request whose names are known.
@@ -36,7 +35,8 @@ pub(crate) fn query_of<'a>(
     directory: &'a Directory,
     request: &'a Request,
 ) -> Result<Query<'a>, What>
-    ensures { MatchResult result (λ q. question_of directory.now request.now ≡ Ok (question q)) (λ w. question_of directory.now request.now ≡ Err w) }
+    ensures { MatchResult result (λ q. question_of directory.now request.now ≡ Ok (question q))
+        (λ w. question_of directory.now request.now ≡ Err w) }
 {
     let Some(user) = directory.user(request.user.as_slice()) else {
         return Err(What::User);
@@ -76,7 +76,8 @@ fn target<'a>(
     asked: Option<&'a Person>,
     group: Option<&'a Group>,
 ) -> Option<&'a Person>
-    ensures { option_copied result ≡ target_of directory.now user.now (option_copied asked.entry) (option_copied group.entry) }
+    ensures { option_copied result ≡ target_of directory.now user.now (option_copied asked.entry)
+        (option_copied group.entry) }
 {
     match (asked, group) {
         (Some(target), _) => Some(target),
@@ -108,7 +109,8 @@ impl Query<'_> {
     #[tactic(auto, unfolding(crate::specs::RunasForms::runas_holds))]
     pub(crate) fn runas_holds(&self, checked: &Checked, runas: Option<&Runas>) -> bool
         requires { IsTrue (runas_resolves checked.now (option_copied runas)) }
-        ensures { result ≡ form.runas_holds checked.now (question self.now) (option_copied runas.entry) }
+        ensures { result ≡ form.runas_holds checked.now (question self.now)
+            (option_copied runas.entry) }
     {
         match runas {
             None => self.root_holds(),
@@ -143,7 +145,8 @@ impl Query<'_> {
     fn users_and_groups_hold(&self, checked: &Checked, users: &[Member], groups: &[Member]) -> bool
         requires users { IsTrue (resolves kind.Runas checked.now users.now) }
         requires groups { IsTrue (resolves kind.Runas checked.now groups.now) }
-        ensures { result ≡ form.users_and_groups_hold checked.now (question self.now) users.now groups.now (question self.now).target }
+        ensures { result ≡ form.users_and_groups_hold checked.now
+            (question self.now) users.now groups.now (question self.now).target }
     {
         let Some(target) = self.target else {
             return false;
@@ -158,7 +161,8 @@ impl Query<'_> {
     /// The form `(users)`.
     fn users_hold(&self, checked: &Checked, users: &[Member]) -> bool
         requires { IsTrue (resolves kind.Runas checked.now users.now) }
-        ensures { result ≡ form.users_hold checked.now (question self.now) users.now (question self.now).target }
+        ensures { result ≡ form.users_hold checked.now (question self.now) users.now
+            (question self.now).target }
     {
         let Some(target) = self.target else {
             return false;
@@ -207,7 +211,8 @@ fn group_allowed(
     group: Option<&Group>,
 ) -> bool
     requires { IsTrue (resolves kind.Runas checked.now groups.now) }
-    ensures { result ≡ form.group_allowed checked.now groups.now person.now (option_copied group.entry) }
+    ensures { result ≡ form.group_allowed checked.now groups.now person.now
+        (option_copied group.entry) }
 {
     let Some(group) = group else {
         return true;

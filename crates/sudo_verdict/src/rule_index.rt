@@ -12,9 +12,8 @@ use crate::query::{Query, query_of};
 use crate::search::search_entry;
 use std::alloc::{AllocError, Global};
 use std::marker::Model;
-use sudo_match::Directory;
+use sudo_match::{Directory, Request, Verdict};
 use sudo_policy::Checked;
-use sudo_rows::{Request, Verdict};
 
 /// Which rules of a policy may decide for which user. It holds numbers alone and no part of the policy.
 #[derive(Drop)]
@@ -60,7 +59,8 @@ impl RuleIndex {
 fn search_posted(checked: &Checked, postings: &Postings, query: &Query<'_>) -> Option<Verdict>
     requires lists { AreLists (length checked.now.entries) postings.now.lists.items }
     requires covers { Covers checked.now (length checked.now.entries) postings.now.lists.items }
-    ensures { result ≡ last_set (map (entry_found checked.now (question query.now)) checked.now.entries) }
+    ensures { result ≡ last_set (map (entry_found checked.now (question query.now))
+        checked.now.entries) }
 {
     let entries = checked.policy().entries.as_slice();
     let mut end = entries.len();

@@ -14,9 +14,8 @@ ghost use Rattle.sudo_verdict.specs.Found.{verdict_from, place_found, places_fou
 use crate::decision::{AsCommand, Decision, decide_member};
 use crate::query::{Query, query_of};
 use crate::tags::{tags_before_end, tags_given};
-use sudo_match::Directory;
+use sudo_match::{Directory, Request, Verdict};
 use sudo_policy::{Checked, CommandSpec, Entry, EntryBody, Kind, Runas, Section};
-use sudo_rows::{Request, Verdict};
 use sudo_text::Place;
 
 /// The verdict on the request: the first unknown name of the user, the host, the target and the group; else what the last
@@ -37,7 +36,8 @@ pub fn verdict(checked: &Checked, directory: &Directory, request: &Request) -> V
 }
 
 fn search(checked: &Checked, query: &Query<'_>) -> Option<Verdict>
-    ensures { result ≡ last_set (map (entry_found checked.now (question query.now)) checked.now.entries) }
+    ensures { result ≡ last_set (map (entry_found checked.now (question query.now))
+        checked.now.entries) }
 {
     let policy = checked.policy();
     let mut left = policy.entries.as_slice();
@@ -74,7 +74,8 @@ fn search_sections(
     sections: &[Section],
 ) -> Option<Verdict>
     requires { IsTrue (list_all (section_resolves checked.now) sections.now) }
-    ensures { result ≡ last_set (map (section_found checked.now (question query.now) place) sections.now) }
+    ensures { result ≡ last_set (map (section_found checked.now (question query.now) place)
+        sections.now) }
 {
     let mut left = sections;
     while let Some((section, rest)) = left.split_last() {
@@ -110,7 +111,8 @@ fn search_places(
     commands: &[CommandSpec],
 ) -> Option<Verdict>
     requires { IsTrue (list_all (command_resolves checked.now) commands.now) }
-    ensures { result ≡ places_found checked.now (question query.now) place commands.now (length commands.now) }
+    ensures { result ≡ places_found checked.now (question query.now) place commands.now
+        (length commands.now) }
 {
     let mut refused = false;
     let mut left = commands;
@@ -145,9 +147,12 @@ fn search_place(
 ) -> Examined
     requires all { IsTrue (list_all (command_resolves checked.now) commands.now) }
     requires last { IsTrue (command_resolves checked.now spec.now) }
-    requires refused { refused ≡ true → runas_holds checked.now (question query.now) (runas_before commands.now) ≡ false }
-    ensures verdict { result.verdict ≡ place_found checked.now (question query.now) place commands.now spec.now }
-    ensures refused { result.refused ≡ true → runas_holds checked.now (question query.now) (runas_before commands.now) ≡ false }
+    requires refused { refused ≡ true → runas_holds checked.now (question query.now)
+        (runas_before commands.now) ≡ false }
+    ensures verdict { result.verdict ≡ place_found checked.now
+        (question query.now) place commands.now spec.now }
+    ensures refused { result.refused ≡ true → runas_holds checked.now (question query.now)
+        (runas_before commands.now) ≡ false }
 {
     if refused {
         return Examined {

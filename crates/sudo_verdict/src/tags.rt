@@ -3,8 +3,8 @@
 ghost use Rattle.std.specs.Prelude.{◌≡◌, ◌∷◌, []};
 ghost use Rattle.sudo_verdict.specs.Tagged as tagged;
 
+use sudo_match::Tags;
 use sudo_policy::{CommandSpec, Tag};
-use sudo_rows::Tags;
 
 /// The tags that are set, in the order of a report: EXEC, FOLLOW, INTERCEPT, LOG_INPUT, LOG_OUTPUT, MAIL, PASSWD, SETENV,
 /// each or its opposite.

@@ -1,16 +1,14 @@
 //! A policy and requests as text, and the verdicts as text.
 
-use audit_device::Script;
-use audit_files::{read_hosts, read_requests, read_users};
+use crate::oracle::verdict_by_listing;
+use audit_files::{Script, read_hosts, read_requests, read_users};
 use std::alloc::{AllocError, Global};
 use std::test::Fail;
 use sudo_load::{Supply, load};
 use sudo_match::Directory;
 use sudo_policy::{Checked, Tag, check};
 use sudo_text::Seq;
-use sudo_verdict::{
-    Request, RuleIndex, Verdict, What, tags_in_report_order, verdict, verdict_by_listing,
-};
+use sudo_verdict::{Request, RuleIndex, Verdict, What, tags_in_report_order, verdict};
 
 const USERS: &str =
     "user,uid,groups\nroot,0,root:0\nalice,1000,alice:1000 adm:4\nbob,1001,bob:1001 operator:37\noperator,11,operator:37\n";

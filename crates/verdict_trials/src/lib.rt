@@ -1,7 +1,12 @@
-//! Tests of verdicts, from the text of a policy and the bytes of the users, hosts and requests files.
+//! Tests of verdicts, from the text of a policy and the bytes of the users, hosts and requests files; and of what a verdict
+//! stands on: patterns, known users and hosts, the matching of one atom.
 #![tactic(auto)]
 
 #[cfg(test)]
 mod fixtures;
 #[cfg(test)]
-mod tests;
+mod match_trials;
+#[cfg(test)]
+mod oracle;
+#[cfg(test)]
+mod verdict_trials;

@@ -1,8 +1,8 @@
 use Rattle.std.proofs.Common.{◌≡◌, ◌+◌, [], rules, length, map, ap, ◌∙◌, subst, arith, vec_len}
-use Rattle.audit_handoff.specs.Names.{names_of}
+use Rattle.audit_run.specs.Names.{names_of}
 use Rattle.audit_run.specs.Concluded.{Answers}
 use Rattle.audit_run.specs.Gathered.{comes_of}
-use Rattle.audit_run.specs.Passes.{lighter}
+use Rattle.audit_run.specs.FreshPasses.{lighter}
 use Rattle.audit_run.specs.Run.{HasRun}
 use Rattle.audit_run.specs.Work.{told_by}
 use Rattle.audit_run.proofs.Settled.{faults_long, length_map, settled}

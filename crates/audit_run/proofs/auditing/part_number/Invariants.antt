@@ -1,5 +1,5 @@
 use Rattle.std.specs.Prelude.{◌≡◌, ◌+◌, ◌≤◌}
-use Rattle.audit_outcome.specs.Roster.{part_at}
+use Rattle.audit_run.specs.Roster.{part_at}
 use Rattle.audit_run.proofs.auditing.part_number.Given as goal
 
 abbrev pub invariant-loop-earlier : goal.invariant-loop-earlier

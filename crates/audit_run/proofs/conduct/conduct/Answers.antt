@@ -1,5 +1,5 @@
 use Rattle.std.proofs.Common.{[], replicate, subst, append-nil, arith}
-use Rattle.audit_handoff.specs.declared.message.Job.TheVariants as job
+use Rattle.audit_run.specs.declared.message.Job.TheVariants as job
 use Rattle.audit_run.specs.Gathered.{HasConducted}
 use Rattle.audit_run.proofs.Gains.{conducted, conducts_more}
 use Rattle.audit_run.proofs.conduct.conduct.Goals as goal

@@ -1,6 +1,6 @@
 use Rattle.std.specs.Prelude.{replicate}
 use Rattle.audit_run.specs.Gathered.{Conducts}
-use Rattle.audit_handoff.specs.declared.message.Job.TheVariants as job
+use Rattle.audit_run.specs.declared.message.Job.TheVariants as job
 use Rattle.audit_run.proofs.conduct.put_stops.Given as goal
 
 abbrev pub invariant-loop-stopped : goal.invariant-loop-stopped

@@ -1,8 +1,8 @@
 use Rattle.std.specs.Prelude.{◌≡◌, ℕ, ◌+◌, ◌≤◌, ◌++◌, List, All, Option, map, vec_len, vec_capacity, length}
 use Rattle.std.specs.Vec.Iter.{into_iter_items}
-use Rattle.audit_device.specs.Feeding.{Ahead}
-use Rattle.audit_outcome.specs.Parts.{Stated, fault_in, put_by_sources}
-use Rattle.audit_run.specs.Passes.{IsFresh}
+use Rattle.audit_files.specs.Feeding.{Ahead}
+use Rattle.audit_run.specs.Parts.{Stated, fault_in, put_by_sources}
+use Rattle.audit_run.specs.FreshPasses.{IsFresh}
 use Rattle.audit_run.specs.Work.{AreParts, joined_sources, told_by}
 use Rattle.audit_run.proofs.readers.join_readers.Given as goal
 

@@ -1,6 +1,6 @@
 use Rattle.std.proofs.Common.{ap, subst, sym, ◌∙◌}
 use Rattle.audit_collect.specs.Roster.{AreDistinct}
-use Rattle.audit_outcome.specs.Roster.{roster}
+use Rattle.audit_run.specs.Roster.{roster}
 use Rattle.audit_run.proofs.Distinct.{roster_distinct}
 use Rattle.audit_run.proofs.Rosters.{entered}
 use Rattle.audit_run.proofs.roster.enter.Goals as goal

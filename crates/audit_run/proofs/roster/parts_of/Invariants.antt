@@ -1,7 +1,7 @@
 use Rattle.std.specs.Prelude.{◌≡◌, ◌+◌, ◌++◌, length, map, vec_len}
 use Rattle.std.specs.List.{zip}
 use Rattle.std.specs.Vec.Iter.{into_iter_items}
-use Rattle.audit_outcome.specs.Roster.{places_in}
+use Rattle.audit_run.specs.Roster.{places_in}
 use Rattle.audit_run.specs.Work.{told_by}
 use Rattle.audit_run.proofs.roster.parts_of.Given as goal
 

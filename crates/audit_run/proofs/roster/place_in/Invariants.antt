@@ -1,5 +1,5 @@
 use Rattle.std.specs.Prelude.{◌≡◌, ◌+◌, length}
-use Rattle.audit_outcome.specs.Roster.{place_of}
+use Rattle.audit_run.specs.Roster.{place_of}
 use Rattle.audit_run.proofs.roster.place_in.Given as goal
 
 abbrev pub invariant-loop-first : goal.invariant-loop-first

@@ -1,5 +1,5 @@
 use Rattle.std.proofs.Common.{◌≡◌, ◌≢◌, ◌++◌, ◌∷◌, [], List, ℕ, length, ap, ◌∙◌, arith, rules}
-use Rattle.audit_outcome.specs.Roster.{place_of, roster}
+use Rattle.audit_run.specs.Roster.{place_of, roster}
 use Rattle.audit_run.proofs.Rosters.{one_new, one_old, others, others_none}
 use Rattle.audit_run.proofs.roster.roster_of.Goals as goal
 

@@ -1,5 +1,5 @@
 use Rattle.std.specs.Prelude.{◌≡◌, ◌+◌, ◌≤◌, ◌++◌, length, vec_len}
-use Rattle.audit_outcome.specs.Roster.{roster}
+use Rattle.audit_run.specs.Roster.{roster}
 use Rattle.audit_run.proofs.Rosters.{others}
 use Rattle.audit_run.proofs.roster.roster_of.Given as goal
 

@@ -1,6 +1,6 @@
 use Rattle.std.specs.Prelude.{◌≡◌, List}
-use Rattle.audit_handoff.specs.declared.message.Job.{Job}
-use Rattle.audit_handoff.specs.Names.{names_of}
+use Rattle.audit_run.specs.declared.message.Job.{Job}
+use Rattle.audit_run.specs.Names.{names_of}
 use Rattle.audit_run.specs.Work.{worked}
 use Rattle.audit_run.proofs.worker.work.Given as goal
 

@@ -1,8 +1,8 @@
 use Rattle.std.proofs.Common.{◌≡◌, ◌+◌, ◌++◌, All, length, ap, ◌∙◌, subst, arith}
 use Rattle.std.proofs.lemmas.List.Elements.{All-head, All-tail}
-use Rattle.audit_handoff.specs.Names.{names_of}
-use Rattle.audit_handoff.specs.Passes.{PassView, with_joined}
-use Rattle.audit_run.specs.Passes.{fresh}
+use Rattle.audit_run.specs.Names.{names_of}
+use Rattle.audit_run.specs.Passes.{PassView, with_joined}
+use Rattle.audit_run.specs.FreshPasses.{fresh}
 use Rattle.audit_run.specs.Work.{worked}
 use Rattle.audit_run.proofs.Joins.{one_worker}
 use Rattle.audit_run.proofs.workers.join_workers.Goals as goal

@@ -1,9 +1,9 @@
 use Rattle.std.specs.Prelude.{◌≡◌, ℕ, ◌+◌, List, All, vec_len, length}
 use Rattle.std.specs.Vec.Iter.{into_iter_items}
-use Rattle.audit_handoff.specs.Names.{names_of}
-use Rattle.audit_run.specs.Passes.{fresh}
+use Rattle.audit_run.specs.Names.{names_of}
+use Rattle.audit_run.specs.FreshPasses.{fresh}
 use Rattle.audit_run.specs.Work.{joined_workers}
-use Rattle.audit_handoff.specs.declared.message.Job.{Job}
+use Rattle.audit_run.specs.declared.message.Job.{Job}
 use Rattle.audit_run.proofs.workers.join_workers.Given as goal
 
 abbrev pub invariant-loop-handle : goal.invariant-loop-handle

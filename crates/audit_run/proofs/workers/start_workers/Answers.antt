@@ -1,6 +1,6 @@
 use Rattle.std.proofs.Common.{◌≡◌, All, length, sym, ap, ◌∙◌, subst, arith}
 use Rattle.std.proofs.lemmas.List.Elements.{All-head, All-tail, All-push}
-use Rattle.audit_run.specs.Passes.{fresh}
+use Rattle.audit_run.specs.FreshPasses.{fresh}
 use Rattle.audit_run.proofs.workers.start_workers.Goals as goal
 
 pub loop-pass-preserved : goal.loop-pass-preserved

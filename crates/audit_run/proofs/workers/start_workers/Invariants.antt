@@ -1,6 +1,6 @@
 use Rattle.std.specs.Prelude.{◌≡◌, ◌+◌, ◌≤◌, All, vec_len, vec_capacity, length}
 use Rattle.std.specs.Vec.Iter.{into_iter_items}
-use Rattle.audit_run.specs.Passes.{fresh}
+use Rattle.audit_run.specs.FreshPasses.{fresh}
 use Rattle.audit_run.proofs.workers.start_workers.Given as goal
 
 abbrev pub invariant-loop-pass : goal.invariant-loop-pass

@@ -2,8 +2,8 @@ use Rattle.std.proofs.Common.{◌≡◌, ℕ, List, ◌+◌, ◌∷◌, [], Bool
 use Rattle.std.specs.Prelude.{Some, None, Option, option_map, option_and_then, slice_get, bytes_eq, ◌==◌}
 use Rattle.std.specs.Option.{option_copied}
 use Rattle.std.proofs.lemmas.Option.{slice_get_past}
-use Rattle.sudo_rows.specs.declared.people.Group.{Group}
-use Rattle.sudo_names.specs.Places.{place_of}
+use Rattle.sudo_match.specs.declared.people.Group.{Group}
+use Rattle.sudo_base.specs.Places.{place_of}
 use Rattle.sudo_match.specs.declared.fault.DirFault.{DirFault}
 use Rattle.sudo_match.specs.declared.fault.DirFault.TheVariants.{GroupClash}
 use Rattle.sudo_match.specs.Known.{first_clash, clashes_at, groups_clash, groups_of, IsRefusal}

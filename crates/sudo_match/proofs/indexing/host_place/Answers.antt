@@ -3,7 +3,7 @@ use Rattle.std.proofs.lemmas.Option.{slice_get-get_or}
 use Rattle.std.proofs.lemmas.List.{map-append}
 use Rattle.std.proofs.Math.Seq.{take-suc-set}
 use Rattle.sudo_match.specs.Class.{lower, lower_text}
-use Rattle.sudo_names.proofs.IndexLemmas.{take-some}
+use Rattle.sudo_base.proofs.IndexLemmas.{take-some}
 use Rattle.sudo_match.proofs.indexing.host_place.Goals as goal
 
 pub loop-at-preserved : goal.loop-at-preserved

@@ -1,10 +1,10 @@
 use Rattle.std.proofs.Common.{◌≡◌, ℕ, true, false, sym, ap, ◌∙◌, ◌++◌, ◌∷◌, [], refl, length, subst, arith}
 use Rattle.std.specs.Prelude.{is_some, slice_get, Some, Option, option_map}
 use Rattle.std.proofs.lemmas.Option.{slice_get_read}
-use Rattle.sudo_rows.specs.declared.people.Person.{Person}
-use Rattle.sudo_names.specs.Indexes.{Indexes}
-use Rattle.sudo_names.specs.Places.{place_of}
-use Rattle.sudo_names.proofs.IndexLemmas.{indexes-none, indexes-more, place_of-empty, place_of-append, none-is}
+use Rattle.sudo_match.specs.declared.people.Person.{Person}
+use Rattle.sudo_base.specs.Indexes.{Indexes}
+use Rattle.sudo_base.specs.Places.{place_of}
+use Rattle.sudo_base.proofs.IndexLemmas.{indexes-none, indexes-more, place_of-empty, place_of-append, none-is}
 use Rattle.sudo_match.specs.declared.fault.DirFault.{DirFault}
 use Rattle.sudo_match.specs.declared.fault.DirFault.TheVariants.{UserTwice}
 use Rattle.sudo_match.specs.Known.{same_user, first_clash, clashes_at, IsRefusal}

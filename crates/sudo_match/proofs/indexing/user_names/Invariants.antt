@@ -1,5 +1,5 @@
-use Rattle.sudo_names.specs.Indexes.{Indexes}
-use Rattle.sudo_names.specs.Places.{place_of}
+use Rattle.sudo_base.specs.Indexes.{Indexes}
+use Rattle.sudo_base.specs.Places.{place_of}
 use Rattle.sudo_match.specs.Known.{same_user}
 use Rattle.sudo_match.proofs.ClashLemmas.{NoneBefore}
 use Rattle.sudo_match.proofs.indexing.user_names.Given as goal

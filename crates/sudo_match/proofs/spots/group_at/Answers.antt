@@ -1,7 +1,7 @@
 use Rattle.std.proofs.Common.{◌≡◌, ◌∙◌, ap, sym, length, refl, None, Some}
 use Rattle.std.specs.Prelude.{slice_get, option_copied, option_and_then}
 use Rattle.std.proofs.lemmas.Option.{slice_get_read, slice_get_past}
-use Rattle.sudo_rows.specs.declared.people.Person.{Person}
+use Rattle.sudo_match.specs.declared.people.Person.{Person}
 use Rattle.sudo_match.proofs.SpotLemmas.{spot-is, spot-past}
 use Rattle.sudo_match.proofs.spots.group_at.Goals as goal
 

@@ -1,7 +1,7 @@
 use Rattle.std.proofs.Common.{List, Result, Ok, Err, ℕ}
 use Rattle.std.specs.Result.{IfErr}
 use Rattle.sudo_text.specs.declared.token.Token.{Token}
-use Rattle.sudo_tree.specs.declared.kind.Kind.{Kind}
+use Rattle.sudo_grammar.specs.declared.kind.Kind.{Kind}
 use Rattle.sudo_parser.specs.declared.stops.Stopped.{Stopped}
 use Rattle.sudo_parser.specs.Lists.{ReadsBangs, StopsAtMember, StopsInItem}
 use Rattle.sudo_parser.proofs.ListSteps.{item-stops}

@@ -1,6 +1,6 @@
 use Rattle.std.proofs.Common.{Result, Ok, Err, ◌≡◌, subst, sym}
 use Rattle.std.specs.Result.{IsErrAnd}
-use Rattle.sudo_tree.specs.declared.policy.EntryBody.{EntryBody}
+use Rattle.sudo_grammar.specs.declared.policy.EntryBody.{EntryBody}
 use Rattle.sudo_parser.specs.declared.stops.Stopped.{Stopped}
 use Rattle.sudo_grammar.specs.Reading.{Stop}
 use Rattle.sudo_parser.specs.Stops.{Stops, GivesEntry}

@@ -1,6 +1,6 @@
 use Rattle.std.proofs.Common.{◌≡◌, List, map, sym, ap, ◌∙◌, subst}
 use Rattle.std.specs.Prelude.{All}
-use Rattle.sudo_tree.specs.declared.policy.Policy.{Policy}
+use Rattle.sudo_grammar.specs.declared.policy.Policy.{Policy}
 use Rattle.sudo_policy.specs.declared.survey.Named.{Named}
 use Rattle.sudo_policy.specs.declared.survey.Survey.{Survey}
 use Rattle.sudo_policy.specs.Definitions.{Defined, definitions}

@@ -1,7 +1,7 @@
 use Rattle.std.proofs.Common.{◌≡◌, ◌+◌, Some, None, List, [], ◌∷◌, ◌++◌, map, drop, option_copied, arith, sym, ◌∙◌, ap, subst}
 use Rattle.std.specs.Prelude.{Vec}
 use Rattle.std.specs.declared.alloc.Global.{Global}
-use Rattle.sudo_tree.specs.declared.kind.Signed.{Signed}
+use Rattle.sudo_grammar.specs.declared.kind.Signed.{Signed}
 use Rattle.sudo_policy.specs.Definitions.{in_force, alias_named}
 use Rattle.sudo_policy.specs.Written.{differ, is_negated, negated_if, written}
 use Rattle.sudo_policy.proofs.WritingLemmas.{Along, Along-split, Along-alone, Along-alias, Along-end, opened, never_undefined, definition_from}

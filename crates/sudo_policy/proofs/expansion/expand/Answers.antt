@@ -1,5 +1,5 @@
 use Rattle.std.proofs.Common.{◌≡◌, Some, option_copied, sym, ◌∙◌, ap, subst, ◌++◌, map, List, false}
-use Rattle.sudo_tree.specs.declared.kind.Signed.{Signed}
+use Rattle.sudo_grammar.specs.declared.kind.Signed.{Signed}
 use Rattle.sudo_policy.specs.Definitions.{in_force}
 use Rattle.sudo_policy.specs.Written.{negated_if, written, Written}
 use Rattle.sudo_policy.proofs.Laws.{is_written, negated_never}

@@ -1,6 +1,6 @@
 use Rattle.std.proofs.Common.{◌≡◌, ◌<◌, List, get_or, map, length, refl, ap, ◌∙◌, subst}
 use Rattle.std.proofs.lemmas.Option.{slice_get_read}
-use Rattle.sudo_tree.specs.declared.policy.Entry.{Entry}
+use Rattle.sudo_grammar.specs.declared.policy.Entry.{Entry}
 use Rattle.sudo_policy.specs.Definitions.{definitions_of}
 use Rattle.sudo_policy.specs.Named.{named_view}
 use Rattle.sudo_policy.proofs.SurveyLemmas.{flat_step}

@@ -1,7 +1,7 @@
 use Rattle.std.proofs.Common.{Some, length, refl, sym, ap, ◌∙◌}
 use Rattle.std.specs.Prelude.{option_map}
 use Rattle.std.proofs.lemmas.Option.{slice_get_read}
-use Rattle.sudo_tree.specs.declared.policy.Definition.{Definition}
+use Rattle.sudo_grammar.specs.declared.policy.Definition.{Definition}
 use Rattle.sudo_policy.proofs.SurveyLemmas.{placed_push, push_step, same_defined}
 use Rattle.sudo_policy.specs.Definitions.{definition_in}
 use Rattle.sudo_policy.specs.Named.{named_view}

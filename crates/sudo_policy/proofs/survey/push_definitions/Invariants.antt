@@ -1,6 +1,6 @@
 use Rattle.std.proofs.Common.{◌≡◌, ◌++◌, map, drop}
 use Rattle.std.specs.Prelude.{All}
-use Rattle.sudo_tree.specs.declared.policy.Policy.{Policy}
+use Rattle.sudo_grammar.specs.declared.policy.Policy.{Policy}
 use Rattle.sudo_policy.specs.Definitions.{definitions_of_list}
 use Rattle.sudo_policy.specs.Named.{named_view, IsPlaced, StandAt}
 use Rattle.sudo_policy.proofs.survey.push_definitions.Given as goal

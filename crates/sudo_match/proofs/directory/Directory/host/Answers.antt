@@ -1,6 +1,6 @@
 use Rattle.std.proofs.Common.{sym, ap, ◌∙◌}
 use Rattle.std.specs.Prelude.{option_copied, option_and_then, slice_get, find, bytes_eq}
-use Rattle.sudo_rows.specs.declared.people.Machine.{Machine}
+use Rattle.sudo_match.specs.declared.people.Machine.{Machine}
 use Rattle.sudo_match.specs.Class.{lower_text}
 use Rattle.sudo_match.specs.Known.{Known}
 use Rattle.sudo_match.proofs.DirectoryLemmas.{host_named-is, host_named-scanned}

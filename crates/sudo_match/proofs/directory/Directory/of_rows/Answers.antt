@@ -1,8 +1,8 @@
 use Rattle.std.proofs.Common.{◌≡◌, true, false, not, ap, sym, ◌∙◌}
 use Rattle.std.specs.Prelude.{Some, None, find, is_some, codes}
 use Rattle.std.specs.Option.{option_copied}
-use Rattle.sudo_rows.specs.declared.people.Person.{Person}
-use Rattle.sudo_names.specs.Places.{place_of}
+use Rattle.sudo_match.specs.declared.people.Person.{Person}
+use Rattle.sudo_base.specs.Places.{place_of}
 use Rattle.sudo_match.specs.Known.{directory_fault, is_no_group, IsRefusal}
 use Rattle.sudo_match.proofs.FaultLemmas.{passed-on, refused-user, refused-host, refused-group, refused-ungrouped, refused-root, faultless, kept}
 use Rattle.sudo_match.proofs.directory.Directory.of_rows.Goals as goal

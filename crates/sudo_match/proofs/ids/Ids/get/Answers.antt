@@ -1,5 +1,5 @@
 use Rattle.std.proofs.Common.{◌∙◌, ap, ◌∷◌, []}
-use Rattle.sudo_names.specs.Places.{place_of}
+use Rattle.sudo_base.specs.Places.{place_of}
 use Rattle.sudo_match.proofs.IdLemmas.{lookup_bare}
 use Rattle.sudo_match.proofs.ids.Ids.get.Goals as goal
 

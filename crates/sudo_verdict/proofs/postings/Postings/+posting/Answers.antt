@@ -1,5 +1,5 @@
 use Rattle.std.proofs.Common.{true, arith, sym, ◌∙◌, ap, refl}
-use Rattle.sudo_tree.specs.declared.kind.Kind.TheVariants as kind
+use Rattle.sudo_grammar.specs.declared.kind.Kind.TheVariants as kind
 use Rattle.sudo_match.specs.Matching.{user_fits}
 use Rattle.sudo_verdict.specs.Postings.{posted}
 use Rattle.sudo_verdict.proofs.Deciding.{last_silent, rest_resolves, last_resolves, rest_shallow, last_shallow, none_silent, undefined_never, alias_silent, alias_falls, alias_stands, atom_silent}

@@ -1,6 +1,6 @@
 use Rattle.std.proofs.Common.{◌≡◌, ◌+◌, ◌*◌, ◌≤◌, true, IsTrue, [], ◌∷◌, length}
-use Rattle.sudo_tree.specs.declared.kind.Kind.TheVariants as kind
-use Rattle.sudo_rows.specs.declared.people.Person.{Person}
+use Rattle.sudo_grammar.specs.declared.kind.Kind.TheVariants as kind
+use Rattle.sudo_match.specs.declared.people.Person.{Person}
 use Rattle.sudo_policy.specs.Resolving.{resolves, rank}
 use Rattle.sudo_match.specs.Matching.{user_fits}
 use Rattle.sudo_verdict.specs.Decided.{decided}

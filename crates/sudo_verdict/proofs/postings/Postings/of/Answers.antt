@@ -1,8 +1,8 @@
 use Rattle.std.proofs.Common.{◌≡◌, ap, sym, ◌∙◌, arith, subst, length, refl}
 use Rattle.std.specs.Prelude.{slice_get}
 use Rattle.std.proofs.lemmas.Option.{slice_get_read}
-use Rattle.sudo_tree.specs.declared.policy.Entry.{Entry}
-use Rattle.sudo_tree.specs.declared.policy.Policy.{Policy}
+use Rattle.sudo_grammar.specs.declared.policy.Entry.{Entry}
+use Rattle.sudo_grammar.specs.declared.policy.Policy.{Policy}
 use Rattle.sudo_verdict.specs.Resolved.{body_resolves}
 use Rattle.sudo_verdict.specs.Postings.{AreLists, Covers}
 use Rattle.sudo_verdict.proofs.Resolving.{bodies_resolve}

@@ -1,0 +1,21 @@
+use Rattle.std.proofs.Common.{map}
+use Rattle.audit_commands.specs.Auditing.{Given, IsAudited, IsNotAudited}
+use Rattle.audit_commands.specs.Endings.{written as sent}
+use Rattle.audit_commands.proofs.EndingLemmas.{run_ends}
+use Rattle.audit_commands.proofs.audit.audit_into.Goals as goal
+
+pub returns : goal.returns
+returns g c =
+    let given : Given = record {
+      held = g.F.Files.held c.args.files.now;
+      path = c.args.path.now;
+      users = g.U.Feed.ahead c.args.users.now;
+      hosts = g.H.Feed.ahead c.args.hosts.now;
+      sources = map (λ s. s.name) c.args.sources.items;
+      told = map (λ s. g.R.Feed.ahead s.reader) c.args.sources.items;
+      workers = c.args.workers;
+    } in
+    let out = sent g.O.Sink.taken g.O.Sink.stalled_writes c.args.out.now c.end_run.new.out in
+    let err = sent g.E.Sink.taken g.E.Sink.stalled_writes c.args.err.now c.end_run.new.err in
+    run_ends (IsAudited given) (IsNotAudited given) c.audited-ended.result c.end_run.result out err
+    c.audited-ended.ensures.report c.audited-ended.ensures.fault c.end_run.ensures

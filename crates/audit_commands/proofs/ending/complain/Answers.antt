@@ -1,0 +1,18 @@
+use Rattle.std.proofs.Common.{◌∙◌, inl, inr, refl, sym}
+use Rattle.audit_commands.specs.Endings.{written as sent}
+use Rattle.audit_commands.specs.FaultLines.{printed_of}
+use Rattle.audit_commands.specs.Faults.{status_of}
+use Rattle.audit_commands.proofs.EndingLemmas.{plain_line, says_same}
+use Rattle.audit_commands.proofs.ending.complain.Goals as goal
+
+pub returns-in-Ok : goal.returns-in-Ok
+returns-in-Ok g c =
+    let fault = c.args.fault.now in
+    let err = sent g.E.Sink.taken g.E.Sink.stalled_writes c.args.err.now c.say-in-Ok.new.err in
+    inl (
+    says_same c.status.result (status_of fault) c.say-in-Ok.result c.deref-in-Ok.result.now (printed_of fault) err c.status.ensures
+    (c.deref-in-Ok.ensures.value ∙ c.in-Ok.ensures ∙ sym (plain_line fault c.in_default.not-Errors)) c.say-in-Ok.ensures
+    )
+
+pub returns-in-Err : goal.returns-in-Err
+returns-in-Err g c = inr c.say-in-Err.ensures

@@ -1,0 +1,25 @@
+use Rattle.std.proofs.Common.{arith, refl}
+use Rattle.audit_commands.specs.Endings.{written as sent}
+use Rattle.audit_commands.proofs.EndingLemmas.{lost_ends, refused_ends, whole_ends}
+use Rattle.audit_commands.proofs.ending.end_run.Goals as goal
+
+pub returns-in-Ok-write_all_of : goal.returns-in-Ok-write_all_of
+returns-in-Ok-write_all_of g c =
+    let out = sent g.O.Sink.taken g.O.Sink.stalled_writes c.args.out.now c.write_all_of.new.writer in
+    let err = sent g.E.Sink.taken g.E.Sink.stalled_writes c.args.err.now c.args.err.now in
+    whole_ends c.args.ended c.in-Ok.printed c.deref.result.now out err c.in-Ok.is c.deref.ensures.value (omega (arith, c.in-Ok-write_all_of.ensures.stalls))
+    c.in-Ok-write_all_of.ensures.whole refl
+
+pub returns-in-Ok : goal.returns-in-Ok
+returns-in-Ok g c =
+    let out = sent g.O.Sink.taken g.O.Sink.stalled_writes c.args.out.now c.write_all_of.new.writer in
+    let err = sent g.E.Sink.taken g.E.Sink.stalled_writes c.args.err.now c.complain.new.err in
+    let stalls = c.in-Err-write_all_of.ensures.stalls in
+    lost_ends c.args.ended c.in-Ok.printed c.deref.result.now c.in-Err-write_all_of.field-0.written c.complain.result out err c.in-Ok.is c.deref.ensures.value
+    c.in-Err-write_all_of.ensures.within c.in-Err-write_all_of.ensures.part (λ well. absurd (omega (arith, stalls, well))) c.complain.ensures
+
+pub returns : goal.returns
+returns g c =
+    let out = sent g.O.Sink.taken g.O.Sink.stalled_writes c.args.out.now c.args.out.now in
+    let err = sent g.E.Sink.taken g.E.Sink.stalled_writes c.args.err.now c.complain-in-Err.new.err in
+    refused_ends c.args.ended c.in-Err.fault c.complain-in-Err.result out err c.in-Err.is refl refl c.complain-in-Err.ensures

@@ -1,0 +1,11 @@
+-- What a run ends with, before it is printed. Only bodies' proofs need these words.
+use Rattle.std.specs.Prelude.{◌≡◌, ℕ, List, Result, Ok, Err}
+use Rattle.audit_commands.specs.declared.fault.Fault.{Fault}
+use Rattle.audit_commands.specs.declared.printed.Printed.{Printed}
+
+-- this is the text to print, and the status
+abbrev pub IsPrinted : Result Printed Fault → List ℕ → ℕ → Type 0
+IsPrinted ended text status = (printed : Printed) × (ended ≡ Ok printed) × (text ≡ printed.text.items) × (status ≡ printed.status)
+
+abbrev pub IsFault : Result Printed Fault → Fault → Type 0
+IsFault ended fault = ended ≡ Err fault

@@ -1,0 +1,68 @@
+-- How a run of the program ends.
+use Rattle.std.specs.Prelude.{◌≡◌, ◌<◌, ◌⊎◌, ℕ, List, length, take, Option}
+use Rattle.std.specs.Io.KnownBytes.{Appends}
+use Rattle.audit_commands.specs.FaultLines.{memory_line, printed_of}
+use Rattle.audit_commands.specs.Faults.{status_of}
+use Rattle.audit_commands.specs.declared.fault.Fault.{Fault}
+use Rattle.audit_commands.specs.declared.fault.Fault.TheVariants as faults
+
+-- A writer before and after: the bytes that it has taken, where it tells them, and how many of its writes have failed.
+pub record Written : Type 0 where
+  pub before : Option (List ℕ)
+  pub after : Option (List ℕ)
+  pub failed_before : ℕ
+  pub failed_after : ℕ
+
+abbrev pub written : {W : Type 0} → (W → Option (List ℕ)) → (W → ℕ) → W → W → Written
+written taken failed old new = record { before = taken old; after = taken new; failed_before = failed old; failed_after = failed new }
+
+-- no write failed
+abbrev pub IsWell : Written → Type 0
+IsWell writer = writer.failed_after ≡ writer.failed_before
+
+-- the writer got these bytes and nothing else
+abbrev pub Gets : Written → List ℕ → Type 0
+Gets writer bytes = Appends writer.before writer.after bytes
+
+abbrev pub GetsNothing : Written → Type 0
+GetsNothing writer = writer.after ≡ writer.before
+
+-- the status, and the line that the writer got, if its writes went well
+abbrev pub Says : ℕ → List ℕ → ℕ → Written → Type 0
+Says own line status err = (status ≡ own) × (IsWell err → Gets err line)
+
+-- A fault is told: by what is printed of it, with its own status; or, where memory for its line is refused, by the line of
+-- want of memory, with status 4.
+abbrev pub IsTold : Fault → ℕ → Written → Type 0
+IsTold fault status err = Says (status_of fault) (printed_of fault) status err ⊎ Says 4 memory_line status err
+
+-- The run printed a text that it may print with this status, whole and alone.
+pub record Prints (Good : List ℕ → ℕ → Type 0) (status : ℕ) (out err : Written) : Type 0 where
+  pub text : List ℕ
+  pub good : Good text status
+  pub well : IsWell out
+  pub got : Gets out text
+  pub quiet : GetsNothing err
+
+-- A fault of this kind ended the run, and nothing was printed on `out`.
+pub record Refuses (Bad : Fault → Type 0) (status : ℕ) (out err : Written) : Type 0 where
+  pub fault : Fault
+  pub bad : Bad fault
+  pub well : IsWell out
+  pub nothing : GetsNothing out
+  pub told : IsTold fault status err
+
+-- A write failed: of a text that the run may print, `out` got the first bytes, as many as the line on `err` says and not all.
+pub record Loses (Good : List ℕ → ℕ → Type 0) (status : ℕ) (out err : Written) : Type 0 where
+  pub text : List ℕ
+  pub meant : ℕ
+  pub good : Good text meant
+  pub count : ℕ
+  pub part : count < length text
+  pub got : Gets out (take count text)
+  pub failed : IsWell out → ⊥
+  pub told : IsTold (faults.Write count) status err
+
+-- A run that may print such a text with such a status, and may be ended by such a fault.
+abbrev pub Ends : (List ℕ → ℕ → Type 0) → (Fault → Type 0) → ℕ → Written → Written → Type 0
+Ends Good Bad status out err = Prints Good status out err ⊎ (Refuses Bad status out err ⊎ Loses Good status out err)

@@ -1,0 +1,25 @@
+-- What `check` prints.
+use Rattle.std.specs.Prelude.{◌≡◌, ℕ, false, List, [], ◌∷◌, ◌++◌, Option, codes, if◌then◌else◌}
+use Rattle.sudo_policy.specs.Found.{AreFindings, has_error}
+use Rattle.sudo_policy.specs.declared.finding.Finding.{Finding}
+use Rattle.sudo_grammar.specs.declared.policy.Policy.{Policy}
+use Rattle.audit_commands.specs.FindingLines.{finding_lines}
+use Rattle.audit_commands.specs.Holding.{Holdings}
+use Rattle.audit_commands.specs.Loading.{IsLoaded}
+
+-- a line for each finding, and `ok` if none is an error
+abbrev pub check_text : List (List ℕ) → List Finding → List ℕ
+check_text files found = finding_lines files false found ++ (if has_error found then [] else codes "ok" ++ 10 ∷ [])
+
+-- 1 where one of the findings is an error
+abbrev pub check_status : List Finding → ℕ
+check_status found = if has_error found then 1 else 0
+
+-- What `check` prints, and its status, for the policy that the file of a path unfolds to.
+pub record IsExamined (held : Option Holdings) (path : List ℕ) (text : List ℕ) (status : ℕ) : Type 0 where
+  pub policy : Policy
+  pub loaded : IsLoaded held path policy
+  pub found : List Finding
+  pub are : AreFindings policy found
+  pub text_is : text ≡ check_text policy.files found
+  pub status_is : status ≡ check_status found

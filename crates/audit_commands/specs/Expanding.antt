@@ -1,0 +1,61 @@
+-- What `expand` prints. cvtsudoers(1), aliases written out.
+use Rattle.std.specs.Prelude.{◌≡◌, ℕ, List, [], ◌∷◌, ◌++◌, Option, Some, None, flat_map, ⊤}
+use Rattle.sudo_grammar.specs.declared.kind.Kind.{Kind}
+use Rattle.sudo_grammar.specs.declared.kind.Member.{Member}
+use Rattle.sudo_grammar.specs.declared.kind.Signed.{Signed}
+use Rattle.sudo_grammar.specs.declared.policy.Policy.{Policy}
+use Rattle.sudo_parser.specs.Texts.{text_of}
+use Rattle.sudo_policy.specs.Definitions.{in_force}
+use Rattle.sudo_policy.specs.Written.{Written}
+use Rattle.audit_commands.specs.Holding.{Holdings}
+use Rattle.audit_commands.specs.Loading.{IsChecked, IsNotChecked}
+use Rattle.audit_commands.specs.declared.fault.Fault.{Fault}
+use Rattle.audit_commands.specs.declared.fault.Fault.TheVariants as faults
+
+-- the line of a member
+abbrev pub line_of : Signed → List ℕ
+line_of member = text_of member ++ 10 ∷ []
+
+-- These are the lines of an alias of a policy: its definition in force, written out.
+abbrev pub AreAliasLines : Policy → Kind → List ℕ → List ℕ → Type 0
+AreAliasLines policy kind name lines =
+    (members : List Member) × (atoms : List Signed) × (in_force kind policy name ≡ Some members)
+    × Written kind policy members atoms × (lines ≡ flat_map line_of atoms)
+
+-- What `expand` prints, with status 0: the lines of an alias of the policy that the file of a path unfolds to, which passes
+-- the check.
+abbrev pub IsExpanded : Option Holdings → List ℕ → Kind → List ℕ → List ℕ → ℕ → Type 0
+IsExpanded held path kind name text status =
+    (status ≡ 0) × ((policy : Policy) × IsChecked held path policy × AreAliasLines policy kind name text)
+
+-- The policy that the file of a path unfolds to passes the check, and has no such alias.
+abbrev pub HasNoAlias : Option Holdings → List ℕ → Kind → List ℕ → Type 0
+HasNoAlias held path kind name = (policy : Policy) × IsChecked held path policy × (in_force kind policy name ≡ None)
+
+-- Why there is nothing of an alias to print: no policy passes the check, or it has no alias of the name, or memory failed.
+abbrev pub IsNotExpanded : Option Holdings → List ℕ → Kind → List ℕ → Fault → Type 0
+IsNotExpanded held path kind name (faults.NoSuchAlias alias) = (alias ≡ name) × HasNoAlias held path kind name
+IsNotExpanded held path kind name (faults.Refused files fault) = IsNotChecked held path (faults.Refused files fault)
+IsNotExpanded held path kind name (faults.CannotRead unread) = IsNotChecked held path (faults.CannotRead unread)
+IsNotExpanded held path kind name (faults.Errors lines) = IsNotChecked held path (faults.Errors lines)
+IsNotExpanded held path kind name faults.Memory = ⊤
+IsNotExpanded held path kind name (faults.BadSender word) = ⊥
+IsNotExpanded held path kind name (faults.Users fault) = ⊥
+IsNotExpanded held path kind name (faults.Hosts fault) = ⊥
+IsNotExpanded held path kind name (faults.Directory fault) = ⊥
+IsNotExpanded held path kind name (faults.Audit names fault) = ⊥
+IsNotExpanded held path kind name (faults.Write written) = ⊥
+
+-- Only bodies' proofs need the word that follows: why a policy gives nothing of an alias to print.
+abbrev pub IsNotExpandedOf : Policy → Kind → List ℕ → Fault → Type 0
+IsNotExpandedOf policy kind name (faults.NoSuchAlias alias) = (alias ≡ name) × (in_force kind policy name ≡ None)
+IsNotExpandedOf policy kind name faults.Memory = ⊤
+IsNotExpandedOf policy kind name (faults.Refused files fault) = ⊥
+IsNotExpandedOf policy kind name (faults.CannotRead unread) = ⊥
+IsNotExpandedOf policy kind name (faults.Errors lines) = ⊥
+IsNotExpandedOf policy kind name (faults.BadSender word) = ⊥
+IsNotExpandedOf policy kind name (faults.Users fault) = ⊥
+IsNotExpandedOf policy kind name (faults.Hosts fault) = ⊥
+IsNotExpandedOf policy kind name (faults.Directory fault) = ⊥
+IsNotExpandedOf policy kind name (faults.Audit names fault) = ⊥
+IsNotExpandedOf policy kind name (faults.Write written) = ⊥

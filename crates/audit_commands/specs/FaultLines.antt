@@ -1,0 +1,41 @@
+-- The line that is printed of a fault.
+use Rattle.std.specs.Prelude.{ℕ, List, [], ◌∷◌, ◌++◌, codes, decimal}
+use Rattle.audit_commands.specs.FaultTexts.{audit_fault_text, called_fault_text, cannot_read, directory_fault_text, load_fault_text, no_memory}
+use Rattle.audit_commands.specs.declared.fault.Fault.{Fault}
+use Rattle.audit_commands.specs.declared.fault.Fault.TheVariants as faults
+
+-- why there is nothing to print
+abbrev pub fault_text : Fault → List ℕ
+fault_text (faults.CannotRead path) = cannot_read path
+fault_text (faults.Refused files fault) = load_fault_text files fault
+fault_text (faults.Errors lines) = lines.items
+fault_text (faults.NoSuchAlias name) = codes "no such alias " ++ name
+fault_text (faults.BadSender word) = codes "bad sender " ++ word
+fault_text (faults.Users fault) = called_fault_text (codes "users: ") fault
+fault_text (faults.Hosts fault) = called_fault_text (codes "hosts: ") fault
+fault_text (faults.Directory fault) = directory_fault_text fault
+fault_text (faults.Audit names fault) = audit_fault_text names.items fault
+fault_text (faults.Write written) = codes "write failed after " ++ decimal written ++ codes " bytes"
+fault_text faults.Memory = no_memory
+
+-- a text on a line of its own
+abbrev pub line_of : List ℕ → List ℕ
+line_of text = codes "sudo_audit: " ++ text ++ 10 ∷ []
+
+-- what is printed of a fault: one line, but for the errors of a policy, which are printed as `check` prints them
+abbrev pub printed_of : Fault → List ℕ
+printed_of (faults.Errors lines) = lines.items
+printed_of (faults.CannotRead path) = line_of (fault_text (faults.CannotRead path))
+printed_of (faults.Refused files fault) = line_of (fault_text (faults.Refused files fault))
+printed_of (faults.NoSuchAlias name) = line_of (fault_text (faults.NoSuchAlias name))
+printed_of (faults.BadSender word) = line_of (fault_text (faults.BadSender word))
+printed_of (faults.Users fault) = line_of (fault_text (faults.Users fault))
+printed_of (faults.Hosts fault) = line_of (fault_text (faults.Hosts fault))
+printed_of (faults.Directory fault) = line_of (fault_text (faults.Directory fault))
+printed_of (faults.Audit names fault) = line_of (fault_text (faults.Audit names fault))
+printed_of (faults.Write written) = line_of (fault_text (faults.Write written))
+printed_of faults.Memory = line_of (fault_text faults.Memory)
+
+-- what is printed where memory for the line of a fault is refused
+abbrev pub memory_line : List ℕ
+memory_line = line_of no_memory

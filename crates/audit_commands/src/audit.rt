@@ -1,0 +1,170 @@
+//! `audit`: requests answered.
+ghost use Rattle.std.specs.Prelude.{◌≡◌, ◌≤◌, IfErr, IfOk, map};
+ghost use Rattle.audit_commands.specs.Auditing.{Given, IsAudited, IsDirectory, IsNoDirectory, IsNotAudited, IsReported, IsUnreported};
+ghost use Rattle.audit_commands.specs.Endings.{written as sent, Ends};
+
+use crate::ending::end_run;
+use crate::fault::Fault;
+use crate::files::Files;
+use crate::loading::checked_policy;
+use crate::printed::Printed;
+use audit_files::{Feed, Sink, read_hosts, read_users, report_text};
+use audit_run::{Handoff, Open, Source, audit};
+use std::alloc::{AllocError, Global};
+use std::sync::Wait;
+use std::thread::Threads;
+use sudo_match::Directory;
+use sudo_policy::Checked;
+use sudo_text::Seq;
+
+/// The users and hosts that the files state.
+fn directory_of<U: Feed, H: Feed>(
+    alloc: Global,
+    users: &mut U,
+    hosts: &mut H,
+) -> Result<Directory, Fault>
+    ensures directory { IfOk result (IsDirectory (U.ahead users.old) (H.ahead hosts.old)) }
+    ensures fault { IfErr result (IsNoDirectory (U.ahead users.old) (H.ahead hosts.old)) }
+{
+    let people = match read_users(alloc, users) {
+        Ok(people) => people,
+        Err(fault) => return Err(Fault::Users(fault)),
+    };
+    let machines = match read_hosts(alloc, hosts) {
+        Ok(machines) => machines,
+        Err(fault) => return Err(Fault::Hosts(fault)),
+    };
+    match Directory::new(alloc, people, machines) {
+        Ok(directory) => Ok(directory),
+        Err(fault) => Err(Fault::Directory(fault)),
+    }
+}
+
+/// A copy of the names of the sources, for the texts of faults.
+fn names_of<R>(alloc: Global, sources: &[Source<R>]) -> Result<Vec<Seq<u8>>, AllocError>
+    ensures { IfOk result (λ names. names.items ≡ map (λ s. s.name) sources.now) }
+{
+    let mut names = Vec::new(alloc);
+    for source in sources {
+        names.push(Seq::from_slice(alloc, source.name.as_slice())?)?;
+    }
+    Ok(names)
+}
+
+/// The report of the sources, under a policy and a directory.
+fn report_under<T: Threads + Wait + Sync, R: Feed + Drop + Send>(
+    alloc: Global,
+    rt: &T,
+    policy: &Checked,
+    directory: &Directory,
+    sources: Vec<Source<R>>,
+    workers: u32,
+) -> Result<Printed, Fault>
+    requires { (1 ≤ workers) × (workers ≤ 16) }
+    ensures report { let names = map (λ s. s.name) sources.items in
+        let told = map (λ s. R.ahead s.reader) sources.items in
+        IfOk result (λ p. IsReported policy.now directory.now names told workers p.text.items
+        p.status) }
+    ensures fault { let names = map (λ s. s.name) sources.items in
+        let told = map (λ s. R.ahead s.reader) sources.items in
+        IfErr result (IsUnreported policy.now directory.now names told workers) }
+{
+    let names = names_of(alloc, &sources)?;
+    let (handoff, mut pass) = Handoff::new(alloc, policy, directory)?;
+    let answer = audit(
+        alloc, rt, policy, directory, &handoff, &mut pass, sources, workers, &Open,
+    );
+    match answer {
+        Ok(report) => {
+            let files = policy.policy().files.as_slice();
+            let text = report_text(alloc, &report, files)?;
+            Ok(Printed { text, status: 0 })
+        }
+        Err(fault) => Err(Fault::Audit(names, fault)),
+    }
+}
+
+/// What the requests of the sources give to print.
+fn audited<T: Threads + Wait + Sync, F: Files, U: Feed, H: Feed, R: Feed + Drop + Send>(
+    alloc: Global,
+    rt: &T,
+    path: &[u8],
+    files: &mut F,
+    users: &mut U,
+    hosts: &mut H,
+    sources: Vec<Source<R>>,
+    workers: u32,
+) -> Result<Printed, Fault>
+    requires { (1 ≤ workers) × (workers ≤ 16) }
+    ensures report { let given : Given = record {
+      held = F.held files.old;
+      path = path.now;
+      users = U.ahead users.old;
+      hosts = H.ahead hosts.old;
+      sources = map (λ s. s.name) sources.items;
+      told = map (λ s. R.ahead s.reader) sources.items;
+      workers = workers;
+    } in
+        IfOk result (λ p. IsAudited given p.text.items p.status) }
+    ensures fault { let given : Given = record {
+      held = F.held files.old;
+      path = path.now;
+      users = U.ahead users.old;
+      hosts = H.ahead hosts.old;
+      sources = map (λ s. s.name) sources.items;
+      told = map (λ s. R.ahead s.reader) sources.items;
+      workers = workers;
+    } in
+        IfErr result (IsNotAudited given) }
+{
+    let policy = checked_policy(alloc, path, files)?;
+    match directory_of(alloc, users, hosts) {
+        Ok(directory) => report_under(alloc, rt, &policy, &directory, sources, workers),
+        Err(fault) => Err(fault),
+    }
+}
+
+/// Prints on `out` the report of the requests of the sources: for each sender, in the order in which their names first
+/// appear, and for each of its requests, in the order of their numbers, what the policy of a file says of it.
+///
+/// Gives the exit status: 0; 1 where the policy is refused; 3 where the users, the hosts or the requests are refused; 4
+/// where reading, writing, a thread or memory failed. The checks come in this order: the policy, the users, the hosts, both
+/// together, the requests. The errors that the check of the policy finds are printed on `err`, as `check` prints them;
+/// any other fault is one line on `err`. Then nothing was printed on `out` but by a write that failed part way.
+pub fn audit_into<
+    T: Threads + Wait + Sync,
+    F: Files,
+    U: Feed,
+    H: Feed,
+    R: Feed + Drop + Send,
+    O: Sink,
+    E: Sink,
+>(
+    alloc: Global,
+    rt: &T,
+    path: &[u8],
+    files: &mut F,
+    users: &mut U,
+    hosts: &mut H,
+    sources: Vec<Source<R>>,
+    workers: u32,
+    out: &mut O,
+    err: &mut E,
+) -> u8
+    requires { (1 ≤ workers) × (workers ≤ 16) }
+    ensures { let given : Given = record {
+      held = F.held files.old;
+      path = path.now;
+      users = U.ahead users.old;
+      hosts = H.ahead hosts.old;
+      sources = map (λ s. s.name) sources.items;
+      told = map (λ s. R.ahead s.reader) sources.items;
+      workers = workers;
+    } in
+        Ends (IsAudited given) (IsNotAudited given) result
+        (sent O.taken O.stalled_writes out.old out.new)
+        (sent E.taken E.stalled_writes err.old err.new) }
+{
+    let ended = audited(alloc, rt, path, files, users, hosts, sources, workers);
+    end_run(alloc, ended, out, err)
+}

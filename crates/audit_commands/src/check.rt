@@ -1,0 +1,66 @@
+//! `check`: the findings on a policy.
+ghost use Rattle.std.specs.Prelude.{◌≡◌, IfErr, IfOk};
+ghost use Rattle.audit_commands.specs.Endings.{written as sent, Ends};
+ghost use Rattle.audit_commands.specs.Examining.{check_status, check_text, IsExamined};
+ghost use Rattle.audit_commands.specs.Loading.{IsFine, IsNoPolicy};
+
+use crate::ending::end_run;
+use crate::fault::Fault;
+use crate::files::Files;
+use crate::lines::{finding_lines, push};
+use crate::loading::policy_of;
+use crate::printed::Printed;
+use audit_files::Sink;
+use std::alloc::{AllocError, Global};
+use sudo_policy::{Finding, findings, has_error};
+use sudo_text::Seq;
+
+/// A line for each finding, and `ok` if none is an error.
+fn examined_lines(
+    alloc: Global,
+    files: &[Seq<u8>],
+    found: &[Finding],
+) -> Result<Printed, AllocError>
+    ensures text { IfOk result (λ printed. printed.text.items ≡ check_text files.now found.now) }
+    ensures status { IfOk result (λ printed. printed.status ≡ check_status found.now) }
+{
+    let mut text = finding_lines(alloc, files, found, false)?;
+    if has_error(found) {
+        return Ok(Printed { text, status: 1 });
+    }
+    push(&mut text, b"ok\n")?;
+    Ok(Printed { text, status: 0 })
+}
+
+/// What the check of the policy of a file gives to print.
+fn examined<F: Files>(alloc: Global, path: &[u8], files: &mut F) -> Result<Printed, Fault>
+    ensures printed { IfOk result (λ p. IsExamined
+        (F.held files.old) path.now p.text.items p.status) }
+    ensures fault { IfErr result (IsNoPolicy (F.held files.old) path.now) }
+{
+    let policy = policy_of(alloc, path, files)?;
+    let found = findings(alloc, &policy)?;
+    Ok(examined_lines(alloc, policy.files.as_slice(), &found)?)
+}
+
+/// Prints one line on `out` for each finding on the policy of a file, then `ok` if none is an error.
+///
+/// Gives the exit status: 0; 1 where a finding is an error or the policy is refused; 4 where reading, writing or
+/// memory failed. A fault is one line on `err`, and then nothing was printed on `out` but by a write that failed part
+/// way.
+pub fn check_run<F: Files, O: Sink, E: Sink>(
+    alloc: Global,
+    path: &[u8],
+    files: &mut F,
+    out: &mut O,
+    err: &mut E,
+) -> u8
+    ensures fine { result ≡ 0 → IsFine (F.held files.old) path.now }
+    ensures ends { Ends (IsExamined (F.held files.old) path.now)
+        (IsNoPolicy (F.held files.old) path.now) result
+        (sent O.taken O.stalled_writes out.old out.new)
+        (sent E.taken E.stalled_writes err.old err.new) }
+{
+    let ended = examined(alloc, path, files);
+    end_run(alloc, ended, out, err)
+}

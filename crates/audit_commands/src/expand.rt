@@ -1,0 +1,91 @@
+//! `expand`: an alias written out.
+ghost use Rattle.std.specs.Prelude.{◌≡◌, ◌++◌, flat_map, IfErr, IfOk, OnOk};
+ghost use Rattle.audit_commands.specs.Endings.{written as sent, Ends};
+ghost use Rattle.audit_commands.specs.Expanding.{line_of, AreAliasLines, IsExpanded, IsNotExpanded, IsNotExpandedOf};
+
+use crate::ending::end_run;
+use crate::fault::Fault;
+use crate::files::Files;
+use crate::loading::checked_policy;
+use crate::printed::Printed;
+use audit_files::Sink;
+use std::alloc::{AllocError, Global};
+use sudo_grammar::{Kind, Signed};
+use sudo_parser::member_text;
+use sudo_policy::{Checked, ExpandFault, expand};
+use sudo_text::Seq;
+
+/// A line for each member.
+fn member_lines(alloc: Global, members: &[Signed]) -> Result<Vec<u8>, AllocError>
+    ensures { IfOk result (λ lines. lines.items ≡ flat_map line_of members.now) }
+{
+    let mut lines = Vec::new(alloc);
+    for member in members {
+        push_member(alloc, &mut lines, member)?;
+    }
+    Ok(lines)
+}
+
+/// Appends the line of a member.
+fn push_member(alloc: Global, lines: &mut Vec<u8>, member: &Signed) -> Result<(), AllocError>
+    ensures { OnOk result (lines.new.items ≡ lines.old.items ++ line_of member.now) }
+{
+    let text = member_text(alloc, member)?;
+    lines.extend_from_slice(text.as_slice())?;
+    lines.push(b'\n')?;
+    Ok(())
+}
+
+/// The lines of an alias of a checked policy.
+fn alias_lines(alloc: Global, checked: &Checked, kind: Kind, name: &[u8]) -> Result<Vec<u8>, Fault>
+    ensures lines { IfOk result (λ lines. AreAliasLines checked.now kind name.now lines.items) }
+    ensures fault { IfErr result (IsNotExpandedOf checked.now kind name.now) }
+{
+    match expand(alloc, checked, kind, name) {
+        Ok(members) => Ok(member_lines(alloc, members.as_slice())?),
+        Err(ExpandFault::NoSuchAlias) => Err(Fault::NoSuchAlias(Seq::from_slice(alloc, name)?)),
+        Err(ExpandFault::Memory) => Err(Fault::Memory),
+    }
+}
+
+/// What the alias of the policy of a file gives to print.
+fn expanded<F: Files>(
+    alloc: Global,
+    path: &[u8],
+    files: &mut F,
+    kind: Kind,
+    name: &[u8],
+) -> Result<Printed, Fault>
+    ensures printed { IfOk result (λ p. IsExpanded
+        (F.held files.old) path.now kind name.now p.text.items p.status) }
+    ensures fault { IfErr result (IsNotExpanded (F.held files.old) path.now kind name.now) }
+{
+    let checked = checked_policy(alloc, path, files)?;
+    match alias_lines(alloc, &checked, kind, name) {
+        Ok(text) => Ok(Printed { text, status: 0 }),
+        Err(fault) => Err(fault),
+    }
+}
+
+/// Prints the members of an alias on `out`, one a line, in order, each with its sign.
+///
+/// Gives the exit status: 0; 1 where the policy is refused or has no such alias; 4 where reading, writing or memory
+/// failed. The errors that the check of the policy finds are printed on `err`, as `check` prints them; any other fault
+/// is one line on `err`. Then nothing was printed on `out` but by a write that failed part way.
+pub fn expand_run<F: Files, O: Sink, E: Sink>(
+    alloc: Global,
+    path: &[u8],
+    files: &mut F,
+    kind: Kind,
+    name: &[u8],
+    out: &mut O,
+    err: &mut E,
+) -> u8
+    ensures { Ends (IsExpanded (F.held files.old) path.now kind name.now)
+        (IsNotExpanded (F.held files.old) path.now kind name.now) result
+        (sent O.taken O.stalled_writes out.old out.new)
+        (sent E.taken E.stalled_writes err.old err.new) }
+{
+    let ended = expanded(alloc, path, files, kind, name);
+    end_run(alloc, ended, out, err)
+}

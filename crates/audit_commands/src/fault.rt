@@ -1,0 +1,103 @@
+//! What ends the program with another status than 0.
+ghost use Rattle.std.specs.Prelude.{◌≡◌};
+ghost use Rattle.audit_commands.specs.Faults.{audit_status as status_of_audit, file_status as status_of_file, status_of};
+
+use audit_collect::{CollectFault, Refused, RosterFault};
+use audit_files::FileFault;
+use audit_run::AuditFault;
+use std::alloc::{AllocError, AllocFailed};
+use sudo_load::LoadFault;
+use sudo_match::DirFault;
+use sudo_text::Seq;
+
+/// Why there is nothing to print.
+#[derive(Debug, Drop)]
+pub enum Fault {
+    /// A file or a folder cannot be read, by its path.
+    CannotRead(Seq<u8>),
+    /// The files are no policy: the paths of those that were read, and why.
+    Refused(Seq<Seq<u8>>, LoadFault),
+    /// The check finds errors in the policy: their lines.
+    Errors(Vec<u8>),
+    /// The policy has no such alias, by its name.
+    NoSuchAlias(Seq<u8>),
+    /// A word is no `NAME=PATH` with a sender's name.
+    BadSender(Seq<u8>),
+    /// The users file is refused.
+    Users(FileFault),
+    /// The hosts file is refused.
+    Hosts(FileFault),
+    /// The users and hosts are refused.
+    Directory(DirFault),
+    /// The requests are refused: the names of the sources, and why.
+    Audit(Vec<Seq<u8>>, AuditFault),
+    /// A write failed after so many bytes.
+    Write { written: u64 },
+    /// Memory was refused.
+    Memory,
+}
+
+impl From<AllocError> for Fault {
+    ghost use Rattle.std.specs.Prelude.{◌≡◌};
+    ghost use Rattle.audit_commands.specs.declared.fault.Fault.TheVariants.{Memory};
+
+    ghost from_gives = { λ _ e. e ≡ Memory };
+
+    fn from(_: AllocError) -> Fault {
+        Fault::Memory
+    }
+}
+
+impl<T: Drop> From<AllocFailed<T>> for Fault {
+    ghost use Rattle.std.specs.Prelude.{◌≡◌};
+    ghost use Rattle.audit_commands.specs.declared.fault.Fault.TheVariants.{Memory};
+
+    ghost from_gives = { λ _ e. e ≡ Memory };
+
+    fn from(_: AllocFailed<T>) -> Fault {
+        Fault::Memory
+    }
+}
+
+impl Fault {
+    /// The exit status: 1 where the policy is refused, has errors or has no such alias, 2 for a bad sender, 3 where the
+    /// users, the hosts
+    /// or the requests are refused, 4 where reading, writing, a thread or memory failed.
+    pub fn status(&self) -> u8
+        ensures { result ≡ status_of self.now }
+    {
+        match self {
+            Fault::Refused(..) | Fault::Errors(_) | Fault::NoSuchAlias(_) => 1,
+            Fault::BadSender(_) => 2,
+            Fault::Users(fault) | Fault::Hosts(fault) => file_status(*fault),
+            Fault::Directory(DirFault::Memory) => 4,
+            Fault::Directory(_) => 3,
+            Fault::Audit(_, fault) => audit_status(fault),
+            Fault::CannotRead(_) | Fault::Write { .. } | Fault::Memory => 4,
+        }
+    }
+}
+
+/// The exit status for a file that is refused.
+fn file_status(fault: FileFault) -> u8
+    ensures { result ≡ status_of_file fault }
+{
+    match fault {
+        FileFault::Read | FileFault::Memory => 4,
+        _ => 3,
+    }
+}
+
+/// The exit status for an audit without a report.
+fn audit_status(fault: &AuditFault) -> u8
+    ensures { result ≡ status_of_audit fault.now }
+{
+    match fault {
+        AuditFault::Sender { fault, .. } => file_status(*fault),
+        AuditFault::Collect(CollectFault::Roster(RosterFault::Memory))
+        | AuditFault::Collect(CollectFault::Refused(Refused::Memory))
+        | AuditFault::NoThread
+        | AuditFault::Memory => 4,
+        AuditFault::Collect(_) | AuditFault::TooManyParts => 3,
+    }
+}

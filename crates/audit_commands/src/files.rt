@@ -1,0 +1,122 @@
+//! The files of a policy.
+ghost use Rattle.std.specs.Prelude.{◌≡◌, Option, None, IfErr, IfOk};
+ghost use Rattle.audit_commands.specs.Holding.{Holdings, HoldsFile, HoldsFolder, IsUnreadable};
+
+use audit_files::{Device, ReadFault, read_whole};
+use std::alloc::{AllocError, Global};
+use std::fs;
+use std::fs::File;
+use std::io::ErrorKind;
+use sudo_text::{Seq, TEXT_LIMIT};
+use thiserror::Error;
+
+/// Why a file or a folder is not read.
+#[derive(Clone, Copy, Debug, PartialEq, Eq, Error)]
+pub enum FilesFault {
+    /// A read failed, or a name is not text.
+    #[error("failed")]
+    Failed,
+    /// Memory was refused.
+    #[error("out of memory")]
+    Memory,
+}
+
+impl From<AllocError> for FilesFault {
+    fn from(_: AllocError) -> FilesFault {
+        FilesFault::Memory
+    }
+}
+
+/// Where the files of a policy are read.
+pub trait Files {
+    // The files and folders that there are, and the paths at which reading fails, where it tells them.
+    ghost held: { Self → Option Holdings };
+
+    /// The text of a file, cut one byte past the limit for a text; `None` where there is no such file.
+    fn file(&mut self, alloc: Global, path: &[u8]) -> Result<Option<Seq<u8>>, FilesFault>
+        ensures text { IfOk result (λ text. HoldsFile (held self.old) path.now text) }
+        ensures failed { IfErr result (λ e. e ≡ FilesFault.Failed
+            → IsUnreadable (held self.old) path.now) }
+        ensures same { held self.new ≡ held self.old };
+
+    /// The names of a folder's regular files; none where there is no such folder.
+    fn folder(&mut self, alloc: Global, path: &[u8]) -> Result<Seq<Seq<u8>>, FilesFault>
+        ensures names { IfOk result (λ names. HoldsFolder (held self.old) path.now names) }
+        ensures failed { IfErr result (λ e. e ≡ FilesFault.Failed
+            → IsUnreadable (held self.old) path.now) }
+        ensures same { held self.new ≡ held self.old };
+}
+
+/// The files of this machine.
+#[derive(Drop)]
+pub struct Disk<'a> {
+    rt: &'a HostRuntime,
+}
+
+impl<'a> Disk<'a> {
+    pub fn new(rt: &'a HostRuntime) -> Disk<'a> {
+        Disk { rt }
+    }
+}
+
+/// A text that is longer than the limit, whatever it says.
+fn too_long(alloc: Global) -> Result<Seq<u8>, FilesFault> {
+    let mut text = Vec::new(alloc);
+    text.resize(TEXT_LIMIT + 1, 0)?;
+    Ok(Seq::from_vec(text))
+}
+
+impl Files for Disk<'_> {
+    ghost held = { λ _. None };
+
+    fn file(&mut self, alloc: Global, path: &[u8]) -> Result<Option<Seq<u8>>, FilesFault> {
+        let Ok(path) = str::from_utf8(path) else {
+            return Err(FilesFault::Failed);
+        };
+        let file = match File::open(self.rt, path) {
+            Ok(file) => file,
+            Err(error) => {
+                return if error.kind() == ErrorKind::NotFound {
+                    Ok(None)
+                } else {
+                    Err(FilesFault::Failed)
+                };
+            }
+        };
+        match read_whole(alloc, &mut Device::new(file), TEXT_LIMIT) {
+            Ok(text) => Ok(Some(Seq::from_vec(text))),
+            Err(ReadFault::TooLong) => Ok(Some(too_long(alloc)?)),
+            Err(ReadFault::Failed) => Err(FilesFault::Failed),
+            Err(ReadFault::Memory) => Err(FilesFault::Memory),
+        }
+    }
+
+    fn folder(&mut self, alloc: Global, path: &[u8]) -> Result<Seq<Seq<u8>>, FilesFault> {
+        let Ok(path) = str::from_utf8(path) else {
+            return Err(FilesFault::Failed);
+        };
+        let entries = match fs::read_dir(self.rt, path) {
+            Ok(entries) => entries,
+            Err(error) => {
+                return if error.kind() == ErrorKind::NotFound {
+                    Ok(Seq::new(alloc))
+                } else {
+                    Err(FilesFault::Failed)
+                };
+            }
+        };
+        let mut names = Seq::new(alloc);
+        for entry in entries {
+            let Ok(entry) = entry else {
+                return Err(FilesFault::Failed);
+            };
+            let Ok(kind) = fs::metadata(self.rt, entry.path()) else {
+                continue;
+            };
+            if kind.is_file() {
+                names.push(Seq::from_slice(alloc, entry.file_name().as_bytes())?)?;
+            }
+        }
+        Ok(names)
+    }
+}

@@ -1,0 +1,28 @@
+//! The three commands of the auditor, how a run ends, and the text of every fault.
+#![tactic(auto)]
+
+mod audit;
+mod check;
+mod ending;
+mod expand;
+mod fault;
+mod fault_text;
+mod files;
+mod lines;
+mod loading;
+mod opening;
+mod printed;
+mod program;
+mod sender;
+mod sources;
+
+pub use audit::audit_into;
+pub use check::check_run;
+pub use ending::complain;
+pub use expand::expand_run;
+pub use fault::Fault;
+pub use files::{Disk, Files, FilesFault};
+pub use opening::Opener;
+pub use program::run_program;
+pub use sender::sender_of;
+pub use sources::{Opened, open_all};

@@ -1,0 +1,128 @@
+//! Lines that the program prints.
+ghost use Rattle.std.specs.Prelude.{◌≡◌, ◌++◌, IfOk, OnOk, decimal};
+ghost use Rattle.audit_commands.specs.FindingLines.{class_text, finding_line, finding_lines as lines_of, keyword as keyword_of, listed_line};
+ghost use Rattle.audit_commands.specs.Places.{path_of, place_text};
+
+use itoa::Buffer;
+use std::alloc::{AllocError, Global};
+use sudo_grammar::Kind;
+use sudo_policy::{Class, Finding};
+use sudo_text::{Place, Seq};
+
+/// Appends bytes to a line.
+pub(crate) fn push(line: &mut Vec<u8>, bytes: &[u8]) -> Result<(), AllocError>
+    ensures { OnOk result (line.new.items ≡ line.old.items ++ bytes.now) }
+{
+    line.extend_from_slice(bytes)
+}
+
+/// Appends two texts, one after the other.
+pub(crate) fn push_both(line: &mut Vec<u8>, first: &[u8], second: &[u8]) -> Result<(), AllocError>
+    ensures { OnOk result (line.new.items ≡ line.old.items ++ (first.now ++ second.now)) }
+{
+    push(line, first)?;
+    push(line, second)
+}
+
+/// Appends a number.
+pub(crate) fn push_number(line: &mut Vec<u8>, number: u64) -> Result<(), AllocError>
+    ensures { OnOk result (line.new.items ≡ line.old.items ++ decimal number) }
+{
+    let mut digits = Buffer::new();
+    line.extend_from_slice(digits.format(number).as_bytes())
+}
+
+/// Appends the path of a file by its number.
+pub(crate) fn push_path(line: &mut Vec<u8>, files: &[Seq<u8>], file: u32) -> Result<(), AllocError>
+    ensures { OnOk result (line.new.items ≡ line.old.items ++ path_of files.now file) }
+{
+    match files.get(file as usize) {
+        Some(path) => line.extend_from_slice(path.as_slice()),
+        None => Ok(()),
+    }
+}
+
+/// Appends a place, as `PATH:LINE`.
+pub(crate) fn push_place(
+    line: &mut Vec<u8>,
+    files: &[Seq<u8>],
+    place: Place,
+) -> Result<(), AllocError>
+    ensures { OnOk result (line.new.items ≡ line.old.items ++ place_text files.now place) }
+{
+    push_path(line, files, place.file)?;
+    push(line, b":")?;
+    push_number(line, u64::from(place.line))
+}
+
+/// The keyword of a kind of alias.
+fn keyword(kind: Kind) -> &'static [u8]
+    ensures { result.now ≡ keyword_of kind }
+{
+    match kind {
+        Kind::User => b"User_Alias",
+        Kind::Runas => b"Runas_Alias",
+        Kind::Host => b"Host_Alias",
+        Kind::Cmnd => b"Cmnd_Alias",
+    }
+}
+
+/// What a class of findings is called.
+fn called(class: Class) -> &'static [u8]
+    ensures { result.now ≡ class_text class }
+{
+    match class {
+        Class::Redefined => b": error: redefined ",
+        Class::Undefined => b": error: undefined ",
+        Class::Cycle => b": error: cycle ",
+        Class::TooDeep => b": error: too deep ",
+        Class::TooWide => b": error: too wide ",
+        Class::Unused => b": warning: unused ",
+    }
+}
+
+/// Appends the line of a finding, as `PATH:LINE: error: undefined Host_Alias NAME`.
+fn push_finding(lines: &mut Vec<u8>, files: &[Seq<u8>], finding: &Finding) -> Result<(), AllocError>
+    ensures { OnOk result (lines.new.items ≡ lines.old.items
+        ++ finding_line files.now finding.now) }
+{
+    push_place(lines, files, finding.place)?;
+    push(lines, called(finding.class))?;
+    push(lines, keyword(finding.kind))?;
+    push(lines, b" ")?;
+    push(lines, finding.name.as_slice())?;
+    push(lines, b"\n")
+}
+
+/// Appends the line of a finding, but of a warning where errors alone are listed.
+fn push_listed(
+    lines: &mut Vec<u8>,
+    files: &[Seq<u8>],
+    finding: &Finding,
+    errors_alone: bool,
+) -> Result<(), AllocError>
+    ensures { OnOk result (lines.new.items ≡ lines.old.items
+        ++ listed_line files.now errors_alone finding.now) }
+{
+    if !errors_alone || finding.class.is_error() {
+        push_finding(lines, files, finding)
+    } else {
+        Ok(())
+    }
+}
+
+/// A line for each finding.
+pub(crate) fn finding_lines(
+    alloc: Global,
+    files: &[Seq<u8>],
+    findings: &[Finding],
+    errors_alone: bool,
+) -> Result<Vec<u8>, AllocError>
+    ensures { IfOk result (λ lines. lines.items ≡ lines_of files.now errors_alone findings.now) }
+{
+    let mut lines = Vec::new(alloc);
+    for finding in findings {
+        push_listed(&mut lines, files, finding, errors_alone)?;
+    }
+    Ok(lines)
+}

@@ -1,0 +1,251 @@
+//! A policy from its files.
+ghost use Rattle.std.specs.Prelude.{◌≡◌, ◌⊎◌, Some, IfErr, IfOk, OnOk};
+ghost use Rattle.sudo_policy.specs.Checking.{Passes};
+ghost use Rattle.audit_commands.specs.Holding.{AreHeld, HoldsFile, IsHeld, IsUnreadable};
+ghost use Rattle.audit_commands.specs.Loading.{IsChecked, IsLoaded, IsNoPolicy, IsNotChecked, IsNotCheckedOf};
+
+use crate::fault::Fault;
+use crate::files::{Files, FilesFault};
+use crate::lines::finding_lines;
+use std::alloc::{AllocError, Global};
+use sudo_grammar::Policy;
+use sudo_load::{LoadFault, Supply, Want, folder_files, included, load};
+use sudo_policy::{CheckFault, Checked, check};
+use sudo_text::Seq;
+
+/// How often files are asked for, at most.
+const MOST_CALLS: usize = 2048;
+
+/// Why the main file cannot be read.
+fn unread_main(alloc: Global, path: &[u8]) -> Fault
+    ensures { (result ≡ Fault.Memory) ⊎ (result ≡ Fault.CannotRead path.now) }
+{
+    match Seq::from_slice(alloc, path) {
+        Ok(path) => Fault::CannotRead(path),
+        Err(_) => Fault::Memory,
+    }
+}
+
+/// The text of the main file, which has to be there.
+fn main_text<F: Files>(alloc: Global, files: &mut F, path: &[u8]) -> Result<Seq<u8>, Fault>
+    ensures held { IfOk result (λ text. HoldsFile (F.held files.old) path.now (Some text)) }
+    ensures same { F.held files.new ≡ F.held files.old }
+    ensures fault { IfErr result (IsNoPolicy (F.held files.old) path.now) }
+{
+    match files.file(alloc, path) {
+        Ok(Some(text)) => Ok(text),
+        Ok(None) | Err(FilesFault::Failed) => Err(unread_main(alloc, path)),
+        Err(FilesFault::Memory) => Err(Fault::Memory),
+    }
+}
+
+/// The file or the folder that is wanted; or its path, and why it is not read.
+fn fetch<F: Files>(
+    alloc: Global,
+    files: &mut F,
+    want: Want,
+) -> Result<Supply, (Seq<u8>, FilesFault)>
+    ensures held { IfOk result (IsHeld (F.held files.old)) }
+    ensures same { F.held files.new ≡ F.held files.old }
+    ensures failed { IfErr result (λ e. e.1 ≡ FilesFault.Failed
+        → IsUnreadable (F.held files.old) e.0) }
+{
+    match want {
+        Want::File(path) => match files.file(alloc, path.as_slice()) {
+            Ok(text) => Ok(Supply::File { path, text }),
+            Err(fault) => Err((path, fault)),
+        },
+        Want::Folder(path) => match files.folder(alloc, path.as_slice()) {
+            Ok(names) => Ok(Supply::Folder { path, names }),
+            Err(fault) => Err((path, fault)),
+        },
+    }
+}
+
+/// Whether a file or a folder was read.
+fn is_read(supplies: &[Supply], want: &Want) -> bool {
+    supplies.iter().any(|supply| match (supply, want) {
+        (Supply::File { path, .. }, Want::File(wanted)) => path == wanted,
+        (Supply::Folder { path, .. }, Want::Folder(wanted)) => path == wanted,
+        _ => false,
+    })
+}
+
+/// What the include lines of a file name; nothing where there is no such file.
+fn named_by_file(
+    alloc: Global,
+    path: &Seq<u8>,
+    text: &Option<Seq<u8>>,
+) -> Result<Vec<Want>, AllocError> {
+    match text {
+        Some(text) => included(alloc, path.as_slice(), text.as_slice()),
+        None => Ok(Vec::new(alloc)),
+    }
+}
+
+/// The files of a folder.
+fn named_by_folder(
+    alloc: Global,
+    path: &Seq<u8>,
+    names: &Seq<Seq<u8>>,
+) -> Result<Vec<Want>, AllocError> {
+    let mut wants = Vec::new(alloc);
+    for file in folder_files(alloc, path.as_slice(), names.as_slice())? {
+        wants.push(Want::File(file))?;
+    }
+    Ok(wants)
+}
+
+/// What is wanted next where this was read.
+fn named_by(alloc: Global, supply: &Supply) -> Result<Vec<Want>, AllocError> {
+    match supply {
+        Supply::File { path, text } => named_by_file(alloc, path, text),
+        Supply::Folder { path, names } => named_by_folder(alloc, path, names),
+    }
+}
+
+/// Reads a file or a folder, and notes what it names. What can't be read is left: whether it is wanted at all is not
+/// known yet. `Err` comes only where memory was refused.
+fn read_one<F: Files>(
+    alloc: Global,
+    files: &mut F,
+    want: Want,
+    supplies: &mut Vec<Supply>,
+    pending: &mut Vec<Want>,
+) -> Result<(), AllocError>
+    requires { AreHeld (F.held files.old) supplies.old.items }
+    ensures held { AreHeld (F.held files.new) supplies.new.items }
+    ensures same { F.held files.new ≡ F.held files.old }
+{
+    match fetch(alloc, files, want) {
+        Ok(supply) => {
+            pending.append(&mut named_by(alloc, &supply)?)?;
+            Ok(supplies.push(supply)?)
+        }
+        Err((_, FilesFault::Failed)) => Ok(()),
+        Err((_, FilesFault::Memory)) => Err(AllocError),
+    }
+}
+
+/// Reads ahead what a file includes, so that little is left to be asked for and no file is parsed again and again. It
+/// decides nothing: it ends where memory is refused, and what it left is read when it is wanted.
+fn read_ahead<F: Files>(alloc: Global, files: &mut F, path: &[u8], text: &[u8]) -> Vec<Supply>
+    ensures held { AreHeld (F.held files.new) result.items }
+    ensures same { F.held files.new ≡ F.held files.old }
+{
+    let mut supplies = Vec::new(alloc);
+    let Ok(mut pending) = included(alloc, path, text) else {
+        return supplies;
+    };
+    for _turn in 0..MOST_CALLS {
+        let Some(want) = pending.pop() else {
+            break;
+        };
+        if is_read(&supplies, &want) {
+            continue;
+        }
+        if read_one(alloc, files, want, &mut supplies, &mut pending).is_err() {
+            break;
+        }
+    }
+    supplies
+}
+
+/// Reads a file or a folder that is wanted.
+fn push_wanted<F: Files>(
+    alloc: Global,
+    files: &mut F,
+    path: &[u8],
+    want: Want,
+    supplies: &mut Vec<Supply>,
+) -> Result<(), Fault>
+    requires { AreHeld (F.held files.old) supplies.old.items }
+    ensures held { OnOk result (AreHeld (F.held files.new) supplies.new.items) }
+    ensures same { F.held files.new ≡ F.held files.old }
+    ensures fault { IfErr result (IsNoPolicy (F.held files.old) path.now) }
+{
+    match fetch(alloc, files, want) {
+        Ok(supply) => Ok(supplies.push(supply)?),
+        Err((unread, FilesFault::Failed)) => Err(Fault::CannotRead(unread)),
+        Err((_, FilesFault::Memory)) => Err(Fault::Memory),
+    }
+}
+
+/// Reads what is wanted. The first time, all that the main file includes is read ahead.
+fn hand_in<F: Files>(
+    alloc: Global,
+    files: &mut F,
+    path: &[u8],
+    text: &[u8],
+    want: Want,
+    supplies: &mut Vec<Supply>,
+) -> Result<(), Fault>
+    requires { AreHeld (F.held files.old) supplies.old.items }
+    ensures held { OnOk result (AreHeld (F.held files.new) supplies.new.items) }
+    ensures same { F.held files.new ≡ F.held files.old }
+    ensures fault { IfErr result (IsNoPolicy (F.held files.old) path.now) }
+{
+    if supplies.is_empty() {
+        *supplies = read_ahead(alloc, files, path, text);
+    }
+    if is_read(supplies, &want) {
+        return Ok(());
+    }
+    push_wanted(alloc, files, path, want, supplies)
+}
+
+/// The policy of a file and of all that it includes: what is wanted is read, and the loading begins anew.
+pub(crate) fn policy_of<F: Files>(
+    alloc: Global,
+    path: &[u8],
+    files: &mut F,
+) -> Result<Policy, Fault>
+    ensures loaded { IfOk result (λ policy. IsLoaded (F.held files.old) path.now policy) }
+    ensures fault { IfErr result (IsNoPolicy (F.held files.old) path.now) }
+{
+    let text = main_text(alloc, files, path)?;
+    let text = text.as_slice();
+    let mut supplies = Vec::new(alloc);
+    for _call in 0..MOST_CALLS {
+        match load(alloc, path, text, &supplies) {
+            Ok(policy) => return Ok(policy),
+            Err((read, fault)) => match fault {
+                LoadFault::Wanted(want) => {
+                    hand_in(alloc, files, path, text, want, &mut supplies)?;
+                }
+                LoadFault::Memory => return Err(Fault::Memory),
+                fault => return Err(Fault::Refused(read, fault)),
+            },
+        }
+    }
+    Err(Fault::Memory)
+}
+
+/// The policy of a file and of all that it includes, if it passes the check.
+pub(crate) fn checked_policy<F: Files>(
+    alloc: Global,
+    path: &[u8],
+    files: &mut F,
+) -> Result<Checked, Fault>
+    ensures checked { IfOk result (IsChecked (F.held files.old) path.now) }
+    ensures fault { IfErr result (IsNotChecked (F.held files.old) path.now) }
+{
+    let policy = policy_of(alloc, path, files)?;
+    passed(alloc, policy)
+}
+
+/// A policy that passes the check; or the lines of its errors.
+fn passed(alloc: Global, policy: Policy) -> Result<Checked, Fault>
+    ensures same { IfOk result (λ checked. checked ≡ policy) }
+    ensures passes { IfOk result (λ checked. Passes policy) }
+    ensures fault { IfErr result (IsNotCheckedOf policy) }
+{
+    match check(alloc, policy) {
+        Ok(checked) => Ok(checked),
+        Err(CheckFault::Findings(policy, findings)) => {
+            let lines = finding_lines(alloc, policy.files.as_slice(), findings.as_slice(), true)?;
+            Err(Fault::Errors(lines))
+        }
+        Err(CheckFault::Memory(_)) => Err(Fault::Memory),
+    }
+}

@@ -1,0 +1,44 @@
+//! Where the files that the command line names are opened.
+ghost use Rattle.std.specs.Prelude.{ℕ, List, ⊤, IfNone, IfSome};
+
+use audit_files::Device;
+use std::fs::File;
+
+/// Opens files for reading, by their paths.
+pub trait Opener<R> {
+    // Whether a reader may be of the file at a path.
+    ghost opens: { Self → List ℕ → R → Type 0 };
+
+    // Whether there may be no reader for a path.
+    ghost closed: { Self → List ℕ → Type 0 };
+
+    /// Opens a file for reading. Returns `None` if that fails.
+    fn open(&self, path: &str) -> Option<R>
+        ensures opened { IfSome result (opens self.now path.now) }
+        ensures closed { IfNone result (closed self.now path.now) };
+}
+
+/// Opens the files of this machine. It tells nothing of them.
+#[derive(Drop)]
+pub(crate) struct Machine<'a> {
+    rt: &'a HostRuntime,
+}
+
+impl<'a> Machine<'a> {
+    pub(crate) fn new(rt: &'a HostRuntime) -> Machine<'a> {
+        Machine { rt }
+    }
+}
+
+impl Opener<Device<File>> for Machine<'_> {
+    ghost opens = { λ _ _ _. ⊤ };
+
+    ghost closed = { λ _ _. ⊤ };
+
+    fn open(&self, path: &str) -> Option<Device<File>> {
+        match File::open(self.rt, path) {
+            Ok(file) => Some(Device::new(file)),
+            Err(_) => None,
+        }
+    }
+}

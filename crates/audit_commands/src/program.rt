@@ -1,0 +1,84 @@
+//! The program: what its words ask for is done.
+ghost use Rattle.audit_words.specs.Words.{WorkersFit};
+
+use crate::check::check_run;
+use crate::ending::complain;
+use crate::expand::expand_run;
+use crate::fault::Fault;
+use crate::files::Disk;
+use crate::sources::audit_run_of;
+use audit_files::Device;
+use audit_words::{Asked, asked, unread};
+use clap::Error;
+use clap::error::ErrorKind;
+use std::env;
+use std::sync::Wait;
+use std::thread::Threads;
+
+/// Does what the words ask for, and gives the exit status.
+fn run<T: Threads + Wait + Sync>(rt: &HostRuntime, threads: &T, asked: Asked<'_>) -> u8
+    requires { WorkersFit asked }
+{
+    let alloc = rt.alloc();
+    let mut out = Device::new(rt.stdout());
+    let mut err = Device::new(rt.stderr());
+    let mut disk = Disk::new(rt);
+    match asked {
+        Asked::Check { file } => check_run(alloc, file.as_bytes(), &mut disk, &mut out, &mut err),
+        Asked::Expand { file, kind, name } => expand_run(
+            alloc,
+            file.as_bytes(),
+            &mut disk,
+            kind,
+            name.as_bytes(),
+            &mut out,
+            &mut err,
+        ),
+        Asked::Audit {
+            file,
+            users,
+            hosts,
+            workers,
+            senders,
+        } => audit_run_of(rt, threads, file, users, hosts, workers, senders.as_slice()),
+    }
+}
+
+/// Prints the text of `clap`, and gives the exit status: help that was asked for goes to standard output, with status
+/// 0, and a mistake in the words to standard error, with status 2.
+fn refuse(rt: &HostRuntime, error: &Error) -> u8 {
+    if error.kind() == ErrorKind::OutOfMemory {
+        let mut err = Device::new(rt.stderr());
+        return complain(rt.alloc(), &Fault::Memory, &mut err);
+    }
+    let printed = error.print(rt);
+    if error.use_stderr() {
+        2
+    } else if printed.is_ok() {
+        0
+    } else {
+        4
+    }
+}
+
+/// The words of the command line, the program's own name first.
+fn words(rt: &HostRuntime) -> Result<Vec<String>, Error> {
+    match env::args(rt) {
+        Ok(words) => Ok(words.collect(rt.alloc())?),
+        Err(error) => Err(unread(rt.alloc(), error.kind())),
+    }
+}
+
+/// Does what the words of the command line ask for, and returns the exit status.
+///
+/// `threads` is the runtime, where it can start threads.
+pub fn run_program<T: Threads + Wait + Sync>(rt: &HostRuntime, threads: &T) -> u8 {
+    let words = match words(rt) {
+        Ok(words) => words,
+        Err(error) => return refuse(rt, &error),
+    };
+    match asked(rt.alloc(), words.as_slice()) {
+        Ok(asked) => run(rt, threads, asked),
+        Err(error) => refuse(rt, &error),
+    }
+}

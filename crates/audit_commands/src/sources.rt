@@ -1,0 +1,167 @@
+//! The files that an audit is asked for, opened.
+ghost use Rattle.std.specs.Prelude.{◌≡◌, ◌≤◌, ℕ, List, IfErr, IfOk, map};
+ghost use Rattle.audit_commands.specs.Opening.{AreOpened, AreSenders, AreSources, IsNotOpened};
+
+use crate::audit::audit_into;
+use crate::ending::complain;
+use crate::fault::Fault;
+use crate::files::Disk;
+use crate::opening::{Machine, Opener};
+use crate::sender::sender_of;
+use audit_files::Device;
+use audit_run::Source;
+use std::alloc::Global;
+use std::sync::Wait;
+use std::thread::Threads;
+use sudo_text::Seq;
+
+/// The senders and paths of the words, each as `NAME=PATH`; or the first word that is not.
+fn senders_of<'a>(alloc: Global, words: &[&'a str]) -> Result<Vec<(&'a str, &'a str)>, Fault>
+    ensures senders { let words = map (λ w. w.now) words.now in
+        IfOk result (λ pairs. AreSenders words (map (λ p. (p.0.now, p.1.now)) pairs.items)) }
+    ensures fault { IfErr result (IsNotOpened (λ _. ⊥) (map (λ w. w.now) words.now)) }
+{
+    let mut senders = Vec::new(alloc);
+    for word in words {
+        match sender_of(word) {
+            Some(sender) => senders.push(sender)?,
+            None => return Err(Fault::BadSender(Seq::from_slice(alloc, word.as_bytes())?)),
+        }
+    }
+    Ok(senders)
+}
+
+/// Opens a file, or names it.
+fn open<R, O: Opener<R>>(alloc: Global, opener: &O, path: &str) -> Result<R, Fault>
+    ensures opened { IfOk result (O.opens opener.now path.now) }
+    ensures fault { (words : List (List ℕ)) → IfErr result
+        (IsNotOpened (O.closed opener.now) words) }
+{
+    match opener.open(path) {
+        Some(reader) => Ok(reader),
+        None => Err(Fault::CannotRead(Seq::from_slice(alloc, path.as_bytes())?)),
+    }
+}
+
+/// Opens the requests file of a sender.
+fn open_source<R, O: Opener<R>>(
+    alloc: Global,
+    opener: &O,
+    name: &str,
+    path: &str,
+) -> Result<Source<R>, Fault>
+    ensures opened { IfOk result (λ s. (s.name ≡ name.now) × O.opens opener.now path.now s.reader) }
+    ensures fault { (words : List (List ℕ)) → IfErr result
+        (IsNotOpened (O.closed opener.now) words) }
+{
+    let name = match Seq::from_slice(alloc, name.as_bytes()) {
+        Ok(name) => name,
+        Err(_) => return Err(Fault::Memory),
+    };
+    match open(alloc, opener, path) {
+        Ok(reader) => Ok(Source { name, reader }),
+        Err(fault) => Err(fault),
+    }
+}
+
+/// Opens the requests files, in the order in which they are named.
+fn open_sources<R: Drop, O: Opener<R>>(
+    alloc: Global,
+    opener: &O,
+    senders: &[(&str, &str)],
+) -> Result<Vec<Source<R>>, Fault>
+    ensures opened { let pairs = map (λ p. (p.0.now, p.1.now)) senders.now in
+        IfOk result (λ s. AreOpened (O.opens opener.now) pairs s.items) }
+    ensures fault { (words : List (List ℕ)) → IfErr result
+        (IsNotOpened (O.closed opener.now) words) }
+{
+    let mut sources = Vec::new(alloc);
+    for (name, path) in senders {
+        match open_source(alloc, opener, name, path) {
+            Ok(source) => sources.push(source)?,
+            Err(fault) => return Err(fault),
+        }
+    }
+    Ok(sources)
+}
+
+/// The files of users, of hosts and of requests.
+#[derive(Drop)]
+pub struct Opened<R> {
+    pub users: R,
+    pub hosts: R,
+    pub sources: Vec<Source<R>>,
+}
+
+/// Opens the files, or names the first that cannot be opened; a bad sender comes before that.
+pub fn open_all<R: Drop, O: Opener<R>>(
+    alloc: Global,
+    opener: &O,
+    users: &str,
+    hosts: &str,
+    words: &[&str],
+) -> Result<Opened<R>, Fault>
+    ensures users { IfOk result (λ files. O.opens opener.now users.now files.users) }
+    ensures hosts { IfOk result (λ files. O.opens opener.now hosts.now files.hosts) }
+    ensures sources { let words = map (λ w. w.now) words.now in
+        IfOk result (λ files. AreSources (O.opens opener.now) words files.sources.items) }
+    ensures fault { IfErr result (IsNotOpened (O.closed opener.now) (map (λ w. w.now) words.now)) }
+{
+    let senders = senders_of(alloc, words)?;
+    let users = match open(alloc, opener, users) {
+        Ok(users) => users,
+        Err(fault) => return Err(fault),
+    };
+    let hosts = match open(alloc, opener, hosts) {
+        Ok(hosts) => hosts,
+        Err(fault) => return Err(fault),
+    };
+    match open_sources(alloc, opener, &senders) {
+        Ok(sources) => Ok(Opened {
+            users,
+            hosts,
+            sources,
+        }),
+        Err(fault) => Err(fault),
+    }
+}
+
+/// Answers the requests of the files that the words `NAME=PATH` name, and gives the exit status. `threads` is the runtime,
+/// where it can start threads.
+pub(crate) fn audit_run_of<T: Threads + Wait + Sync>(
+    rt: &HostRuntime,
+    threads: &T,
+    file: &str,
+    users: &str,
+    hosts: &str,
+    workers: u32,
+    words: &[&str],
+) -> u8
+    requires { (1 ≤ workers) × (workers ≤ 16) }
+{
+    let alloc = rt.alloc();
+    let mut out = Device::new(rt.stdout());
+    let mut err = Device::new(rt.stderr());
+    match open_all(alloc, &Machine::new(rt), users, hosts, words) {
+        Ok(files) => {
+            let Opened {
+                mut users,
+                mut hosts,
+                sources,
+            } = files;
+            audit_into(
+                alloc,
+                threads,
+                file.as_bytes(),
+                &mut Disk::new(rt),
+                &mut users,
+                &mut hosts,
+                sources,
+                workers,
+                &mut out,
+                &mut err,
+            )
+        }
+        Err(fault) => complain(alloc, &fault, &mut err),
+    }
+}

@@ -1,0 +1,87 @@
+-- The text of a report.
+use Rattle.std.specs.Prelude.{ℕ, Bool, true, false, List, [], ◌∷◌, ◌++◌, codes, decimal, flat_map, slice_index_or, Option, Some, None}
+use Rattle.csv.specs.Writing.{default_writer, row_text}
+use Rattle.sudo_text.specs.declared.line.Place.{Place}
+use Rattle.audit_collect.specs.declared.arrival.Answer.{Answer}
+use Rattle.audit_collect.specs.declared.report.Report.{Report}
+use Rattle.audit_collect.specs.declared.report.SenderReport.{SenderReport}
+use Rattle.sudo_match.specs.declared.request.Tags.{Tags}
+use Rattle.sudo_match.specs.declared.request.Verdict.{Verdict}
+use Rattle.sudo_match.specs.declared.request.Verdict.TheVariants.{Allow, Deny, NoMatch, Unknown}
+use Rattle.sudo_match.specs.declared.request.What.{What}
+use Rattle.sudo_match.specs.declared.request.What.TheVariants as what
+
+-- a line of the report, as `csv` writes a record
+abbrev pub line : List (List ℕ) → List ℕ
+line fields = row_text default_writer fields
+
+-- the first record: the names of the columns
+abbrev pub header : List (List ℕ)
+header = codes "sender" ∷ codes "number" ∷ codes "verdict" ∷ codes "line" ∷ codes "tags" ∷ []
+
+-- which name is unknown
+abbrev pub unknown_word : What → List ℕ
+unknown_word what.User = codes "unknown-user"
+unknown_word what.Host = codes "unknown-host"
+unknown_word what.Target = codes "unknown-target"
+unknown_word what.Group = codes "unknown-group"
+
+-- what the policy says, in a word
+abbrev pub verdict_word : Verdict → List ℕ
+verdict_word (Allow place tags) = codes "allow"
+verdict_word (Deny place) = codes "deny"
+verdict_word NoMatch = codes "nomatch"
+verdict_word (Unknown w) = unknown_word w
+
+-- a place in a policy of these files: the path of its file, a colon, and its line
+abbrev pub place_text : List (List ℕ) → Place → List ℕ
+place_text files place = slice_index_or files place.file [] ++ 58 ∷ decimal place.line
+
+-- the place of the grant that decided, for `allow` and `deny` alone
+abbrev pub verdict_place : List (List ℕ) → Verdict → List ℕ
+verdict_place files (Allow place tags) = place_text files place
+verdict_place files (Deny place) = place_text files place
+verdict_place files NoMatch = []
+verdict_place files (Unknown w) = []
+
+-- a choice's tag at the end of the tags so far, after a space unless it is the first
+abbrev pub with_name : List ℕ → List ℕ → List ℕ
+with_name [] name = name
+with_name (b ∷ before) name = (b ∷ before) ++ 32 ∷ name
+
+-- with the tag of a choice, if it is made: the first name for the tag itself, the second for its opposite
+abbrev pub with_tag : Option Bool → List ℕ → List ℕ → List ℕ → List ℕ
+with_tag None first second before = before
+with_tag (Some true) first second before = with_name before first
+with_tag (Some false) first second before = with_name before second
+
+-- the tags that are set, in their order, one space apart
+abbrev pub tags_text : Tags → List ℕ
+tags_text t =
+    with_tag t.setenv (codes "SETENV") (codes "NOSETENV") (
+    with_tag t.passwd (codes "PASSWD") (codes "NOPASSWD") (
+    with_tag t.mail (codes "MAIL") (codes "NOMAIL") (
+    with_tag t.log_output (codes "LOG_OUTPUT") (codes "NOLOG_OUTPUT") (
+    with_tag t.log_input (codes "LOG_INPUT") (codes "NOLOG_INPUT") (
+    with_tag t.intercept (codes "INTERCEPT") (codes "NOINTERCEPT") (
+    with_tag t.follow (codes "FOLLOW") (codes "NOFOLLOW") (
+    with_tag t.exec (codes "EXEC") (codes "NOEXEC") [])))))))
+
+-- the tags of a grant, for `allow` alone
+abbrev pub verdict_tags : Verdict → List ℕ
+verdict_tags (Allow place tags) = tags_text tags
+verdict_tags (Deny place) = []
+verdict_tags NoMatch = []
+verdict_tags (Unknown w) = []
+
+-- the fields of a record
+abbrev pub answer_fields : List (List ℕ) → List ℕ → Answer → List (List ℕ)
+answer_fields files sender a = sender ∷ decimal a.request.number ∷ verdict_word a.verdict ∷ verdict_place files a.verdict ∷ verdict_tags a.verdict ∷ []
+
+-- a record for each answer of a sender, in their order
+abbrev pub sender_text : List (List ℕ) → SenderReport → List ℕ
+sender_text files s = flat_map (λ a. line (answer_fields files s.name a)) s.answers
+
+-- the header, and each sender's records, in the order of the roster; places are in a policy of these files
+abbrev pub report_text : List (List ℕ) → Report → List ℕ
+report_text files r = line header ++ flat_map (sender_text files) r.senders

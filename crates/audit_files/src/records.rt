@@ -1,0 +1,46 @@
+ghost use Rattle.std.specs.Prelude.{◌≡◌, ◌++◌, [], IfOk, OnOk, map};
+ghost use Rattle.csv.specs.Writing.{default_writer, row_text};
+ghost use Rattle.audit_files.specs.Text.{IsBetween, written};
+
+use csv::{Writer, WriterBuilder};
+use std::alloc::{AllocError, Global};
+
+/// A text of records in memory.
+#[derive(Drop)]
+pub(crate) struct Text {
+    writer: Writer<Vec<u8>>,
+}
+
+impl Text {
+    pub(crate) fn new(alloc: Global) -> Text
+        ensures between { IsBetween result }
+        ensures empty { written result ≡ [] }
+    {
+        Text {
+            writer: WriterBuilder::new().from_writer(Vec::new(alloc)),
+        }
+    }
+
+    /// Writes a record. It fails only for memory.
+    pub(crate) fn put(&mut self, fields: &[&[u8]]) -> Result<(), AllocError>
+        requires { IsBetween self.old }
+        ensures between { OnOk result (IsBetween self.new) }
+        ensures text { OnOk result (written self.new
+            ≡ written self.old ++ row_text default_writer (map (λ f. f.now) fields.now)) }
+    {
+        if self.writer.write_fields(fields).is_ok() {
+            return Ok(());
+        }
+        Err(AllocError)
+    }
+
+    /// The text.
+    pub(crate) fn finish(self) -> Result<Vec<u8>, AllocError>
+        ensures { IfOk result (λ text. text.items ≡ written self) }
+    {
+        if let Ok(text) = self.writer.into_inner() {
+            return Ok(text);
+        }
+        Err(AllocError)
+    }
+}

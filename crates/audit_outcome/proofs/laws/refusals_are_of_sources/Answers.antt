@@ -1,9 +1,0 @@
-use Rattle.audit_outcome.proofs.Owned.{all_owned, all_rise}
-use Rattle.audit_outcome.proofs.Refusing.{refused_of_sources}
-use Rattle.audit_outcome.specs.Parts.{owned}
-use Rattle.audit_outcome.specs.Roster.{roster}
-use Rattle.audit_outcome.proofs.laws.refusals_are_of_sources.Goals as goal
-
-pub returns : goal.returns
-returns c = λ names sources told states workers outcomes why read all refused.
-    refused_of_sources names (roster sources) workers (owned sources states) outcomes (all_rise sources told states read) (all_owned sources states) all why refused

@@ -1,5 +1,0 @@
-use Rattle.audit_outcome.proofs.Distinct.{roster_distinct}
-use Rattle.audit_outcome.proofs.laws.rosters_are_distinct.Goals as goal
-
-pub returns : goal.returns
-returns c = roster_distinct

@@ -1,0 +1,192 @@
+use audit_files::{FileFault, Script, read_hosts, read_requests, read_users};
+use std::alloc::Global;
+use std::test::Fail;
+
+const HEADER: &str = "number,user,host,runas_user,runas_group,command,arguments\n";
+
+const ROWS: &str =
+    "1,alice,web1.example.org,,,/bin/kill,-9 7\n2,carol,web1.example.org,,,/bin/kill,\nclose,2,,,,,\n";
+
+// The fault of a requests file with these rows.
+fn fault_of(alloc: Global, rows: &str) -> Result<Option<FileFault>, Fail> {
+    let mut text = String::from_str(alloc, HEADER)?;
+    text.push_str(rows)?;
+    let mut reader = Script::of(alloc, text.as_str().as_bytes(), 7)?;
+    match read_requests(alloc, &mut reader) {
+        Ok(_) => Ok(None),
+        Err(fault) => Ok(Some(fault)),
+    }
+}
+
+#[test]
+fn reads_requests(rt: HostRuntime) -> Result<(), Fail> {
+    let alloc = rt.alloc();
+    let mut text = String::from_str(alloc, HEADER)?;
+    text.push_str(ROWS)?;
+    assert!(rt; text.len() == 151);
+    let mut reader = Script::of(alloc, text.as_str().as_bytes(), 7)?;
+    let requests = read_requests(alloc, &mut reader)?;
+    assert!(rt; requests.list.len() == 2 && requests.close == Some(2));
+    let first = &requests.list.as_slice()[0];
+    assert!(rt; first.number == 1 && first.arguments.as_slice() == b"-9 7".as_slice());
+    assert!(rt; first.runas_user.is_none());
+    Ok(())
+}
+
+#[test]
+fn names_the_first_fault(rt: HostRuntime) -> Result<(), Fail> {
+    let alloc = rt.alloc();
+    let row = |number: &str, fault: Option<FileFault>| -> Result<bool, Fail> {
+        Ok(fault_of(alloc, number)? == fault)
+    };
+    assert!(rt; row("close,0,,,,,\n", None)?);
+    assert!(rt; row("0,u,h,,,/c,\n", Some(FileFault::BadRow { row: 2 }))?);
+    assert!(rt;
+        row(
+            "2,u,h,,,/c,\n1,u,h,,,/c,\n",
+            Some(FileFault::OutOfOrder { row: 3 })
+        )?
+    );
+    assert!(rt;
+        row(
+            "1,u,h,,,/c,\nclose,1,,,,,\n2,u,h,,,/c,\n",
+            Some(FileFault::RowAfterClose { row: 4 })
+        )?
+    );
+    assert!(rt; row("01,u,h,,,/c,\n", Some(FileFault::BadRow { row: 2 }))?);
+    assert!(rt; row("4294967296,u,h,,,/c,\n", Some(FileFault::BadRow { row: 2 }))?);
+    assert!(rt; row("4294967295,u,h,,,sudoedit,\n", None)?);
+    assert!(rt; row("1,u,h,,,c,\n", Some(FileFault::BadRow { row: 2 }))?);
+    assert!(rt; row("1,u\n", Some(FileFault::BadRow { row: 2 }))?);
+    Ok(())
+}
+
+// What is read of a requests file that is cut to its first bytes: the count of its close row, if it is a file.
+fn read_of_cut(n: usize) -> Result<Option<u32>, FileFault> {
+    match n {
+        0..=56 => Err(FileFault::Header),
+        57 | 58 | 95..=100 | 137 | 138 => Ok(None),
+        59..=94 => Err(FileFault::BadRow { row: 2 }),
+        101..=136 => Err(FileFault::BadRow { row: 3 }),
+        139..=149 => Err(FileFault::BadRow { row: 4 }),
+        _ => Ok(Some(2)),
+    }
+}
+
+#[test]
+fn names_what_is_cut_off(rt: HostRuntime) -> Result<(), Fail> {
+    let alloc = rt.alloc();
+    let mut text = String::from_str(alloc, HEADER)?;
+    text.push_str(ROWS)?;
+    let bytes = text.as_str().as_bytes();
+    for n in 0..152 {
+        let Some(cut) = bytes.get(..n) else {
+            assert!(rt; false);
+            return Ok(());
+        };
+        let mut reader = Script::of(alloc, cut, 16)?;
+        let read = match read_requests(alloc, &mut reader) {
+            Ok(requests) => Ok(requests.close),
+            Err(fault) => Err(fault),
+        };
+        assert!(rt; read == read_of_cut(n));
+    }
+    Ok(())
+}
+
+#[test]
+fn reads_as_csv_reads(rt: HostRuntime) -> Result<(), Fail> {
+    let alloc = rt.alloc();
+    // A byte order mark, quoted fields, line ends of two bytes, and an empty line, which is no record.
+    let text =
+        "\u{feff}\"number\",user,host,runas_user,runas_group,command,arguments\r\n\r\n1,\"al\"\"ice\",h,,,/bin/ls,\"a,b\"\r\n0,,,,,,\r\n";
+    let mut reader = Script::of(alloc, text.as_bytes(), 16)?;
+    let read = read_requests(alloc, &mut reader);
+    assert!(rt; matches!(read, Err(FileFault::BadRow { row: 3 })));
+    let Some(first) = text.as_bytes().get(..97) else {
+        assert!(rt; false);
+        return Ok(());
+    };
+    let mut reader = Script::of(alloc, first, 16)?;
+    let requests = read_requests(alloc, &mut reader)?;
+    let [request] = requests.list.as_slice() else {
+        assert!(rt; false);
+        return Ok(());
+    };
+    assert!(rt; request.user.as_slice() == b"al\"ice".as_slice());
+    assert!(rt; request.arguments.as_slice() == b"a,b".as_slice());
+    Ok(())
+}
+
+#[test]
+fn names_a_read_that_fails(rt: HostRuntime) -> Result<(), Fail> {
+    let alloc = rt.alloc();
+    // The header is read in seven reads, of which the last finds the end.
+    for call in 1..8 {
+        let mut reader = Script::of(alloc, HEADER.as_bytes(), 10)?.failing_at(call);
+        assert!(rt; matches!(read_requests(alloc, &mut reader), Err(FileFault::Read)));
+        let mut reader = Script::of(alloc, HEADER.as_bytes(), 10)?.failing_at(call);
+        assert!(rt; matches!(read_users(alloc, &mut reader), Err(FileFault::Read)));
+        let mut reader = Script::of(alloc, HEADER.as_bytes(), 10)?.failing_at(call);
+        assert!(rt; matches!(read_hosts(alloc, &mut reader), Err(FileFault::Read)));
+    }
+    let mut reader = Script::of(alloc, HEADER.as_bytes(), 10)?.failing_at(8);
+    assert!(rt; read_requests(alloc, &mut reader).is_ok());
+    let mut reader = Script::of(alloc, b"number\n", 10)?;
+    assert!(rt; matches!(read_requests(alloc, &mut reader), Err(FileFault::Header)));
+    Ok(())
+}
+
+#[test]
+fn reads_users(rt: HostRuntime) -> Result<(), Fail> {
+    let alloc = rt.alloc();
+    let text = b"user,uid,groups\nroot,0,root:0\nalice,1000,alice:1000 adm:4\nbob,1001,\n";
+    let mut reader = Script::of(alloc, text, 9)?;
+    let users = read_users(alloc, &mut reader)?;
+    assert!(rt; users.len() == 3);
+    assert!(rt; users[1].groups.len() == 2 && users[2].groups.len() == 0);
+    assert!(rt; users[1].groups.as_slice()[1].gid == 4);
+    let mut reader = Script::of(alloc, b"user,uid,groups\neve,x,eve:2\n", 9)?;
+    assert!(rt;
+        matches!(
+            read_users(alloc, &mut reader),
+            Err(FileFault::BadRow { row: 2 })
+        )
+    );
+    let mut reader = Script::of(alloc, b"user,uid,groups\neve,1,eve:2  adm:4\n", 9)?;
+    assert!(rt;
+        matches!(
+            read_users(alloc, &mut reader),
+            Err(FileFault::BadRow { row: 2 })
+        )
+    );
+    Ok(())
+}
+
+#[test]
+fn reads_hosts(rt: HostRuntime) -> Result<(), Fail> {
+    let alloc = rt.alloc();
+    let mut reader = Script::of(
+        alloc,
+        b"host,interfaces\nweb1,10.1.2.3/16 127.0.0.1/8\nweb2,\n",
+        9,
+    )?;
+    let hosts = read_hosts(alloc, &mut reader)?;
+    assert!(rt; hosts.len() == 2 && hosts[0].interfaces.len() == 2);
+    assert!(rt; hosts[0].interfaces.as_slice()[0].addr == 0x0a01_0203);
+    let mut reader = Script::of(alloc, b"host,interfaces\nweb1,10.1.2.256/16\n", 9)?;
+    assert!(rt;
+        matches!(
+            read_hosts(alloc, &mut reader),
+            Err(FileFault::BadRow { row: 2 })
+        )
+    );
+    let mut reader = Script::of(alloc, b"host,interfaces\nweb1,10.1.2.3/33\n", 9)?;
+    assert!(rt;
+        matches!(
+            read_hosts(alloc, &mut reader),
+            Err(FileFault::BadRow { row: 2 })
+        )
+    );
+    Ok(())
+}

@@ -1,0 +1,80 @@
+use audit_collect::{Answer, Report, SenderReport};
+use audit_files::report_text;
+use std::alloc::{AllocError, Global};
+use std::test::Fail;
+use sudo_match::{Request, Tags, Verdict, What};
+use sudo_text::{Place, Seq};
+
+fn text(alloc: Global, text: &[u8]) -> Result<Seq<u8>, AllocError> {
+    Seq::from_slice(alloc, text)
+}
+
+fn answer(alloc: Global, number: u32, verdict: Verdict) -> Result<Answer, AllocError> {
+    Ok(Answer {
+        sender: 0,
+        request: Request {
+            number,
+            user: text(alloc, b"alice")?,
+            host: text(alloc, b"web1.example.org")?,
+            runas_user: None,
+            runas_group: None,
+            command: text(alloc, b"/bin/kill")?,
+            arguments: text(alloc, b"")?,
+        },
+        verdict,
+    })
+}
+
+fn nopasswd() -> Tags {
+    Tags {
+        exec: None,
+        follow: None,
+        intercept: None,
+        log_input: None,
+        log_output: None,
+        mail: None,
+        passwd: Some(false),
+        setenv: Some(true),
+    }
+}
+
+#[test]
+fn a_report_of_two_answers(rt: HostRuntime) -> Result<(), Fail> {
+    let alloc = rt.alloc();
+    let mut answers = Vec::new(alloc);
+    answers.push(answer(
+        alloc,
+        1,
+        Verdict::Allow {
+            place: Place { file: 1, line: 12 },
+            tags: nopasswd(),
+        },
+    )?)?;
+    answers.push(answer(alloc, 2, Verdict::Unknown(What::User))?)?;
+    let mut senders = Vec::new(alloc);
+    senders.push(SenderReport {
+        name: text(alloc, b"s")?,
+        answers: Seq::from_vec(answers),
+    })?;
+    let report = Report {
+        senders: Seq::from_vec(senders),
+    };
+    let mut files = Vec::new(alloc);
+    files.push(text(alloc, b"/etc/sudoers")?)?;
+    files.push(text(alloc, b"/etc/sudoers.d/a,b")?)?;
+    let found = report_text(alloc, &report, files.as_slice())?;
+    let wanted =
+        b"sender,number,verdict,line,tags\ns,1,allow,\"/etc/sudoers.d/a,b:12\",NOPASSWD SETENV\ns,2,unknown-user,,\n";
+    assert!(rt; found.as_slice() == wanted.as_slice());
+    Ok(())
+}
+
+#[test]
+fn a_report_of_no_sender(rt: HostRuntime) -> Result<(), Fail> {
+    let report = Report {
+        senders: Seq::new(rt.alloc()),
+    };
+    let found = report_text(rt.alloc(), &report, &[])?;
+    assert!(rt; found.len() == 32);
+    Ok(())
+}

@@ -1,0 +1,11 @@
+//! Tests of the commands, from the words of the command line and the text of files to what is printed and the exit status.
+#![tactic(auto)]
+
+#[cfg(test)]
+mod audit_trials;
+#[cfg(test)]
+mod policy_trials;
+#[cfg(test)]
+mod run_trials;
+#[cfg(test)]
+mod word_trials;

@@ -1,0 +1,12 @@
+//! What every crate of the policy and of the audit stands on: lists that contracts see as lists, and maps from names to
+//! numbers.
+#![tactic(auto)]
+
+mod names;
+mod seq;
+
+pub use names::Names;
+pub use seq::Seq;
+
+#[cfg(test)]
+mod tests;

@@ -1,0 +1,10 @@
+-- Include lines among the lines of a file. sudoers(5), "Including other files from within sudoers".
+use Rattle.std.specs.Prelude.{Bool, true, false}
+use Rattle.sudo_grammar.specs.declared.policy.EntryBody.{EntryBody}
+use Rattle.sudo_grammar.specs.declared.policy.EntryBody.TheVariants as bodies
+
+abbrev pub is_include : EntryBody → Bool
+is_include (bodies.Aliases kind definitions) = false
+is_include (bodies.Defaults binding parameters) = false
+is_include (bodies.Rule users sections) = false
+is_include (bodies.Include folder hash path) = true

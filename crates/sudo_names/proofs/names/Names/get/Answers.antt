@@ -1,8 +1,0 @@
-use Rattle.std.proofs.Common.{◌∙◌, ap}
-use Rattle.sudo_names.specs.Places.{place_of}
-use Rattle.sudo_names.proofs.NamesLemmas.{lookup_bare}
-use Rattle.sudo_names.proofs.names.Names.get.Goals as goal
-
-pub returns : goal.returns
-returns c =
-    c.copied.ensures ∙ c.get.ensures.value ∙ lookup_bare c.args.name.now c.self.inside.places.entries ∙ ap (λ es. place_of es c.args.name.now) c.self.view_is

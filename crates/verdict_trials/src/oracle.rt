@@ -1,0 +1,410 @@
+//! A plain verdict to compare with: every list written out, every grant in the order of the file, the last that applies.
+//!
+//! It shares no code with the verdict of the product but the writing out of aliases and the matching of one atom.
+
+use std::alloc::{AllocError, Global};
+use sudo_match::{
+    Directory, Group, Machine, Person, command_matches, group_matches, host_matches, user_matches,
+};
+use sudo_policy::{
+    Atom, Checked, CommandSpec, Entry, EntryBody, ExpandFault, Kind, Member, Runas, Section, Tag,
+    expand, is_negated,
+};
+use sudo_text::{Place, Seq};
+use sudo_verdict::{Request, Tags, Verdict, What};
+
+// What the members of a list are matched with.
+#[derive(Clone, Copy)]
+enum Subject<'a> {
+    User(&'a Person),
+    Group(&'a Group),
+    Host(&'a Machine),
+    Command(&'a [u8], &'a [u8]),
+}
+
+fn fits(subject: Subject<'_>, atom: &Atom) -> bool {
+    match subject {
+        Subject::User(user) => user_matches(atom, user),
+        Subject::Group(group) => group_matches(atom, group),
+        Subject::Host(host) => host_matches(atom, host),
+        Subject::Command(command, arguments) => command_matches(atom, command, arguments),
+    }
+}
+
+// A request whose names are known.
+#[derive(Clone, Copy)]
+struct Asked<'a> {
+    user: &'a Person,
+    host: &'a Machine,
+    asked: Option<&'a Person>,
+    group: Option<&'a Group>,
+    target: Option<&'a Person>,
+    command: &'a [u8],
+    arguments: &'a [u8],
+}
+
+// The last match of a list: whether it allows, and whether it is `ALL`.
+#[derive(Clone, Copy)]
+struct Match {
+    allows: bool,
+    all: bool,
+}
+
+const NO_TAGS: Tags = Tags {
+    exec: None,
+    follow: None,
+    intercept: None,
+    log_input: None,
+    log_output: None,
+    mail: None,
+    passwd: None,
+    setenv: None,
+};
+
+fn is_all(atom: &Atom) -> bool {
+    match atom {
+        Atom::All => true,
+        _ => false,
+    }
+}
+
+// The last member of the written-out list that matches. A checked policy has no name without a definition.
+fn last_match(
+    alloc: Global,
+    checked: &Checked,
+    kind: Kind,
+    members: &[Member],
+    subject: Subject<'_>,
+) -> Result<Option<Match>, AllocError> {
+    let mut last = None;
+    for member in members {
+        let negated = is_negated(member);
+        match &member.atom {
+            Atom::Alias(name) => match expand(alloc, checked, kind, name.as_slice()) {
+                Ok(atoms) => {
+                    for signed in &atoms {
+                        if fits(subject, &signed.atom) {
+                            let allows = signed.negated == negated;
+                            let all = is_all(&signed.atom);
+                            last = Some(Match { allows, all });
+                        }
+                    }
+                }
+                Err(ExpandFault::NoSuchAlias) => {}
+                Err(ExpandFault::Memory) => return Err(AllocError),
+            },
+            atom => {
+                if fits(subject, atom) {
+                    let all = is_all(atom);
+                    last = Some(Match {
+                        allows: !negated,
+                        all,
+                    });
+                }
+            }
+        }
+    }
+    Ok(last)
+}
+
+// Whether the list allows, `None` if nothing of it matches.
+fn value(
+    alloc: Global,
+    checked: &Checked,
+    kind: Kind,
+    members: &[Member],
+    subject: Subject<'_>,
+) -> Result<Option<bool>, AllocError> {
+    match last_match(alloc, checked, kind, members, subject)? {
+        Some(found) => Ok(Some(found.allows)),
+        None => Ok(None),
+    }
+}
+
+fn with_tag(tags: Tags, tag: Tag) -> Tags {
+    match tag {
+        Tag::Exec => Tags {
+            exec: Some(true),
+            ..tags
+        },
+        Tag::NoExec => Tags {
+            exec: Some(false),
+            ..tags
+        },
+        Tag::Follow => Tags {
+            follow: Some(true),
+            ..tags
+        },
+        Tag::NoFollow => Tags {
+            follow: Some(false),
+            ..tags
+        },
+        Tag::Intercept => Tags {
+            intercept: Some(true),
+            ..tags
+        },
+        Tag::NoIntercept => Tags {
+            intercept: Some(false),
+            ..tags
+        },
+        Tag::LogInput => Tags {
+            log_input: Some(true),
+            ..tags
+        },
+        Tag::NoLogInput => Tags {
+            log_input: Some(false),
+            ..tags
+        },
+        Tag::LogOutput => Tags {
+            log_output: Some(true),
+            ..tags
+        },
+        Tag::NoLogOutput => Tags {
+            log_output: Some(false),
+            ..tags
+        },
+        Tag::Mail => Tags {
+            mail: Some(true),
+            ..tags
+        },
+        Tag::NoMail => Tags {
+            mail: Some(false),
+            ..tags
+        },
+        Tag::Passwd => Tags {
+            passwd: Some(true),
+            ..tags
+        },
+        Tag::NoPasswd => Tags {
+            passwd: Some(false),
+            ..tags
+        },
+        Tag::SetEnv => Tags {
+            setenv: Some(true),
+            ..tags
+        },
+        Tag::NoSetEnv => Tags {
+            setenv: Some(false),
+            ..tags
+        },
+    }
+}
+
+fn is_same(person: &Person, other: &Person) -> bool {
+    person.name == other.name
+}
+
+fn has_gid(person: &Person, group: Option<&Group>) -> bool {
+    match group {
+        Some(group) => person.has_gid(group.gid),
+        None => true,
+    }
+}
+
+// Whether the user asked for, if any, is the invoking one.
+fn is_own(asked: &Asked<'_>) -> bool {
+    match asked.asked {
+        Some(other) => is_same(other, asked.user),
+        None => true,
+    }
+}
+
+// Whether a list of groups, or else the groups of the person, have the group asked for, if any.
+fn group_holds(
+    alloc: Global,
+    checked: &Checked,
+    groups: &[Member],
+    person: &Person,
+    group: Option<&Group>,
+) -> Result<bool, AllocError> {
+    let Some(group) = group else {
+        return Ok(true);
+    };
+    match value(alloc, checked, Kind::Runas, groups, Subject::Group(group))? {
+        Some(allows) => Ok(allows),
+        None => Ok(person.has_gid(group.gid)),
+    }
+}
+
+// sudoers(5), "Runas_Spec": the four forms, and root without any.
+fn runas_holds(
+    alloc: Global,
+    checked: &Checked,
+    asked: &Asked<'_>,
+    runas: Option<&Runas>,
+) -> Result<bool, AllocError> {
+    let Some(runas) = runas else {
+        return Ok(match asked.target {
+            Some(target) => target.name.as_slice() == b"root" && has_gid(target, asked.group),
+            None => false,
+        });
+    };
+    match (&runas.users, &runas.groups) {
+        (None, None) => Ok(is_own(asked) && has_gid(asked.user, asked.group)),
+        (None, Some(groups)) => {
+            let group = group_holds(alloc, checked, groups, asked.user, asked.group)?;
+            Ok(is_own(asked) && group)
+        }
+        (Some(users), groups) => {
+            let Some(target) = asked.target else {
+                return Ok(false);
+            };
+            let listed = value(alloc, checked, Kind::Runas, users, Subject::User(target))?;
+            match groups {
+                None => Ok(listed.unwrap_or(false) && has_gid(target, asked.group)),
+                Some(groups) => {
+                    let own = asked.group.is_some() && is_same(target, asked.user);
+                    let group = group_holds(alloc, checked, groups, target, asked.group)?;
+                    Ok(listed.unwrap_or(own) && group)
+                }
+            }
+        }
+    }
+}
+
+// What one command says, with the tags and the runas that hold for it.
+fn command_said(
+    alloc: Global,
+    checked: &Checked,
+    asked: &Asked<'_>,
+    place: Place,
+    spec: &CommandSpec,
+    tags: Tags,
+    runas: Option<&Runas>,
+) -> Result<Option<Verdict>, AllocError> {
+    if !runas_holds(alloc, checked, asked, runas)? {
+        return Ok(None);
+    }
+    let subject = Subject::Command(asked.command, asked.arguments);
+    let commands = [spec.command.clone()?];
+    Ok(
+        match last_match(alloc, checked, Kind::Cmnd, commands.as_slice(), subject)? {
+            None => None,
+            Some(found) => Some(if !found.allows {
+                Verdict::Deny { place }
+            } else if found.all && tags.setenv.is_none() {
+                Verdict::Allow {
+                    place,
+                    tags: with_tag(tags, Tag::SetEnv),
+                }
+            } else {
+                Verdict::Allow { place, tags }
+            }),
+        },
+    )
+}
+
+fn section_said(
+    alloc: Global,
+    checked: &Checked,
+    asked: &Asked<'_>,
+    place: Place,
+    section: &Section,
+) -> Result<Option<Verdict>, AllocError> {
+    let host = Subject::Host(asked.host);
+    if value(alloc, checked, Kind::Host, &section.hosts, host)? != Some(true) {
+        return Ok(None);
+    }
+    let mut last = None;
+    let mut tags = NO_TAGS;
+    let mut runas = None;
+    for spec in &section.commands {
+        for tag in &spec.tags {
+            tags = with_tag(tags, *tag);
+        }
+        if let Some(written) = &spec.runas {
+            runas = Some(written);
+        }
+        last = command_said(alloc, checked, asked, place, spec, tags, runas)?.or(last);
+    }
+    Ok(last)
+}
+
+fn entry_said(
+    alloc: Global,
+    checked: &Checked,
+    asked: &Asked<'_>,
+    entry: &Entry,
+) -> Result<Option<Verdict>, AllocError> {
+    let EntryBody::Rule { users, sections } = &entry.body else {
+        return Ok(None);
+    };
+    let user = Subject::User(asked.user);
+    if value(alloc, checked, Kind::User, users, user)? != Some(true) {
+        return Ok(None);
+    }
+    let mut last = None;
+    for section in sections {
+        last = section_said(alloc, checked, asked, entry.place, section)?.or(last);
+    }
+    Ok(last)
+}
+
+fn known_user<'a>(
+    directory: &'a Directory,
+    name: &Option<Seq<u8>>,
+) -> Result<Option<&'a Person>, What> {
+    match name {
+        None => Ok(None),
+        Some(name) => match directory.user(name) {
+            None => Err(What::Target),
+            Some(user) => Ok(Some(user)),
+        },
+    }
+}
+
+fn known_group<'a>(
+    directory: &'a Directory,
+    name: &Option<Seq<u8>>,
+) -> Result<Option<&'a Group>, What> {
+    match name {
+        None => Ok(None),
+        Some(name) => match directory.group(name) {
+            None => Err(What::Group),
+            Some(group) => Ok(Some(group)),
+        },
+    }
+}
+
+fn asked_of<'a>(directory: &'a Directory, request: &'a Request) -> Result<Asked<'a>, What> {
+    let Some(user) = directory.user(&request.user) else {
+        return Err(What::User);
+    };
+    let Some(host) = directory.host(&request.host) else {
+        return Err(What::Host);
+    };
+    let asked = known_user(directory, &request.runas_user)?;
+    let group = known_group(directory, &request.runas_group)?;
+    let target = match (asked, group) {
+        (Some(asked), _) => Some(asked),
+        (None, Some(_)) => Some(user),
+        (None, None) => directory.user(b"root"),
+    };
+    Ok(Asked {
+        user,
+        host,
+        asked,
+        group,
+        target,
+        command: &request.command,
+        arguments: &request.arguments,
+    })
+}
+
+/// Returns the verdict by going through every grant of the written-out policy.
+pub(crate) fn verdict_by_listing(
+    alloc: Global,
+    checked: &Checked,
+    directory: &Directory,
+    request: &Request,
+) -> Result<Verdict, AllocError> {
+    let asked = match asked_of(directory, request) {
+        Ok(asked) => asked,
+        Err(what) => return Ok(Verdict::Unknown(what)),
+    };
+    let mut last = None;
+    for entry in &checked.policy().entries {
+        last = entry_said(alloc, checked, &asked, entry)?.or(last);
+    }
+    Ok(last.unwrap_or(Verdict::NoMatch))
+}
