@@ -7,7 +7,7 @@ use Rattle.std.specs.Cmp.{nat_cmp_total}
 use Rattle.std.specs.List.{enumerate_from}
 use Rattle.std.specs.Option.{option_or}
 use Rattle.audit_collect.specs.declared.arrival.Answer.{Answer}
-use Rattle.audit_collect.specs.Answers.{answers_of, answer_at, released_at, waiting_at}
+use Rattle.audit_collect.specs.Body.Answers.{answers_of, answer_at, released_at, waiting_at}
 use Rattle.std.proofs.lemmas.Bool.{false≢true}
 use Rattle.std.specs.FinMap.{find, get, get-from_entries, get-insert, insert, contains_key, same_map, nat_cmp-IsAntisymmetric}
 

@@ -1,5 +1,5 @@
 -- What the parts of `audit` say together.
-use Rattle.std.proofs.Common.{◌≡◌, ℕ, List, Option, Result, Ok, Err, refl}
+use Rattle.std.proofs.Common.{◌≡◌, ◌≤◌, ℕ, List, Option, Result, Ok, Err, refl, arith}
 use Rattle.std.specs.Prelude.{IfErr, IfOk}
 use Rattle.audit_collect.specs.declared.report.Report.{Report}
 use Rattle.audit_run.specs.Names.{names_of}
@@ -88,3 +88,8 @@ a_text policy directory sources told workers before after report text h is = rec
   text_is = is;
   status_is = refl;
 }
+
+pub low_status : (given : Given) (text : List ℕ) (status : ℕ) → IsAudited given text status → status ≤ 4
+low_status given text status audited =
+    let zero = audited.status_is in
+    omega (arith, zero)

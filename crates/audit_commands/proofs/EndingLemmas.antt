@@ -1,14 +1,14 @@
 -- How runs end.
-use Rattle.std.proofs.Common.{◌≡◌, ◌<◌, ◌⊎◌, ℕ, List, length, take, Option, Result, Ok, Err, inl, inr, refl, sym, subst, ◌∙◌, arith}
+use Rattle.std.proofs.Common.{◌≡◌, ◌<◌, ◌≤◌, ◌⊎◌, ℕ, List, length, take, Option, Result, Ok, Err, inl, inr, refl, sym, subst, ◌∙◌, arith}
 use Rattle.std.specs.Prelude.{IfErr, IfOk}
-use Rattle.audit_commands.specs.Ended.{IsFault, IsPrinted}
+use Rattle.audit_commands.specs.Body.Ended.{IsFault, IsPrinted}
 use Rattle.audit_commands.specs.Endings.{Written, Ends, Gets, GetsNothing, IsTold, IsWell, Loses, Prints, Refuses, Says}
 use Rattle.audit_commands.specs.FaultLines.{fault_text, line_of, printed_of}
 use Rattle.audit_commands.specs.Faults.{status_of}
 use Rattle.audit_commands.specs.declared.fault.Fault.{Fault}
 use Rattle.audit_commands.specs.declared.fault.Fault.TheVariants as faults
 use Rattle.audit_commands.specs.declared.printed.Printed.{Printed}
-use Rattle.audit_commands.proofs.Statuses.{status_low}
+use Rattle.audit_commands.proofs.Statuses.{status_low, status_most}
 
 pub says_same : (own own' status : ℕ) (line line' : List ℕ) (err : Written) → own ≡ own' → line ≡ line' → Says own line status err → Says own' line' status err
 says_same own own' status line line' err e f h = (h.0 ∙ e, λ well. subst (Gets err) f (h.1 well))
@@ -72,6 +72,23 @@ zero_prints Good Bad status out err ends zero = elim ends [
   | inr rest ↦ elim rest [
     | inl refuses ↦ absurd (not_told refuses.fault status err refuses.told zero)
     | inr loses ↦ absurd (not_told (faults.Write loses.count) status err loses.told zero)
+  ]
+]
+
+told_most : (fault : Fault) (status : ℕ) (err : Written) → IsTold fault status err → status ≤ 4
+told_most fault status err told = elim told [
+  | inl own ↦ (let most = status_most fault in omega (arith, own.0, most))
+  | inr memory ↦ omega (arith, memory.0)
+]
+
+-- Where what may be printed has a status of at most 4, so has the run.
+pub ends_most : (Good : List ℕ → ℕ → Type 0) (Bad : Fault → Type 0) (status : ℕ) (out err : Written) → ((text : List ℕ) (own : ℕ) → Good text own → own ≤ 4)
+    → Ends Good Bad status out err → status ≤ 4
+ends_most Good Bad status out err most ends = elim ends [
+  | inl prints ↦ most prints.text status prints.good
+  | inr rest ↦ elim rest [
+    | inl refuses ↦ told_most refuses.fault status err refuses.told
+    | inr loses ↦ told_most (faults.Write loses.count) status err loses.told
   ]
 ]
 

@@ -1,5 +1,5 @@
--- The status of a fault is not 0.
-use Rattle.std.proofs.Common.{◌≡◌, ◌<◌, lit<, arith}
+-- The status of a fault is 1 to 4.
+use Rattle.std.proofs.Common.{◌≡◌, ℕ, ◌<◌, ◌≤◌, lit<, arith}
 use Rattle.audit_collect.specs.declared.fault.CollectFault.{CollectFault}
 use Rattle.audit_collect.specs.declared.fault.CollectFault.TheVariants as collects
 use Rattle.audit_collect.specs.declared.fault.Refused.{Refused}
@@ -16,62 +16,70 @@ use Rattle.audit_commands.specs.declared.fault.Fault.{Fault}
 use Rattle.audit_commands.specs.declared.fault.Fault.TheVariants as faults
 use Rattle.audit_commands.specs.Faults.{audit_status, collect_status, directory_status, file_status, refusal_status, roster_status, status_of}
 
-file_positive : (fault : FileFault) → 0 < file_status fault
-file_positive file_faults.Read = lit< tt
-file_positive file_faults.Memory = lit< tt
-file_positive file_faults.Header = lit< tt
-file_positive (file_faults.BadRow row) = lit< tt
-file_positive (file_faults.OutOfOrder row) = lit< tt
-file_positive (file_faults.RowAfterClose row) = lit< tt
-file_positive file_faults.TooMany = lit< tt
+abbrev IsStatus : ℕ → Type 0
+IsStatus status = (0 < status) × (status < 5)
 
-directory_positive : (fault : DirFault) → 0 < directory_status fault
-directory_positive (directories.UserTwice name) = lit< tt
-directory_positive (directories.HostTwice name) = lit< tt
-directory_positive (directories.GroupClash name) = lit< tt
-directory_positive (directories.NoGroup user) = lit< tt
-directory_positive directories.NoRoot = lit< tt
-directory_positive directories.Memory = lit< tt
+file_range : (fault : FileFault) → IsStatus (file_status fault)
+file_range file_faults.Read = (lit< tt, lit< tt)
+file_range file_faults.Memory = (lit< tt, lit< tt)
+file_range file_faults.Header = (lit< tt, lit< tt)
+file_range (file_faults.BadRow row) = (lit< tt, lit< tt)
+file_range (file_faults.OutOfOrder row) = (lit< tt, lit< tt)
+file_range (file_faults.RowAfterClose row) = (lit< tt, lit< tt)
+file_range file_faults.TooMany = (lit< tt, lit< tt)
 
-roster_positive : (fault : RosterFault) → 0 < roster_status fault
-roster_positive (rosters.SenderTwice name) = lit< tt
-roster_positive rosters.TooManySenders = lit< tt
-roster_positive rosters.Memory = lit< tt
+directory_range : (fault : DirFault) → IsStatus (directory_status fault)
+directory_range (directories.UserTwice name) = (lit< tt, lit< tt)
+directory_range (directories.HostTwice name) = (lit< tt, lit< tt)
+directory_range (directories.GroupClash name) = (lit< tt, lit< tt)
+directory_range (directories.NoGroup user) = (lit< tt, lit< tt)
+directory_range directories.NoRoot = (lit< tt, lit< tt)
+directory_range directories.Memory = (lit< tt, lit< tt)
 
-refusal_positive : (fault : Refused) → 0 < refusal_status fault
-refusal_positive (refusals.Stranger sender) = lit< tt
-refusal_positive (refusals.ZeroNumber sender) = lit< tt
-refusal_positive (refusals.Double sender number) = lit< tt
-refusal_positive (refusals.ClosedTwice sender) = lit< tt
-refusal_positive (refusals.PastClose sender number) = lit< tt
-refusal_positive refusals.Memory = lit< tt
+roster_range : (fault : RosterFault) → IsStatus (roster_status fault)
+roster_range (rosters.SenderTwice name) = (lit< tt, lit< tt)
+roster_range rosters.TooManySenders = (lit< tt, lit< tt)
+roster_range rosters.Memory = (lit< tt, lit< tt)
 
-collect_positive : (fault : CollectFault) → 0 < collect_status fault
-collect_positive (collects.Roster fault) = roster_positive fault
-collect_positive (collects.Refused refused) = refusal_positive refused
-collect_positive (collects.Unfinished unfinished) = lit< tt
+refusal_range : (fault : Refused) → IsStatus (refusal_status fault)
+refusal_range (refusals.Stranger sender) = (lit< tt, lit< tt)
+refusal_range (refusals.ZeroNumber sender) = (lit< tt, lit< tt)
+refusal_range (refusals.Double sender number) = (lit< tt, lit< tt)
+refusal_range (refusals.ClosedTwice sender) = (lit< tt, lit< tt)
+refusal_range (refusals.PastClose sender number) = (lit< tt, lit< tt)
+refusal_range refusals.Memory = (lit< tt, lit< tt)
 
-audit_positive : (fault : AuditFault) → 0 < audit_status fault
-audit_positive (audits.Sender name part fault) = file_positive fault
-audit_positive (audits.Collect fault) = collect_positive fault
-audit_positive audits.NoThread = lit< tt
-audit_positive audits.Memory = lit< tt
-audit_positive audits.TooManyParts = lit< tt
+collect_range : (fault : CollectFault) → IsStatus (collect_status fault)
+collect_range (collects.Roster fault) = roster_range fault
+collect_range (collects.Refused refused) = refusal_range refused
+collect_range (collects.Unfinished unfinished) = (lit< tt, lit< tt)
 
-positive : (fault : Fault) → 0 < status_of fault
-positive (faults.Refused files fault) = lit< tt
-positive (faults.Errors lines) = lit< tt
-positive (faults.NoSuchAlias name) = lit< tt
-positive (faults.BadSender word) = lit< tt
-positive (faults.Users fault) = file_positive fault
-positive (faults.Hosts fault) = file_positive fault
-positive (faults.Directory fault) = directory_positive fault
-positive (faults.Audit names fault) = audit_positive fault
-positive (faults.CannotRead path) = lit< tt
-positive (faults.Write written) = lit< tt
-positive faults.Memory = lit< tt
+audit_range : (fault : AuditFault) → IsStatus (audit_status fault)
+audit_range (audits.Sender name part fault) = file_range fault
+audit_range (audits.Collect fault) = collect_range fault
+audit_range audits.NoThread = (lit< tt, lit< tt)
+audit_range audits.Memory = (lit< tt, lit< tt)
+audit_range audits.TooManyParts = (lit< tt, lit< tt)
+
+range : (fault : Fault) → IsStatus (status_of fault)
+range (faults.Refused files fault) = (lit< tt, lit< tt)
+range (faults.Errors lines) = (lit< tt, lit< tt)
+range (faults.NoSuchAlias name) = (lit< tt, lit< tt)
+range (faults.BadSender word) = (lit< tt, lit< tt)
+range (faults.Users fault) = file_range fault
+range (faults.Hosts fault) = file_range fault
+range (faults.Directory fault) = directory_range fault
+range (faults.Audit names fault) = audit_range fault
+range (faults.CannotRead path) = (lit< tt, lit< tt)
+range (faults.Write written) = (lit< tt, lit< tt)
+range faults.Memory = (lit< tt, lit< tt)
 
 pub status_low : (fault : Fault) → status_of fault ≡ 0 → ⊥
 status_low fault none =
-    let low = positive fault in
+    let low = (range fault).0 in
     omega (arith, low, none)
+
+pub status_most : (fault : Fault) → status_of fault ≤ 4
+status_most fault =
+    let high = (range fault).1 in
+    omega (arith, high)

@@ -1,12 +1,12 @@
 -- What the parts of `check` and `expand` say together.
-use Rattle.std.proofs.Common.{◌≡◌, ◌⊎◌, ℕ, Bool, true, false, List, Option, None, Result, Ok, Err, inl, inr, refl, sym, subst, ◌∙◌, arith}
+use Rattle.std.proofs.Common.{◌≡◌, ◌≤◌, ◌⊎◌, ℕ, Bool, true, false, List, Option, None, Result, Ok, Err, inl, inr, refl, sym, subst, ◌∙◌, arith}
 use Rattle.std.specs.Prelude.{if◌then◌else◌, IfErr}
 use Rattle.sudo_policy.specs.Found.{has_error}
 use Rattle.sudo_grammar.specs.declared.kind.Kind.{Kind}
 use Rattle.sudo_grammar.specs.declared.policy.Policy.{Policy}
 use Rattle.audit_commands.specs.Endings.{Prints, Written}
 use Rattle.audit_commands.specs.Examining.{IsExamined}
-use Rattle.audit_commands.specs.Expanding.{IsNotExpanded, IsNotExpandedOf}
+use Rattle.audit_commands.specs.Expanding.{IsExpanded, IsNotExpanded, IsNotExpandedOf}
 use Rattle.audit_commands.specs.Holding.{HoldsFile, Holdings}
 use Rattle.audit_commands.specs.Loading.{IsChecked, IsFine, IsLoaded, IsNoPolicy, IsNotChecked, IsNotCheckedOf, IsUnread}
 use Rattle.audit_commands.specs.declared.fault.Fault.{Fault}
@@ -22,6 +22,22 @@ pub fine_of : (held : Option Holdings) (path : List ℕ) (status : ℕ) (out err
 fine_of held path status out err prints e =
     let x = prints.good in
     (x.policy, record { loaded = x.loaded; passes = record { found = x.found; are = x.are; none = none_of (has_error x.found) status x.status_is e } })
+
+most_of : (b : Bool) (status : ℕ) → status ≡ (if b then 1 else 0) → status ≤ 4
+most_of true status s =
+    let one : status ≡ 1 = s in
+    omega (arith, one)
+most_of false status s =
+    let zero : status ≡ 0 = s in
+    omega (arith, zero)
+
+pub examined_most : (held : Option Holdings) (path text : List ℕ) (status : ℕ) → IsExamined held path text status → status ≤ 4
+examined_most held path text status x = most_of (has_error x.found) status x.status_is
+
+pub expanded_most : (held : Option Holdings) (path : List ℕ) (kind : Kind) (name text : List ℕ) (status : ℕ) → IsExpanded held path kind name text status → status ≤ 4
+expanded_most held path kind name text status x =
+    let zero = x.0 in
+    omega (arith, zero)
 
 -- The main file cannot be read.
 pub main_unread : (held : Option Holdings) (path : List ℕ) (fault : Fault) → IsUnread held path path → (fault ≡ faults.Memory) ⊎ (fault ≡ faults.CannotRead path) → IsNoPolicy held path fault

@@ -28,7 +28,7 @@ use Rattle.sudo_grammar.specs.declared.fault.ParseFault.{ParseFault}
 use Rattle.sudo_grammar.specs.declared.fault.ParseFault.TheVariants as parses
 use Rattle.sudo_grammar.specs.declared.fault.Unsupported.{Unsupported}
 use Rattle.sudo_grammar.specs.declared.fault.Unsupported.TheVariants as unsupporteds
-use Rattle.audit_commands.specs.Places.{path_of, place_text}
+use Rattle.audit_files.specs.Places.{path_of, place_text}
 
 abbrev pub no_memory : List ℕ
 no_memory = codes "out of memory"

@@ -6,7 +6,7 @@ use Rattle.sudo_policy.specs.declared.finding.Finding.{Finding}
 use Rattle.sudo_policy.specs.Found.{is_error}
 use Rattle.sudo_grammar.specs.declared.kind.Kind.{Kind}
 use Rattle.sudo_grammar.specs.declared.kind.Kind.TheVariants as kinds
-use Rattle.audit_commands.specs.Places.{place_text}
+use Rattle.audit_files.specs.Places.{place_text}
 
 -- the keyword of a kind of alias
 abbrev pub keyword : Kind → List ℕ

@@ -4,11 +4,10 @@ pub mod Examining
 pub mod Expanding
 pub mod Auditing
 pub mod Senders
-pub mod Places
 pub mod FindingLines
 pub mod FaultTexts
 pub mod Faults
 pub mod FaultLines
 pub mod Endings
-pub mod Ended
 pub mod Opening
+pub mod Body

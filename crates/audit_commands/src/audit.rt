@@ -1,6 +1,8 @@
 //! `audit`: requests answered.
-ghost use Rattle.std.specs.Prelude.{◌≡◌, ◌≤◌, IfErr, IfOk, map};
+ghost use Rattle.std.specs.Prelude.{◌≡◌, ◌≤◌, ℕ, List, Option, IfErr, IfOk, map};
 ghost use Rattle.audit_commands.specs.Auditing.{Given, IsAudited, IsDirectory, IsNoDirectory, IsNotAudited, IsReported, IsUnreported};
+ghost use Rattle.audit_commands.specs.Holding.{Holdings};
+ghost use Rattle.audit_commands.specs.Loading.{IsChecked};
 ghost use Rattle.audit_commands.specs.Endings.{written as sent, Ends};
 
 use crate::ending::end_run;
@@ -84,42 +86,42 @@ fn report_under<T: Threads + Wait + Sync, R: Feed + Drop + Send>(
     }
 }
 
-/// What the requests of the sources give to print.
-fn audited<T: Threads + Wait + Sync, F: Files, U: Feed, H: Feed, R: Feed + Drop + Send>(
+/// What the requests of the sources give to print, under the policy of a file.
+fn audited<T: Threads + Wait + Sync, U: Feed, H: Feed, R: Feed + Drop + Send>(
     alloc: Global,
     rt: &T,
-    path: &[u8],
-    files: &mut F,
+    policy: &Checked,
     users: &mut U,
     hosts: &mut H,
     sources: Vec<Source<R>>,
     workers: u32,
 ) -> Result<Printed, Fault>
     requires { (1 ≤ workers) × (workers ≤ 16) }
-    ensures report { let given : Given = record {
-      held = F.held files.old;
-      path = path.now;
-      users = U.ahead users.old;
-      hosts = H.ahead hosts.old;
-      sources = map (λ s. s.name) sources.items;
-      told = map (λ s. R.ahead s.reader) sources.items;
-      workers = workers;
-    } in
+    ensures report { (held : Option Holdings) (path : List ℕ) → IsChecked held path policy.now →
+        let given : Given = record {
+          held = held;
+          path = path;
+          users = U.ahead users.old;
+          hosts = H.ahead hosts.old;
+          sources = map (λ s. s.name) sources.items;
+          told = map (λ s. R.ahead s.reader) sources.items;
+          workers = workers;
+        } in
         IfOk result (λ p. IsAudited given p.text.items p.status) }
-    ensures fault { let given : Given = record {
-      held = F.held files.old;
-      path = path.now;
-      users = U.ahead users.old;
-      hosts = H.ahead hosts.old;
-      sources = map (λ s. s.name) sources.items;
-      told = map (λ s. R.ahead s.reader) sources.items;
-      workers = workers;
-    } in
+    ensures fault { (held : Option Holdings) (path : List ℕ) → IsChecked held path policy.now →
+        let given : Given = record {
+          held = held;
+          path = path;
+          users = U.ahead users.old;
+          hosts = H.ahead hosts.old;
+          sources = map (λ s. s.name) sources.items;
+          told = map (λ s. R.ahead s.reader) sources.items;
+          workers = workers;
+        } in
         IfErr result (IsNotAudited given) }
 {
-    let policy = checked_policy(alloc, path, files)?;
     match directory_of(alloc, users, hosts) {
-        Ok(directory) => report_under(alloc, rt, &policy, &directory, sources, workers),
+        Ok(directory) => report_under(alloc, rt, policy, &directory, sources, workers),
         Err(fault) => Err(fault),
     }
 }
@@ -152,7 +154,8 @@ pub fn audit_into<
     err: &mut E,
 ) -> u8
     requires { (1 ≤ workers) × (workers ≤ 16) }
-    ensures { let given : Given = record {
+    ensures most { result ≤ 4 }
+    ensures ends { let given : Given = record {
       held = F.held files.old;
       path = path.now;
       users = U.ahead users.old;
@@ -165,6 +168,10 @@ pub fn audit_into<
         (sent O.taken O.stalled_writes out.old out.new)
         (sent E.taken E.stalled_writes err.old err.new) }
 {
-    let ended = audited(alloc, rt, path, files, users, hosts, sources, workers);
+    let policy = match checked_policy(alloc, path, files) {
+        Ok(policy) => policy,
+        Err(fault) => return end_run(alloc, Err(fault), out, err),
+    };
+    let ended = audited(alloc, rt, &policy, users, hosts, sources, workers);
     end_run(alloc, ended, out, err)
 }

@@ -1,5 +1,5 @@
 //! `check`: the findings on a policy.
-ghost use Rattle.std.specs.Prelude.{◌≡◌, IfErr, IfOk};
+ghost use Rattle.std.specs.Prelude.{◌≡◌, ◌≤◌, IfErr, IfOk};
 ghost use Rattle.audit_commands.specs.Endings.{written as sent, Ends};
 ghost use Rattle.audit_commands.specs.Examining.{check_status, check_text, IsExamined};
 ghost use Rattle.audit_commands.specs.Loading.{IsFine, IsNoPolicy};
@@ -55,6 +55,7 @@ pub fn check_run<F: Files, O: Sink, E: Sink>(
     out: &mut O,
     err: &mut E,
 ) -> u8
+    ensures most { result ≤ 4 }
     ensures fine { result ≡ 0 → IsFine (F.held files.old) path.now }
     ensures ends { Ends (IsExamined (F.held files.old) path.now)
         (IsNoPolicy (F.held files.old) path.now) result

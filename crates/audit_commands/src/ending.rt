@@ -1,6 +1,6 @@
 //! How a run ends: what it prints, and its status.
 ghost use Rattle.std.specs.Prelude.{◌≡◌, ◌++◌, IfOk, OnOk, codes, decimal};
-ghost use Rattle.audit_commands.specs.Ended.{IsFault, IsPrinted};
+ghost use Rattle.audit_commands.specs.Body.Ended.{IsFault, IsPrinted};
 ghost use Rattle.audit_commands.specs.Endings.{written as sent, Ends, IsTold, Says};
 ghost use Rattle.audit_commands.specs.FaultLines.{fault_text, line_of};
 

@@ -1,5 +1,5 @@
 //! `expand`: an alias written out.
-ghost use Rattle.std.specs.Prelude.{◌≡◌, ◌++◌, flat_map, IfErr, IfOk, OnOk};
+ghost use Rattle.std.specs.Prelude.{◌≡◌, ◌≤◌, ◌++◌, flat_map, IfErr, IfOk, OnOk};
 ghost use Rattle.audit_commands.specs.Endings.{written as sent, Ends};
 ghost use Rattle.audit_commands.specs.Expanding.{line_of, AreAliasLines, IsExpanded, IsNotExpanded, IsNotExpandedOf};
 
@@ -81,7 +81,8 @@ pub fn expand_run<F: Files, O: Sink, E: Sink>(
     out: &mut O,
     err: &mut E,
 ) -> u8
-    ensures { Ends (IsExpanded (F.held files.old) path.now kind name.now)
+    ensures most { result ≤ 4 }
+    ensures ends { Ends (IsExpanded (F.held files.old) path.now kind name.now)
         (IsNotExpanded (F.held files.old) path.now kind name.now) result
         (sent O.taken O.stalled_writes out.old out.new)
         (sent E.taken E.stalled_writes err.old err.new) }

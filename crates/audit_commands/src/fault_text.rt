@@ -3,9 +3,9 @@ ghost use Rattle.std.specs.Prelude.{◌≡◌, ◌++◌, OnOk, codes, decimal, s
 ghost use Rattle.audit_run.specs.Roster.{roster};
 ghost use Rattle.audit_commands.specs.FaultTexts.{audit_fault_text, called_fault_text, cannot_read, collect_fault_text, directory_fault_text, expected_text as text_of_expected, file_fault_text, has_parts as two_have, lack_text, at_column, at_line, load_fault_text, named_sender, no_memory, parse_fault_text, part_text, refusal_text, request_text, roster_fault_text, row_text, sender_text, source_fault_text, text_fault_text, unsupported_text as text_of_unsupported, wanted_path as path_of_wanted};
 
-use crate::lines::{push, push_both, push_number, push_path, push_place};
+use crate::lines::{push, push_both, push_number};
 use audit_collect::{CollectFault, Refused, RosterFault, Unfinished};
-use audit_files::FileFault;
+use audit_files::{FileFault, push_path, push_place};
 use audit_run::AuditFault;
 use std::alloc::AllocError;
 use sudo_grammar::{Expected, ParseFault, Unsupported};

@@ -1,13 +1,13 @@
 //! Lines that the program prints.
 ghost use Rattle.std.specs.Prelude.{◌≡◌, ◌++◌, IfOk, OnOk, decimal};
 ghost use Rattle.audit_commands.specs.FindingLines.{class_text, finding_line, finding_lines as lines_of, keyword as keyword_of, listed_line};
-ghost use Rattle.audit_commands.specs.Places.{path_of, place_text};
 
+use audit_files::push_place;
 use itoa::Buffer;
 use std::alloc::{AllocError, Global};
 use sudo_grammar::Kind;
 use sudo_policy::{Class, Finding};
-use sudo_text::{Place, Seq};
+use sudo_text::Seq;
 
 /// Appends bytes to a line.
 pub(crate) fn push(line: &mut Vec<u8>, bytes: &[u8]) -> Result<(), AllocError>
@@ -30,29 +30,6 @@ pub(crate) fn push_number(line: &mut Vec<u8>, number: u64) -> Result<(), AllocEr
 {
     let mut digits = Buffer::new();
     line.extend_from_slice(digits.format(number).as_bytes())
-}
-
-/// Appends the path of a file by its number.
-pub(crate) fn push_path(line: &mut Vec<u8>, files: &[Seq<u8>], file: u32) -> Result<(), AllocError>
-    ensures { OnOk result (line.new.items ≡ line.old.items ++ path_of files.now file) }
-{
-    match files.get(file as usize) {
-        Some(path) => line.extend_from_slice(path.as_slice()),
-        None => Ok(()),
-    }
-}
-
-/// Appends a place, as `PATH:LINE`.
-pub(crate) fn push_place(
-    line: &mut Vec<u8>,
-    files: &[Seq<u8>],
-    place: Place,
-) -> Result<(), AllocError>
-    ensures { OnOk result (line.new.items ≡ line.old.items ++ place_text files.now place) }
-{
-    push_path(line, files, place.file)?;
-    push(line, b":")?;
-    push_number(line, u64::from(place.line))
 }
 
 /// The keyword of a kind of alias.

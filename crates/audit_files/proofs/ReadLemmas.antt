@@ -7,7 +7,7 @@ use Rattle.std.proofs.lemmas.Bool.{le-ltb, lt-ltb}
 use Rattle.std.proofs.lemmas.List.{length-replicate}
 use Rattle.audit_files.specs.Whole.{whole_of}
 use Rattle.audit_files.specs.declared.whole.ReadFault.TheVariants as why
-use Rattle.audit_files.specs.Faults.{IsNoMemory}
+use Rattle.audit_files.specs.Faults.{IsOfFile}
 use Rattle.audit_files.specs.Files.{IsRead, States, byte_limit, bytes_read, bytes_upto, itself, stated_in}
 use Rattle.audit_files.specs.declared.fault.FileFault.{FileFault}
 use Rattle.audit_files.specs.declared.fault.FileFault.TheVariants.{TooMany, Read}
@@ -104,6 +104,6 @@ fault_is_read {T} meaning told fault i = record { ahead = i.ahead; gives = i.giv
     by (Err f) h = let same : f ≡ fault = cc in rw same refl
 
 pub text_states : {T : Type 0} (meaning : List ℕ → Result T FileFault) (told : Option Ahead) (text : List ℕ) (r : Result T FileFault)
-    → IsRead itself told (Ok text) → IfOk r (λ x. meaning text ≡ Ok x) → IfErr r (λ e. IsNoMemory e → meaning text ≡ Err e) → States meaning told r
+    → IsRead itself told (Ok text) → IfOk r (λ x. meaning text ≡ Ok x) → IfErr r (λ e. IsOfFile e → meaning text ≡ Err e) → States meaning told r
 text_states meaning told text (Ok x) i ok err = text_is_read meaning told text (Ok x) i ok
 text_states meaning told text (Err e) i ok err = λ no_memory. text_is_read meaning told text (Err e) i (err no_memory)

@@ -3,15 +3,15 @@ use Rattle.std.specs.Prelude.{ℕ, ⊤, Option, Some, None, Result, Ok, Err}
 use Rattle.audit_files.specs.declared.fault.FileFault.{FileFault}
 use Rattle.audit_files.specs.declared.fault.FileFault.TheVariants.{Header, BadRow, OutOfOrder, RowAfterClose, TooMany, Read, Memory}
 
--- a fault of the file or of reading it, and no want of memory
-abbrev pub IsNoMemory : FileFault → Type 0
-IsNoMemory Header = ⊤
-IsNoMemory (BadRow row) = ⊤
-IsNoMemory (OutOfOrder row) = ⊤
-IsNoMemory (RowAfterClose row) = ⊤
-IsNoMemory TooMany = ⊤
-IsNoMemory Read = ⊤
-IsNoMemory Memory = ⊥
+-- a fault of the file or of reading it, and not out of memory
+abbrev pub IsOfFile : FileFault → Type 0
+IsOfFile Header = ⊤
+IsOfFile (BadRow row) = ⊤
+IsOfFile (OutOfOrder row) = ⊤
+IsOfFile (RowAfterClose row) = ⊤
+IsOfFile TooMany = ⊤
+IsOfFile Read = ⊤
+IsOfFile Memory = ⊥
 
 -- a fault, or else this value
 abbrev pub unless : {T : Type 0} → Option FileFault → T → Result T FileFault

@@ -2,7 +2,7 @@
 use Rattle.std.specs.Prelude.{◌≡◌, ⊤, ℕ, Bool, List, [], ◌∷◌, length, nat_eq, nat_lt, slice_index_or, Option, Some, None, Result, Ok, Err, if◌then◌else◌}
 use Rattle.std.specs.Cmp.Lexicographic.{pointwise}
 use Rattle.audit_files.specs.Feeding.{Ahead}
-use Rattle.audit_files.specs.Faults.{IsNoMemory, unless}
+use Rattle.audit_files.specs.Faults.{IsOfFile, unless}
 use Rattle.audit_files.specs.Rows.{Fields, first_fault}
 use Rattle.audit_files.specs.declared.fault.FileFault.{FileFault}
 use Rattle.audit_files.specs.declared.fault.FileFault.TheVariants.{Header, TooMany, Read}
@@ -71,7 +71,7 @@ pub record IsRead {T : Type 0} (meaning : List ℕ → Result T FileFault) (told
 -- what is answered is what some bytes state that the reader may give: want of memory aside
 abbrev pub States : {T : Type 0} → (List ℕ → Result T FileFault) → Option Ahead → Result T FileFault → Type 0
 States meaning told (Ok x) = IsRead meaning told (Ok x)
-States meaning told (Err e) = IsNoMemory e → IsRead meaning told (Err e)
+States meaning told (Err e) = IsOfFile e → IsRead meaning told (Err e)
 
 -- the bytes themselves
 abbrev pub itself : List ℕ → Result (List ℕ) FileFault

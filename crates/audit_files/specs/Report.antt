@@ -1,7 +1,7 @@
 -- The text of a report.
-use Rattle.std.specs.Prelude.{ℕ, Bool, true, false, List, [], ◌∷◌, ◌++◌, codes, decimal, flat_map, slice_index_or, Option, Some, None}
+use Rattle.std.specs.Prelude.{ℕ, Bool, true, false, List, [], ◌∷◌, ◌++◌, codes, decimal, flat_map, Option, Some, None}
 use Rattle.csv.specs.Writing.{default_writer, row_text}
-use Rattle.sudo_text.specs.declared.line.Place.{Place}
+use Rattle.audit_files.specs.Places.{place_text}
 use Rattle.audit_collect.specs.declared.arrival.Answer.{Answer}
 use Rattle.audit_collect.specs.declared.report.Report.{Report}
 use Rattle.audit_collect.specs.declared.report.SenderReport.{SenderReport}
@@ -32,10 +32,6 @@ verdict_word (Allow place tags) = codes "allow"
 verdict_word (Deny place) = codes "deny"
 verdict_word NoMatch = codes "nomatch"
 verdict_word (Unknown w) = unknown_word w
-
--- a place in a policy of these files: the path of its file, a colon, and its line
-abbrev pub place_text : List (List ℕ) → Place → List ℕ
-place_text files place = slice_index_or files place.file [] ++ 58 ∷ decimal place.line
 
 -- the place of the grant that decided, for `allow` and `deny` alone
 abbrev pub verdict_place : List (List ℕ) → Verdict → List ℕ

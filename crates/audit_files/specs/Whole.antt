@@ -11,11 +11,11 @@ whole_of limit a =
     else if a.fails then Err Failed
     else Ok a.bytes
 
--- a fault of the text, and no want of memory
-abbrev pub IsNoMemory : ReadFault → Type 0
-IsNoMemory TooLong = ⊤
-IsNoMemory Failed = ⊤
-IsNoMemory Memory = ⊥
+-- a fault of the text or of reading it, and not out of memory
+abbrev pub IsOfReader : ReadFault → Type 0
+IsOfReader TooLong = ⊤
+IsOfReader Failed = ⊤
+IsOfReader Memory = ⊥
 
 -- 1 where it is a read that failed
 abbrev pub fault_failures : ReadFault → ℕ

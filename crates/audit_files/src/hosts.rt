@@ -1,6 +1,6 @@
 ghost use Rattle.std.specs.Prelude.{◌≡◌, ◌+◌, ◌∷◌, ◌++◌, [], Ok, Err, IfOk, IfErr, OnOk, IfSome, filter_map, length};
 ghost use Rattle.csv.specs.Records.{fields_of};
-ghost use Rattle.audit_files.specs.Faults.{IsNoMemory, failures_in, read_failures};
+ghost use Rattle.audit_files.specs.Faults.{IsOfFile, failures_in, read_failures};
 ghost use Rattle.audit_files.specs.Files.{IsRead};
 ghost use Rattle.audit_files.specs.Hosts.{address_by, address_of, interface_of, interface_with, machine_of, machines, octet_of};
 
@@ -165,7 +165,7 @@ impl Machines {
 // What the bytes of a hosts file state, or their first fault.
 fn machines_in(alloc: Global, text: &[u8]) -> Result<Vec<Machine>, FileFault>
     ensures stated { IfOk result (λ list. machines text.now ≡ Ok list.items) }
-    ensures fault { IfErr result (λ e. IsNoMemory e → machines text.now ≡ Err e) }
+    ensures fault { IfErr result (λ e. IsOfFile e → machines text.now ≡ Err e) }
     ensures no_read { IfErr result (λ e. failures_in e ≡ 0) }
 {
     let mut table = Machines {
@@ -185,7 +185,7 @@ fn machines_in(alloc: Global, text: &[u8]) -> Result<Vec<Machine>, FileFault>
 /// read, `Read` where a read failed, `Memory` where memory was refused.
 pub fn read_hosts<R: Feed>(alloc: Global, reader: &mut R) -> Result<Vec<Machine>, FileFault>
     ensures stated { IfOk result (λ list. IsRead machines (R.ahead reader.old) (Ok list.items)) }
-    ensures fault { IfErr result (λ e. IsNoMemory e
+    ensures fault { IfErr result (λ e. IsOfFile e
         → IsRead machines (R.ahead reader.old) (Err e)) }
     ensures failures { R.failed_reads reader.new
         ≡ R.failed_reads reader.old + read_failures result }

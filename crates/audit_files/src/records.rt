@@ -1,6 +1,6 @@
 ghost use Rattle.std.specs.Prelude.{◌≡◌, ◌++◌, [], IfOk, OnOk, map};
 ghost use Rattle.csv.specs.Writing.{default_writer, row_text};
-ghost use Rattle.audit_files.specs.Text.{IsBetween, written};
+ghost use Rattle.audit_files.specs.Body.Text.{IsBetween, written};
 
 use csv::{Writer, WriterBuilder};
 use std::alloc::{AllocError, Global};

@@ -1,14 +1,15 @@
 //! The text of a report, record by record.
 ghost use Rattle.std.specs.Prelude.{◌≡◌, ◌++◌, ◌∷◌, [], IfOk, OnOk};
-ghost use Rattle.audit_files.specs.Report.{answer_fields, line, place_text, report_text as text_of, sender_text, tags_text, verdict_place, verdict_tags, verdict_word, with_name, with_tag};
-ghost use Rattle.audit_files.specs.Text.{IsBetween, written};
+ghost use Rattle.audit_files.specs.Report.{answer_fields, line, report_text as text_of, sender_text, tags_text, verdict_place, verdict_tags, verdict_word, with_name, with_tag};
+ghost use Rattle.audit_files.specs.Body.Text.{IsBetween, written};
 
+use crate::places::push_place;
 use crate::records::Text;
 use audit_collect::{Answer, Report, SenderReport};
 use itoa::Buffer;
 use std::alloc::{AllocError, Global};
 use sudo_match::{Tags, Verdict, What};
-use sudo_text::{Place, Seq};
+use sudo_text::Seq;
 
 fn word(verdict: &Verdict) -> &'static [u8]
     ensures { result.now ≡ verdict_word verdict.now }
@@ -24,26 +25,14 @@ fn word(verdict: &Verdict) -> &'static [u8]
     }
 }
 
-// Puts the place of a grant: the path of its file, and its line.
-fn put_place(text: &mut Vec<u8>, files: &[Seq<u8>], place: Place) -> Result<(), AllocError>
-    ensures { OnOk result (text.new.items ≡ text.old.items ++ place_text files.now place) }
-{
-    if let Some(path) = files.get(place.file as usize) {
-        text.extend_from_slice(path.as_slice())?;
-    }
-    text.push(b':')?;
-    let mut digits = Buffer::new();
-    text.extend_from_slice(digits.format(place.line).as_bytes())
-}
-
 // Puts the place of the grant that decided in place of the text.
 fn set_place(text: &mut Vec<u8>, files: &[Seq<u8>], verdict: &Verdict) -> Result<(), AllocError>
     ensures { OnOk result (text.new.items ≡ verdict_place files.now verdict.now) }
 {
     text.clear();
     match *verdict {
-        Verdict::Allow { place, .. } => put_place(text, files, place),
-        Verdict::Deny { place } => put_place(text, files, place),
+        Verdict::Allow { place, .. } => push_place(text, files, place),
+        Verdict::Deny { place } => push_place(text, files, place),
         Verdict::NoMatch | Verdict::Unknown(_) => Ok(()),
     }
 }

@@ -1,6 +1,6 @@
 ghost use Rattle.std.specs.Prelude.{◌≡◌, ◌≢◌, ◌+◌, ◌∷◌, ◌++◌, [], Some, Ok, Err, List, ℕ, IfOk, OnOk, IfErr, IfSome, IfNone, length, slice_get};
 ghost use Rattle.csv.specs.Records.{fields_of};
-ghost use Rattle.audit_files.specs.Faults.{IsNoMemory, failures_in, read_failures};
+ghost use Rattle.audit_files.specs.Faults.{IsOfFile, failures_in, read_failures};
 ghost use Rattle.audit_files.specs.Files.{States, same_fields};
 ghost use Rattle.audit_files.specs.Requests.{asked_for, asked_number as number_asked, close_of, fields_in, requests_header, sent, is_command as command_test, last_number as number_of_last, order_fault as fault_of_order, request_of};
 
@@ -222,7 +222,7 @@ impl Sent {
 /// What the bytes of a requests file state, or their first fault. Beside that only memory can be wanting.
 pub(crate) fn requests_of_text(alloc: Global, text: &[u8]) -> Result<Requests, FileFault>
     ensures stated { IfOk result (λ requests. sent text.now ≡ Ok requests) }
-    ensures fault { IfErr result (λ e. IsNoMemory e → sent text.now ≡ Err e) }
+    ensures fault { IfErr result (λ e. IsOfFile e → sent text.now ≡ Err e) }
     ensures no_read { IfErr result (λ e. failures_in e ≡ 0) }
 {
     let mut table = Sent {

@@ -1,6 +1,6 @@
 ghost use Rattle.std.specs.Prelude.{◌≡◌, ◌+◌, ◌∷◌, ◌++◌, [], ℕ, List, Option, Some, None, length, OnOk, IfErr};
 ghost use Rattle.csv.specs.Records.{fields_of};
-ghost use Rattle.audit_files.specs.Faults.{IsNoMemory, failures_in};
+ghost use Rattle.audit_files.specs.Faults.{IsOfFile, failures_in};
 ghost use Rattle.audit_files.specs.Files.{fault_after, headed, same_fields};
 ghost use Rattle.audit_files.specs.declared.fault.FileFault.{FileFault};
 ghost use Rattle.audit_files.specs.Rows.{Fields, IsReading, first_fault, records_of, rows_left};
@@ -30,7 +30,7 @@ pub(crate) trait Table {
             → row ≡ length before + 2
             → (fault before (fields_of record.now) ≡ None)
             × holds self.new (before ++ fields_of record.now ∷ [])) }
-        ensures err { IfErr result (λ e. IsNoMemory e → (before : List Fields)
+        ensures err { IfErr result (λ e. IsOfFile e → (before : List Fields)
             → holds self.old before → row ≡ length before + 2
             → fault before (fields_of record.now) ≡ Some e) }
         ensures no_read { IfErr result (λ e. failures_in e ≡ 0) };
@@ -42,7 +42,7 @@ fn fill<T: Table>(rows: &mut Rows<'_>, table: &mut T) -> Result<(), FileFault>
     requires empty { T.holds table.old [] }
     ensures ok { OnOk result ((first_fault T.fault [] (rows_left rows.old) ≡ None)
         × T.holds table.new (rows_left rows.old)) }
-    ensures err { IfErr result (λ e. IsNoMemory e
+    ensures err { IfErr result (λ e. IsOfFile e
         → first_fault T.fault [] (rows_left rows.old) ≡ Some e) }
     ensures no_read { IfErr result (λ e. failures_in e ≡ 0) }
 {
@@ -61,7 +61,7 @@ pub(crate) fn gather<T: Table>(alloc: Global, text: &[u8], table: &mut T) -> Res
     ensures ok { OnOk result ((rest : List Fields)
         × (headed T.header (records_of text.now) ≡ Some rest)
         × (first_fault T.fault [] rest ≡ None) × T.holds table.new rest) }
-    ensures err { IfErr result (λ e. IsNoMemory e
+    ensures err { IfErr result (λ e. IsOfFile e
         → fault_after T.fault (headed T.header (records_of text.now)) ≡ Some e) }
     ensures no_read { IfErr result (λ e. failures_in e ≡ 0) }
 {

@@ -1,6 +1,6 @@
 //! The bytes of a file.
 ghost use Rattle.std.specs.Prelude.{◌≡◌, ◌+◌, Ok, Err, IfOk, IfErr};
-ghost use Rattle.audit_files.specs.Faults.{IsNoMemory, read_failures};
+ghost use Rattle.audit_files.specs.Faults.{IsOfFile, read_failures};
 ghost use Rattle.audit_files.specs.Files.{IsRead, itself};
 
 use crate::{Feed, FileFault, ReadFault, read_whole};
@@ -12,7 +12,7 @@ const BYTE_LIMIT: usize = 268_435_456;
 /// The bytes of a file, read to its end.
 pub(crate) fn read_text<R: Feed>(alloc: Global, reader: &mut R) -> Result<Vec<u8>, FileFault>
     ensures text { IfOk result (λ text. IsRead itself (R.ahead reader.old) (Ok text.items)) }
-    ensures fault { IfErr result (λ e. IsNoMemory e → IsRead itself (R.ahead reader.old) (Err e)) }
+    ensures fault { IfErr result (λ e. IsOfFile e → IsRead itself (R.ahead reader.old) (Err e)) }
     ensures failures { R.failed_reads reader.new
         ≡ R.failed_reads reader.old + read_failures result }
 {

@@ -1,6 +1,6 @@
 ghost use Rattle.std.specs.Prelude.{◌≡◌, ◌+◌, ◌∷◌, ◌++◌, [], Ok, Err, IfOk, IfErr, OnOk, IfSome, filter_map, length};
 ghost use Rattle.csv.specs.Records.{fields_of};
-ghost use Rattle.audit_files.specs.Faults.{IsNoMemory, failures_in, read_failures};
+ghost use Rattle.audit_files.specs.Faults.{IsOfFile, failures_in, read_failures};
 ghost use Rattle.audit_files.specs.Files.{IsRead};
 ghost use Rattle.audit_files.specs.Users.{group_of, people, person_of};
 
@@ -125,7 +125,7 @@ impl People {
 // What the bytes of a users file state, or their first fault.
 fn people_in(alloc: Global, text: &[u8]) -> Result<Vec<Person>, FileFault>
     ensures stated { IfOk result (λ list. people text.now ≡ Ok list.items) }
-    ensures fault { IfErr result (λ e. IsNoMemory e → people text.now ≡ Err e) }
+    ensures fault { IfErr result (λ e. IsOfFile e → people text.now ≡ Err e) }
     ensures no_read { IfErr result (λ e. failures_in e ≡ 0) }
 {
     let mut table = People {
@@ -145,7 +145,7 @@ fn people_in(alloc: Global, text: &[u8]) -> Result<Vec<Person>, FileFault>
 /// read, `Read` where a read failed, `Memory` where memory was refused.
 pub fn read_users<R: Feed>(alloc: Global, reader: &mut R) -> Result<Vec<Person>, FileFault>
     ensures stated { IfOk result (λ list. IsRead people (R.ahead reader.old) (Ok list.items)) }
-    ensures fault { IfErr result (λ e. IsNoMemory e → IsRead people (R.ahead reader.old) (Err e)) }
+    ensures fault { IfErr result (λ e. IsOfFile e → IsRead people (R.ahead reader.old) (Err e)) }
     ensures failures { R.failed_reads reader.new
         ≡ R.failed_reads reader.old + read_failures result }
 {

@@ -1,6 +1,6 @@
 //! The whole of what a reader gives.
 ghost use Rattle.std.specs.Prelude.{◌≡◌, ◌+◌, ◌≤◌, IfOk, IfErr, IfSome, vec_len};
-ghost use Rattle.audit_files.specs.Whole.{IsNoMemory, failure_of, whole_of};
+ghost use Rattle.audit_files.specs.Whole.{IsOfReader, failure_of, whole_of};
 
 use crate::{Failed, Feed};
 use std::alloc::{AllocError, Global};
@@ -41,7 +41,7 @@ pub fn read_whole<R: Feed>(
     ensures text { IfOk result (λ text. IfSome (R.ahead reader.old)
         (λ a. whole_of limit a ≡ Ok text.items)) }
     ensures limit { IfOk result (λ text. vec_len text ≤ limit) }
-    ensures fault { IfErr result (λ e. IsNoMemory e
+    ensures fault { IfErr result (λ e. IsOfReader e
         → IfSome (R.ahead reader.old) (λ a. whole_of limit a ≡ Err e)) }
     ensures failures { R.failed_reads reader.new ≡ R.failed_reads reader.old + failure_of result }
 {

@@ -10,9 +10,9 @@ use Rattle.audit_run.specs.declared.message.Outcome.{Outcome}
 use Rattle.audit_run.specs.declared.message.Outcome.TheVariants.{Arrived, End, Stopped}
 use Rattle.audit_run.specs.Names.{answer}
 use Rattle.audit_run.specs.Passes.{PassView, with_job_taken, with_outcome_put, with_job_put}
-use Rattle.audit_run.specs.FreshPasses.{gaining}
+use Rattle.audit_run.specs.Body.FreshPasses.{gaining}
 use Rattle.audit_run.specs.Arrivals.{arrivals_of}
-use Rattle.audit_run.specs.Gathered.{comes_of, is_end, is_stopped, IsOutOfMemory, Counts, Gathers, Conducts, HasConducted, Drains}
+use Rattle.audit_run.specs.Body.Gathered.{comes_of, is_end, is_stopped, IsOutOfMemory, Counts, Gathers, Conducts, HasConducted, Drains}
 
 pub gaining_none : (p : PassView) → gaining p [] [] [] [] ≡ p
 gaining_none p = λ i. record p { jobs_put = append-nil p.jobs_put i; jobs_taken = append-nil p.jobs_taken i; outcomes_put = append-nil p.outcomes_put i; outcomes_taken = append-nil p.outcomes_taken i }

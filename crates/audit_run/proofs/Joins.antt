@@ -9,8 +9,8 @@ use Rattle.audit_run.specs.declared.message.Job.{Job}
 use Rattle.audit_run.specs.Names.{answer}
 use Rattle.audit_run.specs.Passes.{HandoffId, PassView, with_joined}
 use Rattle.audit_run.specs.Parts.{Stated, fault_in, put_by_sources, put_of}
-use Rattle.audit_run.specs.FreshPasses.{fresh, fresh_with}
-use Rattle.audit_run.specs.Work.{AreParts, IsPart, worked, joined_workers, joined_sources, putting_jobs}
+use Rattle.audit_run.specs.Body.FreshPasses.{fresh, fresh_with}
+use Rattle.audit_run.specs.Body.Work.{AreParts, IsPart, worked, joined_workers, joined_sources, putting_jobs}
 use Rattle.sudo_match.specs.Known.{Known}
 use Rattle.sudo_grammar.specs.declared.policy.Policy.{Policy}
 

@@ -34,14 +34,14 @@ use Rattle.audit_run.proofs.Owned.{all_owned, all_rise}
 use Rattle.audit_run.proofs.Refusing.{refused_of_sources}
 use Rattle.audit_run.proofs.Reporting.{reported}
 use Rattle.audit_run.specs.Audited.{Audited, IsOutcome, IsReportOfArrived, Ran, most_parts}
-use Rattle.audit_run.specs.Concluded.{Answers, RefusesSenders}
+use Rattle.audit_run.specs.Body.Concluded.{Answers, RefusesSenders}
 use Rattle.audit_run.specs.Arrivals.{arrivals_of}
-use Rattle.audit_run.specs.Gathered.{comes_of, IsOutOfMemory, Gathers, Drains}
+use Rattle.audit_run.specs.Body.Gathered.{comes_of, IsOutOfMemory, Gathers, Drains}
 use Rattle.audit_run.specs.Parts.{AreRead, Stated, fault_in, faults_of, owned, run_jobs}
-use Rattle.audit_run.specs.FreshPasses.{gaining, lighter}
+use Rattle.audit_run.specs.Body.FreshPasses.{gaining, lighter}
 use Rattle.audit_run.specs.Roster.{owners, place_of, roster}
-use Rattle.audit_run.specs.Run.{HasRun}
-use Rattle.audit_run.specs.Work.{AreParts, IsPart, after_run}
+use Rattle.audit_run.specs.Body.Run.{HasRun}
+use Rattle.audit_run.specs.Body.Work.{AreParts, IsPart, after_run}
 use Rattle.audit_run.proofs.Gains.{gaining_more, gathers_more}
 use Rattle.audit_run.proofs.Permuted.{cancel}
 

@@ -7,7 +7,7 @@ use Rattle.audit_collect.specs.declared.fault.RosterFault.TheVariants as roster_
 use Rattle.audit_collect.specs.declared.report.Report.{Report}
 use Rattle.audit_files.specs.Feeding.{Ahead}
 use Rattle.audit_files.specs.declared.fault.FileFault.{FileFault}
-use Rattle.audit_files.specs.declared.fault.FileFault.TheVariants as file
+use Rattle.audit_files.specs.Faults.{IsOfFile}
 use Rattle.audit_run.specs.declared.message.Names.{Names}
 use Rattle.audit_run.specs.declared.message.Outcome.{Outcome}
 use Rattle.audit_run.specs.Names.{answer}
@@ -31,16 +31,6 @@ NoneRefused faults = (place : ℕ) (fault : FileFault) → slice_get faults plac
 pub record IsFirstFault (faults : List (Option FileFault)) (place : ℕ) (fault : FileFault) : Type 0 where
   pub there : slice_get faults place ≡ Some (Some fault)
   pub earlier : (i : ℕ) → i < place → slice_get faults i ≡ Some None
-
--- the fault is the file's own, and no want of memory
-abbrev pub IsOfFile : FileFault → Type 0
-IsOfFile file.Header = ⊤
-IsOfFile (file.BadRow row) = ⊤
-IsOfFile (file.OutOfOrder row) = ⊤
-IsOfFile (file.RowAfterClose row) = ⊤
-IsOfFile file.TooMany = ⊤
-IsOfFile file.Read = ⊤
-IsOfFile file.Memory = ⊥
 
 -- This is the first source that is refused: its name, its number among the sources of that name, and why.
 abbrev pub IsRefusedSource : List (List ℕ) → List (Option FileFault) → List ℕ → ℕ → FileFault → Type 0

@@ -1,14 +1,9 @@
 pub mod Names
 pub mod Passes
-pub mod Rule
 pub mod Roster
 pub mod Parts
 pub mod Arrivals
 pub mod Asked
 pub mod Outcome
 pub mod Audited
-pub mod Gathered
-pub mod FreshPasses
-pub mod Run
-pub mod Work
-pub mod Concluded
+pub mod Body

@@ -4,12 +4,12 @@ ghost use Rattle.std.specs.List.{zip};
 ghost use Rattle.audit_files.specs.declared.fault.FileFault.TheVariants.{Memory};
 ghost use Rattle.audit_run.specs.Names.{names_of};
 ghost use Rattle.audit_run.specs.Passes.{IsEmpty, IsWhole};
-ghost use Rattle.audit_run.specs.Audited.{Audited, IsFirstFault, IsOfFile, NoneRefused, most_parts};
-ghost use Rattle.audit_run.specs.Concluded.{Answers};
-ghost use Rattle.audit_run.specs.Gathered.{comes_of};
+ghost use Rattle.audit_run.specs.Audited.{Audited, IsFirstFault, NoneRefused, most_parts};
+ghost use Rattle.audit_run.specs.Body.Concluded.{Answers};
+ghost use Rattle.audit_run.specs.Body.Gathered.{comes_of};
 ghost use Rattle.audit_run.specs.Roster.{part_at};
-ghost use Rattle.audit_run.specs.Run.{HasRun, IsReady};
-ghost use Rattle.audit_run.specs.Work.{told_by};
+ghost use Rattle.audit_run.specs.Body.Run.{HasRun, IsReady};
+ghost use Rattle.audit_run.specs.Body.Work.{told_by};
 ghost use Rattle.audit_run.specs.declared.fault.AuditFault.TheVariants.{TooManyParts};
 ghost use Rattle.sudo_verdict.specs.Postings.{Indexes};
 
@@ -20,6 +20,7 @@ use crate::gate::Gate;
 use crate::gather::Gathering;
 use crate::readers::{ReaderHandle, join_readers, start_readers};
 use crate::roster::{Entered, enter};
+use crate::shared::Shared;
 use crate::source::{Part, Source};
 use crate::workers::{join_workers, start_workers};
 use crate::{Handoff, Pass};
@@ -39,22 +40,18 @@ pub const MOST_PARTS: usize = 256;
 
 // Starts the workers and a thread for each source, gathers until all have ended, and joins them.
 fn run<'s, 'e: 's, R: Threads + Wait + Sync, F: Feed + Drop + Send + 'e, G: Gate + Sync>(
-    alloc: Global,
     rt: &'e R,
     scope: &Scope<'s, &'e ()>,
-    policy: &'e Checked,
-    index: &'e RuleIndex,
-    directory: &'e Directory,
-    handoff: &'e Handoff,
+    shared: Shared<'e>,
     gate: &'e G,
     crew: Crew,
     parts: Vec<Part<F>>,
     mut readers: Vec<ReaderHandle<F>>,
 ) -> Ended
-    requires ready { IsReady handoff.now policy.now directory.now (vec_len parts) crew }
-    requires index { Indexes policy.now index.now }
+    requires ready { IsReady shared.handoff.now shared.policy.now shared.directory.now (vec_len parts) crew }
+    requires index { Indexes shared.policy.now shared.index.now }
     requires room { (vec_len readers ≡ 0) × (vec_len parts ≤ vec_capacity readers) }
-    ensures { IsTrue result.all_started → HasRun (names_of policy.now directory.now)
+    ensures { IsTrue result.all_started → HasRun (names_of shared.policy.now shared.directory.now)
         (map (λ p. told_by p.owner (F.ahead p.reader)) parts.items) (vec_len parts) crew result }
 {
     let Crew {
@@ -65,17 +62,8 @@ fn run<'s, 'e: 's, R: Threads + Wait + Sync, F: Feed + Drop + Send + 'e, G: Gate
         mut workers,
         mut faults,
     } = crew;
-    let all_workers = start_workers(
-        rt,
-        scope,
-        handoff,
-        worker_passes,
-        policy,
-        index,
-        directory,
-        gate,
-        &mut workers,
-    );
+    let Shared { alloc, handoff, .. } = shared;
+    let all_workers = start_workers(rt, scope, shared, gate, worker_passes, &mut workers);
     let all_started = all_workers
         && start_readers(
             alloc,
@@ -95,7 +83,7 @@ fn run<'s, 'e: 's, R: Threads + Wait + Sync, F: Feed + Drop + Send + 'e, G: Gate
         workers.len(),
     );
     join_readers(rt, handoff, &mut pass, readers, &mut faults);
-    join_workers(rt, handoff, policy, directory, &mut pass, workers);
+    join_workers(rt, shared, &mut pass, workers);
     Ended {
         pass,
         gathering,
@@ -106,39 +94,31 @@ fn run<'s, 'e: 's, R: Threads + Wait + Sync, F: Feed + Drop + Send + 'e, G: Gate
 
 // Runs the crew in a scope of its own.
 fn run_scoped<R: Threads + Wait + Sync, F: Feed + Drop + Send, G: Gate + Sync>(
-    alloc: Global,
     rt: &R,
-    policy: &Checked,
-    index: &RuleIndex,
-    directory: &Directory,
-    handoff: &Handoff,
+    shared: Shared<'_>,
     gate: &G,
     crew: Crew,
     parts: Vec<Part<F>>,
     readers: Vec<ReaderHandle<F>>,
 ) -> Ended
-    requires ready { IsReady handoff.now policy.now directory.now (vec_len parts) crew }
-    requires index { Indexes policy.now index.now }
+    requires ready { IsReady shared.handoff.now shared.policy.now shared.directory.now (vec_len parts) crew }
+    requires index { Indexes shared.policy.now shared.index.now }
     requires room { (vec_len readers ≡ 0) × (vec_len parts ≤ vec_capacity readers) }
-    ensures { IsTrue result.all_started → HasRun (names_of policy.now directory.now)
+    ensures { IsTrue result.all_started → HasRun (names_of shared.policy.now shared.directory.now)
         (map (λ p. told_by p.owner (F.ahead p.reader)) parts.items) (vec_len parts) crew result }
 {
     thread::scope(
         thread::scope_env(),
         rt,
         move |scope| -> Ended
-            requires ready { IsReady handoff.now policy.now directory.now (vec_len parts) crew }
-            requires index { Indexes policy.now index.now }
+            requires ready { IsReady shared.handoff.now shared.policy.now shared.directory.now (vec_len parts) crew }
+            requires index { Indexes shared.policy.now shared.index.now }
             requires room { (vec_len readers ≡ 0) × (vec_len parts ≤ vec_capacity readers) }
             ensures { IsTrue result.all_started
-                → HasRun (names_of policy.entry.now directory.entry.now)
+                → HasRun (names_of shared.policy.now shared.directory.now)
                 (map (λ p. told_by p.owner (F.ahead p.reader)) parts.items)
                 (vec_len parts) crew result }
-        {
-            run(
-                alloc, rt, scope, policy, index, directory, handoff, gate, crew, parts, readers,
-            )
-        },
+        { run(rt, scope, shared, gate, crew, parts, readers) },
     )
 }
 
@@ -255,38 +235,24 @@ pub fn audit<R: Threads + Wait + Sync, F: Feed + Drop + Send, G: Gate + Sync>(
     };
     let index = RuleIndex::of(alloc, policy)?;
     let handles = Vec::with_capacity(alloc, parts.len())?;
-    let crew = muster(
+    let shared = Shared {
         alloc,
-        rt,
         policy,
+        index: &index,
         directory,
         handoff,
-        pass,
-        collector,
-        parts.len(),
-        workers as usize,
-    )?;
+    };
+    let crew = muster(rt, shared, pass, collector, parts.len(), workers as usize)?;
     let Ended {
         pass: mine,
         mut gathering,
         faults,
         all_started,
-    } = run_scoped(
-        alloc, rt, policy, &index, directory, handoff, gate, crew, parts, handles,
-    );
+    } = run_scoped(rt, shared, gate, crew, parts, handles);
     if !all_started {
         return Err(AuditFault::NoThread);
     }
     pass.join(rt, handoff, mine);
-    drain(
-        rt,
-        handoff,
-        pass,
-        &mut gathering,
-        policy,
-        &index,
-        directory,
-        gate,
-    );
+    drain(rt, shared, gate, pass, &mut gathering);
     conclude(names, &faults, gathering)
 }

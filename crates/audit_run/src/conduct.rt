@@ -4,19 +4,17 @@ ghost use Rattle.audit_run.specs.Names.{names_of};
 ghost use Rattle.audit_run.specs.Passes.{IsWhole, OutcomesLeft, JobsLeft};
 ghost use Rattle.audit_run.specs.declared.message.Job.TheVariants as job;
 ghost use Rattle.audit_run.specs.declared.message.Outcome.TheVariants.{Arrived};
-ghost use Rattle.audit_run.specs.Gathered.{Conducts, Drains, Gathers, HasConducted, HasSameCounts, running_of};
+ghost use Rattle.audit_run.specs.Body.Gathered.{Conducts, Drains, Gathers, HasConducted, HasSameCounts, running_of};
 ghost use Rattle.sudo_verdict.specs.Postings.{Indexes};
 
 use crate::gate::Gate;
 use crate::gather::{Awaited, Gathering};
+use crate::shared::Shared;
 use crate::worker::answer_job;
 use crate::{Handoff, Job, Outcome, Pass};
 use audit_collect::Arrival;
 use std::sync::Wait;
 use std::thread;
-use sudo_match::Directory;
-use sudo_policy::Checked;
-use sudo_verdict::RuleIndex;
 
 /// Offers an arrival, unless one was refused before.
 fn offer(gathering: &mut Gathering, arrival: Arrival)
@@ -152,25 +150,22 @@ fn gather_rest<R: Wait>(rt: &R, handoff: &Handoff, pass: &mut Pass, gathering: &
 /// Answers each job that is left as a worker does, and gathers what is left.
 pub fn drain<R: Wait, G: Gate>(
     rt: &R,
-    handoff: &Handoff,
+    shared: Shared<'_>,
+    gate: &G,
     pass: &mut Pass,
     gathering: &mut Gathering,
-    policy: &Checked,
-    index: &RuleIndex,
-    directory: &Directory,
-    gate: &G,
 )
-    requires pass { pass.old.handoff ≡ handoff.now }
-    requires names { pass.old.names ≡ names_of policy.now directory.now }
-    requires index { Indexes policy.now index.now }
-    ensures taken { Drains (names_of policy.now directory.now) pass.old gathering.old pass.new
+    requires pass { pass.old.handoff ≡ shared.handoff.now }
+    requires names { pass.old.names ≡ names_of shared.policy.now shared.directory.now }
+    requires index { Indexes shared.policy.now shared.index.now }
+    ensures taken { Drains (names_of shared.policy.now shared.directory.now) pass.old gathering.old pass.new
         gathering.new }
     ensures left { IsWhole pass.old → JobsLeft pass.new [] × OutcomesLeft pass.new [] }
 {
     for _ in rt.forever() {
-        gather_rest(rt, handoff, pass, gathering);
-        match handoff.take_job(rt, pass) {
-            Some(job) => answer_job(rt, handoff, pass, policy, index, directory, gate, job),
+        gather_rest(rt, shared.handoff, pass, gathering);
+        match shared.handoff.take_job(rt, pass) {
+            Some(job) => answer_job(rt, shared, gate, pass, job),
             None => return,
         }
     }

@@ -2,18 +2,17 @@
 ghost use Rattle.std.specs.Prelude.{◌≡◌, ◌+◌, ◌<◌, None, All, IfOk, vec_len};
 ghost use Rattle.audit_run.specs.Names.{names_of};
 ghost use Rattle.audit_run.specs.Passes.{split_off};
-ghost use Rattle.audit_run.specs.FreshPasses.{lighter};
-ghost use Rattle.audit_run.specs.Run.{IsReady};
+ghost use Rattle.audit_run.specs.Body.FreshPasses.{lighter};
+ghost use Rattle.audit_run.specs.Body.Run.{IsReady};
 
 use crate::gather::Gathering;
+use crate::shared::Shared;
 use crate::workers::WorkerHandle;
 use crate::{Handoff, Pass};
 use audit_collect::Collector;
 use audit_files::FileFault;
 use std::alloc::{AllocError, Global};
 use std::sync::Wait;
-use sudo_match::Directory;
-use sudo_policy::Checked;
 
 /// What a run begins with: a pass for the caller and one for each thread, and room for what the threads leave.
 #[derive(Drop)]
@@ -57,20 +56,17 @@ fn split_passes<R: Wait>(
 
 /// Splits off the passes of a run for so many sources and workers, and makes room for what their threads leave.
 pub fn muster<R: Wait>(
-    alloc: Global,
     rt: &R,
-    policy: &Checked,
-    directory: &Directory,
-    handoff: &Handoff,
+    shared: Shared<'_>,
     pass: &mut Pass,
     collector: Collector,
     sources: usize,
     workers: usize,
 ) -> Result<Crew, AllocError>
-    requires pass { (pass.old.handoff ≡ handoff.now)
-        × (pass.old.names ≡ names_of policy.now directory.now) }
+    requires pass { (pass.old.handoff ≡ shared.handoff.now)
+        × (pass.old.names ≡ names_of shared.policy.now shared.directory.now) }
     requires weight { (sources + workers) + 1 < pass.old.weight }
-    ensures ready { IfOk result (λ crew. IsReady handoff.now policy.now directory.now sources
+    ensures ready { IfOk result (λ crew. IsReady shared.handoff.now shared.policy.now shared.directory.now sources
         crew) }
     ensures workers { IfOk result (λ crew. vec_len crew.worker_passes ≡ workers) }
     ensures gathering { IfOk result (λ crew. (crew.gathering.collector ≡ collector)
@@ -78,6 +74,7 @@ pub fn muster<R: Wait>(
     ensures passes { IfOk result (λ crew. (crew.pass ≡ split_off pass.old)
         × (pass.new ≡ lighter pass.old ((sources + workers) + 1))) }
 {
+    let Shared { alloc, handoff, .. } = shared;
     let source_passes = split_passes(alloc, rt, handoff, pass, sources)?;
     let worker_passes = split_passes(alloc, rt, handoff, pass, workers)?;
     let workers = Vec::with_capacity(alloc, workers)?;

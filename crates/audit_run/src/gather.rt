@@ -1,6 +1,6 @@
 //! What the caller gathers.
 ghost use Rattle.std.specs.Prelude.{◌≡◌};
-ghost use Rattle.audit_run.specs.Gathered.{running_of};
+ghost use Rattle.audit_run.specs.Body.Gathered.{running_of};
 
 use audit_collect::{Collector, Refused};
 

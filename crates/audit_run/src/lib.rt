@@ -18,6 +18,7 @@ mod readers;
 mod roster;
 mod rule;
 mod sender;
+mod shared;
 mod source;
 mod worker;
 mod workers;

@@ -1,8 +1,8 @@
 //! Starts a thread for each source of requests, and joins them.
 ghost use Rattle.std.specs.Prelude.{◌≡◌, [], ℕ, ◌+◌, ◌≤◌, List, All, IfSome, map, vec_len, vec_capacity, IsTrue};
 ghost use Rattle.audit_run.specs.Parts.{Stated, fault_in, put_by_sources};
-ghost use Rattle.audit_run.specs.FreshPasses.{IsFresh};
-ghost use Rattle.audit_run.specs.Work.{AreParts, HasSent, joined_sources, told_by};
+ghost use Rattle.audit_run.specs.Body.FreshPasses.{IsFresh};
+ghost use Rattle.audit_run.specs.Body.Work.{AreParts, HasSent, joined_sources, told_by};
 
 use crate::sender::{put_job, send};
 use crate::source::Part;

@@ -3,9 +3,9 @@ ghost use Rattle.std.specs.Prelude.{◌≡◌, ◌<◌, ◌≤◌, ◌^◌, IfOk
 ghost use Rattle.std.specs.List.{zip};
 ghost use Rattle.audit_collect.specs.Held.{start};
 ghost use Rattle.audit_collect.specs.Roster.{AreDistinct, IsRoster};
-ghost use Rattle.audit_run.specs.Concluded.{RefusesSenders};
+ghost use Rattle.audit_run.specs.Body.Concluded.{RefusesSenders};
 ghost use Rattle.audit_run.specs.Roster.{owners, place_of, places_in, roster};
-ghost use Rattle.audit_run.specs.Work.{told_by};
+ghost use Rattle.audit_run.specs.Body.Work.{told_by};
 
 use crate::fault::AuditFault;
 use crate::source::{Part, Source};

@@ -4,7 +4,7 @@
 //! a pop with a message or without, passes joined) keeps it, whichever threads take the steps and in whatever order.
 ghost use Rattle.std.specs.Prelude.{◌≡◌, ◌<◌, ◌≤◌, List, Option, Some, None, Ok, Err, IfOk, MatchResult, MatchOption, length, [], ◌∷◌};
 ghost use Rattle.crossbeam_queue.specs.Passes.{view, IsPassOf, IsSamePass, ruled_capacity};
-ghost use Rattle.audit_run.specs.Rule.{tally, putting, taking, kept_by_split, given_by_split, joined, Leaves, Suits, Put, Took};
+ghost use Rattle.audit_run.specs.Body.Rule.{tally, putting, taking, kept_by_split, given_by_split, joined, Leaves, Suits, Put, Took};
 
 use crossbeam_queue::protocol::{Join, Lesson, Outcome, Protocol, Split};
 use crossbeam_queue::{Pass, RuledArrayQueue};
@@ -33,7 +33,7 @@ pub struct Tally<T, N> {
 pub struct Counted;
 
 impl<T: Message<N>, N> Protocol<T, Tally<T, N>> for Counted {
-    ghost use Rattle.audit_run.specs.Rule.{first, Kept};
+    ghost use Rattle.audit_run.specs.Body.Rule.{first, Kept};
 
     ghost holds = { Kept T.fits };
 
@@ -60,7 +60,7 @@ struct Named<J> {
 }
 
 impl<T, N, J: Naming<N>> Split<Tally<T, N>> for Named<J> {
-    ghost use Rattle.audit_run.specs.Rule.{named, spent};
+    ghost use Rattle.audit_run.specs.Body.Rule.{named, spent};
 
     ghost left = { λ v. named J.names v };
 
@@ -70,7 +70,7 @@ impl<T, N, J: Naming<N>> Split<Tally<T, N>> for Named<J> {
 struct Halved;
 
 impl<T, N> Split<Tally<T, N>> for Halved {
-    ghost use Rattle.audit_run.specs.Rule.{kept_by_split, given_by_split};
+    ghost use Rattle.audit_run.specs.Body.Rule.{kept_by_split, given_by_split};
 
     ghost left = { λ v. kept_by_split v };
 
@@ -80,7 +80,7 @@ impl<T, N> Split<Tally<T, N>> for Halved {
 struct Together;
 
 impl<T, N> Join<Tally<T, N>> for Together {
-    ghost use Rattle.audit_run.specs.Rule.{joined, spent};
+    ghost use Rattle.audit_run.specs.Body.Rule.{joined, spent};
 
     ghost both = { λ v w. joined v w };
 
@@ -90,13 +90,13 @@ impl<T, N> Join<Tally<T, N>> for Together {
 struct Puts;
 
 impl<T, N> Outcome<T, Tally<T, N>> for Puts {
-    ghost use Rattle.audit_run.specs.Rule.{Put};
+    ghost use Rattle.audit_run.specs.Body.Rule.{Put};
 
     ghost then = { λ v x w. Put v x w };
 }
 
 impl<T, N> Lesson<T, Tally<T, N>> for Puts {
-    ghost use Rattle.audit_run.specs.Rule.{Seen};
+    ghost use Rattle.audit_run.specs.Body.Rule.{Seen};
 
     ghost fact = { λ v items. Seen v items };
 }
@@ -104,13 +104,13 @@ impl<T, N> Lesson<T, Tally<T, N>> for Puts {
 struct Takes;
 
 impl<T: Message<N>, N> Outcome<T, Tally<T, N>> for Takes {
-    ghost use Rattle.audit_run.specs.Rule.{Took};
+    ghost use Rattle.audit_run.specs.Body.Rule.{Took};
 
     ghost then = { λ v x w. Took T.fits v x w };
 }
 
 impl<T: Message<N>, N> Lesson<T, Tally<T, N>> for Takes {
-    ghost use Rattle.audit_run.specs.Rule.{Seen};
+    ghost use Rattle.audit_run.specs.Body.Rule.{Seen};
 
     ghost fact = { λ v items. Seen v items };
 }

@@ -2,7 +2,7 @@
 ghost use Rattle.std.specs.Prelude.{◌≡◌};
 ghost use Rattle.audit_run.specs.Passes.{with_job_put};
 ghost use Rattle.audit_run.specs.Parts.{jobs_of};
-ghost use Rattle.audit_run.specs.Work.{putting_jobs};
+ghost use Rattle.audit_run.specs.Body.Work.{putting_jobs};
 
 use crate::{Handoff, Job, Pass};
 use audit_files::Requests;

@@ -3,17 +3,16 @@ ghost use Rattle.std.specs.Prelude.{◌≡◌, ◌∷◌, ◌++◌, [], List};
 ghost use Rattle.audit_run.specs.Names.{names_of, answer, IsRight};
 ghost use Rattle.audit_run.specs.Passes.{with_outcome_put};
 ghost use Rattle.audit_run.specs.declared.message.Job.{Job};
-ghost use Rattle.audit_run.specs.Work.{worked};
+ghost use Rattle.audit_run.specs.Body.Work.{worked};
 ghost use Rattle.sudo_verdict.specs.Postings.{Indexes};
 
 use crate::gate::Gate;
+use crate::shared::Shared;
 use crate::{Handoff, Job, Outcome, Pass};
 use audit_collect::{Answer, Arrival};
 use std::sync::Wait;
 use std::thread;
-use sudo_match::{Directory, Request};
-use sudo_policy::Checked;
-use sudo_verdict::RuleIndex;
+use sudo_match::Request;
 
 /// Puts an outcome, and tries again while the queue is full.
 pub fn hand_on<R: Wait>(rt: &R, handoff: &Handoff, pass: &mut Pass, outcome: Outcome)
@@ -36,21 +35,24 @@ pub fn hand_on<R: Wait>(rt: &R, handoff: &Handoff, pass: &mut Pass, outcome: Out
 
 fn answer_request<R: Wait, G: Gate>(
     rt: &R,
-    handoff: &Handoff,
-    pass: &mut Pass,
-    policy: &Checked,
-    index: &RuleIndex,
-    directory: &Directory,
+    shared: Shared<'_>,
     gate: &G,
+    pass: &mut Pass,
     sender: u32,
     request: Request,
 )
-    requires pass { pass.old.handoff ≡ handoff.now }
-    requires names { pass.old.names ≡ names_of policy.now directory.now }
-    requires index { Indexes policy.now index.now }
+    requires pass { pass.old.handoff ≡ shared.handoff.now }
+    requires names { pass.old.names ≡ names_of shared.policy.now shared.directory.now }
+    requires index { Indexes shared.policy.now shared.index.now }
     ensures { pass.new ≡ with_outcome_put pass.old
-        (answer (names_of policy.now directory.now) (Job.Ask sender request)) }
+        (answer (names_of shared.policy.now shared.directory.now) (Job.Ask sender request)) }
 {
+    let Shared {
+        policy,
+        index,
+        directory,
+        ..
+    } = shared;
     let number = request.number;
     gate.before(sender, number);
     let verdict = index.verdict(policy, directory, &request);
@@ -59,64 +61,50 @@ fn answer_request<R: Wait, G: Gate>(
         request,
         verdict,
     };
-    hand_on(rt, handoff, pass, Outcome::Arrived(Arrival::Reply(reply)));
+    hand_on(
+        rt,
+        shared.handoff,
+        pass,
+        Outcome::Arrived(Arrival::Reply(reply)),
+    );
     gate.after(sender, number);
 }
 
 /// Puts what answers a job.
-pub fn answer_job<R: Wait, G: Gate>(
-    rt: &R,
-    handoff: &Handoff,
-    pass: &mut Pass,
-    policy: &Checked,
-    index: &RuleIndex,
-    directory: &Directory,
-    gate: &G,
-    job: Job,
-)
-    requires pass { pass.old.handoff ≡ handoff.now }
-    requires names { pass.old.names ≡ names_of policy.now directory.now }
-    requires index { Indexes policy.now index.now }
+pub fn answer_job<R: Wait, G: Gate>(rt: &R, shared: Shared<'_>, gate: &G, pass: &mut Pass, job: Job)
+    requires pass { pass.old.handoff ≡ shared.handoff.now }
+    requires names { pass.old.names ≡ names_of shared.policy.now shared.directory.now }
+    requires index { Indexes shared.policy.now shared.index.now }
     ensures { pass.new ≡ with_outcome_put pass.old
-        (answer (names_of policy.now directory.now) job) }
+        (answer (names_of shared.policy.now shared.directory.now) job) }
 {
     let outcome = match job {
         Job::Ask { sender, request } => {
-            return answer_request(
-                rt, handoff, pass, policy, index, directory, gate, sender, request,
-            );
+            return answer_request(rt, shared, gate, pass, sender, request);
         }
         Job::Close { sender, count } => Outcome::Arrived(Arrival::Close { sender, count }),
         Job::End { sender } => Outcome::End { sender },
         Job::Stop => Outcome::Stopped,
     };
-    hand_on(rt, handoff, pass, outcome);
+    hand_on(rt, shared.handoff, pass, outcome);
 }
 
 /// Answers each job that it takes, until it has answered `Stop`.
-pub fn work<R: Wait, G: Gate>(
-    rt: &R,
-    handoff: &Handoff,
-    mut pass: Pass,
-    policy: &Checked,
-    index: &RuleIndex,
-    directory: &Directory,
-    gate: &G,
-) -> Pass
-    requires pass { pass.handoff ≡ handoff.now }
-    requires names { pass.names ≡ names_of policy.now directory.now }
-    requires index { Indexes policy.now index.now }
-    ensures { (jobs : List Job) × (result ≡ worked (names_of policy.now directory.now) pass
+pub fn work<R: Wait, G: Gate>(rt: &R, shared: Shared<'_>, gate: &G, mut pass: Pass) -> Pass
+    requires pass { pass.handoff ≡ shared.handoff.now }
+    requires names { pass.names ≡ names_of shared.policy.now shared.directory.now }
+    requires index { Indexes shared.policy.now shared.index.now }
+    ensures { (jobs : List Job) × (result ≡ worked (names_of shared.policy.now shared.directory.now) pass
         (jobs ++ Job.Stop ∷ [])) }
 {
     for _ in rt.forever() {
-        match handoff.take_job(rt, &mut pass) {
+        match shared.handoff.take_job(rt, &mut pass) {
             None => thread::yield_now(),
             Some(Job::Stop) => {
-                hand_on(rt, handoff, &mut pass, Outcome::Stopped);
+                hand_on(rt, shared.handoff, &mut pass, Outcome::Stopped);
                 return pass;
             }
-            Some(job) => answer_job(rt, handoff, &mut pass, policy, index, directory, gate, job),
+            Some(job) => answer_job(rt, shared, gate, &mut pass, job),
         }
     }
     unreachable!()

@@ -2,19 +2,17 @@
 ghost use Rattle.std.specs.Prelude.{◌≡◌, ◌+◌, ◌≤◌, List, All, IfSome, vec_len, vec_capacity, IsTrue};
 ghost use Rattle.audit_run.specs.Names.{names_of};
 ghost use Rattle.audit_run.specs.declared.message.Job.{Job};
-ghost use Rattle.audit_run.specs.FreshPasses.{fresh};
-ghost use Rattle.audit_run.specs.Work.{HasWorked, joined_workers};
+ghost use Rattle.audit_run.specs.Body.FreshPasses.{fresh};
+ghost use Rattle.audit_run.specs.Body.Work.{HasWorked, joined_workers};
 ghost use Rattle.sudo_verdict.specs.Postings.{Indexes};
 
+use crate::Pass;
 use crate::gate::Gate;
+use crate::shared::Shared;
 use crate::worker::work;
-use crate::{Handoff, Pass};
 use std::snapshot::Snapshot;
 use std::sync::Wait;
 use std::thread::{Promise, PromisedHandle, Scope, Threads};
-use sudo_match::Directory;
-use sudo_policy::Checked;
-use sudo_verdict::RuleIndex;
 
 /// What a worker's thread leaves of its pass: it has put the answer of each job that it took, once.
 #[derive(Drop)]
@@ -31,27 +29,24 @@ pub type WorkerHandle = PromisedHandle<Pass, WorkerRan>;
 fn start_worker<'s, 'e: 's, R: Threads + Wait + Sync, G: Gate + Sync>(
     rt: &'e R,
     scope: &Scope<'s, &'e ()>,
-    handoff: &'e Handoff,
-    pass: Pass,
-    policy: &'e Checked,
-    index: &'e RuleIndex,
-    directory: &'e Directory,
+    shared: Shared<'e>,
     gate: &'e G,
+    pass: Pass,
 ) -> Option<WorkerHandle>
-    requires pass { pass.handoff ≡ handoff.now }
-    requires names { pass.names ≡ names_of policy.now directory.now }
-    requires index { Indexes policy.now index.now }
+    requires pass { pass.handoff ≡ shared.handoff.now }
+    requires names { pass.names ≡ names_of shared.policy.now shared.directory.now }
+    requires index { Indexes shared.policy.now shared.index.now }
     ensures { IfSome result (λ h. h.promise.before.value ≡ pass) }
 {
     let promise = WorkerRan {
         before: Snapshot::of(&pass),
     };
     let body = move || -> Pass
-        requires pass { pass.handoff ≡ handoff.now }
-        requires names { pass.names ≡ names_of policy.now directory.now }
-        requires index { Indexes policy.now index.now }
+        requires pass { pass.handoff ≡ shared.handoff.now }
+        requires names { pass.names ≡ names_of shared.policy.now shared.directory.now }
+        requires index { Indexes shared.policy.now shared.index.now }
         ensures { HasWorked pass result }
-    { work(rt, handoff, pass, policy, index, directory, gate) };
+    { work(rt, shared, gate, pass) };
     scope.spawn_with(promise, body).ok()
 }
 
@@ -59,26 +54,22 @@ fn start_worker<'s, 'e: 's, R: Threads + Wait + Sync, G: Gate + Sync>(
 pub fn start_workers<'s, 'e: 's, R: Threads + Wait + Sync, G: Gate + Sync>(
     rt: &'e R,
     scope: &Scope<'s, &'e ()>,
-    handoff: &'e Handoff,
-    passes: Vec<Pass>,
-    policy: &'e Checked,
-    index: &'e RuleIndex,
-    directory: &'e Directory,
+    shared: Shared<'e>,
     gate: &'e G,
+    passes: Vec<Pass>,
     handles: &mut Vec<WorkerHandle>,
 ) -> bool
-    requires passes { All (λ p. p ≡ fresh handoff.now policy.now directory.now) passes.items }
+    requires passes { All (λ p. p ≡ fresh shared.handoff.now shared.policy.now shared.directory.now) passes.items }
     requires fresh { All (λ h. h.promise.before.value
-        ≡ fresh handoff.now policy.now directory.now) handles.old.items }
-    requires index { Indexes policy.now index.now }
+        ≡ fresh shared.handoff.now shared.policy.now shared.directory.now) handles.old.items }
+    requires index { Indexes shared.policy.now shared.index.now }
     requires room { vec_len handles.old + vec_len passes ≤ vec_capacity handles.old }
     ensures fresh { All (λ h. h.promise.before.value
-        ≡ fresh handoff.now policy.now directory.now) handles.new.items }
+        ≡ fresh shared.handoff.now shared.policy.now shared.directory.now) handles.new.items }
     ensures all { IsTrue result → vec_len handles.new ≡ vec_len handles.old + vec_len passes }
 {
     for pass in passes {
-        let Some(handle) = start_worker(rt, scope, handoff, pass, policy, index, directory, gate)
-        else {
+        let Some(handle) = start_worker(rt, scope, shared, gate, pass) else {
             return false;
         };
         let Ok(()) = handles.push(handle) else {
@@ -91,20 +82,18 @@ pub fn start_workers<'s, 'e: 's, R: Threads + Wait + Sync, G: Gate + Sync>(
 /// Joins the workers, and takes their passes back.
 pub fn join_workers<R: Threads + Wait>(
     rt: &R,
-    handoff: &Handoff,
-    policy: &Checked,
-    directory: &Directory,
+    shared: Shared<'_>,
     pass: &mut Pass,
     handles: Vec<WorkerHandle>,
 )
-    requires pass { pass.old.handoff ≡ handoff.now }
+    requires pass { pass.old.handoff ≡ shared.handoff.now }
     requires fresh { All (λ h. h.promise.before.value
-        ≡ fresh handoff.now policy.now directory.now) handles.items }
+        ≡ fresh shared.handoff.now shared.policy.now shared.directory.now) handles.items }
     ensures { (jobs : List Job) × (pass.new ≡ joined_workers
-        (names_of policy.now directory.now) pass.old (vec_len handles) jobs) }
+        (names_of shared.policy.now shared.directory.now) pass.old (vec_len handles) jobs) }
 {
     for handle in handles {
         let other = handle.join(rt);
-        pass.join(rt, handoff, other);
+        pass.join(rt, shared.handoff, other);
     }
 }

@@ -1,4 +1,5 @@
 pub mod Includes
+pub mod Kinds
 pub mod Words
 pub mod Members
 pub mod Openings

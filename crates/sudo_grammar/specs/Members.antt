@@ -16,7 +16,8 @@ use Rattle.sudo_grammar.specs.declared.fault.Expected.TheVariants as wants
 use Rattle.sudo_grammar.specs.declared.fault.Unsupported.TheVariants as forms
 use Rattle.sudo_grammar.specs.declared.fault.Refusal.{Refusal}
 use Rattle.sudo_grammar.specs.declared.fault.Refusal.TheVariants as refusals
-use Rattle.sudo_grammar.specs.Words.{bytes_of, is_plain, plain_word, is_name, is_digit}
+use Rattle.sudo_text.specs.Bytes.{is_digit}
+use Rattle.sudo_grammar.specs.Words.{bytes_of, is_plain, plain_word, is_name}
 
 -- what must stand in a list of a kind
 abbrev pub expected_in : Kind → Expected

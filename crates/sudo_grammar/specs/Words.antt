@@ -3,6 +3,7 @@
 use Rattle.std.specs.Prelude.{ℕ, Bool, false, not, ◌&&◌, ◌||◌, ◌==◌, nat_le, List, [], ◌∷◌, map, Option, None, Some, if◌then◌else◌, codes}
 use Rattle.std.specs.List.{list_all, list_any}
 use Rattle.std.specs.Str.{bytes_eq}
+use Rattle.sudo_text.specs.Bytes.{is_digit}
 use Rattle.sudo_text.specs.declared.token.Ch.{Ch}
 use Rattle.sudo_text.specs.declared.token.TokenKind.{TokenKind}
 use Rattle.sudo_text.specs.declared.token.TokenKind.TheVariants as tokens
@@ -26,9 +27,6 @@ plain_word _ = None
 
 abbrev pub is_upper : ℕ → Bool
 is_upper b = nat_le 65 b && nat_le b 90
-
-abbrev pub is_digit : ℕ → Bool
-is_digit b = nat_le 48 b && nat_le b 57
 
 -- an upper-case letter, a digit or an underscore
 abbrev pub is_name_byte : ℕ → Bool

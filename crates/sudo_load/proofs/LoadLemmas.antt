@@ -6,7 +6,7 @@ use Rattle.sudo_text.specs.declared.line.Place.{Place}
 use Rattle.sudo_load.specs.declared.fault.LoadFault.TheVariants as faults
 use Rattle.sudo_load.specs.declared.loading.Loaded.{Loaded}
 use Rattle.sudo_load.specs.declared.supply.Supply.{Supply}
-use Rattle.sudo_load.specs.Outcomes.{GivesBy}
+use Rattle.sudo_load.specs.Body.Outcomes.{GivesBy}
 use Rattle.sudo_load.specs.Paths.{in_folder}
 use Rattle.sudo_load.specs.Supplies.{supplied_file, supplied_folder}
 use Rattle.sudo_load.specs.Unfolding.{Refusal, Outcome, Inclusion, refused, with_folder, IfElse, SuppliedLoads, FileLoads, NamesLoad, FolderLoads, FilesLoad, IsFolderOrder}

@@ -27,7 +27,7 @@ use Rattle.sudo_load.specs.declared.loading.Loaded.{Loaded}
 use Rattle.sudo_load.specs.declared.supply.Supply.{Supply}
 use Rattle.sudo_load.specs.Files.{Reads}
 use Rattle.sudo_load.specs.Load.{IsLoad}
-use Rattle.sudo_load.specs.Fine.{placed_in, Fine}
+use Rattle.sudo_load.specs.Body.Fine.{placed_in, Fine}
 use Rattle.sudo_load.specs.Supplies.{supplied_file, supplied_folder}
 use Rattle.sudo_load.specs.Paths.{in_folder}
 use Rattle.sudo_load.specs.Unfolding.{Refusal, Outcome, Inclusion, with_file, with_folder, with_entry, Then, IfElse, FilesLoad, NamesLoad, FolderLoads, IncludeLoads, EntryLoadsBy, EntriesLoad, LinesLoad, TextLoads, SuppliedLoads, FileLoads, followed, nothing}

@@ -2,8 +2,7 @@ pub mod Paths
 pub mod Supplies
 pub mod Files
 pub mod Unfolding
-pub mod Outcomes
 pub mod Load
-pub mod Fine
 pub mod FaultFiles
 pub mod Included
+pub mod Body

@@ -2,9 +2,9 @@
 ghost use Rattle.std.specs.Prelude.{◌≡◌, ℕ, ◌≤◌, ◌<◌, ◌^◌, List, length, map, filter, IfOk, IfErr, Ok, []};
 ghost use Rattle.sudo_load.specs.Unfolding.{FileLoads, FilesLoad, FolderLoads, EntryLoads, EntriesLoad, TextLoads, nothing as spec_nothing, with_file as spec_with_file, with_entry as spec_with_entry};
 ghost use Rattle.sudo_parser.specs.Parsed.{over_limit};
-ghost use Rattle.sudo_load.specs.Outcomes.{GivesBy};
+ghost use Rattle.sudo_load.specs.Body.Outcomes.{GivesBy};
 ghost use Rattle.sudo_load.specs.Load.{Closes, LoadGives};
-ghost use Rattle.sudo_load.specs.Fine.{Fine};
+ghost use Rattle.sudo_load.specs.Body.Fine.{Fine};
 ghost use Rattle.sudo_load.specs.FaultFiles.{IsPlaced};
 
 use crate::fault::{LoadFault, Want};

@@ -4,7 +4,7 @@ use Rattle.std.specs.Prelude.{slice_get, option_map}
 use Rattle.sudo_text.specs.declared.token.Ch.{Ch}
 use Rattle.sudo_match.specs.Pattern.{Item, is_plain, has, item_of, items_after, bracket_after, Bracket}
 use Rattle.sudo_match.specs.declared.unclosed.Unclosed.{Unclosed}
-use Rattle.sudo_match.specs.Closing.{NeverCloses, Knows}
+use Rattle.sudo_match.specs.Body.Closing.{NeverCloses, Knows}
 use Rattle.sudo_match.proofs.ItemLemmas.{items_after-none, items_after-close, items_after-next}
 use Rattle.sudo_match.proofs.PartLemmas.{bracket-complement, bracket-plain}
 

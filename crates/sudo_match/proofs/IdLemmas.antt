@@ -4,7 +4,7 @@ use Rattle.std.specs.Prelude.{nat_eq}
 use Rattle.std.specs.Map.{lookup}
 use Rattle.indexmap.specs.IndexMap.{insert_entry}
 use Rattle.sudo_base.specs.Places.{place_of}
-use Rattle.sudo_match.specs.IdEntry.{bare}
+use Rattle.sudo_match.specs.Body.IdEntry.{bare}
 
 and-true : (b : Bool) → (b && true) ≡ b
 and-true true = refl

@@ -6,7 +6,7 @@ use Rattle.sudo_text.specs.declared.token.Ch.{Ch}
 use Rattle.sudo_match.specs.Pattern.{Item}
 use Rattle.sudo_match.specs.Pattern.{InClass}
 use Rattle.sudo_match.specs.Class.{Class}
-use Rattle.sudo_match.specs.Shown.{class_of, opened, known_classes, held_by}
+use Rattle.sudo_match.specs.Body.Shown.{class_of, opened, known_classes, held_by}
 use Rattle.sudo_match.specs.declared.patterns.Class as shown
 use Rattle.sudo_match.specs.Class.{class_name, classes}
 use Rattle.sudo_match.specs.Pattern.{is_byte, is_plain, has, begins, class_form, class_end, class_at, class_or, range_at, item_at, item_of, item_holds, items_after}

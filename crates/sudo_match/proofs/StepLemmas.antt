@@ -7,7 +7,7 @@ use Rattle.sudo_text.specs.declared.token.Ch.{Ch}
 use Rattle.sudo_match.specs.declared.patterns.Slash.{Slash}
 use Rattle.sudo_match.specs.Pattern.{is_plain, has, ByteSet, Only, AnyByte, Part, One, Star, bracket_after, bracket_or, part_at, part_of, parts, set_holds, part_holds, fits}
 use Rattle.sudo_match.specs.Reading.{is_free_byte}
-use Rattle.sudo_match.specs.Step.{Takes, IsStarred}
+use Rattle.sudo_match.specs.Body.Step.{Takes, IsStarred}
 use Rattle.sudo_match.proofs.CharsLemmas.{drop-some, drop-none, and-then, and-no}
 use Rattle.sudo_match.proofs.PartLemmas.{part_answer, part_of-at, part-star, part-any, part-bracket, part-byte, parts-next, parts-none}
 use Rattle.sudo_match.proofs.FitsLemmas.{later, fits-star, fits-one, fits-one-empty, fits-empty-some, fits-empty-empty, Reached, reached-start, reached-one, fits-star-again, later-back, later-not_free}

@@ -1,6 +1,8 @@
 -- POSIX character classes over ASCII, as in glob(7), and letters without case.
 use Rattle.std.specs.Prelude.{ℕ, map, Bool, ◌&&◌, ◌||◌, not, ◌==◌, nat_le, List, [], ◌∷◌, codes}
 use Rattle.std.specs.Char.{to_ascii_lowercase}
+use Rattle.sudo_text.specs.Bytes.{is_digit}
+use Rattle.sudo_grammar.specs.Words.{is_upper}
 
 -- a class, by its name
 pub data Class : Type 0 where
@@ -23,12 +25,6 @@ is_between low high b = nat_le low b && nat_le b high
 
 abbrev pub is_lower : ℕ → Bool
 is_lower = is_between 97 122
-
-abbrev pub is_upper : ℕ → Bool
-is_upper = is_between 65 90
-
-abbrev pub is_digit : ℕ → Bool
-is_digit = is_between 48 57
 
 abbrev pub is_alpha : ℕ → Bool
 is_alpha b = is_upper b || is_lower b

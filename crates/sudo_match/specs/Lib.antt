@@ -2,11 +2,8 @@ pub mod Class
 pub mod Pattern
 pub mod HostNames
 pub mod Reading
-pub mod Step
-pub mod Closing
 pub mod Matching
 pub mod Known
 pub mod Indexing
-pub mod IdEntry
-pub mod Shown
 pub mod Written
+pub mod Body

@@ -15,7 +15,7 @@ pub(crate) struct Ids {
 
 impl Model for Ids {
     ghost use Rattle.std.specs.Prelude.{List, ℕ, map};
-    ghost use Rattle.sudo_match.specs.IdEntry.{bare};
+    ghost use Rattle.sudo_match.specs.Body.IdEntry.{bare};
 
     ghost Value = { List (List ℕ × ℕ) };
 

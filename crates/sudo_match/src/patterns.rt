@@ -5,7 +5,7 @@ ghost use Rattle.std.specs.List.{list_any};
 ghost use Rattle.sudo_match.specs.Class as class;
 ghost use Rattle.sudo_match.specs.Class.{class_holds, class_name, lower_text, is_between, is_alpha, is_alnum};
 ghost use Rattle.sudo_match.specs.Pattern.{is_byte, is_plain, has, begins, item_holds, class_form, class_end, range_at, item_of, items_after, bracket_after, part_of, is_free, set_holds, part_holds, parts, path_chars, any_name, fits};
-ghost use Rattle.sudo_match.specs.Closing.{Knows};
+ghost use Rattle.sudo_match.specs.Body.Closing.{Knows};
 
 use crate::unclosed::Unclosed;
 use std::marker::Model;
@@ -73,7 +73,7 @@ fn is_xdigit(byte: u8) -> bool
 }
 
 impl Class {
-    ghost use Rattle.sudo_match.specs.Shown.{class_of};
+    ghost use Rattle.sudo_match.specs.Body.Shown.{class_of};
 
     fn holds(self, byte: u8) -> bool
         ensures { result ≡ class_holds (class_of self) byte }
@@ -245,8 +245,8 @@ fn is_plain(ch: Ch, byte: u8) -> bool
 
 impl<'a> Chars<'a> {
     ghost use Rattle.sudo_match.specs.Reading.{seen, read, text_of, follows_bracket};
-    ghost use Rattle.sudo_match.specs.Shown.{class_of, opened, held_by};
-    ghost use Rattle.sudo_match.specs.Step.{StepIs};
+    ghost use Rattle.sudo_match.specs.Body.Shown.{class_of, opened, held_by};
+    ghost use Rattle.sudo_match.specs.Body.Step.{StepIs};
 
     fn len(&self) -> usize
         ensures { result ≡ length (seen self.now) }

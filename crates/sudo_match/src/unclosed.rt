@@ -1,7 +1,7 @@
 //! What is known of brackets that nothing closes.
 
 ghost use Rattle.std.specs.Prelude.{List, ◌≡◌, true};
-ghost use Rattle.sudo_match.specs.Closing.{Knows};
+ghost use Rattle.sudo_match.specs.Body.Closing.{Knows};
 ghost use Rattle.sudo_text.specs.declared.token.Ch.{Ch};
 
 /// Of three places in a row, which are known to be such that a bracket with an item there is not closed. Three are enough:

@@ -11,14 +11,14 @@ use Rattle.sudo_grammar.specs.declared.fault.Expected.TheVariants as wants
 use Rattle.sudo_grammar.specs.declared.fault.Refusal.TheVariants as refusals
 use Rattle.sudo_parser.specs.declared.stops.Stopped.{Stopped}
 use Rattle.sudo_parser.specs.declared.stops.Stopped.TheVariants as stops
-use Rattle.sudo_parser.specs.Stops.{Stops, IsNotNext}
+use Rattle.sudo_parser.specs.Body.Stops.{Stops, IsNotNext}
 use Rattle.sudo_grammar.specs.Reading.{reading}
 use Rattle.sudo_parser.proofs.Steps.{reading-step, reading-stuck, stops-here, stops-same}
 use Rattle.sudo_grammar.specs.declared.policy.Operator.{Operator}
 use Rattle.sudo_grammar.specs.Openings.{is_word, operator_of}
 use Rattle.sudo_grammar.specs.Places.{AtParameter, AfterSwitch, AtValue, Room, at_parameter, after_switch, at_operator, at_value}
-use Rattle.sudo_parser.specs.Lists.{ReadsBangs}
-use Rattle.sudo_parser.specs.Defaults.{IsWordNext, IsNoWordNext, IsWordMissing, IsOperatorNext, IsPast, ReadsParameter, StopsInParameter}
+use Rattle.sudo_parser.specs.Body.Lists.{ReadsBangs}
+use Rattle.sudo_parser.specs.Body.Defaults.{IsWordNext, IsNoWordNext, IsWordMissing, IsOperatorNext, IsPast, ReadsParameter, StopsInParameter}
 
 parameter-none : (b : Option Binding) (d : List Parameter) (n : ℕ) (t : Token) (k : TokenKind)
     → (k ≡ tokens.Mark marks.Bang → ⊥) → is_word k ≡ false → at_parameter b d n t k ≡ None

@@ -2,7 +2,7 @@
 use Rattle.std.proofs.lemmas.List.{drop_all}
 use Rattle.std.proofs.Common.{get_or, drop-cons, add-one, le-ltb, lt-ltb, cond, ◌≡◌, ℕ, ◌+◌, ◌-◌, ◌*◌, ◌≤◌, ◌<◌, List, [], ◌∷◌, length, drop, refl, ap, ◌∙◌, arith, None, Some, true, false, Bool}
 use Rattle.std.specs.List.{list_all}
-use Rattle.sudo_grammar.specs.Words.{is_digit}
+use Rattle.sudo_text.specs.Bytes.{is_digit}
 use Rattle.sudo_grammar.specs.Members.{decimal_after, number_of, in_range}
 
 -- the value of the bytes is that of those after the first i, on top of a value; and so is whether all are digits

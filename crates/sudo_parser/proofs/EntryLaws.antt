@@ -11,8 +11,8 @@ use Rattle.sudo_grammar.specs.Faults.{WritesWithin}
 use Rattle.sudo_grammar.proofs.Complete.{entry-read}
 use Rattle.sudo_grammar.proofs.OneFault.{read-within}
 use Rattle.sudo_grammar.proofs.Stops.{leftmost}
-use Rattle.sudo_parser.specs.Stops.{GivesEntry}
-use Rattle.sudo_parser.specs.Faults.{IsFaultOf}
+use Rattle.sudo_parser.specs.Body.Stops.{GivesEntry}
+use Rattle.sudo_parser.specs.Body.Faults.{IsFaultOf}
 
 pub entry-written : (room : Room) (ts : List Token) (r : Result EntryBody Stopped)
     → GivesEntry r (reading room Start ts) → IfOk r (λ e. WritesWithin room e ts)

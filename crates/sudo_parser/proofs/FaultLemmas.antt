@@ -9,7 +9,7 @@ use Rattle.sudo_grammar.specs.declared.fault.ParseFault.{ParseFault}
 use Rattle.sudo_parser.specs.declared.stops.Stopped.TheVariants as stops
 use Rattle.sudo_grammar.specs.Places.{Room}
 use Rattle.sudo_grammar.specs.Faults.{WritesWithin}
-use Rattle.sudo_parser.specs.Faults.{IsFaultOf}
+use Rattle.sudo_parser.specs.Body.Faults.{IsFaultOf}
 use Rattle.sudo_parser.specs.Parsed.{column, fault_at, IsLineFault, Says}
 use Rattle.std.proofs.Common.{Some}
 use Rattle.sudo_grammar.specs.declared.policy.EntryBody.{EntryBody}

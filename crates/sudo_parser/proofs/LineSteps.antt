@@ -1,7 +1,7 @@
 -- The steps of the first token of a line, as the parser takes them.
 use Rattle.std.proofs.Common.{◌≡◌, ℕ, ◌+◌, List, [], ◌∷◌, length, refl, ap, sym, ◌∙◌, subst, cond, Bool, true, false, Option, Result, arith}
 use Rattle.std.specs.Prelude.{not, ◌==◌}
-use Rattle.sudo_parser.specs.Openings.{IsInclude}
+use Rattle.sudo_parser.specs.Body.Openings.{IsInclude}
 use Rattle.sudo_text.specs.declared.token.Ch.{Ch}
 use Rattle.sudo_text.specs.declared.token.Token.{Token}
 use Rattle.sudo_text.specs.declared.token.TokenKind.{TokenKind}
@@ -12,7 +12,7 @@ use Rattle.sudo_grammar.specs.declared.fault.Refusal.TheVariants as refusals
 use Rattle.sudo_grammar.specs.declared.fault.Unsupported.TheVariants as forms
 use Rattle.sudo_parser.specs.declared.stops.Stopped.{Stopped}
 use Rattle.sudo_parser.specs.declared.stops.Stopped.TheVariants as stops
-use Rattle.sudo_parser.specs.Stops.{Stops, GivesEntry}
+use Rattle.sudo_parser.specs.Body.Stops.{Stops, GivesEntry}
 use Rattle.sudo_grammar.specs.Reading.{reading}
 use Rattle.sudo_parser.proofs.Steps.{reading-step, reading-stuck, reading-same, stops-here, stops-same}
 use Rattle.sudo_grammar.specs.Openings.{Directive, BadDirective, Other, opening_of, has_host_escape}

@@ -25,9 +25,9 @@ use Rattle.sudo_grammar.specs.Openings.{is_mark, is_equal_mark, spells}
 use Rattle.sudo_grammar.specs.Places.{Purpose, Defines, Users, Hosts, RunasUsers, RunasGroups, Binds, kind_for, Place, Item, AfterItem, Room, at_item, after_item, member_place, after_member}
 use Rattle.sudo_grammar.specs.Refusals.{is_option, or_option, last_command, refused_atom, refused_after}
 use Rattle.sudo_grammar.specs.Reading.{reading}
-use Rattle.sudo_parser.specs.Gives.{Declines}
-use Rattle.sudo_parser.specs.Stops.{IsMark, IsNext, IsNotNext}
-use Rattle.sudo_parser.specs.Lists.{ReadsBangs, command_in, IsShut, Takes, declined_as, option_begins, StopsAtMember, StopsInItem, ReadsItem, ReadsToItem, ReadsItems, StopsInItems}
+use Rattle.sudo_parser.specs.Body.Gives.{Declines}
+use Rattle.sudo_parser.specs.Body.Stops.{IsMark, IsNext, IsNotNext}
+use Rattle.sudo_parser.specs.Body.Lists.{ReadsBangs, command_in, IsShut, Takes, declined_as, option_begins, StopsAtMember, StopsInItem, ReadsItem, ReadsToItem, ReadsItems, StopsInItems}
 use Rattle.sudo_parser.proofs.Steps.{reading-step, reading-stuck, reading-mark, stops-here, stops-same, IsNext-less}
 
 declined-here : (kind : Kind) (bangs : ℕ) (t : Token) (ts : List Token) (e : Declined) → (IsMark marks.Bang t → ⊥)

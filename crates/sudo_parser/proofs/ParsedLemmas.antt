@@ -13,7 +13,8 @@ use Rattle.sudo_grammar.specs.declared.policy.Definition.{Definition}
 use Rattle.sudo_grammar.specs.declared.policy.EntryBody.{EntryBody}
 use Rattle.sudo_grammar.specs.declared.policy.EntryBody.TheVariants as bodies
 use Rattle.sudo_grammar.specs.declared.fault.ParseFault.{ParseFault}
-use Rattle.sudo_parser.specs.Limits.{same_kind, defined, less}
+use Rattle.sudo_grammar.specs.Kinds.{same_kind}
+use Rattle.sudo_parser.specs.Limits.{defined, less}
 use Rattle.sudo_grammar.specs.Places.{Room}
 use Rattle.sudo_parser.specs.Parsed.{room_after, Says, entry_of, AreEntriesAfter, AreEntries, IsLineFault, IsFirstFaultAfter, IsFirstFault, Adds, fits, over_limit_from}
 

@@ -19,7 +19,7 @@ use Rattle.sudo_grammar.specs.declared.fault.Refusal.{Refusal}
 use Rattle.sudo_grammar.specs.declared.fault.Refusal.TheVariants as refusals
 use Rattle.sudo_grammar.specs.declared.fault.Unsupported.TheVariants as forms
 use Rattle.sudo_parser.specs.declared.stops.Stopped.{Stopped}
-use Rattle.sudo_parser.specs.Stops.{Stops, IsNext, IsNotNext}
+use Rattle.sudo_parser.specs.Body.Stops.{Stops, IsNext, IsNotNext}
 use Rattle.sudo_grammar.specs.Reading.{reading}
 use Rattle.sudo_parser.proofs.Steps.{reading-stuck, reading-same, stops-same, not-head}
 use Rattle.sudo_grammar.specs.Words.{tag_of}
@@ -27,9 +27,9 @@ use Rattle.sudo_grammar.specs.Members.{atom_of}
 use Rattle.sudo_grammar.specs.Forms.{as_tag}
 use Rattle.sudo_grammar.specs.Places.{Granting, Users, Hosts, Item, AfterItem, Command, AfterCommand, Room, at_item, after_item, at_command, command_place, at_paren, after_command}
 use Rattle.sudo_grammar.specs.Refusals.{is_option}
-use Rattle.sudo_parser.specs.Lists.{Takes, IsShut, ReadsItem, StopsInItem, ReadsItems}
-use Rattle.sudo_parser.specs.Runas.{ReadsRunas}
-use Rattle.sudo_parser.specs.Rules.{IsNoTagNext, ReadsTags, ReadsSpec, StopsInSpec, ReadsSections, StopsInSections}
+use Rattle.sudo_parser.specs.Body.Lists.{Takes, IsShut, ReadsItem, StopsInItem, ReadsItems}
+use Rattle.sudo_parser.specs.Body.Runas.{ReadsRunas}
+use Rattle.sudo_parser.specs.Body.Rules.{IsNoTagNext, ReadsTags, ReadsSpec, StopsInSpec, ReadsSections, StopsInSections}
 use Rattle.sudo_parser.proofs.ListSteps.{option-equals, option-some}
 
 -- a token that stands for an atom is taken as that command

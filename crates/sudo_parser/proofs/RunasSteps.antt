@@ -10,12 +10,12 @@ use Rattle.sudo_grammar.specs.declared.fault.Expected.TheVariants as wants
 use Rattle.sudo_grammar.specs.declared.fault.Refusal.TheVariants as refusals
 use Rattle.sudo_parser.specs.declared.stops.Stopped.{Stopped}
 use Rattle.sudo_parser.specs.declared.stops.Stopped.TheVariants as stops
-use Rattle.sudo_parser.specs.Stops.{Stops, IsMark, IsNext, IsNotNext}
+use Rattle.sudo_parser.specs.Body.Stops.{Stops, IsMark, IsNext, IsNotNext}
 use Rattle.sudo_grammar.specs.Reading.{reading}
 use Rattle.sudo_parser.proofs.Steps.{reading-mark, reading-same, stops-same, stops-always, not-head, IsNext-less}
 use Rattle.sudo_grammar.specs.Places.{Granting, RunasUsers, RunasGroups, RunasStart, GroupsStart, Item, AfterItem, Room, after_runas, at_runas, at_groups, at_item, after_item, step}
-use Rattle.sudo_parser.specs.Lists.{StopsInItems}
-use Rattle.sudo_parser.specs.Runas.{users_place, EndsUsers, ReadsUsers, StopsInUsers, groups_place, EndsGroups, ReadsGroups, StopsInGroups, ReadsLists}
+use Rattle.sudo_parser.specs.Body.Lists.{StopsInItems}
+use Rattle.sudo_parser.specs.Body.Runas.{users_place, EndsUsers, ReadsUsers, StopsInUsers, groups_place, EndsGroups, ReadsGroups, StopsInGroups, ReadsLists}
 
 users-first : (g : Granting) (t : Token) (k : TokenKind) → (k ≡ tokens.Mark marks.Colon → ⊥)
     → (k ≡ tokens.Mark marks.RightParen → ⊥) → at_runas g t k ≡ at_item (RunasUsers g) 0 [] t k

@@ -10,7 +10,7 @@ use Rattle.sudo_parser.specs.declared.stops.Stopped.TheVariants as stops
 use Rattle.sudo_grammar.specs.Places.{Place, Room, step, ended}
 use Rattle.sudo_grammar.specs.Refusals.{refused_at}
 use Rattle.sudo_grammar.specs.Reading.{Stop, stop_at, entry_or_stop, reading}
-use Rattle.sudo_parser.specs.Stops.{Stops, IsMark, IsNext, IsNotNext}
+use Rattle.sudo_parser.specs.Body.Stops.{Stops, IsMark, IsNext, IsNotNext}
 
 -- one token is read by one step
 pub reading-step : (room : Room) (place next : Place) (t : Token) (ts : List Token) → step room place t ≡ Some next

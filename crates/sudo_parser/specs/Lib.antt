@@ -1,12 +1,4 @@
-pub mod Gives
-pub mod Stops
-pub mod Lists
-pub mod Aliases
-pub mod Runas
-pub mod Rules
-pub mod Defaults
-pub mod Openings
 pub mod Limits
 pub mod Texts
-pub mod Faults
 pub mod Parsed
+pub mod Body

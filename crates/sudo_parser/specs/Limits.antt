@@ -1,9 +1,10 @@
 -- The limit of definitions.
-use Rattle.std.specs.Prelude.{ℕ, ◌-◌, Bool, true, false, length, if◌then◌else◌}
+use Rattle.std.specs.Prelude.{ℕ, ◌-◌, length, if◌then◌else◌}
 use Rattle.sudo_grammar.specs.declared.kind.Kind.{Kind}
 use Rattle.sudo_grammar.specs.declared.kind.Kind.TheVariants as kinds
 use Rattle.sudo_grammar.specs.declared.policy.EntryBody.{EntryBody}
 use Rattle.sudo_grammar.specs.declared.policy.EntryBody.TheVariants as bodies
+use Rattle.sudo_grammar.specs.Kinds.{same_kind}
 use Rattle.sudo_parser.specs.declared.room.Room.{Room}
 
 -- how many definitions of a kind may still come
@@ -12,13 +13,6 @@ room_of room kinds.User = room.user
 room_of room kinds.Runas = room.runas
 room_of room kinds.Host = room.host
 room_of room kinds.Cmnd = room.cmnd
-
-abbrev pub same_kind : Kind → Kind → Bool
-same_kind kinds.User kinds.User = true
-same_kind kinds.Runas kinds.Runas = true
-same_kind kinds.Host kinds.Host = true
-same_kind kinds.Cmnd kinds.Cmnd = true
-same_kind _ _ = false
 
 -- how many aliases of a kind a line defines
 abbrev pub defined : Kind → EntryBody → ℕ

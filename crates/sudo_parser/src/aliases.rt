@@ -2,8 +2,8 @@
 ghost use Rattle.std.specs.Prelude.{◌≡◌, ◌^◌, ◌<◌, [], length, IfOk, IfErr};
 ghost use Rattle.sudo_grammar.specs.Places.{Room, AliasName};
 ghost use Rattle.sudo_grammar.specs.Reading.{reading};
-ghost use Rattle.sudo_parser.specs.Stops.{GivesEntry};
-ghost use Rattle.sudo_parser.specs.Aliases.{ReadsName, StopsInName, ReadsDefinition, StopsInDefinition};
+ghost use Rattle.sudo_parser.specs.Body.Stops.{GivesEntry};
+ghost use Rattle.sudo_parser.specs.Body.Aliases.{ReadsName, StopsInName, ReadsDefinition, StopsInDefinition};
 
 use crate::lists::members;
 use crate::stops::{Stopped, wants};

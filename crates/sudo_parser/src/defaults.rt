@@ -3,8 +3,8 @@ ghost use Rattle.std.specs.Prelude.{◌≡◌, ◌^◌, ◌<◌, ◌==◌, lengt
 ghost use Rattle.sudo_grammar.specs.Openings.{is_direct, kind_of_mark, operator_of};
 ghost use Rattle.sudo_grammar.specs.Places.{Room, DefaultsStart, bound_to};
 ghost use Rattle.sudo_grammar.specs.Reading.{reading};
-ghost use Rattle.sudo_parser.specs.Stops.{GivesEntry};
-ghost use Rattle.sudo_parser.specs.Defaults.{ReadsBinding, StopsInBinding, IsWordNext, IsWordMissing, IsOperatorNext, IsNoOperatorNext, ReadsParameter, StopsInParameter, ReadsParameters, StopsInParameters};
+ghost use Rattle.sudo_parser.specs.Body.Stops.{GivesEntry};
+ghost use Rattle.sudo_parser.specs.Body.Defaults.{ReadsBinding, StopsInBinding, IsWordNext, IsWordMissing, IsOperatorNext, IsNoOperatorNext, ReadsParameter, StopsInParameter, ReadsParameters, StopsInParameters};
 
 use crate::lists::members;
 use crate::stops::{Stopped, wants};

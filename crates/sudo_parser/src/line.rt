@@ -10,10 +10,10 @@ ghost use Rattle.sudo_grammar.specs.Places.{Start};
 ghost use Rattle.sudo_grammar.specs.Reading.{reading};
 ghost use Rattle.sudo_grammar.specs.Faults.{WritesWithin};
 ghost use Rattle.sudo_grammar.specs.declared.policy.EntryBody.{EntryBody};
-ghost use Rattle.sudo_parser.specs.Stops.{GivesEntry};
-ghost use Rattle.sudo_parser.specs.Openings.{opened, IsInclude};
+ghost use Rattle.sudo_parser.specs.Body.Stops.{GivesEntry};
+ghost use Rattle.sudo_parser.specs.Body.Openings.{opened, IsInclude};
 ghost use Rattle.sudo_parser.specs.Limits.{room_of};
-ghost use Rattle.sudo_parser.specs.Faults.{IsFaultOf};
+ghost use Rattle.sudo_parser.specs.Body.Faults.{IsFaultOf};
 
 use crate::aliases::aliases;
 use crate::defaults::defaults;

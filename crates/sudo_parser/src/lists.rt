@@ -1,8 +1,8 @@
 //! Lists of members.
 ghost use Rattle.std.specs.Prelude.{◌≡◌, ◌^◌, ◌<◌, length, IfOk, IfErr};
 ghost use Rattle.sudo_grammar.specs.Refusals as refusals;
-ghost use Rattle.sudo_parser.specs.Stops.{IsNotNext};
-ghost use Rattle.sudo_parser.specs.Lists.{option_begins, IsTaken, StopsAtMember, ReadsItem, StopsInItem, ReadsItems, StopsInItems, declined_as};
+ghost use Rattle.sudo_parser.specs.Body.Stops.{IsNotNext};
+ghost use Rattle.sudo_parser.specs.Body.Lists.{option_begins, IsTaken, StopsAtMember, ReadsItem, StopsInItem, ReadsItems, StopsInItems, declined_as};
 
 use crate::members::{Declined, atom, expected};
 use crate::stops::{Stopped, wants};

@@ -2,7 +2,7 @@
 ghost use Rattle.std.specs.Prelude.{◌≡◌, ◌<◌, length, position, IfSome, ◌==◌};
 ghost use Rattle.std.specs.Option.{option_map};
 ghost use Rattle.std.specs.List.{list_all};
-ghost use Rattle.sudo_grammar.specs.Words.{is_digit};
+ghost use Rattle.sudo_text.specs.Bytes.{is_digit};
 ghost use Rattle.sudo_grammar.specs.Members.{number_of, cut_at, groups_of, address_of, mask_of, joined, is_octet, octet_of, mask_of_bits};
 
 use sudo_grammar::Refusal;

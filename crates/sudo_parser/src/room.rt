@@ -17,7 +17,8 @@ pub(crate) struct Room {
 
 impl Room {
     ghost use Rattle.std.specs.Prelude.{[], IsTrue, ◌≤◌, ◌-◌, if◌then◌else◌};
-    ghost use Rattle.sudo_parser.specs.Limits.{room_of, less, same_kind};
+    ghost use Rattle.sudo_grammar.specs.Kinds.{same_kind};
+    ghost use Rattle.sudo_parser.specs.Limits.{room_of, less};
     ghost use Rattle.sudo_parser.specs.Parsed.{room_after, fits};
     ghost use Rattle.sudo_grammar.specs.Faults.{HasRoom};
 

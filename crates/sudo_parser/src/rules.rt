@@ -2,8 +2,8 @@
 ghost use Rattle.std.specs.Prelude.{◌≡◌, ◌^◌, ◌<◌, [], length, IfOk, IfErr, MatchOption};
 ghost use Rattle.sudo_grammar.specs.Places.{Room, Users, Item};
 ghost use Rattle.sudo_grammar.specs.Reading.{reading};
-ghost use Rattle.sudo_parser.specs.Stops.{GivesEntry};
-ghost use Rattle.sudo_parser.specs.Rules.{IsTagNext, IsNoTagNext, ReadsTags, ReadsSpec, StopsInSpec, ReadsSpecs, StopsInSpecs, ReadsSection, StopsInSection, ReadsSections, StopsInSections};
+ghost use Rattle.sudo_parser.specs.Body.Stops.{GivesEntry};
+ghost use Rattle.sudo_parser.specs.Body.Rules.{IsTagNext, IsNoTagNext, ReadsTags, ReadsSpec, StopsInSpec, ReadsSpecs, StopsInSpecs, ReadsSection, StopsInSection, ReadsSections, StopsInSections};
 
 use crate::lists::{item, members};
 use crate::runas::runas;

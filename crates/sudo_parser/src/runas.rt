@@ -1,6 +1,6 @@
 //! What stands between parentheses before a command: whom it may be run as.
 ghost use Rattle.std.specs.Prelude.{◌≡◌, ◌^◌, ◌<◌, length, IfOk, IfErr};
-ghost use Rattle.sudo_parser.specs.Runas.{ReadsUsers, StopsInUsers, ReadsGroups, StopsInGroups, ReadsLists, ReadsRunas, StopsInRunas};
+ghost use Rattle.sudo_parser.specs.Body.Runas.{ReadsUsers, StopsInUsers, ReadsGroups, StopsInGroups, ReadsLists, ReadsRunas, StopsInRunas};
 
 use crate::lists::members;
 use crate::stops::{Stopped, wants};

@@ -1,8 +1,8 @@
 //! The tokens that come next.
 ghost use Rattle.std.specs.Prelude.{◌≡◌, ◌^◌, ◌<◌, ◌↔◌, false, [], ◌∷◌, length, IfOk, IsTrue, MatchOption};
 ghost use Rattle.sudo_grammar.specs.Refusals as refusals;
-ghost use Rattle.sudo_parser.specs.Stops.{IsMark, IsNotNext, IsNext};
-ghost use Rattle.sudo_parser.specs.Lists.{ReadsBangs};
+ghost use Rattle.sudo_parser.specs.Body.Stops.{IsMark, IsNotNext, IsNext};
+ghost use Rattle.sudo_parser.specs.Body.Lists.{ReadsBangs};
 
 use std::alloc::AllocError;
 use sudo_text::{Mark, Token, TokenKind};

@@ -7,8 +7,8 @@ use Rattle.std.proofs.lemmas.List.Elements.{Contains-append_cases}
 use Rattle.sudo_policy.specs.declared.graph.Measure.{Measure}
 use Rattle.sudo_policy.specs.declared.graph.State.{State}
 use Rattle.sudo_policy.specs.declared.graph.State.TheVariants.{New, Open, Done, Looped}
-use Rattle.sudo_policy.specs.Graph.{Links, Edge, Path, step, more, ReachesCycle, beside, deeper, link_measure, row_measure, measure_within, MarksOf, StateHolds, StatesHold, IsSettled, is_looped}
-use Rattle.sudo_policy.specs.Marking.{IsMarked, IsUnmarked, AreSet, PathPast, TurnedTo, IsWhole, Decided}
+use Rattle.sudo_policy.specs.Body.Graph.{Links, Edge, Path, step, more, ReachesCycle, beside, deeper, link_measure, row_measure, measure_within, MarksOf, StateHolds, StatesHold, IsSettled, is_looped}
+use Rattle.sudo_policy.specs.Body.Marking.{IsMarked, IsUnmarked, AreSet, PathPast, TurnedTo, IsWhole, Decided}
 use Rattle.sudo_policy.proofs.FollowingLemmas.{joined_parts, option_map_some}
 use Rattle.sudo_policy.proofs.GraphLemmas.{Path-edge, Path-path}
 use Rattle.sudo_policy.proofs.MarkingLemmas.{one_in, none_in, marked_or_not, marked_more, AreSet-kept, AreSet-cases}

@@ -14,9 +14,9 @@ use Rattle.sudo_policy.specs.declared.index.Index.{Index}
 use Rattle.sudo_policy.specs.declared.survey.Survey.{Survey}
 use Rattle.sudo_policy.specs.Definitions.{Defined, Listed, aliases, repeats, definitions, lists, alias_named, names_used, in_force, defines}
 use Rattle.sudo_policy.specs.Found.{Marks, AreFindings, has_error, found_by, finding_on, undefined_in, IsCyclic, IsTooDeep, IsTooWide, IsUnused}
-use Rattle.sudo_policy.specs.Graph.{Links, Path, IsClosed, IsInside, IsReached, MarksOf, StatesHold, IsSettled}
-use Rattle.sudo_policy.specs.Judgement.{is_deep, is_wide, IsJudged, found_in, missing_in, atom_missing}
-use Rattle.sudo_policy.specs.Named.{named_view, row_of, row_of_alias, granting_row, link_of, IsSurvey, LeadsInside}
+use Rattle.sudo_policy.specs.Body.Graph.{Links, Path, IsClosed, IsInside, IsReached, MarksOf, StatesHold, IsSettled}
+use Rattle.sudo_policy.specs.Body.Judgement.{is_deep, is_wide, IsJudged, found_in, missing_in, atom_missing}
+use Rattle.sudo_policy.specs.Body.Named.{named_view, row_of, row_of_alias, granting_row, link_of, IsSurvey, LeadsInside}
 use Rattle.sudo_policy.specs.Positions.{names_of}
 use Rattle.std.proofs.lemmas.Option.{slice_get-map}
 use Rattle.sudo_policy.proofs.FollowingLemmas.{option_map_some}

@@ -2,7 +2,7 @@
 use Rattle.std.proofs.Common.{◌≡◌, ℕ, zero, suc, ◌+◌, List, [], ◌∷◌, Option, None, Some, refl, sym, ◌∙◌, ap, subst, arith, inl, inr, ◌⊎◌}
 use Rattle.std.specs.Prelude.{option_and_then, option_map, slice_get}
 use Rattle.sudo_policy.specs.declared.graph.Measure.{Measure}
-use Rattle.sudo_policy.specs.Graph.{Links, Edge, Path, step, more, ReachesCycle, beside, deeper, one_member, no_member, link_measure, row_measure, measure_within, Measures}
+use Rattle.sudo_policy.specs.Body.Graph.{Links, Edge, Path, step, more, ReachesCycle, beside, deeper, one_member, no_member, link_measure, row_measure, measure_within, Measures}
 use Rattle.sudo_policy.proofs.FollowingLemmas.{joined_parts, joined_from, option_map_some}
 
 -- a measure stays, where definitions have as much and more

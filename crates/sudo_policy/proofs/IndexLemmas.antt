@@ -4,7 +4,7 @@ use Rattle.std.specs.Prelude.{slice_get, option_map, option_and_then}
 use Rattle.sudo_grammar.specs.declared.policy.Policy.{Policy}
 use Rattle.sudo_policy.specs.declared.survey.Survey.{Survey}
 use Rattle.sudo_policy.specs.Definitions.{Defined, definitions}
-use Rattle.sudo_policy.specs.Named.{IsSurvey, named_view}
+use Rattle.sudo_policy.specs.Body.Named.{IsSurvey, named_view}
 use Rattle.sudo_policy.specs.Positions.{IsIndex, members_at, names_of}
 use Rattle.sudo_base.specs.Places.{place_of}
 

@@ -12,9 +12,9 @@ use Rattle.sudo_policy.specs.declared.index.Position.{Position}
 use Rattle.sudo_policy.specs.Definitions.{Defined, definitions}
 use Rattle.sudo_policy.specs.Following.{ReadsAs, depth, width}
 use Rattle.sudo_policy.specs.Found.{Marks, IsCyclic, IsTooDeep, IsTooWide, IsUnused}
-use Rattle.sudo_policy.specs.Graph.{Links, Path, ReachesCycle, Measures, StateHolds, StatesHold, IsSettled, MarksOf, IsReached}
-use Rattle.sudo_policy.specs.Judgement.{is_deep, is_wide}
-use Rattle.sudo_policy.specs.Named.{IsIndexed}
+use Rattle.sudo_policy.specs.Body.Graph.{Links, Path, ReachesCycle, Measures, StateHolds, StatesHold, IsSettled, MarksOf, IsReached}
+use Rattle.sudo_policy.specs.Body.Judgement.{is_deep, is_wide}
+use Rattle.sudo_policy.specs.Body.Named.{IsIndexed}
 use Rattle.sudo_policy.proofs.CycleLemmas.{no_measure, on_cycle_inside}
 use Rattle.sudo_policy.proofs.FollowingLemmas.{reading_same, option_map_some}
 use Rattle.sudo_policy.proofs.LinkLemmas.{graph, roots, cyclic_is, reached_used, used_reached}

@@ -10,8 +10,8 @@ use Rattle.sudo_grammar.specs.declared.policy.Policy.{Policy}
 use Rattle.sudo_policy.specs.declared.index.Position.{Position}
 use Rattle.sudo_policy.specs.Definitions.{Defined, Listed, defines, definitions, in_force, alias_named, names_used, Refers, Reaches, step as one_step, more as more_steps, lists}
 use Rattle.sudo_policy.specs.Found.{IsCyclic, IsUsed}
-use Rattle.sudo_policy.specs.Graph.{Links, Edge, Path, step, more, IsReached, IsInside}
-use Rattle.sudo_policy.specs.Named.{IsIndexed, link_among}
+use Rattle.sudo_policy.specs.Body.Graph.{Links, Edge, Path, step, more, IsReached, IsInside}
+use Rattle.sudo_policy.specs.Body.Named.{IsIndexed, link_among}
 use Rattle.sudo_policy.proofs.MarkingLemmas.{none_in, one_in, is_one}
 use Rattle.sudo_policy.proofs.MeasureLemmas.{find_passes}
 use Rattle.sudo_policy.proofs.StateLemmas.{get_within, within_get}

@@ -3,8 +3,8 @@ use Rattle.std.proofs.Common.{◌≡◌, ℕ, zero, suc, ◌+◌, ◌<◌, Bool,
 use Rattle.std.specs.Prelude.{slice_get, Contains}
 use Rattle.std.proofs.lemmas.Option.{slice_get-get_or}
 use Rattle.std.proofs.lemmas.List.Elements.{Contains-get_or, Contains-append_left, Contains-append_right, Contains-append_cases, Contains-push, Contains-push_cases}
-use Rattle.sudo_policy.specs.Graph.{Links, Edge, IsInside, IsClosed}
-use Rattle.sudo_policy.specs.Marking.{IsMarked, IsUnmarked, unmarked, Marked, AreSet, RowTurned, TurnedTo}
+use Rattle.sudo_policy.specs.Body.Graph.{Links, Edge, IsInside, IsClosed}
+use Rattle.sudo_policy.specs.Body.Marking.{IsMarked, IsUnmarked, unmarked, Marked, AreSet, RowTurned, TurnedTo}
 use Rattle.sudo_policy.proofs.StateLemmas.{get_set_same, get_set_other, get_set_cases, get_within, within_get, length_set, same_or_not}
 
 -- ---- Elements

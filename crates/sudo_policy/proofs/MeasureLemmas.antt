@@ -9,8 +9,8 @@ use Rattle.sudo_grammar.specs.declared.kind.Member.{Member}
 use Rattle.sudo_grammar.specs.declared.policy.Policy.{Policy}
 use Rattle.sudo_policy.specs.Definitions.{Defined, defines, definitions, in_force, alias_named}
 use Rattle.sudo_policy.specs.Following.{joined, member_reading, list_reading, reading_within, definition_of_member}
-use Rattle.sudo_policy.specs.Graph.{Links, beside, deeper, measured, link_measure, row_measure, measure_within}
-use Rattle.sudo_policy.specs.Named.{IsIndexed, link_among}
+use Rattle.sudo_policy.specs.Body.Graph.{Links, beside, deeper, measured, link_measure, row_measure, measure_within}
+use Rattle.sudo_policy.specs.Body.Named.{IsIndexed, link_among}
 use Rattle.sudo_base.specs.Places.{place_of}
 use Rattle.sudo_policy.proofs.StateLemmas.{get_within}
 use Rattle.sudo_policy.proofs.SurveyLemmas.{defines-same}

@@ -2,8 +2,8 @@
 use Rattle.std.proofs.Common.{◌≡◌, ℕ, ◌<◌, Bool, true, false, List, [], ◌∷◌, ◌++◌, length, Option, Some, refl, sym, ◌∙◌, ap, subst, arith, inl, inr, ◌⊎◌}
 use Rattle.std.specs.Prelude.{slice_get, Contains}
 use Rattle.std.proofs.lemmas.List.Elements.{Contains-append_left, Contains-push, Contains-push_cases}
-use Rattle.sudo_policy.specs.Graph.{Links, Edge, Path, step, more, IsReached, IsInside, IsClosed, MarksOf}
-use Rattle.sudo_policy.specs.Marking.{IsMarked, IsUnmarked, Marked, AreSet, PathPast, last, next, ReachedPast}
+use Rattle.sudo_policy.specs.Body.Graph.{Links, Edge, Path, step, more, IsReached, IsInside, IsClosed, MarksOf}
+use Rattle.sudo_policy.specs.Body.Marking.{IsMarked, IsUnmarked, Marked, AreSet, PathPast, last, next, ReachedPast}
 use Rattle.sudo_policy.proofs.StateLemmas.{get_within, within_get}
 use Rattle.sudo_policy.proofs.MarkingLemmas.{none_in, row_of, unmarked_before}
 

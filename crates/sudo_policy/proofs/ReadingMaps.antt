@@ -6,7 +6,7 @@ use Rattle.sudo_policy.specs.declared.graph.Measure.{Measure}
 use Rattle.sudo_grammar.specs.declared.kind.Member.{Member}
 use Rattle.sudo_grammar.specs.declared.policy.Policy.{Policy}
 use Rattle.sudo_policy.specs.Following.{Reading, joined, member_reading, list_reading, reading_within, definition_of_member, depth, width}
-use Rattle.sudo_policy.specs.Graph.{beside, deeper, measured}
+use Rattle.sudo_policy.specs.Body.Graph.{beside, deeper, measured}
 use Rattle.sudo_policy.proofs.FollowingLemmas.{option_map_some}
 
 module _ {R S : Type 0} (g : Reading R) (k : Reading S) (h : R → S)

@@ -7,7 +7,7 @@ use Rattle.sudo_policy.specs.declared.graph.Measure.{Measure}
 use Rattle.sudo_policy.specs.declared.graph.State.{State}
 use Rattle.sudo_policy.specs.declared.graph.State.TheVariants.{New, Open, Done, Looped}
 use Rattle.sudo_policy.specs.Following.{joined}
-use Rattle.sudo_policy.specs.Graph.{Links, Edge, Path, ReachesCycle, IsClosed, beside, deeper, one_member, no_member, link_measure, StateHolds, StatesHold, OpenLead, OpenNear, is_new, MayTurn, Turned, IsSettled, measure_of_state, done_measure}
+use Rattle.sudo_policy.specs.Body.Graph.{Links, Edge, Path, ReachesCycle, IsClosed, beside, deeper, one_member, no_member, link_measure, StateHolds, StatesHold, OpenLead, OpenNear, is_new, MayTurn, Turned, IsSettled, measure_of_state, done_measure}
 use Rattle.sudo_policy.proofs.GraphLemmas.{RowMeasures, RowMeasures-none, RowMeasures-alone, RowMeasures-link, Measures-row, ReachesCycle-edge, ReachesCycle-back}
 
 -- an element after a write to it, and to another

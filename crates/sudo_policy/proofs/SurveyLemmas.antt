@@ -9,7 +9,8 @@ use Rattle.sudo_grammar.specs.declared.kind.Kind.TheVariants.{User, Runas, Host,
 use Rattle.sudo_policy.specs.declared.index.Position.{Position}
 use Rattle.sudo_grammar.specs.declared.kind.Member.{Member}
 use Rattle.sudo_grammar.specs.declared.policy.Policy.{Policy}
-use Rattle.sudo_policy.specs.Definitions.{Defined, defines, same_kind, is_defined_in, firsts, repeats}
+use Rattle.sudo_grammar.specs.Kinds.{same_kind}
+use Rattle.sudo_policy.specs.Definitions.{Defined, defines, is_defined_in, firsts, repeats}
 use Rattle.std.proofs.lemmas.List.Elements.{All-push}
 use Rattle.std.specs.Prelude.{All, flat_map}
 use Rattle.std.proofs.lemmas.List.{map_push, drop_more}
@@ -19,7 +20,7 @@ use Rattle.sudo_grammar.specs.declared.policy.Entry.{Entry}
 use Rattle.sudo_grammar.specs.declared.policy.EntryBody.{EntryBody}
 use Rattle.sudo_grammar.specs.declared.policy.EntryBody.TheVariants.{Aliases}
 use Rattle.sudo_policy.specs.declared.survey.Named.{Named}
-use Rattle.sudo_policy.specs.Named.{IsIndexed, IsPlaced, StandAt}
+use Rattle.sudo_policy.specs.Body.Named.{IsIndexed, IsPlaced, StandAt}
 use Rattle.sudo_policy.proofs.StateLemmas.{get_within}
 use Rattle.sudo_policy.specs.Positions.{members_at, definition_at_body}
 use Rattle.sudo_base.specs.Places.{place_of}

@@ -15,15 +15,8 @@ use Rattle.sudo_grammar.specs.declared.policy.EntryBody.{EntryBody}
 use Rattle.sudo_grammar.specs.declared.policy.EntryBody.TheVariants.{Aliases, Defaults, Rule, Include}
 use Rattle.sudo_grammar.specs.declared.policy.Entry.{Entry}
 use Rattle.sudo_grammar.specs.declared.policy.Policy.{Policy}
+use Rattle.sudo_grammar.specs.Kinds.{same_kind}
 use Rattle.sudo_text.specs.declared.line.Place.{Place}
-
--- whether two kinds are the same
-abbrev pub same_kind : Kind → Kind → Bool
-same_kind User User = true
-same_kind Runas Runas = true
-same_kind Host Host = true
-same_kind Cmnd Cmnd = true
-same_kind _ _ = false
 
 -- an alias definition: its kind, the place of its line, its name and its members
 pub record Defined : Type 0 where

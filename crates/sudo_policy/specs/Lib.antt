@@ -1,11 +1,8 @@
 pub mod Definitions
 pub mod Following
 pub mod Found
-pub mod Graph
-pub mod Judgement
-pub mod Marking
-pub mod Named
 pub mod Positions
 pub mod Resolving
 pub mod Written
 pub mod Checking
+pub mod Body

@@ -1,10 +1,10 @@
 //! Which aliases are on a cycle.
 ghost use Rattle.std.specs.Prelude.{◌≡◌, ◌↔◌, ◌<◌, ◌∷◌, [], ℕ, Contains, IfOk, OnOk, length, map, not, replicate, true};
-ghost use Rattle.sudo_policy.specs.Graph.{IsClosed, IsInside, MarksOf, Path, StatesHold, IsSettled, is_looped};
+ghost use Rattle.sudo_policy.specs.Body.Graph.{IsClosed, IsInside, MarksOf, Path, StatesHold, IsSettled, is_looped};
 ghost use Rattle.sudo_policy.specs.declared.graph.State.{State};
 ghost use Rattle.std.specs.Prelude.{Some, slice_get};
 ghost use Rattle.std.specs.List.{list_any};
-ghost use Rattle.sudo_policy.specs.Marking.{AreSet, Decided, IsMarked, IsUnmarked, IsWhole, PathPast, RowTurned, TurnedTo};
+ghost use Rattle.sudo_policy.specs.Body.Marking.{AreSet, Decided, IsMarked, IsUnmarked, IsWhole, PathPast, RowTurned, TurnedTo};
 
 use crate::graph::State;
 use crate::reach::spread;

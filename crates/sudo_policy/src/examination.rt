@@ -6,9 +6,9 @@ ghost use Rattle.sudo_policy.specs.Definitions as policies;
 ghost use Rattle.std.specs.Prelude.{◌∷◌, []};
 ghost use Rattle.sudo_policy.specs.Found.{AreFindings, has_error};
 ghost use Rattle.sudo_policy.specs.Found as found;
-ghost use Rattle.sudo_policy.specs.Judgement.{IsJudged, found_in, atom_missing, missing_in};
-ghost use Rattle.sudo_policy.specs.Judgement as judgement;
-ghost use Rattle.sudo_policy.specs.Named.{named_view, listed_view, IsSurvey, LeadsInside};
+ghost use Rattle.sudo_policy.specs.Body.Judgement.{IsJudged, found_in, atom_missing, missing_in};
+ghost use Rattle.sudo_policy.specs.Body.Judgement as judgement;
+ghost use Rattle.sudo_policy.specs.Body.Named.{named_view, listed_view, IsSurvey, LeadsInside};
 ghost use Rattle.sudo_policy.specs.Positions.{IsIndex};
 ghost use Rattle.sudo_policy.specs.Resolving.{IsSound};
 

@@ -2,7 +2,7 @@
 ghost use Rattle.std.specs.Prelude.{◌≡◌, ◌<◌, ℕ, IfOk, OnOk, Some, List, Option, length, option_map, slice_get};
 ghost use Rattle.sudo_policy.specs.declared.graph.State.{State};
 ghost use Rattle.sudo_policy.specs.Following.{joined};
-ghost use Rattle.sudo_policy.specs.Graph.{Edge, IsClosed, StatesHold, OpenLead, OpenNear, NoneOpen, Turned, IsSettled, beside, deeper, one_member, no_member, link_measure, done_measure};
+ghost use Rattle.sudo_policy.specs.Body.Graph.{Edge, IsClosed, StatesHold, OpenLead, OpenNear, NoneOpen, Turned, IsSettled, beside, deeper, one_member, no_member, link_measure, done_measure};
 
 use std::alloc::{AllocError, Global};
 use sudo_text::Seq;

@@ -2,7 +2,7 @@
 ghost use Rattle.std.specs.Prelude.{◌≡◌, None, [], ◌∷◌, ◌++◌, false, OnOk, length, option_copied};
 ghost use Rattle.sudo_base.specs.Places.{place_of};
 ghost use Rattle.sudo_grammar.specs.declared.kind.Kind.{Kind};
-ghost use Rattle.sudo_policy.specs.Definitions.{same_kind};
+ghost use Rattle.sudo_grammar.specs.Kinds.{same_kind};
 ghost use Rattle.sudo_policy.specs.Positions.{position_in, members_at, names_of};
 
 use std::alloc::{AllocError, Global};

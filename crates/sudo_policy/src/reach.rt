@@ -1,7 +1,7 @@
 //! Which aliases links lead to.
 ghost use Rattle.std.specs.Prelude.{◌≡◌, ◌↔◌, ◌∷◌, [], ℕ, true, Some, Contains, IfOk, OnOk, length};
-ghost use Rattle.sudo_policy.specs.Graph.{IsClosed, IsInside, IsReached, MarksOf};
-ghost use Rattle.sudo_policy.specs.Marking.{AreSet, Marked, ReachedPast};
+ghost use Rattle.sudo_policy.specs.Body.Graph.{IsClosed, IsInside, IsReached, MarksOf};
+ghost use Rattle.sudo_policy.specs.Body.Marking.{AreSet, Marked, ReachedPast};
 
 use std::alloc::{AllocError, Global};
 use sudo_text::Seq;

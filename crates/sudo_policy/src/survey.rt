@@ -2,7 +2,7 @@
 ghost use Rattle.std.specs.Prelude.{◌≡◌, ◌++◌, [], ◌∷◌, List, All, map, flat_map, IfOk, OnOk, Some, slice_get};
 ghost use Rattle.sudo_grammar.specs.declared.policy.Policy.{Policy};
 ghost use Rattle.sudo_policy.specs.Definitions.{Defined, definitions, definitions_of, definitions_of_list, lists, lists_of_body, lists_of_list, binding_lists_of, section_lists, command_lists, runas_lists, option_lists, granting_list};
-ghost use Rattle.sudo_policy.specs.Named.{named_view, listed_view, row_of, row_of_alias, granting_row, IsSurvey, IsPlaced, StandAt};
+ghost use Rattle.sudo_policy.specs.Body.Named.{named_view, listed_view, row_of, row_of_alias, granting_row, IsSurvey, IsPlaced, StandAt};
 
 use crate::index::{Index, Position};
 use crate::member::alias_name;

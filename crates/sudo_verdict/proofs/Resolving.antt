@@ -9,7 +9,7 @@ use Rattle.sudo_grammar.specs.declared.policy.Policy.{Policy}
 use Rattle.sudo_policy.specs.Definitions.{lists_of, lists_of_body}
 use Rattle.sudo_policy.specs.Resolving.{IsSound}
 use Rattle.sudo_policy.proofs.SoundLemmas.{holds, entries_resolve, rule_holds, all_weaker}
-use Rattle.sudo_verdict.specs.Resolved.{body_resolves}
+use Rattle.sudo_verdict.specs.Body.Resolved.{body_resolves}
 
 body_holds : (p : Policy) (place : Place) (body : EntryBody) → list_all (holds p) (lists_of_body place body) ≡ true → body_resolves p body ≡ true
 body_holds p place (Rule users sections) h = rule_holds p place users sections h

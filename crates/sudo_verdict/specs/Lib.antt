@@ -5,8 +5,7 @@ pub mod Values
 pub mod RunasForms
 pub mod Grants
 pub mod Verdicts
-pub mod Queries
 pub mod Decided
 pub mod Found
-pub mod Resolved
 pub mod Postings
+pub mod Body

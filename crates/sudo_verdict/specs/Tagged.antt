@@ -98,22 +98,3 @@ setenv_with all None = cond all (Some true) None
 
 abbrev pub tags_given : Bool → Tags → Tags
 tags_given all tags = record tags { setenv = setenv_with all tags.setenv }
-
--- the tag that a choice of a pair names
-abbrev pub named : Tag → Tag → Option Bool → Option Tag
-named with without None = None
-named with without (Some true) = Some with
-named with without (Some false) = Some without
-
--- the tags that are set, in the order of a report
-unfoldable pub in_report_order : Tags → List (Option Tag)
-in_report_order t =
-    named tag.Exec tag.NoExec t.exec
-    ∷ named tag.Follow tag.NoFollow t.follow
-    ∷ named tag.Intercept tag.NoIntercept t.intercept
-    ∷ named tag.LogInput tag.NoLogInput t.log_input
-    ∷ named tag.LogOutput tag.NoLogOutput t.log_output
-    ∷ named tag.Mail tag.NoMail t.mail
-    ∷ named tag.Passwd tag.NoPasswd t.passwd
-    ∷ named tag.SetEnv tag.NoSetEnv t.setenv
-    ∷ []

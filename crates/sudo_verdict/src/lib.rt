@@ -13,4 +13,3 @@ mod tags;
 pub use rule_index::RuleIndex;
 pub use search::verdict;
 pub use sudo_match::{Request, Tags, Verdict, What};
-pub use tags::tags_in_report_order;

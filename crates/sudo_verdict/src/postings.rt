@@ -13,7 +13,7 @@ ghost use Rattle.sudo_match.specs.Matching.{user_fits};
 ghost use Rattle.sudo_verdict.specs.Decided.{decided};
 ghost use Rattle.sudo_verdict.specs.Found.{entry_found};
 ghost use Rattle.sudo_verdict.specs.Questions.{Question};
-ghost use Rattle.sudo_verdict.specs.Resolved.{body_resolves};
+ghost use Rattle.sudo_verdict.specs.Body.Resolved.{body_resolves};
 ghost use Rattle.sudo_verdict.specs.Postings as postings;
 ghost use Rattle.sudo_verdict.specs.Postings.{AreLists, Covers, Grows, misses, posted};
 

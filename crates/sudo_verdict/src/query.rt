@@ -7,7 +7,7 @@ ghost use Rattle.sudo_match.specs.Known.{user_named};
 ghost use Rattle.sudo_verdict.specs.Values as values;
 ghost use Rattle.sudo_verdict.specs.RunasForms as form;
 ghost use Rattle.sudo_verdict.specs.Questions.{question_of, target_of};
-ghost use Rattle.sudo_verdict.specs.Queries.{question};
+ghost use Rattle.sudo_verdict.specs.Body.Queries.{question};
 
 use crate::decision::{AsGroup, AsHost, AsUser, value};
 use sudo_match::{Directory, Group, Machine, Person, Request, What};

@@ -2,7 +2,7 @@
 
 ghost use Rattle.std.specs.Prelude.{◌≡◌, Option, IfOk, map, length};
 ghost use Rattle.sudo_verdict.specs.Last.{last_set};
-ghost use Rattle.sudo_verdict.specs.Queries.{question};
+ghost use Rattle.sudo_verdict.specs.Body.Queries.{question};
 ghost use Rattle.sudo_verdict.specs.Verdicts.{verdict_of};
 ghost use Rattle.sudo_verdict.specs.Found.{entry_found};
 ghost use Rattle.sudo_verdict.specs.Postings.{AreLists, Covers, Indexes};

@@ -6,9 +6,9 @@ ghost use Rattle.sudo_policy.specs.Resolving.{section_resolves, command_resolves
 ghost use Rattle.sudo_verdict.specs.Last.{last_set};
 ghost use Rattle.sudo_verdict.specs.Tagged.{runas_before, tags_before};
 ghost use Rattle.sudo_verdict.specs.RunasForms.{runas_holds};
-ghost use Rattle.sudo_verdict.specs.Queries.{question};
+ghost use Rattle.sudo_verdict.specs.Body.Queries.{question};
 ghost use Rattle.sudo_verdict.specs.Verdicts.{verdict_of};
-ghost use Rattle.sudo_verdict.specs.Resolved.{body_resolves};
+ghost use Rattle.sudo_verdict.specs.Body.Resolved.{body_resolves};
 ghost use Rattle.sudo_verdict.specs.Found.{verdict_from, place_found, places_found, section_found, entry_found};
 
 use crate::decision::{AsCommand, Decision, decide_member};

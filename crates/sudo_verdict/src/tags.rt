@@ -1,39 +1,10 @@
-//! Which tags hold at a place of a section, and how they are reported.
+//! Which tags hold at a place of a section.
 
 ghost use Rattle.std.specs.Prelude.{◌≡◌, ◌∷◌, []};
 ghost use Rattle.sudo_verdict.specs.Tagged as tagged;
 
 use sudo_match::Tags;
 use sudo_policy::{CommandSpec, Tag};
-
-/// The tags that are set, in the order of a report: EXEC, FOLLOW, INTERCEPT, LOG_INPUT, LOG_OUTPUT, MAIL, PASSWD, SETENV,
-/// each or its opposite.
-#[tactic(auto, unfolding(crate::specs::Tagged::in_report_order))]
-pub fn tags_in_report_order(tags: &Tags) -> [Option<Tag>; 8]
-    ensures { result ≡ tagged.in_report_order tags.now }
-{
-    [
-        chosen(Tag::Exec, Tag::NoExec, tags.exec),
-        chosen(Tag::Follow, Tag::NoFollow, tags.follow),
-        chosen(Tag::Intercept, Tag::NoIntercept, tags.intercept),
-        chosen(Tag::LogInput, Tag::NoLogInput, tags.log_input),
-        chosen(Tag::LogOutput, Tag::NoLogOutput, tags.log_output),
-        chosen(Tag::Mail, Tag::NoMail, tags.mail),
-        chosen(Tag::Passwd, Tag::NoPasswd, tags.passwd),
-        chosen(Tag::SetEnv, Tag::NoSetEnv, tags.setenv),
-    ]
-}
-
-/// The tag that a choice of a pair names.
-fn chosen(with: Tag, without: Tag, choice: Option<bool>) -> Option<Tag>
-    ensures { result ≡ tagged.named with without choice }
-{
-    match choice {
-        Some(true) => Some(with),
-        Some(false) => Some(without),
-        None => None,
-    }
-}
 
 /// With SETENV where the command is `ALL` and that pair is not set.
 pub(crate) fn tags_given(tags: Tags, all: bool) -> Tags

@@ -6,9 +6,9 @@ use std::alloc::{AllocError, Global};
 use std::test::Fail;
 use sudo_load::{Supply, load};
 use sudo_match::Directory;
-use sudo_policy::{Checked, Tag, check};
+use sudo_policy::{Checked, check};
 use sudo_text::Seq;
-use sudo_verdict::{Request, RuleIndex, Verdict, What, tags_in_report_order, verdict};
+use sudo_verdict::{Request, RuleIndex, Verdict, What, verdict};
 
 const USERS: &str =
     "user,uid,groups\nroot,0,root:0\nalice,1000,alice:1000 adm:4\nbob,1001,bob:1001 operator:37\noperator,11,operator:37\n";
@@ -69,27 +69,6 @@ pub(crate) fn said(
     Ok(found)
 }
 
-fn tag_name(tag: Tag) -> &'static str {
-    match tag {
-        Tag::Exec => " EXEC",
-        Tag::NoExec => " NOEXEC",
-        Tag::Follow => " FOLLOW",
-        Tag::NoFollow => " NOFOLLOW",
-        Tag::Intercept => " INTERCEPT",
-        Tag::NoIntercept => " NOINTERCEPT",
-        Tag::LogInput => " LOG_INPUT",
-        Tag::NoLogInput => " NOLOG_INPUT",
-        Tag::LogOutput => " LOG_OUTPUT",
-        Tag::NoLogOutput => " NOLOG_OUTPUT",
-        Tag::Mail => " MAIL",
-        Tag::NoMail => " NOMAIL",
-        Tag::Passwd => " PASSWD",
-        Tag::NoPasswd => " NOPASSWD",
-        Tag::SetEnv => " SETENV",
-        Tag::NoSetEnv => " NOSETENV",
-    }
-}
-
 fn word(verdict: Verdict) -> &'static str {
     match verdict {
         Verdict::Allow { .. } => "allow",
@@ -111,11 +90,22 @@ fn line_of(verdict: Verdict) -> Option<u32> {
 }
 
 fn append_tags(text: &mut String, verdict: Verdict) -> Result<(), AllocError> {
-    if let Verdict::Allow { tags, .. } = verdict {
-        for tag in tags_in_report_order(&tags) {
-            if let Some(tag) = tag {
-                text.push_str(tag_name(tag))?;
-            }
+    let Verdict::Allow { tags, .. } = verdict else {
+        return Ok(());
+    };
+    for (choice, name) in [
+        (tags.exec, "EXEC"),
+        (tags.follow, "FOLLOW"),
+        (tags.intercept, "INTERCEPT"),
+        (tags.log_input, "LOG_INPUT"),
+        (tags.log_output, "LOG_OUTPUT"),
+        (tags.mail, "MAIL"),
+        (tags.passwd, "PASSWD"),
+        (tags.setenv, "SETENV"),
+    ] {
+        if let Some(is_set) = choice {
+            text.push_str(if is_set { " " } else { " NO" })?;
+            text.push_str(name)?;
         }
     }
     Ok(())

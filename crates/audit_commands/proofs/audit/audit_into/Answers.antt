@@ -1,11 +1,12 @@
 use Rattle.std.proofs.Common.{map}
 use Rattle.audit_commands.specs.Auditing.{Given, IsAudited, IsNotAudited}
 use Rattle.audit_commands.specs.Endings.{written as sent}
-use Rattle.audit_commands.proofs.EndingLemmas.{run_ends}
+use Rattle.audit_commands.proofs.AuditSteps.{low_status, not_checked}
+use Rattle.audit_commands.proofs.EndingLemmas.{ends_most, run_ends}
 use Rattle.audit_commands.proofs.audit.audit_into.Goals as goal
 
-pub returns : goal.returns
-returns g c =
+pub returns-clause-ends : goal.returns-clause-ends
+returns-clause-ends g c =
     let given : Given = record {
       held = g.F.Files.held c.args.files.now;
       path = c.args.path.now;
@@ -17,5 +18,6 @@ returns g c =
     } in
     let out = sent g.O.Sink.taken g.O.Sink.stalled_writes c.args.out.now c.end_run.new.out in
     let err = sent g.E.Sink.taken g.E.Sink.stalled_writes c.args.err.now c.end_run.new.err in
+    let checked = c.in-Ok-checked_policy.ensures.checked in
     run_ends (IsAudited given) (IsNotAudited given) c.audited-ended.result c.end_run.result out err
-    c.audited-ended.ensures.report c.audited-ended.ensures.fault c.end_run.ensures
+    (c.audited-ended.ensures.report given.held given.path checked) (c.audited-ended.ensures.fault given.held given.path checked) c.end_run.ensures

@@ -1,8 +1,8 @@
 use Rattle.audit_commands.specs.Endings.{written as sent}
 use Rattle.audit_commands.specs.Examining.{IsExamined}
 use Rattle.audit_commands.specs.Loading.{IsNoPolicy}
-use Rattle.audit_commands.proofs.EndingLemmas.{run_ends, zero_prints}
-use Rattle.audit_commands.proofs.Steps.{fine_of}
+use Rattle.audit_commands.proofs.EndingLemmas.{ends_most, run_ends, zero_prints}
+use Rattle.audit_commands.proofs.Steps.{examined_most, fine_of}
 use Rattle.audit_commands.proofs.check.check_run.Goals as goal
 
 pub returns-clause-ends : goal.returns-clause-ends
@@ -22,3 +22,13 @@ returns-clause-fine g c = λ e.
     run_ends (IsExamined held c.args.path.now) (IsNoPolicy held c.args.path.now) c.examined-ended.result c.end_run.result out err
     c.examined-ended.ensures.printed c.examined-ended.ensures.fault c.end_run.ensures in
     fine_of held c.args.path.now c.end_run.result out err (zero_prints (IsExamined held c.args.path.now) (IsNoPolicy held c.args.path.now) c.end_run.result out err ends e) e
+
+pub returns-clause-most : goal.returns-clause-most
+returns-clause-most g c =
+    let held = g.F.Files.held c.args.files.now in
+    let out = sent g.O.Sink.taken g.O.Sink.stalled_writes c.args.out.now c.end_run.new.out in
+    let err = sent g.E.Sink.taken g.E.Sink.stalled_writes c.args.err.now c.end_run.new.err in
+    let ends =
+    run_ends (IsExamined held c.args.path.now) (IsNoPolicy held c.args.path.now) c.examined-ended.result c.end_run.result out err
+    c.examined-ended.ensures.printed c.examined-ended.ensures.fault c.end_run.ensures in
+    ends_most (IsExamined held c.args.path.now) (IsNoPolicy held c.args.path.now) c.end_run.result out err (examined_most held c.args.path.now) ends

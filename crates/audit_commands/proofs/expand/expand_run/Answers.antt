@@ -1,10 +1,11 @@
 use Rattle.audit_commands.specs.Endings.{written as sent}
 use Rattle.audit_commands.specs.Expanding.{IsExpanded, IsNotExpanded}
-use Rattle.audit_commands.proofs.EndingLemmas.{run_ends}
+use Rattle.audit_commands.proofs.EndingLemmas.{ends_most, run_ends}
+use Rattle.audit_commands.proofs.Steps.{expanded_most}
 use Rattle.audit_commands.proofs.expand.expand_run.Goals as goal
 
-pub returns : goal.returns
-returns g c =
+pub returns-clause-ends : goal.returns-clause-ends
+returns-clause-ends g c =
     let held = g.F.Files.held c.args.files.now in
     let path = c.args.path.now in
     let name = c.args.name.now in
@@ -12,3 +13,15 @@ returns g c =
     let err = sent g.E.Sink.taken g.E.Sink.stalled_writes c.args.err.now c.end_run.new.err in
     run_ends (IsExpanded held path c.args.kind name) (IsNotExpanded held path c.args.kind name) c.expanded-ended.result c.end_run.result out err
     c.expanded-ended.ensures.printed c.expanded-ended.ensures.fault c.end_run.ensures
+
+pub returns-clause-most : goal.returns-clause-most
+returns-clause-most g c =
+    let held = g.F.Files.held c.args.files.now in
+    let path = c.args.path.now in
+    let name = c.args.name.now in
+    let out = sent g.O.Sink.taken g.O.Sink.stalled_writes c.args.out.now c.end_run.new.out in
+    let err = sent g.E.Sink.taken g.E.Sink.stalled_writes c.args.err.now c.end_run.new.err in
+    let ends =
+    run_ends (IsExpanded held path c.args.kind name) (IsNotExpanded held path c.args.kind name) c.expanded-ended.result c.end_run.result out err
+    c.expanded-ended.ensures.printed c.expanded-ended.ensures.fault c.end_run.ensures in
+    ends_most (IsExpanded held path c.args.kind name) (IsNotExpanded held path c.args.kind name) c.end_run.result out err (expanded_most held path c.args.kind name) ends

@@ -1,6 +1,6 @@
 use Rattle.std.proofs.Common.{◌≡◌, ◌++◌, take, flat_map}
 use Rattle.audit_files.specs.Report.{answer_fields, line}
-use Rattle.audit_files.specs.Text.{IsBetween, written}
+use Rattle.audit_files.specs.Body.Text.{IsBetween, written}
 use Rattle.audit_files.proofs.report.put_sender.Given as goal
 
 -- the records of the answers so far were written

@@ -1,6 +1,6 @@
 use Rattle.std.proofs.Common.{◌≡◌, ◌++◌, take, flat_map}
 use Rattle.audit_files.specs.Report.{header, line, sender_text}
-use Rattle.audit_files.specs.Text.{IsBetween, written}
+use Rattle.audit_files.specs.Body.Text.{IsBetween, written}
 use Rattle.audit_files.proofs.report.report_text.Given as goal
 
 -- the header and the records of the senders so far were written

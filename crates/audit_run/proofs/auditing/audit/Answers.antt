@@ -1,10 +1,10 @@
 use Rattle.std.proofs.Common.{◌≡◌, ◌+◌, [], rules, length, map, ap, ◌∙◌, subst, arith, vec_len}
 use Rattle.audit_run.specs.Names.{names_of}
-use Rattle.audit_run.specs.Concluded.{Answers}
-use Rattle.audit_run.specs.Gathered.{comes_of}
-use Rattle.audit_run.specs.FreshPasses.{lighter}
-use Rattle.audit_run.specs.Run.{HasRun}
-use Rattle.audit_run.specs.Work.{told_by}
+use Rattle.audit_run.specs.Body.Concluded.{Answers}
+use Rattle.audit_run.specs.Body.Gathered.{comes_of}
+use Rattle.audit_run.specs.Body.FreshPasses.{lighter}
+use Rattle.audit_run.specs.Body.Run.{HasRun}
+use Rattle.audit_run.specs.Body.Work.{told_by}
 use Rattle.audit_run.proofs.Settled.{faults_long, length_map, settled}
 use Rattle.audit_run.proofs.auditing.audit.Goals as goal
 

@@ -1,6 +1,6 @@
 use Rattle.std.proofs.Common.{[], replicate, subst, append-nil, arith}
 use Rattle.audit_run.specs.declared.message.Job.TheVariants as job
-use Rattle.audit_run.specs.Gathered.{HasConducted}
+use Rattle.audit_run.specs.Body.Gathered.{HasConducted}
 use Rattle.audit_run.proofs.Gains.{conducted, conducts_more}
 use Rattle.audit_run.proofs.conduct.conduct.Goals as goal
 

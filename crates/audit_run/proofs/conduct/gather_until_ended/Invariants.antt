@@ -1,5 +1,5 @@
 use Rattle.std.specs.Prelude.{[]}
-use Rattle.audit_run.specs.Gathered.{Conducts}
+use Rattle.audit_run.specs.Body.Gathered.{Conducts}
 use Rattle.audit_run.proofs.conduct.gather_until_ended.Given as goal
 
 abbrev pub invariant-loop : goal.invariant-loop

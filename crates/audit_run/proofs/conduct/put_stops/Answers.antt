@@ -1,7 +1,7 @@
 use Rattle.std.proofs.Common.{[], ◌∷◌, replicate, subst}
 use Rattle.std.proofs.lemmas.List.{replicate_more}
 use Rattle.audit_run.specs.declared.message.Job.TheVariants as job
-use Rattle.audit_run.specs.Gathered.{Conducts}
+use Rattle.audit_run.specs.Body.Gathered.{Conducts}
 use Rattle.audit_run.proofs.Gains.{conducts_none, conducts_more}
 use Rattle.audit_run.proofs.conduct.put_stops.Goals as goal
 

@@ -1,5 +1,5 @@
 use Rattle.std.specs.Prelude.{replicate}
-use Rattle.audit_run.specs.Gathered.{Conducts}
+use Rattle.audit_run.specs.Body.Gathered.{Conducts}
 use Rattle.audit_run.specs.declared.message.Job.TheVariants as job
 use Rattle.audit_run.proofs.conduct.put_stops.Given as goal
 

@@ -1,6 +1,6 @@
 use Rattle.std.specs.Prelude.{◌≡◌, All, vec_len}
 use Rattle.audit_run.specs.Passes.{split_off}
-use Rattle.audit_run.specs.FreshPasses.{lighter}
+use Rattle.audit_run.specs.Body.FreshPasses.{lighter}
 use Rattle.audit_run.proofs.crew.split_passes.Given as goal
 
 abbrev pub invariant-loop-place : goal.invariant-loop-place

@@ -2,8 +2,8 @@ use Rattle.std.proofs.Common.{ℕ, ◌+◌, ◌++◌, ◌∷◌, [], rules, refl
 use Rattle.std.proofs.lemmas.List.Elements.{All-head, All-tail}
 use Rattle.audit_run.specs.Passes.{PassView, with_joined}
 use Rattle.audit_run.specs.Parts.{Stated, put_by_sources, put_of}
-use Rattle.audit_run.specs.FreshPasses.{IsFresh}
-use Rattle.audit_run.specs.Work.{joined_sources, putting_jobs, told_by}
+use Rattle.audit_run.specs.Body.FreshPasses.{IsFresh}
+use Rattle.audit_run.specs.Body.Work.{joined_sources, putting_jobs, told_by}
 use Rattle.audit_run.proofs.Joins.{faults_more, joined_none, one_part, one_source, put_more, told_more}
 use Rattle.audit_run.proofs.readers.join_readers.Goals as goal
 

@@ -2,8 +2,8 @@ use Rattle.std.specs.Prelude.{◌≡◌, ℕ, ◌+◌, ◌≤◌, ◌++◌, List
 use Rattle.std.specs.Vec.Iter.{into_iter_items}
 use Rattle.audit_files.specs.Feeding.{Ahead}
 use Rattle.audit_run.specs.Parts.{Stated, fault_in, put_by_sources}
-use Rattle.audit_run.specs.FreshPasses.{IsFresh}
-use Rattle.audit_run.specs.Work.{AreParts, joined_sources, told_by}
+use Rattle.audit_run.specs.Body.FreshPasses.{IsFresh}
+use Rattle.audit_run.specs.Body.Work.{AreParts, joined_sources, told_by}
 use Rattle.audit_run.proofs.readers.join_readers.Given as goal
 
 abbrev pub invariant-loop-handle : goal.invariant-loop-handle

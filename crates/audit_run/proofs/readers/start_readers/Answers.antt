@@ -1,7 +1,7 @@
 use Rattle.std.proofs.Common.{All, Some, length, sym, ap, subst, arith}
 use Rattle.std.proofs.lemmas.List.Elements.{All-pop, All-push}
-use Rattle.audit_run.specs.FreshPasses.{IsFresh}
-use Rattle.audit_run.specs.Work.{told_by}
+use Rattle.audit_run.specs.Body.FreshPasses.{IsFresh}
+use Rattle.audit_run.specs.Body.Work.{told_by}
 use Rattle.audit_run.proofs.Joins.{one_started}
 use Rattle.audit_run.proofs.readers.start_readers.Goals as goal
 

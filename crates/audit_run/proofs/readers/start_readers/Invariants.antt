@@ -1,7 +1,7 @@
 use Rattle.std.specs.Prelude.{◌≡◌, ◌+◌, ◌≤◌, ◌++◌, All, map, vec_len, vec_capacity, length}
 use Rattle.std.specs.Vec.Iter.{into_iter_items}
-use Rattle.audit_run.specs.FreshPasses.{IsFresh}
-use Rattle.audit_run.specs.Work.{told_by}
+use Rattle.audit_run.specs.Body.FreshPasses.{IsFresh}
+use Rattle.audit_run.specs.Body.Work.{told_by}
 use Rattle.audit_run.proofs.readers.start_readers.Given as goal
 
 abbrev pub invariant-loop-part : goal.invariant-loop-part

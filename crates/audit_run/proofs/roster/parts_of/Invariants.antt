@@ -2,7 +2,7 @@ use Rattle.std.specs.Prelude.{◌≡◌, ◌+◌, ◌++◌, length, map, vec_len
 use Rattle.std.specs.List.{zip}
 use Rattle.std.specs.Vec.Iter.{into_iter_items}
 use Rattle.audit_run.specs.Roster.{places_in}
-use Rattle.audit_run.specs.Work.{told_by}
+use Rattle.audit_run.specs.Body.Work.{told_by}
 use Rattle.audit_run.proofs.roster.parts_of.Given as goal
 
 abbrev pub invariant-loop-reader : goal.invariant-loop-reader

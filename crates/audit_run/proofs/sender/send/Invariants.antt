@@ -1,7 +1,7 @@
 use Rattle.std.specs.Prelude.{◌≡◌, map}
 use Rattle.std.specs.Vec.Iter.{into_iter_items}
 use Rattle.audit_run.specs.declared.message.Job.TheVariants.{Ask}
-use Rattle.audit_run.specs.Work.{putting_jobs}
+use Rattle.audit_run.specs.Body.Work.{putting_jobs}
 use Rattle.audit_run.proofs.sender.send.Given as goal
 
 abbrev pub invariant-loop-request : goal.invariant-loop-request

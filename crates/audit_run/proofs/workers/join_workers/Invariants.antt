@@ -1,14 +1,14 @@
 use Rattle.std.specs.Prelude.{◌≡◌, ℕ, ◌+◌, List, All, vec_len, length}
 use Rattle.std.specs.Vec.Iter.{into_iter_items}
 use Rattle.audit_run.specs.Names.{names_of}
-use Rattle.audit_run.specs.FreshPasses.{fresh}
-use Rattle.audit_run.specs.Work.{joined_workers}
+use Rattle.audit_run.specs.Body.FreshPasses.{fresh}
+use Rattle.audit_run.specs.Body.Work.{joined_workers}
 use Rattle.audit_run.specs.declared.message.Job.{Job}
 use Rattle.audit_run.proofs.workers.join_workers.Given as goal
 
 abbrev pub invariant-loop-handle : goal.invariant-loop-handle
 invariant-loop-handle g l =
-    All (λ h. h.promise.before.value ≡ fresh l.handoff l.policy l.directory) (into_iter_items l.handle-iterator)
+    All (λ h. h.promise.before.value ≡ fresh l.shared.handoff l.shared.policy l.shared.directory) (into_iter_items l.handle-iterator)
     × ((workers : ℕ) × (jobs : List Job)
     × (workers + length (into_iter_items l.handle-iterator) ≡ vec_len l.fn.handles)
-    × (l.pass ≡ joined_workers (names_of l.policy l.directory) l.fn.pass workers jobs))
+    × (l.pass ≡ joined_workers (names_of l.shared.policy l.shared.directory) l.fn.pass workers jobs))

@@ -1,11 +1,11 @@
 use Rattle.std.proofs.Common.{◌≡◌, All, length, sym, ap, ◌∙◌, subst, arith}
 use Rattle.std.proofs.lemmas.List.Elements.{All-head, All-tail, All-push}
-use Rattle.audit_run.specs.FreshPasses.{fresh}
+use Rattle.audit_run.specs.Body.FreshPasses.{fresh}
 use Rattle.audit_run.proofs.workers.start_workers.Goals as goal
 
 pub loop-pass-preserved : goal.loop-pass-preserved
 loop-pass-preserved g c =
-    let new_pass = fresh c.args.handoff.now c.args.policy.now c.args.directory.now in
+    let new_pass = fresh c.args.shared.handoff.now c.args.shared.policy.now c.args.shared.directory.now in
     let inv = c.loop-pass.invariant in
     let step = c.in-Some.ensures.steps in
     let all = subst (All (λ p. p ≡ new_pass)) step.0 inv.0 in

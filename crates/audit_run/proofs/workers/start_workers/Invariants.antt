@@ -1,11 +1,11 @@
 use Rattle.std.specs.Prelude.{◌≡◌, ◌+◌, ◌≤◌, All, vec_len, vec_capacity, length}
 use Rattle.std.specs.Vec.Iter.{into_iter_items}
-use Rattle.audit_run.specs.FreshPasses.{fresh}
+use Rattle.audit_run.specs.Body.FreshPasses.{fresh}
 use Rattle.audit_run.proofs.workers.start_workers.Given as goal
 
 abbrev pub invariant-loop-pass : goal.invariant-loop-pass
 invariant-loop-pass g l =
-    All (λ p. p ≡ fresh l.handoff l.policy l.directory) (into_iter_items l.pass-iterator)
-    × All (λ h. h.promise.before.value ≡ fresh l.handoff l.policy l.directory) l.handles.items
+    All (λ p. p ≡ fresh l.shared.handoff l.shared.policy l.shared.directory) (into_iter_items l.pass-iterator)
+    × All (λ h. h.promise.before.value ≡ fresh l.shared.handoff l.shared.policy l.shared.directory) l.handles.items
     × (vec_len l.handles + length (into_iter_items l.pass-iterator) ≡ vec_len l.fn.handles + vec_len l.fn.passes)
     × (vec_len l.handles + length (into_iter_items l.pass-iterator) ≤ vec_capacity l.handles)

@@ -1,5 +1,5 @@
 use Rattle.std.proofs.Common.{◌≤◌, length}
-use Rattle.sudo_parser.specs.Aliases.{ReadsToDefinition}
+use Rattle.sudo_parser.specs.Body.Aliases.{ReadsToDefinition}
 use Rattle.sudo_parser.proofs.aliases.aliases.Given as goal
 
 abbrev pub invariant-definitions : goal.invariant-definitions

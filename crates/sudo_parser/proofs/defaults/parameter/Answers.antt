@@ -1,4 +1,4 @@
-use Rattle.sudo_parser.specs.Defaults.{StopsInParameter}
+use Rattle.sudo_parser.specs.Body.Defaults.{StopsInParameter}
 use Rattle.sudo_parser.proofs.Steps.{passed-on}
 use Rattle.sudo_parser.proofs.DefaultsSteps.{name-missing, switched-reads, value-missing}
 use Rattle.sudo_parser.proofs.defaults.parameter.Goals as goal

@@ -1,5 +1,5 @@
 use Rattle.std.proofs.Common.{◌≤◌, length}
-use Rattle.sudo_parser.specs.Defaults.{ReadsToParameter}
+use Rattle.sudo_parser.specs.Body.Defaults.{ReadsToParameter}
 use Rattle.sudo_parser.proofs.defaults.parameters.Given as goal
 
 abbrev pub invariant-parameters : goal.invariant-parameters

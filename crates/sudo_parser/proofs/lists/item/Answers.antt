@@ -3,7 +3,7 @@ use Rattle.std.specs.Result.{IfErr}
 use Rattle.sudo_text.specs.declared.token.Token.{Token}
 use Rattle.sudo_grammar.specs.declared.kind.Kind.{Kind}
 use Rattle.sudo_parser.specs.declared.stops.Stopped.{Stopped}
-use Rattle.sudo_parser.specs.Lists.{ReadsBangs, StopsAtMember, StopsInItem}
+use Rattle.sudo_parser.specs.Body.Lists.{ReadsBangs, StopsAtMember, StopsInItem}
 use Rattle.sudo_parser.proofs.ListSteps.{item-stops}
 use Rattle.sudo_parser.proofs.lists.item.Goals as goal
 

@@ -1,6 +1,6 @@
 use Rattle.std.proofs.Common.{sym, subst, arith}
 use Rattle.sudo_text.specs.declared.token.Mark.TheVariants as marks
-use Rattle.sudo_parser.specs.Lists.{ReadsToItem, ReadsItems, StopsInItems}
+use Rattle.sudo_parser.specs.Body.Lists.{ReadsToItem, ReadsItems, StopsInItems}
 use Rattle.sudo_parser.proofs.ListSteps.{items-more, items-end, items-stop, next-less}
 use Rattle.sudo_parser.proofs.Steps.{passed-on}
 use Rattle.sudo_parser.proofs.lists.members.Goals as goal

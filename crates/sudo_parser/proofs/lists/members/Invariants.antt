@@ -1,5 +1,5 @@
 use Rattle.std.proofs.Common.{◌≤◌, length}
-use Rattle.sudo_parser.specs.Lists.{ReadsToItem}
+use Rattle.sudo_parser.specs.Body.Lists.{ReadsToItem}
 use Rattle.sudo_parser.proofs.lists.members.Given as goal
 
 abbrev pub invariant-items : goal.invariant-items

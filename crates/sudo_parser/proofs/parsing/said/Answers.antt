@@ -1,5 +1,5 @@
 use Rattle.std.proofs.Common.{rules, subst}
-use Rattle.sudo_parser.specs.Faults.{IsFaultOf}
+use Rattle.sudo_parser.specs.Body.Faults.{IsFaultOf}
 use Rattle.sudo_parser.specs.Limits.{room_of}
 use Rattle.sudo_parser.proofs.FaultLemmas.{grammar_fault_of, says_entry}
 use Rattle.sudo_parser.proofs.parsing.said.Goals as goal

@@ -3,7 +3,7 @@ use Rattle.std.specs.Result.{IsErrAnd}
 use Rattle.sudo_grammar.specs.declared.policy.EntryBody.{EntryBody}
 use Rattle.sudo_parser.specs.declared.stops.Stopped.{Stopped}
 use Rattle.sudo_grammar.specs.Reading.{Stop}
-use Rattle.sudo_parser.specs.Stops.{Stops, GivesEntry}
+use Rattle.sudo_parser.specs.Body.Stops.{Stops, GivesEntry}
 use Rattle.sudo_parser.proofs.RuleSteps.{rule-reads, rule-stops}
 use Rattle.sudo_parser.proofs.rules.rule.Goals as goal
 

@@ -1,5 +1,5 @@
 use Rattle.std.proofs.Common.{◌≤◌, length}
-use Rattle.sudo_parser.specs.Rules.{ReadsToSection}
+use Rattle.sudo_parser.specs.Body.Rules.{ReadsToSection}
 use Rattle.sudo_parser.proofs.rules.sections.Given as goal
 
 abbrev pub invariant-sections : goal.invariant-sections

@@ -1,4 +1,4 @@
-use Rattle.sudo_parser.specs.Rules.{StopsInSpec}
+use Rattle.sudo_parser.specs.Body.Rules.{StopsInSpec}
 use Rattle.sudo_parser.proofs.Steps.{passed-on}
 use Rattle.sudo_parser.proofs.RuleSteps.{spec-reads, spec-stops}
 use Rattle.sudo_parser.proofs.rules.spec.Goals as goal

@@ -1,5 +1,5 @@
 use Rattle.std.proofs.Common.{◌≤◌, length}
-use Rattle.sudo_parser.specs.Rules.{ReadsToSpec}
+use Rattle.sudo_parser.specs.Body.Rules.{ReadsToSpec}
 use Rattle.sudo_parser.proofs.rules.specs.Given as goal
 
 abbrev pub invariant-specs : goal.invariant-specs

@@ -1,5 +1,5 @@
 use Rattle.std.proofs.Common.{length}
-use Rattle.sudo_parser.specs.Rules.{ReadsToTag}
+use Rattle.sudo_parser.specs.Body.Rules.{ReadsToTag}
 use Rattle.sudo_parser.proofs.rules.tags.Given as goal
 
 abbrev pub invariant-tags : goal.invariant-tags

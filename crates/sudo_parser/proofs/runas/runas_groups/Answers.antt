@@ -1,5 +1,5 @@
 use Rattle.std.proofs.Common.{refl}
-use Rattle.sudo_parser.specs.Runas.{StopsInGroups}
+use Rattle.sudo_parser.specs.Body.Runas.{StopsInGroups}
 use Rattle.sudo_parser.proofs.Steps.{passed-on}
 use Rattle.sudo_parser.proofs.RunasSteps.{groups-stop}
 use Rattle.sudo_parser.proofs.runas.runas_groups.Goals as goal

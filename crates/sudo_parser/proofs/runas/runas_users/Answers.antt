@@ -1,5 +1,5 @@
 use Rattle.std.proofs.Common.{refl}
-use Rattle.sudo_parser.specs.Runas.{StopsInUsers}
+use Rattle.sudo_parser.specs.Body.Runas.{StopsInUsers}
 use Rattle.sudo_parser.proofs.Steps.{passed-on}
 use Rattle.sudo_parser.proofs.RunasSteps.{users-stop}
 use Rattle.sudo_parser.proofs.runas.runas_users.Goals as goal

@@ -1,5 +1,5 @@
 use Rattle.std.proofs.Common.{◌≡◌, drop}
-use Rattle.sudo_parser.specs.Lists.{ReadsBangs}
+use Rattle.sudo_parser.specs.Body.Lists.{ReadsBangs}
 use Rattle.sudo_parser.proofs.tokens.bangs.Given as goal
 
 abbrev pub invariant-loop-token : goal.invariant-loop-token

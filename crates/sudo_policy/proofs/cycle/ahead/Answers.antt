@@ -1,8 +1,8 @@
 use Rattle.std.proofs.Common.{◌<◌, ◌≡◌, ℕ, List, Some, true, false, Option, length, get_or, sym, ap, ◌∙◌, subst, refl}
 use Rattle.std.specs.Prelude.{slice_get, Contains}
 use Rattle.std.proofs.lemmas.Option.{slice_get_read}
-use Rattle.sudo_policy.specs.Graph.{Links}
-use Rattle.sudo_policy.specs.Marking.{AreSet}
+use Rattle.sudo_policy.specs.Body.Graph.{Links}
+use Rattle.sudo_policy.specs.Body.Marking.{AreSet}
 use Rattle.sudo_policy.proofs.MarkingLemmas.{row_inside, AreSet-back}
 use Rattle.sudo_policy.proofs.StateLemmas.{within_get}
 use Rattle.sudo_policy.proofs.PastLemmas.{row_path, path_row, PathPast-end}

@@ -1,6 +1,6 @@
 use Rattle.std.proofs.Common.{◌≡◌, false, replicate, length, sym, ◌∙◌, arith}
 use Rattle.std.specs.List.{list_any}
-use Rattle.sudo_policy.specs.Graph.{is_looped}
+use Rattle.sudo_policy.specs.Body.Graph.{is_looped}
 use Rattle.sudo_policy.proofs.CycleLemmas.{no_marks, cycle_free, Decided-begin}
 use Rattle.sudo_policy.proofs.MarkingLemmas.{same_marks}
 use Rattle.sudo_policy.proofs.cycle.cycles.Goals as goal

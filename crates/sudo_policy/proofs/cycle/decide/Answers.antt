@@ -1,6 +1,6 @@
 use Rattle.std.proofs.Common.{ℕ, List, Bool, true, length, ap, subst, arith}
 use Rattle.std.specs.Prelude.{Contains}
-use Rattle.sudo_policy.specs.Marking.{AreSet}
+use Rattle.sudo_policy.specs.Body.Marking.{AreSet}
 use Rattle.sudo_policy.proofs.CycleLemmas.{Decided-next, path_inside}
 use Rattle.sudo_policy.proofs.MarkingLemmas.{AreSet-kept, marked_more}
 use Rattle.sudo_policy.proofs.StateLemmas.{get_set_same}

@@ -1,5 +1,5 @@
 use Rattle.std.proofs.Common.{◌≡◌, ◌<◌, ℕ, length, replicate, true}
-use Rattle.sudo_policy.specs.Marking.{Decided, IsMarked}
+use Rattle.sudo_policy.specs.Body.Marking.{Decided, IsMarked}
 use Rattle.sudo_policy.proofs.cycle.decide_all.Given as goal
 
 abbrev pub invariant-loop-node : goal.invariant-loop-node

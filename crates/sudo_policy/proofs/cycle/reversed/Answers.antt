@@ -1,7 +1,7 @@
 use Rattle.std.proofs.Common.{◌≡◌, ◌+◌, ℕ, List, Option, Some, drop, length, refl, sym, ap, ◌∙◌, subst, arith}
 use Rattle.std.specs.Prelude.{slice_get}
 use Rattle.std.proofs.lemmas.Option.{slice_get_read}
-use Rattle.sudo_policy.specs.Marking.{TurnedTo, RowTurned}
+use Rattle.sudo_policy.specs.Body.Marking.{TurnedTo, RowTurned}
 use Rattle.sudo_policy.proofs.MarkingLemmas.{row_inside, written_back, TurnedTo-next}
 use Rattle.sudo_policy.proofs.cycle.reversed.Goals as goal
 

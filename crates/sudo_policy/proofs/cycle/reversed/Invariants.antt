@@ -1,6 +1,6 @@
 use Rattle.std.proofs.Common.{◌≡◌, ℕ, List, [], length, Some, Option}
 use Rattle.std.specs.Prelude.{slice_get}
-use Rattle.sudo_policy.specs.Marking.{TurnedTo}
+use Rattle.sudo_policy.specs.Body.Marking.{TurnedTo}
 use Rattle.sudo_policy.proofs.cycle.reversed.Given as goal
 
 abbrev pub invariant-loop : goal.invariant-loop

@@ -1,7 +1,7 @@
 use Rattle.std.proofs.Common.{ℕ, List, Some, Bool, true, false, length, sym, ap, ◌∙◌, subst, arith}
 use Rattle.std.specs.Prelude.{Contains}
 use Rattle.std.proofs.lemmas.List.{length-replicate}
-use Rattle.sudo_policy.specs.Marking.{AreSet}
+use Rattle.sudo_policy.specs.Body.Marking.{AreSet}
 use Rattle.sudo_policy.proofs.CycleLemmas.{round_is}
 use Rattle.sudo_policy.proofs.MarkingLemmas.{same_marks, AreSet-back, IsClosed-turned}
 use Rattle.sudo_policy.proofs.PastLemmas.{PathPast-end}

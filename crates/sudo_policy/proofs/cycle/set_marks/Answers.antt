@@ -1,7 +1,7 @@
 use Rattle.std.proofs.Common.{ℕ, List, get_or, set, take, sym, subst, arith}
 use Rattle.std.proofs.lemmas.List.{take_more}
 use Rattle.std.proofs.lemmas.List.Elements.{Contains-get_or}
-use Rattle.sudo_policy.specs.Marking.{AreSet}
+use Rattle.sudo_policy.specs.Body.Marking.{AreSet}
 use Rattle.sudo_policy.proofs.MarkingLemmas.{AreSet-next}
 use Rattle.sudo_policy.proofs.cycle.set_marks.Goals as goal
 

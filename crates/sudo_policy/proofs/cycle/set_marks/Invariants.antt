@@ -1,5 +1,5 @@
 use Rattle.std.proofs.Common.{take}
-use Rattle.sudo_policy.specs.Marking.{AreSet}
+use Rattle.sudo_policy.specs.Body.Marking.{AreSet}
 use Rattle.sudo_policy.proofs.cycle.set_marks.Given as goal
 
 abbrev pub invariant-loop-alias : goal.invariant-loop-alias

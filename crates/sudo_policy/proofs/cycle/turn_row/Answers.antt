@@ -1,7 +1,7 @@
 use Rattle.std.proofs.Common.{◌∷◌, [], ℕ, List, Option, None, length, take, get_or, sym, subst}
 use Rattle.std.proofs.lemmas.List.{take_more}
-use Rattle.sudo_policy.specs.Graph.{IsInside}
-use Rattle.sudo_policy.specs.Marking.{RowTurned}
+use Rattle.sudo_policy.specs.Body.Graph.{IsInside}
+use Rattle.sudo_policy.specs.Body.Marking.{RowTurned}
 use Rattle.sudo_policy.proofs.MarkingLemmas.{inside_row, RowTurned-append}
 use Rattle.sudo_policy.proofs.cycle.turn_row.Goals as goal
 

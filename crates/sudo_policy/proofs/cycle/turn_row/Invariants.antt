@@ -1,5 +1,5 @@
 use Rattle.std.proofs.Common.{take}
-use Rattle.sudo_policy.specs.Marking.{RowTurned}
+use Rattle.sudo_policy.specs.Body.Marking.{RowTurned}
 use Rattle.sudo_policy.proofs.cycle.turn_row.Given as goal
 
 abbrev pub invariant-loop-link : goal.invariant-loop-link

@@ -4,7 +4,7 @@ use Rattle.sudo_grammar.specs.declared.policy.Policy.{Policy}
 use Rattle.sudo_policy.specs.declared.survey.Named.{Named}
 use Rattle.sudo_policy.specs.declared.survey.Survey.{Survey}
 use Rattle.sudo_policy.specs.Definitions.{Defined, definitions}
-use Rattle.sudo_policy.specs.Named.{named_view, listed_view, IsSurvey, IsPlaced}
+use Rattle.sudo_policy.specs.Body.Named.{named_view, listed_view, IsSurvey, IsPlaced}
 use Rattle.sudo_policy.proofs.ExaminedLemmas.{leads_inside, are_findings, sound_is}
 use Rattle.sudo_policy.proofs.IndexLemmas.{IsIndex-survey}
 use Rattle.sudo_policy.proofs.examination.examine.Goals as goal

@@ -1,9 +1,9 @@
 use Rattle.std.proofs.Common.{◌≡◌, ℕ, not, List, Option, map, length, sym, ap, ◌∙◌, subst}
 use Rattle.std.specs.Prelude.{flat_map}
 use Rattle.sudo_policy.specs.declared.survey.Named.{Named}
-use Rattle.sudo_policy.specs.Graph.{Links, IsClosed, IsInside, IsReached, MarksOf, Path, StatesHold}
-use Rattle.sudo_policy.specs.Judgement.{is_deep, is_wide}
-use Rattle.sudo_policy.specs.Named.{named_view, listed_view, row_of_alias, granting_row}
+use Rattle.sudo_policy.specs.Body.Graph.{Links, IsClosed, IsInside, IsReached, MarksOf, Path, StatesHold}
+use Rattle.sudo_policy.specs.Body.Judgement.{is_deep, is_wide}
+use Rattle.sudo_policy.specs.Body.Named.{named_view, listed_view, row_of_alias, granting_row}
 use Rattle.sudo_policy.proofs.ExaminedLemmas.{links_closed, roots_inside, views_inside, judged_is, length_mapped}
 use Rattle.sudo_policy.proofs.examination.judge.Goals as goal
 

@@ -1,7 +1,7 @@
 use Rattle.std.proofs.Common.{◌≡◌, ◌++◌, map}
 use Rattle.std.specs.List.{items_where_true}
 use Rattle.sudo_policy.specs.Found.{finding_on}
-use Rattle.sudo_policy.specs.Named.{named_view}
+use Rattle.sudo_policy.specs.Body.Named.{named_view}
 use Rattle.sudo_policy.proofs.examination.push_marked.Given as goal
 
 abbrev pub invariant-loop-alias : goal.invariant-loop-alias

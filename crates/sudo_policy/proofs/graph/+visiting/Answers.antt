@@ -6,7 +6,7 @@ use Rattle.sudo_policy.specs.declared.graph.State.{State}
 use Rattle.sudo_policy.specs.declared.graph.State.TheVariants.{New, Open}
 use Rattle.sudo_policy.specs.declared.graph.Measure.{Measure}
 use Rattle.sudo_policy.specs.Following.{joined}
-use Rattle.sudo_policy.specs.Graph.{Edge, Path, step, Turned, beside, link_measure, done_measure}
+use Rattle.sudo_policy.specs.Body.Graph.{Edge, Path, step, Turned, beside, link_measure, done_measure}
 use Rattle.sudo_policy.proofs.GraphLemmas.{Path-edge}
 use Rattle.sudo_policy.proofs.StateLemmas.{Known, settled_as, known_none, near_open, known_next, start_holds, end_holds, end_turned, end_settled, row_edge, new_count-below, length_set, within_get, Turned-refl, Turned-trans}
 use Rattle.sudo_policy.proofs.graph.+visiting.Goals as goal

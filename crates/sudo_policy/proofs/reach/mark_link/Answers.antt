@@ -1,5 +1,5 @@
 use Rattle.std.proofs.Common.{ℕ, length, true, false, sym, subst, set, List, ◌∷◌, []}
-use Rattle.sudo_policy.specs.Marking.{Marked}
+use Rattle.sudo_policy.specs.Body.Marking.{Marked}
 use Rattle.sudo_policy.proofs.MarkingLemmas.{inside_link, read_at, Marked-old, Marked-new}
 use Rattle.sudo_policy.proofs.reach.mark_link.Goals as goal
 

@@ -1,7 +1,7 @@
 use Rattle.std.proofs.Common.{◌∷◌, [], ℕ, List, Option, None, length, take, get_or, sym, subst}
 use Rattle.std.proofs.lemmas.List.{take_more}
-use Rattle.sudo_policy.specs.Graph.{IsInside}
-use Rattle.sudo_policy.specs.Marking.{Marked}
+use Rattle.sudo_policy.specs.Body.Graph.{IsInside}
+use Rattle.sudo_policy.specs.Body.Marking.{Marked}
 use Rattle.sudo_policy.proofs.MarkingLemmas.{inside_row, Marked-append}
 use Rattle.sudo_policy.proofs.reach.mark_row.Goals as goal
 

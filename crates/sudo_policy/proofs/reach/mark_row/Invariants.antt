@@ -1,5 +1,5 @@
 use Rattle.std.proofs.Common.{take}
-use Rattle.sudo_policy.specs.Marking.{Marked}
+use Rattle.sudo_policy.specs.Body.Marking.{Marked}
 use Rattle.sudo_policy.proofs.reach.mark_row.Given as goal
 
 abbrev pub invariant-loop-link : goal.invariant-loop-link

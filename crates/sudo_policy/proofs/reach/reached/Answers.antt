@@ -1,5 +1,5 @@
 use Rattle.std.proofs.Common.{◌≡◌, List, Bool, false, replicate, drop, length, sym, ◌∙◌, subst, arith}
-use Rattle.sudo_policy.specs.Graph.{IsReached, MarksOf}
+use Rattle.sudo_policy.specs.Body.Graph.{IsReached, MarksOf}
 use Rattle.sudo_policy.proofs.MarkingLemmas.{same_marks, written_back}
 use Rattle.sudo_policy.proofs.PastLemmas.{MarksOf-spread}
 use Rattle.sudo_policy.proofs.reach.reached.Goals as goal

@@ -1,8 +1,8 @@
 use Rattle.std.proofs.Common.{rules, ◌<◌, ◌≡◌, ℕ, [], List, Some, length, get_or, sym, ap, ◌∙◌, subst, arith, refl, inl, Option}
 use Rattle.std.specs.Prelude.{slice_get}
 use Rattle.std.proofs.lemmas.Option.{slice_get_read}
-use Rattle.sudo_policy.specs.Graph.{Links}
-use Rattle.sudo_policy.specs.Marking.{Marked}
+use Rattle.sudo_policy.specs.Body.Graph.{Links}
+use Rattle.sudo_policy.specs.Body.Marking.{Marked}
 use Rattle.sudo_policy.proofs.MarkingLemmas.{row_inside}
 use Rattle.sudo_policy.proofs.PastLemmas.{Spreads, Spreads-begin, Spreads-next, Spreads-found, Spreads-set, waiting_inside}
 use Rattle.sudo_policy.proofs.reach.spread.Goals as goal

@@ -1,5 +1,5 @@
 use Rattle.std.proofs.Common.{◌+◌, ◌*◌, length}
-use Rattle.sudo_policy.specs.Marking.{unmarked}
+use Rattle.sudo_policy.specs.Body.Marking.{unmarked}
 use Rattle.sudo_policy.proofs.PastLemmas.{Spreads}
 use Rattle.sudo_policy.proofs.reach.spread.Given as goal
 

@@ -2,7 +2,7 @@ use Rattle.std.proofs.Common.{◌≡◌, ◌<◌, List, get_or, map, length, ref
 use Rattle.std.proofs.lemmas.Option.{slice_get_read}
 use Rattle.sudo_grammar.specs.declared.policy.Entry.{Entry}
 use Rattle.sudo_policy.specs.Definitions.{definitions_of}
-use Rattle.sudo_policy.specs.Named.{named_view}
+use Rattle.sudo_policy.specs.Body.Named.{named_view}
 use Rattle.sudo_policy.proofs.SurveyLemmas.{flat_step}
 use Rattle.sudo_policy.proofs.survey.definitions.Goals as goal
 

@@ -1,7 +1,7 @@
 use Rattle.std.proofs.Common.{◌≡◌, ◌++◌, map, drop}
 use Rattle.std.specs.Prelude.{All, flat_map}
 use Rattle.sudo_policy.specs.Definitions.{definitions, definitions_of}
-use Rattle.sudo_policy.specs.Named.{named_view, IsPlaced}
+use Rattle.sudo_policy.specs.Body.Named.{named_view, IsPlaced}
 use Rattle.sudo_policy.proofs.survey.definitions.Given as goal
 
 abbrev pub invariant-loop-at : goal.invariant-loop-at

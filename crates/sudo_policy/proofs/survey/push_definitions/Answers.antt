@@ -4,7 +4,7 @@ use Rattle.std.proofs.lemmas.Option.{slice_get_read}
 use Rattle.sudo_grammar.specs.declared.policy.Definition.{Definition}
 use Rattle.sudo_policy.proofs.SurveyLemmas.{placed_push, push_step, same_defined}
 use Rattle.sudo_policy.specs.Definitions.{definition_in}
-use Rattle.sudo_policy.specs.Named.{named_view}
+use Rattle.sudo_policy.specs.Body.Named.{named_view}
 use Rattle.sudo_policy.proofs.survey.push_definitions.Goals as goal
 
 pub loop-at-preserved : goal.loop-at-preserved

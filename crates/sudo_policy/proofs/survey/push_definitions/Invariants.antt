@@ -2,7 +2,7 @@ use Rattle.std.proofs.Common.{◌≡◌, ◌++◌, map, drop}
 use Rattle.std.specs.Prelude.{All}
 use Rattle.sudo_grammar.specs.declared.policy.Policy.{Policy}
 use Rattle.sudo_policy.specs.Definitions.{definitions_of_list}
-use Rattle.sudo_policy.specs.Named.{named_view, IsPlaced, StandAt}
+use Rattle.sudo_policy.specs.Body.Named.{named_view, IsPlaced, StandAt}
 use Rattle.sudo_policy.proofs.survey.push_definitions.Given as goal
 
 abbrev pub invariant-loop-at : goal.invariant-loop-at

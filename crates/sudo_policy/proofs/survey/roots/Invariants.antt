@@ -1,6 +1,6 @@
 use Rattle.std.proofs.Common.{◌≡◌, ◌++◌, map, drop}
 use Rattle.std.specs.Prelude.{flat_map}
-use Rattle.sudo_policy.specs.Named.{granting_row, listed_view}
+use Rattle.sudo_policy.specs.Body.Named.{granting_row, listed_view}
 use Rattle.sudo_policy.proofs.survey.roots.Given as goal
 
 abbrev pub invariant-loop-list : goal.invariant-loop-list

@@ -3,7 +3,7 @@ use Rattle.std.proofs.lemmas.List.{map_push, take_more}
 use Rattle.sudo_policy.proofs.SurveyLemmas.{take_whole}
 use Rattle.sudo_policy.specs.declared.survey.Named.{Named}
 use Rattle.sudo_policy.specs.Definitions.{Defined}
-use Rattle.sudo_policy.specs.Named.{named_view, IsSurvey, IsPlaced}
+use Rattle.sudo_policy.specs.Body.Named.{named_view, IsSurvey, IsPlaced}
 use Rattle.sudo_policy.proofs.survey.surveyed.Goals as goal
 
 pub loop-definition-preserved : goal.loop-definition-preserved

@@ -1,7 +1,7 @@
 use Rattle.std.proofs.Common.{take, map}
 use Rattle.std.specs.Prelude.{All}
 use Rattle.sudo_grammar.specs.declared.policy.Policy.{Policy}
-use Rattle.sudo_policy.specs.Named.{named_view, IsSurvey, IsPlaced}
+use Rattle.sudo_policy.specs.Body.Named.{named_view, IsSurvey, IsPlaced}
 use Rattle.sudo_policy.proofs.survey.surveyed.Given as goal
 
 abbrev pub invariant-loop-definition : goal.invariant-loop-definition

@@ -1,6 +1,6 @@
 use Rattle.std.proofs.Common.{sym, ◌∙◌, refl}
-use Rattle.sudo_verdict.specs.Resolved.{body_resolves}
-use Rattle.sudo_verdict.specs.Queries.{question}
+use Rattle.sudo_verdict.specs.Body.Resolved.{body_resolves}
+use Rattle.sudo_verdict.specs.Body.Queries.{question}
 use Rattle.sudo_verdict.specs.Found.{entry_found}
 use Rattle.sudo_verdict.proofs.Lasts.{back_found, back_none, back_rest}
 use Rattle.sudo_verdict.proofs.Resolving.{bodies_resolve}

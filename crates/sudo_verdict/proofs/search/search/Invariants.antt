@@ -1,8 +1,8 @@
 use Rattle.std.proofs.Common.{◌≡◌, IsTrue, map, length}
 use Rattle.std.specs.List.{list_all}
-use Rattle.sudo_verdict.specs.Resolved.{body_resolves}
+use Rattle.sudo_verdict.specs.Body.Resolved.{body_resolves}
 use Rattle.sudo_verdict.specs.Last.{last_set}
-use Rattle.sudo_verdict.specs.Queries.{question}
+use Rattle.sudo_verdict.specs.Body.Queries.{question}
 use Rattle.sudo_verdict.specs.Found.{entry_found}
 use Rattle.sudo_verdict.proofs.search.search.Given as goal
 

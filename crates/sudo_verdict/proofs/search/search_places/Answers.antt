@@ -1,6 +1,6 @@
 use Rattle.std.proofs.Common.{sym, ◌∙◌}
 use Rattle.sudo_policy.specs.Resolving.{command_resolves}
-use Rattle.sudo_verdict.specs.Queries.{question}
+use Rattle.sudo_verdict.specs.Body.Queries.{question}
 use Rattle.sudo_verdict.proofs.Lasts.{back_rest}
 use Rattle.sudo_verdict.proofs.Searching.{refused_rest, places_rest, places_decide, places_silent, places_end}
 use Rattle.sudo_verdict.proofs.search.search_places.Goals as goal

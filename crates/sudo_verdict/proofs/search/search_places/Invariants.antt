@@ -1,7 +1,7 @@
 use Rattle.std.proofs.Common.{◌≡◌, true, false, IsTrue, take, length}
 use Rattle.std.specs.List.{list_all}
 use Rattle.sudo_policy.specs.Resolving.{command_resolves}
-use Rattle.sudo_verdict.specs.Queries.{question}
+use Rattle.sudo_verdict.specs.Body.Queries.{question}
 use Rattle.sudo_verdict.specs.RunasForms.{runas_holds}
 use Rattle.sudo_verdict.specs.Tagged.{runas_before}
 use Rattle.sudo_verdict.specs.Found.{places_found}

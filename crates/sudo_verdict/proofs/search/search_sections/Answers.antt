@@ -1,6 +1,6 @@
 use Rattle.std.proofs.Common.{sym, ◌∙◌}
 use Rattle.sudo_policy.specs.Resolving.{section_resolves}
-use Rattle.sudo_verdict.specs.Queries.{question}
+use Rattle.sudo_verdict.specs.Body.Queries.{question}
 use Rattle.sudo_verdict.specs.Found.{section_found}
 use Rattle.sudo_verdict.proofs.Lasts.{back_found, back_none, back_rest}
 use Rattle.sudo_verdict.proofs.search.search_sections.Goals as goal

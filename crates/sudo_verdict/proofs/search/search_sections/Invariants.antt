@@ -2,7 +2,7 @@ use Rattle.std.proofs.Common.{◌≡◌, IsTrue, map, length}
 use Rattle.std.specs.List.{list_all}
 use Rattle.sudo_policy.specs.Resolving.{section_resolves}
 use Rattle.sudo_verdict.specs.Last.{last_set}
-use Rattle.sudo_verdict.specs.Queries.{question}
+use Rattle.sudo_verdict.specs.Body.Queries.{question}
 use Rattle.sudo_verdict.specs.Found.{section_found}
 use Rattle.sudo_verdict.proofs.search.search_sections.Given as goal
 

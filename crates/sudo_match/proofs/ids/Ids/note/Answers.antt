@@ -2,7 +2,7 @@ use Rattle.std.proofs.Common.{◌≡◌, ◌∙◌, ap, sym, ◌∷◌, ◌++◌
 use Rattle.std.specs.Prelude.{is_some}
 use Rattle.sudo_base.specs.Places.{place_of}
 use Rattle.sudo_base.proofs.IndexLemmas.{none-is}
-use Rattle.sudo_match.specs.IdEntry.{bare}
+use Rattle.sudo_match.specs.Body.IdEntry.{bare}
 use Rattle.sudo_match.proofs.IdLemmas.{insert_bare}
 use Rattle.sudo_match.proofs.ids.Ids.note.Goals as goal
 

@@ -4,7 +4,7 @@ use Rattle.std.proofs.lemmas.Option.{slice_get_within}
 use Rattle.sudo_match.specs.Class.{class_name}
 use Rattle.sudo_match.specs.Pattern.{item_of}
 use Rattle.sudo_match.specs.Reading.{seen}
-use Rattle.sudo_match.specs.Shown.{class_of, held_by}
+use Rattle.sudo_match.specs.Body.Shown.{class_of, held_by}
 use Rattle.sudo_match.proofs.CharsLemmas.{drop-none}
 use Rattle.sudo_match.proofs.ItemLemmas.{item_of-class, item_of-other, class_at-within, class_at-opened}
 use Rattle.sudo_match.proofs.patterns.Chars.item_at.Goals as goal

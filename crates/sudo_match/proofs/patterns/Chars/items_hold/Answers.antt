@@ -3,7 +3,7 @@ use Rattle.sudo_match.specs.Pattern.{items_after, item_of}
 use Rattle.sudo_match.specs.Reading.{seen}
 use Rattle.sudo_match.proofs.CharsLemmas.{seen-short}
 use Rattle.sudo_match.proofs.ItemLemmas.{held-some, held-none, found, found-more, found-end, items_after-none, items_after-close, items_after-next}
-use Rattle.sudo_match.specs.Closing.{NeverCloses}
+use Rattle.sudo_match.specs.Body.Closing.{NeverCloses}
 use Rattle.sudo_match.proofs.ClosingLemmas.{never-first}
 use Rattle.sudo_match.proofs.patterns.Chars.items_hold.Goals as goal
 

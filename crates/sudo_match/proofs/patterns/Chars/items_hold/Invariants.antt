@@ -3,7 +3,7 @@ use Rattle.std.specs.Prelude.{option_map}
 use Rattle.std.specs.List.{list_any}
 use Rattle.sudo_match.specs.Pattern.{item_holds, items_after}
 use Rattle.sudo_match.specs.Reading.{seen}
-use Rattle.sudo_match.specs.Closing.{Knows}
+use Rattle.sudo_match.specs.Body.Closing.{Knows}
 use Rattle.sudo_match.proofs.ItemLemmas.{found}
 use Rattle.sudo_match.proofs.patterns.Chars.items_hold.Given as goal
 

@@ -2,7 +2,7 @@ use Rattle.std.proofs.Common.{◌+◌, false, drop, sym, ◌∙◌, subst, arith
 use Rattle.std.proofs.lemmas.Bool.{not-false}
 use Rattle.sudo_match.specs.Pattern.{item_of}
 use Rattle.sudo_match.specs.Reading.{seen}
-use Rattle.sudo_match.specs.Closing.{Knows, NeverCloses}
+use Rattle.sudo_match.specs.Body.Closing.{Knows, NeverCloses}
 use Rattle.sudo_match.proofs.CharsLemmas.{seen-short}
 use Rattle.sudo_match.proofs.ItemLemmas.{held-some}
 use Rattle.sudo_match.proofs.ClosingLemmas.{knows-next, knows-first, knows-third, led-on}

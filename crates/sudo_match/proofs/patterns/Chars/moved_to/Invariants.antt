@@ -1,6 +1,6 @@
 use Rattle.std.proofs.Common.{◌-◌}
 use Rattle.sudo_match.specs.Reading.{seen}
-use Rattle.sudo_match.specs.Closing.{Knows}
+use Rattle.sudo_match.specs.Body.Closing.{Knows}
 use Rattle.sudo_match.proofs.patterns.Chars.moved_to.Given as goal
 
 abbrev pub invariant-loop-known : goal.invariant-loop-known

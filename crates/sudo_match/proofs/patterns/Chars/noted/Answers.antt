@@ -1,6 +1,6 @@
 use Rattle.std.proofs.Common.{sym, ◌∙◌, subst}
 use Rattle.sudo_match.specs.Reading.{seen}
-use Rattle.sudo_match.specs.Closing.{Knows, NeverCloses}
+use Rattle.sudo_match.specs.Body.Closing.{Knows, NeverCloses}
 use Rattle.sudo_match.proofs.ClosingLemmas.{first-never, knows-first}
 use Rattle.sudo_match.proofs.patterns.Chars.noted.Goals as goal
 

@@ -1,7 +1,7 @@
 use Rattle.std.proofs.Common.{sym, ap, ◌∙◌, ◌+◌, map, drop, length, arith}
 use Rattle.sudo_match.specs.Pattern.{is_plain, begins, class_end}
 use Rattle.sudo_match.specs.Reading.{seen}
-use Rattle.sudo_match.specs.Shown.{class_of}
+use Rattle.sudo_match.specs.Body.Shown.{class_of}
 use Rattle.sudo_match.proofs.CharsLemmas.{begins-class_form, and-then, and-no, seen-short, class_name-short}
 use Rattle.sudo_match.proofs.patterns.Chars.opens_class.Goals as goal
 

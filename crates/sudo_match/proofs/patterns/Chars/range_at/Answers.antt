@@ -1,7 +1,7 @@
 use Rattle.std.proofs.Common.{◌≡◌, ◌+◌, ◌&&◌, not, cond, sym, ap, ◌∙◌, arith}
 use Rattle.std.specs.Prelude.{slice_get}
 use Rattle.std.proofs.lemmas.Option.{slice_get_within}
-use Rattle.sudo_match.specs.Shown.{held_by}
+use Rattle.sudo_match.specs.Body.Shown.{held_by}
 use Rattle.sudo_match.specs.Pattern.{Range, Single}
 use Rattle.sudo_match.specs.Pattern.{has, is_plain}
 use Rattle.sudo_match.specs.Reading.{seen}

@@ -4,7 +4,7 @@ use Rattle.sudo_policy.specs.declared.index.Position.{Position}
 use Rattle.sudo_policy.specs.Definitions.{Defined, is_defined_in}
 use Rattle.sudo_policy.specs.Positions.{names_of}
 use Rattle.sudo_base.specs.Places.{place_of}
-use Rattle.sudo_policy.specs.Named.{named_view, IsIndexed}
+use Rattle.sudo_policy.specs.Body.Named.{named_view, IsIndexed}
 use Rattle.sudo_policy.proofs.SurveyLemmas.{known-from, unknown-from, firsts-known, firsts-new, repeats-known, repeats-new, IsIndexed-known, IsIndexed-new}
 use Rattle.sudo_policy.proofs.survey.Survey.add.Goals as goal
 

@@ -3,7 +3,7 @@ use Rattle.std.specs.Prelude.{slice_get}
 use Rattle.std.proofs.lemmas.Option.{slice_get_read}
 use Rattle.sudo_grammar.specs.declared.policy.Entry.{Entry}
 use Rattle.sudo_grammar.specs.declared.policy.Policy.{Policy}
-use Rattle.sudo_verdict.specs.Resolved.{body_resolves}
+use Rattle.sudo_verdict.specs.Body.Resolved.{body_resolves}
 use Rattle.sudo_verdict.specs.Postings.{AreLists, Covers}
 use Rattle.sudo_verdict.proofs.Resolving.{bodies_resolve}
 use Rattle.sudo_verdict.proofs.Posting.{lists-more, covers-more, all-at}

@@ -1,5 +1,5 @@
 use Rattle.std.proofs.Common.{Some, None}
-use Rattle.sudo_verdict.specs.Queries.{question}
+use Rattle.sudo_verdict.specs.Body.Queries.{question}
 use Rattle.sudo_verdict.proofs.Searching.{verdict_of_found, verdict_of_unknown}
 use Rattle.sudo_verdict.proofs.rule_index.RuleIndex.verdict.Goals as goal
 

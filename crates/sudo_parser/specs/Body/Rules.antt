@@ -14,7 +14,7 @@ use Rattle.sudo_grammar.specs.Forms.{as_tag}
 use Rattle.sudo_grammar.specs.Places.{Granting, Hosts, Command, Item, AfterCommand, Room}
 use Rattle.sudo_grammar.specs.Refusals.{is_option}
 use Rattle.sudo_grammar.specs.Reading.{reading}
-use Rattle.sudo_parser.specs.Stops.{Stops, IsNext, IsNotNext}
+use Rattle.sudo_parser.specs.Body.Stops.{Stops, IsNext, IsNotNext}
 
 -- a tag and the colon after it come next
 abbrev pub IsTagNext : List Token → Tag → List Token → Type 0

@@ -18,7 +18,7 @@ use Rattle.sudo_grammar.specs.Members.{atom_of}
 use Rattle.sudo_grammar.specs.Places.{Purpose, kind_for, Place, Item, AfterItem, Room, step, ended}
 use Rattle.sudo_grammar.specs.Refusals.{is_option, is_next, with_next, last_command, refused_at, refused_member}
 use Rattle.sudo_grammar.specs.Reading.{reading}
-use Rattle.sudo_parser.specs.Stops.{Stops, IsMark, IsNotNext}
+use Rattle.sudo_parser.specs.Body.Stops.{Stops, IsMark, IsNotNext}
 
 -- Exclamation marks are counted at these places.
 abbrev pub Counts : Room → (ℕ → Place) → Type 0

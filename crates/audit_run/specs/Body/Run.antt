@@ -7,10 +7,10 @@ use Rattle.audit_run.specs.declared.message.Outcome.{Outcome}
 use Rattle.audit_run.specs.Passes.{HandoffId}
 use Rattle.audit_run.specs.declared.crew.Crew.{Crew}
 use Rattle.audit_run.specs.declared.crew.Ended.{Ended}
-use Rattle.audit_run.specs.Gathered.{Gathers}
+use Rattle.audit_run.specs.Body.Gathered.{Gathers}
 use Rattle.audit_run.specs.Parts.{Stated, fault_in, run_jobs}
-use Rattle.audit_run.specs.FreshPasses.{IsFresh, fresh}
-use Rattle.audit_run.specs.Work.{AreParts, after_run}
+use Rattle.audit_run.specs.Body.FreshPasses.{IsFresh, fresh}
+use Rattle.audit_run.specs.Body.Work.{AreParts, after_run}
 use Rattle.sudo_match.specs.Known.{Known}
 use Rattle.sudo_grammar.specs.declared.policy.Policy.{Policy}
 

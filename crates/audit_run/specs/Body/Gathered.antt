@@ -14,7 +14,7 @@ use Rattle.audit_run.specs.declared.gather.Awaited.{Awaited}
 use Rattle.audit_run.specs.declared.gather.Awaited.TheVariants.{Sources, Workers}
 use Rattle.audit_run.specs.declared.gather.Gathering.{Gathering}
 use Rattle.audit_run.specs.Arrivals.{arrivals_of}
-use Rattle.audit_run.specs.FreshPasses.{gaining}
+use Rattle.audit_run.specs.Body.FreshPasses.{gaining}
 
 -- Only the bodies' proofs need the words that follow.
 

@@ -14,7 +14,7 @@ use Rattle.sudo_parser.specs.declared.stops.Stopped.TheVariants as stops
 use Rattle.sudo_grammar.specs.Openings.{is_word, operator_of}
 use Rattle.sudo_grammar.specs.Places.{DefaultsStart, AtParameter, AfterSwitch, AfterValue, Place, Room, step}
 use Rattle.sudo_grammar.specs.Reading.{reading}
-use Rattle.sudo_parser.specs.Stops.{Stops, IsMark}
+use Rattle.sudo_parser.specs.Body.Stops.{Stops, IsMark}
 
 -- What the line is bound to is read, if it is bound, up to other tokens.
 pub record ReadsBinding (ts : List Token) (b : Option Binding) (rest : List Token) : Type 0 where

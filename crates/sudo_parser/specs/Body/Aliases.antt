@@ -8,7 +8,7 @@ use Rattle.sudo_parser.specs.declared.stops.Stopped.{Stopped}
 use Rattle.sudo_grammar.specs.Places.{Defines, AliasName, AfterName, AfterItem, Room}
 use Rattle.sudo_grammar.specs.Refusals.{is_option, last_command}
 use Rattle.sudo_grammar.specs.Reading.{reading}
-use Rattle.sudo_parser.specs.Stops.{Stops, IsNotNext}
+use Rattle.sudo_parser.specs.Body.Stops.{Stops, IsNotNext}
 
 -- whether a further definition would be one too many
 abbrev pub IsFull : Room → Kind → List Definition → Bool → Type 0

@@ -1,6 +1,6 @@
 -- The marking of aliases that are reached: words that only proofs need.
 use Rattle.std.specs.Prelude.{◌≡◌, ℕ, ◌+◌, ◌*◌, ◌≤◌, ◌<◌, Bool, true, false, List, [], ◌∷◌, Option, Some, Contains, length, slice_get, if◌then◌else◌, ◌⊎◌}
-use Rattle.sudo_policy.specs.Graph.{Links, Edge, Path}
+use Rattle.sudo_policy.specs.Body.Graph.{Links, Edge, Path}
 
 abbrev pub IsMarked : List Bool → ℕ → Type 0
 IsMarked marks i = slice_get marks i ≡ Some true

@@ -10,7 +10,7 @@ use Rattle.sudo_parser.specs.declared.stops.Stopped.{Stopped}
 use Rattle.sudo_parser.specs.declared.stops.Stopped.TheVariants as stops
 use Rattle.sudo_grammar.specs.Places.{Granting, RunasUsers, RunasGroups, Place, Command, AfterItem, RunasStart, GroupsStart, Room}
 use Rattle.sudo_grammar.specs.Reading.{reading}
-use Rattle.sudo_parser.specs.Stops.{Stops, IsNext, IsNotNext}
+use Rattle.sudo_parser.specs.Body.Stops.{Stops, IsNext, IsNotNext}
 
 -- after the users between parentheses, if there are any
 abbrev pub users_place : Granting → Option (List Member) → Place

@@ -1,0 +1,3 @@
+-- Words that only the proofs of bodies need: no contract of a public function cites them.
+pub mod Answers
+pub mod Sender

@@ -1,0 +1,17 @@
+//! What the threads of an audit share.
+
+use crate::Handoff;
+use std::alloc::Global;
+use sudo_match::Directory;
+use sudo_policy::Checked;
+use sudo_verdict::RuleIndex;
+
+/// What the threads of an audit share: the policy with its index, the known users and hosts, and the queues.
+#[derive(Clone, Copy)]
+pub struct Shared<'e> {
+    pub alloc: Global,
+    pub policy: &'e Checked,
+    pub index: &'e RuleIndex,
+    pub directory: &'e Directory,
+    pub handoff: &'e Handoff,
+}

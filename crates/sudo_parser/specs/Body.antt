@@ -1,0 +1,10 @@
+-- Words that only the proofs of bodies need: no contract of a public function cites them.
+pub mod Aliases
+pub mod Defaults
+pub mod Faults
+pub mod Gives
+pub mod Lists
+pub mod Openings
+pub mod Rules
+pub mod Runas
+pub mod Stops
