@@ -1,13 +1,13 @@
 # All targets do all the set-up there is on a machine that has the Rattle toolchain.
 .PHONY: test run tools-test
 
-# Runs the tests of the tools, proves every crate from nothing, tries the wrong bodies in must-fail/, and runs the tests and
-# the program.
-test: tools-test
-	rt ci
+# Proves every crate from nothing, tries the wrong bodies in must-fail/, runs the tests and the program, and then the tests of
+# the tools on that program.
+test:
+	tools/gate
 
-# Runs the tests of the commands in tools/. What they need is installed where that is allowed; else what is missing is told,
-# and what needs it is skipped.
+# Runs the tests of the commands in tools/ alone. What they need is installed where that is allowed; else what is missing is
+# told, and what needs it is skipped; so is what needs the program where none is found.
 tools-test:
 	tools/tests/prepare
 	/usr/bin/python3 -m unittest discover -s tools/tests

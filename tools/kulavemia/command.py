@@ -36,6 +36,11 @@ def name() -> str:
     return os.path.basename(sys.argv[0])
 
 
+def called(other: str) -> str:
+    """Returns how another of the commands is called: as an installed one where this one is, else by its path here."""
+    return f"kulavemia-{other}" if name().startswith("kulavemia-") else f"tools/{other}"
+
+
 def warn(text: str) -> None:
     """Writes a warning to standard error."""
     print(f"{name()}: warning: {visible(text)}", file=sys.stderr)

@@ -7,7 +7,8 @@ from dataclasses import dataclass
 
 from kulavemia.lint_answers import FAILED, OK, REFUSED, RULES, Report
 from kulavemia.lint_located import Located, located
-from kulavemia.lint_show import picture, shown
+from kulavemia.lint_show import picture
+from kulavemia.text import visible
 
 ENDINGS = {OK: "ok", REFUSED: "refused", FAILED: "not checked"}
 SARIF_SCHEMA = "https://docs.oasis-open.org/sarif/sarif/v2.1.0/errata01/os/schemas/sarif-schema-2.1.0.json"
@@ -25,18 +26,18 @@ class Context:
 
 def place_text(path: str, line: int | None, column: int | None) -> str:
     """Returns `PATH:LINE:COLUMN`, as far as there is one."""
-    return ":".join([shown(path)] + [str(part) for part in (line, column) if part is not None])
+    return ":".join([visible(path)] + [str(part) for part in (line, column) if part is not None])
 
 
 def text_lines(item: Located) -> list[str]:
     """Returns the lines of a finding as text: what it is, a picture of the place, and the program's own place."""
     finding = item.finding
-    lines = [f"{place_text(finding.path, item.line, item.column)}: {finding.severity}: {shown(item.message)}"]
+    lines = [f"{place_text(finding.path, item.line, item.column)}: {finding.severity}: {visible(item.message)}"]
     if item.place:
         lines += picture(item.place.source, item.place.line, item.place.column)
     if item.is_moved:
         place = place_text(finding.path, finding.line, finding.column)
-        lines.append(f"      = sudo_audit: {place}: {shown(finding.text)}")
+        lines.append(f"      = sudo_audit: {place}: {visible(finding.text)}")
     return lines
 
 
@@ -47,7 +48,7 @@ def as_text(reports: list[Report], _context: Context) -> str:
         for finding in report.findings:
             lines += text_lines(located(finding))
         if not report.is_folder or report.status != OK:
-            lines.append(f"{shown(report.path)}: {ENDINGS[report.status]}")
+            lines.append(f"{visible(report.path)}: {ENDINGS[report.status]}")
     return "".join(line + "\n" for line in lines)
 
 

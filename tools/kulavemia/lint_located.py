@@ -3,9 +3,10 @@
 import functools
 from dataclasses import dataclass
 
+from kulavemia.lines import cut
 from kulavemia.lint_answers import Finding
 from kulavemia.lint_inputs import reason_not_read, text_of
-from kulavemia.lint_places import TEXT_LIMIT, Place, cut, physical_place
+from kulavemia.lint_places import TEXT_LIMIT, Place, physical_place
 
 
 @dataclass(frozen=True)

@@ -1,27 +1,11 @@
-"""Text of files and of names made safe to print, and the picture of a place."""
+"""The picture of a place."""
 
 import unicodedata
 
+from kulavemia.text import visible_character
+
 GUTTER = " | "
 WINDOW = 100
-
-
-def shown_character(character: str) -> str:
-    """Returns a character as it is printed: what steers a terminal or is no text becomes an escape."""
-    code = ord(character)
-    if 0xDC80 <= code <= 0xDCFF:
-        return f"\\x{code - 0xDC00:02x}"
-    category = unicodedata.category(character)
-    if category[0] != "C" and category not in ("Zl", "Zp"):
-        return character
-    if code < 0x100:
-        return f"\\x{code:02x}"
-    return f"\\u{code:04x}" if code < 0x10000 else f"\\U{code:08x}"
-
-
-def shown(text: str) -> str:
-    """Returns a text on one line, without what steers a terminal."""
-    return "".join(map(shown_character, text))
 
 
 def width(character: str) -> int:
@@ -35,7 +19,7 @@ def under(character: str) -> str:
     """Returns blanks as wide as a character is printed."""
     if character == "\t":
         return "\t"
-    return " " * sum(map(width, shown_character(character)))
+    return " " * sum(map(width, visible_character(character)))
 
 
 def picture(source: bytes, line: int, column: int | None) -> list[str]:
@@ -43,7 +27,7 @@ def picture(source: bytes, line: int, column: int | None) -> list[str]:
     characters = source.decode("utf-8", "surrogateescape").removesuffix("\r")
     start = max(0, (column or 1) - 1 - WINDOW)
     end = start + 2 * WINDOW
-    drawn = "".join(c if c == "\t" else shown_character(c) for c in characters[start:end])
+    drawn = "".join(c if c == "\t" else visible_character(c) for c in characters[start:end])
     before = "..." if start else ""
     after = "..." if end < len(characters) else ""
     number = f"{line:>5}"

@@ -6,6 +6,7 @@ from collections.abc import Callable, Iterator
 from typing import NamedTuple
 
 from kulavemia.command import Fault
+from kulavemia.lines import cut, is_comment, pieces
 
 FILES_LIMIT = 1024
 _INCLUDE = re.compile(rb"[@#]include(dir)?(?:[ \t]+(.*))?$", re.DOTALL)
@@ -14,7 +15,6 @@ _BARE_PATH = re.compile(rb'(?:[^ \t"\\]|\\.)*', re.DOTALL)
 _ESCAPED = re.compile(rb"\\(.)", re.DOTALL)
 _KEYWORD = re.compile(rb"(User|Runas|Host|Cmnd|Cmd)_Alias(?![^ \t!=,:()#\"])")
 _DEFAULTS = re.compile(rb"Defaults(?![^ \t@:!>])")
-_COMMENT = re.compile(rb"#(?!\d)(?!include(?:dir)?(?:[ \t]|$))")
 
 
 class Line(NamedTuple):
@@ -26,8 +26,8 @@ class Line(NamedTuple):
 
     def is_rule(self) -> bool:
         """Tells whether the line says who may do what: whether it is no other line."""
-        others = (_COMMENT, _INCLUDE, _KEYWORD, _DEFAULTS)
-        return bool(self.text) and not any(pattern.match(self.text) for pattern in others)
+        others = (_INCLUDE, _KEYWORD, _DEFAULTS)
+        return bool(self.text) and not is_comment(self.text) and not any(form.match(self.text) for form in others)
 
 
 class Include(NamedTuple):
@@ -39,23 +39,13 @@ class Include(NamedTuple):
 
 
 def lines_of(text: bytes) -> Iterator[Line]:
-    """Yields the logical lines: a line that ends in an odd number of backslashes goes on in the next one."""
-    physical = text.split(b"\n")
-    if physical and physical[-1] == b"":
-        physical.pop()
-    parts: list[bytes] = []
-    start = 0
-    for number, raw in enumerate(physical, 1):
-        line = raw.removesuffix(b"\r").lstrip(b" \t")
-        start = start if parts else number
-        goes_on = (len(line) - len(line.rstrip(b"\\"))) % 2 == 1
-        if goes_on and (parts or not _COMMENT.match(line)):
-            parts.append(line[:-1])
-            continue
-        yield Line(start, number - start + 1, b"".join((*parts, line)))
-        parts = []
-    if parts:
-        yield Line(start, len(physical) - start + 1, b"".join(parts))
+    """Yields the logical lines."""
+    physical = cut(text)
+    first = 1
+    while first <= len(physical):
+        run = pieces(physical, first)
+        yield Line(first, len(run), b"".join(piece.text for piece in run))
+        first += len(run)
 
 
 def include_of(line: Line) -> Include | None:

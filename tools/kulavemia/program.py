@@ -6,6 +6,7 @@ import io
 import os
 import shutil
 import subprocess
+import sys
 import tempfile
 from argparse import ArgumentParser
 from collections.abc import Iterable, Sequence
@@ -18,7 +19,8 @@ from kulavemia.requests import Source, batches
 from kulavemia.rows import row
 
 NAME = "sudo_audit"
-BUILT = os.path.join(os.path.dirname(__file__), "..", "..", "crates", NAME, "out", NAME)
+REPOSITORY = os.path.dirname(os.path.dirname(os.path.dirname(os.path.realpath(__file__))))
+BUILT = os.path.join(REPOSITORY, "crates", NAME, "out", NAME)
 MEANING = {PROGRAM: "the program sudo_audit is not there, or refuses; its own line is told"}
 
 
@@ -36,7 +38,8 @@ def add_options(words: ArgumentParser) -> None:
     words.add_argument(
         "--program",
         metavar="PATH",
-        help="the program sudo_audit (default: $SUDO_AUDIT, else that of PATH, else this repository's own build)",
+        help="the program sudo_audit (default: $SUDO_AUDIT, else that of PATH, the one beside this command, or the"
+        " repository's own build)",
     )
     words.add_argument(
         "--workers", type=int, default=2, metavar="N", help="how many threads judge, 1 to 16 (default 2)"
@@ -46,14 +49,13 @@ def add_options(words: ArgumentParser) -> None:
 def find(given: str | None) -> str:
     """Returns the path of the program. Raises `Fault` where it is not there."""
     named = given or os.environ.get("SUDO_AUDIT")
+    beside = os.path.join(os.path.dirname(os.path.abspath(sys.argv[0])), NAME)
+    found = shutil.which(named) if named else shutil.which(NAME) or shutil.which(beside) or shutil.which(BUILT)
+    if found:
+        return found
     if named:
-        if not os.access(named, os.X_OK) or os.path.isdir(named):
-            raise Fault(f"{named}: no program", PROGRAM)
-        return named
-    found = shutil.which(NAME) or os.path.normpath(BUILT)
-    if not os.access(found, os.X_OK):
-        raise Fault(f"no program {NAME}: build it, or name it by --program or $SUDO_AUDIT", PROGRAM)
-    return found
+        raise Fault(f"{named}: no program", PROGRAM)
+    raise Fault(f"no program {NAME}: build it, or name it by --program or $SUDO_AUDIT", PROGRAM)
 
 
 def sum_of(program: str) -> str:

@@ -3,10 +3,10 @@
 import os
 from typing import NamedTuple
 
-from kulavemia.command import Fault
+from kulavemia.command import Fault, called
 from kulavemia.policy import Include, Line, beside, include_of, kept_files, lines_of, read, rewritten
 
-HOW = "gather its files by tools/collect and name their folder by --collected, or the copied files by --tree"
+HOW = f"gather its files by {called('collect')} and name their folder by --collected, or the copied files by --tree"
 
 
 class Prepared(NamedTuple):

@@ -99,6 +99,17 @@ class Installed(unittest.TestCase):
         self.assertEqual(run(lint, "a", env=environment), "a: ok\n")
         self.assertEqual(run(lint, "--version", env=environment), f"kulavemia-lint {text_of('VERSION')}")
 
+    def test_installed_help_names_the_installed_commands(self):
+        self.do("install")
+        for name in sorted(os.listdir(self.at("/usr/local/bin"))):
+            if name.startswith("kulavemia-"):
+                with self.subTest(name):
+                    text = run(self.at(f"/usr/local/bin/{name}"), "--help")
+                    self.assertIn(f"usage: {name} ", text)
+                    self.assertNotIn("tools/", text)
+                with gzip.open(self.at(f"/usr/local/share/man/man1/{name}.1.gz"), "rt") as page:
+                    self.assertNotIn("tools/", page.read())
+
     def test_each_command_has_a_page_and_completions(self):
         self.do("install")
         commands = [name for name in os.listdir(self.at("/usr/local/bin"))]

@@ -14,11 +14,11 @@ STUB = os.path.join(TESTS, "lint_stub")
 sys.path[:0] = [TOOLS, TESTS]
 
 from kulavemia.lint_answers import FAILED, RULES, fault_of, report_of
-from kulavemia.lint_formats import github_property, github_text
+from kulavemia.lint_formats import github_property, github_text, place_text
 from kulavemia.lint_places import physical_place
-from kulavemia.lint_program import find_program
-from kulavemia.lint_show import picture, shown
+from kulavemia.lint_show import picture
 from lint_cases import CASES
+from support import PROGRAM, needs_program
 
 
 class Folder(unittest.TestCase):
@@ -74,14 +74,12 @@ class Places(Folder):
         self.assertIsNone(physical_place([], 1, 1))
         self.assertIsNone(physical_place([b"a"], 1, 3))
 
+    @needs_program
     def test_real_answers_are_the_recorded_ones(self):
-        program = find_program(None)
-        if program is None:
-            self.skipTest("the program sudo_audit is not built")
         for name, case in CASES.items():
             with self.subTest(name):
                 self.write("case", case.policy)
-                done = subprocess.run([program, "check", "case"], cwd=self.folder, capture_output=True, check=False)
+                done = subprocess.run([PROGRAM, "check", "case"], cwd=self.folder, capture_output=True, check=False)
                 answer = (done.returncode, done.stdout.decode(), done.stderr.decode())
                 self.assertEqual(answer, (case.status, case.output, case.complaint))
 
@@ -100,8 +98,8 @@ class Pictures(unittest.TestCase):
 
     def test_what_steers_a_terminal_is_escaped(self):
         self.assertEqual(
-            picture(b"a\x1b[31m\xffb", 1, 8), ["    1 | a\\x1b[31m\\xffb", "      |              ^"])
-        self.assertEqual(shown("a\u202eb\n\u2028"), "a\\u202eb\\x0a\\u2028")
+            picture(b"a\x1b[31m\xffb", 1, 8), ["    1 | a⟨U+001B⟩[31m⟨byte FF⟩b", "      | " + " " * 22 + "^"])
+        self.assertEqual(place_text("a\u202eb\n\u00a0", 1, None), "a⟨U+202E⟩b⟨U+000A⟩⟨U+00A0⟩:1")
 
     def test_long_lines_are_cut(self):
         source, caret = picture(b"a" * 500 + b"!" + b"b" * 500, 1, 501)
@@ -247,7 +245,7 @@ class Inputs(Folder):
     def test_a_program_that_is_not_there(self):
         status, output, complaint = self.lint("a", program="/gone")
         self.assertEqual((status, output), (4, ""))
-        self.assertIn("not found", complaint)
+        self.assertEqual(complaint, "lint: /gone: no program\n")
 
     def test_output_that_cannot_be_written(self):
         self.answer("a", 0, "ok\n")
@@ -257,23 +255,18 @@ class Inputs(Folder):
         self.assertEqual((done.returncode, done.stderr), (4, b"lint: standard output: No space left on device\n"))
 
 
+@needs_program
 class RealRuns(Folder):
     """Runs of the real program."""
 
-    def setUp(self):
-        super().setUp()
-        self.program = find_program(None)
-        if self.program is None:
-            self.skipTest("the program sudo_audit is not built")
-
     def test_example(self):
         example = os.path.join(os.path.dirname(TOOLS), "examples", "sudoers")
-        self.assertEqual(self.lint(example, program=self.program)[:2], (0, f"{example}: ok\n"))
+        self.assertEqual(self.lint(example, program=PROGRAM)[:2], (0, f"{example}: ok\n"))
 
     def test_a_fault_in_an_included_file(self):
         self.write("main", b"@includedir main.d\n")
         self.write("main.d/10", b"alice ALL = \\\n   ls\n")
-        status, output, _ = self.lint("main", program=self.program)
+        status, output, _ = self.lint("main", program=PROGRAM)
         self.assertEqual(status, 1)
         self.assertEqual(output.splitlines()[0], "main.d/10:2:4: error: not a command")
 

@@ -1,0 +1,156 @@
+"""Tests of `tools/gate`, with a stub in the place of `rt` and tests of its own in the place of the tools'."""
+
+import os
+import subprocess
+import time
+import unittest
+
+from support import TOOLS, Case
+
+BUILT = "crates/sudo_audit/out/sudo_audit"
+SAMPLES = """import os
+import unittest
+
+
+class Samples(unittest.TestCase):
+    def test_passes(self):
+        pass
+
+    def test_finds_the_program(self):
+        self.assertEqual(os.environ.get("SUDO_AUDIT"), os.path.abspath("crates/sudo_audit/out/sudo_audit"))
+
+    @unittest.skip("no moon")
+    def test_is_skipped(self):
+        pass
+"""
+FAILING = """import unittest
+
+
+class Failing(unittest.TestCase):
+    def test_fails_twice(self):
+        for part in range(2):
+            with self.subTest(part):
+                self.fail()
+
+    def test_has_an_error(self):
+        raise ValueError
+
+    @unittest.expectedFailure
+    def test_fails_as_expected(self):
+        self.fail()
+
+    @unittest.expectedFailure
+    def test_passes_against_expectation(self):
+        pass
+"""
+
+
+class Gate(Case):
+    def setUp(self) -> None:
+        super().setUp()
+        self.runnable("tools/tests/prepare", "#!/bin/sh\necho prepared\n")
+        self.write("tools/tests/test_samples.py", SAMPLES)
+
+    def runnable(self, name: str, text: str) -> str:
+        """Writes a file that can be run, and returns its path."""
+        path = self.write(name, text)
+        os.chmod(path, 0o755)
+        return path
+
+    def rt(self, text: str) -> None:
+        """Writes the stub of `rt`, which has to be called as `rt ci`."""
+        self.runnable("bin/rt", f'#!/bin/sh\n[ "$*" = ci ] || exit 9\n{text}')
+
+    def start(self) -> subprocess.Popen[str]:
+        """Starts the gate on the test's folder."""
+        environment = {name: value for name, value in os.environ.items() if name != "SUDO_AUDIT"}
+        environment["PATH"] = f"{self.path('bin')}:/usr/bin:/bin"
+        words = [os.path.join(TOOLS, "gate"), "--repository", self.folder]
+        streams = {"stdout": subprocess.PIPE, "stderr": subprocess.STDOUT}
+        return subprocess.Popen(words, env=environment, text=True, **streams)
+
+    def gate(self, status: int) -> list[str]:
+        """Runs the gate, and returns the lines that it prints."""
+        with self.start() as child:
+            lines = child.communicate()[0].splitlines()
+        self.assertEqual(child.returncode, status, lines)
+        return lines
+
+    def build(self) -> str:
+        """Returns the command that builds a program where `rt ci` does."""
+        out = self.path("crates", "sudo_audit", "out")
+        return f"mkdir -p {out} && cp {self.path('bin', 'rt')} {out}/sudo_audit\n"
+
+    def test_the_sum_is_the_last_line(self) -> None:
+        self.rt(f"{self.build()}echo proved; echo 3 passed, 0 failed; echo 40 passed, 0 failed\n")
+        lines = self.gate(0)
+        self.assertEqual(lines[:2], ["proved", "3 passed, 0 failed"])
+        self.assertEqual(lines[2], f"gate: the tests of the tools use {BUILT}")
+        self.assertEqual(lines[3], "prepared")
+        self.assertEqual(
+            lines[-2:], ["skipped: test_samples.Samples.test_is_skipped: no moon", "42 passed, 0 failed"]
+        )
+        self.assertNotIn("40 passed, 0 failed", lines)
+
+    def test_each_failing_test_counts_once(self) -> None:
+        self.write("tools/tests/test_failing.py", FAILING)
+        self.write("tools/tests/test_broken.py", "import nothing_of_this_name\n")
+        self.rt(f"{self.build()}echo 40 passed, 2 failed; exit 1\n")
+        self.assertEqual(self.gate(1)[-1], "43 passed, 6 failed")
+
+    def test_no_program(self) -> None:
+        self.rt("echo 3 passed, 1 failed; exit 1\n")
+        lines = self.gate(1)
+        self.assertIn(f"gate: rt ci left no program {BUILT}; tests that find no other one are skipped", lines)
+        self.assertEqual(lines[-1], "4 passed, 2 failed")
+
+    def test_no_last_line(self) -> None:
+        for text in ("echo stopped; exit 2", "printf stopped", "echo 3 passed, 0 failed; echo stopped"):
+            self.rt(text)
+            lines = self.gate(1)
+            self.assertEqual(lines[-3], "stopped")
+            self.assertRegex(lines[-2], "gate: rt ci ended with status [02], and its last line is not")
+            self.assertEqual(lines[-1], "0 passed, 1 failed")
+        self.rt("kill -9 $$")
+        self.assertEqual(self.gate(1)[-1], "0 passed, 1 failed")
+
+    def test_a_status_that_the_numbers_hide(self) -> None:
+        self.rt(f"{self.build()}echo 3 passed, 0 failed; exit 7\n")
+        lines = self.gate(1)
+        self.assertIn("gate: rt ci ended with status 7", lines)
+        self.assertEqual(lines[-1], "5 passed, 1 failed")
+
+    def test_no_tests(self) -> None:
+        os.unlink(self.path("tools/tests/test_samples.py"))
+        self.rt("echo 3 passed, 0 failed")
+        self.assertEqual(self.gate(1)[-1], "3 passed, 1 failed")
+        self.write("tools/tests/test_leaving.py", "raise SystemExit\n")
+        self.assertEqual(self.gate(1)[-1], "3 passed, 1 failed")
+
+    def test_no_rt(self) -> None:
+        self.assertEqual(self.gate(1), ["gate: rt: No such file or directory", "0 passed, 1 failed"])
+
+    def test_lines_are_passed_on_as_they_come(self) -> None:
+        self.rt("echo first; echo second; read -r line <$0.pipe; echo 1 passed, 0 failed\n")
+        os.mkfifo(self.path("bin", "rt.pipe"))
+        with self.start() as child:
+            self.assertEqual(child.stdout.readline(), "first\n")
+            with open(self.path("bin", "rt.pipe"), "w", encoding="utf-8"):
+                pass
+            child.communicate()
+
+    def test_to_stop_the_gate_stops_rt(self) -> None:
+        self.rt(f"echo $$ >{self.path('pid')}; echo; echo; exec sleep 60\n")
+        with self.start() as child:
+            child.stdout.readline()
+            child.terminate()
+            child.communicate()
+        self.assertEqual(child.returncode, 143)
+        started = time.monotonic()
+        while os.path.exists(f"/proc/{self.read('pid').strip()}") and time.monotonic() < started + 5:
+            time.sleep(0.05)
+        self.assertFalse(os.path.exists(f"/proc/{self.read('pid').strip()}"))
+
+
+if __name__ == "__main__":
+    unittest.main()
