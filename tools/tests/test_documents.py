@@ -7,7 +7,12 @@ docs/LAYERS.md, and each relative link.
 import glob
 import os
 import re
+import shutil
+import subprocess
+import tempfile
 import unittest
+
+from support import PROGRAM, needs_program
 
 REPOSITORY = os.path.dirname(os.path.dirname(os.path.dirname(os.path.realpath(__file__))))
 CRATES = os.path.join(REPOSITORY, "crates")
@@ -165,6 +170,52 @@ class Files(unittest.TestCase):
         for document in DOCUMENTS:
             wide = [number for number, line in enumerate(prose_of(document), 1) if len(line) > WIDEST]
             self.assertEqual(wide, [], document)
+
+
+def examples_of(document):
+    """Yields each command that an indented block of a document shows behind `$`, with the lines that follow it."""
+    command, shown = None, []
+    for line in text_of(document).splitlines() + ["end"]:
+        inside = line.startswith("    ")
+        if command and (not inside or line.startswith("    $ ")):
+            yield command, "".join(shown)
+            command = None
+        if line.startswith("    $ "):
+            command, shown = line[6:], []
+        elif inside:
+            shown.append(line[4:] + "\n")
+
+
+class Examples(unittest.TestCase):
+    """What documents show of the program."""
+
+    def shows(self, document):
+        """Fails where the program prints something else than the document shows, on the files that the document shows."""
+        data = os.path.join(CRATES, "sudo_audit", "data")
+        ran = 0
+        with tempfile.TemporaryDirectory() as folder:
+            for name in ("users.csv", "hosts.csv"):
+                shutil.copy(os.path.join(data, name), folder)
+            for command, shown in examples_of(document):
+                word, *words = command.split()
+                if word == "cat":
+                    path = os.path.join(folder, words[0])
+                    os.makedirs(os.path.dirname(path), exist_ok=True)
+                    with open(path, "w", encoding="utf-8") as file:
+                        file.write(shown)
+                elif word == "sudo_audit":
+                    ran += 1
+                    done = subprocess.run([PROGRAM, *words], cwd=folder, capture_output=True, text=True, check=False)
+                    self.assertEqual(done.stdout + done.stderr, shown, command)
+        return ran
+
+    @needs_program
+    def test_the_readme(self):
+        self.assertEqual(self.shows("README.md"), 1)
+
+    @needs_program
+    def test_the_definitions(self):
+        self.assertEqual(self.shows("docs/DEFINITIONS.md"), 3)
 
 
 if __name__ == "__main__":
