@@ -1,0 +1,229 @@
+"""Tests of the documents: what they name is there.
+
+Each function, clause and definition of the tables of README.md and docs/PROOFS.md, each file and each word behind it in
+docs/LAYERS.md, and each relative link.
+"""
+
+import glob
+import os
+import re
+import shutil
+import subprocess
+import tempfile
+import unittest
+
+from support import PROGRAM, needs_program
+
+REPOSITORY = os.path.dirname(os.path.dirname(os.path.dirname(os.path.realpath(__file__))))
+CRATES = os.path.join(REPOSITORY, "crates")
+DOCUMENTS = ["README.md"] + sorted(
+    os.path.relpath(path, REPOSITORY) for path in glob.glob(os.path.join(REPOSITORY, "docs", "*.md"))
+)
+WIDEST = 160
+CODE = re.compile(r"`([^`]+)`")
+LINK = re.compile(r"(?<!!)\[[^\]]*\]\(([^)\s]+)\)")
+DEFINITIONS = re.compile(r"((?:`\w+`(?:, )?)+) \((?:(\w+)/)?(\w+)\)")
+FILE = re.compile(r"^[\w.-]+(?:/[\w.*-]+)+$")
+NAMED_IN_FILE = re.compile(r"`([\w.-]+(?:/[\w.-]+)+)`: ((?:`[\w:]+`(?:, )?)+)")
+FUNCTION = r"^( *)(?:pub(?:\([a-z]+\))? )?fn {name}\b.*?^\1\{{"
+
+
+def text_of(path):
+    """Returns the text of a file of the repository."""
+    with open(os.path.join(REPOSITORY, path), encoding="utf-8") as file:
+        return file.read()
+
+
+def prose_of(document):
+    """Returns the lines of a document, with the lines of its blocks of code left empty."""
+    lines, fenced = [], False
+    for line in text_of(document).splitlines():
+        fence = line.startswith("```")
+        fenced ^= fence
+        lines.append("" if fence or fenced or line.startswith("    ") else line)
+    return lines
+
+
+def rows_of(document, columns):
+    """Yields the heading above and the cells of each row of the tables that have these columns."""
+    heading, inside = "", False
+    for line in prose_of(document):
+        if line.startswith("#"):
+            heading = line.lstrip("# ")
+        cells = [cell.strip() for cell in line.strip("|").split(" | ")] if line.startswith("|") else []
+        cells = [cell.strip("| ") for cell in cells]
+        if cells == columns:
+            inside = True
+        elif not cells:
+            inside = False
+        elif inside and not set("".join(cells)) <= set("-|: "):
+            yield heading, cells
+
+
+def sources_of(crate, folder, ending):
+    """Returns the paths of the files of a folder of a crate."""
+    return sorted(glob.glob(os.path.join(CRATES, crate, folder, "**", "*" + ending), recursive=True))
+
+
+def contracts_of(crate, name):
+    """Returns what stands before the bodies of the functions of this name, `Type::name` or `name`."""
+    kind, _, function = name.rpartition("::")
+    found = []
+    for path in sources_of(crate, "src", ".rt"):
+        text = text_of(path)
+        if kind and not re.search(rf"\b(?:impl|trait)\b[^{{]*\b{kind}\b", text):
+            continue
+        pattern = FUNCTION.format(name=function)
+        found += [match.group(0) for match in re.finditer(pattern, text, re.MULTILINE | re.DOTALL)]
+    return found
+
+
+def has_clause(contract, clause):
+    """Returns whether a contract ensures a clause of this name; the clause without a name is `unnamed`."""
+    name = r"\s*" if clause == "unnamed" else rf"\s+{clause}\s*"
+    return re.search(rf"\bensures{name}\{{", contract) is not None
+
+
+def declares(crate, file, word):
+    """Returns whether a file of definitions of a crate declares a word."""
+    pattern = rf"^(?:abbrev|unfoldable|record|data|opaque)[a-z ]* {word} :|^(?:pub )?record {word}\b"
+    pattern += rf"|^[a-z ]*\b{word}\b[^=\n]* : "
+    paths = [path for path in sources_of(crate, "specs", ".antt") if os.path.basename(path) == file + ".antt"]
+    return any(re.search(pattern, text_of(path), re.MULTILINE) for path in paths)
+
+
+def stands_in(path, word):
+    """Returns whether a file of code or of definitions has an item of this name."""
+    if path.endswith(".antt"):
+        return declares(path.split(os.sep)[1], os.path.basename(path)[:-5], word)
+    return re.search(rf"\b(?:fn|struct|enum|trait|const) {word}\b", text_of(path)) is not None
+
+
+def path_of(name):
+    """Returns the path of a file that a document names, from the repository or from its crates."""
+    crate = name.split("/")[0]
+    return os.path.join("crates", name) if os.path.isdir(os.path.join(CRATES, crate)) else name
+
+
+def anchors_of(document):
+    """Returns the anchors of the headings of a document."""
+    headings = [line.lstrip("#").strip() for line in prose_of(document) if line.startswith("#")]
+    return {re.sub(r"[^\w -]", "", heading.lower()).replace(" ", "-") for heading in headings}
+
+
+class Contracts(unittest.TestCase):
+    """What the tables of contracts name."""
+
+    def holds(self, crate, functions, clauses, definitions):
+        """Fails where a function, a clause or a definition of a row is not there."""
+        for name in CODE.findall(functions):
+            first, _, rest = name.partition("::")
+            owner, name = (first, rest) if os.path.isdir(os.path.join(CRATES, first)) else (crate, name)
+            contracts = contracts_of(owner, name)
+            self.assertTrue(contracts, f"{owner} has no function {name}")
+            for clause in CODE.findall(clauses) or [clauses]:
+                self.assertTrue(any(has_clause(one, clause) for one in contracts), f"{owner}, {name}: no clause {clause}")
+            for words, other, file in DEFINITIONS.findall(definitions):
+                for word in CODE.findall(words):
+                    self.assertTrue(declares(other or owner, file, word), f"{other or owner}: no {word} in {file}")
+
+    def test_the_readme(self):
+        rows = list(rows_of("README.md", ["Guarantee", "Function", "Clauses", "Definitions"]))
+        self.assertEqual(len(rows), 5)
+        for _, (_, functions, clauses, definitions) in rows:
+            self.holds("", functions, clauses, definitions)
+
+    def test_the_proofs(self):
+        rows = list(rows_of("docs/PROOFS.md", ["Claim", "Function", "Clauses", "Definitions"]))
+        self.assertGreater(len(rows), 60)
+        for crate, (claim, functions, clauses, definitions) in rows:
+            with self.subTest(crate=crate, claim=claim):
+                self.holds(crate, functions, clauses, definitions)
+
+
+class Files(unittest.TestCase):
+    """What documents name and link to."""
+
+    def test_named_files(self):
+        for document in DOCUMENTS:
+            for name in CODE.findall("\n".join(prose_of(document))):
+                top = name.split("/")[0]
+                if not FILE.match(name) or not re.search(r"\.(rt|antt|md|py|1|edit)$", name):
+                    continue
+                if top in os.listdir(CRATES) + ["docs", "tools", "packaging", "bench", "crates"]:
+                    with self.subTest(document=document, name=name):
+                        self.assertTrue(glob.glob(os.path.join(REPOSITORY, path_of(name))))
+
+    def test_words_of_named_files(self):
+        for document in DOCUMENTS:
+            for name, words in NAMED_IN_FILE.findall("\n".join(prose_of(document))):
+                for word in CODE.findall(words):
+                    with self.subTest(document=document, file=name, word=word):
+                        self.assertTrue(stands_in(path_of(name), word), f"{name} has no {word}")
+
+    def test_links(self):
+        for document in DOCUMENTS:
+            for target in LINK.findall("\n".join(prose_of(document))):
+                if re.match(r"[a-z]+:", target):
+                    continue
+                path, _, anchor = target.partition("#")
+                path = os.path.normpath(os.path.join(os.path.dirname(document), path)) if path else document
+                with self.subTest(document=document, target=target):
+                    self.assertTrue(os.path.exists(os.path.join(REPOSITORY, path)))
+                    if anchor:
+                        self.assertIn(anchor, anchors_of(path))
+
+    def test_widths(self):
+        for document in DOCUMENTS:
+            wide = [number for number, line in enumerate(prose_of(document), 1) if len(line) > WIDEST]
+            self.assertEqual(wide, [], document)
+
+
+def examples_of(document):
+    """Yields each command that an indented block of a document shows behind `$`, with the lines that follow it."""
+    command, shown = None, []
+    for line in text_of(document).splitlines() + ["end"]:
+        inside = line.startswith("    ")
+        if command and (not inside or line.startswith("    $ ")):
+            yield command, "".join(shown)
+            command = None
+        if line.startswith("    $ "):
+            command, shown = line[6:], []
+        elif inside:
+            shown.append(line[4:] + "\n")
+
+
+class Examples(unittest.TestCase):
+    """What documents show of the program."""
+
+    def shows(self, document):
+        """Fails where the program prints something else than the document shows, on the files that the document shows."""
+        data = os.path.join(CRATES, "sudo_audit", "data")
+        ran = 0
+        with tempfile.TemporaryDirectory() as folder:
+            for name in ("users.csv", "hosts.csv"):
+                shutil.copy(os.path.join(data, name), folder)
+            for command, shown in examples_of(document):
+                word, *words = command.split()
+                if word == "cat":
+                    path = os.path.join(folder, words[0])
+                    os.makedirs(os.path.dirname(path), exist_ok=True)
+                    with open(path, "w", encoding="utf-8") as file:
+                        file.write(shown)
+                elif word == "sudo_audit":
+                    ran += 1
+                    done = subprocess.run([PROGRAM, *words], cwd=folder, capture_output=True, text=True, check=False)
+                    self.assertEqual(done.stdout + done.stderr, shown, command)
+        return ran
+
+    @needs_program
+    def test_the_readme(self):
+        self.assertEqual(self.shows("README.md"), 1)
+
+    @needs_program
+    def test_the_definitions(self):
+        self.assertEqual(self.shows("docs/DEFINITIONS.md"), 3)
+
+
+if __name__ == "__main__":
+    unittest.main()
