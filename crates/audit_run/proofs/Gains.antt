@@ -12,7 +12,7 @@ use Rattle.audit_run.specs.Names.{answer}
 use Rattle.audit_run.specs.Passes.{PassView, with_job_taken, with_outcome_put, with_job_put}
 use Rattle.audit_run.specs.Body.FreshPasses.{gaining}
 use Rattle.audit_run.specs.Arrivals.{arrivals_of}
-use Rattle.audit_run.specs.Body.Gathered.{comes_of, is_end, is_stopped, IsOutOfMemory, Counts, Gathers, Conducts, HasConducted, Drains}
+use Rattle.audit_run.specs.Body.Gathered.{comes_of, is_end, is_stopped, IsOutOfMemory, Counts, Gathers, Conducts, HasGatheredAll, Drains}
 
 pub gaining_none : (p : PassView) → gaining p [] [] [] [] ≡ p
 gaining_none p = λ i. record p { jobs_put = append-nil p.jobs_put i; jobs_taken = append-nil p.jobs_taken i; outcomes_put = append-nil p.outcomes_put i; outcomes_taken = append-nil p.outcomes_taken i }
@@ -64,7 +64,7 @@ conducts_more p q r g h k js ks one two = record {
 
 -- it does not matter how many threads ran
 pub conducted : (p q : PassView) (g h : Gathering) (js : List Job) (sources workers : ℕ)
-    → Conducts p (record g { sources_running = sources; workers_running = workers }) js q h → HasConducted p g js q h
+    → Conducts p (record g { sources_running = sources; workers_running = workers }) js q h → HasGatheredAll p g js q h
 conducted p q g h js sources workers one = record {
   outcomes = one.outcomes;
   pass = one.pass;

@@ -19,8 +19,8 @@ use Rattle.audit_run.specs.declared.message.Job.{Job}
 use Rattle.audit_run.specs.declared.message.Outcome.{Outcome}
 use Rattle.audit_run.specs.Names.{answer}
 use Rattle.audit_run.specs.Passes.{PassView, split_off, with_joined, IsEmpty, IsWhole}
-use Rattle.audit_run.specs.declared.crew.Crew.{Crew}
-use Rattle.audit_run.specs.declared.crew.Ended.{Ended}
+use Rattle.audit_run.specs.declared.prepared.Prepared.{Prepared}
+use Rattle.audit_run.specs.declared.prepared.Ended.{Ended}
 use Rattle.audit_run.specs.declared.fault.AuditFault.{AuditFault}
 use Rattle.audit_run.specs.declared.gather.Gathering.{Gathering}
 use Rattle.audit_collect.specs.declared.fault.CollectFault.TheVariants as collect
@@ -93,8 +93,8 @@ faults_are [] (s ∷ ss) same = absurd (omega (arith, same))
 faults_are (o ∷ os) [] same = absurd (omega (arith, same))
 faults_are (o ∷ os) (s ∷ ss) same = ap (λ l. fault_in s ∷ l) (faults_are os ss (omega (arith, same)))
 
-pub faults_long : (names : Names) (told : List (ℕ × Option Ahead)) (sources : ℕ) (crew : Crew) (ended : Ended) → HasRun names told sources crew ended → length ended.faults.items ≡ length told
-faults_long names told sources crew ended run =
+pub faults_long : (names : Names) (told : List (ℕ × Option Ahead)) (sources : ℕ) (prepared : Prepared) (ended : Ended) → HasRun names told sources prepared ended → length ended.faults.items ≡ length told
+faults_long names told sources prepared ended run =
     ap (λ l. length l) run.faults ∙ (length_map (λ (part : ℕ × Stated). fault_in part.1) run.parts ∙ AllZip-long IsPart told run.parts run.read)
 
 -- where memory ran out while arrivals were gathered, the answer does not depend on them
@@ -190,14 +190,14 @@ senders_refused names sources told workers p NoThread few refuses = absurd refus
 senders_refused names sources told workers p Memory few refuses = tt
 senders_refused names sources told workers p TooManyParts few refuses = absurd refuses
 
-pub settled : (names : Names) (sources : List (List ℕ)) (told : List (Option Ahead)) (count workers : ℕ) (p p1 p2 p3 : PassView) (crew : Crew) (ended : Ended) (g : Gathering) (result : Result Report AuditFault)
+pub settled : (names : Names) (sources : List (List ℕ)) (told : List (Option Ahead)) (count workers : ℕ) (p p1 p2 p3 : PassView) (prepared : Prepared) (ended : Ended) (g : Gathering) (result : Result Report AuditFault)
     → length sources ≤ most_parts → IsRoster (roster sources) → length sources ≡ count → length told ≡ count
     → IsWhole p → IsEmpty p → (count + workers) + 1 < 1024
-    → vec_len crew.worker_passes ≡ workers → crew.gathering.collector ≡ start (roster sources) → crew.gathering.refused ≡ None → crew.pass ≡ split_off p → p1 ≡ lighter p ((count + workers) + 1)
-    → HasRun names (zip (owners sources) told) count crew ended → p2 ≡ with_joined p1 ended.pass → Drains names p2 ended.gathering p3 g → (IsWhole p2 → IsEmpty p3)
+    → vec_len prepared.worker_passes ≡ workers → prepared.gathering.collector ≡ start (roster sources) → prepared.gathering.refused ≡ None → prepared.pass ≡ split_off p → p1 ≡ lighter p ((count + workers) + 1)
+    → HasRun names (zip (owners sources) told) count prepared ended → p2 ≡ with_joined p1 ended.pass → Drains names p2 ended.gathering p3 g → (IsWhole p2 → IsEmpty p3)
     → Answers sources ended.faults.items (comes_of g.collector g.refused []) result
     → Audited names sources told workers p p3 result
-settled names sources told count workers p p1 p2 p3 crew ended g result few is_roster sources_are told_are whole empty light_enough workers_are collector unrefused mine light run merged drain left answers =
+settled names sources told count workers p p1 p2 p3 prepared ended g result few is_roster sources_are told_are whole empty light_enough workers_are collector unrefused mine light run merged drain left answers =
     let owners_are : length (owners sources) ≡ length sources = length_map (λ (name : List ℕ). place_of name (roster sources)) sources in
     let stated = parts_are (owners sources) told run.parts (omega (arith, owners_are, sources_are, told_are)) run.read in
     let states : List Stated = stated.0 in
@@ -216,7 +216,7 @@ settled names sources told count workers p p1 p2 p3 crew ended g result few is_r
     drained names p p3 put run.taken drain.jobs run.gathered drain.outcomes (drain.pass ∙ ap (λ (x : PassView). gaining x [] drain.jobs (map (answer names) drain.jobs) drain.outcomes) two) in
     let nothing : IsEmpty p3 = left (ap (λ (x : PassView). x.weight) two ∙ whole) in
     let decided : Answers sources (faults_of states) (after (start (roster sources)) (arrivals_of outcomes)) result =
-    concluded sources (faults_of states) crew.gathering g outcomes result (gathers_more crew.gathering ended.gathering g run.gathered drain.outcomes run.gathers drain.gathered) collector unrefused
+    concluded sources (faults_of states) prepared.gathering g outcomes result (gathers_more prepared.gathering ended.gathering g run.gathered drain.outcomes run.gathers drain.gathered) collector unrefused
     (subst (λ (l : List (Option FileFault)). Answers sources l (comes_of g.collector g.refused []) result) faults answers) in
     audited names sources told workers p p3 _ _ result decided (record {
       few = few;

@@ -13,11 +13,11 @@ ghost use Rattle.audit_run.specs.Body.Work.{told_by};
 ghost use Rattle.audit_run.specs.declared.fault.AuditFault.TheVariants.{TooManyParts};
 ghost use Rattle.sudo_verdict.specs.Postings.{Indexes};
 
-use crate::conduct::{conduct, drain};
-use crate::crew::{Crew, Ended, muster};
+use crate::caller::{drain, gather_all};
 use crate::fault::AuditFault;
 use crate::gate::Gate;
 use crate::gather::Gathering;
+use crate::prepared::{Ended, Prepared, prepare};
 use crate::readers::{ReaderHandle, join_readers, start_readers};
 use crate::roster::{Entered, enter};
 use crate::shared::Shared;
@@ -44,24 +44,26 @@ fn run<'s, 'e: 's, R: Threads + Wait + Sync, F: Feed + Drop + Send + 'e, G: Gate
     scope: &Scope<'s, &'e ()>,
     shared: Shared<'e>,
     gate: &'e G,
-    crew: Crew,
+    prepared: Prepared,
     parts: Vec<Part<F>>,
     mut readers: Vec<ReaderHandle<F>>,
 ) -> Ended
-    requires ready { IsReady shared.handoff.now shared.policy.now shared.directory.now (vec_len parts) crew }
+    requires ready { IsReady shared.handoff.now shared.policy.now shared.directory.now
+        (vec_len parts) prepared }
     requires index { Indexes shared.policy.now shared.index.now }
     requires room { (vec_len readers ≡ 0) × (vec_len parts ≤ vec_capacity readers) }
     ensures { IsTrue result.all_started → HasRun (names_of shared.policy.now shared.directory.now)
-        (map (λ p. told_by p.owner (F.ahead p.reader)) parts.items) (vec_len parts) crew result }
+        (map (λ p. told_by p.owner (F.ahead p.reader)) parts.items)
+        (vec_len parts) prepared result }
 {
-    let Crew {
+    let Prepared {
         mut pass,
         mut gathering,
         source_passes,
         worker_passes,
         mut workers,
         mut faults,
-    } = crew;
+    } = prepared;
     let Shared { alloc, handoff, .. } = shared;
     let all_workers = start_workers(rt, scope, shared, gate, worker_passes, &mut workers);
     let all_started = all_workers
@@ -74,7 +76,7 @@ fn run<'s, 'e: 's, R: Threads + Wait + Sync, F: Feed + Drop + Send + 'e, G: Gate
             parts,
             &mut readers,
         );
-    conduct(
+    gather_all(
         rt,
         handoff,
         &mut pass,
@@ -92,33 +94,36 @@ fn run<'s, 'e: 's, R: Threads + Wait + Sync, F: Feed + Drop + Send + 'e, G: Gate
     }
 }
 
-// Runs the crew in a scope of its own.
+// Runs what is prepared in a scope of its own.
 fn run_scoped<R: Threads + Wait + Sync, F: Feed + Drop + Send, G: Gate + Sync>(
     rt: &R,
     shared: Shared<'_>,
     gate: &G,
-    crew: Crew,
+    prepared: Prepared,
     parts: Vec<Part<F>>,
     readers: Vec<ReaderHandle<F>>,
 ) -> Ended
-    requires ready { IsReady shared.handoff.now shared.policy.now shared.directory.now (vec_len parts) crew }
+    requires ready { IsReady shared.handoff.now shared.policy.now shared.directory.now
+        (vec_len parts) prepared }
     requires index { Indexes shared.policy.now shared.index.now }
     requires room { (vec_len readers ≡ 0) × (vec_len parts ≤ vec_capacity readers) }
     ensures { IsTrue result.all_started → HasRun (names_of shared.policy.now shared.directory.now)
-        (map (λ p. told_by p.owner (F.ahead p.reader)) parts.items) (vec_len parts) crew result }
+        (map (λ p. told_by p.owner (F.ahead p.reader)) parts.items)
+        (vec_len parts) prepared result }
 {
     thread::scope(
         thread::scope_env(),
         rt,
         move |scope| -> Ended
-            requires ready { IsReady shared.handoff.now shared.policy.now shared.directory.now (vec_len parts) crew }
+            requires ready { IsReady shared.handoff.now shared.policy.now shared.directory.now
+                (vec_len parts) prepared }
             requires index { Indexes shared.policy.now shared.index.now }
             requires room { (vec_len readers ≡ 0) × (vec_len parts ≤ vec_capacity readers) }
             ensures { IsTrue result.all_started
                 → HasRun (names_of shared.policy.now shared.directory.now)
                 (map (λ p. told_by p.owner (F.ahead p.reader)) parts.items)
-                (vec_len parts) crew result }
-        { run(rt, scope, shared, gate, crew, parts, readers) },
+                (vec_len parts) prepared result }
+        { run(rt, scope, shared, gate, prepared, parts, readers) },
     )
 }
 
@@ -242,13 +247,13 @@ pub fn audit<R: Threads + Wait + Sync, F: Feed + Drop + Send, G: Gate + Sync>(
         directory,
         handoff,
     };
-    let crew = muster(rt, shared, pass, collector, parts.len(), workers as usize)?;
+    let prepared = prepare(rt, shared, pass, collector, parts.len(), workers as usize)?;
     let Ended {
         pass: mine,
         mut gathering,
         faults,
         all_started,
-    } = run_scoped(rt, shared, gate, crew, parts, handles);
+    } = run_scoped(rt, shared, gate, prepared, parts, handles);
     if !all_started {
         return Err(AuditFault::NoThread);
     }

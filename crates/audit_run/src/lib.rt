@@ -6,14 +6,14 @@
 #![tactic(auto)]
 
 mod auditing;
-mod conduct;
-mod crew;
+mod caller;
 mod fault;
 mod gate;
 mod gather;
 mod handoff;
 pub mod laws;
 mod message;
+mod prepared;
 mod readers;
 mod roster;
 mod rule;

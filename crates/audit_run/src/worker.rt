@@ -94,7 +94,8 @@ pub fn work<R: Wait, G: Gate>(rt: &R, shared: Shared<'_>, gate: &G, mut pass: Pa
     requires pass { pass.handoff ≡ shared.handoff.now }
     requires names { pass.names ≡ names_of shared.policy.now shared.directory.now }
     requires index { Indexes shared.policy.now shared.index.now }
-    ensures { (jobs : List Job) × (result ≡ worked (names_of shared.policy.now shared.directory.now) pass
+    ensures { (jobs : List Job) × (result ≡ worked
+        (names_of shared.policy.now shared.directory.now) pass
         (jobs ++ Job.Stop ∷ [])) }
 {
     for _ in rt.forever() {

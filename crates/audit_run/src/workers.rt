@@ -59,7 +59,8 @@ pub fn start_workers<'s, 'e: 's, R: Threads + Wait + Sync, G: Gate + Sync>(
     passes: Vec<Pass>,
     handles: &mut Vec<WorkerHandle>,
 ) -> bool
-    requires passes { All (λ p. p ≡ fresh shared.handoff.now shared.policy.now shared.directory.now) passes.items }
+    requires passes { All (λ p. p ≡ fresh shared.handoff.now shared.policy.now shared.directory.now)
+        passes.items }
     requires fresh { All (λ h. h.promise.before.value
         ≡ fresh shared.handoff.now shared.policy.now shared.directory.now) handles.old.items }
     requires index { Indexes shared.policy.now shared.index.now }

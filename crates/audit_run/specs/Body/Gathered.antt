@@ -65,7 +65,7 @@ pub record Conducts (p : PassView) (g : Gathering) (jobs : List Job) (q : PassVi
   pub counted : Counts g outcomes h
 
 -- the same, whatever threads were waited for
-pub record HasConducted (p : PassView) (g : Gathering) (jobs : List Job) (q : PassView) (h : Gathering) : Type 0 where
+pub record HasGatheredAll (p : PassView) (g : Gathering) (jobs : List Job) (q : PassView) (h : Gathering) : Type 0 where
   pub outcomes : List Outcome
   pub pass : q ≡ gaining p jobs [] [] outcomes
   pub gathered : Gathers g outcomes h

@@ -5,8 +5,8 @@ use Rattle.audit_run.specs.declared.message.Job.{Job}
 use Rattle.audit_run.specs.declared.message.Names.{Names}
 use Rattle.audit_run.specs.declared.message.Outcome.{Outcome}
 use Rattle.audit_run.specs.Passes.{HandoffId}
-use Rattle.audit_run.specs.declared.crew.Crew.{Crew}
-use Rattle.audit_run.specs.declared.crew.Ended.{Ended}
+use Rattle.audit_run.specs.declared.prepared.Prepared.{Prepared}
+use Rattle.audit_run.specs.declared.prepared.Ended.{Ended}
 use Rattle.audit_run.specs.Body.Gathered.{Gathers}
 use Rattle.audit_run.specs.Parts.{Stated, fault_in, run_jobs}
 use Rattle.audit_run.specs.Body.FreshPasses.{IsFresh, fresh}
@@ -15,22 +15,22 @@ use Rattle.sudo_match.specs.Known.{Known}
 use Rattle.sudo_grammar.specs.declared.policy.Policy.{Policy}
 
 -- each thread of so many sources and of the workers has a pass of the handoff, and there is room for what they leave
-pub record IsReady (handoff : HandoffId) (policy : Policy) (directory : Known) (sources : ℕ) (crew : Crew) : Type 0 where
-  pub pass : crew.pass.handoff ≡ handoff
-  pub source_passes : All (λ p. IsFresh handoff p) crew.source_passes.items
-  pub one_each : vec_len crew.source_passes ≡ sources
-  pub worker_passes : All (λ p. p ≡ fresh handoff policy directory) crew.worker_passes.items
-  pub no_workers : vec_len crew.workers ≡ 0
-  pub room_for_workers : vec_len crew.worker_passes ≤ vec_capacity crew.workers
-  pub no_faults : crew.faults.items ≡ []
-  pub room_for_faults : vec_len crew.faults + sources ≤ vec_capacity crew.faults
+pub record IsReady (handoff : HandoffId) (policy : Policy) (directory : Known) (sources : ℕ) (prepared : Prepared) : Type 0 where
+  pub pass : prepared.pass.handoff ≡ handoff
+  pub source_passes : All (λ p. IsFresh handoff p) prepared.source_passes.items
+  pub one_each : vec_len prepared.source_passes ≡ sources
+  pub worker_passes : All (λ p. p ≡ fresh handoff policy directory) prepared.worker_passes.items
+  pub no_workers : vec_len prepared.workers ≡ 0
+  pub room_for_workers : vec_len prepared.worker_passes ≤ vec_capacity prepared.workers
+  pub no_faults : prepared.faults.items ≡ []
+  pub room_for_faults : vec_len prepared.faults + sources ≤ vec_capacity prepared.faults
 
 -- all threads ran: the sources put their jobs, the workers put the answer of each job that they took, and the caller gathered what it took
-pub record HasRun (names : Names) (told : List (ℕ × Option Ahead)) (sources : ℕ) (crew : Crew) (ended : Ended) : Type 0 where
+pub record HasRun (names : Names) (told : List (ℕ × Option Ahead)) (sources : ℕ) (prepared : Prepared) (ended : Ended) : Type 0 where
   pub parts : List (ℕ × Stated)
   pub read : AreParts told parts
   pub taken : List Job
   pub gathered : List Outcome
-  pub pass : ended.pass ≡ after_run names crew.pass sources (vec_len crew.worker_passes) (run_jobs (vec_len crew.worker_passes) parts) taken gathered
-  pub gathers : Gathers crew.gathering gathered ended.gathering
+  pub pass : ended.pass ≡ after_run names prepared.pass sources (vec_len prepared.worker_passes) (run_jobs (vec_len prepared.worker_passes) parts) taken gathered
+  pub gathers : Gathers prepared.gathering gathered ended.gathering
   pub faults : ended.faults.items ≡ map (λ part. fault_in part.1) parts

@@ -19,21 +19,21 @@ conclude-requires g c =
 pub returns-clause-outcome : goal.returns-clause-outcome
 returns-clause-outcome g c =
     let entered = c.in-Ok.ensures in
-    let crew = c.in_ok-crew.ensures in
+    let prepared = c.in_ok-prepared.ensures in
     let policy = c.args.policy.now in
     let directory = c.args.directory.now in
     let sources = c.args.sources.items in
     let names = map (λ s. s.name) sources in
     let told = map (λ s. g.F.Feed.ahead s.reader) sources in
-    let run = subst (λ t. HasRun (names_of policy directory) t (vec_len c.in-Ok.entered.parts) c.in_ok-crew.crew c.run_scoped-mine.result) entered.parts (c.run_scoped-mine.ensures (search rules)) in
+    let run = subst (λ t. HasRun (names_of policy directory) t (vec_len c.in-Ok.entered.parts) c.in_ok-prepared.prepared c.run_scoped-mine.result) entered.parts (c.run_scoped-mine.ensures (search rules)) in
     let answers = subst (λ n. Answers n c.run_scoped-mine.result.faults.items (comes_of c.drain.new.gathering.collector c.drain.new.gathering.refused []) c.conclude.result) entered.names
     (subst (λ f. Answers c.in-Ok.entered.names.items f (comes_of c.drain.new.gathering.collector c.drain.new.gathering.refused []) c.conclude.result) c.deref.ensures.value c.conclude.ensures) in
     let sources_long : length sources ≡ vec_len c.args.sources = search rules in
     let names_long = length_map (λ s. s.name) sources in
     let told_long = length_map (λ s. g.F.Feed.ahead s.reader) sources in
-    let light = crew.passes.1 ∙ ap (λ n. lighter c.args.pass.now ((n + c.args.workers) + 1)) c.len-3.ensures in
-    settled (names_of policy directory) names told (vec_len c.in-Ok.entered.parts) c.args.workers c.args.pass.now _ _ _ c.in_ok-crew.crew c.run_scoped-mine.result c.drain.new.gathering _
+    let light = prepared.passes.1 ∙ ap (λ n. lighter c.args.pass.now ((n + c.args.workers) + 1)) c.len-3.ensures in
+    settled (names_of policy directory) names told (vec_len c.in-Ok.entered.parts) c.args.workers c.args.pass.now _ _ _ c.in_ok-prepared.prepared c.run_scoped-mine.result c.drain.new.gathering _
     (omega (arith, sources_long, names_long, c.if-len-gt-MOST_PARTS.false, c.len.ensures)) entered.collector.1 (omega (arith, sources_long, names_long, entered.lengths)) (omega (arith, sources_long, told_long, entered.lengths))
     c.requires.pass.0 c.requires.pass.1 (omega (arith, sources_long, entered.lengths, c.if-len-gt-MOST_PARTS.false, c.len.ensures, c.requires.workers))
-    crew.workers (crew.gathering.0 ∙ entered.collector.0) crew.gathering.1 crew.passes.0 light
+    prepared.workers (prepared.gathering.0 ∙ entered.collector.0) prepared.gathering.1 prepared.passes.0 light
     run c.join.ensures c.drain.ensures.taken c.drain.ensures.left answers

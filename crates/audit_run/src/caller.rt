@@ -4,7 +4,7 @@ ghost use Rattle.audit_run.specs.Names.{names_of};
 ghost use Rattle.audit_run.specs.Passes.{IsWhole, OutcomesLeft, JobsLeft};
 ghost use Rattle.audit_run.specs.declared.message.Job.TheVariants as job;
 ghost use Rattle.audit_run.specs.declared.message.Outcome.TheVariants.{Arrived};
-ghost use Rattle.audit_run.specs.Body.Gathered.{Conducts, Drains, Gathers, HasConducted, HasSameCounts, running_of};
+ghost use Rattle.audit_run.specs.Body.Gathered.{Conducts, Drains, Gathers, HasGatheredAll, HasSameCounts, running_of};
 ghost use Rattle.sudo_verdict.specs.Postings.{Indexes};
 
 use crate::gate::Gate;
@@ -113,7 +113,7 @@ fn put_stops<R: Wait>(
 
 /// Gathers until each source has ended, stops the workers, and gathers until each has stopped. Each outcome is counted when
 /// it is taken, so it does not matter in which order they come.
-pub fn conduct<R: Wait>(
+pub fn gather_all<R: Wait>(
     rt: &R,
     handoff: &Handoff,
     pass: &mut Pass,
@@ -122,7 +122,7 @@ pub fn conduct<R: Wait>(
     workers: usize,
 )
     requires { pass.old.handoff ≡ handoff.now }
-    ensures taken { HasConducted pass.old gathering.old
+    ensures taken { HasGatheredAll pass.old gathering.old
         (replicate workers job.Stop) pass.new gathering.new }
     ensures ended { (gathering.new.sources_running ≡ 0) × (gathering.new.workers_running ≡ 0) }
 {
@@ -158,7 +158,8 @@ pub fn drain<R: Wait, G: Gate>(
     requires pass { pass.old.handoff ≡ shared.handoff.now }
     requires names { pass.old.names ≡ names_of shared.policy.now shared.directory.now }
     requires index { Indexes shared.policy.now shared.index.now }
-    ensures taken { Drains (names_of shared.policy.now shared.directory.now) pass.old gathering.old pass.new
+    ensures taken { Drains (names_of shared.policy.now shared.directory.now) pass.old gathering.old
+        pass.new
         gathering.new }
     ensures left { IsWhole pass.old → JobsLeft pass.new [] × OutcomesLeft pass.new [] }
 {

@@ -16,7 +16,7 @@ use std::sync::Wait;
 
 /// What a run begins with: a pass for the caller and one for each thread, and room for what the threads leave.
 #[derive(Drop)]
-pub struct Crew {
+pub struct Prepared {
     pub pass: Pass,
     pub gathering: Gathering,
     pub source_passes: Vec<Pass>,
@@ -55,23 +55,24 @@ fn split_passes<R: Wait>(
 }
 
 /// Splits off the passes of a run for so many sources and workers, and makes room for what their threads leave.
-pub fn muster<R: Wait>(
+pub fn prepare<R: Wait>(
     rt: &R,
     shared: Shared<'_>,
     pass: &mut Pass,
     collector: Collector,
     sources: usize,
     workers: usize,
-) -> Result<Crew, AllocError>
+) -> Result<Prepared, AllocError>
     requires pass { (pass.old.handoff ≡ shared.handoff.now)
         × (pass.old.names ≡ names_of shared.policy.now shared.directory.now) }
     requires weight { (sources + workers) + 1 < pass.old.weight }
-    ensures ready { IfOk result (λ crew. IsReady shared.handoff.now shared.policy.now shared.directory.now sources
-        crew) }
-    ensures workers { IfOk result (λ crew. vec_len crew.worker_passes ≡ workers) }
-    ensures gathering { IfOk result (λ crew. (crew.gathering.collector ≡ collector)
-        × (crew.gathering.refused ≡ None)) }
-    ensures passes { IfOk result (λ crew. (crew.pass ≡ split_off pass.old)
+    ensures ready { IfOk result (λ prepared. IsReady shared.handoff.now shared.policy.now
+        shared.directory.now sources
+        prepared) }
+    ensures workers { IfOk result (λ prepared. vec_len prepared.worker_passes ≡ workers) }
+    ensures gathering { IfOk result (λ prepared. (prepared.gathering.collector ≡ collector)
+        × (prepared.gathering.refused ≡ None)) }
+    ensures passes { IfOk result (λ prepared. (prepared.pass ≡ split_off pass.old)
         × (pass.new ≡ lighter pass.old ((sources + workers) + 1))) }
 {
     let Shared { alloc, handoff, .. } = shared;
@@ -79,7 +80,7 @@ pub fn muster<R: Wait>(
     let worker_passes = split_passes(alloc, rt, handoff, pass, workers)?;
     let workers = Vec::with_capacity(alloc, workers)?;
     let faults = Vec::with_capacity(alloc, sources)?;
-    Ok(Crew {
+    Ok(Prepared {
         pass: pass.split(rt, handoff),
         gathering: Gathering {
             collector,

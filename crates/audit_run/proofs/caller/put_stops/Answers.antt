@@ -3,7 +3,7 @@ use Rattle.std.proofs.lemmas.List.{replicate_more}
 use Rattle.audit_run.specs.declared.message.Job.TheVariants as job
 use Rattle.audit_run.specs.Body.Gathered.{Conducts}
 use Rattle.audit_run.proofs.Gains.{conducts_none, conducts_more}
-use Rattle.audit_run.proofs.conduct.put_stops.Goals as goal
+use Rattle.audit_run.proofs.caller.put_stops.Goals as goal
 
 pub loop-stopped-init : goal.loop-stopped-init
 loop-stopped-init g c = conducts_none _ _

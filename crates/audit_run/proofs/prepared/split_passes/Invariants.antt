@@ -1,7 +1,7 @@
 use Rattle.std.specs.Prelude.{◌≡◌, All, vec_len}
 use Rattle.audit_run.specs.Passes.{split_off}
 use Rattle.audit_run.specs.Body.FreshPasses.{lighter}
-use Rattle.audit_run.proofs.crew.split_passes.Given as goal
+use Rattle.audit_run.proofs.prepared.split_passes.Given as goal
 
 abbrev pub invariant-loop-place : goal.invariant-loop-place
 invariant-loop-place g l =
