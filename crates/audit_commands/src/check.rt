@@ -8,7 +8,7 @@ use crate::ending::end_run;
 use crate::fault::Fault;
 use crate::files::Files;
 use crate::lines::{finding_lines, push};
-use crate::loading::policy_of;
+use crate::loading::load_policy;
 use crate::printed::Printed;
 use audit_files::Sink;
 use std::alloc::{AllocError, Global};
@@ -38,7 +38,7 @@ fn examined<F: Files>(alloc: Global, path: &[u8], files: &mut F) -> Result<Print
         (F.held files.old) path.now p.text.items p.status) }
     ensures fault { IfErr result (IsNoPolicy (F.held files.old) path.now) }
 {
-    let policy = policy_of(alloc, path, files)?;
+    let policy = load_policy(alloc, path, files)?;
     let found = findings(alloc, &policy)?;
     Ok(examined_lines(alloc, policy.files.as_slice(), &found)?)
 }

@@ -58,7 +58,7 @@ fn say<E: Sink>(line: &[u8], status: u8, err: &mut E) -> u8
 
 /// Prints a fault and gives its status; where memory for its line is refused, says that and gives 4. What cannot be
 /// printed is left out.
-pub fn complain<E: Sink>(alloc: Global, fault: &Fault, err: &mut E) -> u8
+pub fn report_fault<E: Sink>(alloc: Global, fault: &Fault, err: &mut E) -> u8
     ensures { IsTold fault.now result (sent E.taken E.stalled_writes err.old err.new) }
 {
     if let Fault::Errors(lines) = fault {
@@ -85,8 +85,8 @@ pub(crate) fn end_run<O: Sink, E: Sink>(
     match ended {
         Ok(printed) => match write_all_of(out, &printed.text) {
             Ok(()) => printed.status,
-            Err(WriteFault { written }) => complain(alloc, &Fault::Write { written }, err),
+            Err(WriteFault { written }) => report_fault(alloc, &Fault::Write { written }, err),
         },
-        Err(fault) => complain(alloc, &fault, err),
+        Err(fault) => report_fault(alloc, &fault, err),
     }
 }

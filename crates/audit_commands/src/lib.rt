@@ -18,7 +18,7 @@ mod sources;
 
 pub use audit::audit_into;
 pub use check::check_run;
-pub use ending::complain;
+pub use ending::report_fault;
 pub use expand::expand_run;
 pub use fault::Fault;
 pub use files::{Disk, Files, FilesFault};

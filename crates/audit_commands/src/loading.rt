@@ -195,7 +195,7 @@ fn hand_in<F: Files>(
 }
 
 /// The policy of a file and of all that it includes: what is wanted is read, and the loading begins anew.
-pub(crate) fn policy_of<F: Files>(
+pub(crate) fn load_policy<F: Files>(
     alloc: Global,
     path: &[u8],
     files: &mut F,
@@ -230,7 +230,7 @@ pub(crate) fn checked_policy<F: Files>(
     ensures checked { IfOk result (IsChecked (F.held files.old) path.now) }
     ensures fault { IfErr result (IsNotChecked (F.held files.old) path.now) }
 {
-    let policy = policy_of(alloc, path, files)?;
+    let policy = load_policy(alloc, path, files)?;
     passed(alloc, policy)
 }
 

@@ -2,11 +2,11 @@
 ghost use Rattle.audit_words.specs.Words.{WorkersFit};
 
 use crate::check::check_run;
-use crate::ending::complain;
+use crate::ending::report_fault;
 use crate::expand::expand_run;
 use crate::fault::Fault;
 use crate::files::Disk;
-use crate::sources::audit_run_of;
+use crate::sources::run_audit;
 use audit_files::Device;
 use audit_words::{Asked, asked, unread};
 use clap::Error;
@@ -40,7 +40,7 @@ fn run<T: Threads + Wait + Sync>(rt: &HostRuntime, threads: &T, asked: Asked<'_>
             hosts,
             workers,
             senders,
-        } => audit_run_of(rt, threads, file, users, hosts, workers, senders.as_slice()),
+        } => run_audit(rt, threads, file, users, hosts, workers, senders.as_slice()),
     }
 }
 
@@ -49,7 +49,7 @@ fn run<T: Threads + Wait + Sync>(rt: &HostRuntime, threads: &T, asked: Asked<'_>
 fn refuse(rt: &HostRuntime, error: &Error) -> u8 {
     if error.kind() == ErrorKind::OutOfMemory {
         let mut err = Device::new(rt.stderr());
-        return complain(rt.alloc(), &Fault::Memory, &mut err);
+        return report_fault(rt.alloc(), &Fault::Memory, &mut err);
     }
     let printed = error.print(rt);
     if error.use_stderr() {

@@ -3,7 +3,7 @@ ghost use Rattle.std.specs.Prelude.{◌≡◌, ◌≤◌, ℕ, List, IfErr, IfOk
 ghost use Rattle.audit_commands.specs.Opening.{AreOpened, AreSenders, AreSources, IsNotOpened};
 
 use crate::audit::audit_into;
-use crate::ending::complain;
+use crate::ending::report_fault;
 use crate::fault::Fault;
 use crate::files::Disk;
 use crate::opening::{Machine, Opener};
@@ -128,7 +128,7 @@ pub fn open_all<R: Drop, O: Opener<R>>(
 
 /// Answers the requests of the files that the words `NAME=PATH` name, and gives the exit status. `threads` is the runtime,
 /// where it can start threads.
-pub(crate) fn audit_run_of<T: Threads + Wait + Sync>(
+pub(crate) fn run_audit<T: Threads + Wait + Sync>(
     rt: &HostRuntime,
     threads: &T,
     file: &str,
@@ -162,6 +162,6 @@ pub(crate) fn audit_run_of<T: Threads + Wait + Sync>(
                 &mut err,
             )
         }
-        Err(fault) => complain(alloc, &fault, &mut err),
+        Err(fault) => report_fault(alloc, &fault, &mut err),
     }
 }

@@ -19,7 +19,7 @@ use crate::gate::Gate;
 use crate::gather::Gathering;
 use crate::prepared::{Ended, Prepared, prepare};
 use crate::readers::{ReaderHandle, join_readers, start_readers};
-use crate::roster::{Entered, enter};
+use crate::roster::{Registered, register};
 use crate::shared::Shared;
 use crate::source::{Part, Source};
 use crate::workers::{join_workers, start_workers};
@@ -230,11 +230,11 @@ pub fn audit<R: Threads + Wait + Sync, F: Feed + Drop + Send, G: Gate + Sync>(
     if sources.len() > MOST_PARTS {
         return Err(AuditFault::TooManyParts);
     }
-    let Entered {
+    let Registered {
         names,
         parts,
         collector,
-    } = match enter(alloc, sources) {
+    } = match register(alloc, sources) {
         Ok(entered) => entered,
         Err(fault) => return Err(fault),
     };

@@ -110,17 +110,17 @@ fn collector_for(alloc: Global, names: Vec<Seq<u8>>) -> Result<Collector, AuditF
 
 /// What an audit makes of its sources: their names, each source with its owner, and a collector for their senders.
 #[derive(Drop)]
-pub struct Entered<F> {
+pub struct Registered<F> {
     pub names: Vec<Seq<u8>>,
     pub parts: Vec<Part<F>>,
     pub collector: Collector,
 }
 
 /// Finds the roster of at most 256 sources, and each source's place in it. Answers a roster fault of it, or `Memory`.
-pub fn enter<F: Feed + Drop>(
+pub fn register<F: Feed + Drop>(
     alloc: Global,
     sources: Vec<Source<F>>,
-) -> Result<Entered<F>, AuditFault>
+) -> Result<Registered<F>, AuditFault>
     requires { vec_len sources ≤ 256 }
     ensures names { IfOk result (λ e. e.names.items ≡ map (λ s. s.name) sources.items) }
     ensures parts { IfOk result (λ e. map (λ p. told_by p.owner (F.ahead p.reader)) e.parts.items
@@ -137,7 +137,7 @@ pub fn enter<F: Feed + Drop>(
     let roster = roster_of(alloc, &names)?;
     let parts = parts_of(alloc, &roster, &names, readers)?;
     match collector_for(alloc, roster) {
-        Ok(collector) => Ok(Entered {
+        Ok(collector) => Ok(Registered {
             names,
             parts,
             collector,

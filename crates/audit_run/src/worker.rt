@@ -15,7 +15,7 @@ use std::thread;
 use sudo_match::Request;
 
 /// Puts an outcome, and tries again while the queue is full.
-pub fn hand_on<R: Wait>(rt: &R, handoff: &Handoff, pass: &mut Pass, outcome: Outcome)
+pub fn put_outcome_waiting<R: Wait>(rt: &R, handoff: &Handoff, pass: &mut Pass, outcome: Outcome)
     requires pass { pass.old.handoff ≡ handoff.now }
     requires verdict { IsRight pass.old.names outcome }
     ensures { pass.new ≡ with_outcome_put pass.old outcome }
@@ -61,7 +61,7 @@ fn answer_request<R: Wait, G: Gate>(
         request,
         verdict,
     };
-    hand_on(
+    put_outcome_waiting(
         rt,
         shared.handoff,
         pass,
@@ -86,7 +86,7 @@ pub fn answer_job<R: Wait, G: Gate>(rt: &R, shared: Shared<'_>, gate: &G, pass: 
         Job::End { sender } => Outcome::End { sender },
         Job::Stop => Outcome::Stopped,
     };
-    hand_on(rt, shared.handoff, pass, outcome);
+    put_outcome_waiting(rt, shared.handoff, pass, outcome);
 }
 
 /// Answers each job that it takes, until it has answered `Stop`.
@@ -102,7 +102,7 @@ pub fn work<R: Wait, G: Gate>(rt: &R, shared: Shared<'_>, gate: &G, mut pass: Pa
         match shared.handoff.take_job(rt, &mut pass) {
             None => thread::yield_now(),
             Some(Job::Stop) => {
-                hand_on(rt, shared.handoff, &mut pass, Outcome::Stopped);
+                put_outcome_waiting(rt, shared.handoff, &mut pass, Outcome::Stopped);
                 return pass;
             }
             Some(job) => answer_job(rt, shared, gate, &mut pass, job),

@@ -12,7 +12,7 @@ use Rattle.sudo_policy.specs.declared.finding.Finding.{Finding}
 use Rattle.sudo_policy.specs.declared.graph.State.{State}
 use Rattle.sudo_policy.specs.declared.index.Index.{Index}
 use Rattle.sudo_policy.specs.declared.survey.Survey.{Survey}
-use Rattle.sudo_policy.specs.Definitions.{Defined, Listed, aliases, repeats, definitions, lists, alias_named, names_used, in_force, defines}
+use Rattle.sudo_policy.specs.Definitions.{Defined, Listed, aliases, redefinitions, definitions, lists, alias_named, names_used, in_force, defines}
 use Rattle.sudo_policy.specs.Found.{Marks, AreFindings, has_error, found_by, finding_on, undefined_in, IsCyclic, IsTooDeep, IsTooWide, IsUnused}
 use Rattle.sudo_policy.specs.Body.Graph.{Links, Path, IsClosed, IsInside, IsReached, MarksOf, StatesHold, IsSettled}
 use Rattle.sudo_policy.specs.Body.Judgement.{is_deep, is_wide, IsJudged, found_in, missing_in, atom_missing}
@@ -157,14 +157,14 @@ module _ (p : Policy) (survey : Survey) (s : IsSurvey p (definitions p) survey) 
   all_missing [] = refl
   all_missing (l ∷ ls) = ap (λ fs. fs ++ flat_map (missing_in survey.index) ls) (missing_is l) ∙ ap (λ fs. undefined_in p l ++ fs) (all_missing ls)
 
-  pub found_is : (ls : List Listed) (judged : Judged) → ls ≡ lists p → found_in survey.index (map named_view survey.aliases.items) (map named_view survey.repeats.items) ls judged ≡ found_by p judged.cyclic.items judged.deep.items judged.wide.items judged.unused.items
+  pub found_is : (ls : List Listed) (judged : Judged) → ls ≡ lists p → found_in survey.index (map named_view survey.aliases.items) (map named_view survey.redefinitions.items) ls judged ≡ found_by p judged.cyclic.items judged.deep.items judged.wide.items judged.unused.items
   found_is ls judged lists_are =
-      ap (λ (xs : List Defined). found_in survey.index xs (map named_view survey.repeats.items) ls judged) s.aliases_are
+      ap (λ (xs : List Defined). found_in survey.index xs (map named_view survey.redefinitions.items) ls judged) s.aliases_are
       ∙ ap (λ (rs : List Defined). found_in survey.index (aliases p) rs ls judged) s.repeats_are
-      ∙ ap (λ (xs : List Listed). found_in survey.index (aliases p) (repeats [] (definitions p)) xs judged) lists_are
-      ∙ ap (λ (fs : List Finding). map (finding_on Redefined) (repeats [] (definitions p)) ++ (fs ++ (map (finding_on Cycle) (items_where_true judged.cyclic.items (aliases p)) ++ (map (finding_on TooDeep) (items_where_true judged.deep.items (aliases p)) ++ (map (finding_on TooWide) (items_where_true judged.wide.items (aliases p)) ++ map (finding_on Unused) (items_where_true judged.unused.items (aliases p))))))) (all_missing (lists p))
+      ∙ ap (λ (xs : List Listed). found_in survey.index (aliases p) (redefinitions [] (definitions p)) xs judged) lists_are
+      ∙ ap (λ (fs : List Finding). map (finding_on Redefined) (redefinitions [] (definitions p)) ++ (fs ++ (map (finding_on Cycle) (items_where_true judged.cyclic.items (aliases p)) ++ (map (finding_on TooDeep) (items_where_true judged.deep.items (aliases p)) ++ (map (finding_on TooWide) (items_where_true judged.wide.items (aliases p)) ++ map (finding_on Unused) (items_where_true judged.unused.items (aliases p))))))) (all_missing (lists p))
 
-  pub are_findings : (found : List Finding) (ls : List Listed) (judged : Judged) → ls ≡ lists p → IsJudged p judged → found ≡ found_in survey.index (map named_view survey.aliases.items) (map named_view survey.repeats.items) ls judged → AreFindings p found
+  pub are_findings : (found : List Finding) (ls : List Listed) (judged : Judged) → ls ≡ lists p → IsJudged p judged → found ≡ found_in survey.index (map named_view survey.aliases.items) (map named_view survey.redefinitions.items) ls judged → AreFindings p found
   are_findings found ls judged lists_are j is = record {
     cyclic = judged.cyclic.items;
     deep = judged.deep.items;
@@ -193,6 +193,6 @@ module _ (p : Policy) (survey : Survey) (s : IsSurvey p (definitions p) survey) 
           (i, d.0, sym (ap (λ (xs : List Defined). slice_get xs i) s.aliases_are) ∙ d.1, sym same.0, (let e : d.0.members ≡ ms = cc in e))
 
   -- where no finding is an error, every list resolves
-  pub sound_is : (found : List Finding) (ls : List Listed) (judged : Judged) → ls ≡ lists p → IsJudged p judged → found ≡ found_in survey.index (map named_view survey.aliases.items) (map named_view survey.repeats.items) ls judged → has_error found ≡ false → IsSound p
+  pub sound_is : (found : List Finding) (ls : List Listed) (judged : Judged) → ls ≡ lists p → IsJudged p judged → found ≡ found_in survey.index (map named_view survey.aliases.items) (map named_view survey.redefinitions.items) ls judged → has_error found ≡ false → IsSound p
   unfolding are_findings
   sound_is found ls judged lists_are j is none = sound_from p found (are_findings found ls judged lists_are j is) none j.have_depths among_aliases

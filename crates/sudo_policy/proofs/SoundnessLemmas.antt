@@ -10,7 +10,7 @@ use Rattle.sudo_grammar.specs.declared.policy.Policy.{Policy}
 use Rattle.sudo_policy.specs.declared.finding.Class.{Class}
 use Rattle.sudo_policy.specs.declared.finding.Class.TheVariants.{Redefined, Undefined, Cycle, TooDeep, TooWide, Unused}
 use Rattle.sudo_policy.specs.declared.finding.Finding.{Finding}
-use Rattle.sudo_policy.specs.Definitions.{Defined, Listed, aliases, repeats, definitions, in_force, lists, alias_named, names_used}
+use Rattle.sudo_policy.specs.Definitions.{Defined, Listed, aliases, redefinitions, definitions, in_force, lists, alias_named, names_used}
 use Rattle.sudo_policy.specs.Following.{ReadsAs, reading_within, list_reading, member_reading, definition_of_member, depth}
 use Rattle.sudo_policy.specs.Found.{AreFindings, found_by, finding_on, undefined_in, has_error, is_error, IsTooDeep}
 use Rattle.sudo_policy.specs.Resolving.{resolves, IsSound}
@@ -180,7 +180,7 @@ module _ (p : Policy) (found : List Finding) (a : AreFindings p found) (none : h
   parts = ap has_error (sym a.list) ∙ none
 
   after_repeats : has_error (flat_map (undefined_in p) (lists p) ++ (map (finding_on Cycle) (items_where_true a.cyclic (aliases p)) ++ (map (finding_on TooDeep) (items_where_true a.deep (aliases p)) ++ (map (finding_on TooWide) (items_where_true a.wide (aliases p)) ++ map (finding_on Unused) (items_where_true a.unused (aliases p)))))) ≡ false
-  after_repeats = (any_append error_finding (map (finding_on Redefined) (repeats [] (definitions p))) _ parts).1
+  after_repeats = (any_append error_finding (map (finding_on Redefined) (redefinitions [] (definitions p))) _ parts).1
 
   after_uses : has_error (map (finding_on Cycle) (items_where_true a.cyclic (aliases p)) ++ (map (finding_on TooDeep) (items_where_true a.deep (aliases p)) ++ (map (finding_on TooWide) (items_where_true a.wide (aliases p)) ++ map (finding_on Unused) (items_where_true a.unused (aliases p))))) ≡ false
   after_uses = (any_append error_finding (flat_map (undefined_in p) (lists p)) _ after_repeats).1

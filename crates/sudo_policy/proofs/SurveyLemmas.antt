@@ -10,7 +10,7 @@ use Rattle.sudo_policy.specs.declared.index.Position.{Position}
 use Rattle.sudo_grammar.specs.declared.kind.Member.{Member}
 use Rattle.sudo_grammar.specs.declared.policy.Policy.{Policy}
 use Rattle.sudo_grammar.specs.Kinds.{same_kind}
-use Rattle.sudo_policy.specs.Definitions.{Defined, defines, is_defined_in, firsts, repeats}
+use Rattle.sudo_policy.specs.Definitions.{Defined, defines, is_defined_in, definitions_in_force, redefinitions}
 use Rattle.std.proofs.lemmas.List.Elements.{All-push}
 use Rattle.std.specs.Prelude.{All, flat_map}
 use Rattle.std.proofs.lemmas.List.{map_push, drop_more}
@@ -26,48 +26,48 @@ use Rattle.sudo_policy.specs.Positions.{members_at, definition_at_body}
 use Rattle.sudo_base.specs.Places.{place_of}
 
 -- a definition that comes last
-firsts-last : (before ds : List Defined) (d : Defined) → firsts before (ds ++ d ∷ []) ≡ firsts before ds ++ (if is_defined_in (before ++ ds) d then [] else d ∷ [])
-firsts-last before [] d = go (is_defined_in before d) refl
+definitions_in_force-last : (before ds : List Defined) (d : Defined) → definitions_in_force before (ds ++ d ∷ []) ≡ definitions_in_force before ds ++ (if is_defined_in (before ++ ds) d then [] else d ∷ [])
+definitions_in_force-last before [] d = go (is_defined_in before d) refl
   where
     go : (b : Bool) → is_defined_in before d ≡ b → (if is_defined_in before d then [] else d ∷ []) ≡ (if is_defined_in (before ++ []) d then [] else d ∷ [])
     go b e = ap (λ ds. if is_defined_in ds d then [] else d ∷ []) (sym (append-nil before))
-firsts-last before (x ∷ ds) d =
-    let rest = firsts-last (before ++ x ∷ []) ds d in
+definitions_in_force-last before (x ∷ ds) d =
+    let rest = definitions_in_force-last (before ++ x ∷ []) ds d in
     let e : (before ++ x ∷ []) ++ ds ≡ before ++ x ∷ ds = append_assoc before (x ∷ []) ds in
-    let end : firsts (before ++ x ∷ []) (ds ++ d ∷ []) ≡ firsts (before ++ x ∷ []) ds ++ (if is_defined_in (before ++ x ∷ ds) d then [] else d ∷ []) =
-    rest ∙ ap (λ es. firsts (before ++ x ∷ []) ds ++ (if is_defined_in es d then [] else d ∷ [])) e in
+    let end : definitions_in_force (before ++ x ∷ []) (ds ++ d ∷ []) ≡ definitions_in_force (before ++ x ∷ []) ds ++ (if is_defined_in (before ++ x ∷ ds) d then [] else d ∷ []) =
+    rest ∙ ap (λ es. definitions_in_force (before ++ x ∷ []) ds ++ (if is_defined_in es d then [] else d ∷ [])) e in
     by (is_defined_in before x) end
   where
-    by : (b : Bool) → firsts (before ++ x ∷ []) (ds ++ d ∷ []) ≡ firsts (before ++ x ∷ []) ds ++ (if is_defined_in (before ++ x ∷ ds) d then [] else d ∷ [])
-        → (if b then firsts (before ++ x ∷ []) (ds ++ d ∷ []) else x ∷ firsts (before ++ x ∷ []) (ds ++ d ∷ [])) ≡ (if b then firsts (before ++ x ∷ []) ds else x ∷ firsts (before ++ x ∷ []) ds) ++ (if is_defined_in (before ++ x ∷ ds) d then [] else d ∷ [])
+    by : (b : Bool) → definitions_in_force (before ++ x ∷ []) (ds ++ d ∷ []) ≡ definitions_in_force (before ++ x ∷ []) ds ++ (if is_defined_in (before ++ x ∷ ds) d then [] else d ∷ [])
+        → (if b then definitions_in_force (before ++ x ∷ []) (ds ++ d ∷ []) else x ∷ definitions_in_force (before ++ x ∷ []) (ds ++ d ∷ [])) ≡ (if b then definitions_in_force (before ++ x ∷ []) ds else x ∷ definitions_in_force (before ++ x ∷ []) ds) ++ (if is_defined_in (before ++ x ∷ ds) d then [] else d ∷ [])
     by true end = end
     by false end = ap (λ es. x ∷ es) end
 
-repeats-last : (before ds : List Defined) (d : Defined) → repeats before (ds ++ d ∷ []) ≡ repeats before ds ++ (if is_defined_in (before ++ ds) d then d ∷ [] else [])
-repeats-last before [] d = ap (λ ds. if is_defined_in ds d then d ∷ [] else []) (sym (append-nil before))
-repeats-last before (x ∷ ds) d =
-    let rest = repeats-last (before ++ x ∷ []) ds d in
+redefinitions-last : (before ds : List Defined) (d : Defined) → redefinitions before (ds ++ d ∷ []) ≡ redefinitions before ds ++ (if is_defined_in (before ++ ds) d then d ∷ [] else [])
+redefinitions-last before [] d = ap (λ ds. if is_defined_in ds d then d ∷ [] else []) (sym (append-nil before))
+redefinitions-last before (x ∷ ds) d =
+    let rest = redefinitions-last (before ++ x ∷ []) ds d in
     let e : (before ++ x ∷ []) ++ ds ≡ before ++ x ∷ ds = append_assoc before (x ∷ []) ds in
-    let end : repeats (before ++ x ∷ []) (ds ++ d ∷ []) ≡ repeats (before ++ x ∷ []) ds ++ (if is_defined_in (before ++ x ∷ ds) d then d ∷ [] else []) =
-    rest ∙ ap (λ es. repeats (before ++ x ∷ []) ds ++ (if is_defined_in es d then d ∷ [] else [])) e in
+    let end : redefinitions (before ++ x ∷ []) (ds ++ d ∷ []) ≡ redefinitions (before ++ x ∷ []) ds ++ (if is_defined_in (before ++ x ∷ ds) d then d ∷ [] else []) =
+    rest ∙ ap (λ es. redefinitions (before ++ x ∷ []) ds ++ (if is_defined_in es d then d ∷ [] else [])) e in
     by (is_defined_in before x) end
   where
-    by : (b : Bool) → repeats (before ++ x ∷ []) (ds ++ d ∷ []) ≡ repeats (before ++ x ∷ []) ds ++ (if is_defined_in (before ++ x ∷ ds) d then d ∷ [] else [])
-        → (if b then x ∷ repeats (before ++ x ∷ []) (ds ++ d ∷ []) else repeats (before ++ x ∷ []) (ds ++ d ∷ [])) ≡ (if b then x ∷ repeats (before ++ x ∷ []) ds else repeats (before ++ x ∷ []) ds) ++ (if is_defined_in (before ++ x ∷ ds) d then d ∷ [] else [])
+    by : (b : Bool) → redefinitions (before ++ x ∷ []) (ds ++ d ∷ []) ≡ redefinitions (before ++ x ∷ []) ds ++ (if is_defined_in (before ++ x ∷ ds) d then d ∷ [] else [])
+        → (if b then x ∷ redefinitions (before ++ x ∷ []) (ds ++ d ∷ []) else redefinitions (before ++ x ∷ []) (ds ++ d ∷ [])) ≡ (if b then x ∷ redefinitions (before ++ x ∷ []) ds else redefinitions (before ++ x ∷ []) ds) ++ (if is_defined_in (before ++ x ∷ ds) d then d ∷ [] else [])
     by true end = ap (λ es. x ∷ es) end
     by false end = end
 
-pub firsts-known : (ds : List Defined) (d : Defined) → is_defined_in ds d ≡ true → firsts [] (ds ++ d ∷ []) ≡ firsts [] ds
-firsts-known ds d is = firsts-last [] ds d ∙ ap (λ b. firsts [] ds ++ (if b then [] else d ∷ [])) is ∙ append-nil (firsts [] ds)
+pub definitions_in_force-known : (ds : List Defined) (d : Defined) → is_defined_in ds d ≡ true → definitions_in_force [] (ds ++ d ∷ []) ≡ definitions_in_force [] ds
+definitions_in_force-known ds d is = definitions_in_force-last [] ds d ∙ ap (λ b. definitions_in_force [] ds ++ (if b then [] else d ∷ [])) is ∙ append-nil (definitions_in_force [] ds)
 
-pub firsts-new : (ds : List Defined) (d : Defined) → is_defined_in ds d ≡ false → firsts [] (ds ++ d ∷ []) ≡ firsts [] ds ++ d ∷ []
-firsts-new ds d is = firsts-last [] ds d ∙ ap (λ b. firsts [] ds ++ (if b then [] else d ∷ [])) is
+pub definitions_in_force-new : (ds : List Defined) (d : Defined) → is_defined_in ds d ≡ false → definitions_in_force [] (ds ++ d ∷ []) ≡ definitions_in_force [] ds ++ d ∷ []
+definitions_in_force-new ds d is = definitions_in_force-last [] ds d ∙ ap (λ b. definitions_in_force [] ds ++ (if b then [] else d ∷ [])) is
 
-pub repeats-known : (ds : List Defined) (d : Defined) → is_defined_in ds d ≡ true → repeats [] (ds ++ d ∷ []) ≡ repeats [] ds ++ d ∷ []
-repeats-known ds d is = repeats-last [] ds d ∙ ap (λ b. repeats [] ds ++ (if b then d ∷ [] else [])) is
+pub redefinitions-known : (ds : List Defined) (d : Defined) → is_defined_in ds d ≡ true → redefinitions [] (ds ++ d ∷ []) ≡ redefinitions [] ds ++ d ∷ []
+redefinitions-known ds d is = redefinitions-last [] ds d ∙ ap (λ b. redefinitions [] ds ++ (if b then d ∷ [] else [])) is
 
-pub repeats-new : (ds : List Defined) (d : Defined) → is_defined_in ds d ≡ false → repeats [] (ds ++ d ∷ []) ≡ repeats [] ds
-repeats-new ds d is = repeats-last [] ds d ∙ ap (λ b. repeats [] ds ++ (if b then d ∷ [] else [])) is ∙ append-nil (repeats [] ds)
+pub redefinitions-new : (ds : List Defined) (d : Defined) → is_defined_in ds d ≡ false → redefinitions [] (ds ++ d ∷ []) ≡ redefinitions [] ds
+redefinitions-new ds d is = redefinitions-last [] ds d ∙ ap (λ b. redefinitions [] ds ++ (if b then d ∷ [] else [])) is ∙ append-nil (redefinitions [] ds)
 
 -- an element before and at the end of a list that has one more
 pub get_append_before : {X : Type 0} (xs : List X) (y : X) (i : ℕ) → i < length xs → slice_get (xs ++ y ∷ []) i ≡ slice_get xs i

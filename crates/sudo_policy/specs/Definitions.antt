@@ -62,18 +62,18 @@ abbrev pub is_defined_in : List Defined → Defined → Bool
 is_defined_in earlier d = is_some (find (defines d.kind d.name) earlier)
 
 -- the definitions of the second list that no definition before them has the name and the kind of, where those of the first list stand before all
-abbrev pub firsts : List Defined → List Defined → List Defined
-firsts earlier [] = []
-firsts earlier (d ∷ ds) = if is_defined_in earlier d then firsts (earlier ++ d ∷ []) ds else d ∷ firsts (earlier ++ d ∷ []) ds
+abbrev pub definitions_in_force : List Defined → List Defined → List Defined
+definitions_in_force earlier [] = []
+definitions_in_force earlier (d ∷ ds) = if is_defined_in earlier d then definitions_in_force (earlier ++ d ∷ []) ds else d ∷ definitions_in_force (earlier ++ d ∷ []) ds
 
 -- the others: the further definitions of a name of the same kind
-abbrev pub repeats : List Defined → List Defined → List Defined
-repeats earlier [] = []
-repeats earlier (d ∷ ds) = if is_defined_in earlier d then d ∷ repeats (earlier ++ d ∷ []) ds else repeats (earlier ++ d ∷ []) ds
+abbrev pub redefinitions : List Defined → List Defined → List Defined
+redefinitions earlier [] = []
+redefinitions earlier (d ∷ ds) = if is_defined_in earlier d then d ∷ redefinitions (earlier ++ d ∷ []) ds else redefinitions (earlier ++ d ∷ []) ds
 
 -- the aliases of a policy: the definitions in force, in the order of the file
 abbrev pub aliases : Policy → List Defined
-aliases p = firsts [] (definitions p)
+aliases p = definitions_in_force [] (definitions p)
 
 -- a list of members, as it stands in a policy: the kind of its members, the place of its line, and whether it is a list of a rule or of a bound `Defaults` line
 pub record Listed : Type 0 where

@@ -5,7 +5,7 @@ use Rattle.sudo_policy.specs.declared.finding.Class.{Class}
 use Rattle.sudo_policy.specs.declared.finding.Class.TheVariants.{Redefined, Undefined, Cycle, TooDeep, TooWide, Unused}
 use Rattle.sudo_policy.specs.declared.finding.Finding.{Finding}
 use Rattle.sudo_grammar.specs.declared.policy.Policy.{Policy}
-use Rattle.sudo_policy.specs.Definitions.{Defined, Listed, aliases, repeats, definitions, lists, names_used, in_force, Reaches}
+use Rattle.sudo_policy.specs.Definitions.{Defined, Listed, aliases, redefinitions, definitions, lists, names_used, in_force, Reaches}
 use Rattle.sudo_policy.specs.Following.{ReadsAs, depth, width}
 
 -- a finding on a definition
@@ -55,7 +55,7 @@ undefined_in p list =
 -- the findings by the marks of the aliases that are cyclic, too deep, too wide and unused: class by class, each class in the order of the file
 abbrev pub found_by : Policy → List Bool → List Bool → List Bool → List Bool → List Finding
 found_by p cyclic deep wide unused =
-    map (finding_on Redefined) (repeats [] (definitions p))
+    map (finding_on Redefined) (redefinitions [] (definitions p))
     ++ (flat_map (undefined_in p) (lists p)
     ++ (map (finding_on Cycle) (items_where_true cyclic (aliases p))
     ++ (map (finding_on TooDeep) (items_where_true deep (aliases p))

@@ -63,7 +63,7 @@ pub(crate) fn examine(alloc: Global, policy: &Policy) -> Result<Examined, AllocE
     let findings = collected(alloc, &survey, lists.as_slice(), &judged)?;
     let Survey {
         aliases: _,
-        repeats: _,
+        redefinitions: _,
         index,
     } = survey;
     Ok(Examined { findings, index })
@@ -144,12 +144,12 @@ fn collected(
     judged: &Judged,
 ) -> Result<Vec<Finding>, AllocError>
     ensures { IfOk result (λ all. all.items ≡ found_in survey.now.index
-        (map named_view survey.now.aliases.items) (map named_view survey.now.repeats.items)
+        (map named_view survey.now.aliases.items) (map named_view survey.now.redefinitions.items)
         (map listed_view lists.now) judged.now) }
 {
     let aliases = survey.aliases.as_slice();
     let mut found = Vec::new(alloc);
-    push_repeats(alloc, survey.repeats.as_slice(), &mut found)?;
+    push_repeats(alloc, survey.redefinitions.as_slice(), &mut found)?;
     push_undefined(alloc, &survey.index, lists, &mut found)?;
     push_marked(
         alloc,
@@ -197,14 +197,14 @@ fn finding_on(alloc: Global, class: Class, alias: &Named<'_>) -> Result<Finding,
 /// Appends a finding for each further definition of a name.
 fn push_repeats(
     alloc: Global,
-    repeats: &[Named<'_>],
+    redefinitions: &[Named<'_>],
     findings: &mut Vec<Finding>,
 ) -> Result<(), AllocError>
     ensures { OnOk result (findings.new.items
         ≡ findings.old.items ++ map (found.finding_on Class.Redefined)
-        (map named_view repeats.now)) }
+        (map named_view redefinitions.now)) }
 {
-    for alias in repeats {
+    for alias in redefinitions {
         findings.push(finding_on(alloc, Class::Redefined, alias)?)?;
     }
     Ok(())

@@ -269,7 +269,7 @@ fn push_option<'a>(
 #[derive(Drop)]
 pub(crate) struct Survey<'a> {
     pub(crate) aliases: Vec<Named<'a>>,
-    pub(crate) repeats: Vec<Named<'a>>,
+    pub(crate) redefinitions: Vec<Named<'a>>,
     pub(crate) index: Index,
 }
 
@@ -281,7 +281,7 @@ impl<'a> Survey<'a> {
             (done ++ named_view definition.entry ∷ []) self.new) }
     {
         match self.index.number(definition.kind, definition.name) {
-            Some(_) => self.repeats.push(definition)?,
+            Some(_) => self.redefinitions.push(definition)?,
             None => {
                 self.index.insert(alloc, definition.kind, definition.name, definition.position)?;
                 self.aliases.push(definition)?;
@@ -301,7 +301,7 @@ pub(crate) fn surveyed<'a>(
 {
     let mut survey = Survey {
         aliases: Vec::new(alloc),
-        repeats: Vec::new(alloc),
+        redefinitions: Vec::new(alloc),
         index: Index::new(alloc),
     };
     for definition in definitions {

@@ -31,16 +31,16 @@ use Rattle.sudo_verdict.specs.Found.{section_found, rule_found, body_found, entr
 use Rattle.sudo_verdict.proofs.Deciding.{value_decided}
 use Rattle.sudo_verdict.specs.Last.{last_set}
 use Rattle.sudo_verdict.proofs.Lasts.{last_set_map_push}
-use Rattle.sudo_verdict.specs.Postings.{numbered, user_number, group_number, uid_number, gid_number, atom_number, Lists, stands, posted, misses_group, misses, Rises, AreLists, Grows, Covers}
+use Rattle.sudo_verdict.specs.Postings.{bucket_of, user_bucket, group_number, uid_number, gid_number, atom_number, Lists, stands, posted, misses_group, misses, Rises, AreLists, Grows, Covers}
 
 -- ---- Numbers
 
-pub numbered_next : (seed b : ℕ) (bs : List ℕ) → numbered seed (b ∷ bs) ≡ numbered ((seed * 31 + b) % 16384) bs
-unfolding numbered
+pub numbered_next : (seed b : ℕ) (bs : List ℕ) → bucket_of seed (b ∷ bs) ≡ bucket_of ((seed * 31 + b) % 16384) bs
+unfolding bucket_of
 numbered_next seed b bs = refl
 
-pub numbered_end : (seed : ℕ) (bs : List ℕ) → length bs ≡ 0 → numbered seed bs ≡ seed
-unfolding numbered
+pub numbered_end : (seed : ℕ) (bs : List ℕ) → length bs ≡ 0 → bucket_of seed bs ≡ seed
+unfolding bucket_of
 numbered_end seed [] e = refl
 numbered_end seed (b ∷ bs) e = cc
 
@@ -193,28 +193,28 @@ groups-old old new grows rule (g ∷ gs) e =
 -- the three lists that each user has, and those of the groups
 pub misses-parts :
     (lists : Lists) (rule : ℕ) (u : Person) → misses lists rule u ≡ true →
-    (not (posted lists 0 rule) ≡ true) × ((not (posted lists (user_number u.name) rule) ≡ true) × ((not (posted lists (uid_number u.uid) rule) ≡ true) × (list_all (misses_group lists rule) u.groups ≡ true)))
+    (not (posted lists 0 rule) ≡ true) × ((not (posted lists (user_bucket u.name) rule) ≡ true) × ((not (posted lists (uid_number u.uid) rule) ≡ true) × (list_all (misses_group lists rule) u.groups ≡ true)))
 unfolding misses
 misses-parts lists rule u e =
     let a = and_parts (not (posted lists 0 rule)) _ e in
-    let b = and_parts (not (posted lists (user_number u.name) rule)) _ a.1 in
+    let b = and_parts (not (posted lists (user_bucket u.name) rule)) _ a.1 in
     let c = and_parts (not (posted lists (uid_number u.uid) rule)) (list_all (misses_group lists rule) u.groups) b.1 in
     (a.0, (b.0, (c.0, c.1)))
 
 pub misses-all :
-    (lists : Lists) (rule : ℕ) (u : Person) → not (posted lists 0 rule) ≡ true → not (posted lists (user_number u.name) rule) ≡ true →
+    (lists : Lists) (rule : ℕ) (u : Person) → not (posted lists 0 rule) ≡ true → not (posted lists (user_bucket u.name) rule) ≡ true →
     not (posted lists (uid_number u.uid) rule) ≡ true → list_all (misses_group lists rule) u.groups ≡ true → misses lists rule u ≡ true
 unfolding misses
 misses-all lists rule u e f g h =
     both (not (posted lists 0 rule)) _ e
-    (both (not (posted lists (user_number u.name) rule)) _ f (both (not (posted lists (uid_number u.uid) rule)) (list_all (misses_group lists rule) u.groups) g h))
+    (both (not (posted lists (user_bucket u.name) rule)) _ f (both (not (posted lists (uid_number u.uid) rule)) (list_all (misses_group lists rule) u.groups) g h))
 
 pub misses-old : (old new : Lists) → Grows old new → (rule : ℕ) (u : Person) → misses new rule u ≡ true → misses old rule u ≡ true
 misses-old old new grows rule u e =
     let parts = misses-parts new rule u e in
     misses-all old rule u
     (keeps-not (posted old 0 rule) (posted new 0 rule) (grows 0 rule) parts.0)
-    (keeps-not (posted old (user_number u.name) rule) (posted new (user_number u.name) rule) (grows (user_number u.name) rule) parts.1.0)
+    (keeps-not (posted old (user_bucket u.name) rule) (posted new (user_bucket u.name) rule) (grows (user_bucket u.name) rule) parts.1.0)
     (keeps-not (posted old (uid_number u.uid) rule) (posted new (uid_number u.uid) rule) (grows (uid_number u.uid) rule) parts.1.1.0)
     (groups-old old new grows rule u.groups parts.1.1.1)
 
@@ -236,14 +236,14 @@ named-none lists rule name (g ∷ gs) e there =
         absurd (never (posted lists (group_number g.name) rule) (ap (λ n. posted lists (group_number n) rule) same ∙ there) missed)
     test false f missed rest = rest
 
-numbered-none :
+bucket_of-none :
     (lists : Lists) (rule gid : ℕ) (gs : List Group) → list_all (misses_group lists rule) gs ≡ true →
     posted lists (gid_number gid) rule ≡ true → list_any (λ (g : Group). g.gid == gid) gs ≡ false
-numbered-none lists rule gid [] e there = refl
-numbered-none lists rule gid (g ∷ gs) e there =
+bucket_of-none lists rule gid [] e there = refl
+bucket_of-none lists rule gid (g ∷ gs) e there =
     let here = and_parts (misses_group lists rule g) (list_all (misses_group lists rule) gs) e in
     let two = and_parts (not (posted lists (group_number g.name) rule)) (not (posted lists (gid_number g.gid) rule)) here.0 in
-    test (g.gid == gid) refl two.1 (numbered-none lists rule gid gs here.1 there)
+    test (g.gid == gid) refl two.1 (bucket_of-none lists rule gid gs here.1 there)
   where
     test : (b : Bool) → (g.gid == gid) ≡ b → not (posted lists (gid_number g.gid) rule) ≡ true → list_any (λ (x : Group). x.gid == gid) gs ≡ false
         → (b || list_any (λ (x : Group). x.gid == gid) gs) ≡ false
@@ -253,7 +253,7 @@ numbered-none lists rule gid (g ∷ gs) e there =
     test false f missed rest = rest
 
 named-other :
-    (lists : Lists) (rule : ℕ) (name other : List ℕ) → not (posted lists (user_number other) rule) ≡ true → posted lists (user_number name) rule ≡ true →
+    (lists : Lists) (rule : ℕ) (name other : List ℕ) → not (posted lists (user_bucket other) rule) ≡ true → posted lists (user_bucket name) rule ≡ true →
     bytes_eq name other ≡ false
 named-other lists rule name other missed there = test (bytes_eq name other) refl
   where
@@ -261,12 +261,12 @@ named-other lists rule name other missed there = test (bytes_eq name other) refl
     test false f = refl
     test true f =
         let same : name ≡ other = (bytes_eq-Decides name other).0 f in
-        absurd (never (posted lists (user_number other) rule) (ap (λ n. posted lists (user_number n) rule) (sym same) ∙ there) missed)
+        absurd (never (posted lists (user_bucket other) rule) (ap (λ n. posted lists (user_bucket n) rule) (sym same) ∙ there) missed)
 
-numbered-other :
+bucket_of-other :
     (lists : Lists) (rule uid other : ℕ) → not (posted lists (uid_number other) rule) ≡ true → posted lists (uid_number uid) rule ≡ true →
     (uid == other) ≡ false
-numbered-other lists rule uid other missed there = test (uid == other) refl
+bucket_of-other lists rule uid other missed there = test (uid == other) refl
   where
     test : (b : Bool) → (uid == other) ≡ b → b ≡ false
     test false f = refl
@@ -278,9 +278,9 @@ numbered-other lists rule uid other missed there = test (uid == other) refl
 pub misses-atom : (lists : Lists) (rule : ℕ) (u : Person) (a : Atom) → misses lists rule u ≡ true → posted lists (atom_number a) rule ≡ true → user_fits a u ≡ false
 unfolding atom_number user_fits
 misses-atom lists rule u (atom.Name name) e there = named-other lists rule name u.name (misses-parts lists rule u e).1.0 there
-misses-atom lists rule u (atom.Uid uid) e there = numbered-other lists rule uid u.uid (misses-parts lists rule u e).1.1.0 there
+misses-atom lists rule u (atom.Uid uid) e there = bucket_of-other lists rule uid u.uid (misses-parts lists rule u e).1.1.0 there
 misses-atom lists rule u (atom.Group name) e there = named-none lists rule name u.groups (misses-parts lists rule u e).1.1.1 there
-misses-atom lists rule u (atom.Gid gid) e there = numbered-none lists rule gid u.groups (misses-parts lists rule u e).1.1.1 there
+misses-atom lists rule u (atom.Gid gid) e there = bucket_of-none lists rule gid u.groups (misses-parts lists rule u e).1.1.1 there
 misses-atom lists rule u _ e there = absurd (never (posted lists 0 rule) there (misses-parts lists rule u e).0)
 
 -- a rule that every user finds

@@ -37,7 +37,7 @@ use Rattle.sudo_verdict.specs.RunasForms.{runas_holds}
 use Rattle.sudo_verdict.specs.Values.{user_listed, host_listed}
 use Rattle.sudo_verdict.specs.Verdicts.{verdict_by, verdict_on, verdict_if_any, verdict_if_known, verdict_of}
 use Rattle.sudo_verdict.specs.Questions.{question_of}
-use Rattle.sudo_verdict.specs.Found.{found, verdict_from, place_found, found_if_any, places_found, section_found, rule_found, body_found, entry_found}
+use Rattle.sudo_verdict.specs.Found.{found, verdict_from, command_found, found_if_any, commands_found, section_found, rule_found, body_found, entry_found}
 use Rattle.std.specs.Prelude.{is_some}
 use Rattle.sudo_verdict.proofs.Lasts.{last_set_map_push, last_that_append, last_that_map, option_map_or, option_map_map}
 
@@ -91,22 +91,22 @@ nothing false = refl
 ap2 : {X Y Z : Type 0} (f : X → Y → Z) {a b : X} {c d : Y} → a ≡ b → c ≡ d → f a c ≡ f b d
 ap2 f e h = cc
 
--- numbered commands, one by one
+-- bucket_of commands, one by one
 take_more : {X : Type 0} (n : ℕ) (xs : List X) → take (suc n) xs ≡ take n xs ++ option_to_list (slice_get xs n)
 take_more zero [] = refl
 take_more zero (x ∷ xs) = refl
 take_more (suc n) [] = refl
 take_more (suc n) (x ∷ xs) = ap (λ l. x ∷ l) (take_more n xs)
 
-numbered : {X : Type 0} (k n m : ℕ) (xs : List X) → k + n ≡ m → slice_get (enumerate_from k xs) n ≡ option_map (λ x. (m, x)) (slice_get xs n)
-numbered k n m [] h = refl
-numbered k zero m (x ∷ xs) h = let e : k ≡ m = omega (arith, h) in ap (λ i. Some (i, x)) e
-numbered k (suc n) m (x ∷ xs) h = let e : (k + 1) + n ≡ m = omega (arith, h) in numbered (k + 1) n m xs e
+bucket_of : {X : Type 0} (k n m : ℕ) (xs : List X) → k + n ≡ m → slice_get (enumerate_from k xs) n ≡ option_map (λ x. (m, x)) (slice_get xs n)
+bucket_of k n m [] h = refl
+bucket_of k zero m (x ∷ xs) h = let e : k ≡ m = omega (arith, h) in ap (λ i. Some (i, x)) e
+bucket_of k (suc n) m (x ∷ xs) h = let e : (k + 1) + n ≡ m = omega (arith, h) in bucket_of (k + 1) n m xs e
 
 module _ (p : Policy) (q : Question) (place : Place) (users : List Member) where
   found_place : (s : Section) (n : ℕ) (o : Option CommandSpec) → found p q (flat_map (place_grants p place users s) (option_to_list (option_map (λ c. (n, c)) o)))
       ≡ cond (user_listed p users q && host_listed p s.hosts q) (found_if_any p q place (take (n + 1) s.commands) o) None
-  unfolding place_found runas_at tags_at
+  unfolding command_found runas_at tags_at
   found_place s n None = found_none p q ∙ nothing (user_listed p users q && host_listed p s.hosts q)
   found_place s n (Some c) =
       ap (found p q) (append-nil (place_grants p place users s (n, c)))
@@ -119,11 +119,11 @@ module _ (p : Policy) (q : Question) (place : Place) (users : List Member) where
 
   one_more_place : (s : Section) (n : ℕ) → grants_before s (suc n) ≡ grants_before s n ++ flat_map (place_grants p place users s) (option_to_list (option_map (λ c. (n, c)) (slice_get s.commands n)))
   one_more_place s n =
-      ap (flat_map (place_grants p place users s)) (take_more n (enumerate_from 0 s.commands) ∙ ap (λ o. take n (enumerate_from 0 s.commands) ++ option_to_list o) (numbered 0 n n s.commands (omega arith)))
+      ap (flat_map (place_grants p place users s)) (take_more n (enumerate_from 0 s.commands) ∙ ap (λ o. take n (enumerate_from 0 s.commands) ++ option_to_list o) (bucket_of 0 n n s.commands (omega arith)))
       ∙ flat_map-append (place_grants p place users s) (take n (enumerate_from 0 s.commands)) (option_to_list (option_map (λ c. (n, c)) (slice_get s.commands n)))
 
-  found_before : (s : Section) (n : ℕ) → found p q (grants_before s n) ≡ cond (user_listed p users q && host_listed p s.hosts q) (places_found p q place s.commands n) None
-  unfolding places_found
+  found_before : (s : Section) (n : ℕ) → found p q (grants_before s n) ≡ cond (user_listed p users q && host_listed p s.hosts q) (commands_found p q place s.commands n) None
+  unfolding commands_found
   found_before s zero = found_none p q ∙ nothing (user_listed p users q && host_listed p s.hosts q)
   found_before s (suc n) =
       ap (found p q) (one_more_place s n)
@@ -199,18 +199,18 @@ module _ (p : Policy) (q : Question) (place : Place) (cs left rest : List Comman
   pub places_rest : rest ≡ take (length rest) cs
   places_rest = front_shorter rest c cs (sym is ∙ front_suc)
 
-  places_step : places_found p q place cs (length left) ≡ option_or (place_found p q place left c) (places_found p q place cs (length rest))
-  unfolding places_found
+  places_step : commands_found p q place cs (length left) ≡ option_or (command_found p q place left c) (commands_found p q place cs (length rest))
+  unfolding commands_found
   places_step =
-      ap (places_found p q place cs) one_longer
-      ∙ ap2 (λ l o. option_or (found_if_any p q place l o) (places_found p q place cs (length rest)))
+      ap (commands_found p q place cs) one_longer
+      ∙ ap2 (λ l o. option_or (found_if_any p q place l o) (commands_found p q place cs (length rest)))
       (ap (λ n. take n cs) (add-one (length rest)) ∙ sym front_suc) last_there
 
-  pub places_decide : (v : Verdict) → Some v ≡ place_found p q place left c → places_found p q place cs (length left) ≡ Some v
-  places_decide v e = places_step ∙ ap (λ o. option_or o (places_found p q place cs (length rest))) (sym e)
+  pub places_decide : (v : Verdict) → Some v ≡ command_found p q place left c → commands_found p q place cs (length left) ≡ Some v
+  places_decide v e = places_step ∙ ap (λ o. option_or o (commands_found p q place cs (length rest))) (sym e)
 
-  pub places_silent : None ≡ place_found p q place left c → places_found p q place cs (length left) ≡ places_found p q place cs (length rest)
-  places_silent e = places_step ∙ ap (λ o. option_or o (places_found p q place cs (length rest))) (sym e)
+  pub places_silent : None ≡ command_found p q place left c → commands_found p q place cs (length left) ≡ commands_found p q place cs (length rest)
+  places_silent e = places_step ∙ ap (λ o. option_or o (commands_found p q place cs (length rest))) (sym e)
 
 -- the commands before the last share its runas where it has none of its own
 pub refused_rest : (p : Policy) (q : Question) (left rest : List CommandSpec) (c : CommandSpec) → left ≡ rest ++ c ∷ []
@@ -229,13 +229,13 @@ refused_rest p q left rest c is refused shared own h known =
     none_there None b e k = refl
     none_there (Some r) b e k = cc
 
-pub places_end : (p : Policy) (q : Question) (place : Place) (cs left : List CommandSpec) → length left ≡ 0 → places_found p q place cs (length left) ≡ None
-unfolding places_found
-places_end p q place cs left h = ap (places_found p q place cs) h
+pub places_end : (p : Policy) (q : Question) (place : Place) (cs left : List CommandSpec) → length left ≡ 0 → commands_found p q place cs (length left) ≡ None
+unfolding commands_found
+places_end p q place cs left h = ap (commands_found p q place cs) h
 
 pub place_silent : (p : Policy) (q : Question) (place : Place) (cs : List CommandSpec) (c : CommandSpec)
-    → None ≡ decided kind.Cmnd p (c.command ∷ []) (λ a. command_fits a q.command q.arguments) → None ≡ place_found p q place cs c
-unfolding place_found
+    → None ≡ decided kind.Cmnd p (c.command ∷ []) (λ a. command_fits a q.command q.arguments) → None ≡ command_found p q place cs c
+unfolding command_found
 place_silent p q place cs c e =
     nothing (runas_holds p q (runas_before cs))
     ∙ ap (λ o. cond (runas_holds p q (runas_before cs)) (option_map (verdict_from place (tags_before cs)) o) None) e

@@ -31,24 +31,24 @@ abbrev pub verdict_from : Place → Tags → Decision → Verdict
 verdict_from place tags d = decided_by place tags d.negated d.all
 
 -- at the last of these commands, which is c
-unfoldable pub place_found : Policy → Question → Place → List CommandSpec → CommandSpec → Option Verdict
-place_found p q place before c =
+unfoldable pub command_found : Policy → Question → Place → List CommandSpec → CommandSpec → Option Verdict
+command_found p q place before c =
     cond (runas_holds p q (runas_before before))
     (option_map (verdict_from place (tags_before before)) (decided kind.Cmnd p (c.command ∷ []) (λ a. command_fits a q.command q.arguments)))
     None
 
 abbrev pub found_if_any : Policy → Question → Place → List CommandSpec → Option CommandSpec → Option Verdict
 found_if_any p q place before None = None
-found_if_any p q place before (Some c) = place_found p q place before c
+found_if_any p q place before (Some c) = command_found p q place before c
 
 -- at the commands of a section before command n
-unfoldable pub places_found : Policy → Question → Place → List CommandSpec → ℕ → Option Verdict
-places_found p q place commands zero = None
-places_found p q place commands (suc n) =
-    option_or (found_if_any p q place (take (n + 1) commands) (slice_get commands n)) (places_found p q place commands n)
+unfoldable pub commands_found : Policy → Question → Place → List CommandSpec → ℕ → Option Verdict
+commands_found p q place commands zero = None
+commands_found p q place commands (suc n) =
+    option_or (found_if_any p q place (take (n + 1) commands) (slice_get commands n)) (commands_found p q place commands n)
 
 unfoldable pub section_found : Policy → Question → Place → Section → Option Verdict
-section_found p q place s = cond (host_listed p s.hosts q) (places_found p q place s.commands (length s.commands)) None
+section_found p q place s = cond (host_listed p s.hosts q) (commands_found p q place s.commands (length s.commands)) None
 
 unfoldable pub rule_found : Policy → Question → Place → List Member → List Section → Option Verdict
 rule_found p q place users sections =

@@ -15,15 +15,15 @@ use Rattle.sudo_verdict.specs.Found.{entry_found}
 -- ---- Numbers
 
 -- the number of a name, below 16384: the same for names that are the same
-unfoldable pub numbered : ℕ → List ℕ → ℕ
-numbered seed [] = seed
-numbered seed (b ∷ bs) = numbered ((seed * 31 + b) % 16384) bs
+unfoldable pub bucket_of : ℕ → List ℕ → ℕ
+bucket_of seed [] = seed
+bucket_of seed (b ∷ bs) = bucket_of ((seed * 31 + b) % 16384) bs
 
-abbrev pub user_number : List ℕ → ℕ
-user_number name = numbered 1 name
+abbrev pub user_bucket : List ℕ → ℕ
+user_bucket name = bucket_of 1 name
 
 abbrev pub group_number : List ℕ → ℕ
-group_number name = numbered 2 name
+group_number name = bucket_of 2 name
 
 abbrev pub uid_number : ℕ → ℕ
 uid_number uid = (uid * 2 + 1) % 16384
@@ -33,7 +33,7 @@ gid_number gid = (gid * 2 + 3) % 16384
 
 -- the number under which an atom of a user list is found; 0 for those that match any user, or none
 unfoldable pub atom_number : Atom → ℕ
-atom_number (atom.Name name) = user_number name
+atom_number (atom.Name name) = user_bucket name
 atom_number (atom.Uid uid) = uid_number uid
 atom_number (atom.Group name) = group_number name
 atom_number (atom.Gid gid) = gid_number gid
@@ -61,7 +61,7 @@ misses_group lists rule g = not (posted lists (group_number g.name) rule) && not
 unfoldable pub misses : Lists → ℕ → Person → Bool
 misses lists rule u =
     not (posted lists 0 rule)
-    && (not (posted lists (user_number u.name) rule)
+    && (not (posted lists (user_bucket u.name) rule)
     && (not (posted lists (uid_number u.uid) rule)
     && list_all (misses_group lists rule) u.groups))
 

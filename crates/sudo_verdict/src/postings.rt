@@ -22,10 +22,10 @@ use sudo_match::Person;
 use sudo_policy::{Atom, Checked, Entry, EntryBody, Kind, Member};
 
 /// How many lists there are; each number is below it.
-const LISTS: usize = 16_384;
+const BUCKETS: usize = 16_384;
 
 /// The number of the atoms that match every user. Each user has it.
-const EVERYONE: usize = 0;
+const EVERYONE_BUCKET: usize = 0;
 
 /// How many members are posted one by one; a rule that goes beyond is found by every user. So the lists stay small also
 /// where aliases write out to many members.
@@ -45,13 +45,13 @@ fn next_number(number: usize, byte: u8) -> usize
     ensures value { result ≡ (number * 31 + byte) % 16384 }
     ensures below { result < 16384 }
 {
-    (number * 31 + byte as usize) % LISTS
+    (number * 31 + byte as usize) % BUCKETS
 }
 
 /// The number of a name.
-fn numbered(seed: usize, name: &[u8]) -> usize
+fn bucket_of(seed: usize, name: &[u8]) -> usize
     requires { seed < 16384 }
-    ensures value { result ≡ postings.numbered seed name.now }
+    ensures value { result ≡ postings.bucket_of seed name.now }
     ensures below { result < 16384 }
 {
     let mut number = seed;
@@ -63,32 +63,32 @@ fn numbered(seed: usize, name: &[u8]) -> usize
     number
 }
 
-fn user_number(name: &[u8]) -> usize
-    ensures value { result ≡ postings.user_number name.now }
+fn user_bucket(name: &[u8]) -> usize
+    ensures value { result ≡ postings.user_bucket name.now }
     ensures below { result < 16384 }
 {
-    numbered(1, name)
+    bucket_of(1, name)
 }
 
 fn group_number(name: &[u8]) -> usize
     ensures value { result ≡ postings.group_number name.now }
     ensures below { result < 16384 }
 {
-    numbered(2, name)
+    bucket_of(2, name)
 }
 
 fn uid_number(uid: u32) -> usize
     ensures value { result ≡ postings.uid_number uid }
     ensures below { result < 16384 }
 {
-    (uid as usize * 2 + 1) % LISTS
+    (uid as usize * 2 + 1) % BUCKETS
 }
 
 fn gid_number(gid: u32) -> usize
     ensures value { result ≡ postings.gid_number gid }
     ensures below { result < 16384 }
 {
-    (gid as usize * 2 + 3) % LISTS
+    (gid as usize * 2 + 3) % BUCKETS
 }
 
 /// The number under which an atom of a user list is found.
@@ -98,16 +98,16 @@ fn atom_number(atom: &Atom) -> usize
     ensures below { result < 16384 }
 {
     match atom {
-        Atom::Name(name) => user_number(name.as_slice()),
+        Atom::Name(name) => user_bucket(name.as_slice()),
         Atom::Uid(uid) => uid_number(*uid),
         Atom::Group(name) => group_number(name.as_slice()),
         Atom::Gid(gid) => gid_number(*gid),
-        _ => EVERYONE,
+        _ => EVERYONE_BUCKET,
     }
 }
 
 /// The place after the last of these rules before a place; 0 where there is none.
-fn end_in(rules: &[usize], end: usize) -> usize
+fn last_before(rules: &[usize], end: usize) -> usize
     requires { IsNonDecreasingBy (λ rule. rule) rules.now }
     ensures within { result ≤ end }
     ensures none { (rule : ℕ) → result ≤ rule → rule < end
@@ -122,8 +122,8 @@ impl Postings {
     fn new(alloc: Global) -> Result<Postings, AllocError>
         ensures { IfOk result (λ none. AreLists 0 none.lists.items) }
     {
-        let mut lists = Vec::with_capacity(alloc, LISTS)?;
-        for _ in 0..LISTS {
+        let mut lists = Vec::with_capacity(alloc, BUCKETS)?;
+        for _ in 0..BUCKETS {
             lists.push(Vec::new(alloc))?;
         }
         Ok(Postings {
@@ -189,7 +189,7 @@ impl Postings {
             → decided kind.User checked.now (member.now ∷ []) (λ a. user_fits a u) ≡ None) }
     {
         if self.left == 0 {
-            return self.post(EVERYONE, rule);
+            return self.post(EVERYONE_BUCKET, rule);
         }
         self.left -= 1;
         match &member.atom {
@@ -236,35 +236,35 @@ impl Postings {
     }
 
     /// The place after the last rule of the list of a number before a place; 0 where there is none.
-    fn end_at(&self, number: usize, end: usize) -> usize
+    fn last_in_bucket_before(&self, number: usize, end: usize) -> usize
         requires number { number < 16384 }
         requires lists { (n : ℕ) × AreLists n self.now.lists.items }
         ensures within { result ≤ end }
         ensures none { (rule : ℕ) → result ≤ rule → rule < end
             → posted self.now.lists.items number rule ≡ false }
     {
-        end_in(self.lists[number].as_slice(), end)
+        last_before(self.lists[number].as_slice(), end)
     }
 
     /// The place after the last rule before a place that may decide for a user; 0 where there is none.
-    pub(crate) fn end_for(&self, user: &Person, end: usize) -> usize
+    pub(crate) fn last_for_user_before(&self, user: &Person, end: usize) -> usize
         requires { (n : ℕ) × AreLists n self.now.lists.items }
         ensures within { result ≤ end }
         ensures none { (rule : ℕ) → result ≤ rule → rule < end
             → misses self.now.lists.items rule user.now ≡ true }
     {
-        let for_everyone = self.end_at(EVERYONE, end);
+        let for_everyone = self.last_in_bucket_before(EVERYONE_BUCKET, end);
         if for_everyone == end {
             return end;
         }
         let mut last = for_everyone
-            .max(self.end_at(user_number(user.name.as_slice()), end))
-            .max(self.end_at(uid_number(user.uid), end));
+            .max(self.last_in_bucket_before(user_bucket(user.name.as_slice()), end))
+            .max(self.last_in_bucket_before(uid_number(user.uid), end));
         let mut left = user.groups.as_slice();
         while let Some((group, rest)) = left.split_first() {
             last = last
-                .max(self.end_at(group_number(group.name.as_slice()), end))
-                .max(self.end_at(gid_number(group.gid), end));
+                .max(self.last_in_bucket_before(group_number(group.name.as_slice()), end))
+                .max(self.last_in_bucket_before(gid_number(group.gid), end));
             left = rest;
         }
         last

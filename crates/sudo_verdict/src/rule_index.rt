@@ -65,7 +65,7 @@ fn search_posted(checked: &Checked, postings: &Postings, query: &Query<'_>) -> O
     let entries = checked.policy().entries.as_slice();
     let mut end = entries.len();
     loop {
-        end = postings.end_for(query.user, end);
+        end = postings.last_for_user_before(query.user, end);
         if end == 0 {
             return None;
         }

@@ -9,7 +9,7 @@ ghost use Rattle.sudo_verdict.specs.RunasForms.{runas_holds};
 ghost use Rattle.sudo_verdict.specs.Body.Queries.{question};
 ghost use Rattle.sudo_verdict.specs.Verdicts.{verdict_of};
 ghost use Rattle.sudo_verdict.specs.Body.Resolved.{body_resolves};
-ghost use Rattle.sudo_verdict.specs.Found.{verdict_from, place_found, places_found, section_found, entry_found};
+ghost use Rattle.sudo_verdict.specs.Found.{verdict_from, command_found, commands_found, section_found, entry_found};
 
 use crate::decision::{AsCommand, Decision, decide_member};
 use crate::query::{Query, query_of};
@@ -111,13 +111,13 @@ fn search_places(
     commands: &[CommandSpec],
 ) -> Option<Verdict>
     requires { IsTrue (list_all (command_resolves checked.now) commands.now) }
-    ensures { result ≡ places_found checked.now (question query.now) place commands.now
+    ensures { result ≡ commands_found checked.now (question query.now) place commands.now
         (length commands.now) }
 {
     let mut refused = false;
     let mut left = commands;
     while let Some((spec, rest)) = left.split_last() {
-        let examined = search_place(checked, query, place, left, spec, refused);
+        let examined = search_command(checked, query, place, left, spec, refused);
         if let Some(verdict) = examined.verdict {
             return Some(verdict);
         }
@@ -136,8 +136,8 @@ struct Examined {
 }
 
 /// What the last of these commands says, which is `spec`; `refused` where its runas is known not to hold.
-#[tactic(auto, unfolding(crate::specs::Found::place_found))]
-fn search_place(
+#[tactic(auto, unfolding(crate::specs::Found::command_found))]
+fn search_command(
     checked: &Checked,
     query: &Query<'_>,
     place: Place,
@@ -149,7 +149,7 @@ fn search_place(
     requires last { IsTrue (command_resolves checked.now spec.now) }
     requires refused { refused ≡ true → runas_holds checked.now (question query.now)
         (runas_before commands.now) ≡ false }
-    ensures verdict { result.verdict ≡ place_found checked.now
+    ensures verdict { result.verdict ≡ command_found checked.now
         (question query.now) place commands.now spec.now }
     ensures refused { result.refused ≡ true → runas_holds checked.now (question query.now)
         (runas_before commands.now) ≡ false }

@@ -314,7 +314,7 @@ fn directory_knows_its_rows(rt: HostRuntime) -> Result<(), Fail> {
 }
 
 /// A name of five letters for each number below 26^5.
-fn numbered(alloc: Global, number: u32) -> Result<Seq<u8>, AllocError> {
+fn bucket_of(alloc: Global, number: u32) -> Result<Seq<u8>, AllocError> {
     let mut name = Seq::new(alloc);
     let mut left = number;
     for _ in 0..5u32 {
@@ -329,13 +329,13 @@ fn large_directories_are_fast(rt: HostRuntime) -> Result<(), Fail> {
     let mut people = users(rt.alloc(), group(rt.alloc(), b"adm", 4)?)?;
     let mut machines = Vec::new(rt.alloc());
     for number in 0..100000u32 {
-        let name = numbered(rt.alloc(), number)?;
+        let name = bucket_of(rt.alloc(), number)?;
         let own = group(rt.alloc(), name.as_slice(), 1000 + number)?;
         people.push(person(rt.alloc(), name.as_slice(), own)?)?;
         machines.push(machine(rt.alloc(), name.as_slice(), number)?)?;
     }
     let directory = Directory::new(rt.alloc(), people, machines)?;
-    let last = numbered(rt.alloc(), 99999)?;
+    let last = bucket_of(rt.alloc(), 99999)?;
     assert!(rt; directory.user(last.as_slice()).is_some());
     assert!(rt; directory.host(last.as_slice()).is_some());
     assert_eq!(rt;

@@ -42,8 +42,8 @@ abbrev pub missing_in : Index → Listed → List Finding
 missing_in index l = flat_map (λ (m : Member). atom_missing index l.kind l.place (alias_named m.atom)) l.members
 
 abbrev pub found_in : Index → List Defined → List Defined → List Listed → Judged → List Finding
-found_in index aliases repeats lists judged =
-    map (finding_on Redefined) repeats
+found_in index aliases redefinitions lists judged =
+    map (finding_on Redefined) redefinitions
     ++ (flat_map (missing_in index) lists
     ++ (map (finding_on Cycle) (items_where_true judged.cyclic.items aliases)
     ++ (map (finding_on TooDeep) (items_where_true judged.deep.items aliases)

@@ -9,7 +9,7 @@ use Rattle.sudo_grammar.specs.declared.policy.Policy.{Policy}
 use Rattle.sudo_policy.specs.declared.survey.Named.{Named}
 use Rattle.sudo_policy.specs.declared.survey.Listed.{Listed as HeldList}
 use Rattle.sudo_policy.specs.declared.survey.Survey.{Survey}
-use Rattle.sudo_policy.specs.Definitions.{Defined, Listed, defines, firsts, repeats, alias_named}
+use Rattle.sudo_policy.specs.Definitions.{Defined, Listed, defines, definitions_in_force, redefinitions, alias_named}
 use Rattle.sudo_policy.specs.Positions.{names_of, members_at}
 use Rattle.sudo_base.specs.Places.{place_of}
 
@@ -55,8 +55,8 @@ pub record IsIndexed (p : Policy) (done aliases : List Defined) (names : Kind �
 
 -- the survey of the definitions `done`, the first ones of a policy
 pub record IsSurvey (p : Policy) (done : List Defined) (survey : Survey) : Type 0 where
-  pub aliases_are : map named_view survey.aliases.items ≡ firsts [] done
-  pub repeats_are : map named_view survey.repeats.items ≡ repeats [] done
+  pub aliases_are : map named_view survey.aliases.items ≡ definitions_in_force [] done
+  pub repeats_are : map named_view survey.redefinitions.items ≡ redefinitions [] done
   pub indexed : IsIndexed p done (map named_view survey.aliases.items) (names_of survey.index) survey.index.positions.items
 
 -- each name's number is that of an alias

@@ -13,13 +13,13 @@ returns-in-Ok-write_all_of g c =
 pub returns-in-Ok : goal.returns-in-Ok
 returns-in-Ok g c =
     let out = sent g.O.Sink.taken g.O.Sink.stalled_writes c.args.out.now c.write_all_of.new.writer in
-    let err = sent g.E.Sink.taken g.E.Sink.stalled_writes c.args.err.now c.complain.new.err in
+    let err = sent g.E.Sink.taken g.E.Sink.stalled_writes c.args.err.now c.report_fault.new.err in
     let stalls = c.in-Err-write_all_of.ensures.stalls in
-    lost_ends c.args.ended c.in-Ok.printed c.deref.result.now c.in-Err-write_all_of.field-0.written c.complain.result out err c.in-Ok.is c.deref.ensures.value
-    c.in-Err-write_all_of.ensures.within c.in-Err-write_all_of.ensures.part (λ well. absurd (omega (arith, stalls, well))) c.complain.ensures
+    lost_ends c.args.ended c.in-Ok.printed c.deref.result.now c.in-Err-write_all_of.field-0.written c.report_fault.result out err c.in-Ok.is c.deref.ensures.value
+    c.in-Err-write_all_of.ensures.within c.in-Err-write_all_of.ensures.part (λ well. absurd (omega (arith, stalls, well))) c.report_fault.ensures
 
 pub returns : goal.returns
 returns g c =
     let out = sent g.O.Sink.taken g.O.Sink.stalled_writes c.args.out.now c.args.out.now in
-    let err = sent g.E.Sink.taken g.E.Sink.stalled_writes c.args.err.now c.complain-in-Err.new.err in
-    refused_ends c.args.ended c.in-Err.fault c.complain-in-Err.result out err c.in-Err.is refl refl c.complain-in-Err.ensures
+    let err = sent g.E.Sink.taken g.E.Sink.stalled_writes c.args.err.now c.report_fault-in-Err.new.err in
+    refused_ends c.args.ended c.in-Err.fault c.report_fault-in-Err.result out err c.in-Err.is refl refl c.report_fault-in-Err.ensures

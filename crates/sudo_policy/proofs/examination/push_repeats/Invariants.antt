@@ -5,4 +5,4 @@ use Rattle.sudo_policy.specs.Body.Named.{named_view}
 use Rattle.sudo_policy.proofs.examination.push_repeats.Given as goal
 
 abbrev pub invariant-loop-alias : goal.invariant-loop-alias
-invariant-loop-alias l = l.findings.items ++ map (finding_on Redefined) (map named_view (drop l.alias-index l.repeats)) ≡ l.initial.findings.items ++ map (finding_on Redefined) (map named_view l.repeats)
+invariant-loop-alias l = l.findings.items ++ map (finding_on Redefined) (map named_view (drop l.alias-index l.redefinitions)) ≡ l.initial.findings.items ++ map (finding_on Redefined) (map named_view l.redefinitions)

@@ -5,7 +5,7 @@ use Rattle.sudo_policy.specs.Definitions.{Defined, is_defined_in}
 use Rattle.sudo_policy.specs.Positions.{names_of}
 use Rattle.sudo_base.specs.Places.{place_of}
 use Rattle.sudo_policy.specs.Body.Named.{named_view, IsIndexed}
-use Rattle.sudo_policy.proofs.SurveyLemmas.{known-from, unknown-from, firsts-known, firsts-new, repeats-known, repeats-new, IsIndexed-known, IsIndexed-new}
+use Rattle.sudo_policy.proofs.SurveyLemmas.{known-from, unknown-from, definitions_in_force-known, definitions_in_force-new, redefinitions-known, redefinitions-new, IsIndexed-known, IsIndexed-new}
 use Rattle.sudo_policy.proofs.survey.Survey.add.Goals as goal
 
 pub returns-in_ok-push-in-Some : goal.returns-in_ok-push-in-Some
@@ -15,8 +15,8 @@ returns-in_ok-push-in-Some c = record {
       let old = c.args.self.now in
       let known : is_defined_in done d ≡ true = known-from p done (map named_view old.aliases.items) (names_of old.index) old.index.positions.items s.indexed d.kind d.name c.in-Some.field-0 (sym c.number.ensures ∙ c.in-Some.is) in
       record {
-        aliases_are = s.aliases_are ∙ sym (firsts-known done d known);
-        repeats_are = ap (map named_view) c.in_ok-push-in-Some.ensures.items ∙ map_push named_view old.repeats.items c.args.definition ∙ ap (λ es. es ++ d ∷ []) s.repeats_are ∙ sym (repeats-known done d known);
+        aliases_are = s.aliases_are ∙ sym (definitions_in_force-known done d known);
+        repeats_are = ap (map named_view) c.in_ok-push-in-Some.ensures.items ∙ map_push named_view old.redefinitions.items c.args.definition ∙ ap (λ es. es ++ d ∷ []) s.repeats_are ∙ sym (redefinitions-known done d known);
         indexed = IsIndexed-known p done (map named_view old.aliases.items) (names_of old.index) old.index.positions.items d known s.indexed;
       });
 }
@@ -33,8 +33,8 @@ returns-in_ok-push-in-None c = record {
       c.in_ok-insert-in-None.ensures.names ∙ ap (λ (n : ℕ). names_of old.index d.kind ++ (d.name, n) ∷ []) s.indexed.same_length in
       let indexed = IsIndexed-new p done (map named_view old.aliases.items) (names_of old.index) (names_of c.insert.new.self) old.index.positions.items d c.args.definition.position s.indexed absent grown c.in_ok-insert-in-None.ensures.others placed in
       record {
-        aliases_are = pushed ∙ ap (λ es. es ++ d ∷ []) s.aliases_are ∙ sym (firsts-new done d new);
-        repeats_are = s.repeats_are ∙ sym (repeats-new done d new);
+        aliases_are = pushed ∙ ap (λ es. es ++ d ∷ []) s.aliases_are ∙ sym (definitions_in_force-new done d new);
+        repeats_are = s.repeats_are ∙ sym (redefinitions-new done d new);
         indexed =
             subst (λ (positions : List Position). IsIndexed p (done ++ d ∷ []) (map named_view c.push-in-None.new.self.items) (names_of c.insert.new.self) positions) (sym c.in_ok-insert-in-None.ensures.positions)
             (subst (λ (aliases : List Defined). IsIndexed p (done ++ d ∷ []) aliases (names_of c.insert.new.self) (old.index.positions.items ++ c.args.definition.position ∷ [])) (sym pushed) indexed);

@@ -1,6 +1,6 @@
 use Rattle.std.proofs.Common.{◌≡◌}
 use Rattle.audit_commands.specs.Holding.{AreHeld}
-use Rattle.audit_commands.proofs.loading.policy_of.Given as goal
+use Rattle.audit_commands.proofs.loading.load_policy.Given as goal
 
 abbrev pub invariant-loop-call : goal.invariant-loop-call
 invariant-loop-call g l = record {

@@ -1,7 +1,7 @@
 use Rattle.std.proofs.Common.{◌≡◌, ℕ, ◌<◌, ◌≤◌, true, length}
 use Rattle.std.specs.List.{list_all}
 use Rattle.sudo_verdict.specs.Postings.{misses, misses_group}
-use Rattle.sudo_verdict.proofs.postings.Postings.end_for.Given as goal
+use Rattle.sudo_verdict.proofs.postings.Postings.last_for_user_before.Given as goal
 
 -- a rule from there on that stands in no list of the groups left stands in no list of the user
 abbrev pub invariant-loop-group : goal.invariant-loop-group

@@ -3,7 +3,7 @@ use Rattle.audit_commands.specs.Endings.{written as sent}
 use Rattle.audit_commands.specs.FaultLines.{printed_of}
 use Rattle.audit_commands.specs.Faults.{status_of}
 use Rattle.audit_commands.proofs.EndingLemmas.{plain_line, says_same}
-use Rattle.audit_commands.proofs.ending.complain.Goals as goal
+use Rattle.audit_commands.proofs.ending.report_fault.Goals as goal
 
 pub returns-in-Ok : goal.returns-in-Ok
 returns-in-Ok g c =

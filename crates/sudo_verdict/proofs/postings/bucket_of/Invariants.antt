@@ -1,11 +1,11 @@
 use Rattle.std.proofs.Common.{◌≡◌, ◌<◌, length}
-use Rattle.sudo_verdict.specs.Postings.{numbered}
-use Rattle.sudo_verdict.proofs.postings.numbered.Given as goal
+use Rattle.sudo_verdict.specs.Postings.{bucket_of}
+use Rattle.sudo_verdict.proofs.postings.bucket_of.Given as goal
 
 abbrev pub invariant-loop-byte : goal.invariant-loop-byte
 invariant-loop-byte l = record {
   below : l.number < 16384;
-  same : numbered l.seed l.name ≡ numbered l.number l.left;
+  same : bucket_of l.seed l.name ≡ bucket_of l.number l.left;
 }
 
 abbrev pub decreases-loop-byte : goal.decreases-loop-byte

@@ -1,19 +1,19 @@
 use Rattle.std.proofs.Common.{not, ap, sym, ◌∙◌, arith}
 use Rattle.std.specs.List.{list_all}
-use Rattle.sudo_verdict.specs.Postings.{user_number, group_number, posted, misses_group}
+use Rattle.sudo_verdict.specs.Postings.{user_bucket, group_number, posted, misses_group}
 use Rattle.sudo_verdict.proofs.Posting.{misses-all, group-missed, no-groups}
-use Rattle.sudo_verdict.proofs.postings.Postings.end_for.Goals as goal
+use Rattle.sudo_verdict.proofs.postings.Postings.last_for_user_before.Goals as goal
 
 pub loop-group-init : goal.loop-group-init
 loop-group-init c = record {
-  within = let one = c.end_at-for_everyone.ensures.within in let two = c.end_at.ensures.within in let three = c.end_at-2.ensures.within in
+  within = let one = c.last_in_bucket_before-for_everyone.ensures.within in let two = c.last_in_bucket_before.ensures.within in let three = c.last_in_bucket_before-2.ensures.within in
       omega (arith, c.max.ensures, c.max-last.ensures, one, two, three);
   none = λ rule h m groups.
       let lists = c.args.self.now.lists.items in
       misses-all lists rule c.args.user.now
-      (ap not (c.end_at-for_everyone.ensures.none rule (omega (arith, c.max.ensures, c.max-last.ensures, h)) m))
-      (ap not (ap (λ k. posted lists k rule) (sym (c.user_number.ensures.value ∙ ap user_number c.as_slice.ensures)) ∙ c.end_at.ensures.none rule (omega (arith, c.max.ensures, c.max-last.ensures, h)) m))
-      (ap not (ap (λ k. posted lists k rule) (sym c.uid_number.ensures.value) ∙ c.end_at-2.ensures.none rule (omega (arith, c.max.ensures, c.max-last.ensures, h)) m))
+      (ap not (c.last_in_bucket_before-for_everyone.ensures.none rule (omega (arith, c.max.ensures, c.max-last.ensures, h)) m))
+      (ap not (ap (λ k. posted lists k rule) (sym (c.user_bucket.ensures.value ∙ ap user_bucket c.as_slice.ensures)) ∙ c.last_in_bucket_before.ensures.none rule (omega (arith, c.max.ensures, c.max-last.ensures, h)) m))
+      (ap not (ap (λ k. posted lists k rule) (sym c.uid_number.ensures.value) ∙ c.last_in_bucket_before-2.ensures.none rule (omega (arith, c.max.ensures, c.max-last.ensures, h)) m))
       (ap (list_all (misses_group lists rule)) (sym c.as_slice-left.ensures) ∙ groups);
 }
 
@@ -22,14 +22,14 @@ loop-group-smaller c = let shorter = c.in-Some.ensures.cases.1 in omega (arith, 
 
 pub loop-group-preserved : goal.loop-group-preserved
 loop-group-preserved c = record {
-  within = let one = c.end_at-in-Some.ensures.within in let two = c.end_at-in-Some-2.ensures.within in
+  within = let one = c.last_in_bucket_before-in-Some.ensures.within in let two = c.last_in_bucket_before-in-Some-2.ensures.within in
       omega (arith, c.max-in-Some.ensures, c.max-last-in-Some.ensures, c.loop-group.invariant.within, one, two);
   none = λ rule h m groups.
       let lists = c.args.self.now.lists.items in
       c.loop-group.invariant.none rule (omega (arith, c.max-in-Some.ensures, c.max-last-in-Some.ensures, h)) m
       (group-missed lists rule c.loop-group.left.now c.in-Some.rest.now c.in-Some.group.now c.in-Some.ensures.cases.0
-      (ap (λ k. posted lists k rule) (sym (c.group_number.ensures.value ∙ ap group_number c.as_slice-in-Some.ensures)) ∙ c.end_at-in-Some.ensures.none rule (omega (arith, c.max-in-Some.ensures, c.max-last-in-Some.ensures, h)) m)
-      (ap (λ k. posted lists k rule) (sym c.gid_number.ensures.value) ∙ c.end_at-in-Some-2.ensures.none rule (omega (arith, c.max-in-Some.ensures, c.max-last-in-Some.ensures, h)) m)
+      (ap (λ k. posted lists k rule) (sym (c.group_number.ensures.value ∙ ap group_number c.as_slice-in-Some.ensures)) ∙ c.last_in_bucket_before-in-Some.ensures.none rule (omega (arith, c.max-in-Some.ensures, c.max-last-in-Some.ensures, h)) m)
+      (ap (λ k. posted lists k rule) (sym c.gid_number.ensures.value) ∙ c.last_in_bucket_before-in-Some-2.ensures.none rule (omega (arith, c.max-in-Some.ensures, c.max-last-in-Some.ensures, h)) m)
       groups);
 }
 

@@ -3,7 +3,7 @@ use Rattle.audit_collect.specs.Roster.{AreDistinct}
 use Rattle.audit_run.specs.Roster.{roster}
 use Rattle.audit_run.proofs.Distinct.{roster_distinct}
 use Rattle.audit_run.proofs.Rosters.{entered}
-use Rattle.audit_run.proofs.roster.enter.Goals as goal
+use Rattle.audit_run.proofs.roster.register.Goals as goal
 
 pub returns-in-Ok-clause-parts : goal.returns-in-Ok-clause-parts
 returns-in-Ok-clause-parts g c =

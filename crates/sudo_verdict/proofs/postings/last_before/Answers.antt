@@ -3,7 +3,7 @@ use Rattle.std.specs.Prelude.{nat_lt}
 use Rattle.std.proofs.lemmas.Bool.{ltb-true}
 use Rattle.std.proofs.lemmas.List.Sorted.{IsPartitionPoint-from_clause, IsPartitionedBy-ltb}
 use Rattle.sudo_verdict.proofs.Posting.{none-between, default-same}
-use Rattle.sudo_verdict.proofs.postings.end_in.Goals as goal
+use Rattle.sudo_verdict.proofs.postings.last_before.Goals as goal
 
 pub overflow_add-result : goal.overflow_add-result
 overflow_add-result c =
