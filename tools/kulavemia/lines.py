@@ -1,7 +1,7 @@
 """The physical lines of a policy's text, and how they are joined.
 
-A text is cut at its newlines; a carriage return at the end of a line and blanks at its front are dropped; a line that ends
-in an odd number of backslashes loses the last one and goes on with the next line, unless it is a comment line.
+A text is cut at its newlines; a carriage return at the end of a line and blanks at its front are dropped; a line that
+ends in an odd number of backslashes loses the last one and goes on with the next line, unless it is a comment line.
 """
 
 import re

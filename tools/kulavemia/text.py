@@ -14,7 +14,7 @@ def visible_character(character: str) -> str:
 def visible(text: str) -> str:
     """Returns the text with each character that has no shape of its own written by its number.
 
-    These are controls, marks that turn or join letters, separators of lines, blanks but the plain one, numbers that are no
-    character yet, and bytes that are no UTF-8.
+    These are controls, marks that turn or join letters, separators of lines, blanks but the plain one, numbers that are
+    no character yet, and bytes that are no UTF-8.
     """
     return text if text.isprintable() else "".join(map(visible_character, text))

@@ -83,6 +83,14 @@ class Installed(unittest.TestCase):
         self.do("uninstall")
         self.assertEqual(all_below(self.root), [])
 
+    @unittest.skipUnless(shutil.which("make"), "make is not installed")
+    def test_make(self):
+        words = ["make", "-s", "-C", REPOSITORY, f"DESTDIR={self.root}", "PREFIX=/opt/a b", f"PROGRAM={STUB}"]
+        run(*words, "install")
+        self.assertEqual(run(self.at("/opt/a b/bin/kulavemia-lint"), "--version"), f"kulavemia-lint {text_of('VERSION')}")
+        run(*words, "uninstall")
+        self.assertEqual(all_below(self.root), [])
+
     def test_uninstall_of_nothing_says_so(self):
         with self.assertRaises(subprocess.CalledProcessError) as raised:
             self.do("uninstall")

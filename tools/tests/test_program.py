@@ -1,0 +1,55 @@
+"""Where the program is found."""
+
+import os
+import unittest
+from unittest import mock
+
+from support import Case
+from kulavemia import program
+from kulavemia.command import PROGRAM, Fault
+
+
+class Find(Case):
+    def setUp(self) -> None:
+        super().setUp()
+        words = [self.path("bin", "kulavemia-lint")]
+        environment = {"PATH": self.path("path")}
+        for patch in (
+            mock.patch("sys.argv", words),
+            mock.patch.dict(os.environ, environment, clear=True),
+            mock.patch.object(program, "BUILT", self.path("built", "sudo_audit")),
+        ):
+            self.enterContext(patch)
+
+    def program(self, name: str, mode: int = 0o755) -> str:
+        """Writes a program, and returns its path."""
+        path = self.write(name, "#!/bin/sh\n")
+        os.chmod(path, mode)
+        return path
+
+    def test_the_first_that_is_there(self) -> None:
+        for name in ("built/sudo_audit", "bin/sudo_audit", "path/sudo_audit", "named"):
+            path = self.program(name)
+            if name == "named":
+                os.environ["SUDO_AUDIT"] = path
+            self.assertEqual(program.find(None), path)
+        given = self.program("given")
+        self.assertEqual(program.find(given), given)
+        self.assertEqual(program.find("sudo_audit"), self.path("path", "sudo_audit"))
+
+    def test_what_is_named_has_to_be_there(self) -> None:
+        self.program("path/sudo_audit")
+        for named in (self.path("gone"), self.folder, self.program("plain", 0o644)):
+            for given, environment in ((named, ""), (None, named)):
+                os.environ["SUDO_AUDIT"] = environment
+                with self.assertRaisesRegex(Fault, "no program") as raised:
+                    program.find(given)
+                self.assertEqual(raised.exception.status, PROGRAM)
+
+    def test_none(self) -> None:
+        with self.assertRaisesRegex(Fault, "no program sudo_audit: build it"):
+            program.find(None)
+
+
+if __name__ == "__main__":
+    unittest.main()
