@@ -5,6 +5,7 @@ mod fault;
 mod fields;
 mod hosts;
 pub mod laws;
+mod memberships;
 mod number;
 mod parts;
 mod requests;
