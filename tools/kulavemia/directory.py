@@ -1,6 +1,5 @@
 """Users with their groups, and hosts with their addresses."""
 
-import enum
 import grp
 import ipaddress
 import json
@@ -22,20 +21,29 @@ ROWS_LIMIT = 100_000
 _ID_LIMIT = 1 << 32
 
 
-class Unwritable(enum.Enum):
-    """What becomes of a group whose name users.csv cannot hold."""
+class Group(NamedTuple):
+    """A group; one without a name has its number behind a `#` for it."""
 
-    NUMBER = "number"
-    LEAVE = "leave"
-    REFUSE = "refuse"
+    name: str
+    gid: int
+
+    @property
+    def word(self) -> str:
+        """The group in a list of groups."""
+        return f"{self.name}:{self.gid}"
+
+    @property
+    def fits_a_list(self) -> bool:
+        """Whether a list of groups can hold the group."""
+        return " " not in self.name and ":" not in self.name
 
 
 class Person(NamedTuple):
-    """A user with groups as `NAME:GID`, the primary group first."""
+    """A user with groups, the primary group first."""
 
     name: str
     uid: int
-    groups: tuple[str, ...]
+    groups: tuple[Group, ...]
 
 
 class Machine(NamedTuple):
@@ -62,11 +70,9 @@ class Account(NamedTuple):
 
 
 class Groups:
-    """The groups of a machine, and how each is written."""
+    """The groups of a machine, and who is in each."""
 
-    def __init__(self, mode: Unwritable, place: str) -> None:
-        self.mode = mode
-        self.place = place
+    def __init__(self) -> None:
         self.names: dict[int, str] = {}
         self.of_user: dict[str, list[int]] = {}
 
@@ -80,23 +86,7 @@ class Groups:
         """Returns the user of an account, with these further groups or those that name him."""
         further = self.of_user.get(account.name, ()) if gids is None else gids
         found = dict.fromkeys((account.gid, *further))
-        written = (self._written(account.name, gid, gid == account.gid) for gid in found)
-        return Person(account.name, account.uid, tuple(group for group in written if group))
-
-    def _written(self, user: str, gid: int, is_primary: bool) -> str:
-        name = self.names.get(gid)
-        if name is None:
-            return f"#{gid}:{gid}"
-        if name and " " not in name and ":" not in name:
-            return f"{name}:{gid}"
-        said = f"{self.place}: user {user}: users.csv cannot hold the name of the group {name!r} ({gid})"
-        if self.mode is Unwritable.REFUSE:
-            raise Fault(said)
-        if self.mode is Unwritable.LEAVE and not is_primary:
-            warn(f"{said}; it is left out")
-            return ""
-        warn(f"{said}; it is written #{gid}, and rules that name it do not find it")
-        return f"#{gid}:{gid}"
+        return Person(account.name, account.uid, tuple(Group(self.names.get(gid) or f"#{gid}", gid) for gid in found))
 
 
 def _unique(accounts: Iterable[Account], place: str) -> list[Account]:
@@ -110,12 +100,12 @@ def _unique(accounts: Iterable[Account], place: str) -> list[Account]:
     return list(found.values())
 
 
-def of_this_machine(names: Iterable[str], mode: Unwritable) -> tuple[list[Person], list[Machine]]:
+def of_this_machine(names: Iterable[str]) -> tuple[list[Person], list[Machine]]:
     """Returns this machine's users, these among them, and its host."""
     entries = pwd.getpwall()
     listed = {entry.pw_name for entry in entries}
     further = [_looked_up(name) for name in names if name not in listed]
-    groups = Groups(mode, "this machine")
+    groups = Groups()
     for group in grp.getgrall():
         groups.add(group.gr_name, group.gr_gid, group.gr_mem)
     accounts = _unique((Account(entry.pw_name, entry.pw_uid, entry.pw_gid) for entry in entries), "this machine")
@@ -180,20 +170,20 @@ def _address(info: Mapping[str, Any]) -> str:
     return f"{address}/{bits}"
 
 
-def collected(source: str, mode: Unwritable) -> list[Host]:
+def collected(source: str) -> list[Host]:
     """Returns the hosts whose files a folder has, in the order of their names."""
     if os.path.exists(os.path.join(source, "passwd")):
-        return [_host(source, os.path.basename(os.path.abspath(source)), mode)]
+        return [_host(source, os.path.basename(os.path.abspath(source)))]
     names = sorted(name for name in os.listdir(source) if os.path.exists(os.path.join(source, name, "passwd")))
     if not names:
         raise Fault(f"{source}: no passwd and no HOST/passwd is there")
     for name in sorted(set(os.listdir(source)) - set(names)):
         warn(f"{os.path.join(source, name)} has no passwd: passed over")
-    return [_host(os.path.join(source, name), name, mode) for name in names]
+    return [_host(os.path.join(source, name), name) for name in names]
 
 
-def _host(folder: str, name: str, mode: Unwritable) -> Host:
-    groups = Groups(mode, folder)
+def _host(folder: str, name: str) -> Host:
+    groups = Groups()
     for fields in _lines(os.path.join(folder, "group"), 4, slice(2, 3)):
         groups.add(fields[0], int(fields[2]), filter(None, fields[3].split(",")))
     found = (
@@ -246,8 +236,8 @@ def _copied_addresses(folder: str) -> tuple[str, ...]:
 def merged(hosts: Iterable[Host]) -> list[Person]:
     """Returns the users of all hosts. Raises `Fault` where hosts say different things of a user or a group."""
     found: dict[str, tuple[Person, str]] = {}
-    names: dict[str, tuple[str, str]] = {}
-    gids: dict[str, tuple[str, str]] = {}
+    names: dict[str, tuple[int, str]] = {}
+    gids: dict[int, tuple[str, str]] = {}
     differences: list[str] = []
     for host in hosts:
         for person in host.people:
@@ -267,13 +257,13 @@ def merged(hosts: Iterable[Host]) -> list[Person]:
 
 
 def _clashes(
-    names: dict[str, tuple[str, str]], gids: dict[str, tuple[str, str]], group: str, folder: str
+    names: dict[str, tuple[int, str]], gids: dict[int, tuple[str, str]], group: Group, folder: str
 ) -> Iterator[str]:
-    name, _, gid = group.rpartition(":")
-    for seen, key, value in ((names, name, gid), (gids, gid, name)):
-        before, place = seen.setdefault(key, (value, folder))
-        if before != value:
-            yield f"group {name} ({gid}) of {folder} is another one on {place}"
+    gid, of_name = names.setdefault(group.name, (group.gid, folder))
+    name, of_gid = gids.setdefault(group.gid, (group.name, folder))
+    for clashes, place in ((gid != group.gid, of_name), (name != group.name, of_gid)):
+        if clashes:
+            yield f"group {group.name} ({group.gid}) of {folder} is another one on {place}"
 
 
 def users_in(path: str) -> dict[str, str]:
@@ -291,24 +281,40 @@ def hosts_in(path: str) -> list[str]:
 
 
 def write(folder: str, people: Iterable[Person], machines: Iterable[Machine]) -> None:
-    """Writes users.csv and hosts.csv into a folder."""
+    """Writes users.csv and hosts.csv into a folder. A user has a row; where the name of a group has a blank or a colon,
+    a membership has one."""
     os.makedirs(folder, exist_ok=True)
-    users = [(person.name, str(person.uid), " ".join(person.groups)) for person in people]
-    hosts = [(machine.name, " ".join(machine.interfaces)) for machine in machines]
-    _warn_of_clashes(user[2] for user in users)
-    for kind, rows in (("users", users), ("hosts", hosts)):
-        if len(rows) > ROWS_LIMIT:
-            raise Fault(f"{len(rows)} {kind}, and an audit takes {ROWS_LIMIT}")
-    if all(user[0] != "root" for user in users):
+    users = sorted(people)
+    groups = {group: None for person in users for group in person.groups}
+    _warn_of_clashes(groups)
+    if all(user.name != "root" for user in users):
         warn("there is no user root, and an audit wants one")
-    write_rows(os.path.join(folder, "users.csv"), USERS_HEADER, sorted(users))
+    if all(group.fits_a_list for group in groups):
+        header, rows = USERS_HEADER, [_user(person) for person in users]
+    else:
+        header, rows = MEMBERSHIPS_HEADER, [row for person in users for row in _memberships(person)]
+    hosts = [(machine.name, " ".join(machine.interfaces)) for machine in machines]
+    for kind, found in (("users" if header == USERS_HEADER else "memberships", rows), ("hosts", hosts)):
+        if len(found) > ROWS_LIMIT:
+            raise Fault(f"{len(found)} {kind}, and an audit takes {ROWS_LIMIT}")
+    write_rows(os.path.join(folder, "users.csv"), header, rows)
     write_rows(os.path.join(folder, "hosts.csv"), HOSTS_HEADER, hosts)
 
 
-def _warn_of_clashes(groups: Iterable[str]) -> None:
+def _user(person: Person) -> tuple[str, ...]:
+    return person.name, str(person.uid), " ".join(group.word for group in person.groups)
+
+
+def _memberships(person: Person) -> Iterator[tuple[str, ...]]:
+    if not person.groups:
+        yield person.name, str(person.uid), "", ""
+    for group in person.groups:
+        yield person.name, str(person.uid), str(group.gid), group.name
+
+
+def _warn_of_clashes(groups: Iterable[Group]) -> None:
     """Warns of a group name with two numbers, which an audit refuses."""
-    names: dict[str, str] = {}
-    for group in dict.fromkeys(word for words in groups for word in words.split(" ") if word):
-        name, _, gid = group.rpartition(":")
-        if names.setdefault(name, gid) != gid:
-            warn(f"group {name} has the numbers {names[name]} and {gid}: an audit refuses that")
+    gids: dict[str, int] = {}
+    for group in groups:
+        if gids.setdefault(group.name, group.gid) != group.gid:
+            warn(f"group {group.name} has the numbers {gids[group.name]} and {group.gid}: an audit refuses that")

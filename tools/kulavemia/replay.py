@@ -56,8 +56,7 @@ def _directory(given: argparse.Namespace) -> tuple[str, str]:
         if not given.collected:
             raise Fault("--directory or --collected is wanted", WORDS)
         folder = os.path.join(given.out, "directory")
-        mode = directory.Unwritable.NUMBER
-        hosts = directory.collected(given.collected, mode)
+        hosts = directory.collected(given.collected)
         directory.write(folder, directory.merged(hosts), [host.machine for host in hosts])
     return os.path.join(folder, "users.csv"), os.path.join(folder, "hosts.csv")
 

@@ -2,7 +2,9 @@
 
 import unittest
 
-from support import Case, needs_program
+from support import Case, Fault, needs_program
+
+from kulavemia.directory import Group, Person, write
 
 PASSWD = "root:x:0:0::/root:/bin/sh\njim:x:5001:5000::/home/jim:/bin/sh\nann:x:5002:100::/home/ann:/bin/sh\nghost:x:5003:5999::/:/bin/sh\n"
 GROUP = "root:x:0:\nusers:x:100:jim\ndomain users:x:5000:\nit staff:x:5001:jim,ann\nadm:x:4:ann\n"
@@ -31,31 +33,52 @@ class Directory(Case):
         )
 
     def test_copied_files_of_a_host(self) -> None:
+        self.host("web1", group=GROUP.replace("domain users", "domain-users").replace("it staff", "it-staff"))
+        self.run_tool("directory", "--from", "web1", "out")
+        self.assertEqual(
+            self.rows("out", "users.csv"),
+            [
+                "user,uid,groups",
+                "ann,5002,users:100 it-staff:5001 adm:4",
+                "ghost,5003,#5999:5999",
+                "jim,5001,domain-users:5000 users:100 it-staff:5001",
+                "root,0,root:0",
+            ],
+        )
+        self.assertEqual(self.rows("out", "hosts.csv"), ["host,interfaces", "web1,192.0.2.7/24"])
+
+    def test_names_of_groups_that_no_list_can_hold(self) -> None:
         self.host("web1")
         _, err = self.run_tool("directory", "--from", "web1", "out")
         self.assertEqual(
             self.rows("out", "users.csv"),
             [
-                "user,uid,groups",
-                "ann,5002,users:100 #5001:5001 adm:4",
-                "ghost,5003,#5999:5999",
-                "jim,5001,#5000:5000 users:100 #5001:5001",
-                "root,0,root:0",
+                "user,uid,gid,group",
+                "ann,5002,100,users",
+                "ann,5002,5001,it staff",
+                "ann,5002,4,adm",
+                "ghost,5003,5999,#5999",
+                "jim,5001,5000,domain users",
+                "jim,5001,100,users",
+                "jim,5001,5001,it staff",
+                "root,0,0,root",
             ],
         )
-        self.assertEqual(self.rows("out", "hosts.csv"), ["host,interfaces", "web1,192.0.2.7/24"])
-        self.assertIn(
-            "user jim: users.csv cannot hold the name of the group 'domain users' (5000); it is written #5000", err
-        )
+        self.assertEqual(err, "")
 
-    def test_groups_that_cannot_be_written(self) -> None:
-        self.host("web1")
-        _, err = self.run_tool("directory", "--from", "web1", "out", "--unwritable", "leave")
-        self.assertIn("jim,5001,#5000:5000 users:100", self.rows("out", "users.csv"))
-        self.assertIn("user ann: users.csv cannot hold the name of the group 'it staff' (5001); it is left out", err)
-        self.assertIn(
-            "domain users", self.run_tool("directory", "--from", "web1", "out", "--unwritable", "refuse", status=3)[1]
-        )
+    def test_other_names_of_groups(self) -> None:
+        for name, written in (("a:b", "a:b"), ('say "x", y z', '"say ""x"", y z"'), (" ", " ")):
+            group = Group(name, 7)
+            write(self.path("out"), [Person("root", 0, (group,)), Person("bob", 1, ())], [])
+            self.assertEqual(self.rows("out", "users.csv"), ["user,uid,gid,group", "bob,1,,", f"root,0,7,{written}"])
+
+    def test_as_many_memberships_as_an_audit_takes(self) -> None:
+        groups = tuple(Group(f"g {gid}", gid) for gid in range(1000))
+        people = [Person("root", 0, groups)] + [Person(f"u{uid}", uid, groups) for uid in range(1, 100)]
+        write(self.path("out"), people, [])
+        self.assertEqual(len(self.rows("out", "users.csv")), 100_001)
+        with self.assertRaisesRegex(Fault, "100001 memberships, and an audit takes 100000"):
+            write(self.path("out"), [*people, Person("v", 100, ())], [])
 
     def test_many_hosts(self) -> None:
         self.host("all/web1")
@@ -64,7 +87,7 @@ class Directory(Case):
         self.write("all/notes", "")
         _, err = self.run_tool("directory", "--from", "all", "out")
         self.assertEqual(self.rows("out", "hosts.csv")[1:], ["web1,192.0.2.7/24", "web2.example.org,"])
-        self.assertEqual(len(self.rows("out", "users.csv")), 5)
+        self.assertEqual(len(self.rows("out", "users.csv")), 9)
         self.assertIn("all/notes has no passwd: passed over", err)
 
     def test_hosts_that_differ(self) -> None:
@@ -77,8 +100,8 @@ class Directory(Case):
         self.host("all/web2", group=GROUP.replace("adm:x:4", "adm:x:5"))
         self.assertIn("(and 1 more)", self.run_tool("directory", "--from", "all", "out", status=3)[1])
         self.run_tool("directory", "--from", "all", "out", "--each")
-        self.assertIn("adm:5", self.read("out", "web2", "users.csv"))
-        self.assertIn("adm:4", self.read("out", "web1", "users.csv"))
+        self.assertIn("ann,5002,5,adm", self.read("out", "web2", "users.csv"))
+        self.assertIn("ann,5002,4,adm", self.read("out", "web1", "users.csv"))
 
     def test_files_of_another_form(self) -> None:
         for name, kind, text, said in (
@@ -115,16 +138,19 @@ class Directory(Case):
     @needs_program
     def test_the_program_takes_it(self) -> None:
         self.host("web1")
-        self.run_tool("directory", "--from", "web1", "out")
         self.write(
             "r.csv", "number,user,host,runas_user,runas_group,command,arguments\n1,jim,web1,,,/bin/id,\nclose,1,,,,,\n"
         )
         self.write("old", "root ALL = ALL\n")
-        self.write("new", "%#5000 web1 = ALL\n")
-        out, _ = self.run_tool(
-            "compare", "old", "new", "--users", "out/users.csv", "--hosts", "out/hosts.csv", "s=r.csv", status=1
-        )
-        self.assertIn("gained,s,1,jim,web1,,,/bin/id,,nomatch,allow,,SETENV,,new:1", out)
+        by_name = GROUP.replace("domain users", "domain-users").replace("it staff", "it-staff")
+        for group, rule in ((by_name, "%#5000"), (GROUP, "%#5000"), (GROUP, "%domain\\ users"), (GROUP, '"%it staff"')):
+            self.host("web1", group=group)
+            self.run_tool("directory", "--from", "web1", "out")
+            self.write("new", f"{rule} web1 = ALL\n")
+            out, _ = self.run_tool(
+                "compare", "old", "new", "--users", "out/users.csv", "--hosts", "out/hosts.csv", "s=r.csv", status=1
+            )
+            self.assertIn("gained,s,1,jim,web1,,,/bin/id,,nomatch,allow,,SETENV,,new:1", out)
 
 
 if __name__ == "__main__":

@@ -8,6 +8,8 @@ import subprocess
 import tempfile
 import unittest
 
+from support import PROGRAM, needs_program
+
 TESTS = os.path.dirname(os.path.realpath(__file__))
 REPOSITORY = os.path.dirname(os.path.dirname(TESTS))
 STUB = os.path.join(TESTS, "lint_stub")
@@ -131,12 +133,20 @@ class Installed(unittest.TestCase):
 
 
 class Versions(unittest.TestCase):
-    """The version stands in the file VERSION, and the lists of changes have it."""
+    """The version stands in the file VERSION, and the lists of changes and the program have it."""
 
     def test_lists_of_changes_begin_with_the_version(self):
         version = text_of("VERSION").strip()
         self.assertEqual(re.search(r"^## \[([^]]*)\]", text_of("CHANGELOG.md"), re.MULTILINE)[1], version)
         self.assertTrue(text_of("packaging", "debian", "changelog").startswith(f"kulavemia ({version}) "))
+
+    def test_source_of_the_program_has_the_version(self):
+        source = text_of("crates", "audit_words", "src", "program.rt")
+        self.assertEqual(re.findall(r"\.version\((.*)\)", source), [f'"{text_of("VERSION").strip()}"'])
+
+    @needs_program
+    def test_program_tells_the_version(self):
+        self.assertEqual(run(PROGRAM, "--version"), f"sudo_audit {text_of('VERSION')}")
 
 
 @unittest.skipUnless(shutil.which("dpkg-deb"), "dpkg-deb is not installed")

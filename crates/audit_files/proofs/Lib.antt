@@ -8,3 +8,4 @@ pub mod Left
 pub mod ReadLemmas
 pub mod Rising
 pub mod InterfaceLemmas
+pub mod Members

@@ -1,14 +1,15 @@
 -- What a users file states.
-use Rattle.std.specs.Prelude.{ℕ, List, [], ◌∷◌, ◌+◌, nat_le, length, codes, filter_map, Option, Some, None, Result, option_map, option_and_then, if◌then◌else◌}
+use Rattle.std.specs.Prelude.{ℕ, Bool, true, false, not, List, [], ◌∷◌, ◌++◌, ◌+◌, ◌-◌, ◌==◌, ◌&&◌, ◌||◌, nat_le, length, codes, bytes_eq, filter_map, fold, slice_get, is_some, Option, Some, None, Result, option_map, option_and_then, if◌then◌else◌}
 use Rattle.sudo_match.specs.declared.people.Group.{Group}
 use Rattle.sudo_match.specs.declared.people.Person.{Person}
-use Rattle.audit_files.specs.Files.{stated}
+use Rattle.audit_files.specs.Files.{headed, stated}
 use Rattle.audit_files.specs.Numerals.{is_empty, number_of}
 use Rattle.audit_files.specs.Parts.{cut_at, items_of}
 use Rattle.audit_files.specs.Rows.{Fields, records_of}
 use Rattle.audit_files.specs.declared.fault.FileFault.{FileFault}
 use Rattle.audit_files.specs.declared.fault.FileFault.TheVariants.{BadRow, TooMany}
 
+-- the header of a file with one row a user
 abbrev pub users_header : Fields
 users_header = codes "user" ∷ codes "uid" ∷ codes "groups" ∷ []
 
@@ -36,6 +37,68 @@ row_fault before (Some x) = if nat_le row_limit (length before) then Some TooMan
 abbrev pub person_fault : List Fields → Fields → Option FileFault
 person_fault before fields = row_fault before (person_of fields)
 
--- what the bytes of a users file state, or their first fault
+-- the header of a file with one row a membership
+abbrev pub memberships_header : Fields
+memberships_header = codes "user" ∷ codes "uid" ∷ codes "gid" ∷ codes "group" ∷ []
+
+-- one group, of a number and any name that is not empty; or none, where both fields are empty
+abbrev pub groups_of_row : List ℕ → List ℕ → Option (List Group)
+groups_of_row gid name =
+    if is_empty name
+    then (if is_empty gid then Some [] else None)
+    else option_map (λ n. record { name = name; gid = n } ∷ []) (number_of gid)
+
+-- a user that is not empty, a number, and a group or none
+abbrev pub member_of : Fields → Option Person
+member_of (user ∷ uid ∷ gid ∷ group ∷ []) =
+    if is_empty user then None
+    else option_and_then (λ n. option_map (λ gs. record { name = user; uid = n; groups = gs }) (groups_of_row gid group)) (number_of uid)
+member_of _ = None
+
+-- a row behind a row of the same user: it adds its group to those of the user; behind another it is a further user
+abbrev pub followed_by : Person → Person → List Person
+followed_by p row = if bytes_eq p.name row.name then record p { groups = p.groups ++ row.groups } ∷ [] else p ∷ row ∷ []
+
+-- users, and a row behind the rows of the last of them
+abbrev pub with_row : List Person → Person → List Person
+with_row [] row = row ∷ []
+with_row (p ∷ []) row = followed_by p row
+with_row (p ∷ q ∷ rest) row = p ∷ with_row (q ∷ rest) row
+
+-- the users whose memberships rows state, the rows of each together
+abbrev pub users_of_rows : List Person → List Person
+users_of_rows rows = fold with_row [] rows
+
+abbrev pub users_of : List Fields → List Person
+users_of all = users_of_rows (filter_map member_of all)
+
+abbrev pub has_groups : Person → Bool
+has_groups p = not (is_no_list p.groups)
+  where
+    is_no_list : List Group → Bool
+    is_no_list [] = true
+    is_no_list (g ∷ gs) = false
+
+-- a row may stand behind this user's rows: it is of another user, or it has the user's number and a further group, and the user has one
+abbrev pub goes_after : Person → Person → Bool
+goes_after p row = not (bytes_eq p.name row.name) || ((p.uid == row.uid) && (has_groups p && has_groups row))
+
+-- a row that may stand behind the rows of the last user, if there is one
+abbrev pub row_behind : Option Person → Option Person → Option Person
+row_behind last None = None
+row_behind None (Some row) = Some row
+row_behind (Some p) (Some row) = if goes_after p row then Some row else None
+
+abbrev pub last_of : List Person → Option Person
+last_of people = slice_get people (length people - 1)
+
+abbrev pub membership_fault : List Fields → Fields → Option FileFault
+membership_fault before fields = row_fault before (row_behind (last_of (users_of before)) (member_of fields))
+
+-- what the bytes of a users file state, or their first fault: by the header, one row a membership or one row a user
 abbrev pub people : List ℕ → Result (List Person) FileFault
-people text = stated users_header person_fault (filter_map person_of) (records_of text)
+people text =
+    let all = records_of text in
+    if is_some (headed memberships_header all)
+    then stated memberships_header membership_fault users_of all
+    else stated users_header person_fault (filter_map person_of) all

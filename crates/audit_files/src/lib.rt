@@ -10,6 +10,7 @@ mod feed;
 mod fields;
 mod hosts;
 pub mod laws;
+mod memberships;
 mod number;
 mod parts;
 mod places;

@@ -1,10 +1,12 @@
 ghost use Rattle.std.specs.Prelude.{◌≡◌, ◌+◌, ◌∷◌, ◌++◌, [], Ok, Err, IfOk, IfErr, OnOk, IfSome, filter_map, length};
 ghost use Rattle.csv.specs.Records.{fields_of};
 ghost use Rattle.audit_files.specs.Faults.{IsOfFile, failures_in, read_failures};
-ghost use Rattle.audit_files.specs.Files.{IsRead};
-ghost use Rattle.audit_files.specs.Users.{group_of, people, person_of};
+ghost use Rattle.audit_files.specs.Files.{IsRead, stated};
+ghost use Rattle.audit_files.specs.Rows.{records_of};
+ghost use Rattle.audit_files.specs.Users.{group_of, people, person_fault, person_of, users_header};
 
 use crate::fields::field;
+use crate::memberships::{self, people_by_membership};
 use crate::number::number;
 use crate::parts::{Item, cut, items};
 use crate::table::{Table, gather};
@@ -122,10 +124,12 @@ impl People {
     }
 }
 
-// What the bytes of a users file state, or their first fault.
-fn people_in(alloc: Global, text: &[u8]) -> Result<Vec<Person>, FileFault>
-    ensures stated { IfOk result (λ list. people text.now ≡ Ok list.items) }
-    ensures fault { IfErr result (λ e. IsOfFile e → people text.now ≡ Err e) }
+// What the bytes of a file with one row a user state, or their first fault.
+fn people_by_user(alloc: Global, text: &[u8]) -> Result<Vec<Person>, FileFault>
+    ensures stated { IfOk result (λ list. stated users_header person_fault (filter_map person_of)
+        (records_of text.now) ≡ Ok list.items) }
+    ensures fault { IfErr result (λ e. IsOfFile e
+        → stated users_header person_fault (filter_map person_of) (records_of text.now) ≡ Err e) }
     ensures no_read { IfErr result (λ e. failures_in e ≡ 0) }
 {
     let mut table = People {
@@ -136,13 +140,36 @@ fn people_in(alloc: Global, text: &[u8]) -> Result<Vec<Person>, FileFault>
     Ok(table.list)
 }
 
+// What the bytes of a users file state, or their first fault.
+fn people_in(alloc: Global, text: &[u8]) -> Result<Vec<Person>, FileFault>
+    ensures stated { IfOk result (λ list. people text.now ≡ Ok list.items) }
+    ensures fault { IfErr result (λ e. IsOfFile e → people text.now ≡ Err e) }
+    ensures no_read { IfErr result (λ e. failures_in e ≡ 0) }
+{
+    if memberships::has_header(alloc, text)? {
+        return people_by_membership(alloc, text);
+    }
+    people_by_user(alloc, text)
+}
+
 /// Reads a users file to its end: its persons, in order.
 ///
-/// The header is `user,uid,groups`. A row has a user that is not empty, a number, and groups as
-/// `name:gid` one space apart, possibly none. For each record the faults are, in this order: another
-/// number of fields or a field of another shape (`BadRow`), more than 100,000 rows (`TooMany`); the
-/// first faulty record decides. `TooMany` also comes for more than 268,435,456 bytes before any row is
-/// read, `Read` where a read failed, `Memory` where memory was refused.
+/// The header is `user,uid,groups` or `user,uid,gid,group`.
+///
+/// Under the first a row is a user: a name that is not empty, a number, and groups as `name:gid` one
+/// space apart, possibly none.
+///
+/// Under the second a row is a membership: a name that is not empty, a number, and the number and the
+/// name of one group, which may have any name but an empty one. Rows of one user that follow one
+/// another are one person, with the groups in the order of the rows, the primary group first. A user
+/// without groups has one row, with both fields of the group empty. A row behind one of the same user
+/// is a `BadRow` where its number is another, or where one of the two has no group. Rows of a user
+/// that come back behind those of another are a further person of the same name.
+///
+/// For each record the faults are, in this order: another number of fields, a field of another shape
+/// or a row that may not follow (`BadRow`), more than 100,000 rows (`TooMany`); the first faulty
+/// record decides. `Header` comes for another header or none, `TooMany` also for more than 268,435,456
+/// bytes before any row is read, `Read` where a read failed, `Memory` where memory was refused.
 pub fn read_users<R: Feed>(alloc: Global, reader: &mut R) -> Result<Vec<Person>, FileFault>
     ensures stated { IfOk result (λ list. IsRead people (R.ahead reader.old) (Ok list.items)) }
     ensures fault { IfErr result (λ e. IsOfFile e → IsRead people (R.ahead reader.old) (Err e)) }

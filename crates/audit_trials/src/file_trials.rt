@@ -1,6 +1,7 @@
 use audit_files::{FileFault, Script, read_hosts, read_requests, read_users};
 use std::alloc::Global;
 use std::test::Fail;
+use sudo_match::Person;
 
 const HEADER: &str = "number,user,host,runas_user,runas_group,command,arguments\n";
 
@@ -160,6 +161,119 @@ fn reads_users(rt: HostRuntime) -> Result<(), Fail> {
             Err(FileFault::BadRow { row: 2 })
         )
     );
+    Ok(())
+}
+
+// A users file with one row a membership, and the users that it states, as `name uid name:gid ..;` for each, or its fault.
+const MEMBERSHIPS: [(&str, Result<&str, FileFault>); 24] = [
+    ("", Ok("")),
+    ("root,0,0,root\n", Ok("root 0 root:0;")),
+    ("a,1,7,g\na,1,8,h\n", Ok("a 1 g:7 h:8;")),
+    ("a,1,7,g\nb,2,7,g\n", Ok("a 1 g:7;b 2 g:7;")),
+    ("a,1,7,g\na,1,7,g\n", Ok("a 1 g:7 g:7;")),
+    ("a,1,,\nb,2,,\n", Ok("a 1;b 2;")),
+    // Rows of a user that come back are a further user.
+    ("a,1,7,g\nb,2,,\na,9,8,h\n", Ok("a 1 g:7;b 2;a 9 h:8;")),
+    // Names that one row a user cannot hold.
+    ("a,1,5000,domain users\n", Ok("a 1 domain users:5000;")),
+    (
+        "a,1,5,x:y\na,1,6,\"b,\"\"c\"\"\"\n",
+        Ok("a 1 x:y:5 b,\"c\":6;"),
+    ),
+    ("a,1,5,\" \"\n", Ok("a 1  :5;")),
+    (
+        "a,4294967295,4294967295,g\n",
+        Ok("a 4294967295 g:4294967295;"),
+    ),
+    (",1,7,g\n", Err(FileFault::BadRow { row: 2 })),
+    ("a,1,7\n", Err(FileFault::BadRow { row: 2 })),
+    ("a,1,7,g,\n", Err(FileFault::BadRow { row: 2 })),
+    ("a,x,7,g\n", Err(FileFault::BadRow { row: 2 })),
+    ("a,1,07,g\n", Err(FileFault::BadRow { row: 2 })),
+    ("a,1,4294967296,g\n", Err(FileFault::BadRow { row: 2 })),
+    ("a,1,7,\n", Err(FileFault::BadRow { row: 2 })),
+    ("a,1,,g\n", Err(FileFault::BadRow { row: 2 })),
+    // A further row of a user with another number, and an empty membership beside others.
+    ("a,1,7,g\na,2,8,h\n", Err(FileFault::BadRow { row: 3 })),
+    (
+        "a,1,7,g\na,1,8,h\na,1,,\n",
+        Err(FileFault::BadRow { row: 4 }),
+    ),
+    ("a,1,,\na,1,7,g\n", Err(FileFault::BadRow { row: 3 })),
+    ("a,1,,\na,1,,\n", Err(FileFault::BadRow { row: 3 })),
+    ("a,1,7,g\nb,2,g:7\n", Err(FileFault::BadRow { row: 3 })),
+];
+
+// The users as the table writes them.
+fn written(alloc: Global, users: &[Person]) -> Result<String, Fail> {
+    let mut text = String::new(alloc);
+    for user in users {
+        let name = str::from_utf8(user.name.as_slice()).unwrap_or("?");
+        let uid = user.uid;
+        text.push_str(format!(in alloc; "{name} {uid}")?.as_str())?;
+        for group in user.groups.as_slice() {
+            let name = str::from_utf8(group.name.as_slice()).unwrap_or("?");
+            let gid = group.gid;
+            text.push_str(format!(in alloc; " {name}:{gid}")?.as_str())?;
+        }
+        text.push_str(";")?;
+    }
+    Ok(text)
+}
+
+#[test]
+fn reads_memberships(rt: HostRuntime) -> Result<(), Fail> {
+    let alloc = rt.alloc();
+    for (rows, expected) in MEMBERSHIPS {
+        let text = format!(in alloc; "user,uid,gid,group\n{rows}")?;
+        let mut reader = Script::of(alloc, text.as_str().as_bytes(), 9)?;
+        match (read_users(alloc, &mut reader), expected) {
+            (Ok(users), Ok(expected)) => {
+                assert!(rt; written(alloc, users.as_slice())?.as_str() == expected);
+            }
+            (Err(fault), Err(expected)) => assert!(rt; fault == expected),
+            _ => assert!(rt; false),
+        }
+    }
+    Ok(())
+}
+
+#[test]
+fn refuses_other_headers(rt: HostRuntime) -> Result<(), Fail> {
+    let alloc = rt.alloc();
+    let headers = [
+        "",
+        "user,uid",
+        "user,uid,group,gid",
+        "user,uid,gid,group,",
+        "user, uid, gid, group",
+        "User,uid,gid,group",
+        "user,uid,gid,groups",
+        "user,uid,gid",
+    ];
+    for header in headers {
+        let mut reader = Script::of(alloc, header.as_bytes(), 9)?;
+        assert!(rt; matches!(read_users(alloc, &mut reader), Err(FileFault::Header)));
+    }
+    Ok(())
+}
+
+#[test]
+fn counts_the_rows_of_memberships(rt: HostRuntime) -> Result<(), Fail> {
+    let alloc = rt.alloc();
+    let mut text = String::from_str(alloc, "user,uid,gid,group\n")?;
+    for _ in 0..100_000 {
+        text.push_str("a,1,7,g\n")?;
+    }
+    let mut reader = Script::of(alloc, text.as_str().as_bytes(), 65_536)?;
+    let users = read_users(alloc, &mut reader)?;
+    assert!(rt; users.len() == 1 && users[0].groups.len() == 100_000);
+    text.push_str("a,1,7,g\n")?;
+    let mut reader = Script::of(alloc, text.as_str().as_bytes(), 65_536)?;
+    assert!(rt; matches!(read_users(alloc, &mut reader), Err(FileFault::TooMany)));
+    text.push_str("a,2,7,g\n")?;
+    let mut reader = Script::of(alloc, text.as_str().as_bytes(), 65_536)?;
+    assert!(rt; matches!(read_users(alloc, &mut reader), Err(FileFault::TooMany)));
     Ok(())
 }
 

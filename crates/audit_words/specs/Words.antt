@@ -53,12 +53,13 @@ audit_paths_app = with_rule (with_rule (with_rule (new_app (codes "audit")) (nee
 abbrev pub audit_app : App
 audit_app = with_rule (with_rule audit_paths_app workers_rule) senders_rule
 
+-- the program's name; it has a version, and wants a subcommand
+abbrev pub named_app : App
+named_app = on_top (λ s. record s { has_version = true; subcommand_required = true }) (new_app (codes "sudo_audit"))
+
 -- the program's command: one of the three
 abbrev pub program_app : App
-program_app =
-    with_subcommand (with_subcommand (with_subcommand
-    (on_top (λ s. record s { subcommand_required = true }) (new_app (codes "sudo_audit")))
-    check_app.top) expand_app.top) audit_app.top
+program_app = with_subcommand (with_subcommand (with_subcommand named_app check_app.top) expand_app.top) audit_app.top
 
 -- the text of the workers' row is this number in decimal
 abbrev pub IsNumberIn : ℕ → List Row → Type 0

@@ -2,7 +2,7 @@
 ghost use Rattle.std.specs.Prelude.{◌≡◌, IfOk, codes, false};
 ghost use Rattle.clap.specs.Words.{app_of, rule_of};
 ghost use Rattle.clap.specs.declared.builder.command.Command.TheViews.{out-Command as fields_of};
-ghost use Rattle.audit_words.specs.Words.{audit_app, audit_paths_app, check_app, expand_app, needed, needed_option, program_app, senders_rule, workers_rule};
+ghost use Rattle.audit_words.specs.Words.{audit_app, audit_paths_app, check_app, expand_app, named_app, needed, needed_option, program_app, senders_rule, workers_rule};
 
 use clap::builder::ValueParser;
 use clap::{Arg, Command};
@@ -92,6 +92,16 @@ fn audit<'a>(alloc: Global) -> Result<Command<'a>, AllocError>
     audit_paths(alloc)?.arg(workers(alloc))?.arg(senders(alloc))
 }
 
+/// The program's name and version, with no subcommand yet.
+fn named<'a>(alloc: Global) -> Command<'a>
+    ensures app { app_of result ≡ named_app }
+    ensures local { (fields_of result).has_globals ≡ false }
+{
+    Command::new(alloc, "sudo_audit")
+        .version("0.1.0")
+        .subcommand_required(true)
+}
+
 /// The program's command.
 pub(crate) fn program<'a>(alloc: Global) -> Result<Command<'a>, AllocError>
     ensures app { IfOk result (λ c. app_of c ≡ program_app) }
@@ -99,8 +109,7 @@ pub(crate) fn program<'a>(alloc: Global) -> Result<Command<'a>, AllocError>
     let check = check(alloc)?;
     let expand = expand(alloc)?;
     let audit = audit(alloc)?;
-    Command::new(alloc, "sudo_audit")
-        .subcommand_required(true)
+    named(alloc)
         .subcommand(check)?
         .subcommand(expand)?
         .subcommand(audit)

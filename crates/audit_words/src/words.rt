@@ -116,7 +116,7 @@ fn asked_by<'a>(
 /// `audit FILE --users F --hosts F [--workers N] [NAME=PATH]...`, where N is 1 to 16, by default 2.
 ///
 /// The error is `clap`'s. Memory aside, it comes exactly where `clap` does not take the words (they are no such command,
-/// or ask for help) or KIND is none of the four.
+/// or ask for help or for the version) or KIND is none of the four.
 pub fn asked<'a, S: AsStr>(alloc: Global, words: &'a [S]) -> Result<Asked<'a>, Error>
     ensures stated { IfOk result (λ a. (p : Text × List Row)
         × (subcommand_of program_app (map S.text words.entry.now) ≡ Some p) × States a p) }

@@ -89,6 +89,24 @@ fn refuses_other_words(rt: HostRuntime) {
 }
 
 #[test]
+fn tells_the_version(rt: HostRuntime) -> Result<(), Fail> {
+    let alloc = rt.alloc();
+    for word in ["--version", "-V"] {
+        let words = ["x", word];
+        let Err(text) = asked(alloc, words.as_slice()) else {
+            assert!(rt; false);
+            return Ok(());
+        };
+        assert!(rt; !text.use_stderr() && text.kind() == ErrorKind::DisplayVersion);
+        assert!(rt; format!(in alloc; "{text}")?.as_str() == "sudo_audit 0.1.0\n");
+    }
+    // The version is that of the program alone.
+    let words = ["x", "check", "p", "--version"];
+    assert!(rt; asked(alloc, words.as_slice()).is_err_and(|text| text.use_stderr()));
+    Ok(())
+}
+
+#[test]
 fn tells_words_that_are_not_read(rt: HostRuntime) {
     let alloc = rt.alloc();
     let text = unread(alloc, ReadKind::InvalidData);
