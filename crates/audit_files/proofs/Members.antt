@@ -1,5 +1,5 @@
 -- One more row of a file with one row a membership.
-use Rattle.std.proofs.Common.{◌≡◌, ◌<◌, ◌+◌, ◌∙◌, true, false, List, [], ◌∷◌, ◌++◌, refl, ap, sym, append_assoc, length, Option, Some, None, filter_map, nat_le}
+use Rattle.std.proofs.Common.{◌≡◌, ◌<◌, ◌∙◌, true, false, List, [], ◌∷◌, ◌++◌, refl, ap, sym, append_assoc, length, Option, Some, None, filter_map, nat_le}
 use Rattle.std.specs.Prelude.{bytes_eq, is_some}
 use Rattle.std.proofs.lemmas.Bool.{lt-leb}
 use Rattle.std.proofs.lemmas.List.Sums.{fold_push}
