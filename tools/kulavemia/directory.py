@@ -29,12 +29,12 @@ class Group(NamedTuple):
 
     @property
     def word(self) -> str:
-        """The group in a list of groups."""
+        """Returns the group as a list of groups has it."""
         return f"{self.name}:{self.gid}"
 
     @property
     def fits_a_list(self) -> bool:
-        """Whether a list of groups can hold the group."""
+        """Tells whether a list of groups can hold the group."""
         return " " not in self.name and ":" not in self.name
 
 
@@ -280,9 +280,24 @@ def hosts_in(path: str) -> list[str]:
     return [fields[0] for _, fields in records(path, HOSTS_HEADER)]
 
 
+def numbered(people: Iterable[Person]) -> list[Person]:
+    """Returns the users with `#` and its number for the name of each group that a list of groups cannot hold."""
+    told: dict[Group, Group] = {}
+
+    def written(group: Group) -> Group:
+        if group.fits_a_list:
+            return group
+        if group not in told:
+            warn(f"group {group.name!r} ({group.gid}) is written #{group.gid}, and rules that name it do not find it")
+            told[group] = Group(f"#{group.gid}", group.gid)
+        return told[group]
+
+    return [person._replace(groups=tuple(map(written, person.groups))) for person in people]
+
+
 def write(folder: str, people: Iterable[Person], machines: Iterable[Machine]) -> None:
-    """Writes users.csv and hosts.csv into a folder. A user has a row; where the name of a group has a blank or a colon,
-    a membership has one."""
+    """Writes users.csv and hosts.csv into a folder: a row for each user, or, where the name of a group has a blank or a
+    colon, for each membership."""
     os.makedirs(folder, exist_ok=True)
     users = sorted(people)
     groups = {group: None for person in users for group in person.groups}
@@ -294,9 +309,11 @@ def write(folder: str, people: Iterable[Person], machines: Iterable[Machine]) ->
     else:
         header, rows = MEMBERSHIPS_HEADER, [row for person in users for row in _memberships(person)]
     hosts = [(machine.name, " ".join(machine.interfaces)) for machine in machines]
-    for kind, found in (("users" if header == USERS_HEADER else "memberships", rows), ("hosts", hosts)):
+    kind = "users" if header == USERS_HEADER else "memberships"
+    hint = "" if header == USERS_HEADER else "; directory --by-number writes a row for each user"
+    for found, said in ((rows, f"{len(rows)} {kind}"), (hosts, f"{len(hosts)} hosts")):
         if len(found) > ROWS_LIMIT:
-            raise Fault(f"{len(found)} {kind}, and an audit takes {ROWS_LIMIT}")
+            raise Fault(f"{said}, and an audit takes {ROWS_LIMIT}{hint if found is rows else ''}")
     write_rows(os.path.join(folder, "users.csv"), header, rows)
     write_rows(os.path.join(folder, "hosts.csv"), HOSTS_HEADER, hosts)
 

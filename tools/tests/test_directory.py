@@ -66,6 +66,23 @@ class Directory(Case):
         )
         self.assertEqual(err, "")
 
+    def test_groups_by_number(self) -> None:
+        self.host("web1")
+        _, err = self.run_tool("directory", "--from", "web1", "out", "--by-number")
+        self.assertEqual(
+            self.rows("out", "users.csv"),
+            [
+                "user,uid,groups",
+                "ann,5002,users:100 #5001:5001 adm:4",
+                "ghost,5003,#5999:5999",
+                "jim,5001,#5000:5000 users:100 #5001:5001",
+                "root,0,root:0",
+            ],
+        )
+        for name, gid in (("domain users", 5000), ("it staff", 5001)):
+            said = f"group '{name}' ({gid}) is written #{gid}, and rules that name it do not find it"
+            self.assertEqual(err.count(said), 1)
+
     def test_other_names_of_groups(self) -> None:
         for name, written in (("a:b", "a:b"), ('say "x", y z', '"say ""x"", y z"'), (" ", " ")):
             group = Group(name, 7)
@@ -77,7 +94,7 @@ class Directory(Case):
         people = [Person("root", 0, groups)] + [Person(f"u{uid}", uid, groups) for uid in range(1, 100)]
         write(self.path("out"), people, [])
         self.assertEqual(len(self.rows("out", "users.csv")), 100_001)
-        with self.assertRaisesRegex(Fault, "100001 memberships, and an audit takes 100000"):
+        with self.assertRaisesRegex(Fault, "100001 memberships, and an audit takes 100000; directory --by-number"):
             write(self.path("out"), [*people, Person("v", 100, ())], [])
 
     def test_many_hosts(self) -> None:

@@ -44,8 +44,8 @@ fn run<T: Threads + Wait + Sync>(rt: &HostRuntime, threads: &T, asked: Asked<'_>
     }
 }
 
-/// Prints the text of `clap`, and gives the exit status: help that was asked for goes to standard output, with status
-/// 0, and a mistake in the words to standard error, with status 2.
+/// Prints the text of `clap`, and gives the exit status: help or the version, where asked for, goes to standard output, with
+/// status 0, and a mistake in the words to standard error, with status 2.
 fn refuse(rt: &HostRuntime, error: &Error) -> u8 {
     if error.kind() == ErrorKind::OutOfMemory {
         let mut err = Device::new(rt.stderr());

@@ -9,3 +9,5 @@ pub mod ReadLemmas
 pub mod Rising
 pub mod InterfaceLemmas
 pub mod Members
+pub mod Kept
+pub mod UsersVectors

@@ -1,5 +1,5 @@
 -- What a users file states.
-use Rattle.std.specs.Prelude.{ℕ, Bool, true, false, not, List, [], ◌∷◌, ◌++◌, ◌+◌, ◌-◌, ◌==◌, ◌&&◌, ◌||◌, nat_le, length, codes, bytes_eq, filter_map, fold, slice_get, is_some, Option, Some, None, Result, option_map, option_and_then, if◌then◌else◌}
+use Rattle.std.specs.Prelude.{⊤, ◌≡◌, ℕ, Bool, true, false, not, List, [], ◌∷◌, ◌++◌, ◌+◌, ◌-◌, ◌==◌, ◌&&◌, ◌||◌, nat_le, length, codes, bytes_eq, filter_map, flat_map, fold, map, slice_get, is_some, Option, Some, None, Result, option_map, option_and_then, if◌then◌else◌}
 use Rattle.sudo_match.specs.declared.people.Group.{Group}
 use Rattle.sudo_match.specs.declared.people.Person.{Person}
 use Rattle.audit_files.specs.Files.{headed, stated}
@@ -57,7 +57,8 @@ member_of _ = None
 
 -- a row behind a row of the same user: it adds its group to those of the user; behind another it is a further user
 abbrev pub followed_by : Person → Person → List Person
-followed_by p row = if bytes_eq p.name row.name then record p { groups = p.groups ++ row.groups } ∷ [] else p ∷ row ∷ []
+followed_by p row =
+    if bytes_eq p.name row.name then record p { groups = p.groups ++ row.groups } ∷ [] else p ∷ row ∷ []
 
 -- users, and a row behind the rows of the last of them
 abbrev pub with_row : List Person → Person → List Person
@@ -79,7 +80,7 @@ has_groups p = not (is_no_list p.groups)
     is_no_list [] = true
     is_no_list (g ∷ gs) = false
 
--- a row may stand behind this user's rows: it is of another user, or it has the user's number and a further group, and the user has one
+-- a row may stand behind this user's rows: it is of another user, or it has the user's number, and both have groups
 abbrev pub goes_after : Person → Person → Bool
 goes_after p row = not (bytes_eq p.name row.name) || ((p.uid == row.uid) && (has_groups p && has_groups row))
 
@@ -95,10 +96,30 @@ last_of people = slice_get people (length people - 1)
 abbrev pub membership_fault : List Fields → Fields → Option FileFault
 membership_fault before fields = row_fault before (row_behind (last_of (users_of before)) (member_of fields))
 
--- what the bytes of a users file state, or their first fault: by the header, one row a membership or one row a user
+-- what the bytes of a users file state, or their first fault: by its header a row is a membership, or else a user
 abbrev pub people : List ℕ → Result (List Person) FileFault
 people text =
     let all = records_of text in
     if is_some (headed memberships_header all)
     then stated memberships_header membership_fault users_of all
     else stated users_header person_fault (filter_map person_of) all
+
+-- no two neighbours have one name
+abbrev pub AreApart : List Person → Type 0
+AreApart [] = ⊤
+AreApart (p ∷ []) = ⊤
+AreApart (p ∷ q ∷ rest) = (bytes_eq p.name q.name ≡ false) × AreApart (q ∷ rest)
+
+-- the rows that a user with these groups is written as: one a group, or one without a group
+abbrev pub rows_with : Person → List Group → List Person
+rows_with p [] = record p { groups = [] } ∷ []
+rows_with p (g ∷ gs) = map (λ h. record p { groups = h ∷ [] }) (g ∷ gs)
+
+abbrev pub rows_of : Person → List Person
+rows_of p = rows_with p p.groups
+
+-- users are those of records with one row a membership: no two neighbours have one name, and the users' rows, in order,
+-- are what the records state
+abbrev pub AreUsersOf : List Fields → List Person → Type 0
+AreUsersOf records users =
+    AreApart users × (map member_of records ≡ map (λ row. Some row) (flat_map rows_of users))

@@ -1,7 +1,7 @@
 use Rattle.std.proofs.Common.{◌≡◌, ◌<◌, ◌∙◌, List, Some, length, true, ap, sym, arith, rules}
 use Rattle.std.specs.Prelude.{is_some}
 use Rattle.csv.specs.Records.{fields_of}
-use Rattle.audit_files.specs.Users.{last_of, member_of, row_behind, users_of, with_row}
+use Rattle.audit_files.specs.Users.{last_of, row_behind, users_of, with_row}
 use Rattle.audit_files.proofs.Members.{following_row}
 use Rattle.audit_files.proofs.memberships.MembershipsTable.add.Goals as goal
 
