@@ -41,9 +41,14 @@ def called(other: str) -> str:
     return f"kulavemia-{other}" if name().startswith("kulavemia-") else f"tools/{other}"
 
 
+def tell(text: str) -> None:
+    """Writes a line to standard error."""
+    print(f"{name()}: {visible(text)}", file=sys.stderr, flush=True)
+
+
 def warn(text: str) -> None:
     """Writes a warning to standard error."""
-    print(f"{name()}: warning: {visible(text)}", file=sys.stderr)
+    tell(f"warning: {text}")
 
 
 def parser(purpose: str, more: Mapping[int, str] | None = None) -> argparse.ArgumentParser:
@@ -65,14 +70,14 @@ def run(main: Callable[[], int]) -> NoReturn:
         status = main()
         sys.stdout.flush()
     except Fault as fault:
-        print(f"{name()}: {visible(str(fault))}", file=sys.stderr)
+        tell(str(fault))
         status = fault.status
     except BrokenPipeError:
         os.dup2(os.open(os.devnull, os.O_WRONLY), sys.stdout.fileno())
         status = FAILED
     except OSError as error:
         place = f"{error.filename}: " if error.filename is not None else ""
-        print(f"{name()}: {visible(place + (error.strerror or str(error)))}", file=sys.stderr)
+        tell(place + (error.strerror or str(error)))
         status = FAILED
     except KeyboardInterrupt:
         status = 130

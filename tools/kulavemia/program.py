@@ -93,21 +93,31 @@ def audit(program: str, policy: Policy, sources: Sequence[Source], out: str, wor
             progress.at(done)
 
 
-def _audit_batch(program: str, policy: Policy, batch: Iterable[Source], report: IO[bytes], workers: int) -> None:
+def audit_words(program: str, policy: Policy, sources: Iterable[Source], workers: int) -> list[str]:
+    """Returns the words of the command line that audits the sources."""
     words = [program, "audit", policy.file, "--users", policy.users, "--hosts", policy.hosts, "--workers", str(workers)]
-    words += [f"{source.sender}={source.file}" for source in batch]
+    return words + [f"{source.sender}={source.file}" for source in sources]
+
+
+def _audit_batch(program: str, policy: Policy, batch: Iterable[Source], report: IO[bytes], workers: int) -> None:
+    words = audit_words(program, policy, batch, workers)
     with tempfile.TemporaryFile() as part:
         done = subprocess.run(words, stdout=part, stderr=subprocess.PIPE, check=False)
         part.seek(0)
         if done.returncode != 0:
             raise _said(program, done, part.read(), policy.root)
-        header = part.readline()
-        if header != os.fsencode(row(REPORT_HEADER)):
-            raise Fault(f"{program}: its report has the header {os.fsdecode(header).strip()}", PROGRAM)
-        if policy.root:
-            _copy_shown(part, report, policy.root)
-        else:
-            shutil.copyfileobj(part, report)
+        copy_rows(part, report, program, policy.root)
+
+
+def copy_rows(part: IO[bytes], report: IO[bytes], program: str, root: str) -> None:
+    """Copies the rows of a report, their places without the root folder. Raises `Fault` at another header."""
+    header = part.readline()
+    if header != os.fsencode(row(REPORT_HEADER)):
+        raise Fault(f"{program}: its report has the header {os.fsdecode(header).strip()}", PROGRAM)
+    if root:
+        _copy_shown(part, report, root)
+    else:
+        shutil.copyfileobj(part, report)
 
 
 def _copy_shown(part: IO[bytes], report: IO[bytes], root: str) -> None:

@@ -49,15 +49,16 @@ def _includes(text: bytes) -> list[Include]:
 
 
 class _Copy:
-    """A copy of the files of a policy, whose includes stay below its root."""
+    """The files of a policy below a tree, by their own paths, as they read where includes stay below a root folder."""
 
-    def __init__(self, tree: str, root: str) -> None:
+    def __init__(self, tree: str, root: bytes) -> None:
         self.tree = os.fsencode(os.path.abspath(tree))
-        self.root = os.fsencode(os.path.abspath(root))
+        self.root = root
         self.seen: set[bytes] = set()
+        self.files: dict[bytes, bytes] = {}
 
     def take(self, path: bytes) -> None:
-        """Copies a file, named as on its own machine, and what it includes."""
+        """Takes a file, named as on its own machine, and what it includes."""
         if path in self.seen or not os.path.lexists(self.tree + path):
             return
         self.seen.add(path)
@@ -71,9 +72,7 @@ class _Copy:
                 self._take_folder(named)
             else:
                 self.take(named)
-        os.makedirs(os.path.dirname(self.root + path), exist_ok=True)
-        with open(self.root + path, "wb") as file:
-            file.write(rewritten(text, self._path_of))
+        self.files[path] = rewritten(text, self._path_of)
 
     def _take_folder(self, folder: bytes) -> None:
         for found in kept_files(self.tree + folder):
@@ -88,16 +87,30 @@ class _Copy:
             raise Fault(
                 f"{os.fsdecode(whole)}: a link, or a path that is not in its plain form; copied files have none"
             )
+        if not os.path.isfile(whole):
+            raise Fault(f"{os.fsdecode(whole)}: no file")
 
 
-def of_tree(tree: str, main: str, root: str) -> Prepared:
-    """Returns a copy, below a root folder, of the policy whose files lie below a tree."""
+def files_of_tree(tree: str, main: str, root: bytes) -> dict[bytes, bytes]:
+    """Returns the files, by their own paths, of a policy that lies below a tree; its includes are below a root folder."""
     if not main.startswith("/"):
         raise Fault(f"{main}: the policy is named by its path on its own machine, as /etc/sudoers")
     if not os.path.exists(tree + main):
         raise Fault(f"{tree}{main} is not there")
-    _Copy(tree, root).take(os.fsencode(main))
-    return Prepared(main, os.path.abspath(root))
+    copy = _Copy(tree, root)
+    copy.take(os.fsencode(main))
+    return copy.files
+
+
+def of_tree(tree: str, main: str, root: str) -> Prepared:
+    """Returns a copy, below a root folder, of the policy whose files lie below a tree."""
+    place = os.path.abspath(root)
+    for path, text in files_of_tree(tree, main, os.fsencode(place)).items():
+        copied = os.fsencode(place) + path
+        os.makedirs(os.path.dirname(copied), exist_ok=True)
+        with open(copied, "wb") as file:
+            file.write(text)
+    return Prepared(main, place)
 
 
 def main_of(collected: str) -> str:

@@ -8,7 +8,8 @@ import tempfile
 import unittest
 
 TOOLS = os.path.dirname(os.path.dirname(os.path.abspath(__file__)))
-DATA = os.path.join(TOOLS, "tests", "data")
+TESTS = os.path.join(TOOLS, "tests")
+DATA = os.path.join(TESTS, "data")
 EXAMPLES = os.path.join(os.path.dirname(TOOLS), "examples")
 if TOOLS not in sys.path:
     sys.path.insert(0, TOOLS)
@@ -31,16 +32,25 @@ def has_jinja() -> bool:
     return done.returncode == 0
 
 
+def has_dask() -> bool:
+    """Tells whether there is Dask's distributed scheduler."""
+    found = "import importlib.util, sys; sys.exit(importlib.util.find_spec('distributed') is None)"
+    return subprocess.run(["/usr/bin/python3", "-c", found], check=False).returncode == 0
+
+
 PROGRAM = program()
 BROWSER = shutil.which("chromium") or shutil.which("chromium-browser")
 JINJA = has_jinja()
+DASK = has_dask()
 needs_program = unittest.skipUnless(PROGRAM, "the program sudo_audit is not built")
 needs_jinja = unittest.skipUnless(JINJA, "python3-jinja2 is not installed")
+needs_dask = unittest.skipUnless(DASK, "python3-distributed is not installed")
 needs_browser = unittest.skipUnless(BROWSER, "chromium is not installed")
 
 for there, missing in (
     (PROGRAM, "the program sudo_audit is not built"),
     (JINJA, "python3-jinja2 is not installed"),
+    (DASK, "python3-distributed is not installed"),
     (BROWSER, "chromium is not installed"),
 ):
     if not there:

@@ -1,0 +1,204 @@
+"""Shards on workers of Dask's distributed scheduler.
+
+What waits on the scheduler is a few shards for each worker, so that neither it nor this process grows with the fleet.
+"""
+
+import contextlib
+import logging
+import queue
+import tempfile
+import time
+import urllib.request
+import warnings
+from collections.abc import Iterator
+from concurrent.futures import CancelledError
+from typing import Any
+
+import cloudpickle
+import dask
+from distributed import Client, Future, LocalCluster
+from distributed.comm import CommClosedError
+from distributed.scheduler import KilledWorker
+
+from kulavemia import fleet_handed
+from kulavemia.command import FAILED as READING_FAILED
+from kulavemia.command import Fault
+from kulavemia.fleet_handed import Handed, judge
+from kulavemia.fleet_plan import travelling
+from kulavemia.fleet_work import FAILED, UNFIT, Answer, Job
+
+# Seconds to reach a scheduler, and to let it go where it is gone; seconds to wait for its first worker.
+CONNECTION = 5.0
+PATIENCE = 60.0
+TICK = 1.0
+WAITING = 3
+
+cloudpickle.register_pickle_by_value(fleet_handed)
+
+
+def _quiet() -> None:
+    """Leaves to this module what is said of a connection that is lost."""
+    for name in list(logging.root.manager.loggerDict):
+        if name.partition(".")[0] == "distributed":
+            logging.getLogger(name).setLevel(logging.CRITICAL)
+
+
+@contextlib.contextmanager
+def local(workers: int, retries: int) -> Iterator[Client]:
+    """Yields a client of a cluster of processes on this machine, whose connections are encrypted and closed to others."""
+    settings = {
+        "distributed.scheduler.allowed-failures": retries,
+        "distributed.scheduler.work-stealing": False,
+        "distributed.comm.timeouts.connect": "60s",
+    }
+    with (
+        tempfile.TemporaryDirectory(prefix="fleet-") as folder,
+        dask.config.set(settings),
+        LocalCluster(
+            n_workers=workers,
+            threads_per_worker=1,
+            processes=True,
+            security=True,
+            dashboard_address=None,
+            local_directory=folder,
+            silence_logs="CRITICAL",
+        ) as cluster,
+        Client(cluster) as client,
+    ):
+        yield client
+
+
+@contextlib.contextmanager
+def at(address: str) -> Iterator[Client]:
+    """Yields a client of a scheduler that is there. Raises `Fault` where it does not answer, or has no worker."""
+    try:
+        client = Client(address, timeout=CONNECTION)
+    except (OSError, ValueError) as error:
+        raise Fault(f"{address}: {error}", READING_FAILED) from None
+    with client:
+        try:
+            client.wait_for_workers(1, timeout=PATIENCE)
+        except TimeoutError:
+            raise Fault(f"{address}: the scheduler has no worker", READING_FAILED) from None
+        yield client
+
+
+def page_of(client: Client) -> str:
+    """Returns the address of the scheduler's own page, empty where there is none."""
+    link = client.dashboard_link
+    try:
+        with urllib.request.urlopen(link, timeout=CONNECTION):
+            return link
+    except (OSError, ValueError, AttributeError):
+        return ""
+
+
+class _Shard:
+    """A shard that is with the scheduler: how often it was tried, and on which workers in vain."""
+
+    def __init__(self, job: Job) -> None:
+        self.job = job
+        self.tries = 0
+        self.unfit: set[str] = set()
+
+
+class Runner:
+    """Has shards judged by the workers of a scheduler."""
+
+    def __init__(self, client: Client, handed: Handed, retries: int) -> None:
+        self.client = client
+        self.handed = handed.name
+        self.retries = retries
+        self.ended: queue.SimpleQueue[Future] = queue.SimpleQueue()
+        self.running: dict[str, tuple[Future, _Shard]] = {}
+        self.workers: dict[str, Any] = {}
+        self.asked = -TICK
+        warnings.filterwarnings("ignore", message="Large object of size")
+        _quiet()
+        client.register_worker_plugin(handed, name=handed.name)
+
+    def run(self, jobs: Iterator[Job]) -> Iterator[tuple[Job, Answer]]:
+        """Yields what comes of each shard, in whatever order it comes. Raises `Fault` where the scheduler goes away."""
+        try:
+            yield from self._run(jobs)
+        except (CommClosedError, CancelledError):
+            raise self._gone() from None
+        except (AttributeError, LookupError, TypeError, ValueError):
+            # A client whose connection is lost answers in these ways too.
+            self._want_scheduler()
+            raise
+
+    def _run(self, jobs: Iterator[Job]) -> Iterator[tuple[Job, Answer]]:
+        more = True
+        while True:
+            while more and len(self.running) < self._room():
+                job = next(jobs, None)
+                if job is None:
+                    more = False
+                else:
+                    self._submit(_Shard(job))
+            if not self.running:
+                return
+            yield from self._next()
+
+    def _workers(self) -> dict[str, Any]:
+        """Returns the workers, as the scheduler told them some moments ago."""
+        if time.monotonic() > self.asked + TICK:
+            self.workers = self.client.scheduler_info()["workers"]
+            self.asked = time.monotonic()
+        return self.workers
+
+    def _room(self) -> int:
+        """Returns how many shards may wait on the scheduler."""
+        return WAITING * max(1, sum(worker["nthreads"] for worker in self._workers().values()))
+
+    def _submit(self, shard: _Shard) -> None:
+        """Hands a shard to the scheduler: to workers on which it was not tried, where there are any."""
+        shard.tries += 1
+        others = [address for address in self._workers() if address not in shard.unfit] if shard.unfit else []
+        key = f"{shard.job.name}-{shard.job.digest[:16]}-{shard.tries}"
+        future = self.client.submit(
+            judge,
+            tuple(travelling(shard.job)),
+            self.handed,
+            key=key,
+            pure=False,
+            workers=others or None,
+            allow_other_workers=bool(others),
+        )
+        self.running[key] = future, shard
+        future.add_done_callback(self.ended.put)
+
+    def _next(self) -> Iterator[tuple[Job, Answer]]:
+        """Yields what came of the next shard that ended, if it is not tried again."""
+        try:
+            future = self.ended.get(timeout=TICK)
+        except queue.Empty:
+            self._want_scheduler()
+            return
+        _, shard = self.running.pop(future.key)
+        answer = self._answer(future, shard)
+        if answer.status == UNFIT and shard.tries <= self.retries:
+            self._submit(shard)
+            return
+        yield shard.job, answer._replace(status=FAILED) if answer.status == UNFIT else answer
+
+    def _answer(self, future: Future, shard: _Shard) -> Answer:
+        """Returns what came of a shard that ended."""
+        if future.status == "finished":
+            worker, answer = future.result()
+            shard.unfit.add(worker)
+            return Answer(*answer)
+        if future.status == "cancelled":
+            raise self._gone()
+        error = future.exception()
+        if isinstance(error, KilledWorker):
+            return Answer(FAILED, "each worker that had it died")
+        return Answer(UNFIT, f"{type(error).__name__}: {error}")
+
+    def _want_scheduler(self) -> None:
+        if self.client.status != "running":
+            raise self._gone() from None
+
+    def _gone(self) -> Fault:
+        return Fault("the scheduler has gone; what is done stands, and the same command goes on", READING_FAILED)

@@ -1,0 +1,245 @@
+"""Results of shards, each a file of its own, and the report that they are joined to.
+
+The first line of a result is a JSON object, and the rows of the shard's report are the rest.
+"""
+
+import hashlib
+import json
+import os
+import secrets
+from collections.abc import Iterator
+from types import TracebackType
+from typing import NamedTuple
+
+from kulavemia.answers import REPORT_HEADER
+from kulavemia.command import Fault, tell
+from kulavemia.fleet_handed import unpacked
+from kulavemia.fleet_plan import Fleet, told
+from kulavemia.fleet_work import DONE, FAILED, REFUSED, Answer, Job
+from kulavemia.rows import row
+
+SHARDS = "shards"
+REPORT = "report.csv"
+STATUS = "status.csv"
+STATUS_HEADER = ("host", "shard", "status", "rows", "fault")
+SUFFIX = ".shard"
+SHOWN = 20
+STATUSES = (DONE, REFUSED, FAILED)
+
+_FIELDS = {"shard": str, "digest": str, "status": str, "fault": str, "rows": int, "size": int, "sum": str}
+
+
+class Result(NamedTuple):
+    """The first line of a result."""
+
+    shard: str
+    digest: str
+    status: str
+    fault: str
+    rows: int
+    size: int
+    sum: str
+
+
+def file_of(shard: str) -> str:
+    """Returns the name of the file that has the result of a shard."""
+    host, _, number = shard.rpartition("/")
+    return f"{host}.{number}{SUFFIX}"
+
+
+class Results:
+    """The results in a folder. Each is written beside its place, and then renamed."""
+
+    def __init__(self, out: str) -> None:
+        self.out = out
+        self.folder = os.path.join(out, SHARDS)
+        os.makedirs(self.folder, exist_ok=True)
+
+    def put(self, job: Job, answer: Answer) -> None:
+        """Writes the result of a shard, in place of one that stands there."""
+        data = unpacked(answer.report) if answer.report else b""
+        found = Result(
+            job.name,
+            job.digest,
+            answer.status,
+            answer.fault,
+            answer.rows,
+            len(data),
+            hashlib.sha256(data).hexdigest(),
+        )
+        with _Fresh(self.folder) as file:
+            file.write(json.dumps(found._asdict()).encode() + b"\n")
+            file.write(data)
+            file.keep(os.path.join(self.folder, file_of(job.name)))
+
+    def stands(self, job: Job) -> bool:
+        """Tells whether the result of a shard with these inputs is there, and need not be made again."""
+        path = os.path.join(self.folder, file_of(job.name))
+        if not os.path.exists(path):
+            return False
+        try:
+            found = read_result(path)
+            rows_of(path, found)
+        except Fault:
+            return False
+        return (found.shard, found.digest) == (job.name, job.digest) and found.status in (DONE, REFUSED)
+
+    def all(self) -> Iterator[tuple[str, Result | Fault]]:
+        """Yields the path of each file of the folder with its first line, or with what is wrong with it."""
+        for name in sorted(os.listdir(self.folder)):
+            if name.startswith("."):
+                continue
+            path = os.path.join(self.folder, name)
+            try:
+                yield path, read_result(path)
+            except Fault as fault:
+                yield path, fault
+
+    def forget(self) -> None:
+        """Removes what an earlier run joined."""
+        for name in (REPORT, STATUS):
+            if os.path.exists(os.path.join(self.out, name)):
+                os.unlink(os.path.join(self.out, name))
+
+
+class _Fresh:
+    """A file that is being written. It is removed where it is not kept."""
+
+    def __init__(self, folder: str) -> None:
+        self.path = os.path.join(folder, f".{secrets.token_hex(8)}.part")
+
+    def __enter__(self) -> "_Fresh":
+        self.file = open(self.path, "xb")
+        return self
+
+    def write(self, data: bytes) -> None:
+        """Writes bytes."""
+        self.file.write(data)
+
+    def keep(self, path: str) -> None:
+        """Gives the whole file its name."""
+        self.file.close()
+        os.replace(self.path, path)
+
+    def __exit__(self, kind: type | None, error: BaseException | None, trace: TracebackType | None) -> None:
+        self.file.close()
+        if os.path.exists(self.path):
+            os.unlink(self.path)
+
+
+def read_result(path: str) -> Result:
+    """Returns the first line of a result. Raises `Fault` where the file is no whole result."""
+    with open(path, "rb") as file:
+        line = file.readline()
+        size = os.fstat(file.fileno()).st_size - len(line)
+    try:
+        fields = json.loads(line)
+        found = Result(**fields)
+        sound = all(isinstance(fields[name], kind) for name, kind in _FIELDS.items()) and found.status in STATUSES
+    except (ValueError, TypeError):
+        sound = False
+    if not sound or found.size != size:
+        raise Fault(f"{path}: no whole result")
+    return found
+
+
+def rows_of(path: str, found: Result) -> bytes:
+    """Returns the rows of a result. Raises `Fault` where they are not those that were written."""
+    with open(path, "rb") as file:
+        file.readline()
+        data = file.read()
+    if hashlib.sha256(data).hexdigest() != found.sum:
+        raise Fault(f"{path}: no whole result")
+    return data
+
+
+class Joined(NamedTuple):
+    """What a fleet's report has: rows, and shards by their status."""
+
+    rows: int
+    done: int
+    refused: int
+    failed: int
+
+
+class _Join:
+    """Puts the results of a fleet together, and gathers what is wrong with them."""
+
+    def __init__(self, fleet: Fleet, results: Results) -> None:
+        self.fleet = fleet
+        self.results = results
+        self.wrong: list[str] = []
+        self.places: dict[str, tuple[str, Result]] = {}
+        self.used: set[str] = set()
+        self.counts = dict.fromkeys(STATUSES, 0)
+        self.rows = 0
+
+    def read(self) -> None:
+        """Reads the first lines of all results."""
+        for path, found in self.results.all():
+            if isinstance(found, Fault):
+                self.wrong.append(str(found))
+            elif found.shard in self.places:
+                self.wrong.append(f"{found.shard}: twice, in {self.places[found.shard][0]} and {path}")
+            else:
+                self.places[found.shard] = path, found
+
+    def write(self, report: _Fresh, status: _Fresh) -> None:
+        """Writes the rows of all hosts, in order."""
+        report.write(_row(REPORT_HEADER))
+        status.write(_row(STATUS_HEADER))
+        for name in self.fleet.names():
+            try:
+                for number, job in enumerate(self.fleet.jobs(name), 1):
+                    found = self._copy(job, report)
+                    if found is not None:
+                        status.write(_row((name, str(number), found.status, str(found.rows), found.fault)))
+            except (Fault, OSError) as fault:
+                self.counts[REFUSED] += 1
+                status.write(_row((name, "", REFUSED, "0", told(fault))))
+        for shard, (path, _) in self.places.items():
+            if shard not in self.used:
+                self.wrong.append(f"{shard}: a stranger, in {path}: the fleet has no such shard")
+
+    def want_whole(self) -> None:
+        """Raises `Fault` where something is wrong, and names the first of it."""
+        for line in self.wrong[:SHOWN]:
+            tell(line)
+        if self.wrong:
+            raise Fault(f"the results are not joined, for {len(self.wrong)} reasons")
+
+    def _copy(self, job: Job, report: _Fresh) -> Result | None:
+        """Copies the rows of a shard."""
+        self.used.add(job.name)
+        path, found = self.places.get(job.name, ("", None))
+        if found is None:
+            self.wrong.append(f"{job.name}: missing")
+            return None
+        if found.digest != job.digest:
+            self.wrong.append(f"{job.name}: its inputs, or the program, changed after its audit")
+            return None
+        try:
+            report.write(rows_of(path, found))
+        except Fault as fault:
+            self.wrong.append(str(fault))
+            return None
+        self.counts[found.status] += 1
+        self.rows += found.rows
+        return found
+
+
+def _row(fields: tuple[str, ...]) -> bytes:
+    return row(fields).encode("utf-8", "surrogateescape")
+
+
+def join(fleet: Fleet, results: Results) -> Joined:
+    """Writes the joined report and the status of each shard. Raises `Fault` where a result is missing, twice or a stranger."""
+    results.forget()
+    joining = _Join(fleet, results)
+    joining.read()
+    with _Fresh(results.out) as report, _Fresh(results.out) as status:
+        joining.write(report, status)
+        joining.want_whole()
+        status.keep(os.path.join(results.out, STATUS))
+        report.keep(os.path.join(results.out, REPORT))
+    return Joined(joining.rows, *joining.counts.values())

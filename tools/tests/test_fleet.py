@@ -1,0 +1,175 @@
+"""Fleets in parts and joined, without workers."""
+
+import json
+import os
+import unittest
+
+from fleet_case import POLICY, FleetCase, requests
+from support import PROGRAM, needs_program
+
+from kulavemia.fleet_plan import Requests, cut
+
+
+class Parts(FleetCase):
+    def test_two_parts_give_the_report_of_one_machine(self) -> None:
+        for name in ("web", "web.1", "db"):
+            self.host(name, senders=[f"{name[:2]}{len(name)}", f"{name[:2]}{len(name)}_2"])
+        self.write("fleet/web/requests/we3.2.csv", requests((4, 5, 6), 6))
+        self.write("fleet/web/requests/we3.csv", requests((1, 2, 3)))
+        for part in ("1/2", "2/2"):
+            self.fleet("--part", part, "--senders", "1")
+        out, _ = self.fleet("--join", "--senders", "1")
+        self.assertEqual(out, "21 rows of 6 shards; 0 refused, 0 failed\n")
+        self.want_as_one_machine()
+        self.assertEqual(
+            self.rows("out", "status.csv"),
+            ["host,shard,status,rows,fault"]
+            + ["db,1,done,3,", "db,2,done,3,", "web,1,done,6,", "web,2,done,3,", "web.1,1,done,3,", "web.1,2,done,3,"],
+        )
+
+    def test_what_a_host_lacks_is_the_fleets_own(self) -> None:
+        self.host("web1")
+        self.host("web2", POLICY + "# stub refuse\n")
+        for name in ("tree", "users.csv", "hosts.csv"):
+            os.rename(self.path("fleet", "web1", name), self.path("fleet", name))
+        self.fleet("--part", "1/1")
+        self.fleet("--join", status=1)
+        self.assertEqual(len(self.rows("out", "report.csv")), 4)
+        self.assertIn("web1,1,allow,/etc/sudoers:1,SETENV", self.rows("out", "report.csv"))
+
+    def test_what_is_refused_is_a_row(self) -> None:
+        self.host("web1", POLICY + "# stub refuse\n")
+        self.host("web2")
+        self.host("web3")
+        os.unlink(self.path("fleet", "web3", "users.csv"))
+        os.makedirs(self.path("fleet", "web4", "requests"))
+        self.fleet("--part", "1/1")
+        self.fleet("--join", status=1)
+        self.assertEqual(
+            self.rows("out", "status.csv")[1:],
+            [
+                'web1,1,refused,0,"sudo_audit: /etc/sudoers:1:1: syntax error, expected command"',
+                "web2,1,done,3,",
+                "web3,,refused,0,there is no users.csv",
+                "web4,,refused,0,requests has no files",
+            ],
+        )
+        self.want_as_one_machine(without=["web1", "web3", "web4"])
+
+    def test_links_are_refused(self) -> None:
+        self.host("web1")
+        os.rename(self.path("fleet", "web1", "users.csv"), self.path("users.csv"))
+        os.symlink(self.path("users.csv"), self.path("fleet", "web1", "users.csv"))
+        self.host("web2")
+        os.unlink(self.path("fleet", "web2", "requests", "web2.csv"))
+        os.mkfifo(self.path("fleet", "web2", "requests", "web2.csv"))
+        os.symlink(self.path("fleet", "web1"), self.path("fleet", "web3"))
+        self.fleet("--part", "1/1")
+        self.fleet("--join", status=1)
+        self.assertEqual(
+            [row.split(",", 4)[4] for row in self.rows("out", "status.csv")[1:]],
+            ["users.csv: a link; the folders of a fleet have none", "requests/web2.csv: no file", "the folder is a link"],
+        )
+
+    def test_words(self) -> None:
+        self.host("web1")
+        self.assertIn("name one", self.fleet("--join", "--part", "1/1", status=2)[1])
+        self.assertIn("expected I/N", self.fleet("--part", "2/1", status=2)[1])
+        self.assertIn("below it", self.run_tool("fleet", "fleet", "--out", "fleet/out", status=2)[1])
+
+    def test_a_sender_of_two_hosts(self) -> None:
+        self.host("web1", senders=["jen"])
+        self.host("web2", senders=["jen"])
+        self.assertIn("the sender jen is of the hosts web1 and web2", self.fleet(status=3)[1])
+        self.fleet("--part", "1/1")
+        self.assertIn("the sender jen is of the hosts web1 and web2", self.fleet("--join", status=3)[1])
+
+    @needs_program
+    def test_shards_of_one_host_give_the_programs_own_report(self) -> None:
+        self.program = PROGRAM
+        self.host("web1", senders=["a", "b", "c"])
+        self.write("fleet/web1/requests/b.csv", requests((2, 3), 3))
+        self.write("fleet/web1/requests/b.2.csv", requests((1,)))
+        self.fleet("--part", "1/1", "--senders", "1")
+        self.fleet("--join", "--senders", "1")
+        self.want_as_one_machine()
+        self.assertIn("b,1,allow,/etc/sudoers:2,", self.rows("out", "report.csv"))
+
+
+class Joins(FleetCase):
+    def setUp(self) -> None:
+        super().setUp()
+        self.hosts(3)
+        self.fleet("--part", "1/1")
+
+    def shard(self, host: str) -> str:
+        """Returns the path of a host's result."""
+        return self.path("out", "shards", f"{host}.1.shard")
+
+    def refusal(self) -> str:
+        """Returns what a join says that refuses, and wants it to leave no report."""
+        self.fleet("--join", status=3)
+        self.assertEqual(os.listdir(self.path("out")), ["shards"])
+        return self.fleet("--join", status=3)[1]
+
+    def test_missing(self) -> None:
+        os.unlink(self.shard("host01"))
+        self.assertIn("fleet: host01/1: missing\n", self.refusal())
+
+    def test_twice(self) -> None:
+        with open(self.shard("host01"), "rb") as file:
+            self.write("out/shards/other.shard", file.read())
+        self.assertRegex(self.refusal(), r"host01/1: twice, in out/shards/host01\.1\.shard and out/shards/other\.shard\n")
+
+    def test_a_stranger(self) -> None:
+        os.rename(self.path("fleet", "host01"), self.path("host01"))
+        self.assertIn("host01/1: a stranger, in out/shards/host01.1.shard", self.refusal())
+        self.write("out/shards/notes.txt", "x\n")
+        self.assertIn("out/shards/notes.txt: no whole result", self.refusal())
+
+    def test_other_inputs(self) -> None:
+        self.write("fleet/host01/tree/etc/sudoers.d/10-more", "root ALL = ALL\n")
+        self.assertIn("host01/1: its inputs, or the program, changed after its audit", self.refusal())
+        self.fleet("--part", "1/1")
+        self.fleet("--join")
+        self.want_as_one_machine()
+
+    def test_a_damaged_result(self) -> None:
+        with open(self.shard("host01"), "r+b") as file:
+            head = file.readline()
+            file.seek(len(head) + 3)
+            file.write(b"X")
+        self.assertIn("out/shards/host01.1.shard: no whole result", self.refusal())
+        self.assertIn("1 shards of 3 hosts", self.fleet("--part", "1/1")[1])
+        with open(self.shard("host01"), "r+b") as file:
+            file.truncate(len(head) + 3)
+        self.assertIn("out/shards/host01.1.shard: no whole result", self.refusal())
+        self.fleet("--part", "1/1")
+        self.fleet("--join")
+
+    def test_what_stands_is_not_done_again(self) -> None:
+        before = os.stat(self.shard("host00")).st_mtime_ns
+        self.write("fleet/host01/users.csv", "user,uid,groups\nroot,0,root:0\n")
+        self.assertIn("1 shards of 3 hosts", self.fleet("--part", "1/1")[1])
+        self.assertEqual(os.stat(self.shard("host00")).st_mtime_ns, before)
+
+    def test_the_first_line_of_a_result(self) -> None:
+        with open(self.shard("host00"), "rb") as file:
+            first = json.loads(file.readline())
+            self.assertEqual(file.readline(), b"host00,1,allow,/etc/sudoers:1,SETENV\n")
+        self.assertEqual((first["shard"], first["status"], first["rows"]), ("host00/1", "done", 3))
+
+
+class Cuts(unittest.TestCase):
+    def test_limits(self) -> None:
+        many = [Requests(f"s{number:03}", "", 1) for number in range(130)]
+        self.assertEqual([len(shard) for shard in cut(many, 64)], [64, 64, 2])
+        parts = [Requests(sender, "", 1) for sender in "abc" for _ in range(100)]
+        self.assertEqual([len(shard) for shard in cut(parts, 64)], [200, 100])
+        large = [Requests(sender, "", 40 << 20) for sender in "abc"]
+        self.assertEqual([len(shard) for shard in cut(large, 64)], [1, 1, 1])
+        self.assertEqual([len(shard) for shard in cut([Requests("a", "", 1)] * 300, 64)], [300])
+
+
+if __name__ == "__main__":
+    unittest.main()

@@ -1,0 +1,121 @@
+"""Fleets with workers, and what may go wrong with them: in the end one machine's report, or a refusal by name."""
+
+import os
+import re
+import unittest
+
+from fleet_case import POLICY, FleetCase
+from support import needs_dask
+
+SLOW = POLICY + "# stub sleep 0.2\n"
+
+
+@needs_dask
+class Workers(FleetCase):
+    def test_four_workers_give_the_report_of_one_machine(self) -> None:
+        self.hosts(6)
+        self.host("bad", POLICY + "# stub refuse\n")
+        self.host("many", senders=["a", "b", "c"])
+        out, err = self.fleet("--workers", "4", "--senders", "2", status=1)
+        self.assertEqual(out, "27 rows of 8 shards; 1 refused, 0 failed\n")
+        self.assertIn("fleet: 9 of 9 shards judged", err)
+        self.want_as_one_machine(without=["bad"])
+        self.assertIn("fleet: 0 of 9 shards judged", self.fleet("--senders", "2", status=1)[1])
+
+    def test_a_worker_that_is_killed(self) -> None:
+        self.hosts(8)
+        self.host("killer", POLICY + f"# stub kill {self.path('killed')}\n")
+        self.fleet("--workers", "4")
+        self.assertTrue(os.path.exists(self.path("killed")))
+        self.want_as_one_machine()
+
+    def test_a_shard_that_kills_each_worker(self) -> None:
+        self.hosts(4)
+        self.host("killer", POLICY + "# stub die\n")
+        self.fleet("--workers", "4", "--retries", "1", status=1)
+        self.assertIn("killer,1,failed,0,each worker that had it died", self.rows("out", "status.csv"))
+        self.want_as_one_machine(without=["killer"])
+        self.host("killer")
+        self.fleet("--part", "1/1")
+        self.fleet("--join")
+        self.want_as_one_machine()
+
+    def test_a_shard_that_takes_too_long(self) -> None:
+        self.hosts(4)
+        self.host("slow", POLICY + "# stub sleep 3\n")
+        self.fleet("--workers", "4", "--limit", "0.5", status=1)
+        self.assertIn("slow,1,failed,0,took more than 0.5 s", self.rows("out", "status.csv"))
+        self.want_as_one_machine(without=["slow"])
+        self.assertIn("fleet: 1 shards of 5 hosts", self.fleet("--part", "1/1")[1])
+        self.fleet("--join")
+        self.want_as_one_machine()
+
+    def test_a_folder_that_changes_under_the_run(self) -> None:
+        self.hosts(12, SLOW)
+        running = self.start("--workers", "4")
+        self.wait_until(lambda: os.path.exists(self.path("out", "shards", "host00.1.shard")))
+        self.host("host00", SLOW + "jen ALL = ALL\n", senders=["host00", "more"])
+        out, _ = running.communicate()
+        self.assertEqual(running.returncode, 3, out)
+        self.assertIn("fleet: host00/1: its inputs, or the program, changed after its audit", out)
+        self.assertFalse(os.path.exists(self.path("out", "report.csv")))
+        self.assertIn("fleet: 1 shards of 12 hosts", self.fleet("--part", "1/1")[1])
+        self.fleet("--join")
+        self.want_as_one_machine()
+
+    def test_a_run_that_is_cut_off(self) -> None:
+        self.hosts(12, SLOW)
+        running = self.start("--workers", "4")
+        self.wait_until(lambda: self.results() > 2)
+        running.kill()
+        running.communicate()
+        self.assertFalse(os.path.exists(self.path("out", "report.csv")))
+        stood = self.results()
+        self.assertIn(f"fleet: {12 - stood} shards of 12 hosts", self.fleet("--part", "1/1")[1])
+        self.fleet("--join")
+        self.want_as_one_machine()
+
+
+@needs_dask
+class Schedulers(FleetCase):
+    """A scheduler of its own, with four workers that are started by hand."""
+
+    def scheduler(self, full: bool = False) -> None:
+        """Starts a scheduler and four workers; the first has a disk that takes no large file."""
+        words = ("dask-scheduler", "--host", "127.0.0.1", "--port", "0", "--no-dashboard", "--scheduler-file", "at.json")
+        self.running = self.process(*words)
+        self.wait_until(lambda: os.path.exists(self.path("at.json")))
+        self.address = re.search(r'"address": "([^"]*)"', self.read("at.json"))[1]
+        for number in range(4):
+            limit = "ulimit -f 8; " if full and number == 0 else ""
+            worker = f"{limit}exec dask-worker {self.address} --no-nanny --nthreads 1 --no-dashboard --local-directory w{number}"
+            self.process("bash", "-c", worker)
+
+    def test_a_disk_that_is_full(self) -> None:
+        self.hosts(8)
+        self.write("fleet/users.csv", "user,uid,groups\nroot,0,root:0\n" + "# a long file\n" * 1000)
+        self.scheduler(full=True)
+        self.fleet("--scheduler", self.address)
+        self.want_as_one_machine()
+
+    def test_a_scheduler_that_goes_away(self) -> None:
+        self.hosts(12, SLOW)
+        self.scheduler()
+        running = self.start("--scheduler", self.address)
+        self.wait_until(lambda: self.results() > 2)
+        self.running.kill()
+        out, _ = running.communicate(timeout=60)
+        self.assertEqual(running.returncode, 4, out)
+        self.assertIn("fleet: the scheduler has gone; what is done stands, and the same command goes on\n", out)
+        self.fleet("--part", "1/1")
+        self.fleet("--join")
+        self.want_as_one_machine()
+
+    def test_a_scheduler_that_is_not_there(self) -> None:
+        self.hosts(1)
+        err = self.fleet("--scheduler", "nonsense://127.0.0.1:1", status=4)[1]
+        self.assertIn("fleet: nonsense://127.0.0.1:1: ", err)
+
+
+if __name__ == "__main__":
+    unittest.main()
