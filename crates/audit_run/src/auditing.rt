@@ -52,7 +52,8 @@ fn run<'s, 'e: 's, R: Threads + Wait + Sync, F: Feed + Drop + Send + 'e, G: Gate
         (vec_len parts) prepared }
     requires index { Indexes shared.policy.now shared.index.now }
     requires room { (vec_len readers ≡ 0) × (vec_len parts ≤ vec_capacity readers) }
-    ensures { IsTrue result.all_started → HasRun (names_of shared.policy.now shared.directory.now)
+    ensures { IsTrue result.all_started → HasRun
+        (names_of shared.entry.policy.now shared.entry.directory.now)
         (map (λ p. told_by p.owner (F.ahead p.reader)) parts.items)
         (vec_len parts) prepared result }
 {
@@ -107,7 +108,8 @@ fn run_scoped<R: Threads + Wait + Sync, F: Feed + Drop + Send, G: Gate + Sync>(
         (vec_len parts) prepared }
     requires index { Indexes shared.policy.now shared.index.now }
     requires room { (vec_len readers ≡ 0) × (vec_len parts ≤ vec_capacity readers) }
-    ensures { IsTrue result.all_started → HasRun (names_of shared.policy.now shared.directory.now)
+    ensures { IsTrue result.all_started → HasRun
+        (names_of shared.entry.policy.now shared.entry.directory.now)
         (map (λ p. told_by p.owner (F.ahead p.reader)) parts.items)
         (vec_len parts) prepared result }
 {
@@ -120,7 +122,7 @@ fn run_scoped<R: Threads + Wait + Sync, F: Feed + Drop + Send, G: Gate + Sync>(
             requires index { Indexes shared.policy.now shared.index.now }
             requires room { (vec_len readers ≡ 0) × (vec_len parts ≤ vec_capacity readers) }
             ensures { IsTrue result.all_started
-                → HasRun (names_of shared.policy.now shared.directory.now)
+                → HasRun (names_of shared.entry.policy.now shared.entry.directory.now)
                 (map (λ p. told_by p.owner (F.ahead p.reader)) parts.items)
                 (vec_len parts) prepared result }
         { run(rt, scope, shared, gate, prepared, parts, readers) },

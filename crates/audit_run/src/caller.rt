@@ -158,7 +158,8 @@ pub fn drain<R: Wait, G: Gate>(
     requires pass { pass.old.handoff ≡ shared.handoff.now }
     requires names { pass.old.names ≡ names_of shared.policy.now shared.directory.now }
     requires index { Indexes shared.policy.now shared.index.now }
-    ensures taken { Drains (names_of shared.policy.now shared.directory.now) pass.old gathering.old
+    ensures taken { Drains (names_of shared.entry.policy.now shared.entry.directory.now) pass.old
+        gathering.old
         pass.new
         gathering.new }
     ensures left { IsWhole pass.old → JobsLeft pass.new [] × OutcomesLeft pass.new [] }

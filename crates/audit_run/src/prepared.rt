@@ -66,8 +66,9 @@ pub fn prepare<R: Wait>(
     requires pass { (pass.old.handoff ≡ shared.handoff.now)
         × (pass.old.names ≡ names_of shared.policy.now shared.directory.now) }
     requires weight { (sources + workers) + 1 < pass.old.weight }
-    ensures ready { IfOk result (λ prepared. IsReady shared.handoff.now shared.policy.now
-        shared.directory.now sources
+    ensures ready { IfOk result (λ prepared. IsReady shared.entry.handoff.now
+        shared.entry.policy.now
+        shared.entry.directory.now sources
         prepared) }
     ensures workers { IfOk result (λ prepared. vec_len prepared.worker_passes ≡ workers) }
     ensures gathering { IfOk result (λ prepared. (prepared.gathering.collector ≡ collector)

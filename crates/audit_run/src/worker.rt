@@ -45,7 +45,8 @@ fn answer_request<R: Wait, G: Gate>(
     requires names { pass.old.names ≡ names_of shared.policy.now shared.directory.now }
     requires index { Indexes shared.policy.now shared.index.now }
     ensures { pass.new ≡ with_outcome_put pass.old
-        (answer (names_of shared.policy.now shared.directory.now) (Job.Ask sender request)) }
+        (answer (names_of shared.entry.policy.now shared.entry.directory.now)
+        (Job.Ask sender request)) }
 {
     let Shared {
         policy,
@@ -76,7 +77,7 @@ pub fn answer_job<R: Wait, G: Gate>(rt: &R, shared: Shared<'_>, gate: &G, pass: 
     requires names { pass.old.names ≡ names_of shared.policy.now shared.directory.now }
     requires index { Indexes shared.policy.now shared.index.now }
     ensures { pass.new ≡ with_outcome_put pass.old
-        (answer (names_of shared.policy.now shared.directory.now) job) }
+        (answer (names_of shared.entry.policy.now shared.entry.directory.now) job) }
 {
     let outcome = match job {
         Job::Ask { sender, request } => {
@@ -95,7 +96,7 @@ pub fn work<R: Wait, G: Gate>(rt: &R, shared: Shared<'_>, gate: &G, mut pass: Pa
     requires names { pass.names ≡ names_of shared.policy.now shared.directory.now }
     requires index { Indexes shared.policy.now shared.index.now }
     ensures { (jobs : List Job) × (result ≡ worked
-        (names_of shared.policy.now shared.directory.now) pass
+        (names_of shared.entry.policy.now shared.entry.directory.now) pass
         (jobs ++ Job.Stop ∷ [])) }
 {
     for _ in rt.forever() {

@@ -41,12 +41,29 @@ fn start_worker<'s, 'e: 's, R: Threads + Wait + Sync, G: Gate + Sync>(
     let promise = WorkerRan {
         before: Snapshot::of(&pass),
     };
+    // The closure takes plain references: with the whole value in it, what it ensures is lost to `spawn_with`.
+    let Shared {
+        alloc,
+        policy,
+        index,
+        directory,
+        handoff,
+    } = shared;
     let body = move || -> Pass
-        requires pass { pass.handoff ≡ shared.handoff.now }
-        requires names { pass.names ≡ names_of shared.policy.now shared.directory.now }
-        requires index { Indexes shared.policy.now shared.index.now }
+        requires pass { pass.handoff ≡ handoff.now }
+        requires names { pass.names ≡ names_of policy.now directory.now }
+        requires index { Indexes policy.now index.now }
         ensures { HasWorked pass result }
-    { work(rt, shared, gate, pass) };
+    {
+        let shared = Shared {
+            alloc,
+            policy,
+            index,
+            directory,
+            handoff,
+        };
+        work(rt, shared, gate, pass)
+    };
     scope.spawn_with(promise, body).ok()
 }
 
@@ -66,7 +83,7 @@ pub fn start_workers<'s, 'e: 's, R: Threads + Wait + Sync, G: Gate + Sync>(
     requires index { Indexes shared.policy.now shared.index.now }
     requires room { vec_len handles.old + vec_len passes ≤ vec_capacity handles.old }
     ensures fresh { All (λ h. h.promise.before.value
-        ≡ fresh shared.handoff.now shared.policy.now shared.directory.now) handles.new.items }
+        ≡ fresh shared.entry.handoff.now shared.entry.policy.now shared.entry.directory.now) handles.new.items }
     ensures all { IsTrue result → vec_len handles.new ≡ vec_len handles.old + vec_len passes }
 {
     for pass in passes {
@@ -91,7 +108,8 @@ pub fn join_workers<R: Threads + Wait>(
     requires fresh { All (λ h. h.promise.before.value
         ≡ fresh shared.handoff.now shared.policy.now shared.directory.now) handles.items }
     ensures { (jobs : List Job) × (pass.new ≡ joined_workers
-        (names_of shared.policy.now shared.directory.now) pass.old (vec_len handles) jobs) }
+        (names_of shared.entry.policy.now shared.entry.directory.now) pass.old
+        (vec_len handles) jobs) }
 {
     for handle in handles {
         let other = handle.join(rt);

@@ -5,4 +5,4 @@ use Rattle.audit_run.specs.Body.Work.{worked}
 use Rattle.audit_run.proofs.worker.work.Given as goal
 
 abbrev pub invariant-loop : goal.invariant-loop
-invariant-loop g l = (jobs : List Job) × (l.pass ≡ worked (names_of l.shared.policy l.shared.directory) l.fn.pass jobs)
+invariant-loop g l = (jobs : List Job) × (l.pass ≡ worked (names_of l.shared.policy.now l.shared.directory.now) l.fn.pass jobs)
