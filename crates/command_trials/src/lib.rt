@@ -4,8 +4,12 @@
 #[cfg(test)]
 mod audit_trials;
 #[cfg(test)]
+mod fault_trials;
+#[cfg(test)]
 mod policy_trials;
 #[cfg(test)]
 mod run_trials;
+#[cfg(test)]
+mod runs;
 #[cfg(test)]
 mod word_trials;
