@@ -4,6 +4,8 @@
 #[cfg(test)]
 mod audit_trials;
 #[cfg(test)]
+mod cut_trials;
+#[cfg(test)]
 mod fault_trials;
 #[cfg(test)]
 mod policy_trials;
@@ -11,5 +13,7 @@ mod policy_trials;
 mod run_trials;
 #[cfg(test)]
 mod runs;
+#[cfg(test)]
+mod size_trials;
 #[cfg(test)]
 mod word_trials;
