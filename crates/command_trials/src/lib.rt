@@ -4,6 +4,8 @@
 #[cfg(test)]
 mod audit_trials;
 #[cfg(test)]
+mod case_trials;
+#[cfg(test)]
 mod cut_trials;
 #[cfg(test)]
 mod fault_trials;
@@ -15,5 +17,7 @@ mod run_trials;
 mod runs;
 #[cfg(test)]
 mod size_trials;
+#[cfg(test)]
+mod verdict_trials;
 #[cfg(test)]
 mod word_trials;
