@@ -27,4 +27,6 @@ mod size_trials;
 #[cfg(test)]
 mod source_trials;
 #[cfg(test)]
+mod standing_trials;
+#[cfg(test)]
 mod thread_trials;

@@ -11,16 +11,16 @@ use std::test::Fail;
 use std::thread::Threads;
 use sudo_text::Seq;
 
-const POLICY: &[u8] =
+pub(crate) const POLICY: &[u8] =
     b"alice web1 = NOPASSWD: /bin/kill, /usr/bin/lprm, PASSWD: /bin/ls : web2 = /bin/kill\n";
 
-const USERS: &[u8] =
+pub(crate) const USERS: &[u8] =
     b"user,uid,groups\nroot,0,root:0\nalice,1000,alice:1000 adm:4\nbob,1001,bob:1001 operator:37\noperator,11,operator:37\n";
 
-const HOSTS: &[u8] =
+pub(crate) const HOSTS: &[u8] =
     b"host,interfaces\nweb1.example.org,10.1.2.3/16 127.0.0.1/8\nweb2.example.org,10.2.0.9/16\n";
 
-const HEADER: &[u8] = b"number,user,host,runas_user,runas_group,command,arguments\n";
+pub(crate) const HEADER: &[u8] = b"number,user,host,runas_user,runas_group,command,arguments\n";
 
 /// The files of an audit.
 #[derive(Clone, Copy)]

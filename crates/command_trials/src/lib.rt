@@ -4,8 +4,20 @@
 #[cfg(test)]
 mod audit_trials;
 #[cfg(test)]
+mod case_trials;
+#[cfg(test)]
+mod cut_trials;
+#[cfg(test)]
+mod fault_trials;
+#[cfg(test)]
 mod policy_trials;
 #[cfg(test)]
 mod run_trials;
+#[cfg(test)]
+mod runs;
+#[cfg(test)]
+mod size_trials;
+#[cfg(test)]
+mod verdict_trials;
 #[cfg(test)]
 mod word_trials;

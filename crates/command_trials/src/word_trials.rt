@@ -114,3 +114,53 @@ fn tells_words_that_are_not_read(rt: HostRuntime) {
     let memory = unread(alloc, ReadKind::OutOfMemory);
     assert!(rt; memory.kind() == ErrorKind::OutOfMemory);
 }
+
+/// Shows which output the text on refused words goes to, and the text.
+fn refusal(alloc: Global, words: &[&'static str]) -> Result<String, Fail> {
+    match asked(alloc, words) {
+        Ok(_) => Ok(String::from_str(alloc, "asked")?),
+        Err(error) => {
+            let output = if error.use_stderr() {
+                "error output"
+            } else {
+                "output"
+            };
+            Ok(format!(in alloc; "{output}: {error}")?)
+        }
+    }
+}
+
+const HELP: &str =
+    "output: Usage: sudo_audit <COMMAND>\n\nCommands:\n  check   \n  expand  \n  audit   \n  help    Print this";
+
+const NO_VERSION: &str =
+    "error output: error: unexpected argument '--version' found\n\nUsage: sudo_audit <COMMAND>\n";
+
+const NO_COMMAND: &str =
+    "error output: error: 'sudo_audit' requires a subcommand but one was not provided\n";
+
+const NO_FILE: &str =
+    "error output: error: the following required arguments were not provided:\n  <file>\n\nUsage: sudo_audit check <file>\n";
+
+#[test]
+fn help_goes_to_the_output_and_usage_to_the_error_output(rt: HostRuntime) -> Result<(), Fail> {
+    let alloc = rt.alloc();
+    for (words, wanted) in [
+        (["sudo_audit", "--help"].as_slice(), HELP),
+        (
+            ["sudo_audit", "audit", "--help"].as_slice(),
+            "output: Usage: sudo_audit audit [OPTIONS] --users <users> --hosts <hosts> <file> [senders]...\n",
+        ),
+        (["sudo_audit", "--version"].as_slice(), NO_VERSION),
+        (["sudo_audit"].as_slice(), NO_COMMAND),
+        (["sudo_audit", "check"].as_slice(), NO_FILE),
+        (
+            ["sudo_audit", "expand", "p", "group", "A"].as_slice(),
+            "error output: error: KIND is user, runas, host or cmnd\n",
+        ),
+    ] {
+        let found = refusal(alloc, words)?;
+        assert!(rt; found.as_str().starts_with(wanted), "{found}");
+    }
+    Ok(())
+}

@@ -1,0 +1,227 @@
+//! Runs in which each read, and each write, fails in turn.
+
+use crate::audit_trials::{HOSTS, USERS};
+use crate::policy_trials::{Item, Shelf};
+use crate::runs::{FILES, ROWS, Readers, audit_shown, requests, shown, wrong_runs};
+use audit_commands::{Files, FilesFault, check_run, expand_run};
+use audit_files::{ReadFault, Script, read_whole};
+use std::alloc::{AllocError, Global};
+use std::sync::Wait;
+use std::test::Fail;
+use std::thread::Threads;
+use sudo_grammar::Kind;
+use sudo_text::{Seq, TEXT_LIMIT};
+
+/// A reader of these bytes, of which each read gives ten; the read of this number fails, where it is above 0.
+fn reader(alloc: Global, text: &[u8], call: u64) -> Result<Script, AllocError> {
+    let script = Script::of(alloc, text, 10)?;
+    Ok(if call == 0 {
+        script
+    } else {
+        script.failing_at(call)
+    })
+}
+
+/// The call, where the two words are the same; else 0.
+fn call_of(word: &str, other: &str, call: u64) -> u64 {
+    if word == other { call } else { 0 }
+}
+
+/// Files over memory, of which each read gives ten bytes; this read of the file at this path fails.
+#[derive(Clone, Copy)]
+struct Failing<'a> {
+    items: &'a [Item<'a>],
+    path: &'a [u8],
+    call: u64,
+}
+
+impl Files for Failing<'_> {
+    ghost use Rattle.std.specs.Prelude.{None};
+
+    ghost held = { λ _. None };
+
+    fn file(&mut self, alloc: Global, path: &[u8]) -> Result<Option<Seq<u8>>, FilesFault> {
+        let call = if path == self.path { self.call } else { 0 };
+        for item in self.items {
+            if item.path == path {
+                let mut reader = reader(alloc, item.text, call)?;
+                return match read_whole(alloc, &mut reader, TEXT_LIMIT) {
+                    Ok(text) => Ok(Some(Seq::from_vec(text))),
+                    Err(ReadFault::Memory) => Err(FilesFault::Memory),
+                    Err(_) => Err(FilesFault::Failed),
+                };
+            }
+        }
+        Ok(None)
+    }
+
+    fn folder(&mut self, alloc: Global, _path: &[u8]) -> Result<Seq<Seq<u8>>, FilesFault> {
+        Ok(Seq::new(alloc))
+    }
+}
+
+/// Shows an audit in which this read of the file that the word names fails.
+fn audit_failing<T: Threads + Wait + Sync>(
+    alloc: Global,
+    rt: &T,
+    word: &str,
+    call: u64,
+) -> Result<String, AllocError> {
+    let rows = requests(alloc, ROWS)?;
+    let mut readers = Readers::known(alloc)?;
+    readers.users = reader(alloc, USERS, call_of(word, "users", call))?;
+    readers.hosts = reader(alloc, HOSTS, call_of(word, "hosts", call))?;
+    readers.push(
+        alloc,
+        b"s",
+        reader(alloc, &rows, call_of(word, "requests", call))?,
+    )?;
+    let mut files = Failing {
+        items: &FILES,
+        path: b"p",
+        call: call_of(word, "policy", call),
+    };
+    let out = Script::of(alloc, b"", 1000)?;
+    audit_shown(alloc, rt, b"p", &mut files, readers, 2, out)
+}
+
+const AUDITS: &str = "users 1 13 => 4 ! sudo_audit: users: read failed;
+users 14 14 => 0 sender,number,verdict,line,tags;s,1,allow,p:1,NOPASSWD;s,2,unknown-user,,;
+hosts 1 10 => 4 ! sudo_audit: hosts: read failed;
+hosts 11 11 => 0 sender,number,verdict,line,tags;s,1,allow,p:1,NOPASSWD;s,2,unknown-user,,;
+requests 1 17 => 4 ! sudo_audit: sender s: read failed;
+requests 18 18 => 0 sender,number,verdict,line,tags;s,1,allow,p:1,NOPASSWD;s,2,unknown-user,,;
+policy 1 10 => 4 ! sudo_audit: cannot read p;
+policy 11 11 => 0 sender,number,verdict,line,tags;s,1,allow,p:1,NOPASSWD;s,2,unknown-user,,;";
+
+#[test]
+fn each_read_of_an_audit_may_fail(rt: HostRuntime) -> Result<(), Fail> {
+    let alloc = rt.alloc();
+    let wrong = wrong_runs(alloc, AUDITS, |word, call| {
+        Ok(audit_failing(alloc, &rt, word, call)?)
+    })?;
+    assert_eq!(rt; wrong.as_str(), "");
+    Ok(())
+}
+
+/// A policy of two files, of 26 and 31 bytes.
+const TWO_FILES: [Item<'static>; 2] = [
+    Item {
+        path: b"p",
+        text: b"@include q\nalice ALL = LS\n",
+        names: b"",
+    },
+    Item {
+        path: b"q",
+        text: b"Cmnd_Alias LS = /bin/ls, UNDEF\n",
+        names: b"",
+    },
+];
+
+/// Shows a check in which this read of the file at this path fails.
+fn check_failing(alloc: Global, path: &str, call: u64) -> Result<String, AllocError> {
+    let mut files = Failing {
+        items: &TWO_FILES,
+        path: path.as_bytes(),
+        call,
+    };
+    let mut out = Script::of(alloc, b"", 1000)?;
+    let mut err = Script::of(alloc, b"", 1000)?;
+    let status = check_run(alloc, b"p", &mut files, &mut out, &mut err);
+    shown(alloc, status, &out, &err)
+}
+
+const CHECKS: &str = "p 1 4 => 4 ! sudo_audit: cannot read p;
+p 5 5 => 1 q:1: error: undefined Cmnd_Alias UNDEF;
+q 1 5 => 4 ! sudo_audit: cannot read q;
+q 6 6 => 1 q:1: error: undefined Cmnd_Alias UNDEF;";
+
+#[test]
+fn each_read_of_a_policy_may_fail(rt: HostRuntime) -> Result<(), Fail> {
+    let alloc = rt.alloc();
+    let wrong = wrong_runs(
+        alloc,
+        CHECKS,
+        |path, call| Ok(check_failing(alloc, path, call)?),
+    )?;
+    assert_eq!(rt; wrong.as_str(), "");
+    Ok(())
+}
+
+/// Shows the run of the command that the word names, on a writer that takes so many bytes a call and fails at this call.
+fn written<T: Threads + Wait + Sync>(
+    alloc: Global,
+    rt: &T,
+    word: &str,
+    step: usize,
+    call: u64,
+) -> Result<String, AllocError> {
+    let mut out = Script::of(alloc, b"", step)?.failing_at(call);
+    if word == "audit" {
+        let rows = requests(alloc, ROWS)?;
+        let mut readers = Readers::known(alloc)?;
+        readers.push(alloc, b"s", Script::of(alloc, &rows, 100)?)?;
+        let mut shelf = Shelf { items: &FILES };
+        return audit_shown(alloc, rt, b"p", &mut shelf, readers, 2, out);
+    }
+    let mut shelf = Shelf { items: &ALIASES };
+    let mut err = Script::of(alloc, b"", 1000)?;
+    let status = if word == "check" {
+        check_run(alloc, b"p", &mut shelf, &mut out, &mut err)
+    } else {
+        expand_run(
+            alloc,
+            b"p",
+            &mut shelf,
+            Kind::Cmnd,
+            b"A",
+            &mut out,
+            &mut err,
+        )
+    };
+    shown(alloc, status, &out, &err)
+}
+
+/// A policy with two warnings, and an alias of three members.
+const ALIASES: [Item<'static>; 1] = [Item {
+    path: b"p",
+    text: b"Cmnd_Alias A = /bin/ls, /bin/cat, !/bin/su\nHost_Alias B = web1\n",
+    names: b"",
+}];
+
+/// What the command that the word names writes, on one line.
+fn whole(word: &str) -> &'static str {
+    match word {
+        "audit" => "sender,number,verdict,line,tags;s,1,allow,p:1,NOPASSWD;s,2,unknown-user,,;",
+        "check" => "p:1: warning: unused Cmnd_Alias A;p:2: warning: unused Host_Alias B;ok;",
+        _ => "/bin/ls;/bin/cat;!/bin/su;",
+    }
+}
+
+/// Shows what a run must show whose writer of ten bytes fails at this call.
+fn cut_off(alloc: Global, word: &str, call: u64) -> Result<String, AllocError> {
+    let gone = call.saturating_sub(1).saturating_mul(10);
+    let text = whole(word);
+    match text.get(..gone as usize) {
+        Some(front) if front.len() < text.len() => {
+            format!(in alloc; "4 {front}! sudo_audit: write failed after {gone} bytes;")
+        }
+        _ => format!(in alloc; "0 {text}"),
+    }
+}
+
+#[test]
+fn each_write_may_fail(rt: HostRuntime) -> Result<(), Fail> {
+    let alloc = rt.alloc();
+    for (word, calls) in [("audit", 9u64), ("check", 9), ("expand", 4)] {
+        for call in 1..calls.saturating_add(1) {
+            let found = written(alloc, &rt, word, 10, call)?;
+            let wanted = cut_off(alloc, word, call)?;
+            assert_eq!(rt; found.as_str(), wanted.as_str());
+        }
+        let found = written(alloc, &rt, word, 0, 100)?;
+        let wanted = "4 ! sudo_audit: write failed after 0 bytes;";
+        assert_eq!(rt; found.as_str(), wanted);
+    }
+    Ok(())
+}
