@@ -7,8 +7,8 @@ import os
 from collections.abc import Callable, Iterator, Sequence
 from typing import NamedTuple
 
-from kulavemia import compare, directory, probe, program, sorting
-from kulavemia.command import WORDS, Fault
+from kulavemia import compare, directory, probe, program, sorting, unknown
+from kulavemia.command import WORDS, Fault, warn
 from kulavemia.page import REPORT, Inputs, Page
 from kulavemia.page import write as write_page
 from kulavemia.requests import Source, sources_of
@@ -95,7 +95,11 @@ class Replay:
     def _read_logs(self) -> None:
         self.requests = self._folder("requests")
         self.given.users = self.given.users or self.found.users
-        self.say(f"logs: {sorting.told(sorting.sort(self.found.logs, self.requests, self.given))}")
+        found = sorting.sort(self.found.logs, self.requests, self.given)
+        self.say(f"logs: {sorting.told(found.counts)}")
+        warning = unknown.warning(found.hosts, directory.hosts_in(self.found.hosts))
+        if warning:
+            warn(warning)
         self._audit(self.requests, self.found.policy, REPORT)
 
     def _probe(self) -> None:

@@ -4,7 +4,7 @@ import argparse
 import os
 from collections import Counter
 from collections.abc import Sequence
-from typing import IO
+from typing import IO, NamedTuple
 
 from kulavemia.directory import users_in
 from kulavemia.logs import SYSLOG_LENGTH, Log, Options, size_of
@@ -130,6 +130,13 @@ class Names:
         )
 
 
+class Sorted(NamedTuple):
+    """How much of each kind there was, and how many requests name each host."""
+
+    counts: Counter[str]
+    hosts: Counter[str]
+
+
 class Sorter:
     """Puts what logs say into the files of a folder."""
 
@@ -141,6 +148,7 @@ class Sorter:
         self.lists = lists
         self.skipped = skipped
         self.counts: Counter[str] = Counter()
+        self.hosts: Counter[str] = Counter()
 
     def take(self, log: str, line: int, time: str, event: Event | str) -> None:
         """Takes what a line says."""
@@ -159,6 +167,7 @@ class Sorter:
             self._skip(log, line, time, f"{reason} ({request.command[:80]}){said}")
             return
         self.counts[event.outcome] += 1
+        self.hosts[request.host] += 1
         name = request.host if self.by == "host" else request.user if self.by == "user" else "log"
         self.writer.add(name, request, (log, str(line), time, event.outcome, event.reason, event.note))
 
@@ -167,8 +176,8 @@ class Sorter:
         self.skipped.write(row((log, str(line), time, reason)))
 
 
-def sort(logs: Sequence[str], folder: str, given: argparse.Namespace) -> Counter[str]:
-    """Puts what logs say into a folder, and returns how much of each kind there was."""
+def sort(logs: Sequence[str], folder: str, given: argparse.Namespace) -> Sorted:
+    """Puts what logs say into a folder, and returns how much there was."""
     how = Options(given.host, given.year, given.quoting, given.syslog_length)
     total = sum(size_of(path) for path in logs)
     os.makedirs(folder, exist_ok=True)
@@ -187,7 +196,7 @@ def sort(logs: Sequence[str], folder: str, given: argparse.Namespace) -> Counter
             before += size_of(path)
         sorter.writer.finish()
         sorter.counts["senders"] = len(sorter.writer.senders)
-    return sorter.counts
+    return Sorted(sorter.counts, sorter.hosts)
 
 
 def told(counts: Counter[str]) -> str:

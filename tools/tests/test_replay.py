@@ -1,6 +1,7 @@
 """From logs to the page."""
 
 import os
+import shutil
 import unittest
 
 from support import EXAMPLES, Case, needs_jinja, needs_program
@@ -21,19 +22,11 @@ class Replay(Case):
         self.write("auth.log", LOG)
         self.write("programs.csv", PROGRAMS)
 
-    def replay(self, *words: str, status: int = 0) -> tuple[str, str]:
+    def replay(self, *words: str, status: int = 0, domain: str = "example.org") -> tuple[str, str]:
         """Runs the command over the test's log."""
+        naming = ["--domain", domain] if domain else []
         return self.run_tool(
-            "replay",
-            "--out",
-            "out",
-            "--programs",
-            "programs.csv",
-            "--domain",
-            "example.org",
-            *words,
-            "auth.log",
-            status=status,
+            "replay", "--out", "out", "--programs", "programs.csv", *naming, *words, "auth.log", status=status
         )
 
     def test_the_example(self) -> None:
@@ -58,6 +51,20 @@ class Replay(Case):
         ):
             self.assertTrue(part in page, part)
         self.assertEqual(len(self.rows("out", "probe", "report.csv")), 1 + 32 * 7 * 2)
+
+    def test_hosts_that_are_not_found_are_told(self) -> None:
+        example = ("--policy", f"{EXAMPLES}/sudoers", "--directory", EXAMPLES, "--no-probe")
+        self.assertEqual(self.replay(*example)[1], "")
+        shutil.rmtree(self.path("out"))
+        self.assertEqual(
+            self.replay(*example, domain="")[1],
+            "replay: warning: 4 requests are not judged, since hosts.csv does not have their hosts: web1; all hosts of"
+            " hosts.csv are in one domain: say --domain example.org, or name them by --host-map\n",
+        )
+        self.assertIn("web1,1,unknown-host,,", self.rows("out", "requests", "report.csv"))
+        shutil.rmtree(self.path("out"))
+        err = self.replay(*example, domain="example.com")[1]
+        self.assertIn("web1.example.com; name them by --host-map, or add them to hosts.csv\n", err)
 
     def test_what_a_change_does(self) -> None:
         with open(f"{EXAMPLES}/sudoers", encoding="utf-8") as file:
