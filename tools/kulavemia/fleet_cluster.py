@@ -16,7 +16,7 @@ from typing import Any
 
 import cloudpickle
 import dask
-from distributed import Client, Future, LocalCluster
+from distributed import Client, Future, LocalCluster, Security
 from distributed.comm import CommClosedError
 from distributed.scheduler import KilledWorker
 
@@ -31,16 +31,9 @@ from kulavemia.fleet_work import FAILED, UNFIT, Answer, Job
 CONNECTION = 5.0
 PATIENCE = 60.0
 TICK = 1.0
-WAITING = 3
+WAITING = 4
 
 cloudpickle.register_pickle_by_value(fleet_handed)
-
-
-def _quiet() -> None:
-    """Leaves to this module what is said of a connection that is lost."""
-    for name in list(logging.root.manager.loggerDict):
-        if name.partition(".")[0] == "distributed":
-            logging.getLogger(name).setLevel(logging.CRITICAL)
 
 
 @contextlib.contextmanager
@@ -58,7 +51,7 @@ def local(workers: int, retries: int) -> Iterator[Client]:
             n_workers=workers,
             threads_per_worker=1,
             processes=True,
-            security=True,
+            security=Security.temporary(),
             dashboard_address=None,
             local_directory=folder,
             silence_logs="CRITICAL",
@@ -100,6 +93,7 @@ class _Shard:
         self.job = job
         self.tries = 0
         self.unfit: set[str] = set()
+        self.alone = False
 
 
 class Runner:
@@ -111,11 +105,16 @@ class Runner:
         self.retries = retries
         self.ended: queue.SimpleQueue[Future] = queue.SimpleQueue()
         self.running: dict[str, tuple[Future, _Shard]] = {}
+        self.suspects: list[_Shard] = []
         self.workers: dict[str, Any] = {}
         self.asked = -TICK
         warnings.filterwarnings("ignore", message="Large object of size")
-        _quiet()
-        client.register_worker_plugin(handed, name=handed.name)
+        # What is said of a connection that is lost is said here.
+        logging.disable()
+        try:
+            client.register_worker_plugin(handed, name=handed.name)
+        except Exception as error:
+            raise Fault(f"the workers do not take the program: {type(error).__name__}: {error}", READING_FAILED) from None
 
     def run(self, jobs: Iterator[Job]) -> Iterator[tuple[Job, Answer]]:
         """Yields what comes of each shard, in whatever order it comes. Raises `Fault` where the scheduler goes away."""
@@ -137,8 +136,12 @@ class Runner:
                     more = False
                 else:
                     self._submit(_Shard(job))
-            if not self.running:
+            if not self.running and not self.suspects:
                 return
+            if not self.running:
+                shard = self.suspects.pop()
+                shard.alone = True
+                self._submit(shard)
             yield from self._next()
 
     def _workers(self) -> dict[str, Any]:
@@ -170,30 +173,44 @@ class Runner:
         future.add_done_callback(self.ended.put)
 
     def _next(self) -> Iterator[tuple[Job, Answer]]:
-        """Yields what came of the next shard that ended, if it is not tried again."""
+        """Yields what came of the next shards that ended, but for those that are tried again."""
+        for future, found in self._ended():
+            _, shard = self.running.pop(future.key)
+            answer = self._answer(future, found, shard)
+            if answer is None:
+                self.suspects.append(shard)
+            elif answer.status == UNFIT and shard.tries <= self.retries:
+                self._submit(shard)
+            else:
+                yield shard.job, answer._replace(status=FAILED) if answer.status == UNFIT else answer
+
+    def _ended(self) -> list[tuple[Future, Any]]:
+        """Returns the shards that ended since the last call, with what the workers answered: none after a while."""
         try:
-            future = self.ended.get(timeout=TICK)
+            futures = [self.ended.get(timeout=TICK)]
         except queue.Empty:
             self._want_scheduler()
-            return
-        _, shard = self.running.pop(future.key)
-        answer = self._answer(future, shard)
-        if answer.status == UNFIT and shard.tries <= self.retries:
-            self._submit(shard)
-            return
-        yield shard.job, answer._replace(status=FAILED) if answer.status == UNFIT else answer
+            return []
+        while not self.ended.empty():
+            futures.append(self.ended.get())
+        finished = [future for future in futures if future.status == "finished"]
+        found = dict(zip((future.key for future in finished), self.client.gather(finished)))
+        return [(future, found.get(future.key)) for future in futures]
 
-    def _answer(self, future: Future, shard: _Shard) -> Answer:
-        """Returns what came of a shard that ended."""
-        if future.status == "finished":
-            worker, answer = future.result()
+    def _answer(self, future: Future, found: Any, shard: _Shard) -> Answer | None:
+        """Returns what came of a shard that ended, or `None` where the workers that had it died.
+
+        Dask suspects each shard that was with a worker when it died; one that was alone with it is the cause.
+        """
+        if found is not None:
+            worker, answer = found
             shard.unfit.add(worker)
             return Answer(*answer)
         if future.status == "cancelled":
             raise self._gone()
         error = future.exception()
         if isinstance(error, KilledWorker):
-            return Answer(FAILED, "each worker that had it died")
+            return Answer(FAILED, "each worker that had it died") if shard.alone else None
         return Answer(UNFIT, f"{type(error).__name__}: {error}")
 
     def _want_scheduler(self) -> None:

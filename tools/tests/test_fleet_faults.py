@@ -42,7 +42,7 @@ class Workers(FleetCase):
 
     def test_a_shard_that_takes_too_long(self) -> None:
         self.hosts(4)
-        self.host("slow", POLICY + "# stub sleep 3\n")
+        self.host("slow", POLICY + "# stub sleep 1.5\n")
         self.fleet("--workers", "4", "--limit", "0.5", status=1)
         self.assertIn("slow,1,failed,0,took more than 0.5 s", self.rows("out", "status.csv"))
         self.want_as_one_machine(without=["slow"])
@@ -106,7 +106,7 @@ class Schedulers(FleetCase):
         self.running.kill()
         out, _ = running.communicate(timeout=60)
         self.assertEqual(running.returncode, 4, out)
-        self.assertIn("fleet: the scheduler has gone; what is done stands, and the same command goes on\n", out)
+        self.assertEqual(out, "fleet: the scheduler has gone; what is done stands, and the same command goes on\n")
         self.fleet("--part", "1/1")
         self.fleet("--join")
         self.want_as_one_machine()
