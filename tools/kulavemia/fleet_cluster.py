@@ -6,6 +6,7 @@ What waits on the scheduler is a few shards for each worker, so that neither it 
 import contextlib
 import logging
 import queue
+import secrets
 import tempfile
 import time
 import urllib.request
@@ -87,12 +88,13 @@ def page_of(client: Client) -> str:
 
 
 class _Shard:
-    """A shard that is with the scheduler: how often it was tried, and on which workers in vain."""
+    """A shard that is with the scheduler: how often it was tried, on which workers in vain, and which may have it now."""
 
     def __init__(self, job: Job) -> None:
         self.job = job
         self.tries = 0
         self.unfit: set[str] = set()
+        self.wanted: set[str] = set()
         self.alone = False
 
 
@@ -156,21 +158,23 @@ class Runner:
         return WAITING * max(1, sum(worker["nthreads"] for worker in self._workers().values()))
 
     def _submit(self, shard: _Shard) -> None:
-        """Hands a shard to the scheduler: to workers on which it was not tried, where there are any."""
+        """Hands a shard to the scheduler: for the workers on which it was not tried, where there are any."""
         shard.tries += 1
-        others = [address for address in self._workers() if address not in shard.unfit] if shard.unfit else []
-        key = f"{shard.job.name}-{shard.job.digest[:16]}-{shard.tries}"
-        future = self.client.submit(
-            judge,
-            tuple(travelling(shard.job)),
-            self.handed,
-            key=key,
-            pure=False,
-            workers=others or None,
-            allow_other_workers=bool(others),
-        )
+        shard.wanted = set(self._workers()) - shard.unfit if shard.unfit else set()
+        key = f"{shard.job.name}-{shard.job.digest[:16]}-{secrets.token_hex(4)}"
+        job = tuple(travelling(shard.job))
+        future = self.client.submit(judge, job, self.handed, key=key, pure=False, workers=sorted(shard.wanted) or None)
         self.running[key] = future, shard
         future.add_done_callback(self.ended.put)
+
+    def _free(self) -> None:
+        """Hands shards over again that wait for workers which are all gone."""
+        for key, (future, shard) in list(self.running.items()):
+            if shard.wanted and shard.wanted.isdisjoint(self._workers()):
+                del self.running[key]
+                future.cancel()
+                shard.tries -= 1
+                self._submit(shard)
 
     def _next(self) -> Iterator[tuple[Job, Answer]]:
         """Yields what came of the next shards that ended, but for those that are tried again."""
@@ -190,9 +194,11 @@ class Runner:
             futures = [self.ended.get(timeout=TICK)]
         except queue.Empty:
             self._want_scheduler()
+            self._free()
             return []
         while not self.ended.empty():
             futures.append(self.ended.get())
+        futures = [future for future in futures if future.key in self.running]
         finished = [future for future in futures if future.status == "finished"]
         found = dict(zip((future.key for future in finished), self.client.gather(finished)))
         return [(future, found.get(future.key)) for future in futures]

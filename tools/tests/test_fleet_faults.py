@@ -92,7 +92,7 @@ class Schedulers(FleetCase):
             self.process("bash", "-c", worker)
 
     def test_a_disk_that_is_full(self) -> None:
-        self.hosts(8)
+        self.hosts(24)
         self.write("fleet/users.csv", "user,uid,groups\nroot,0,root:0\n" + "# a long file\n" * 1000)
         self.scheduler(full=True)
         self.fleet("--scheduler", self.address)
