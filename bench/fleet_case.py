@@ -3,7 +3,8 @@
 
 usage: fleet_case.py FOLDER [--fleet N] [--requests N] [--rules N]
 
-Each fiftieth host has a policy with a fault, and each hundredth has no users. The same numbers always give the same bytes.
+Each fiftieth host has a policy with a fault, and each hundredth has no users. The same numbers always give the same
+bytes.
 """
 import argparse
 import os

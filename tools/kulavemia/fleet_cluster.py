@@ -33,13 +33,14 @@ CONNECTION = 5.0
 PATIENCE = 60.0
 TICK = 1.0
 WAITING = 4
+PAGE = "info/main/workers.html"
 
 cloudpickle.register_pickle_by_value(fleet_handed)
 
 
 @contextlib.contextmanager
 def local(workers: int, retries: int) -> Iterator[Client]:
-    """Yields a client of a cluster of processes on this machine, whose connections are encrypted and closed to others."""
+    """Yields a client of a cluster of processes here, whose connections are encrypted and closed to others."""
     settings = {
         "distributed.scheduler.allowed-failures": retries,
         "distributed.scheduler.work-stealing": False,
@@ -53,7 +54,7 @@ def local(workers: int, retries: int) -> Iterator[Client]:
             threads_per_worker=1,
             processes=True,
             security=Security.temporary(),
-            dashboard_address=None,
+            dashboard_address="127.0.0.1:0",
             local_directory=folder,
             silence_logs="CRITICAL",
         ) as cluster,
@@ -78,9 +79,9 @@ def at(address: str) -> Iterator[Client]:
 
 
 def page_of(client: Client) -> str:
-    """Returns the address of the scheduler's own page, empty where there is none."""
-    link = client.dashboard_link
+    """Returns the address of the scheduler's page of workers, empty where there is none."""
     try:
+        link = f"{client.dashboard_link.rpartition('/')[0]}/{PAGE}"
         with urllib.request.urlopen(link, timeout=CONNECTION):
             return link
     except (OSError, ValueError, AttributeError):
@@ -88,7 +89,7 @@ def page_of(client: Client) -> str:
 
 
 class _Shard:
-    """A shard that is with the scheduler: how often it was tried, on which workers in vain, and which may have it now."""
+    """A shard that is with the scheduler: its tries, the workers that had it in vain, and those that may have it."""
 
     def __init__(self, job: Job) -> None:
         self.job = job
@@ -116,7 +117,8 @@ class Runner:
         try:
             client.register_worker_plugin(handed, name=handed.name)
         except Exception as error:
-            raise Fault(f"the workers do not take the program: {type(error).__name__}: {error}", READING_FAILED) from None
+            said = f"{type(error).__name__}: {error}"
+            raise Fault(f"the workers do not take the program: {said}", READING_FAILED) from None
 
     def run(self, jobs: Iterator[Job]) -> Iterator[tuple[Job, Answer]]:
         """Yields what comes of each shard, in whatever order it comes. Raises `Fault` where the scheduler goes away."""
