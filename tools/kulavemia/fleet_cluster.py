@@ -6,6 +6,7 @@ What waits on the scheduler is a few shards for each worker, so that neither it 
 import contextlib
 import logging
 import queue
+import secrets
 import tempfile
 import time
 import urllib.request
@@ -16,7 +17,7 @@ from typing import Any
 
 import cloudpickle
 import dask
-from distributed import Client, Future, LocalCluster
+from distributed import Client, Future, LocalCluster, Security
 from distributed.comm import CommClosedError
 from distributed.scheduler import KilledWorker
 
@@ -31,21 +32,15 @@ from kulavemia.fleet_work import FAILED, UNFIT, Answer, Job
 CONNECTION = 5.0
 PATIENCE = 60.0
 TICK = 1.0
-WAITING = 3
+WAITING = 4
+PAGE = "info/main/workers.html"
 
 cloudpickle.register_pickle_by_value(fleet_handed)
 
 
-def _quiet() -> None:
-    """Leaves to this module what is said of a connection that is lost."""
-    for name in list(logging.root.manager.loggerDict):
-        if name.partition(".")[0] == "distributed":
-            logging.getLogger(name).setLevel(logging.CRITICAL)
-
-
 @contextlib.contextmanager
 def local(workers: int, retries: int) -> Iterator[Client]:
-    """Yields a client of a cluster of processes on this machine, whose connections are encrypted and closed to others."""
+    """Yields a client of a cluster of processes here, whose connections are encrypted and closed to others."""
     settings = {
         "distributed.scheduler.allowed-failures": retries,
         "distributed.scheduler.work-stealing": False,
@@ -58,8 +53,8 @@ def local(workers: int, retries: int) -> Iterator[Client]:
             n_workers=workers,
             threads_per_worker=1,
             processes=True,
-            security=True,
-            dashboard_address=None,
+            security=Security.temporary(),
+            dashboard_address="127.0.0.1:0",
             local_directory=folder,
             silence_logs="CRITICAL",
         ) as cluster,
@@ -84,9 +79,9 @@ def at(address: str) -> Iterator[Client]:
 
 
 def page_of(client: Client) -> str:
-    """Returns the address of the scheduler's own page, empty where there is none."""
-    link = client.dashboard_link
+    """Returns the address of the scheduler's page of workers, empty where there is none."""
     try:
+        link = f"{client.dashboard_link.rpartition('/')[0]}/{PAGE}"
         with urllib.request.urlopen(link, timeout=CONNECTION):
             return link
     except (OSError, ValueError, AttributeError):
@@ -94,12 +89,14 @@ def page_of(client: Client) -> str:
 
 
 class _Shard:
-    """A shard that is with the scheduler: how often it was tried, and on which workers in vain."""
+    """A shard that is with the scheduler: its tries, the workers that had it in vain, and those that may have it."""
 
     def __init__(self, job: Job) -> None:
         self.job = job
         self.tries = 0
         self.unfit: set[str] = set()
+        self.wanted: set[str] = set()
+        self.alone = False
 
 
 class Runner:
@@ -111,11 +108,17 @@ class Runner:
         self.retries = retries
         self.ended: queue.SimpleQueue[Future] = queue.SimpleQueue()
         self.running: dict[str, tuple[Future, _Shard]] = {}
+        self.suspects: list[_Shard] = []
         self.workers: dict[str, Any] = {}
         self.asked = -TICK
         warnings.filterwarnings("ignore", message="Large object of size")
-        _quiet()
-        client.register_worker_plugin(handed, name=handed.name)
+        # What is said of a connection that is lost is said here.
+        logging.disable()
+        try:
+            client.register_worker_plugin(handed, name=handed.name)
+        except Exception as error:
+            said = f"{type(error).__name__}: {error}"
+            raise Fault(f"the workers do not take the program: {said}", READING_FAILED) from None
 
     def run(self, jobs: Iterator[Job]) -> Iterator[tuple[Job, Answer]]:
         """Yields what comes of each shard, in whatever order it comes. Raises `Fault` where the scheduler goes away."""
@@ -137,8 +140,12 @@ class Runner:
                     more = False
                 else:
                     self._submit(_Shard(job))
-            if not self.running:
+            if not self.running and not self.suspects:
                 return
+            if not self.running:
+                shard = self.suspects.pop()
+                shard.alone = True
+                self._submit(shard)
             yield from self._next()
 
     def _workers(self) -> dict[str, Any]:
@@ -153,47 +160,65 @@ class Runner:
         return WAITING * max(1, sum(worker["nthreads"] for worker in self._workers().values()))
 
     def _submit(self, shard: _Shard) -> None:
-        """Hands a shard to the scheduler: to workers on which it was not tried, where there are any."""
+        """Hands a shard to the scheduler: for the workers on which it was not tried, where there are any."""
         shard.tries += 1
-        others = [address for address in self._workers() if address not in shard.unfit] if shard.unfit else []
-        key = f"{shard.job.name}-{shard.job.digest[:16]}-{shard.tries}"
-        future = self.client.submit(
-            judge,
-            tuple(travelling(shard.job)),
-            self.handed,
-            key=key,
-            pure=False,
-            workers=others or None,
-            allow_other_workers=bool(others),
-        )
+        shard.wanted = set(self._workers()) - shard.unfit if shard.unfit else set()
+        key = f"{shard.job.name}-{shard.job.digest[:16]}-{secrets.token_hex(4)}"
+        job = tuple(travelling(shard.job))
+        future = self.client.submit(judge, job, self.handed, key=key, pure=False, workers=sorted(shard.wanted) or None)
         self.running[key] = future, shard
         future.add_done_callback(self.ended.put)
 
+    def _free(self) -> None:
+        """Hands shards over again that wait for workers which are all gone."""
+        for key, (future, shard) in list(self.running.items()):
+            if shard.wanted and shard.wanted.isdisjoint(self._workers()):
+                del self.running[key]
+                future.cancel()
+                shard.tries -= 1
+                self._submit(shard)
+
     def _next(self) -> Iterator[tuple[Job, Answer]]:
-        """Yields what came of the next shard that ended, if it is not tried again."""
+        """Yields what came of the next shards that ended, but for those that are tried again."""
+        for future, found in self._ended():
+            _, shard = self.running.pop(future.key)
+            answer = self._answer(future, found, shard)
+            if answer is None:
+                self.suspects.append(shard)
+            elif answer.status == UNFIT and shard.tries <= self.retries:
+                self._submit(shard)
+            else:
+                yield shard.job, answer._replace(status=FAILED) if answer.status == UNFIT else answer
+
+    def _ended(self) -> list[tuple[Future, Any]]:
+        """Returns the shards that ended since the last call, with what the workers answered: none after a while."""
         try:
-            future = self.ended.get(timeout=TICK)
+            futures = [self.ended.get(timeout=TICK)]
         except queue.Empty:
             self._want_scheduler()
-            return
-        _, shard = self.running.pop(future.key)
-        answer = self._answer(future, shard)
-        if answer.status == UNFIT and shard.tries <= self.retries:
-            self._submit(shard)
-            return
-        yield shard.job, answer._replace(status=FAILED) if answer.status == UNFIT else answer
+            self._free()
+            return []
+        while not self.ended.empty():
+            futures.append(self.ended.get())
+        futures = [future for future in futures if future.key in self.running]
+        finished = [future for future in futures if future.status == "finished"]
+        found = dict(zip((future.key for future in finished), self.client.gather(finished)))
+        return [(future, found.get(future.key)) for future in futures]
 
-    def _answer(self, future: Future, shard: _Shard) -> Answer:
-        """Returns what came of a shard that ended."""
-        if future.status == "finished":
-            worker, answer = future.result()
+    def _answer(self, future: Future, found: Any, shard: _Shard) -> Answer | None:
+        """Returns what came of a shard that ended, or `None` where the workers that had it died.
+
+        Dask suspects each shard that was with a worker when it died; one that was alone with it is the cause.
+        """
+        if found is not None:
+            worker, answer = found
             shard.unfit.add(worker)
             return Answer(*answer)
         if future.status == "cancelled":
             raise self._gone()
         error = future.exception()
         if isinstance(error, KilledWorker):
-            return Answer(FAILED, "each worker that had it died")
+            return Answer(FAILED, "each worker that had it died") if shard.alone else None
         return Answer(UNFIT, f"{type(error).__name__}: {error}")
 
     def _want_scheduler(self) -> None:

@@ -1,6 +1,6 @@
-"""What every worker of a fleet is handed once: the program, the files that hosts share, and the code that judges a shard.
+"""What every worker of a fleet is handed once: the program, the files that hosts share, and the code that judges.
 
-A worker gets this module's code by value, so that beside Dask and the same version of Python it needs nothing installed.
+A worker gets this module's code by value, so that beside Dask and the same version of Python it needs nothing.
 """
 
 import importlib

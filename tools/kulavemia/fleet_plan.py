@@ -24,7 +24,7 @@ _REQUESTS_FILE = re.compile(r"([A-Za-z0-9_-]{1,64})(?:\.([1-9][0-9]{0,8}))?\.csv
 
 
 class Asked(NamedTuple):
-    """How shards are cut and judged: the senders of a shard, the threads of the program, the seconds that it may take."""
+    """How shards are cut and judged: the senders of each, the threads of the program, the seconds it may take."""
 
     senders: int = SENDERS_LIMIT
     threads: int = 1

@@ -233,7 +233,7 @@ def _row(fields: tuple[str, ...]) -> bytes:
 
 
 def join(fleet: Fleet, results: Results) -> Joined:
-    """Writes the joined report and the status of each shard. Raises `Fault` where a result is missing, twice or a stranger."""
+    """Writes the joined report and the status of shards. Raises `Fault` where a result is missing, twice or a stranger."""
     results.forget()
     joining = _Join(fleet, results)
     joining.read()

@@ -12,8 +12,8 @@ from kulavemia.fleet_handed import PROGRAM_FILE, packed, write_below
 from kulavemia.program import Policy, audit_words, copy_rows
 from kulavemia.requests import Source
 
-# The program runs in the folder of the policy's tree, and reads it by this path: so nothing that it is asked, and nothing
-# that it answers, tells where a worker keeps the files.
+# The program runs in the folder of the policy's tree, and reads it by this path: so nothing that it is asked of the
+# policy, and nothing that it answers, tells where a worker keeps the files.
 ROOT = "/proc/self/cwd"
 TREE = "tree"
 USERS = "users.csv"

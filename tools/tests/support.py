@@ -33,8 +33,8 @@ def has_jinja() -> bool:
 
 
 def has_dask() -> bool:
-    """Tells whether there is Dask's distributed scheduler."""
-    found = "import importlib.util, sys; sys.exit(importlib.util.find_spec('distributed') is None)"
+    """Tells whether there is Dask's distributed scheduler, and what encrypts its connections."""
+    found = "import importlib.util as u, sys; sys.exit(None in map(u.find_spec, ('distributed', 'cryptography')))"
     return subprocess.run(["/usr/bin/python3", "-c", found], check=False).returncode == 0
 
 
@@ -44,13 +44,13 @@ JINJA = has_jinja()
 DASK = has_dask()
 needs_program = unittest.skipUnless(PROGRAM, "the program sudo_audit is not built")
 needs_jinja = unittest.skipUnless(JINJA, "python3-jinja2 is not installed")
-needs_dask = unittest.skipUnless(DASK, "python3-distributed is not installed")
+needs_dask = unittest.skipUnless(DASK, "python3-distributed or python3-cryptography is not installed")
 needs_browser = unittest.skipUnless(BROWSER, "chromium is not installed")
 
 for there, missing in (
     (PROGRAM, "the program sudo_audit is not built"),
     (JINJA, "python3-jinja2 is not installed"),
-    (DASK, "python3-distributed is not installed"),
+    (DASK, "python3-distributed or python3-cryptography is not installed"),
     (BROWSER, "chromium is not installed"),
 ):
     if not there:

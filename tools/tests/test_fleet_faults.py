@@ -40,13 +40,18 @@ class Workers(FleetCase):
         self.fleet("--join")
         self.want_as_one_machine()
 
-    def test_a_shard_that_takes_too_long(self) -> None:
+    def test_a_shard_that_takes_too_long_or_finds_no_memory(self) -> None:
         self.hosts(4)
-        self.host("slow", POLICY + "# stub sleep 3\n")
+        self.host("slow", POLICY + "# stub sleep 1.5\n")
+        self.host("hungry", POLICY + "# stub memory\n")
         self.fleet("--workers", "4", "--limit", "0.5", status=1)
-        self.assertIn("slow,1,failed,0,took more than 0.5 s", self.rows("out", "status.csv"))
-        self.want_as_one_machine(without=["slow"])
-        self.assertIn("fleet: 1 shards of 5 hosts", self.fleet("--part", "1/1")[1])
+        self.assertEqual(
+            self.rows("out", "status.csv")[5:],
+            ["hungry,1,failed,0,sudo_audit: out of memory", "slow,1,failed,0,took more than 0.5 s"],
+        )
+        self.want_as_one_machine(without=["hungry", "slow"])
+        self.host("hungry")
+        self.assertIn("fleet: 2 shards of 6 hosts", self.fleet("--part", "1/1")[1])
         self.fleet("--join")
         self.want_as_one_machine()
 
@@ -82,17 +87,17 @@ class Schedulers(FleetCase):
 
     def scheduler(self, full: bool = False) -> None:
         """Starts a scheduler and four workers; the first has a disk that takes no large file."""
-        words = ("dask-scheduler", "--host", "127.0.0.1", "--port", "0", "--no-dashboard", "--scheduler-file", "at.json")
-        self.running = self.process(*words)
+        place = ("--host", "127.0.0.1", "--port", "0")
+        self.running = self.process("dask-scheduler", *place, "--no-dashboard", "--scheduler-file", "at.json")
         self.wait_until(lambda: os.path.exists(self.path("at.json")))
         self.address = re.search(r'"address": "([^"]*)"', self.read("at.json"))[1]
         for number in range(4):
             limit = "ulimit -f 8; " if full and number == 0 else ""
-            worker = f"{limit}exec dask-worker {self.address} --no-nanny --nthreads 1 --no-dashboard --local-directory w{number}"
-            self.process("bash", "-c", worker)
+            words = f"--no-nanny --nthreads 1 --no-dashboard --local-directory w{number}"
+            self.process("bash", "-c", f"{limit}exec dask-worker {self.address} {words}")
 
     def test_a_disk_that_is_full(self) -> None:
-        self.hosts(8)
+        self.hosts(24)
         self.write("fleet/users.csv", "user,uid,groups\nroot,0,root:0\n" + "# a long file\n" * 1000)
         self.scheduler(full=True)
         self.fleet("--scheduler", self.address)
@@ -106,7 +111,7 @@ class Schedulers(FleetCase):
         self.running.kill()
         out, _ = running.communicate(timeout=60)
         self.assertEqual(running.returncode, 4, out)
-        self.assertIn("fleet: the scheduler has gone; what is done stands, and the same command goes on\n", out)
+        self.assertEqual(out, "fleet: the scheduler has gone; what is done stands, and the same command goes on\n")
         self.fleet("--part", "1/1")
         self.fleet("--join")
         self.want_as_one_machine()
