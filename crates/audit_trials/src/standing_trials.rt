@@ -167,7 +167,7 @@ const ONE_STANDS: [Part; 3] = [
 fn a_part_may_stand_still(rt: HostRuntime) -> Result<(), Fail> {
     let alloc = rt.alloc();
     let wanted = report(alloc, 700)?;
-    for workers in [1u32, 2, 16] {
+    for workers in [1u32, 16] {
         let (text, answered, late) = printed(alloc, &rt, &ONE_STANDS, workers)?;
         assert!(rt; text.as_str() == wanted.as_str());
         assert_eq!(rt; (answered, late), (700, 0));

@@ -2,7 +2,7 @@
 
 use crate::audit_trials::{HOSTS, USERS};
 use crate::policy_trials::{Item, Shelf};
-use crate::runs::{FILES, Readers, audit_shown, requests, shown};
+use crate::runs::{FILES, ROWS, Readers, audit_shown, requests, shown};
 use audit_commands::{Disk, Files, Opener, check_run, expand_run, open_all, report_fault};
 use audit_files::Script;
 use std::alloc::{AllocError, Global};
@@ -187,16 +187,48 @@ fn aliases_are_limited(rt: HostRuntime) -> Result<(), Fail> {
     Ok(())
 }
 
-/// A policy of aliases A1 to A64, of which each names the next.
-fn chain(alloc: Global) -> Result<String, AllocError> {
+/// A policy of aliases A1 to the one of this number, of which each names the next.
+fn chain(alloc: Global, last: u32) -> Result<String, AllocError> {
     let mut policy = String::from_str(alloc, "alice ALL = A1\n")?;
-    for number in 1..64u32 {
+    for number in 1..last {
         let next = number.saturating_add(1);
         let line = format!(in alloc; "Cmnd_Alias A{number} = A{next}\n")?;
         policy.push_str(line.as_str())?;
     }
-    policy.push_str("Cmnd_Alias A64 = /bin/ls\n")?;
+    let line = format!(in alloc; "Cmnd_Alias A{last} = /bin/ls\n")?;
+    policy.push_str(line.as_str())?;
     Ok(policy)
+}
+
+/// A policy of aliases W0 to the one of this number, of which each names the one before it twice.
+fn doubling(alloc: Global, last: u32) -> Result<String, AllocError> {
+    let mut policy = String::from_str(alloc, "Cmnd_Alias W0 = /bin/ls\n")?;
+    for before in 0..last {
+        let number = before.saturating_add(1);
+        let line = format!(in alloc; "Cmnd_Alias W{number} = W{before}, W{before}\n")?;
+        policy.push_str(line.as_str())?;
+    }
+    let line = format!(in alloc; "alice ALL = !W{last}\n")?;
+    policy.push_str(line.as_str())?;
+    Ok(policy)
+}
+
+#[test]
+fn aliases_may_be_deep_and_wide(rt: HostRuntime) -> Result<(), Fail> {
+    let alloc = rt.alloc();
+    for (policy, wanted) in [
+        (chain(alloc, 64)?, "0 ok;"),
+        (chain(alloc, 65)?, "1 p:2: error: too deep Cmnd_Alias A1;"),
+        (doubling(alloc, 16)?, "0 ok;"),
+        (
+            doubling(alloc, 17)?,
+            "1 p:18: error: too wide Cmnd_Alias W17;",
+        ),
+    ] {
+        let found = check_text(alloc, policy.as_str().as_bytes())?;
+        assert_eq!(rt; found.as_str(), wanted);
+    }
+    Ok(())
 }
 
 /// Shows the expansion of the alias A1 of commands.
@@ -217,11 +249,7 @@ fn expansion(alloc: Global, policy: &str) -> Result<String, AllocError> {
 #[test]
 fn a_chain_of_aliases_is_followed(rt: HostRuntime) -> Result<(), Fail> {
     let alloc = rt.alloc();
-    let policy = chain(alloc)?;
-    assert_eq!(rt;
-        check_text(alloc, policy.as_str().as_bytes())?.as_str(),
-        "0 ok;"
-    );
+    let policy = chain(alloc, 64)?;
     assert_eq!(rt; expansion(alloc, policy.as_str())?.as_str(), "0 /bin/ls;");
     Ok(())
 }
@@ -330,5 +358,25 @@ fn a_row_more_is_named(rt: HostRuntime) -> Result<(), Fail> {
         let found = directory_shown(alloc, &rt, user.as_bytes(), host.as_bytes())?;
         assert_eq!(rt; found.as_str(), wanted);
     }
+    Ok(())
+}
+
+/// Shows an audit where the host of the requests stands in the file in upper case.
+fn upper_case_shown<T: Threads + Wait + Sync>(alloc: Global, rt: &T) -> Result<String, AllocError> {
+    let text = requests(alloc, ROWS)?;
+    let mut readers = Readers::known(alloc)?;
+    readers.hosts = Script::of(alloc, b"host,interfaces\nWEB1.Example.Org,\n", 100)?;
+    readers.push(alloc, b"s", Script::of(alloc, &text, 100)?)?;
+    let mut shelf = Shelf { items: &FILES };
+    let out = Script::of(alloc, b"", 1000)?;
+    audit_shown(alloc, rt, b"p", &mut shelf, readers, 2, out)
+}
+
+#[test]
+fn case_of_hosts_does_not_count(rt: HostRuntime) -> Result<(), Fail> {
+    assert_eq!(rt;
+        upper_case_shown(rt.alloc(), &rt)?.as_str(),
+        "0 sender,number,verdict,line,tags;s,1,allow,p:1,NOPASSWD;s,2,unknown-user,,;"
+    );
     Ok(())
 }

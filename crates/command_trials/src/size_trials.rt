@@ -41,7 +41,7 @@ fn a_sender_may_be_closed_early(rt: HostRuntime) -> Result<(), Fail> {
     let alloc = rt.alloc();
     let rows = closed_early(alloc)?;
     let text = requests(alloc, rows.as_str().as_bytes())?;
-    for _ in 0..4u32 {
+    for _ in 0..2u32 {
         let mut readers = Readers::known(alloc)?;
         readers.push(alloc, b"s", Script::of(alloc, &text, 4096)?)?;
         let line = parts_shown(alloc, &rt, readers)?;
