@@ -18,7 +18,6 @@ from typing import Any
 import cloudpickle
 import dask
 from distributed import Client, Future, LocalCluster, Security
-from distributed.comm import CommClosedError
 from distributed.scheduler import KilledWorker
 
 from kulavemia import fleet_handed
@@ -124,8 +123,13 @@ class Runner:
         """Yields what comes of each shard, in whatever order it comes. Raises `Fault` where the scheduler goes away."""
         try:
             yield from self._run(jobs)
-        except (CommClosedError, CancelledError):
+        except CancelledError:
             raise self._gone() from None
+        except OSError as error:
+            # What Dask says of a connection has no number, and what is said of a file has one.
+            if error.errno is None:
+                raise self._gone() from None
+            raise
         except (AttributeError, LookupError, TypeError, ValueError):
             # A client whose connection is lost answers in these ways too.
             self._want_scheduler()
@@ -139,7 +143,7 @@ class Runner:
                 if job is None:
                     more = False
                 else:
-                    self._submit(_Shard(job))
+                    self._submit(_Shard(travelling(job)))
             if not self.running and not self.suspects:
                 return
             if not self.running:
@@ -164,7 +168,7 @@ class Runner:
         shard.tries += 1
         shard.wanted = set(self._workers()) - shard.unfit if shard.unfit else set()
         key = f"{shard.job.name}-{shard.job.digest[:16]}-{secrets.token_hex(4)}"
-        job = tuple(travelling(shard.job))
+        job = tuple(shard.job)
         future = self.client.submit(judge, job, self.handed, key=key, pure=False, workers=sorted(shard.wanted) or None)
         self.running[key] = future, shard
         future.add_done_callback(self.ended.put)
