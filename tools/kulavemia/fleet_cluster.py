@@ -13,6 +13,7 @@ import urllib.request
 import warnings
 from collections.abc import Iterator
 from concurrent.futures import CancelledError
+from types import TracebackType
 from typing import Any
 
 import cloudpickle
@@ -103,7 +104,8 @@ class Runner:
 
     def __init__(self, client: Client, handed: Handed, retries: int) -> None:
         self.client = client
-        self.handed = handed.name
+        # Each run hands over for itself, so that none takes away what another still wants.
+        self.handed = f"{handed.name}-{secrets.token_hex(4)}"
         self.retries = retries
         self.ended: queue.SimpleQueue[Future] = queue.SimpleQueue()
         self.running: dict[str, tuple[Future, _Shard]] = {}
@@ -114,10 +116,17 @@ class Runner:
         # What is said of a connection that is lost is said here.
         logging.disable()
         try:
-            client.register_worker_plugin(handed, name=handed.name)
+            client.register_worker_plugin(Handed(self.handed, handed.files), name=self.handed)
         except Exception as error:
             said = f"{type(error).__name__}: {error}"
             raise Fault(f"the workers do not take the program: {said}", READING_FAILED) from None
+
+    def __enter__(self) -> "Runner":
+        return self
+
+    def __exit__(self, kind: type | None, error: BaseException | None, trace: TracebackType | None) -> None:
+        if error is None:
+            self.client.unregister_worker_plugin(self.handed)
 
     def run(self, jobs: Iterator[Job]) -> Iterator[tuple[Job, Answer]]:
         """Yields what comes of each shard, in whatever order it comes. Raises `Fault` where the scheduler goes away."""
