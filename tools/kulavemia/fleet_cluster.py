@@ -13,12 +13,12 @@ import urllib.request
 import warnings
 from collections.abc import Iterator
 from concurrent.futures import CancelledError
+from types import TracebackType
 from typing import Any
 
 import cloudpickle
 import dask
 from distributed import Client, Future, LocalCluster, Security
-from distributed.comm import CommClosedError
 from distributed.scheduler import KilledWorker
 
 from kulavemia import fleet_handed
@@ -104,7 +104,8 @@ class Runner:
 
     def __init__(self, client: Client, handed: Handed, retries: int) -> None:
         self.client = client
-        self.handed = handed.name
+        # Each run hands over for itself, so that none takes away what another still wants.
+        self.handed = f"{handed.name}-{secrets.token_hex(4)}"
         self.retries = retries
         self.ended: queue.SimpleQueue[Future] = queue.SimpleQueue()
         self.running: dict[str, tuple[Future, _Shard]] = {}
@@ -115,17 +116,29 @@ class Runner:
         # What is said of a connection that is lost is said here.
         logging.disable()
         try:
-            client.register_worker_plugin(handed, name=handed.name)
+            client.register_worker_plugin(Handed(self.handed, handed.files), name=self.handed)
         except Exception as error:
             said = f"{type(error).__name__}: {error}"
             raise Fault(f"the workers do not take the program: {said}", READING_FAILED) from None
+
+    def __enter__(self) -> "Runner":
+        return self
+
+    def __exit__(self, kind: type | None, error: BaseException | None, trace: TracebackType | None) -> None:
+        if error is None:
+            self.client.unregister_worker_plugin(self.handed)
 
     def run(self, jobs: Iterator[Job]) -> Iterator[tuple[Job, Answer]]:
         """Yields what comes of each shard, in whatever order it comes. Raises `Fault` where the scheduler goes away."""
         try:
             yield from self._run(jobs)
-        except (CommClosedError, CancelledError):
+        except CancelledError:
             raise self._gone() from None
+        except OSError as error:
+            # What Dask says of a connection has no number, and what is said of a file has one.
+            if error.errno is None:
+                raise self._gone() from None
+            raise
         except (AttributeError, LookupError, TypeError, ValueError):
             # A client whose connection is lost answers in these ways too.
             self._want_scheduler()
@@ -139,7 +152,7 @@ class Runner:
                 if job is None:
                     more = False
                 else:
-                    self._submit(_Shard(job))
+                    self._submit(_Shard(travelling(job)))
             if not self.running and not self.suspects:
                 return
             if not self.running:
@@ -164,7 +177,7 @@ class Runner:
         shard.tries += 1
         shard.wanted = set(self._workers()) - shard.unfit if shard.unfit else set()
         key = f"{shard.job.name}-{shard.job.digest[:16]}-{secrets.token_hex(4)}"
-        job = tuple(travelling(shard.job))
+        job = tuple(shard.job)
         future = self.client.submit(judge, job, self.handed, key=key, pure=False, workers=sorted(shard.wanted) or None)
         self.running[key] = future, shard
         future.add_done_callback(self.ended.put)

@@ -87,8 +87,8 @@ class Schedulers(FleetCase):
 
     def scheduler(self, full: bool = False) -> None:
         """Starts a scheduler and four workers; the first has a disk that takes no large file."""
-        place = ("--host", "127.0.0.1", "--port", "0")
-        self.running = self.process("dask-scheduler", *place, "--no-dashboard", "--scheduler-file", "at.json")
+        place = ("--host", "127.0.0.1", "--port", "0", "--dashboard-address", "127.0.0.1:0")
+        self.running = self.process("dask-scheduler", *place, "--scheduler-file", "at.json")
         self.wait_until(lambda: os.path.exists(self.path("at.json")))
         self.address = re.search(r'"address": "([^"]*)"', self.read("at.json"))[1]
         for number in range(4):
@@ -111,7 +111,9 @@ class Schedulers(FleetCase):
         self.running.kill()
         out, _ = running.communicate(timeout=60)
         self.assertEqual(running.returncode, 4, out)
-        self.assertEqual(out, "fleet: the scheduler has gone; what is done stands, and the same command goes on\n")
+        first, last = out.splitlines()
+        self.assertRegex(first, r"^fleet: the scheduler's page: http://")
+        self.assertEqual(last, "fleet: the scheduler has gone; what is done stands, and the same command goes on")
         self.fleet("--part", "1/1")
         self.fleet("--join")
         self.want_as_one_machine()
