@@ -19,6 +19,7 @@ DONE, REFUSED_POLICY, FAILED = 0, 1, 4
 WORKERS = range(1, 17)
 AUDITS = 3
 MOST_MEMORY = 1 << 30
+ROOM_FOR_WORDS = 1 << 20
 
 
 class Question(NamedTuple):
@@ -107,7 +108,7 @@ def difference(first: Ended, second: Ended) -> str:
 
 
 def least_memory(program: str, seconds: float) -> int | None:
-    """Returns under which limit of memory the program prints its help, `None` where that is more than is tried."""
+    """Returns a limit of memory under which the program starts, with room for words; `None` where none is found."""
     low, high = 0, MOST_MEMORY
     question = Question("help", ["--help"], False)
     if ended(program, Run(question, None, None), "/", seconds).status != DONE:
@@ -120,7 +121,7 @@ def least_memory(program: str, seconds: float) -> int | None:
             high = middle
         else:
             low = middle
-    return high
+    return high + ROOM_FOR_WORDS
 
 
 class Soak:
