@@ -7,6 +7,7 @@ import contextlib
 import logging
 import queue
 import secrets
+import signal
 import tempfile
 import time
 import urllib.request
@@ -28,11 +29,12 @@ from kulavemia.fleet_handed import Handed, judge
 from kulavemia.fleet_plan import travelling
 from kulavemia.fleet_work import FAILED, UNFIT, Answer, Job
 
-# Seconds to reach a scheduler, and to let it go where it is gone; seconds to wait for its first worker.
+# Seconds to reach a scheduler, and to let it go where it is gone; seconds to wait for a worker where there is none.
 CONNECTION = 5.0
 PATIENCE = 60.0
 TICK = 1.0
 WAITING = 4
+GOES_ON = "what is done stands, and the same command goes on"
 PAGE = "info/main/workers.html"
 
 cloudpickle.register_pickle_by_value(fleet_handed)
@@ -46,21 +48,29 @@ def local(workers: int, retries: int) -> Iterator[Client]:
         "distributed.scheduler.work-stealing": False,
         "distributed.comm.timeouts.connect": "60s",
     }
-    with (
-        tempfile.TemporaryDirectory(prefix="fleet-") as folder,
-        dask.config.set(settings),
-        LocalCluster(
-            n_workers=workers,
-            threads_per_worker=1,
-            processes=True,
-            security=Security.temporary(),
-            dashboard_address="127.0.0.1:0",
-            local_directory=folder,
-            silence_logs="CRITICAL",
-        ) as cluster,
-        Client(cluster) as client,
-    ):
-        yield client
+    with tempfile.TemporaryDirectory(prefix="fleet-") as folder, dask.config.set(settings):
+        with _uninterrupted():
+            cluster = LocalCluster(
+                n_workers=workers,
+                threads_per_worker=1,
+                processes=True,
+                security=Security.temporary(),
+                dashboard_address="127.0.0.1:0",
+                local_directory=folder,
+                silence_logs="CRITICAL",
+            )
+        with cluster, Client(cluster) as client:
+            yield client
+
+
+@contextlib.contextmanager
+def _uninterrupted() -> Iterator[None]:
+    """Leaves an interrupt from the terminal to this process: those that are started meanwhile do not heed it."""
+    before = signal.signal(signal.SIGINT, signal.SIG_IGN)
+    try:
+        yield
+    finally:
+        signal.signal(signal.SIGINT, before)
 
 
 @contextlib.contextmanager
@@ -112,6 +122,7 @@ class Runner:
         self.suspects: list[_Shard] = []
         self.workers: dict[str, Any] = {}
         self.asked = -TICK
+        self.seen = time.monotonic()
         warnings.filterwarnings("ignore", message="Large object of size")
         # What is said of a connection that is lost is said here.
         logging.disable()
@@ -209,6 +220,7 @@ class Runner:
             futures = [self.ended.get(timeout=TICK)]
         except queue.Empty:
             self._want_scheduler()
+            self._want_workers()
             self._free()
             return []
         while not self.ended.empty():
@@ -238,5 +250,12 @@ class Runner:
         if self.client.status != "running":
             raise self._gone() from None
 
+    def _want_workers(self) -> None:
+        """Raises `Fault` where there has been no worker for a while."""
+        if self._workers():
+            self.seen = time.monotonic()
+        elif time.monotonic() > self.seen + PATIENCE:
+            raise Fault(f"the scheduler has no worker any more; {GOES_ON}", READING_FAILED)
+
     def _gone(self) -> Fault:
-        return Fault("the scheduler has gone; what is done stands, and the same command goes on", READING_FAILED)
+        return Fault(f"the scheduler has gone; {GOES_ON}", READING_FAILED)

@@ -56,9 +56,14 @@ class FleetCase(Case):
         )
 
     def process(self, *words: str) -> "subprocess.Popen[str]":
-        """Starts a process that is ended with the test."""
+        """Starts a process that is ended with the test, as are its temporary files."""
         running = subprocess.Popen(
-            words, cwd=self.folder, text=True, stdout=subprocess.PIPE, stderr=subprocess.STDOUT
+            words,
+            cwd=self.folder,
+            env={**os.environ, "TMPDIR": self.folder},
+            text=True,
+            stdout=subprocess.PIPE,
+            stderr=subprocess.STDOUT,
         )
 
         def end() -> None:
