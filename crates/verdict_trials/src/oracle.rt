@@ -235,7 +235,8 @@ fn runas_holds(
 ) -> Result<bool, AllocError> {
     let Some(runas) = runas else {
         return Ok(match asked.target {
-            Some(target) => target.name.as_slice() == b"root" && has_gid(target, asked.group),
+            Some(target) => target.name.as_slice() == b"root".as_slice()
+                && has_gid(target, asked.group),
             None => false,
         });
     };
