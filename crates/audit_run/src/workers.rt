@@ -83,7 +83,8 @@ pub fn start_workers<'s, 'e: 's, R: Threads + Wait + Sync, G: Gate + Sync>(
     requires index { Indexes shared.policy.now shared.index.now }
     requires room { vec_len handles.old + vec_len passes ≤ vec_capacity handles.old }
     ensures fresh { All (λ h. h.promise.before.value
-        ≡ fresh shared.entry.handoff.now shared.entry.policy.now shared.entry.directory.now) handles.new.items }
+        ≡ fresh shared.entry.handoff.now shared.entry.policy.now shared.entry.directory.now)
+        handles.new.items }
     ensures all { IsTrue result → vec_len handles.new ≡ vec_len handles.old + vec_len passes }
 {
     for pass in passes {
