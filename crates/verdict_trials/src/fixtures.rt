@@ -89,24 +89,25 @@ fn line_of(verdict: Verdict) -> Option<u32> {
     }
 }
 
+// Appends a tag that is set: its name, or its opposite's.
+fn append_tag(text: &mut String, choice: Option<bool>, name: &str) -> Result<(), AllocError> {
+    if let Some(is_set) = choice {
+        text.push_str(if is_set { " " } else { " NO" })?;
+        text.push_str(name)?;
+    }
+    Ok(())
+}
+
 fn append_tags(text: &mut String, verdict: Verdict) -> Result<(), AllocError> {
-    let Verdict::Allow { tags, .. } = verdict else {
-        return Ok(());
-    };
-    for (choice, name) in [
-        (tags.exec, "EXEC"),
-        (tags.follow, "FOLLOW"),
-        (tags.intercept, "INTERCEPT"),
-        (tags.log_input, "LOG_INPUT"),
-        (tags.log_output, "LOG_OUTPUT"),
-        (tags.mail, "MAIL"),
-        (tags.passwd, "PASSWD"),
-        (tags.setenv, "SETENV"),
-    ] {
-        if let Some(is_set) = choice {
-            text.push_str(if is_set { " " } else { " NO" })?;
-            text.push_str(name)?;
-        }
+    if let Verdict::Allow { tags, .. } = verdict {
+        append_tag(text, tags.exec, "EXEC")?;
+        append_tag(text, tags.follow, "FOLLOW")?;
+        append_tag(text, tags.intercept, "INTERCEPT")?;
+        append_tag(text, tags.log_input, "LOG_INPUT")?;
+        append_tag(text, tags.log_output, "LOG_OUTPUT")?;
+        append_tag(text, tags.mail, "MAIL")?;
+        append_tag(text, tags.passwd, "PASSWD")?;
+        append_tag(text, tags.setenv, "SETENV")?;
     }
     Ok(())
 }
