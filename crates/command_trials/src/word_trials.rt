@@ -133,8 +133,7 @@ fn refusal(alloc: Global, words: &[&'static str]) -> Result<String, Fail> {
 const HELP: &str =
     "output: Usage: sudo_audit <COMMAND>\n\nCommands:\n  check   \n  expand  \n  audit   \n  help    Print this";
 
-const NO_VERSION: &str =
-    "error output: error: unexpected argument '--version' found\n\nUsage: sudo_audit <COMMAND>\n";
+const VERSION: &str = "output: sudo_audit 0.1.0\n";
 
 const NO_COMMAND: &str =
     "error output: error: 'sudo_audit' requires a subcommand but one was not provided\n";
@@ -151,7 +150,7 @@ fn help_goes_to_the_output_and_usage_to_the_error_output(rt: HostRuntime) -> Res
             ["sudo_audit", "audit", "--help"].as_slice(),
             "output: Usage: sudo_audit audit [OPTIONS] --users <users> --hosts <hosts> <file> [senders]...\n",
         ),
-        (["sudo_audit", "--version"].as_slice(), NO_VERSION),
+        (["sudo_audit", "--version"].as_slice(), VERSION),
         (["sudo_audit"].as_slice(), NO_COMMAND),
         (["sudo_audit", "check"].as_slice(), NO_FILE),
         (
