@@ -1,4 +1,4 @@
--- How a list decides: by the last atom of the written-out list that passes a test. Only a body's proof needs it.
+-- How a list decides: by the last atom of the written-out list that passes a test.
 use Rattle.std.specs.Prelude.{Bool, List, Option, option_map}
 use Rattle.sudo_grammar.specs.declared.kind.Kind.{Kind}
 use Rattle.sudo_grammar.specs.declared.kind.Atom.{Atom}

@@ -1,4 +1,4 @@
--- What the search from the last grant back finds: at a command, in a section, in a rule, in a policy. Only a body's proof needs it.
+-- What the search from the last grant back finds: at a command, in a section, in a rule, in a policy.
 use Rattle.std.specs.Prelude.{ℕ, zero, suc, ◌+◌, cond, List, [], ◌∷◌, map, length, take, slice_get, Option, Some, None, option_map}
 use Rattle.std.specs.Option.{option_or}
 use Rattle.sudo_text.specs.declared.line.Place.{Place}
