@@ -1,6 +1,7 @@
 -- Lemmas on the steps of matching, and on what its loop keeps.
 use Rattle.std.proofs.Common.{◌≡◌, ℕ, ◌+◌, ◌-◌, ◌*◌, ◌<◌, ◌≤◌, Bool, true, false, ◌||◌, List, [], ◌∷◌, length, drop, refl, ap, sym, ◌∙◌, subst, Some, None, Option, arith, add-zero}
-use Rattle.std.specs.Prelude.{slice_get, option_map}
+use Rattle.std.specs.Prelude.{slice_get, option_map, ◌==◌}
+use Rattle.std.proofs.lemmas.Bool.{eq-eqb, ne_eqb}
 use Rattle.std.proofs.lemmas.Option.{slice_get_within, slice_get_past, slice_get-get_or}
 use Rattle.std.proofs.Math.Nat.{mul-le-mul_right}
 use Rattle.sudo_text.specs.declared.token.Ch.{Ch}
@@ -221,6 +222,47 @@ pub ends-finished :
     fits (parts (drop at cs)) (drop place t) s ≡ true → fits (parts cs) t s ≡ true
 ends-finished s cs t at place None k e = k ∙ e
 ends-finished s cs t at place (Some r) k e = k.same ∙ ap (λ x. x || later s (parts (drop r.0 cs)) (drop r.1 t)) e
+
+-- ---- Characters before the first special one
+
+or-none : (a b : Bool) → (a || b) ≡ false → (a ≡ false) × (b ≡ false)
+or-none true b e = cc
+or-none false b e = (refl, e)
+
+-- the answer of a character that is not special
+literal-answer :
+    (s : Slash) (cs : List Ch) (n b : ℕ) (c : Ch) → slice_get cs n ≡ Some c → (is_plain 42 c || (is_plain 63 c || is_plain 91 c)) ≡ false →
+    option_map (part_answer s b) (part_of (drop n cs)) ≡ Some (b == c.byte, 0)
+literal-answer s cs n b c e special =
+    let star = or-none (is_plain 42 c) (is_plain 63 c || is_plain 91 c) special in
+    let others = or-none (is_plain 63 c) (is_plain 91 c) star.1 in
+    ap (option_map (part_answer s b)) (part_of-at n cs c e ∙ ap Some (part-byte c (drop (n + 1) cs) star.0 others.0 others.1))
+
+no-star : (cs : List Ch) (n : ℕ) (c : Ch) → slice_get cs n ≡ Some c → (is_plain 42 c || (is_plain 63 c || is_plain 91 c)) ≡ false →
+    has (is_plain 42) (slice_get cs n) ≡ false
+no-star cs n c e special = ap (has (is_plain 42)) e ∙ (or-none (is_plain 42 c) (is_plain 63 c || is_plain 91 c) special).0
+
+pub literal-kept :
+    (s : Slash) (cs : List Ch) (t : List ℕ) (n b : ℕ) (c : Ch) → Keeps s cs t n n None → slice_get cs n ≡ Some c →
+    (is_plain 42 c || (is_plain 63 c || is_plain 91 c)) ≡ false → slice_get t n ≡ Some b → b ≡ c.byte → Keeps s cs t (n + 1) (n + 1) None
+literal-kept s cs t n b c k e special f same =
+    let within = slice_get_within cs n c e in
+    let answer : option_map (part_answer s b) (part_of (drop n cs)) ≡ Some (true, 0) =
+    literal-answer s cs n b c e special ∙ ap (λ x. Some (x, 0)) (eq-eqb b c.byte same) in
+    let next = keeps-taken s cs t n n 0 None k (takes s cs t n n b 0 (no-star cs n c e special) f answer (omega (arith, within))) in
+    next ∙ ap (λ m. fits (parts (drop m cs)) (drop (n + 1) t) s) (add-zero (n + 1))
+
+pub literal-differs :
+    (s : Slash) (cs : List Ch) (t : List ℕ) (n b : ℕ) (c : Ch) → Keeps s cs t n n None → slice_get cs n ≡ Some c →
+    (is_plain 42 c || (is_plain 63 c || is_plain 91 c)) ≡ false → slice_get t n ≡ Some b → (b ≡ c.byte → ⊥) → fits (parts cs) t s ≡ false
+literal-differs s cs t n b c k e special f other =
+    k ∙ stuck-byte s cs t n n b 0 (no-star cs n c e special) f (literal-answer s cs n b c e special ∙ ap (λ x. Some (x, 0)) (ne_eqb b c.byte other))
+
+pub literal-ends :
+    (s : Slash) (cs : List Ch) (t : List ℕ) (n : ℕ) (c : Ch) → Keeps s cs t n n None → slice_get cs n ≡ Some c →
+    (is_plain 42 c || (is_plain 63 c || is_plain 91 c)) ≡ false → slice_get t n ≡ None → fits (parts cs) t s ≡ false
+literal-ends s cs t n c k e special f =
+    k ∙ stuck-text s cs t n n (no-star cs n c e special) f (slice_get_within cs n c e)
 
 -- ---- The work that is left
 

@@ -1,6 +1,6 @@
 //! Patterns over bytes, as in glob(7) and sudoers(5), "Wildcards".
 
-ghost use Rattle.std.specs.Prelude.{ℕ, ◌≡◌, false, ◌+◌, ◌^◌, ◌<◌, ◌≤◌, ◌&&◌, not, true, length, drop, map, slice_get, option_map, IfSome, None, if◌then◌else◌};
+ghost use Rattle.std.specs.Prelude.{ℕ, ◌≡◌, false, ◌+◌, ◌^◌, ◌<◌, ◌≤◌, ◌&&◌, ◌||◌, not, true, length, drop, map, slice_get, option_map, IfSome, None, if◌then◌else◌};
 ghost use Rattle.std.specs.List.{list_any};
 ghost use Rattle.sudo_match.specs.Class as class;
 ghost use Rattle.sudo_match.specs.Class.{class_holds, class_name, lower_text, is_between, is_alpha, is_alnum};
@@ -243,6 +243,13 @@ fn is_plain(ch: Ch, byte: u8) -> bool
     !ch.escaped && ch.byte == byte
 }
 
+// Whether the character may stand for another byte than its own: an unescaped `*`, `?` or `[`.
+fn is_special(ch: Ch) -> bool
+    ensures { result ≡ (is_plain 42 ch || (is_plain 63 ch || is_plain 91 ch)) }
+{
+    is_plain(ch, b'*') || (is_plain(ch, b'?') || is_plain(ch, b'['))
+}
+
 impl<'a> Chars<'a> {
     ghost use Rattle.sudo_match.specs.Reading.{seen, read, text_of, follows_bracket};
     ghost use Rattle.sudo_match.specs.Body.Shown.{class_of, opened, held_by};
@@ -276,7 +283,10 @@ impl<'a> Chars<'a> {
         ensures { result ≡ slice_get (read self.now.reading self.now.chars.now) at }
     {
         let ch = *self.chars.get(at)?;
-        Some(self.reading.read(ch, self.follows_bracket(at)))
+        match self.reading {
+            Reading::Exact => Some(ch),
+            reading => Some(reading.read(ch, self.follows_bracket(at))),
+        }
     }
 
     fn get(&self, at: usize) -> Option<Ch>
@@ -622,13 +632,39 @@ impl<'a> Chars<'a> {
         }
     }
 
+    // Compares the characters before the first special one with the first bytes of the text. Returns how many they are,
+    // or `None` if one differs, so that nothing fits: most patterns are known here not to fit.
+    fn literal_start(&self, text: &Text<'_>, slash: Slash) -> Option<usize>
+        ensures within { IfSome result (λ n. n ≤ length (seen self.now)) }
+        ensures rest { IfSome result (λ n. fits (parts (seen self.now)) (text_of text.now) slash
+            ≡ fits (parts (drop n (seen self.now))) (drop n (text_of text.now)) slash) }
+        ensures differs { result ≡ None
+            → fits (parts (seen self.now)) (text_of text.now) slash ≡ false }
+    {
+        let mut at = 0;
+        while let Some(ch) = self.get(at) {
+            if is_special(ch) {
+                return Some(at);
+            }
+            let byte = text.get(at)?;
+            if byte != ch.byte {
+                return None;
+            }
+            at += 1;
+        }
+        Some(at)
+    }
+
     /// Whether the whole pattern fits the whole text. Where a part does not fit, the last star takes one byte more: a
     /// star before it could only move the parts between the two to a later place, from where no other text is reached.
     fn fits(&self, text: &Text<'_>, slash: Slash) -> bool
         ensures { result ≡ fits (parts (seen self.now)) (text_of text.now) slash }
     {
-        let mut at = 0;
-        let mut place = 0;
+        let Some(literal) = self.literal_start(text, slash) else {
+            return false;
+        };
+        let mut at = literal;
+        let mut place = literal;
         let mut retry: Option<(usize, usize)> = None;
         let mut known = Unclosed::none(0);
         loop {
