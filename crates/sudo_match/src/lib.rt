@@ -18,6 +18,6 @@ pub use directory::Directory;
 pub use fault::DirFault;
 pub use laws::{brackets_are_cut, characters_are_parts, unclosed_brackets_are_bytes};
 pub use matchers::{command_matches, group_matches, host_matches, user_matches};
-pub use patterns::{Pattern, Slash};
+pub use patterns::{Pattern, Slash, is_special};
 pub use people::{Group, Interface, Machine, Person};
 pub use request::{Request, Tags, Verdict, What};

@@ -243,8 +243,8 @@ fn is_plain(ch: Ch, byte: u8) -> bool
     !ch.escaped && ch.byte == byte
 }
 
-// Whether the character may stand for another byte than its own: an unescaped `*`, `?` or `[`.
-fn is_special(ch: Ch) -> bool
+/// Whether the character may stand for another byte than its own: an unescaped `*`, `?` or `[`.
+pub fn is_special(ch: Ch) -> bool
     ensures { result ≡ (is_plain 42 ch || (is_plain 63 ch || is_plain 91 ch)) }
 {
     is_plain(ch, b'*') || (is_plain(ch, b'?') || is_plain(ch, b'['))

@@ -4,4 +4,9 @@ pub mod Tagging
 pub mod Searching
 pub mod Resolving
 pub mod VerdictVectors
+pub mod Numbering
+pub mod Bits
+pub mod Misses
+pub mod Paths
+pub mod Silent
 pub mod Posting

@@ -1,5 +1,5 @@
 -- The tags and the runas of a command place: what stands before a command holds for the later commands of its section. sudoers(5), "Tag_Spec" and "Runas_Spec".
-use Rattle.std.specs.Prelude.{ℕ, ◌+◌, Bool, true, false, cond, List, [], ◌∷◌, map, take, flat_map, Option, Some, None}
+use Rattle.std.specs.Prelude.{ℕ, ◌+◌, Bool, true, false, cond, List, map, take, flat_map, Option, Some, None}
 use Rattle.std.specs.Option.{option_or}
 use Rattle.sudo_grammar.specs.declared.policy.Tag.{Tag}
 use Rattle.sudo_grammar.specs.declared.policy.Tag.TheVariants as tag

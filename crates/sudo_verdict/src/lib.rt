@@ -3,9 +3,12 @@
 //! sudoers(5), "User Specification": the last match is used.
 #![tactic(auto)]
 
+mod candidates;
 mod decision;
+mod numbers;
 mod postings;
 mod query;
+mod rows;
 mod rule_index;
 mod search;
 mod tags;

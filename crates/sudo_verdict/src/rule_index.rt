@@ -1,52 +1,64 @@
-//! Which rules of a policy may decide for which user, for many requests.
+//! Which rules of a policy may decide for which user and which command, for many requests.
 
-ghost use Rattle.std.specs.Prelude.{◌≡◌, Option, IfOk, map, length};
+ghost use Rattle.std.specs.Prelude.{ℕ, ◌≡◌, ◌+◌, ◌-◌, ◌*◌, ◌<◌, ◌≤◌, false, Option, None, Some, IfOk, map, take, length, slice_get};
+ghost use Rattle.std.specs.Option.{option_or};
+ghost use Rattle.sudo_grammar.specs.declared.policy.Entry.{Entry};
 ghost use Rattle.sudo_verdict.specs.Last.{last_set};
+ghost use Rattle.sudo_verdict.specs.Body.Blocks.{both_have};
 ghost use Rattle.sudo_verdict.specs.Body.Queries.{question};
 ghost use Rattle.sudo_verdict.specs.Verdicts.{verdict_of};
 ghost use Rattle.sudo_verdict.specs.Found.{entry_found};
-ghost use Rattle.sudo_verdict.specs.Postings.{AreLists, Covers, Indexes};
+ghost use Rattle.sudo_verdict.specs.Postings.{Indexes};
 
+use crate::candidates::{add_command, add_user, last_in_both_before};
 use crate::postings::Postings;
 use crate::query::{Query, query_of};
+use crate::rows::Rows;
 use crate::search::search_entry;
 use std::alloc::{AllocError, Global};
 use std::marker::Model;
 use sudo_match::{Directory, Request, Verdict};
 use sudo_policy::Checked;
 
-/// Which rules of a policy may decide for which user. It holds numbers alone and no part of the policy.
+/// How many words of 64 rules are looked at at a time.
+const BLOCK: usize = 256;
+
+/// Which rules of a policy may decide for which user and which command. It holds numbers alone and no part of the policy.
 #[derive(Drop)]
 pub struct RuleIndex {
-    postings: Postings,
+    users: Rows,
+    commands: Rows,
 }
 
 impl Model for RuleIndex {
-    ghost use Rattle.sudo_verdict.specs.Postings.{Lists};
+    ghost use Rattle.sudo_verdict.specs.Postings.{Index};
 
-    ghost Value = { Lists };
+    ghost Value = { Index };
 
-    ghost view = { λ i. i.postings.lists.items };
+    ghost view = { λ i. (i.users.rows.items, i.commands.rows.items) };
 }
 
 impl RuleIndex {
-    /// Returns the index of a policy, in time about linear in the user lists of its rules as written out. Returns
-    /// `AllocError` if memory is refused.
+    /// Returns the index of a policy, in time about linear in the lists of users and of commands of its rules as written
+    /// out, and in at most 64 MiB besides the rows' own. Returns `AllocError` if memory is refused.
     pub fn of(alloc: Global, checked: &Checked) -> Result<RuleIndex, AllocError>
         ensures { IfOk result (Indexes checked.now) }
     {
         let postings = Postings::of(alloc, checked)?;
-        Ok(RuleIndex { postings })
+        Ok(RuleIndex {
+            users: postings.users.rows,
+            commands: postings.commands.rows,
+        })
     }
 
     /// Returns the verdict on the request, as [`crate::verdict`] does, under the policy that this is the index of. Looks
-    /// only at the rules that may decide for the user, and takes no memory.
+    /// only at the rules that may decide for the user and the command. Does not allocate.
     pub fn verdict(&self, checked: &Checked, directory: &Directory, request: &Request) -> Verdict
         requires { Indexes checked.now self.now }
         ensures { result ≡ verdict_of checked.now directory.now request.now }
     {
         match query_of(directory, request) {
-            Ok(query) => match search_posted(checked, &self.postings, &query) {
+            Ok(query) => match search_indexed(checked, self, &query) {
                 Some(verdict) => verdict,
                 None => Verdict::NoMatch,
             },
@@ -55,22 +67,92 @@ impl RuleIndex {
     }
 }
 
-/// What the last entry that decides says, looked for among those that may decide for the user.
-fn search_posted(checked: &Checked, postings: &Postings, query: &Query<'_>) -> Option<Verdict>
-    requires lists { AreLists (length checked.now.entries) postings.now.lists.items }
-    requires covers { Covers checked.now (length checked.now.entries) postings.now.lists.items }
+/// What the last entry that decides says, block by block from the end back.
+fn search_indexed(checked: &Checked, index: &RuleIndex, query: &Query<'_>) -> Option<Verdict>
+    requires { Indexes checked.now index.now }
     ensures { result ≡ last_set (map (entry_found checked.now (question query.now))
         checked.now.entries) }
 {
+    let mut end = checked.policy().entries.len();
+    while end > 0 {
+        let first = (end - 1) / (64 * BLOCK) * BLOCK;
+        let found = search_block(checked, index, query, first, end);
+        if found.is_some() {
+            return found;
+        }
+        end = 64 * first;
+    }
+    None
+}
+
+/// What the last entry that decides says, of those before `end` in the block that begins at the word `first`.
+fn search_block(
+    checked: &Checked,
+    index: &RuleIndex,
+    query: &Query<'_>,
+    first: usize,
+    end: usize,
+) -> Option<Verdict>
+    requires index { Indexes checked.now index.now }
+    requires begins { 64 * first < end }
+    requires block { end ≤ 64 * first + 16384 }
+    requires within { end ≤ length checked.now.entries }
+    ensures { last_set (map (entry_found checked.now (question query.now))
+        (take end checked.now.entries))
+        ≡ option_or result (last_set (map (entry_found checked.now (question query.now))
+        (take (64 * first) checked.now.entries))) }
+{
+    let words = (end - 1) / 64 + 1 - first;
+    let mut users = [0u64; BLOCK];
+    let mut commands = [0u64; BLOCK];
+    add_user(&index.users, query.user, first, &mut users[..words]);
+    add_command(
+        &index.commands,
+        query.command,
+        first,
+        &mut commands[..words],
+    );
+    search_candidates(
+        checked,
+        query,
+        &users[..words],
+        &commands[..words],
+        64 * first,
+        end,
+    )
+}
+
+/// What the last entry that decides says, of those from `start` up to `end` that stand in both blocks.
+fn search_candidates(
+    checked: &Checked,
+    query: &Query<'_>,
+    users: &[u64],
+    commands: &[u64],
+    start: usize,
+    end: usize,
+) -> Option<Verdict>
+    requires begins { start < end }
+    requires within { end ≤ length checked.now.entries }
+    requires users { end ≤ start + 64 * length users.now }
+    requires commands { end ≤ start + 64 * length commands.now }
+    requires silent { (i : ℕ) (e : Entry) → start + i < end
+        → slice_get checked.now.entries (start + i) ≡ Some e
+        → both_have users.now commands.now i ≡ false
+        → entry_found checked.now (question query.now) e ≡ None }
+    ensures { last_set (map (entry_found checked.now (question query.now))
+        (take end checked.now.entries))
+        ≡ option_or result (last_set (map (entry_found checked.now (question query.now))
+        (take start checked.now.entries))) }
+{
     let entries = checked.policy().entries.as_slice();
-    let mut end = entries.len();
+    let mut left = end - start;
     loop {
-        end = postings.last_for_user_before(query.user, end);
-        if end == 0 {
+        left = last_in_both_before(users, commands, left);
+        if left == 0 {
             return None;
         }
-        end -= 1;
-        let found = search_entry(checked, query, &entries[end]);
+        left -= 1;
+        let found = search_entry(checked, query, &entries[start + left]);
         if found.is_some() {
             return found;
         }

@@ -1,0 +1,268 @@
+-- Rows of rules: what a rule more leaves as it was, what a block with a number's rules has, and which atoms a user or a command
+-- cannot match.
+use Rattle.std.proofs.Common.{◌≡◌, ℕ, zero, suc, ◌+◌, ◌-◌, ◌*◌, ◌/◌, ◌%◌, ◌<◌, ◌≤◌, Bool, true, false, not, ◌&&◌, ◌||◌, List, [], ◌∷◌, length, get_or, drop, take, Some, refl, sym, ◌∙◌, ap, subst, arith, ◌⊎◌, inl, inr, Vec, Global}
+use Rattle.std.specs.Prelude.{slice_get, ◌==◌, bytes_eq}
+use Rattle.std.specs.List.{list_any, list_all}
+use Rattle.std.proofs.Math.ListN.{set}
+use Rattle.std.proofs.Math.Nat.{mod-lt}
+use Rattle.std.proofs.lemmas.Bool.{cases_eq, and_parts, eqb-true, eq-eqb, ne_eqb}
+use Rattle.std.proofs.lemmas.List.{length-set}
+use Rattle.std.proofs.lemmas.Slice.Eq.{bytes_eq-Decides}
+use Rattle.std.specs.Int.{bit_at}
+use Rattle.std.proofs.lemmas.Nat.Bits.{bit_at-zero}
+use Rattle.sudo_verdict.proofs.Bits.{past-zero}
+use Rattle.sudo_policy.proofs.StateLemmas.{get_set_same, get_set_other}
+use Rattle.sudo_grammar.specs.declared.kind.Atom.{Atom}
+use Rattle.sudo_grammar.specs.declared.kind.Atom.TheVariants as atom
+use Rattle.sudo_match.specs.declared.people.Person.{Person}
+use Rattle.sudo_match.specs.declared.people.Group.{Group}
+use Rattle.sudo_match.specs.Matching.{user_fits}
+use Rattle.sudo_verdict.specs.Postings.{bit, row_words, Rows, posted, Grows, next_number, bucket_of, user_bucket, group_number, uid_number, gid_number, whole_seed, beginning_seed, atom_number, misses_group, misses_user, misses_beginnings, misses_command}
+
+-- ---- The row of a number
+
+pub row-within : (rows : Rows) (number n : ℕ) → n ≡ length rows → 0 < length rows → number % n < length rows
+row-within rows number n same some = subst (λ k. number % k < length rows) (sym same) (mod-lt number some)
+
+pub row-there : (rows : Rows) (number n : ℕ) (row : Vec ℕ Global) → n ≡ length rows → slice_get rows (number % n) ≡ Some row →
+    slice_get rows (number % length rows) ≡ Some row
+row-there rows number n row same e = ap (λ k. slice_get rows (number % k)) (sym same) ∙ e
+
+-- ---- A rule more
+
+posted-is : (rows : Rows) (number rule at : ℕ) → number % length rows ≡ at → posted rows number rule ≡ (bit (row_words (slice_get rows at)) rule == 1)
+unfolding posted
+posted-is rows number rule at e = ap (λ k. bit (row_words (slice_get rows k)) rule == 1) e
+
+posted-in-set :
+    (rows : Rows) (index : ℕ) (row : Vec ℕ Global) (number rule at : ℕ) → number % length rows ≡ at →
+    posted (set rows index row) number rule ≡ (bit (row_words (slice_get (set rows index row) at)) rule == 1)
+posted-in-set rows index row number rule at e = posted-is (set rows index row) number rule at (ap (λ n. number % n) (length-set rows index row) ∙ e)
+
+pub posted-set :
+    (rows : Rows) (index : ℕ) (row : Vec ℕ Global) (number rule : ℕ) → index < length rows → number % length rows ≡ index →
+    bit row.items rule ≡ 1 → posted (set rows index row) number rule ≡ true
+posted-set rows index row number rule h e there =
+    posted-in-set rows index row number rule index e
+    ∙ ap (λ o. bit (row_words o) rule == 1) (get_set_same rows index row h)
+    ∙ eq-eqb (bit row.items rule) 1 there
+
+pub grows-set :
+    (rows : Rows) (index : ℕ) (old new : Vec ℕ Global) → index < length rows → slice_get rows index ≡ Some old →
+    ((rule : ℕ) → bit old.items rule ≡ 1 → bit new.items rule ≡ 1) → Grows rows (set rows index new)
+grows-set rows index old new h e keeps number rule there = go (cases_eq (number % length rows) index)
+  where
+    go : (number % length rows ≡ index) ⊎ (number % length rows ≡ index → ⊥) → posted (set rows index new) number rule ≡ true
+    go (inl same) =
+        posted-set rows index new number rule h same
+        (keeps rule (eqb-true (bit old.items rule) 1 (sym (posted-is rows number rule index same ∙ ap (λ o. bit (row_words o) rule == 1) e) ∙ there)))
+    go (inr other) =
+        posted-in-set rows index new number rule (number % length rows) refl
+        ∙ ap (λ o. bit (row_words o) rule == 1) (get_set_other rows index (number % length rows) new other)
+        ∙ sym (posted-is rows number rule (number % length rows) refl)
+        ∙ there
+
+-- ---- A block with the rules of a number
+
+get-drop : (ws : List ℕ) (first k : ℕ) → get_or (drop first ws) k 0 ≡ get_or ws (first + k) 0
+get-drop ws zero k = ap (λ n. get_or ws n 0) (let e : k ≡ zero + k = omega arith in e)
+get-drop [] (suc n) k = sym (nothing (suc n + k))
+  where
+    nothing : (m : ℕ) → ◌≡◌ {A = ℕ} (get_or [] m 0) 0
+    nothing zero = refl
+    nothing (suc m) = refl
+get-drop (w ∷ ws) (suc n) k = get-drop ws n k ∙ (let e : suc (n + k) ≡ suc n + k = omega arith in ap (λ m. get_or (w ∷ ws) m 0) e)
+
+take-all : (k : ℕ) (ws : List ℕ) → length ws ≤ k → take k ws ≡ ws
+take-all zero [] h = refl
+take-all zero (w ∷ ws) h = absurd (omega (arith, h))
+take-all (suc k) [] h = refl
+take-all (suc k) (w ∷ ws) h = ap (λ l. w ∷ l) (take-all k ws (omega (arith, h)))
+
+length-drop : (n : ℕ) (ws : List ℕ) → length (drop n ws) ≤ length ws - n
+length-drop zero ws = omega arith
+length-drop (suc n) [] = omega arith
+length-drop (suc n) (w ∷ ws) = let h = length-drop n ws in omega (arith, h)
+
+bit-rest : (ws : List ℕ) (first i : ℕ) → bit (drop first ws) i ≡ bit ws (64 * first + i)
+bit-rest ws first i =
+    let quotient : (64 * first + i) / 64 ≡ first + i / 64 = omega arith in
+    let remainder : (64 * first + i) % 64 ≡ i % 64 = omega arith in
+    ap (λ w. bit_at w (i % 64)) (get-drop ws first (i / 64) ∙ ap (λ k. get_or ws k 0) (sym quotient))
+    ∙ ap (λ j. bit_at (get_or ws ((64 * first + i) / 64) 0) j) (sym remainder)
+
+-- the words of a row from one on have the row's later bits
+pub bit-drop : (ws : List ℕ) (first i : ℕ) → bit (take (length ws - first) (drop first ws)) i ≡ bit ws (64 * first + i)
+bit-drop ws first i =
+    ap (λ l. bit l i) (take-all (length ws - first) (drop first ws) (length-drop first ws)) ∙ bit-rest ws first i
+
+pub bit-past : (ws : List ℕ) (first i : ℕ) → length ws ≤ first → bit ws (64 * first + i) ≡ 0
+bit-past ws first i h =
+    ap (λ w. bit_at w ((64 * first + i) % 64)) (past-zero ws ((64 * first + i) / 64) (omega (arith, h))) ∙ bit_at-zero ((64 * first + i) % 64)
+
+pub posted-none :
+    (rows : Rows) (number rule : ℕ) (row : Vec ℕ Global) → slice_get rows (number % length rows) ≡ Some row → bit row.items rule ≡ 0 →
+    posted rows number rule ≡ false
+posted-none rows number rule row e none =
+    posted-is rows number rule (number % length rows) refl
+    ∙ ap (λ o. bit (row_words o) rule == 1) e
+    ∙ ne_eqb (bit row.items rule) 1 (λ h. let no : ◌≡◌ {A = ℕ} 0 1 = sym none ∙ h in omega (arith, no))
+
+-- ---- Rules that stand in none of a user's rows
+
+both : (a b : Bool) → a ≡ true → b ≡ true → (a && b) ≡ true
+both true b e f = f
+both false b e f = e
+
+never : (b : Bool) → b ≡ true → not b ≡ true → ⊥
+never true e f = cc
+never false e f = cc
+
+keeps-not : (a b : Bool) → (a ≡ true → b ≡ true) → not b ≡ true → not a ≡ true
+keeps-not true b h e = absurd (never b (h refl) e)
+keeps-not false b h e = refl
+
+groups-old : (old new : Rows) → Grows old new → (rule : ℕ) (gs : List Group) → list_all (misses_group new rule) gs ≡ true → list_all (misses_group old rule) gs ≡ true
+groups-old old new grows rule [] e = refl
+groups-old old new grows rule (g ∷ gs) e =
+    let here = and_parts (misses_group new rule g) (list_all (misses_group new rule) gs) e in
+    let two = and_parts (not (posted new (group_number g.name) rule)) (not (posted new (gid_number g.gid) rule)) here.0 in
+    both (misses_group old rule g) (list_all (misses_group old rule) gs)
+    (both (not (posted old (group_number g.name) rule)) (not (posted old (gid_number g.gid) rule))
+    (keeps-not (posted old (group_number g.name) rule) (posted new (group_number g.name) rule) (grows (group_number g.name) rule) two.0)
+    (keeps-not (posted old (gid_number g.gid) rule) (posted new (gid_number g.gid) rule) (grows (gid_number g.gid) rule) two.1))
+    (groups-old old new grows rule gs here.1)
+
+-- the three rows that each user has, and those of the groups
+pub misses-parts :
+    (rows : Rows) (rule : ℕ) (u : Person) → misses_user rows rule u ≡ true →
+    (not (posted rows 0 rule) ≡ true) × ((not (posted rows (user_bucket u.name) rule) ≡ true) × ((not (posted rows (uid_number u.uid) rule) ≡ true) × (list_all (misses_group rows rule) u.groups ≡ true)))
+unfolding misses_user
+misses-parts rows rule u e =
+    let a = and_parts (not (posted rows 0 rule)) _ e in
+    let b = and_parts (not (posted rows (user_bucket u.name) rule)) _ a.1 in
+    let c = and_parts (not (posted rows (uid_number u.uid) rule)) (list_all (misses_group rows rule) u.groups) b.1 in
+    (a.0, (b.0, (c.0, c.1)))
+
+pub misses-all :
+    (rows : Rows) (rule : ℕ) (u : Person) → not (posted rows 0 rule) ≡ true → not (posted rows (user_bucket u.name) rule) ≡ true →
+    not (posted rows (uid_number u.uid) rule) ≡ true → list_all (misses_group rows rule) u.groups ≡ true → misses_user rows rule u ≡ true
+unfolding misses_user
+misses-all rows rule u e f g h =
+    both (not (posted rows 0 rule)) _ e
+    (both (not (posted rows (user_bucket u.name) rule)) _ f (both (not (posted rows (uid_number u.uid) rule)) (list_all (misses_group rows rule) u.groups) g h))
+
+pub misses-old : (old new : Rows) → Grows old new → (rule : ℕ) (u : Person) → misses_user new rule u ≡ true → misses_user old rule u ≡ true
+misses-old old new grows rule u e =
+    let parts = misses-parts new rule u e in
+    misses-all old rule u
+    (keeps-not (posted old 0 rule) (posted new 0 rule) (grows 0 rule) parts.0)
+    (keeps-not (posted old (user_bucket u.name) rule) (posted new (user_bucket u.name) rule) (grows (user_bucket u.name) rule) parts.1.0)
+    (keeps-not (posted old (uid_number u.uid) rule) (posted new (uid_number u.uid) rule) (grows (uid_number u.uid) rule) parts.1.1.0)
+    (groups-old old new grows rule u.groups parts.1.1.1)
+
+-- no group of the user has a name, or an ID, under which the rule is found
+
+named-none :
+    (rows : Rows) (rule : ℕ) (name : List ℕ) (gs : List Group) → list_all (misses_group rows rule) gs ≡ true →
+    posted rows (group_number name) rule ≡ true → list_any (λ (g : Group). bytes_eq g.name name) gs ≡ false
+named-none rows rule name [] e there = refl
+named-none rows rule name (g ∷ gs) e there =
+    let here = and_parts (misses_group rows rule g) (list_all (misses_group rows rule) gs) e in
+    let two = and_parts (not (posted rows (group_number g.name) rule)) (not (posted rows (gid_number g.gid) rule)) here.0 in
+    test (bytes_eq g.name name) refl two.0 (named-none rows rule name gs here.1 there)
+  where
+    test : (b : Bool) → bytes_eq g.name name ≡ b → not (posted rows (group_number g.name) rule) ≡ true → list_any (λ (x : Group). bytes_eq x.name name) gs ≡ false
+        → (b || list_any (λ (x : Group). bytes_eq x.name name) gs) ≡ false
+    test true f missed rest =
+        let same : g.name ≡ name = (bytes_eq-Decides g.name name).0 f in
+        absurd (never (posted rows (group_number g.name) rule) (ap (λ n. posted rows (group_number n) rule) same ∙ there) missed)
+    test false f missed rest = rest
+
+bucket_of-none :
+    (rows : Rows) (rule gid : ℕ) (gs : List Group) → list_all (misses_group rows rule) gs ≡ true →
+    posted rows (gid_number gid) rule ≡ true → list_any (λ (g : Group). g.gid == gid) gs ≡ false
+bucket_of-none rows rule gid [] e there = refl
+bucket_of-none rows rule gid (g ∷ gs) e there =
+    let here = and_parts (misses_group rows rule g) (list_all (misses_group rows rule) gs) e in
+    let two = and_parts (not (posted rows (group_number g.name) rule)) (not (posted rows (gid_number g.gid) rule)) here.0 in
+    test (g.gid == gid) refl two.1 (bucket_of-none rows rule gid gs here.1 there)
+  where
+    test : (b : Bool) → (g.gid == gid) ≡ b → not (posted rows (gid_number g.gid) rule) ≡ true → list_any (λ (x : Group). x.gid == gid) gs ≡ false
+        → (b || list_any (λ (x : Group). x.gid == gid) gs) ≡ false
+    test true f missed rest =
+        let same : g.gid ≡ gid = eqb-true g.gid gid f in
+        absurd (never (posted rows (gid_number g.gid) rule) (ap (λ n. posted rows (gid_number n) rule) same ∙ there) missed)
+    test false f missed rest = rest
+
+named-other :
+    (rows : Rows) (rule : ℕ) (name other : List ℕ) → not (posted rows (user_bucket other) rule) ≡ true → posted rows (user_bucket name) rule ≡ true →
+    bytes_eq name other ≡ false
+named-other rows rule name other missed there = test (bytes_eq name other) refl
+  where
+    test : (b : Bool) → bytes_eq name other ≡ b → b ≡ false
+    test false f = refl
+    test true f =
+        let same : name ≡ other = (bytes_eq-Decides name other).0 f in
+        absurd (never (posted rows (user_bucket other) rule) (ap (λ n. posted rows (user_bucket n) rule) (sym same) ∙ there) missed)
+
+bucket_of-other :
+    (rows : Rows) (rule uid other : ℕ) → not (posted rows (uid_number other) rule) ≡ true → posted rows (uid_number uid) rule ≡ true →
+    (uid == other) ≡ false
+bucket_of-other rows rule uid other missed there = test (uid == other) refl
+  where
+    test : (b : Bool) → (uid == other) ≡ b → b ≡ false
+    test false f = refl
+    test true f =
+        let same : uid ≡ other = eqb-true uid other f in
+        absurd (never (posted rows (uid_number other) rule) (ap (λ n. posted rows (uid_number n) rule) (sym same) ∙ there) missed)
+
+-- an atom under which the rule is found does not fit the user
+pub misses-atom : (rows : Rows) (rule : ℕ) (u : Person) (a : Atom) → misses_user rows rule u ≡ true → posted rows (atom_number a) rule ≡ true → user_fits a u ≡ false
+unfolding atom_number user_fits
+misses-atom rows rule u (atom.Name name) e there = named-other rows rule name u.name (misses-parts rows rule u e).1.0 there
+misses-atom rows rule u (atom.Uid uid) e there = bucket_of-other rows rule uid u.uid (misses-parts rows rule u e).1.1.0 there
+misses-atom rows rule u (atom.Group name) e there = named-none rows rule name u.groups (misses-parts rows rule u e).1.1.1 there
+misses-atom rows rule u (atom.Gid gid) e there = bucket_of-none rows rule gid u.groups (misses-parts rows rule u e).1.1.1 there
+misses-atom rows rule u (atom.Command path args) e there = refl
+misses-atom rows rule u _ e there = absurd (never (posted rows 0 rule) there (misses-parts rows rule u e).0)
+
+-- a rule that every user finds
+pub misses-never : (rows : Rows) (rule : ℕ) (u : Person) → posted rows 0 rule ≡ true → misses_user rows rule u ≡ true → ⊥
+misses-never rows rule u there e = never (posted rows 0 rule) there (misses-parts rows rule u e).0
+
+pub group-missed :
+    (rows : Rows) (rule : ℕ) (left rest : List Group) (g : Group) → left ≡ g ∷ rest → posted rows (group_number g.name) rule ≡ false →
+    posted rows (gid_number g.gid) rule ≡ false → list_all (misses_group rows rule) rest ≡ true → list_all (misses_group rows rule) left ≡ true
+group-missed rows rule left rest g is e f h =
+    ap (list_all (misses_group rows rule)) is
+    ∙ both (misses_group rows rule g) (list_all (misses_group rows rule) rest)
+    (both (not (posted rows (group_number g.name) rule)) (not (posted rows (gid_number g.gid) rule)) (ap not e) (ap not f)) h
+
+pub no-groups : (rows : Rows) (rule : ℕ) (left : List Group) → length left ≡ 0 → list_all (misses_group rows rule) left ≡ true
+no-groups rows rule [] e = refl
+no-groups rows rule (g ∷ gs) e = cc
+
+-- ---- Rules that stand in none of a command's rows
+
+pub begins-more : (rows : Rows) (rule number b : ℕ) (bs : List ℕ) → posted rows number rule ≡ false →
+    misses_beginnings rows rule (next_number number b) bs ≡ true → misses_beginnings rows rule number (b ∷ bs) ≡ true
+unfolding misses_beginnings
+begins-more rows rule number b bs e h = both (not (posted rows number rule)) _ (ap not e) h
+
+pub begins-end : (rows : Rows) (rule number : ℕ) (left : List ℕ) → posted rows number rule ≡ false → length left ≡ 0 →
+    misses_beginnings rows rule number left ≡ true
+unfolding misses_beginnings
+begins-end rows rule number [] e h = ap not e
+begins-end rows rule number (b ∷ bs) e h = cc
+
+pub command-missed : (rows : Rows) (rule : ℕ) (command : List ℕ) → posted rows 0 rule ≡ false → posted rows (bucket_of whole_seed command) rule ≡ false →
+    misses_beginnings rows rule beginning_seed command ≡ true → misses_command rows rule command ≡ true
+unfolding misses_command
+command-missed rows rule command e f h =
+    both (not (posted rows 0 rule)) _ (ap not e) (both (not (posted rows (bucket_of whole_seed command) rule)) _ (ap not f) h)
+
+-- ---- Rows that grow
+
+pub grows-on : (a b c : Rows) → Grows a b → Grows b c → Grows a c
+grows-on a b c f g number rule e = g number rule (f number rule e)

@@ -1,0 +1,32 @@
+-- Tests that no atom of a list passes under which a rule stands, and what then decides nothing. Only bodies' proofs need it.
+use Rattle.std.specs.Prelude.{◌≡◌, ℕ, Bool, true, false, ◌||◌, List, [], ◌∷◌, None, slice_get, Some}
+use Rattle.sudo_grammar.specs.declared.kind.Atom.{Atom}
+use Rattle.sudo_grammar.specs.declared.kind.Kind.TheVariants as kind
+use Rattle.sudo_grammar.specs.declared.policy.CommandSpec.{CommandSpec}
+use Rattle.sudo_grammar.specs.declared.policy.Section.{Section}
+use Rattle.sudo_grammar.specs.declared.policy.Entry.{Entry}
+use Rattle.sudo_grammar.specs.declared.policy.Policy.{Policy}
+use Rattle.sudo_verdict.specs.Decided.{decided}
+use Rattle.sudo_verdict.specs.Found.{entry_found}
+use Rattle.sudo_verdict.specs.Questions.{Question}
+use Rattle.sudo_verdict.specs.Postings.{Rows, posted, atom_number, misses_user, misses_command}
+
+-- the rule is not found by everyone, and no atom under which it is found passes the test
+pub record IsSilent (rows : Rows) (rule : ℕ) (test : Atom → Bool) : Type 0 where
+  pub everyone : posted rows 0 rule ≡ false
+  pub atoms : (a : Atom) → posted rows (atom_number a) rule ≡ true → test a ≡ false
+
+-- no command decides
+abbrev pub CommandsSilent : Policy → (Atom → Bool) → List CommandSpec → Type 0
+CommandsSilent p test commands =
+    (k : ℕ) (c : CommandSpec) → slice_get commands k ≡ Some c → decided kind.Cmnd p (c.command ∷ []) test ≡ None
+
+-- no command of a section decides
+abbrev pub SectionsSilent : Policy → (Atom → Bool) → List Section → Type 0
+SectionsSilent p test sections =
+    (k : ℕ) (s : Section) → slice_get sections k ≡ Some s → CommandsSilent p test s.commands
+
+-- the entry decides nothing for users, or for commands, in none of whose rows it stands
+abbrev pub EntrySilent : Policy → Rows → Rows → ℕ → Entry → Type 0
+EntrySilent p users commands rule e =
+    (q : Question) → (misses_user users rule q.user || misses_command commands rule q.command) ≡ true → entry_found p q e ≡ None

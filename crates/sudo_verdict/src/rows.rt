@@ -1,0 +1,87 @@
+//! Rules by number, as rows of bits.
+
+ghost use Rattle.std.specs.Prelude.{ℕ, ◌≡◌, ◌+◌, ◌*◌, ◌<◌, true, IfOk, OnOk, length};
+ghost use Rattle.sudo_verdict.specs.Postings.{Grows, bit, posted};
+ghost use Rattle.sudo_verdict.specs.Body.Blocks.{Adds, AddsWords};
+
+use crate::numbers::NUMBERS;
+use std::alloc::{AllocError, Global};
+
+/// How many words all rows take at most: 32 MiB. Where they would take more, several numbers share a row.
+const WORDS: usize = 1 << 22;
+
+/// For each number the rules that stand under it, a bit for each rule.
+#[derive(Drop)]
+pub(crate) struct Rows {
+    pub(crate) rows: Vec<Vec<u64>>,
+}
+
+// Sets a bit of words that hold it.
+fn set_bit(words: &mut [u64], rule: usize)
+    requires { rule < 64 * length words.old }
+    ensures count { length words.new ≡ length words.old }
+    ensures sets { bit words.new rule ≡ 1 }
+    ensures keeps { (other : ℕ) → bit words.old other ≡ 1 → bit words.new other ≡ 1 }
+{
+    words[rule / 64] |= 1 << (rule % 64);
+}
+
+// Sets the bit of a rule in a row, which grows up to it.
+fn post_in(row: &mut Vec<u64>, rule: usize) -> Result<(), AllocError>
+    ensures sets { OnOk result (bit row.new.items rule ≡ 1) }
+    ensures keeps { (other : ℕ) → bit row.old.items other ≡ 1 → bit row.new.items other ≡ 1 }
+{
+    while row.len() <= rule / 64 {
+        row.push(0)?;
+    }
+    set_bit(row.as_mut_slice(), rule);
+    Ok(())
+}
+
+// Adds the bits of words to those of a block.
+fn or_words(block: &mut [u64], words: &[u64])
+    ensures count { length block.new ≡ length block.old }
+    ensures adds { AddsWords words.now block.old block.new }
+{
+    let count = block.len().min(words.len());
+    for index in 0..count {
+        block[index] |= words[index];
+    }
+}
+
+impl Rows {
+    /// Returns empty rows for so many rules. Returns `AllocError` if memory is refused.
+    pub(crate) fn new(alloc: Global, rules: usize) -> Result<Rows, AllocError>
+        ensures { IfOk result (λ r. 0 < length r.rows.items) }
+    {
+        let count = (WORDS / (rules / 64 + 1)).clamp(1, NUMBERS);
+        let mut rows = Vec::with_capacity(alloc, count)?;
+        for _ in 0..count {
+            rows.push(Vec::new(alloc))?;
+        }
+        Ok(Rows { rows })
+    }
+
+    /// Puts a rule into the row of a number. Returns `AllocError` if memory is refused.
+    pub(crate) fn post(&mut self, number: usize, rule: usize) -> Result<(), AllocError>
+        requires { 0 < length self.old.rows.items }
+        ensures count { length self.new.rows.items ≡ length self.old.rows.items }
+        ensures grows { Grows self.old.rows.items self.new.rows.items }
+        ensures posted { OnOk result (posted self.new.rows.items number rule ≡ true) }
+    {
+        let index = number % self.rows.len();
+        post_in(&mut self.rows[index], rule)
+    }
+
+    /// Adds the rules of a number to those of a block, which begins at the word `first`.
+    pub(crate) fn add_to(&self, number: usize, first: usize, block: &mut [u64])
+        requires { 0 < length self.now.rows.items }
+        ensures count { length block.new ≡ length block.old }
+        ensures adds { Adds self.now.rows.items number first block.old block.new }
+    {
+        let row = self.rows[number % self.rows.len()].as_slice();
+        if first < row.len() {
+            or_words(block, &row[first..]);
+        }
+    }
+}
