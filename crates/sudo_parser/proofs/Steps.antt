@@ -1,4 +1,4 @@
--- One step of a reading, and where it stops.
+-- One step of a reading, and the token at which it stops.
 use Rattle.std.proofs.Common.{arith, ◌<◌, ◌≡◌, List, [], ◌∷◌, length, refl, ap, sym, ◌∙◌, subst, Option, None, Some, Result, Ok, Err}
 use Rattle.std.specs.Result.{IfErr, IsErrAnd}
 use Rattle.sudo_text.specs.declared.token.Mark.{Mark}
