@@ -1,4 +1,4 @@
--- Lists of rules: what a rule more leaves as it was, and what a rule that stands in none of a user's lists decides.
+-- Lists of rules: the lists that one more rule leaves unchanged, and the decision of a rule in none of a user's lists.
 use Rattle.std.proofs.Common.{◌≡◌, ℕ, zero, suc, ◌+◌, ◌-◌, ◌%◌, ◌<◌, ◌≤◌, Bool, true, false, not, cond, ◌&&◌, ◌||◌, List, [], ◌∷◌, ◌++◌, map, length, take, Option, Some, None, refl, sym, ◌∙◌, ap, subst, arith, ◌⊎◌, inl, inr, Vec, Global, option_to_list, length-append, add-zero, add-one}
 use Rattle.std.specs.Prelude.{is_some, Result, Ok, Err, OnOk, slice_get, ◌==◌, ◌*◌, bytes_eq, nat_lt}
 use Rattle.std.specs.Option.{option_or, option_map}
