@@ -1,4 +1,4 @@
-//! Known positions of unclosed brackets.
+//! The known positions of unclosed brackets.
 
 ghost use Rattle.std.specs.Prelude.{List, ◌≡◌, true};
 ghost use Rattle.sudo_match.specs.Body.Closing.{Knows};

@@ -38,7 +38,7 @@ pub taken_out : (room left : Kind → ℕ) (body : EntryBody) (kind : Kind) (ds 
 taken_out room left body kind ds n is count e =
     subst (λ b. left ≡ less room b) (sym is) (subst (λ (m : ℕ). left ≡ (λ k. room k - (if same_kind kind k then m else 0))) count e)
 
--- What is said is the one thing that is said.
+-- A line has only one entry, or none.
 pub said_is : (line : Line) (entries more : List Entry) (given body : Option EntryBody) → more ≡ entries ++ entry_of line given → given ≡ body
     → more ≡ entries ++ entry_of line body
 said_is line entries more given body is same = is ∙ ap (λ b. entries ++ entry_of line b) same
