@@ -31,7 +31,8 @@ impl Model for Directory {
 
     ghost view = { λ d. record { people = d.people; machines = d.machines } };
 
-    ghost invariant = { λ d. IsKept d.people d.machines d.users d.hosts d.groups d.spots.items };
+    ghost invariant = { λ d. IsKept d.people d.machines d.users d.hosts d.groups
+        d.spots.items };
 }
 
 impl Directory {

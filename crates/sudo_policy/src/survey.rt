@@ -278,8 +278,8 @@ pub(crate) struct Survey<'a> {
 impl<'a> Survey<'a> {
     // Adds a definition: to those in force if its name is new, otherwise to the redefinitions.
     fn add(&mut self, alloc: Global, definition: Named<'a>) -> Result<(), AllocError>
-        ensures kept { OnOk result ((p : Policy) (done : List Defined) → IsPlaced p definition.entry
-            → IsSurvey p done self.old → IsSurvey p
+        ensures kept { OnOk result ((p : Policy) (done : List Defined)
+            → IsPlaced p definition.entry → IsSurvey p done self.old → IsSurvey p
             (done ++ named_view definition.entry ∷ []) self.new) }
     {
         match self.index.number(definition.kind, definition.name) {
