@@ -1,3 +1,5 @@
+//! Tests of the parser: the entries of a text or its fault, and the texts of members.
+
 use std::alloc::{AllocError, Global};
 use std::test::Fail;
 use sudo_grammar::{Atom, Entry, Expected, ParseFault, Signed, Unsupported};
