@@ -1,5 +1,5 @@
-//! Findings on aliases, by sudoers(5), "Aliases", and the strict check of visudo(8); aliases written out, by cvtsudoers(1),
-//! `-e`. The limits of depth and width are this project's own.
+//! Tests of the findings on aliases, by sudoers(5), "Aliases", and the strict check of visudo(8); and of aliases
+//! written out, by cvtsudoers(1), `-e`. The limits of depth and width are this project's own.
 
 use crate::fixtures::{findings_text, found, kind_text, policy, push_bytes};
 use crate::rows::wrong_rows;
@@ -9,7 +9,7 @@ use sudo_policy::{
     CheckFault, Checked, ExpandFault, Kind, Policy, Signed, check, expand, member_text,
 };
 
-/// Aliases `A1` to `A` and this number, each of which names the next; the last is a command.
+// Defines the aliases `A1` to `A` and `length`, each of which names the next; the last is a command.
 fn chain(alloc: Global, length: u32) -> Result<String, AllocError> {
     let mut text = String::new(alloc);
     for number in 1..length {
@@ -22,7 +22,7 @@ fn chain(alloc: Global, length: u32) -> Result<String, AllocError> {
     Ok(text)
 }
 
-/// Aliases `W0` to `W` and this number, each twice as wide as the one before; the first is a command.
+// Defines the aliases `W0` to `W` and `last`, each twice as wide as the one before; the first is a command.
 fn doubling(alloc: Global, last: u32) -> Result<String, AllocError> {
     let mut text = String::from_str(alloc, "Cmnd_Alias W0 = /bin/ls\n")?;
     for earlier in 0..last {
@@ -51,7 +51,7 @@ fn depth_and_width_are_limited(rt: HostRuntime) -> Result<(), Fail> {
     Ok(())
 }
 
-/// Aliases `A0`, which names itself, to `A` and this number, each of which names the one before ten times.
+// Defines the aliases `A0`, which names itself, to `A` and `last`, each of which names the one before ten times.
 fn hanging(alloc: Global, last: u32) -> Result<String, AllocError> {
     let mut text = String::from_str(alloc, "Cmnd_Alias A0 = A0\n")?;
     for earlier in 0..last {
@@ -79,7 +79,7 @@ fn a_long_way_to_a_cycle_is_on_none(rt: HostRuntime) -> Result<(), Fail> {
     Ok(())
 }
 
-/// Policies, and what is found in them.
+// Policies and their findings.
 const POLICIES: &str = "
 // The empty file.
  =>
@@ -122,7 +122,7 @@ fn findings_by_class_and_place(rt: HostRuntime) -> Result<(), Fail> {
     Ok(())
 }
 
-/// The policy of one file, checked. Fails where it is refused or has errors.
+// Checks the policy of one file. Fails if it is refused or has errors.
 fn checked(alloc: Global, text: &str) -> Result<Checked, Fail> {
     match check(alloc, policy(alloc, text)?) {
         Ok(checked) => Ok(checked),
@@ -130,14 +130,14 @@ fn checked(alloc: Global, text: &str) -> Result<Checked, Fail> {
     }
 }
 
-/// Appends the text of a member, with a `;` after it.
+// Appends the text of a member, with a `;` after it.
 fn push_member(alloc: Global, text: &mut String, member: &Signed) -> Result<(), AllocError> {
     let written = member_text(alloc, member)?;
     push_bytes(text, written.as_slice())?;
     text.push(';')
 }
 
-/// Appends a kind and members.
+// Appends a kind and the texts of members.
 fn push_members(
     alloc: Global,
     text: &mut String,
@@ -156,7 +156,7 @@ fn push_fault(alloc: Global, text: &mut String, fault: ExpandFault) -> Result<()
     text.push_str(told.as_str())
 }
 
-/// Appends the members of the alias `X` of a kind, if there is one.
+// Appends the members of the alias `X` of a kind, if any.
 fn push_alias(
     alloc: Global,
     text: &mut String,
@@ -170,7 +170,7 @@ fn push_alias(
     }
 }
 
-/// The members of the aliases `X` of all kinds.
+// Returns the members of the aliases `X` of all kinds.
 fn aliases(alloc: Global, checked: &Checked) -> Result<String, AllocError> {
     let mut text = String::new(alloc);
     push_alias(alloc, &mut text, checked, Kind::User)?;
@@ -180,7 +180,7 @@ fn aliases(alloc: Global, checked: &Checked) -> Result<String, AllocError> {
     Ok(text)
 }
 
-/// The aliases `X` of a policy, written out, or why it is not accepted.
+// Returns the aliases `X` of a policy, written out, or the reason why it is not accepted.
 fn written_of(alloc: Global, policy: Policy) -> Result<String, AllocError> {
     match check(alloc, policy) {
         Ok(checked) => aliases(alloc, &checked),
@@ -188,7 +188,7 @@ fn written_of(alloc: Global, policy: Policy) -> Result<String, AllocError> {
     }
 }
 
-/// The aliases `X` of the policy of one file, written out.
+// Returns the aliases `X` of the policy of one file, written out.
 fn written_out(alloc: Global, text: &str) -> Result<String, AllocError> {
     match policy(alloc, text) {
         Ok(policy) => written_of(alloc, policy),
@@ -196,7 +196,7 @@ fn written_out(alloc: Global, text: &str) -> Result<String, AllocError> {
     }
 }
 
-/// Policies, and the members of their aliases `X`.
+// Policies and the members of their aliases `X`.
 const ALIASES: &str = "
 // In order, each with its sign.
 Cmnd_Alias X = /bin/*, !/bin/su => cmnd /bin/*;!/bin/su;
@@ -222,7 +222,7 @@ fn aliases_written_out(rt: HostRuntime) -> Result<(), Fail> {
     Ok(())
 }
 
-/// How many members a command alias has when it is written out.
+// Returns the number of a command alias's members when it is written out.
 fn width(alloc: Global, checked: &Checked, name: &[u8]) -> Result<usize, ExpandFault> {
     let members = expand(alloc, checked, Kind::Cmnd, name)?;
     Ok(members.len())
@@ -247,7 +247,7 @@ fn a_wide_alias_is_written_out(rt: HostRuntime) -> Result<(), Fail> {
     Ok(())
 }
 
-/// What a policy was not accepted for, if it is handed back as it was.
+// Returns the fault for which a policy was not accepted, if the policy is handed back unchanged.
 fn refusal(alloc: Global, fault: &CheckFault, given: &Policy) -> Result<String, AllocError> {
     match fault {
         CheckFault::Findings(back, findings) if back == given => {
@@ -258,7 +258,7 @@ fn refusal(alloc: Global, fault: &CheckFault, given: &Policy) -> Result<String, 
     }
 }
 
-/// What the policy of one file is not accepted for, if it is handed back as it was.
+// Returns the fault for which the policy of one file is not accepted, if the policy is handed back unchanged.
 fn refused(alloc: Global, text: &str) -> Result<String, Fail> {
     let same = policy(alloc, text)?;
     match check(alloc, policy(alloc, text)?) {

@@ -1,11 +1,11 @@
-//! What is handed in, and what is made of it, as text.
+//! Supplies of files and folders, and the text of what is loaded and found.
 
 use std::alloc::{AllocError, Global};
 use sudo_load::{LoadFault, Supply, Want, load};
 use sudo_policy::{Class, Finding, Kind, ParseFault, Policy, findings};
 use sudo_text::{Place, Seq, TextFault};
 
-/// A file of this text.
+/// Creates the supply of a file with this text.
 pub(crate) fn file(alloc: Global, path: &str, text: &str) -> Result<Supply, AllocError> {
     Ok(Supply::File {
         path: Seq::from_slice(alloc, path.as_bytes())?,
@@ -13,7 +13,7 @@ pub(crate) fn file(alloc: Global, path: &str, text: &str) -> Result<Supply, Allo
     })
 }
 
-/// A file that is not there.
+/// Creates the supply of a file that does not exist.
 pub(crate) fn missing(alloc: Global, path: &str) -> Result<Supply, AllocError> {
     Ok(Supply::File {
         path: Seq::from_slice(alloc, path.as_bytes())?,
@@ -21,7 +21,7 @@ pub(crate) fn missing(alloc: Global, path: &str) -> Result<Supply, AllocError> {
     })
 }
 
-/// A folder with the files of these names, one a line.
+/// Creates the supply of a folder with the files of these names, one a line.
 pub(crate) fn folder(alloc: Global, path: &str, lines: &str) -> Result<Supply, AllocError> {
     let mut names = Seq::new(alloc);
     for name in lines.lines() {
@@ -33,7 +33,7 @@ pub(crate) fn folder(alloc: Global, path: &str, lines: &str) -> Result<Supply, A
     })
 }
 
-/// Appends bytes of ASCII.
+/// Appends ASCII bytes.
 pub(crate) fn push_bytes(text: &mut String, bytes: &[u8]) -> Result<(), AllocError> {
     for byte in bytes {
         text.push(char::from(*byte))?;
@@ -41,7 +41,7 @@ pub(crate) fn push_bytes(text: &mut String, bytes: &[u8]) -> Result<(), AllocErr
     Ok(())
 }
 
-/// Appends the number of a place's file, the file's path, or `no file`, and the line.
+// Appends the number of a place's file, the file's path or `no file`, and the line.
 fn push_place(
     alloc: Global,
     text: &mut String,
@@ -58,7 +58,7 @@ fn push_place(
     text.push_str(line.as_str())
 }
 
-/// The places of a policy's entries in order, each with a space after it.
+/// Returns the places of a policy's entries in order, each with a space after it.
 pub(crate) fn places(alloc: Global, policy: &Policy) -> Result<String, AllocError> {
     let mut text = String::new(alloc);
     for entry in &policy.entries {
@@ -101,7 +101,7 @@ fn place_of(fault: &LoadFault) -> Option<Place> {
     }
 }
 
-/// Appends the path that a fault names.
+// Appends the path that a fault names.
 fn push_named(text: &mut String, fault: &LoadFault) -> Result<(), AllocError> {
     match fault {
         LoadFault::Missing { path, .. } => {
@@ -120,7 +120,7 @@ fn push_named(text: &mut String, fault: &LoadFault) -> Result<(), AllocError> {
     }
 }
 
-/// The place of a fault, its text, and how many files were read.
+// Returns the place of a fault, its text, and the number of files read.
 fn refusal(alloc: Global, files: &[Seq<u8>], fault: &LoadFault) -> Result<String, AllocError> {
     let mut text = String::new(alloc);
     if let Some(place) = place_of(fault) {
@@ -135,7 +135,8 @@ fn refusal(alloc: Global, files: &[Seq<u8>], fault: &LoadFault) -> Result<String
     Ok(text)
 }
 
-/// What is loaded: the places of the entries, or the place of the fault, its text, and how many files were read.
+/// Returns the outcome of loading: the places of the entries, or the place of the fault, its text, and the number of
+/// files read.
 pub(crate) fn loaded(
     alloc: Global,
     path: &str,
@@ -148,7 +149,7 @@ pub(crate) fn loaded(
     }
 }
 
-/// The policy of one file, or its fault.
+/// Returns the policy of one file, or its fault.
 pub(crate) fn policy(alloc: Global, text: &str) -> Result<Policy, LoadFault> {
     let supplies: [Supply; 0] = [];
     match load(alloc, b"sudoers", text.as_bytes(), &supplies) {
@@ -177,7 +178,7 @@ pub(crate) fn kind_text(kind: Kind) -> &'static str {
     }
 }
 
-/// Appends the line, class, kind and name of a finding, with a `;` after it.
+// Appends the line, class, kind and name of a finding, with a `;` after it.
 fn push_finding(alloc: Global, text: &mut String, finding: &Finding) -> Result<(), AllocError> {
     let place = format!(in alloc; "{} ", finding.place)?;
     text.push_str(place.as_str())?;
@@ -187,7 +188,7 @@ fn push_finding(alloc: Global, text: &mut String, finding: &Finding) -> Result<(
     text.push(';')
 }
 
-/// The findings, each with a `;` after it.
+/// Returns the findings as text, each with a `;` after it.
 pub(crate) fn findings_text(alloc: Global, findings: &[Finding]) -> Result<String, AllocError> {
     let mut text = String::new(alloc);
     for finding in findings {
@@ -196,13 +197,13 @@ pub(crate) fn findings_text(alloc: Global, findings: &[Finding]) -> Result<Strin
     Ok(text)
 }
 
-/// The findings on a policy.
+// Returns the findings on a policy as text.
 fn found_in(alloc: Global, policy: &Policy) -> Result<String, AllocError> {
     let found = findings(alloc, policy)?;
     findings_text(alloc, found.as_slice())
 }
 
-/// The findings on the policy of one file.
+/// Returns the findings on the policy of one file as text.
 pub(crate) fn found(alloc: Global, text: &str) -> Result<String, AllocError> {
     match policy(alloc, text) {
         Ok(policy) => found_in(alloc, &policy),

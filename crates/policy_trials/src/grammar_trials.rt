@@ -1,4 +1,4 @@
-//! The faults of lines, by the grammar in sudoers(5), "SUDOERS FILE FORMAT". The texts are this project's own.
+//! Tests of the faults of lines, by the grammar in sudoers(5), "SUDOERS FILE FORMAT". The texts are this project's own.
 
 use crate::rows::wrong_rows;
 use std::alloc::{AllocError, Global};
@@ -7,7 +7,7 @@ use sudo_grammar::{Entry, ParseFault};
 use sudo_parser::parse;
 use sudo_text::lines;
 
-/// The entries of a file, or its fault.
+// Returns the entries of a file, or its fault.
 fn read(alloc: Global, text: &str) -> Result<Vec<Entry>, ParseFault> {
     match lines(alloc, 0, text.as_bytes()) {
         Ok(lines) => parse(alloc, &lines),
@@ -15,7 +15,7 @@ fn read(alloc: Global, text: &str) -> Result<Vec<Entry>, ParseFault> {
     }
 }
 
-/// The fault of a file; nothing where it has none.
+// Returns the text of a file's fault; empty if it has none.
 fn fault_of(alloc: Global, text: &str) -> Result<String, AllocError> {
     match read(alloc, text).err() {
         Some(fault) => format!(in alloc; "{fault}"),
@@ -23,7 +23,7 @@ fn fault_of(alloc: Global, text: &str) -> Result<String, AllocError> {
     }
 }
 
-/// Lines that go on with something else than what must stand there: the column, and what must.
+// Syntax errors: the column and the expected token.
 const EXPECTED: &str = "
 // A command: after `=`, `,`, `!`, a tag and a runas.
 alice ALL = => 1:12: syntax error, expected command
@@ -93,7 +93,7 @@ fn what_must_stand_there(rt: HostRuntime) -> Result<(), Fail> {
     Ok(())
 }
 
-/// Lines with another fault, or with none.
+// Lines with another fault, or without one.
 const OTHERS: &str = "
 %:g ALL = ALL => 1: unsupported non-Unix group
 \"%\":g ALL = ALL => 1: unsupported non-Unix group
@@ -143,7 +143,7 @@ fn other_faults(rt: HostRuntime) -> Result<(), Fail> {
     Ok(())
 }
 
-/// So many lines that define a command alias each.
+// Returns `count` lines that each define a command alias.
 fn definitions(alloc: Global, count: u32) -> Result<String, AllocError> {
     let mut text = String::new(alloc);
     for number in 0..count {

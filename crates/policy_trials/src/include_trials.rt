@@ -1,11 +1,12 @@
-//! Includes, by sudoers(5), "Including other files from within sudoers". The limits and the texts are this project's own.
+//! Tests of includes, by sudoers(5), "Including other files from within sudoers". The limits and the texts are this
+//! project's own.
 
 use crate::fixtures::{file, folder, loaded, missing};
 use std::alloc::{AllocError, Global};
 use std::test::Fail;
 use sudo_load::Supply;
 
-/// So many lines of this text.
+// Returns `count` copies of a line.
 fn repeated(alloc: Global, line: &str, count: u32) -> Result<String, AllocError> {
     let mut text = String::new(alloc);
     for _ in 0..count {
@@ -37,7 +38,7 @@ fn what_is_not_there(rt: HostRuntime) -> Result<(), Fail> {
     let alloc = rt.alloc();
     let main = "# one\n@include gone\n";
     let supplies = [missing(alloc, "p/gone")?, folder(alloc, "/d", "")?];
-    // A missing file is refused, a missing folder is as an empty one.
+    // A missing file is refused; a missing folder counts as an empty one.
     assert_eq!(rt;
         loaded(alloc, "p/sudoers", main, &supplies)?.as_str(),
         "0=p/sudoers:2, 2: missing file p/gone, 1 read"
@@ -52,7 +53,7 @@ fn what_is_not_there(rt: HostRuntime) -> Result<(), Fail> {
         .as_str(),
         "0=p/sudoers:2 "
     );
-    // What is not handed in is asked for.
+    // A file or folder that is not provided is requested.
     assert_eq!(rt;
         loaded(alloc, "p/sudoers", "@include /x/y", &supplies)?.as_str(),
         "not handed in file /x/y, 1 read"
@@ -68,7 +69,7 @@ fn what_is_not_there(rt: HostRuntime) -> Result<(), Fail> {
 fn lines_that_include_nothing(rt: HostRuntime) -> Result<(), Fail> {
     let alloc = rt.alloc();
     let supplies: [Supply; 0] = [];
-    // Comments, of which none goes on with the next line.
+    // Comments, none of which continues on the next line.
     let main = "#includex a\n#include1 a\n# old rule \\\nalice ALL = ALL\n";
     assert_eq!(rt;
         loaded(alloc, "p/sudoers", main, &supplies)?.as_str(),
@@ -88,7 +89,7 @@ fn a_path_is_relative_to_the_file_that_names_it(rt: HostRuntime) -> Result<(), F
         file(alloc, "p/q/a", "@include b\n")?,
         file(alloc, "p/q/b", "alice ALL = (\n")?,
     ];
-    // The fault stands in the file that has it, and so does its number.
+    // The fault is in the included file, and has that file's number.
     assert_eq!(rt;
         loaded(alloc, "p/sudoers", "@include q/a", &supplies)?.as_str(),
         "2=p/q/b:1, 1:14: syntax error, expected member, 3 read"
@@ -127,7 +128,7 @@ fn a_file_that_includes_itself(rt: HostRuntime) -> Result<(), Fail> {
 fn files_and_folders_are_counted(rt: HostRuntime) -> Result<(), Fail> {
     let alloc = rt.alloc();
     let supplies: [Supply; 2] = [file(alloc, "a", "")?, folder(alloc, "d", "")?];
-    // The main file is the first reading of a file.
+    // The main file counts as the first reading of a file.
     let main = repeated(alloc, "@include a\n", 1023)?;
     assert_eq!(rt;
         loaded(alloc, "sudoers", main.as_str(), &supplies)?.as_str(),
@@ -138,7 +139,7 @@ fn files_and_folders_are_counted(rt: HostRuntime) -> Result<(), Fail> {
         loaded(alloc, "sudoers", main.as_str(), &supplies)?.as_str(),
         "0=sudoers:1024, 1024: too many files, 1024 read"
     );
-    // Folders are counted apart.
+    // Folders are counted separately.
     let main = repeated(alloc, "@includedir d\n", 1024)?;
     assert_eq!(rt;
         loaded(alloc, "sudoers", main.as_str(), &supplies)?.as_str(),

@@ -1,4 +1,4 @@
-//! Tests of policies as they are written: their tokens, their grammar, their includes, and the findings on their aliases.
+//! Tests of policies as text: their tokens, their grammar, their includes, and the findings on their aliases.
 #![tactic(auto)]
 
 #[cfg(test)]

@@ -1,3 +1,5 @@
+//! Tests of the parser: the entries of a text or its fault, and the texts of members.
+
 use std::alloc::{AllocError, Global};
 use std::test::Fail;
 use sudo_grammar::{Atom, Entry, Expected, ParseFault, Signed, Unsupported};
@@ -6,7 +8,7 @@ use sudo_text::{Ch, Place, Seq, lines};
 
 const PLACE: Place = Place { file: 0, line: 1 };
 
-/// The entries of a text, or why it has none.
+// Returns the entries of a text, or its fault.
 fn read(alloc: Global, text: &[u8]) -> Result<Result<Vec<Entry>, ParseFault>, Fail> {
     let lines = lines(alloc, 0, text)?;
     Ok(parse(alloc, &lines))
@@ -113,7 +115,7 @@ fn faults_stand_where_a_line_cannot_go_on(rt: HostRuntime) -> Result<(), Fail> {
     Ok(())
 }
 
-/// Characters of which no escape gave any, save those behind a `~`.
+// Returns characters, each of them unescaped unless it follows a `~`.
 fn chars(alloc: Global, text: &[u8]) -> Result<Seq<Ch>, AllocError> {
     let mut chars = Seq::new(alloc);
     let mut escaped = false;
@@ -131,7 +133,7 @@ fn chars(alloc: Global, text: &[u8]) -> Result<Seq<Ch>, AllocError> {
     Ok(chars)
 }
 
-/// Whether a member that is not negated has that text.
+// Whether the text of a member that is not negated is `text`.
 fn is_written(alloc: Global, atom: Atom, text: &[u8]) -> Result<bool, Fail> {
     let member = Signed {
         negated: false,

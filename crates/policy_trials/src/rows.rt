@@ -1,10 +1,10 @@
-//! Tables as text: a row a line, with ` =>` between a text and what it must give. A line that begins with `//` is a
+//! Tables as text: one row a line, with ` =>` between a text and the expected result. A line that begins with `//` is a
 //! comment.
 
 use std::alloc::{AllocError, Global};
 
-/// The text of a row and what it must give; `None` for an empty line and a comment. A line without ` =>` must give what
-/// nothing gives.
+// Splits a row into its text and its expected result. Returns `None` for an empty line and a comment. A line without
+// the arrow always fails.
 fn row(line: &str) -> Option<(&str, &str)> {
     if line.is_empty() || line.starts_with("//") {
         return None;
@@ -12,7 +12,7 @@ fn row(line: &str) -> Option<(&str, &str)> {
     Some(line.split_once(" =>").unwrap_or((line, "a row")))
 }
 
-/// The text of a row, where a backquote stands for the end of a line.
+// Returns the text of a row, with each backquote replaced by a newline.
 fn unfolded(alloc: Global, text: &str) -> Result<String, AllocError> {
     let mut lines = String::new(alloc);
     for c in text.chars() {
@@ -21,7 +21,7 @@ fn unfolded(alloc: Global, text: &str) -> Result<String, AllocError> {
     Ok(lines)
 }
 
-/// Appends a row that gives something else, with that.
+// Appends the row and its actual result, if that differs from the expected one.
 fn compare(
     alloc: Global,
     wrong: &mut String,
@@ -36,7 +36,7 @@ fn compare(
     wrong.push_str(found.as_str())
 }
 
-/// What the text of a row gives.
+// Returns the result for the text of a row.
 fn given<S>(alloc: Global, text: &str, shown: &S) -> Result<String, AllocError>
 where
     S: Fn(Global, &str) -> Result<String, AllocError>,
@@ -46,7 +46,7 @@ where
     shown(alloc, text.as_str())
 }
 
-/// Appends a row that gives something else, with that.
+// Checks one row: appends the row and its actual result, if that differs from the expected one.
 fn check_row<S>(alloc: Global, wrong: &mut String, line: &str, shown: &S) -> Result<(), AllocError>
 where
     S: Fn(Global, &str) -> Result<String, AllocError>,
@@ -59,7 +59,7 @@ where
     compare(alloc, wrong, line, wanted, given.as_str())
 }
 
-/// The rows of a table whose text gives something else, each with that.
+/// Returns the rows of a table that fail, each with its actual result.
 pub(crate) fn wrong_rows<S>(alloc: Global, table: &str, shown: S) -> Result<String, AllocError>
 where
     S: Fn(Global, &str) -> Result<String, AllocError>,

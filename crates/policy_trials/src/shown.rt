@@ -1,4 +1,4 @@
-//! Tokens as text.
+//! The text of tokens, as the tables write it.
 
 use std::alloc::{AllocError, Global};
 use sudo_text::{Ch, Line, Mark, Seq, TEXT_LIMIT, TextFault, Token, TokenKind, lines, tokens};
@@ -18,7 +18,7 @@ fn mark_text(mark: Mark) -> &'static str {
     }
 }
 
-/// Appends characters, each that an escape gave behind a `~`.
+// Appends characters, with a `~` before each escaped one.
 fn push_chars(text: &mut String, chars: &[Ch]) -> Result<(), AllocError> {
     for ch in chars {
         if ch.escaped {
@@ -43,7 +43,7 @@ fn push_word(text: &mut String, quoted: bool, chars: &[Ch]) -> Result<(), AllocE
     push_chars(text, chars)
 }
 
-/// Appends the arguments of a command, behind a `|`.
+// Appends a `|` and the arguments of a command.
 fn push_arguments(text: &mut String, args: &[Ch]) -> Result<(), AllocError> {
     text.push('|')?;
     push_chars(text, args)
@@ -68,7 +68,7 @@ fn push_include(
     push_chars(text, path)
 }
 
-/// Appends what a token is.
+// Appends the kind and content of a token.
 fn push_kind(text: &mut String, kind: &TokenKind) -> Result<(), AllocError> {
     match kind {
         TokenKind::Word { quoted, chars } => push_word(text, *quoted, chars.as_slice()),
@@ -80,7 +80,7 @@ fn push_kind(text: &mut String, kind: &TokenKind) -> Result<(), AllocError> {
     }
 }
 
-/// Appends where a token begins and ends, what it is, and a `;`.
+// Appends the start and the end of a token, its kind and content, and a `;`.
 fn push_token(alloc: Global, text: &mut String, token: &Token) -> Result<(), AllocError> {
     let span = format!(in alloc; "{}-{} ", token.start, token.end)?;
     text.push_str(span.as_str())?;
@@ -100,7 +100,7 @@ fn push_fault(alloc: Global, text: &mut String, fault: TextFault) -> Result<(), 
     text.push_str(fault.as_str())
 }
 
-/// Appends the tokens of a line, or its fault.
+// Appends the tokens of a line, or its fault.
 fn push_line(alloc: Global, text: &mut String, line: &Line) -> Result<(), AllocError> {
     if line.text.len() > TEXT_LIMIT {
         return text.push_str("too long");
@@ -111,7 +111,7 @@ fn push_line(alloc: Global, text: &mut String, line: &Line) -> Result<(), AllocE
     }
 }
 
-/// Appends lines, with a `/` between two.
+// Appends lines, with a `/` between two.
 fn push_lines(alloc: Global, text: &mut String, lines: &[Line]) -> Result<(), AllocError> {
     let mut between = "";
     for line in lines {
@@ -122,8 +122,8 @@ fn push_lines(alloc: Global, text: &mut String, lines: &[Line]) -> Result<(), Al
     Ok(())
 }
 
-/// The tokens of a text's lines, with a `;` after each token and a `/` between two lines; a faulty line shows its fault,
-/// and a text that has no lines the fault of the text.
+/// Returns the tokens of a text's lines, with a `;` after each token and a `/` between two lines. A faulty line shows
+/// its fault, and a text without lines shows the text's fault.
 pub(crate) fn tokens_of(alloc: Global, text: &str) -> Result<String, AllocError> {
     let mut shown = String::new(alloc);
     match lines(alloc, 0, text.as_bytes()) {

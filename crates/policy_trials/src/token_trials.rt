@@ -1,11 +1,11 @@
-//! Tokens, by sudoers(5), "SUDOERS FILE FORMAT" and "Other special characters and reserved words". Where a row is this
-//! project's own choice its comment says so.
+//! Tests of tokens, by sudoers(5), "SUDOERS FILE FORMAT" and "Other special characters and reserved words". A row that
+//! is this project's own choice has a comment that says so.
 
 use crate::rows::wrong_rows;
 use crate::shown::tokens_of;
 use std::test::Fail;
 
-/// Comments and numbers.
+// Comments and numbers.
 const NUMBERS: &str = "
 // `#` begins a comment, but where a user may stand and digits follow, where it begins a user ID: first in a line,
 // and after a mark that a user may follow.
@@ -29,7 +29,7 @@ a,#b => 0-1 word:a;1-2 ,;
 a # \x07 \" \\x => 0-1 word:a;
 ";
 
-/// Lines of Defaults.
+// Lines of Defaults.
 const DEFAULTS: &str = "
 // A tab between the keyword and its parameter, and a value in quotes that has a mark in it.
 Defaults\tsecure_path=\"/usr/local/sbin:/usr/bin\" => 0-8 word:Defaults;9-20 word:secure_path;20-21 =;21-47 quoted:/usr/local/sbin:/usr/bin;
@@ -57,7 +57,7 @@ Defaults!/bin/ls -l => 0-8 word:Defaults;8-9 !;9-16 command:/bin/ls;17-19 word:-
 Defaults!sudoedit /a => 0-8 word:Defaults;8-9 !;9-17 command:sudoedit;18-20 command:/a;
 ";
 
-/// Commands.
+// Commands.
 const COMMANDS: &str = "
 // A run of blanks between arguments is one space, none stands before or after them.
 /bin/ls  -l \t x  , b => 0-15 command:/bin/ls|-l x;17-18 ,;19-20 word:b;
@@ -82,7 +82,7 @@ sudoedit!x => 0-10 command:sudoedit!x;
 sudoedit(x => 0-10 command:sudoedit(x;
 ";
 
-/// Words, quoted words and include lines.
+// Words, quoted words and include lines.
 const WORDS: &str = "
 // A group ID: `#` directly after the `%` that begins a word.
 %#5 => 0-3 word:%#5;
@@ -118,7 +118,7 @@ a \\`# b => 0-1 word:a;
 a\r`\tb\r => 0-1 word:a;/0-1 word:b;
 ";
 
-/// Faults: the leftmost one decides.
+// Faults: the leftmost one decides.
 const FAULTS: &str = "
 \"alice ALL = ALL => 1:1: bad quote
 a \"b => 1:3: bad quote

@@ -1,4 +1,4 @@
--- Laws of rows by their names, for the code that fills `Names` row by row.
+-- Lemmas on the index of rows by their names, for the code that fills `Names` row by row.
 use Rattle.std.proofs.Common.{◌≡◌, ℕ, zero, suc, ◌+◌, Bool, true, false, ◌||◌, List, [], ◌∷◌, ◌++◌, take, refl, ap, sym, ◌∙◌, Some, None, Option, arith, cond}
 use Rattle.std.specs.Prelude.{slice_get, find, is_some, bytes_eq, option_and_then}
 use Rattle.std.specs.List.{list_any}

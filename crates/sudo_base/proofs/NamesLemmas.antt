@@ -1,4 +1,4 @@
--- Names with places, against the map that holds them.
+-- Names with their indices, compared with the map that contains them.
 use Rattle.std.proofs.Common.{◌≡◌, ℕ, List, [], ◌∷◌, ◌++◌, Option, None, Some, Bool, true, false, map, refl, ap, cond}
 use Rattle.std.specs.Prelude.{Vec, bytes_eq}
 use Rattle.std.specs.Map.{lookup}

@@ -1,4 +1,4 @@
--- What the private map of names shows; only the model of `Names` needs it.
+-- The model of the private map of names; only the model of `Names` uses it.
 use Rattle.std.specs.Prelude.{ℕ, List, Vec}
 use Rattle.std.specs.declared.alloc.Global.{Global}
 

@@ -1,4 +1,4 @@
-//! What every crate of the policy and of the audit stands on: lists that contracts see as lists, and maps from names to
+//! The base of all crates of the policy and of the audit: lists that contracts see as lists, and maps from names to
 //! numbers.
 #![tactic(auto)]
 

@@ -1,4 +1,4 @@
-//! Names with the places that they stand for.
+//! A map from names to numbers.
 ghost use Rattle.std.specs.Prelude.{◌≡◌, List, [], ◌∷◌, ◌++◌, None, OnOk, OnErr};
 ghost use Rattle.sudo_base.specs.Places.{place_of};
 
@@ -6,7 +6,7 @@ use indexmap::IndexMap;
 use std::alloc::{AllocError, Global};
 use std::marker::Model;
 
-/// Names, each with a place, in the order in which they came. Contracts see the list of names with their places.
+/// A map from names to the indices that they stand for, in order of insertion. Contracts see the list of pairs.
 #[derive(Drop)]
 pub struct Names {
     places: IndexMap<Vec<u8>, usize>,
@@ -22,7 +22,7 @@ impl Model for Names {
 }
 
 impl Names {
-    /// No names, which takes no memory.
+    /// Creates an empty map. Does not allocate.
     pub fn new(alloc: Global) -> Names
         ensures { result ≡ [] }
     {
@@ -31,14 +31,14 @@ impl Names {
         }
     }
 
-    /// The place of a name, `None` exactly where it has none. Takes no memory.
+    /// Returns the index of a name, or `None` if the map does not contain it. Does not allocate.
     pub fn get(&self, name: &[u8]) -> Option<usize>
         ensures { result ≡ place_of self.now name.now }
     {
         self.places.get(name).copied()
     }
 
-    /// Adds a new name. Fails only where memory was refused, and then nothing changes.
+    /// Inserts a new name. Returns `AllocError` if allocation fails; the map is then unchanged.
     pub fn insert(&mut self, alloc: Global, name: &[u8], place: usize) -> Result<(), AllocError>
         requires { place_of self.old name.now ≡ None }
         ensures ok { OnOk result (self.new ≡ self.old ++ (name.now, place) ∷ []) }

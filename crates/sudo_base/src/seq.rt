@@ -16,7 +16,7 @@ use std::marker::Model;
 use std::ops::DerefSlice;
 use std::{fmt, slice};
 
-/// A `Vec` that contracts see as the list of its items, so that what it holds is plain data.
+/// A `Vec` whose contents contracts see as a list, so that a type that contains one is plain data.
 #[derive(Drop)]
 pub struct Seq<T> {
     items: Vec<T>,
@@ -34,7 +34,7 @@ impl<T> Model for Seq<T> {
 }
 
 impl<T> Seq<T> {
-    /// An empty list, which takes no memory.
+    /// Creates an empty list. Does not allocate.
     pub fn new(alloc: Global) -> Seq<T>
         ensures { result ≡ [] }
     {
@@ -43,14 +43,14 @@ impl<T> Seq<T> {
         }
     }
 
-    /// The items of the vector, which takes no memory.
+    /// Creates a list of the items of `vector`. Does not allocate.
     pub fn from_vec(vector: Vec<T>) -> Seq<T>
         ensures { result ≡ vector.items }
     {
         Seq { items: vector }
     }
 
-    /// The vector of the items, which takes no memory.
+    /// Returns the vector of the items. Does not allocate.
     pub fn into_vec(self) -> Vec<T>
         ensures { result.items ≡ self }
     {
@@ -58,35 +58,35 @@ impl<T> Seq<T> {
         items
     }
 
-    /// The items.
+    /// Returns the items as a slice.
     pub fn as_slice(&self) -> &[T]
         ensures { result.now ≡ self.now }
     {
         self.items.as_slice()
     }
 
-    /// How many items there are.
+    /// Returns the number of items.
     pub fn len(&self) -> usize
         ensures { result ≡ length self.now }
     {
         self.items.len()
     }
 
-    /// Whether there is no item.
+    /// Whether the list is empty.
     pub fn is_empty(&self) -> bool
         ensures { IsTrue result ↔ (self.now ≡ []) }
     {
         self.items.is_empty()
     }
 
-    /// The item at an index, `None` exactly past the end.
+    /// Returns the item at the index `at`, or `None` if `at` is past the end.
     pub fn get(&self, at: usize) -> Option<&T>
         ensures { option_copied result ≡ slice_get self.now at }
     {
         self.items.get(at)
     }
 
-    /// Takes the last item off, `None` exactly where there is none.
+    /// Removes the last item and returns it, or `None` if the list is empty.
     pub fn pop(&mut self) -> Option<T>
         ensures { MatchOption result ((self.old ≡ []) × (self.new ≡ []))
             (λ last. self.old ≡ self.new ++ last ∷ []) }
@@ -96,7 +96,7 @@ impl<T> Seq<T> {
 }
 
 impl<T: Drop> Seq<T> {
-    /// Puts an item at the end. Fails only where memory was refused, and then nothing changes.
+    /// Appends an item. Returns `AllocError` if allocation fails; the list is then unchanged.
     pub fn push(&mut self, item: T) -> Result<(), AllocError>
         ensures ok { OnOk result (self.new ≡ self.old ++ item ∷ []) }
         ensures err { OnErr result (self.new ≡ self.old) }
@@ -107,7 +107,7 @@ impl<T: Drop> Seq<T> {
 }
 
 impl<T: Drop> Seq<T> {
-    /// Moves the items of another list to the end. Fails only where memory was refused, and then nothing changes.
+    /// Moves the items of `more` to the end. Returns `AllocError` if allocation fails; the list is then unchanged.
     pub fn append(&mut self, more: Seq<T>) -> Result<(), AllocError>
         ensures ok { OnOk result (self.new ≡ self.old ++ more) }
         ensures err { OnErr result (self.new ≡ self.old) }
@@ -118,7 +118,7 @@ impl<T: Drop> Seq<T> {
 }
 
 impl<T: Copy> Seq<T> {
-    /// Puts copies of the items of a slice at the end. Fails only where memory was refused, and then nothing changes.
+    /// Appends copies of the items of `more`. Returns `AllocError` if allocation fails; the list is then unchanged.
     pub fn extend_from_slice(&mut self, more: &[T]) -> Result<(), AllocError>
         ensures ok { OnOk result (self.new ≡ self.old ++ more.now) }
         ensures err { OnErr result (self.new ≡ self.old) }
@@ -126,7 +126,7 @@ impl<T: Copy> Seq<T> {
         self.items.extend_from_slice(more)
     }
 
-    /// A copy of a slice. Fails only where memory was refused.
+    /// Copies a slice into a new list. Returns `AllocError` if allocation fails.
     pub fn from_slice(alloc: Global, items: &[T]) -> Result<Seq<T>, AllocError>
         ensures { IfOk result (λ s. s ≡ items.now) }
     {

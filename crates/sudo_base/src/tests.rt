@@ -1,4 +1,4 @@
-//! Names looked up.
+//! Tests of the map from names.
 
 use crate::Names;
 use std::test::Fail;

@@ -1,4 +1,4 @@
--- What is read is within the limits of definitions.
+-- An entry that is read is within the limits of definitions.
 use Rattle.std.proofs.Common.{cond, ◌≡◌, ℕ, suc, ◌+◌, ◌≤◌, ◌<◌, List, [], ◌∷◌, ◌++◌, length, refl, ap, sym, ◌∙◌, arith, length-append, ltb, ltb-true, None, Some, Result, Ok, Err, true, false, Bool}
 use Rattle.sudo_text.specs.declared.token.Token.{Token}
 use Rattle.sudo_grammar.specs.declared.kind.Kind.{Kind}

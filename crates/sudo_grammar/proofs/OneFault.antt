@@ -1,4 +1,4 @@
--- A line has one fault or is one entry; and a place means the forms that are left there.
+-- A line has one fault or is one entry; and each state accepts exactly the remaining forms.
 use Rattle.std.proofs.Common.{cond, inl, inr, ◌⊎◌, ◌≡◌, List, [], ◌∷◌, ◌++◌, length, refl, ap, sym, ◌∙◌, append-nil, le-ltb, ltb, Option, None, Some, Result, Ok, Err, false}
 use Rattle.sudo_text.specs.declared.token.Token.{Token}
 use Rattle.sudo_grammar.specs.declared.policy.EntryBody.{EntryBody}

@@ -1,5 +1,5 @@
--- What is read is a written form of the entry that is read: from each place the tokens go on by the forms that are left
--- there. One lemma for each step, from the place after a token back to the place before it.
+-- Tokens that are read as an entry are a written form of it: from each state on they have the forms that are left
+-- there. One lemma for each step, from the state after a token back to the state before it.
 use Rattle.std.proofs.Common.{inl, inr, cond, ◌≡◌, ℕ, zero, suc, ◌+◌, List, [], ◌∷◌, ◌++◌, length, refl, zero-add, add-zero, ap, sym, ◌∙◌, subst, append_assoc, append-nil, arith, ltb, Option, None, Some, Result, Ok, Err, true, false, Bool}
 use Rattle.std.proofs.Math.Dec.{eqb-suc-zero}
 use Rattle.sudo_text.specs.declared.token.Mark.TheVariants as marks

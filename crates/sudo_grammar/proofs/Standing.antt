@@ -1,4 +1,4 @@
--- What is expected at a fault could have stood there.
+-- The expected token of a fault could have stood there.
 use Rattle.std.proofs.Common.{cond, ◌≡◌, ℕ, suc, ◌+◌, ◌<◌, List, [], ◌∷◌, ◌++◌, length, refl, ap, sym, ◌∙◌, subst, append-nil, arith, lt-ltb, Option, None, Some, Result, Ok, Err, true, false, Bool}
 use Rattle.std.specs.Prelude.{codes, is_some, ◌&&◌}
 use Rattle.std.specs.Str.{bytes_eq}

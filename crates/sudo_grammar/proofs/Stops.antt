@@ -1,6 +1,6 @@
--- Where a line is no entry, the reading stops at its grammar fault. From each place a line can go on, so that the tokens
--- up to it begin a form; and no form begins with a further token that no step takes, since reading stops there whatever
--- follows.
+-- If a line is no entry, the reading stops at its grammar fault. From each state a line can continue, so that the
+-- tokens up to it begin a form; and no form begins with a further token that no step takes, since reading stops there
+-- whatever follows.
 use Rattle.std.specs.Prelude.{codes, map}
 use Rattle.std.proofs.Common.{cond, inl, inr, ◌⊎◌, ◌≡◌, ℕ, suc, ◌+◌, ◌≤◌, ◌<◌, List, [], ◌∷◌, ◌++◌, length, refl, ap, sym, ◌∙◌, subst, append_assoc, append-nil, arith, ltb, ltb-true, lt-ltb, ltb-false, Option, None, Some, Result, Ok, Err, true, false, Bool}
 use Rattle.sudo_text.specs.declared.token.Mark.{Mark}

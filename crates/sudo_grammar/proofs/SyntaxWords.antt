@@ -1,4 +1,4 @@
--- A token that is no member for want of one is refused with the word of its kind of list.
+-- A token that a syntax error refuses as a member is refused with the expected word of its kind of list.
 use Rattle.std.proofs.Common.{cond, ◌≡◌, ℕ, List, [], ◌∷◌, subst, Option, None, Some, Result, Ok, Err, true, false, Bool}
 use Rattle.std.specs.Option.{option_map, option_and_then}
 use Rattle.sudo_text.specs.declared.token.Ch.{Ch}

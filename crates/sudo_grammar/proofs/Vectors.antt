@@ -1,5 +1,5 @@
--- Worked lines, which compute: a wrong one fails the check. Tokens stand at their places in the line, so that 'directly
--- after' is tested, and a fault is given by its column.
+-- Worked lines, each by computation: a wrong one fails the check. Tokens have their offsets in the line, so that
+-- 'directly after' is tested, and a fault is given by its column.
 use Rattle.std.proofs.Common.{◌≡◌, ℕ, suc, ◌+◌, List, [], ◌∷◌, ◌++◌, length, refl, None, Some, Result, Ok, Err, true, false}
 use Rattle.std.specs.Prelude.{map, codes}
 use Prim.Native.String.{String}

@@ -1,4 +1,4 @@
--- The grammar fault of a line: where it stands is said by prefixes of forms alone, and what was expected there by
+-- The grammar fault of a line: its position is defined by prefixes of forms alone, and the expected token by
 -- `Refusals`.
 use Rattle.std.specs.Prelude.{◌≡◌, ℕ, ◌≤◌, List, [], ◌∷◌, ◌++◌, length, Some, ◌⊎◌}
 use Rattle.sudo_text.specs.declared.token.Token.{Token}
@@ -12,7 +12,7 @@ use Rattle.sudo_grammar.specs.Places.{Room, Place, Start, AliasName, place_after
 use Rattle.sudo_grammar.specs.Refusals.{refused_at}
 use Rattle.sudo_grammar.specs.Reading.{Stop}
 
--- A form of some entry begins so.
+-- the tokens begin a form of some entry
 abbrev pub Begins : List Token → Type 0
 Begins front = (e : EntryBody) × (rest : List Token) × Writes e (front ++ rest)
 
@@ -21,23 +21,23 @@ abbrev pub HasRoom : Room → EntryBody → Type 0
 HasRoom room (entries.Aliases kind ds) = length ds ≤ room kind
 HasRoom room _ = Unit {0}
 
--- the entry that the tokens write, within the limits
+-- the tokens write the entry, within the limits
 abbrev pub WritesWithin : Room → EntryBody → List Token → Type 0
 WritesWithin room e ts = Writes e ts × HasRoom room e
 
--- the name after these tokens would be that of a definition over the limit
+-- the name after these tokens would be the name of a definition over the limit
 abbrev pub IsOneTooMany : Room → List Token → Token → Type 0
 IsOneTooMany room front t = (kind : Kind) × ((done : List Definition) × ((w : List ℕ) ×
     ((place_after room Start front ≡ Some (AliasName kind done)) × (name_of t.kind ≡ Some w) × (room kind ≤ length done))))
 
--- The line can't go on after the front with the next token, or end there.
+-- the line cannot continue after the front with the next token, or end there
 abbrev pub IsStuck : Room → List Token → List Token → Type 0
 IsStuck room front [] = (e : EntryBody) → Writes e front → ⊥
 IsStuck room front (t ∷ ts) = (Begins (front ++ t ∷ []) → ⊥) ⊎ IsOneTooMany room front t
 
--- The line's fault: it stands at the first of the tokens up to which no form begins so, or which is the name of a
--- definition over the limit, or at the end of the line; and the place decides what is refused there. (An option such as
--- `CWD=` stands at its `=`; it is refused without a column.)
+-- the line's fault: it is at the first token up to which the tokens begin no form, or which is the name of a definition
+-- over the limit, or at the end of the line; the state before it decides the refusal; an option such as `CWD=` is
+-- refused at its `=`, without a column
 pub record IsGrammarFault (room : Room) (ts : List Token) (stop : Stop) : Type 0 where
   pub front : List Token
   pub whole : ts ≡ front ++ stop.rest

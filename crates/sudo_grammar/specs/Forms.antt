@@ -13,8 +13,8 @@
 --     binding  = ('@' hostlist | ':' userlist | '!' cmndlist | '>' runaslist)
 --     param    = '!'* word | word ('=' | '+=' | '-=') word
 --
--- Beside the EBNF stand three facts, each at its form: a name of a tag that a colon follows is a tag, a rule begins with
--- no keyword, and what stands directly after `Defaults` is a binding mark.
+-- Three facts are added to the EBNF, each at its form: a name of a tag that a colon follows is a tag, a rule begins with
+-- no keyword, and a token directly after `Defaults` is a binding mark.
 use Rattle.std.specs.Prelude.{◌≡◌, ℕ, zero, suc, List, [], ◌∷◌, Option, None, Some, Ok, Bool, true, false, ◌⊎◌, ◌==◌, if◌then◌else◌}
 use Rattle.sudo_text.specs.declared.token.Mark.{Mark}
 use Rattle.sudo_text.specs.declared.token.Mark.TheVariants as marks
@@ -47,7 +47,7 @@ Form = List Token → List Token → Type 0
 abbrev pub nothing : Form
 nothing ts rest = ts ≡ rest
 
--- no tokens at all are of this form
+-- no list of tokens has this form
 abbrev pub never : Form
 never ts rest = ⊥
 
@@ -56,7 +56,7 @@ infixr 30 ◌▸◌
 abbrev pub ◌▸◌ : Form → Form → Form
 (F ▸ G) ts rest = (middle : List Token) × (F ts middle × G middle rest)
 
--- one token of which a fact holds
+-- one token with a given property
 abbrev pub one : (Token → Type 0) → Form
 one P [] rest = ⊥
 one P (t ∷ ts) rest = P t × (ts ≡ rest)
@@ -102,20 +102,20 @@ abbrev pub definitions : Kind → List Definition → Form
 definitions kind [] = never
 definitions kind (d ∷ ds) = definition kind d ▸ more_definitions kind ds
 
--- a fact, and no token
+-- a proposition, without a token
 abbrev pub only : Type 0 → Form
 only P ts rest = P × (ts ≡ rest)
 
--- either form
+-- one of two forms
 abbrev pub either : Form → Form → Form
 either F G ts rest = F ts rest ⊎ G ts rest
 
--- a form, where there is something to write
+-- a form of the value, or no token if there is none
 abbrev pub optional : {A : Type 0} → (A → Form) → Option A → Form
 optional F None = nothing
 optional F (Some x) = F x
 
--- the groups to run as; a colon with no group after it says nothing
+-- the groups to run as; a colon without a group has no effect
 abbrev pub groups : Option (List Member) → Form
 groups None = either nothing (mark marks.Colon)
 groups (Some ms) = mark marks.Colon ▸ list kinds.Runas ms
@@ -163,7 +163,7 @@ abbrev pub sections : List Section → Form
 sections [] = never
 sections (s ∷ ss) = section s ▸ more_sections s ss
 
--- what the next token is of, where there is one
+-- a property of the next token, which must exist
 abbrev pub ahead : (Token → Type 0) → Form
 ahead P [] rest = ⊥
 ahead P (t ∷ ts) rest = P t × (t ∷ ts ≡ rest)
@@ -175,7 +175,7 @@ rule users ss = ahead (λ t. opening_of t.kind ≡ openings.Other) ▸ list kind
 abbrev pub binding_mark : Kind → Form
 binding_mark kind = one (λ t. (is_direct t ≡ true) × (kind_of_mark t.kind ≡ Some kind))
 
--- what the line is bound to; where it is bound to nothing, nothing stands directly after `Defaults`
+-- the binding of the line; a line without one has no token directly after `Defaults`
 abbrev pub binding : Option Binding → Form
 binding None = ahead (λ t. is_direct t ≡ false)
 binding (Some (bindings.Hosts ms)) = binding_mark kinds.Host ▸ list kinds.Host ms
@@ -183,7 +183,7 @@ binding (Some (bindings.Users ms)) = binding_mark kinds.User ▸ list kinds.User
 binding (Some (bindings.Commands ms)) = binding_mark kinds.Cmnd ▸ list kinds.Cmnd ms
 binding (Some (bindings.Runas ms)) = binding_mark kinds.Runas ▸ list kinds.Runas ms
 
--- that token, a word
+-- the given token, which is a word
 abbrev pub the_word : Token → Form
 the_word w = one (λ t. (t ≡ w) × (is_word t.kind ≡ true))
 
@@ -217,6 +217,6 @@ entry (entries.Defaults b xs) = defaults b xs
 entry (entries.Rule users ss) = rule users ss
 entry (entries.Include folder hash path) = include folder hash path
 
--- The tokens are a written form of the entry.
+-- the tokens are a written form of the entry
 abbrev pub Writes : EntryBody → List Token → Type 0
 Writes e ts = entry e ts []

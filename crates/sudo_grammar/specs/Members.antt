@@ -1,5 +1,5 @@
--- What a token stands for as a member of a list, and why it is none: sudoers(5), "Aliases" and "SUDOERS FILE FORMAT".
--- A reader checks this file against the manual page's descriptions of User_List, Runas_List, Host_List and Cmnd_List.
+-- The meaning of a token as a member of a list, or its refusal: sudoers(5), "Aliases" and "SUDOERS FILE FORMAT". A
+-- reader checks this file against the manual page's descriptions of User_List, Runas_List, Host_List and Cmnd_List.
 use Rattle.std.specs.Prelude.{ℕ, ◌+◌, ◌-◌, ◌*◌, ◌^◌, Bool, true, false, not, ◌&&◌, ◌==◌, nat_le, nat_lt, List, [], ◌∷◌, length, Option, None, Some, Result, Ok, Err, if◌then◌else◌, codes, take, drop, position, slice_get}
 use Rattle.std.specs.Option.{option_map, option_and_then}
 use Rattle.std.specs.List.{list_all, list_any}
@@ -19,16 +19,16 @@ use Rattle.sudo_grammar.specs.declared.fault.Refusal.TheVariants as refusals
 use Rattle.sudo_text.specs.Bytes.{is_digit}
 use Rattle.sudo_grammar.specs.Words.{bytes_of, is_plain, plain_word, is_name}
 
--- what must stand in a list of a kind
+-- the expected token in a list of a kind
 abbrev pub expected_in : Kind → Expected
 expected_in kinds.Cmnd = wants.Command
 expected_in _ = wants.Member
 
--- no user, group or host, but a syntax error
+-- the refusal of an empty user, group or host
 abbrev pub no_member : Refusal
 no_member = refusals.Syntax wants.Member
 
--- decimal digits on top of a value
+-- the value of decimal digits appended to a value
 abbrev pub decimal_after : ℕ → List ℕ → ℕ
 decimal_after value [] = value
 decimal_after value (b ∷ bs) = decimal_after (10 * value + (b - 48)) bs
@@ -38,7 +38,7 @@ abbrev pub decimal : List ℕ → Option ℕ
 decimal [] = None
 decimal (b ∷ bs) = if list_all is_digit (b ∷ bs) then Some (decimal_after 0 (b ∷ bs)) else None
 
--- the value of decimal digits, where it fits 32 bits
+-- the value, if it fits 32 bits
 abbrev pub in_range : Option ℕ → Option ℕ
 in_range None = None
 in_range (Some n) = if nat_lt n 4294967296 then Some n else None
@@ -54,7 +54,7 @@ ok_number make (Some n) = Ok (make n)
 abbrev pub id_of : (ℕ → Atom) → List ℕ → Result Atom Refusal
 id_of make bytes = ok_number make (number_of bytes)
 
--- what stands after `%`
+-- a group, by the bytes after `%`
 abbrev pub group_of : List ℕ → Result Atom Refusal
 group_of [] = Err no_member
 group_of (b ∷ bs) =
@@ -62,7 +62,7 @@ group_of (b ∷ bs) =
     else if b == 35 then id_of atoms.Gid bs
     else Ok (atoms.Group (b ∷ bs))
 
--- a user, a group, or their kin; escapes matter at the first byte alone
+-- a user, a group, or one of their refused forms; escapes matter at the first byte alone
 abbrev pub user_of : List Ch → Result Atom Refusal
 user_of [] = Err no_member
 user_of (c ∷ cs) =
@@ -80,14 +80,14 @@ cut_at separator bytes = option_map (λ i. (take i bytes, drop (i + 1) bytes)) (
 abbrev pub is_octet : List ℕ → Bool
 is_octet bytes = (nat_lt 0 (length bytes) && nat_lt (length bytes) 4) && list_all is_digit bytes
 
--- the groups of bytes with three dots between
+-- four groups of bytes with three dots between them
 abbrev pub groups_of : List ℕ → Option (List ℕ × List ℕ × List ℕ × List ℕ)
 groups_of bytes = option_and_then (λ p. option_and_then (λ q. option_map (λ r. (p.0, q.0, r.0, r.1)) (cut_at 46 q.1)) (cut_at 46 p.1)) (cut_at 46 bytes)
 
 abbrev pub is_byte : ℕ → Bool
 is_byte n = nat_lt n 256
 
--- the address of four numbers, none of which may be over 255
+-- the address of four numbers; a number over 255 is refused
 abbrev pub joined : ℕ → ℕ → ℕ → ℕ → Result ℕ Refusal
 joined a b c d =
     if ((is_byte a && is_byte b) && is_byte c) && is_byte d
@@ -103,12 +103,12 @@ address_of_groups g =
     option_and_then (λ a. option_and_then (λ b. option_and_then (λ c. option_map (λ d. joined a b c d)
     (octet_of g.3)) (octet_of g.2)) (octet_of g.1)) (octet_of g.0)
 
--- The address that bytes spell: four groups of one to three digits with dots between. None where the shape is
--- another, and a refusal where a group is over 255.
+-- the address that bytes spell: four groups of one to three digits with dots between them; none for bytes of another
+-- shape, and a refusal if a group is over 255
 abbrev pub address_of : List ℕ → Option (Result ℕ Refusal)
 address_of bytes = option_and_then address_of_groups (groups_of bytes)
 
--- the mask of that many leading bits
+-- the mask with the given number of leading bits set
 abbrev pub mask_of_bits : ℕ → Result ℕ Refusal
 mask_of_bits bits = if nat_le bits 32 then Ok (4294967296 - 2 ^ (32 - bits)) else Err refusals.BadNumber
 
@@ -139,7 +139,7 @@ address_or_host chars None = Ok (atoms.Host chars false)
 address_or_host chars (Some (Ok addr)) = Ok (atoms.Address addr)
 address_or_host chars (Some (Err refusal)) = Err refusal
 
--- the byte, with no escape
+-- the given byte, unescaped
 abbrev pub is_bare : ℕ → Option Ch → Bool
 is_bare b None = false
 is_bare b (Some c) = not c.escaped && (c.byte == b)
@@ -166,11 +166,11 @@ host_of quoted (c ∷ cs) =
     else if quoted then Ok (atoms.Host (c ∷ cs) true)
     else unquoted_host_of (c ∷ cs)
 
--- whether the first of them is an unescaped `^`
+-- the first character is an unescaped `^`
 abbrev pub begins_with_caret : List Ch → Bool
 begins_with_caret chars = is_bare 94 (slice_get chars 0)
 
--- whether the last of them is an unescaped `$`
+-- the last character is an unescaped `$`
 abbrev pub ends_in_dollar : List Ch → Bool
 ends_in_dollar chars = is_bare 36 (slice_get chars (length chars - 1))
 
@@ -184,7 +184,7 @@ command_of path args =
     if is_regular_expression args then Err (refusals.Unsupported forms.RegularExpression)
     else Ok (atoms.Command path args)
 
--- why a word is no command
+-- the refusal of a word as a command
 abbrev pub no_command : Bool → List Ch → Refusal
 no_command quoted chars =
     if quoted then refusals.NotCommand
@@ -209,14 +209,14 @@ other_atom kind (tokens.Word quoted chars) = word_atom kind quoted chars
 other_atom kind (tokens.Command path args) = command_atom kind path args
 other_atom kind _ = Err (refusals.Syntax (expected_in kind))
 
--- what an unquoted word without escapes stands for
+-- the meaning of an unquoted word without escapes
 abbrev pub plain_atom : Kind → TokenKind → List ℕ → Result Atom Refusal
 plain_atom kind token w =
     if bytes_eq w (codes "ALL") then Ok atoms.All
     else if is_name w then Ok (atoms.Alias w)
     else other_atom kind token
 
--- what a token stands for in a list of a kind, or why it is no member
+-- the meaning of a token in a list of a kind, or its refusal
 abbrev pub atom_of : Kind → TokenKind → Result Atom Refusal
 atom_of kind token = elim (plain_word token)
     [ Some w ↦ plain_atom kind token w | None ↦ other_atom kind token ]

@@ -1,4 +1,4 @@
--- What the first token of a line says of it, and the words and marks of a Defaults line: sudoers(5), "Aliases",
+-- The kind of line that a first token opens, and the words and marks of a Defaults line: sudoers(5), "Aliases",
 -- "Defaults" and "Including other files from within sudoers". Keywords and `Defaults` are unquoted words without
 -- escapes, and count at the start of a line alone.
 use Rattle.std.specs.Prelude.{ℕ, Bool, true, false, not, ◌&&◌, ◌||◌, ◌==◌, List, [], ◌∷◌, Option, None, Some, if◌then◌else◌, codes}
@@ -20,7 +20,7 @@ pub data Opening : Type 0 where
   Keyword : (kind : Kind) → Opening
   -- `Defaults`
   DefaultsLine : Opening
-  -- an include directive that can be followed
+  -- an include directive that can be resolved
   Directive : (folder hash : Bool) → (path : List Ch) → Opening
   -- an include directive without a path, or with `%h` in it
   BadDirective : (path : List Ch) → Opening
@@ -59,8 +59,8 @@ kind_of_mark (tokens.Mark marks.Bang) = Some kinds.Cmnd
 kind_of_mark (tokens.Mark marks.Greater) = Some kinds.Runas
 kind_of_mark _ = None
 
--- The token stands directly after the eight bytes of `Defaults`. There a mark binds the line to a list, and nothing else
--- may stand: `Defaults!x` is bound, `Defaults !x` has a parameter, `Defaults,x` and `Defaults"x"` can't go on.
+-- the token directly follows the eight bytes of `Defaults`; there a mark binds the line to a list, and no other token
+-- is allowed: `Defaults!x` is bound, `Defaults !x` has a parameter, `Defaults,x` and `Defaults"x"` are refused
 abbrev pub is_direct : Token → Bool
 is_direct t = t.start == 8
 
@@ -79,7 +79,7 @@ abbrev pub spells : (List ℕ → Bool) → Option (List ℕ) → Bool
 spells test None = false
 spells test (Some w) = test w
 
--- the one character `%` without an escape, in quotes or not
+-- the single character `%`, unescaped, in quotes or not
 abbrev pub is_percent_sign : List Ch → Bool
 is_percent_sign (c ∷ []) = not c.escaped && (c.byte == 37)
 is_percent_sign _ = false
@@ -88,13 +88,13 @@ abbrev pub is_percent : TokenKind → Bool
 is_percent (tokens.Word quoted chars) = is_percent_sign chars
 is_percent _ = false
 
--- a colon or an equals sign, which alone are asked for
+-- equality of marks, for the colon and the equals sign alone
 abbrev pub is_equal_mark : Mark → Mark → Bool
 is_equal_mark marks.Colon marks.Colon = true
 is_equal_mark marks.Equals marks.Equals = true
 is_equal_mark _ _ = false
 
--- the token is that mark
+-- the token is the given mark
 abbrev pub is_mark : Mark → TokenKind → Bool
 is_mark m (tokens.Mark found) = is_equal_mark m found
 is_mark m _ = false

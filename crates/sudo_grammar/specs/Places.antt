@@ -1,6 +1,6 @@
--- The places of a line: where the reading of its tokens stands, with what it has read. These are the words that the
--- `expected` of a fault needs. What a place means is stated apart from any reading, by the forms that are left there:
--- see `Remaining`, and the law `places_mean_forms`.
+-- The states of the parser in a line, each with the parts that it has read. The `expected` of a fault needs these
+-- definitions. The meaning of a state is stated apart from any reading, by the forms that are left there: see
+-- `Remaining` and the law `places_mean_forms`.
 use Rattle.std.specs.Prelude.{ℕ, zero, suc, nat_lt, Bool, true, false, List, [], ◌∷◌, ◌++◌, length, Option, None, Some, Result, Ok, Err, if◌then◌else◌}
 use Rattle.sudo_text.specs.declared.token.Mark.TheVariants as marks
 use Rattle.sudo_text.specs.declared.token.Token.{Token}
@@ -29,16 +29,16 @@ use Rattle.sudo_grammar.specs.Forms.{as_tag}
 use Rattle.sudo_grammar.specs.Openings.{Opening, Keyword, DefaultsLine, Directive, BadDirective, Other, opening_of, is_direct, kind_of_mark, operator_of}
 use Rattle.sudo_grammar.specs.Members.{atom_of}
 
--- A rule up to a command: its users, the sections before, and the hosts and the commands before of this section.
+-- a rule up to a command: its users, its earlier sections, and the hosts and the earlier commands of this section
 pub record Granting : Type 0 where
   pub users : List Member
   pub sections : List Section
   pub hosts : List Member
   pub commands : List CommandSpec
 
--- What a list is for.
+-- the purpose of a list
 pub data Purpose : Type 0 where
-  -- it is an alias's, after these definitions of its line
+  -- the list of an alias, after these definitions of its line
   Defines : (kind : Kind) → (done : List Definition) → (name : List ℕ) → Purpose
   -- the users of a rule
   Users : Purpose
@@ -48,7 +48,7 @@ pub data Purpose : Type 0 where
   RunasUsers : (granting : Granting) → Purpose
   -- the groups between parentheses, after these users
   RunasGroups : (granting : Granting) → (users : Option (List Member)) → Purpose
-  -- what a Defaults line is bound to
+  -- the list to which a Defaults line is bound
   Binds : (kind : Kind) → Purpose
 
 -- the kind of the list
@@ -60,19 +60,19 @@ kind_for (RunasUsers granting) = kinds.Runas
 kind_for (RunasGroups granting users) = kinds.Runas
 kind_for (Binds kind) = kind
 
--- The places of a line, each with what has been read before it.
+-- the states, each with the parts that have been read before it
 pub data Place : Type 0 where
   -- at the start of the line
   Start : Place
-  -- where the name of an alias must stand
+  -- where the name of an alias is expected
   AliasName : (kind : Kind) → (done : List Definition) → Place
   -- after that name
   AfterName : (kind : Kind) → (done : List Definition) → (name : List ℕ) → Place
-  -- where an item of a list must begin, after these exclamation marks of it
+  -- where an item of a list is expected, after these exclamation marks of it
   Item : (purpose : Purpose) → (bangs : ℕ) → (done : List Member) → Place
   -- after an item of a list
   AfterItem : (purpose : Purpose) → (done : List Member) → Place
-  -- where a command must stand, after these parts of it
+  -- where a command is expected, after these parts of it
   Command : (granting : Granting) → (runas : Option Runas) → (tags : List Tag) → (bangs : ℕ) → Place
   -- after a command
   AfterCommand : (granting : Granting) → (spec : CommandSpec) → Place
@@ -82,22 +82,22 @@ pub data Place : Type 0 where
   GroupsStart : (granting : Granting) → (users : Option (List Member)) → Place
   -- after `Defaults`
   DefaultsStart : Place
-  -- where a parameter must stand, after these exclamation marks of it
+  -- where a parameter is expected, after these exclamation marks of it
   AtParameter : (binding : Option Binding) → (done : List Parameter) → (bangs : ℕ) → Place
   -- after the name of a parameter
   AfterSwitch : (binding : Option Binding) → (done : List Parameter) → (bangs : ℕ) → (name : Token) → Place
-  -- where the value of a parameter must stand
+  -- where the value of a parameter is expected
   AtValue : (binding : Option Binding) → (done : List Parameter) → (name : Token) → (operator : Operator) → Place
   -- after a value
   AfterValue : (binding : Option Binding) → (done : List Parameter) → Place
   -- after an include directive
   Included : (folder hash : Bool) → (path : List Ch) → Place
 
--- how many definitions of a kind may still come
+-- the number of definitions of each kind that are still allowed
 abbrev pub Room : Type 0
 Room = Kind → ℕ
 
--- the place after a member that stands for an atom
+-- the state after a member
 abbrev pub member_place : Purpose → ℕ → List Member → Token → Result Atom Refusal → Option Place
 member_place purpose bangs done t (Ok atom) =
     Some (AfterItem purpose (done ++ record { bangs = bangs; token = t; atom = atom } ∷ []))
@@ -115,18 +115,18 @@ at_parameter binding done bangs t (tokens.Mark marks.Bang) = Some (AtParameter b
 at_parameter binding done bangs t (tokens.Word quoted chars) = Some (AfterSwitch binding done bangs t)
 at_parameter binding done bangs t _ = None
 
--- what a list of the kind binds a Defaults line to
+-- the binding of a Defaults line to a list of the kind
 abbrev pub bound_to : Kind → List Member → Binding
 bound_to kinds.User members = bindings.Users members
 bound_to kinds.Runas members = bindings.Runas members
 bound_to kinds.Host members = bindings.Hosts members
 bound_to kinds.Cmnd members = bindings.Commands members
 
--- the place after the parentheses
+-- the state after the parentheses
 abbrev pub after_runas : Granting → Option (List Member) → Option (List Member) → Place
 after_runas granting users groups = Command granting (Some (record { users = users; groups = groups })) [] 0
 
--- the place after the last item of a list and a token that is no comma
+-- the state after the last item of a list and a token other than a comma
 abbrev pub after_definition : Kind → List Definition → Definition → TokenKind → Option Place
 after_definition kind done d (tokens.Mark marks.Colon) = Some (AliasName kind (done ++ d ∷ []))
 after_definition kind done d _ = None
@@ -167,13 +167,13 @@ at_alias_name room kind done (Some name) =
     if nat_lt (length done) (room kind) then Some (AfterName kind done name) else None
 at_alias_name room kind done None = None
 
--- the place after a member that is a command
+-- the state after a command
 abbrev pub command_place : Granting → Option Runas → List Tag → ℕ → Token → Result Atom Refusal → Option Place
 command_place granting runas tags bangs t (Ok atom) = Some (AfterCommand granting
     (record { runas = runas; tags = tags; command = record { bangs = bangs; token = t; atom = atom } }))
 command_place granting runas tags bangs t (Err refusal) = None
 
--- parentheses stand first in what belongs to a command
+-- the state at a left parenthesis: only directly at the start of a command
 abbrev pub at_paren : Granting → Option Runas → List Tag → ℕ → Option Place
 at_paren granting None [] zero = Some (RunasStart granting)
 at_paren granting _ _ _ = None
@@ -207,7 +207,7 @@ abbrev pub at_groups : Granting → Option (List Member) → Token → TokenKind
 at_groups granting users t (tokens.Mark marks.RightParen) = Some (after_runas granting users None)
 at_groups granting users t k = at_item (RunasGroups granting users) 0 [] t k
 
--- what stands directly after `Defaults`
+-- the state after a mark directly after `Defaults`
 abbrev pub at_binding : Option Kind → Option Place
 at_binding (Some kind) = Some (Item (Binds kind) 0 [])
 at_binding None = None
@@ -216,7 +216,7 @@ abbrev pub after_defaults : Bool → Token → Option Place
 after_defaults true t = at_binding (kind_of_mark t.kind)
 after_defaults false t = at_parameter None [] 0 t t.kind
 
--- an operator stands after a name without exclamation marks alone
+-- the state after an operator: only after a name without exclamation marks
 abbrev pub at_operator : Option Binding → List Parameter → ℕ → Token → Option Operator → Option Place
 at_operator binding done zero name (Some operator) = Some (AtValue binding done name operator)
 at_operator binding done _ name _ = None
@@ -242,7 +242,7 @@ at_start (Directive folder hash path) t = Some (Included folder hash path)
 at_start (BadDirective path) t = None
 at_start Other t = at_item Users 0 [] t t.kind
 
--- the place after one more token, if the line can go on so
+-- the state after one more token, if the token can continue the line
 abbrev pub step : Room → Place → Token → Option Place
 step room Start t = at_start (opening_of t.kind) t
 step room (AliasName kind done) t = at_alias_name room kind done (name_of t.kind)
@@ -266,7 +266,7 @@ ended_list (Defines kind done name) members =
     Some (entries.Aliases kind (done ++ record { name = name; members = members } ∷ []))
 ended_list _ members = None
 
--- the entry, if the line may end here
+-- the entry of a list's line, if the line may end after the list
 abbrev pub ended : Place → Option EntryBody
 ended (AfterItem purpose done) = ended_list purpose done
 ended (AfterCommand granting spec) =
@@ -277,7 +277,7 @@ ended (AfterValue binding done) = Some (entries.Defaults binding done)
 ended (Included folder hash path) = Some (entries.Include folder hash path)
 ended _ = None
 
--- the place after tokens, if a line can begin so
+-- the state after tokens, if a line can begin with them
 abbrev pub place_after : Room → Place → List Token → Option Place
 place_after room place [] = Some place
 place_after room place (t ∷ ts) = elim (step room place t) [ Some next ↦ place_after room next ts | None ↦ None ]

@@ -1,5 +1,5 @@
--- What is refused at each place of a line, and what was expected there. The tokens are those from the refused one on, and
--- none at the end of the line. The word `expected` of a syntax error, by its place:
+-- The refusal in each state of the parser, and the expected token. The tokens are those from the refused one on, and none
+-- at the end of the line. The word `expected` of a syntax error, by the state:
 --
 --     after a keyword, or after `:` in an alias line                                              alias name
 --     after the name of an alias; after a host item of a section                                  =
@@ -12,7 +12,7 @@
 --     an include without a path                                                                   path
 --     anywhere else                                                                               end of line
 --
--- The law `expected_could_stand` says what these words promise; see `Standing`.
+-- The law `expected_could_stand` states the promise of these words; see `Standing`.
 use Rattle.std.specs.Prelude.{ℕ, Bool, false, List, [], ◌∷◌, length, Option, None, Some, Result, Ok, Err, if◌then◌else◌, is_some, ◌&&◌, ◌==◌, ◌-◌, slice_get}
 use Rattle.sudo_text.specs.declared.token.Mark.TheVariants as marks
 use Rattle.sudo_text.specs.declared.token.Token.{Token}
@@ -30,7 +30,7 @@ use Rattle.sudo_grammar.specs.Openings.{Opening, BadDirective, opening_of, is_pe
 use Rattle.sudo_grammar.specs.Members.{atom_of, expected_in}
 use Rattle.sudo_grammar.specs.Places.{Purpose, Defines, Users, Hosts, RunasUsers, RunasGroups, Binds, kind_for, Place, Start, AliasName, AfterName, Item, AfterItem, Command, AfterCommand, RunasStart, GroupsStart, DefaultsStart, AtParameter, AfterSwitch, AtValue, AfterValue, Included}
 
--- a mark comes next; directly, where the token before ends
+-- the next token is this mark; `is_next_at`: and begins at an offset
 abbrev pub is_next : Mark → List Token → Bool
 is_next m [] = false
 is_next m (t ∷ ts) = is_mark m t.kind
@@ -39,8 +39,8 @@ abbrev pub is_next_at : ℕ → Mark → List Token → Bool
 is_next_at place m [] = false
 is_next_at place m (t ∷ ts) = is_mark m t.kind && (t.start == place)
 
--- A refusal, or the one that the next token names: `%` and a colon directly after it is a non-Unix group, and the name of
--- a digest and a colon is a digest.
+-- a refusal, or the one that the next token decides: `%` with a colon directly after it is a non-Unix group, and the
+-- name of a digest with a colon after it is a digest
 abbrev pub with_next : Kind → Token → List Token → Refusal → Refusal
 with_next kinds.Cmnd t ts refusal =
     if spells is_digest_name (plain_word t.kind) && is_next marks.Colon ts
@@ -54,13 +54,13 @@ abbrev pub refused_atom : Kind → Token → List Token → Result Atom Refusal 
 refused_atom kind t ts (Ok atom) = refusals.Syntax (expected_in kind)
 refused_atom kind t ts (Err refusal) = with_next kind t ts refusal
 
--- why these tokens begin with no member of a list of the kind
+-- the refusal of tokens that begin with no member of a list of the kind
 abbrev pub refused_member : Kind → List Token → Refusal
 refused_member kind [] = refusals.Syntax (expected_in kind)
 refused_member kind (t ∷ ts) = refused_atom kind t ts (atom_of kind t.kind)
 
--- An option of a command: its name, which was read as that of an alias, and then `=`. No line goes on so, and the refusal
--- is that of the name, without a column.
+-- an option of a command: its name, which was read as that of an alias, and then `=`; no line continues so, and the
+-- refusal is that of the name, without a column
 abbrev pub is_option : Option Member → List Token → Bool
 is_option None ts = false
 is_option (Some m) ts = spells is_option_name (plain_word m.token.kind) && is_next marks.Equals ts
@@ -68,12 +68,12 @@ is_option (Some m) ts = spells is_option_name (plain_word m.token.kind) && is_ne
 abbrev pub or_option : Option Member → List Token → Refusal → Refusal
 or_option m ts refusal = if is_option m ts then refusals.Unsupported forms.CommandOption else refusal
 
--- why a name can't stand there: it is one too many, or it is none
+-- the refusal at the name of an alias: one definition too many, or no name
 abbrev pub refused_name : List Token → Refusal
 refused_name [] = refusals.Syntax wants.AliasName
 refused_name (t ∷ ts) = if is_some (name_of t.kind) then refusals.TooMany else refusals.Syntax wants.AliasName
 
--- why a line can't begin so
+-- the refusal of the first token of a line
 abbrev pub refused_start : List Token → Opening → Refusal
 refused_start ts (BadDirective []) = refusals.Syntax wants.Path
 refused_start ts (BadDirective (c ∷ cs)) = refusals.Unsupported forms.HostEscape
@@ -88,7 +88,7 @@ abbrev pub last_command : Kind → List Member → Option Member
 last_command kinds.Cmnd members = slice_get members (length members - 1)
 last_command _ members = None
 
--- why a list can't be followed by these tokens, none of which begins a further item
+-- the refusal after a list, at tokens that begin no further item
 abbrev pub refused_after : Purpose → List Token → Refusal
 refused_after (Defines kind done name) ts = refusals.Syntax wants.EndOfLine
 refused_after Users ts = refused_member kinds.Host ts
@@ -97,7 +97,7 @@ refused_after (RunasUsers granting) ts = refusals.Syntax wants.RightParen
 refused_after (RunasGroups granting users) ts = refusals.Syntax wants.RightParen
 refused_after (Binds kind) ts = refusals.Syntax wants.Parameter
 
--- why the line can't go on with these tokens, or end
+-- the refusal of tokens that cannot continue or end the line in this state
 abbrev pub refused_at : Place → List Token → Refusal
 refused_at Start ts = refused_first ts
 refused_at (AliasName kind done) ts = refused_name ts

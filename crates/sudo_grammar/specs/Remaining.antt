@@ -1,6 +1,6 @@
--- What a place means: the forms that are left there, up to the end of the line, and the entry that they make with what
--- was read before. A reader checks the table of expected words against this file at sight; the law `places_mean_forms`
--- says that tokens lead to a place exactly where these forms are left of the entry's form.
+-- The meaning of a parser state: the forms that are left up to the end of the line, and the entry that they complete. A
+-- reader checks the table of expected words against this file by eye; the law `places_mean_forms` states that tokens
+-- lead to a state exactly if these forms are left of the entry's form.
 use Rattle.std.specs.Prelude.{◌≡◌, ℕ, zero, suc, ◌+◌, List, [], ◌∷◌, ◌++◌, Option, None, Some, ◌⊎◌}
 use Rattle.sudo_text.specs.declared.token.Mark.TheVariants as marks
 use Rattle.sudo_text.specs.declared.token.Token.{Token}
@@ -28,7 +28,7 @@ AfterSpec granting spec e ts = (cs : List CommandSpec) × ((ss : List Section)
     × (e ≡ entries.Rule granting.users
     (granting.sections ++ record { hosts = granting.hosts; commands = granting.commands ++ spec ∷ cs } ∷ ss))))
 
--- after some exclamation marks of a command: more of them, and the command
+-- after some exclamation marks of a command: further ones, and the command
 abbrev pub AtCommand : Granting → Option Runas → List Tag → ℕ → EntryBody → List Token → Type 0
 AtCommand granting r done n e ts = (m : Member) × ((more : ℕ) × ((after : List Token)
     × ((m.bangs ≡ n + more) × ((bangs more ▸ member kinds.Cmnd m) ts after
@@ -44,7 +44,7 @@ abbrev pub AtSpec : Granting → EntryBody → List Token → Type 0
 AtSpec granting e ts = (r : Option Runas) × ((after : List Token)
     × (optional runas r ts after × AtTags granting r [] e after))
 
--- after the users of a runas: its groups, `)`, and what belongs to the command
+-- after the users of a runas: its groups, `)`, and the rest of the command
 abbrev pub AtGroups : Granting → Option (List Member) → EntryBody → List Token → Type 0
 AtGroups granting users e ts = (gs : Option (List Member)) × ((after : List Token)
     × ((groups gs ▸ mark marks.RightParen) ts after × AtTags granting (Some (record { users = users; groups = gs })) [] e after))
@@ -63,17 +63,17 @@ AfterList (RunasGroups granting users) gs e ts = (after : List Token)
 AfterList (Binds kind) ms e ts = (xs : List Parameter)
     × (parameter_list xs ts [] × (e ≡ entries.Defaults (Some (bound_to kind ms)) xs))
 
--- after an item of a list: further items, and what comes after the list
+-- after an item of a list: further items, and the rest after the list
 abbrev pub InList : Purpose → List Member → EntryBody → List Token → Type 0
 InList p done e ts = (ms : List Member) × ((after : List Token)
     × (more_items (kind_for p) ms ts after × AfterList p (done ++ ms) e after))
 
--- after some exclamation marks of an item: more of them, and the member
+-- after some exclamation marks of an item: further ones, and the member
 abbrev pub AtItem : Purpose → ℕ → List Member → EntryBody → List Token → Type 0
 AtItem p n done e ts = (m : Member) × ((more : ℕ) × ((after : List Token)
     × ((m.bangs ≡ n + more) × ((bangs more ▸ member (kind_for p) m) ts after × InList p (done ++ m ∷ []) e after))))
 
--- what is left of a parameter after some exclamation marks of it
+-- the rest of a parameter after some of its exclamation marks
 abbrev pub parameter_left : Parameter → ℕ → Form
 parameter_left (parameters.Switch all name) n ts rest =
     (more : ℕ) × ((all ≡ n + more) × (bangs more ▸ the_word name) ts rest)
@@ -87,7 +87,7 @@ AtAssigned b done name operator e ts = (value : Token) × ((xs : List Parameter)
     × ((the_word value ▸ more_parameters xs) ts []
     × (e ≡ entries.Defaults b (done ++ parameters.Assign name operator value ∷ xs))))
 
--- The tokens go on from a place to the end of the entry's line.
+-- the tokens complete the entry's line from a state on
 abbrev pub GoesOn : Place → EntryBody → List Token → Type 0
 GoesOn Start e ts = Writes e ts
 GoesOn (AliasName kind done) e ts =

@@ -1,5 +1,5 @@
--- What each `expected` of a syntax error promises: whatever is of that sort could have stood there, after the tokens up to
--- the fault; and the line could have ended where its end was expected. It is said by prefixes of forms alone.
+-- The promise of each `expected` of a syntax error: every token of that sort could have stood there, after the tokens
+-- up to the fault; and the line could have ended where its end was expected. It is defined by prefixes of forms alone.
 use Rattle.std.specs.Prelude.{◌≡◌, ℕ, List, [], ◌∷◌, ◌++◌, Some, Ok, Bool, true, false}
 use Rattle.sudo_text.specs.declared.token.Ch.{Ch}
 use Rattle.sudo_text.specs.declared.token.Mark.TheVariants as marks

@@ -12,15 +12,15 @@ use Rattle.sudo_grammar.specs.declared.kind.Kind.TheVariants as kinds
 use Rattle.sudo_grammar.specs.declared.policy.Tag.{Tag}
 use Rattle.sudo_grammar.specs.declared.policy.Tag.TheVariants as tags
 
--- the bytes of characters, whether an escape gave them or not
+-- the bytes of characters, escaped or not
 abbrev pub bytes_of : List Ch → List ℕ
 bytes_of = map (λ c. c.byte)
 
--- no escape gave any of them
+-- no character is escaped
 abbrev pub is_plain : List Ch → Bool
 is_plain = list_all (λ c. not c.escaped)
 
--- what an unquoted word without escapes spells
+-- the word that an unquoted token without escapes spells
 abbrev pub plain_word : TokenKind → Option (List ℕ)
 plain_word (tokens.Word quoted chars) = if not quoted && is_plain chars then Some (bytes_of chars) else None
 plain_word _ = None
@@ -36,7 +36,7 @@ abbrev pub begins_upper : List ℕ → Bool
 begins_upper [] = false
 begins_upper (b ∷ bs) = is_upper b
 
--- an upper-case letter, and then upper-case letters, digits and underscores; and not ALL
+-- an upper-case letter, followed by upper-case letters, digits and underscores; `ALL` is not a name
 abbrev pub is_name : List ℕ → Bool
 is_name w = (begins_upper w && list_all is_name_byte w) && not (bytes_eq w (codes "ALL"))
 

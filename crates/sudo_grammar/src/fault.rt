@@ -1,22 +1,22 @@
-//! Why a text is no policy.
+//! The faults of a policy's text.
 
 use std::alloc::{AllocError, AllocFailed};
 use sudo_text::{Place, TextFault};
 use thiserror::Error;
 
-/// What the grammar wants at the place of a syntax error.
+/// The token that a syntax error expects.
 #[derive(Clone, Copy, Debug, PartialEq, Eq, PartialOrd, Ord, Hash, Error)]
 pub enum Expected {
     /// After the keyword of an alias line, or after `:` in one.
     #[error("alias name")]
     AliasName,
-    /// After the name of an alias that is defined, and after a host of a section.
+    /// After the name of an alias in its definition, and after a host of a section.
     #[error("=")]
     Equals,
-    /// Where a user, a host, or a user or group to run as must stand.
+    /// Where a user, a host, or a user or group to run as must begin.
     #[error("member")]
     Member,
-    /// Where a command must stand.
+    /// Where a command must begin.
     #[error("command")]
     Command,
     /// After an item in parentheses.
@@ -28,15 +28,16 @@ pub enum Expected {
     /// After `=`, `+=` or `-=` of a parameter.
     #[error("value")]
     Value,
-    /// In an include line without one.
+    /// In an include line without a path.
     #[error("path")]
     Path,
-    /// Where the line may end, and what stands there can't go on.
+    /// Where the line may end, and the token cannot continue it.
     #[error("end of line")]
     EndOfLine,
 }
 
-/// A form of sudoers(5) that this reader knows and refuses, since its meaning needs something outside the file.
+/// A form of sudoers(5) that this reader recognizes and refuses, since its meaning depends on something outside the
+/// file.
 #[derive(Clone, Copy, Debug, PartialEq, Eq, PartialOrd, Ord, Hash, Error)]
 pub enum Unsupported {
     /// `+netgroup`
@@ -51,7 +52,7 @@ pub enum Unsupported {
     /// `%:group`
     #[error("non-Unix group")]
     NonUnixGroup,
-    /// `ROLE=`, `CWD=` and their kin before a command.
+    /// `ROLE=`, `CWD=` and the other options before a command.
     #[error("option")]
     CommandOption,
     /// The command `list`.
@@ -62,46 +63,47 @@ pub enum Unsupported {
     HostEscape,
 }
 
-/// Why a line can't go on at a token.
+/// The reason why a token cannot continue a line.
 #[derive(Clone, Copy, Debug, PartialEq, Eq)]
 pub enum Refusal {
-    /// Something else must stand there.
+    /// Another token is expected.
     Syntax(Expected),
-    /// A form that is known and refused.
+    /// A form that is recognized and refused.
     Unsupported(Unsupported),
-    /// A word where a command must stand.
+    /// A word in place of a command.
     NotCommand,
-    /// A number, an address or a network that is none.
+    /// A malformed number, address or network.
     BadNumber,
-    /// The name of a definition too many.
+    /// The name of a definition over the limit.
     TooMany,
 }
 
-/// Why lines are no policy. The first faulty line decides; in a line a fault of the text comes first, and then the
-/// leftmost fault of the grammar. `place` is where the logical line begins, and `col` is 1 plus the offset of the fault
-/// in the joined text.
+/// A fault of the lines of a policy.
+///
+/// The first faulty line decides; in a line a fault of the text comes first, and then the leftmost fault of the
+/// grammar. `place` is where the logical line begins, and `col` is 1 plus the offset of the fault in the joined text.
 #[derive(Clone, Copy, Debug, PartialEq, Eq, Error)]
 pub enum ParseFault {
-    /// The token at which no line of a policy can go on, or the end of the line.
+    /// A token that cannot continue the line, or a line that ends too early.
     #[error("{place}:{col}: syntax error, expected {expected}")]
     Syntax {
         place: Place,
         col: u32,
         expected: Expected,
     },
-    /// A form that is known and refused.
+    /// A form that is recognized and refused.
     #[error("{place}: unsupported {what}")]
     Unsupported {
         place: Place,
         what: Unsupported,
     },
-    /// A word where a command must stand.
+    /// A word in place of a command.
     #[error("{place}:{col}: not a command")]
     NotCommand {
         place: Place,
         col: u32,
     },
-    /// A number, an address or a network that is none.
+    /// A malformed number, address or network.
     #[error("{place}:{col}: bad number")]
     BadNumber {
         place: Place,
@@ -112,10 +114,10 @@ pub enum ParseFault {
     TooMany {
         place: Place,
     },
-    /// A line that has no tokens.
+    /// A line whose text is faulty.
     #[error(transparent)]
     Text(TextFault),
-    /// Memory was refused.
+    /// Out of memory.
     #[error("out of memory")]
     Memory,
 }

@@ -17,13 +17,13 @@ pub fn forms_are_read()
         → reading room Start ts ≡ Ok e }
 {}
 
-/// What is read is a written form of the entry that is read, within the limits.
+/// Tokens that are read as an entry are a written form of that entry, within the limits.
 pub fn what_is_read_is_written()
     ensures { (room : Room) (e : EntryBody) (ts : List Token) → reading room Start ts ≡ Ok e
         → Writes e ts × HasRoom room e }
 {}
 
-/// Where a line is no entry, the reading stops at the line's grammar fault.
+/// If a line is no entry, the reading stops at the line's grammar fault.
 pub fn faults_are_leftmost()
     ensures { (room : Room) (ts : List Token) (stop : Stop) → reading room Start ts ≡ Err stop
         → IsGrammarFault room ts stop }
@@ -40,7 +40,7 @@ pub fn lines_have_one_fault()
         → IsGrammarFault room ts b → a ≡ b }
 {}
 
-/// A list of tokens is a written form of an entry within the limits or has a grammar fault, and never both.
+/// A list of tokens either is a written form of an entry within the limits or has a grammar fault, and never both.
 pub fn lines_are_written_or_faulty()
     ensures some { (room : Room) (ts : List Token)
         → ((e : EntryBody) × WritesWithin room e ts)
@@ -49,15 +49,15 @@ pub fn lines_are_written_or_faulty()
         → WritesWithin room e ts → IsGrammarFault room ts stop → ⊥ }
 {}
 
-/// Whatever a syntax error expects could have stood at its place, after the tokens before it; and where it expects the
-/// end of the line, the line could have ended there.
+/// Each token that a syntax error expects could have stood at the fault, after the tokens before it; and if the error
+/// expects the end of the line, the line could have ended there.
 pub fn expected_could_stand()
     ensures { (room : Room) (ts : List Token) (stop : Stop) (fault : IsGrammarFault room ts stop)
         (x : Expected) → stop.refusal ≡ Syntax x → CanStand x fault.front }
 {}
 
-/// A place means the forms that are left there: after the tokens that lead to it, a line goes on as an entry exactly
-/// where it goes on by these forms.
+/// Each parser state accepts exactly the remaining forms: after the tokens that lead to it, further tokens complete an
+/// entry exactly if they have one of these forms.
 pub fn places_mean_forms()
     ensures goes_on { (room : Room) (front : List Token) (place : Place) (e : EntryBody)
         (ts : List Token) → place_after room Start front ≡ Some place → Writes e (front ++ ts)

@@ -1,7 +1,7 @@
-//! The grammar of sudoers(5): the tree of a policy, why a text has none, and the written forms of every entry.
+//! The grammar of sudoers(5): the tree of a policy, the faults of its text, and the written forms of every entry.
 //!
-//! The tree and its faults are types. The grammar is a crate of definitions, which live in its contracts; the parser is
-//! proved against them. Each function is a law.
+//! The tree and the faults are types. The grammar itself is a set of definitions, which only contracts use; the parser
+//! is proved against them. Each function is a law.
 #![tactic(auto)]
 
 mod fault;

@@ -1,4 +1,4 @@
-//! A policy as parsed: its lines in order, each as written.
+//! The tree of a policy: its lines in order, each as written.
 ghost use Rattle.std.specs.Prelude.{IsTrue, nat_lt, length, not};
 ghost use Rattle.std.specs.List.{list_all};
 ghost use Rattle.sudo_grammar.specs.Includes.{is_include};
@@ -6,30 +6,31 @@ ghost use Rattle.sudo_grammar.specs.Includes.{is_include};
 use crate::{Kind, Member};
 use sudo_text::{Ch, Place, Seq, Token};
 
-/// A policy, as sudoers(5) has it: what its files say, in the order in which they are read.
+/// A policy of sudoers(5): the entries of its files, in the order in which they are read.
 ///
-/// Included files are followed: their entries stand in the place of the include line, of which none is left.
+/// Includes are resolved: the entries of an included file are in the place of the include line, and no include line is
+/// left.
 #[derive(Debug, Drop, PartialEq, Eq)]
 pub struct Policy {
     /// The paths of the files that were read, by file number, the main file first.
     pub files: Seq<Seq<u8>>,
-    /// The lines that say something, in order.
+    /// The entries, in order.
     pub entries: Seq<Entry>,
-    /// Each entry stands in one of the files.
+    /// Each entry belongs to one of the files.
     pub ghost placed: { IsTrue (list_all (λ e. nat_lt e.place.file (length files)) entries) },
     /// No include line is left.
     pub ghost unfolded: { IsTrue (list_all (λ e. not (is_include e.body)) entries) },
 }
 
-/// What one logical line says.
+/// The content of one logical line.
 #[derive(Clone, Debug, Drop, PartialEq, Eq)]
 pub struct Entry {
-    /// Where the line begins.
+    /// The place where the line begins.
     pub place: Place,
     pub body: EntryBody,
 }
 
-/// The four kinds of lines.
+/// The kinds of entries.
 #[derive(Clone, Debug, Drop, PartialEq, Eq)]
 pub enum EntryBody {
     /// Definitions of aliases of one kind.
@@ -37,12 +38,12 @@ pub enum EntryBody {
         kind: Kind,
         definitions: Seq<Definition>,
     },
-    /// A `Defaults` line: what it is bound to, and its parameters.
+    /// A `Defaults` line: the list to which it is bound, if any, and its parameters.
     Defaults {
         binding: Option<Binding>,
         parameters: Seq<Parameter>,
     },
-    /// A user specification: who may run what on which hosts.
+    /// A user specification: who may run which commands on which hosts.
     Rule {
         users: Seq<Member>,
         sections: Seq<Section>,
@@ -55,21 +56,21 @@ pub enum EntryBody {
     },
 }
 
-/// An alias and the list that it names.
+/// The definition of an alias: its name and its list.
 #[derive(Clone, Debug, Drop, PartialEq, Eq)]
 pub struct Definition {
     pub name: Seq<u8>,
     pub members: Seq<Member>,
 }
 
-/// A list of hosts, and the commands granted there.
+/// A list of hosts, and the commands granted on them.
 #[derive(Clone, Debug, Drop, PartialEq, Eq)]
 pub struct Section {
     pub hosts: Seq<Member>,
     pub commands: Seq<CommandSpec>,
 }
 
-/// A command of a section, with what is written before it.
+/// A command of a section, with its runas and its tags.
 #[derive(Clone, Debug, Drop, PartialEq, Eq)]
 pub struct CommandSpec {
     pub runas: Option<Runas>,
@@ -77,8 +78,8 @@ pub struct CommandSpec {
     pub command: Member,
 }
 
-/// Whom a command may be run as: `(users:groups)`, where either list may be absent. `(users:)` is `(users)`, and
-/// `(:)` is `()`.
+/// The users and groups that a command may be run as: `(users:groups)`, where either list may be absent. `(users:)` is
+/// `(users)`, and `(:)` is `()`.
 #[derive(Clone, Debug, Drop, PartialEq, Eq)]
 pub struct Runas {
     pub users: Option<Seq<Member>>,
@@ -106,7 +107,7 @@ pub enum Tag {
     NoSetEnv,
 }
 
-/// What a `Defaults` line is bound to: `@hosts`, `:users`, `!commands` or `>runas`.
+/// The list to which a `Defaults` line is bound: `@hosts`, `:users`, `!commands` or `>runas`.
 #[derive(Clone, Debug, Drop, PartialEq, Eq)]
 pub enum Binding {
     Hosts(Seq<Member>),
@@ -118,12 +119,12 @@ pub enum Binding {
 /// A parameter of a `Defaults` line. Its name is not checked.
 #[derive(Clone, Debug, Drop, PartialEq, Eq)]
 pub enum Parameter {
-    /// A parameter that is switched, off by an odd number of `!`.
+    /// A parameter that is switched on, or off by an odd number of `!`.
     Switch {
         bangs: u32,
         name: Token,
     },
-    /// A parameter with a value, which is set, added to a list or taken from it.
+    /// A parameter with a value, which is set, added to a list or removed from it.
     Assign {
         name: Token,
         operator: Operator,
@@ -131,7 +132,7 @@ pub enum Parameter {
     },
 }
 
-/// What an assignment of a parameter does.
+/// The operator of an assignment to a parameter.
 #[derive(Clone, Copy, Debug, PartialEq, Eq, PartialOrd, Ord, Hash)]
 pub enum Operator {
     /// `=`

@@ -1,4 +1,4 @@
--- A file, with what is handed in, has one outcome.
+-- A file, with the provided files and folders, has one outcome.
 use Rattle.std.proofs.Common.{◌≡◌, ℕ, zero, suc, Bool, true, false, List, [], ◌∷◌, length, Option, None, Some, Result, Ok, Err, inl, inr, sym, ◌∙◌, ap, subst}
 use Rattle.std.specs.Prelude.{filter, map, nat_lt}
 use Rattle.sudo_text.specs.declared.line.Line.{Line}

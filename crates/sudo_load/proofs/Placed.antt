@@ -1,4 +1,5 @@
--- What is loaded stands in the files that were read, and has no include line; and so does a fault.
+-- The loaded entries belong to the files that were read, and none is an include line; and a fault lies in one of those
+-- files.
 use Rattle.std.proofs.Common.{◌≡◌, ℕ, zero, suc, ◌+◌, ◌<◌, ◌≤◌, Bool, true, false, List, [], ◌∷◌, ◌++◌, length, Option, None, Some, Result, Ok, Err, inl, inr, refl, sym, ◌∙◌, ap, subst, arith, length-append}
 use Rattle.std.specs.Prelude.{⊤, ◌≢◌, not, nat_lt, map, ◌&&◌, if◌then◌else◌}
 use Rattle.std.specs.List.{list_all}

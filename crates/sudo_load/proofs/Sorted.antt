@@ -1,4 +1,4 @@
--- A list has one order by its elements' bytes.
+-- A list has one order by the bytes of its elements.
 use Rattle.std.proofs.Common.{◌≡◌, ℕ, suc, ◌+◌, ◌<◌, Bool, true, false, List, [], ◌∷◌, refl, sym, ◌∙◌, ap, subst, arith}
 use Rattle.std.specs.Prelude.{⊤, bytes_eq, if◌then◌else◌, slice_index_or}
 use Rattle.std.specs.List.{sum_by}

@@ -1,4 +1,4 @@
--- In which file a fault stands: its number is that of one of the files that were read.
+-- The file in which a fault lies: its number is that of one of the files that were read.
 use Rattle.std.specs.Prelude.{ℕ, ◌<◌, length, Option, None, Some, ⊤}
 use Rattle.sudo_text.specs.declared.fault.TextFault.{TextFault}
 use Rattle.sudo_text.specs.declared.fault.TextFault.TheVariants as texts
@@ -8,7 +8,7 @@ use Rattle.sudo_load.specs.declared.fault.LoadFault.{LoadFault}
 use Rattle.sudo_load.specs.declared.fault.LoadFault.TheVariants as faults
 use Rattle.sudo_load.specs.Unfolding.{Refusal}
 
--- The number of the file that a fault of a text names; none where it names no file.
+-- the number of the file that a fault of a text names, if any
 abbrev pub text_file : TextFault → Option ℕ
 text_file (texts.BadQuote place col) = Some place.file
 text_file (texts.BadHex place col) = Some place.file
@@ -17,7 +17,7 @@ text_file (texts.NotPrintable place col) = Some place.file
 text_file (texts.TooLong file) = Some file
 text_file texts.Memory = None
 
--- The number of the file that a fault of lines names.
+-- the number of the file that a fault of lines names, if any
 abbrev pub parse_file : ParseFault → Option ℕ
 parse_file (parses.Syntax place col expected) = Some place.file
 parse_file (parses.Unsupported place what) = Some place.file
@@ -27,7 +27,7 @@ parse_file (parses.TooMany place) = Some place.file
 parse_file (parses.Text fault) = text_file fault
 parse_file parses.Memory = None
 
--- The number of the file that a fault of loading names.
+-- the number of the file that a fault of loading names, if any
 abbrev pub fault_file : LoadFault → Option ℕ
 fault_file (faults.Parse fault) = parse_file fault
 fault_file (faults.TooNested place) = Some place.file
@@ -36,11 +36,11 @@ fault_file (faults.Wanted want) = None
 fault_file (faults.Missing place path) = Some place.file
 fault_file faults.Memory = None
 
--- A number, where there is one, is below a number of files.
+-- a number, if any, is below n
 abbrev pub IsBelow : ℕ → Option ℕ → Type 0
 IsBelow n None = ⊤
 IsBelow n (Some file) = file < n
 
--- A fault stands in one of the files that were read.
+-- a fault lies in one of the files that were read
 abbrev pub IsPlaced : Refusal → Type 0
 IsPlaced refusal = IsBelow (length refusal.0) (fault_file refusal.1)

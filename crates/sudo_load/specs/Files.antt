@@ -8,7 +8,7 @@ use Rattle.sudo_grammar.specs.declared.fault.ParseFault.{ParseFault}
 use Rattle.sudo_grammar.specs.declared.fault.ParseFault.TheVariants as faults
 use Rattle.sudo_parser.specs.Parsed.{AreEntries, IsFirstFault}
 
--- The file of this number says these entries, or it has this fault.
+-- the file with this number has these entries, or this fault
 abbrev pub Reads : ℕ → List ℕ → Result (List Entry) ParseFault → Type 0
 Reads file text (Ok entries) = (lines : List Line) × (lines_of file text ≡ Ok lines) × AreEntries lines entries
 Reads file text (Err fault) =

@@ -9,7 +9,7 @@ use Rattle.sudo_load.specs.declared.loading.Loaded.{Loaded}
 use Rattle.sudo_load.specs.declared.supply.Supply.{Supply}
 use Rattle.sudo_load.specs.Unfolding.{Refusal, Outcome, Unfolds}
 
--- What is loaded is the policy, unless a definition is past the limit for its kind in all files together.
+-- the loaded files and entries are the policy, unless a definition is past the limit for its kind in all files together
 abbrev pub Closes : Loaded → Option Place → Result Policy Refusal → Type 0
 Closes loaded None (Ok policy) = (policy.files ≡ loaded.files) × (policy.entries ≡ loaded.entries)
 Closes loaded None (Err refusal) = ⊥
@@ -19,16 +19,16 @@ abbrev pub ClosesBy : Outcome → Result Policy Refusal → Type 0
 ClosesBy (Ok loaded) result = Closes loaded (over_limit loaded.entries) result
 ClosesBy (Err refusal) result = result ≡ Err refusal
 
--- The policy of a file, by its path and text, with what is handed in; or why there is none.
+-- the policy of a file, by its path and text, with the provided files and folders; or its refusal
 abbrev pub IsLoad : List ℕ → List ℕ → List Supply → Result Policy Refusal → Type 0
 IsLoad path text supplies result = (outcome : Outcome) × Unfolds path text supplies outcome × ClosesBy outcome result
 
--- This is it, unless memory was refused.
+-- the result is that of loading, or allocation failed
 abbrev pub LoadGives : List ℕ → List ℕ → List Supply → Result Policy Refusal → Type 0
 LoadGives path text supplies (Ok policy) = IsLoad path text supplies (Ok policy)
 LoadGives path text supplies (Err refusal) = refusal.1 ≢ faults.Memory → IsLoad path text supplies (Err refusal)
 
--- The same policy, by its files and entries, or the same refusal.
+-- the same policy, by its files and entries, or the same refusal
 abbrev pub SameLoad : Result Policy Refusal → Result Policy Refusal → Type 0
 SameLoad (Ok a) (Ok b) = (a.files ≡ b.files) × (a.entries ≡ b.entries)
 SameLoad (Err a) (Err b) = a ≡ b

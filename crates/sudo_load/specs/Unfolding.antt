@@ -1,8 +1,8 @@
 -- Policies in several files. sudoers(5), "Including other files from within sudoers".
 --
 -- The entries of a file are those of its lines, where each include line is replaced by the entries of the file that it
--- names, or by those of its folder's files, in the order of their names. Files are numbered in the order in which
--- they are read, the main file first. The first thing that is missing, wanted or past a limit decides.
+-- names, or by those of its folder's files, in the order of their names. Files are numbered in the order in which they
+-- are read, the main file first. The first file or folder that is missing, not provided or past a limit decides.
 use Rattle.std.specs.Prelude.{◌≡◌, ℕ, zero, suc, ◌+◌, Bool, true, false, nat_lt, List, [], ◌∷◌, ◌++◌, length, map, filter, Option, None, Some, Result, Ok, Err}
 use Rattle.std.specs.List.Sorted.{IsPermutation, IsSorted}
 use Rattle.std.specs.Cmp.Lexicographic.{slice_cmp}
@@ -22,58 +22,58 @@ use Rattle.sudo_load.specs.Files.{Reads}
 use Rattle.sudo_load.specs.Paths.{beside, in_folder, is_kept}
 use Rattle.sudo_load.specs.Supplies.{supplied_file, supplied_folder}
 
--- How many files may be read, the main one counted, and how many folders.
+-- the maximum number of files that are read, including the main one, and of folders
 abbrev pub reading_limit : ℕ
 reading_limit = 1024
 
--- How deep includes may be nested.
+-- the maximum depth of nested includes
 abbrev pub nesting_limit : ℕ
 nesting_limit = 128
 
--- The files read by then, and the fault.
+-- a fault, with the paths of the files read up to it
 abbrev pub Refusal : Type 0
 Refusal = List (List ℕ) × LoadFault
 
--- What is loaded, or why nothing is.
+-- the state of loading, or a refusal
 abbrev pub Outcome : Type 0
 Outcome = Result Loaded Refusal
 
 abbrev pub refused : Loaded → LoadFault → Outcome
 refused loaded fault = Err (loaded.files, fault)
 
--- One file more is read.
+-- one more file is read
 abbrev pub with_file : Loaded → List ℕ → Loaded
 with_file loaded path = record { files = loaded.files ++ path ∷ []; folders = loaded.folders; entries = loaded.entries }
 
--- One folder more is read.
+-- one more folder is read
 abbrev pub with_folder : Loaded → Loaded
 with_folder loaded = record { files = loaded.files; folders = loaded.folders + 1; entries = loaded.entries }
 
--- One entry more is loaded.
+-- one more entry is loaded
 abbrev pub with_entry : Loaded → Entry → Loaded
 with_entry loaded entry = record { files = loaded.files; folders = loaded.folders; entries = loaded.entries ++ entry ∷ [] }
 
--- One fact where a test holds, and another where it does not.
+-- the proposition A if the test holds, and B otherwise
 abbrev pub IfElse : Bool → Type 0 → Type 0 → Type 0
 IfElse true A B = A
 IfElse false A B = B
 
--- What comes next begins where this ended; a refusal ends all.
+-- the next step begins in the state that is reached; a refusal ends the loading
 abbrev pub Then : Outcome → (Loaded → Outcome → Type 0) → Outcome → Type 0
 Then (Ok loaded) next outcome = next loaded outcome
 Then (Err refusal) next outcome = outcome ≡ Err refusal
 
--- What becomes of what is loaded when the file of a path is included at a place.
+-- the inclusion of the file at a path at a place: the state before and the outcome
 abbrev pub Inclusion : Type 1
 Inclusion = Loaded → Place → List ℕ → Outcome → Type 0
 
--- The files of these paths are included, one after another.
+-- the files at these paths are included, one after another
 abbrev pub FilesLoad : Inclusion → Loaded → Place → List (List ℕ) → Outcome → Type 0
 FilesLoad include loaded place [] outcome = outcome ≡ Ok loaded
 FilesLoad include loaded place (path ∷ paths) outcome =
     (first : Outcome) × include loaded place path first × Then first (λ after. FilesLoad include after place paths) outcome
 
--- The files of a folder that are read, in the order of their names' bytes.
+-- the files of a folder that are read, in the order of their names' bytes
 abbrev pub IsFolderOrder : List (List ℕ) → List (List ℕ) → Type 0
 IsFolderOrder names ordered = IsPermutation (filter is_kept names) ordered × IsSorted (slice_cmp nat_cmp) ordered
 
@@ -83,7 +83,7 @@ NamesLoad include loaded place path (Some names) outcome =
     (ordered : List (List ℕ)) × IsFolderOrder names ordered
     × FilesLoad include (with_folder loaded) place (map (in_folder path) ordered) outcome
 
--- The folder of a path is included at a place.
+-- the folder at a path is included at a place
 abbrev pub FolderLoads : Inclusion → List Supply → Loaded → Place → List ℕ → Outcome → Type 0
 FolderLoads include supplies loaded place path outcome =
     IfElse (nat_lt loaded.folders reading_limit) (NamesLoad include loaded place path (supplied_folder supplies path) outcome)
@@ -92,7 +92,7 @@ FolderLoads include supplies loaded place path outcome =
 abbrev pub bytes_of : List Ch → List ℕ
 bytes_of = map (λ c. c.byte)
 
--- What an include line of the file of a path names: a folder or a file, by its path.
+-- the folder or the file, by its path, that an include line of the file at a path names
 abbrev pub followed : List ℕ → EntryBody → Option (Bool × List ℕ)
 followed file (bodies.Include folder hash path) = Some (folder, beside file (bytes_of path))
 followed file body = None
@@ -105,11 +105,11 @@ abbrev pub EntryLoadsBy : Inclusion → List Supply → Loaded → Entry → Opt
 EntryLoadsBy include supplies loaded entry None outcome = outcome ≡ Ok (with_entry loaded entry)
 EntryLoadsBy include supplies loaded entry (Some named) outcome = IncludeLoads include supplies loaded entry.place named.0 named.1 outcome
 
--- A line of the file of a path: an include line is replaced, any other is loaded as it is.
+-- a line of the file at a path: an include line is replaced, any other is loaded as it is
 abbrev pub EntryLoads : Inclusion → List Supply → List ℕ → Loaded → Entry → Outcome → Type 0
 EntryLoads include supplies file loaded entry outcome = EntryLoadsBy include supplies loaded entry (followed file entry.body) outcome
 
--- The lines of the file of a path, one after another.
+-- the lines of the file at a path, one after another
 abbrev pub EntriesLoad : Inclusion → List Supply → List ℕ → Loaded → List Entry → Outcome → Type 0
 EntriesLoad include supplies file loaded [] outcome = outcome ≡ Ok loaded
 EntriesLoad include supplies file loaded (entry ∷ entries) outcome =
@@ -120,7 +120,7 @@ abbrev pub LinesLoad : Inclusion → List Supply → List ℕ → Loaded → Res
 LinesLoad include supplies file loaded (Ok entries) outcome = EntriesLoad include supplies file loaded entries outcome
 LinesLoad include supplies file loaded (Err fault) outcome = outcome ≡ refused loaded (faults.Parse fault)
 
--- The text of a file: it is read whole before its includes are followed.
+-- the text of a file, which is parsed whole before its includes are resolved
 abbrev pub TextLoads : Inclusion → List Supply → Loaded → List ℕ → List ℕ → Outcome → Type 0
 TextLoads include supplies loaded path text outcome =
     (read : Result (List Entry) ParseFault) × Reads (length loaded.files) text read
@@ -131,7 +131,7 @@ SuppliedLoads include supplies loaded place path None outcome = outcome ≡ refu
 SuppliedLoads include supplies loaded place path (Some None) outcome = outcome ≡ refused loaded (faults.Missing place path)
 SuppliedLoads include supplies loaded place path (Some (Some text)) outcome = TextLoads include supplies loaded path text outcome
 
--- The file of a path is included at a place, where so many levels of includes are left.
+-- the file at a path is included at a place, with `levels` levels of includes left
 unfoldable pub FileLoads : ℕ → List Supply → Inclusion
 FileLoads zero supplies loaded place path outcome = outcome ≡ refused loaded (faults.TooNested place)
 FileLoads (suc levels) supplies loaded place path outcome =
@@ -142,6 +142,6 @@ FileLoads (suc levels) supplies loaded place path outcome =
 abbrev pub nothing : Loaded
 nothing = record { files = []; folders = 0; entries = [] }
 
--- The main file, with all that it includes.
+-- the main file, with all that it includes
 abbrev pub Unfolds : List ℕ → List ℕ → List Supply → Outcome → Type 0
 Unfolds path text supplies outcome = TextLoads (FileLoads nesting_limit supplies) supplies nothing path text outcome

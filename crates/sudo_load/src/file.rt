@@ -1,4 +1,4 @@
-//! One file to its entries.
+//! The entries of one file.
 ghost use Rattle.std.specs.Prelude.{◌≡◌, ◌≢◌, Ok, Err, IfOk, IfErr};
 ghost use Rattle.sudo_load.specs.Files.{Reads};
 
@@ -7,7 +7,7 @@ use sudo_grammar::{Entry, ParseFault};
 use sudo_parser::parse;
 use sudo_text::{Seq, TextFault, lines};
 
-/// The entries of the file of a number.
+/// Reads the entries of the file with the given number.
 pub(crate) fn read(alloc: Global, file: u32, text: &[u8]) -> Result<Seq<Entry>, ParseFault>
     ensures entries { IfOk result (λ entries. Reads file text.now (Ok entries)) }
     ensures fault { IfErr result (λ fault. fault ≢ ParseFault.Memory

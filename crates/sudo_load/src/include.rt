@@ -1,4 +1,4 @@
-//! What include lines and folders name.
+//! The files and folders that include lines name.
 ghost use Rattle.std.specs.Prelude.{◌≡◌, ℕ, List, map, filter, IfOk};
 ghost use Rattle.std.specs.List.{filter_map};
 ghost use Rattle.sudo_load.specs.Unfolding.{IsFolderOrder, followed as spec_followed};
@@ -12,7 +12,7 @@ use std::alloc::{AllocError, Global};
 use sudo_grammar::{Entry, EntryBody, ParseFault};
 use sudo_text::Seq;
 
-/// The files of a folder that are read, in the order of their names' bytes.
+// Returns the files of a folder that are read, in the order of their names' bytes.
 fn folder_order(alloc: Global, names: &[Seq<u8>]) -> Result<Vec<Seq<u8>>, AllocError>
     ensures { IfOk result (λ v. IsFolderOrder names.now v.items) }
 {
@@ -21,7 +21,7 @@ fn folder_order(alloc: Global, names: &[Seq<u8>]) -> Result<Vec<Seq<u8>>, AllocE
     Ok(kept)
 }
 
-/// The names of the files that are read.
+// Returns the names of the files that are read.
 fn kept_names(alloc: Global, names: &[Seq<u8>]) -> Result<Vec<Seq<u8>>, AllocError>
     ensures { IfOk result (λ v. v.items ≡ filter spec_is_kept names.now) }
 {
@@ -34,7 +34,7 @@ fn kept_names(alloc: Global, names: &[Seq<u8>]) -> Result<Vec<Seq<u8>>, AllocErr
     Ok(kept)
 }
 
-/// The paths of a folder's files.
+// Returns the paths of a folder's files.
 fn paths_in(alloc: Global, folder: &[u8], names: &[Seq<u8>]) -> Result<Vec<Seq<u8>>, AllocError>
     ensures { IfOk result (λ v. v.items ≡ map (spec_in_folder folder.now) names.now) }
 {
@@ -45,8 +45,8 @@ fn paths_in(alloc: Global, folder: &[u8], names: &[Seq<u8>]) -> Result<Vec<Seq<u
     Ok(paths)
 }
 
-/// The paths of a folder's files that are read, in the order of their names' bytes: names that end in `~` or contain
-/// `.` are passed over. Fails only where memory was refused.
+/// Returns the paths of a folder's files that are read, in the order of their names' bytes; names that end in `~` or
+/// contain `.` are skipped. Returns `AllocError` if allocation fails.
 pub fn folder_files(
     alloc: Global,
     folder: &[u8],
@@ -59,7 +59,7 @@ pub fn folder_files(
     paths_in(alloc, folder, &ordered)
 }
 
-/// What an include line of a file names: whether it is a folder, and its path; `None` for any other line.
+/// Returns, for an include line of a file, whether it names a folder, and the path; `None` for any other line.
 pub(crate) fn followed(
     alloc: Global,
     file: &[u8],
@@ -77,7 +77,7 @@ pub(crate) fn followed(
     }
 }
 
-/// What a line of a file names, where it is an include line.
+// Returns the file or folder that a line of a file names, if it is an include line.
 fn named(alloc: Global, file: &[u8], entry: &Entry) -> Result<Option<Want>, AllocError>
     ensures { IfOk result (λ want. want ≡ spec_named file.now entry.now) }
 {
@@ -88,7 +88,7 @@ fn named(alloc: Global, file: &[u8], entry: &Entry) -> Result<Option<Want>, Allo
     }
 }
 
-/// What the include lines among a file's entries name.
+// Returns the files and folders that the include lines among a file's entries name.
 fn named_in(alloc: Global, file: &[u8], entries: &[Entry]) -> Result<Vec<Want>, AllocError>
     ensures { IfOk result (λ wants. wants.items ≡ filter_map (spec_named file.now) entries.now) }
 {
@@ -101,8 +101,8 @@ fn named_in(alloc: Global, file: &[u8], entries: &[Entry]) -> Result<Vec<Want>, 
     Ok(wants)
 }
 
-/// The files and folders that the include lines of one file name, in order, by its path and text; none where the text
-/// has a fault. Whoever reads them ahead has `load` ask for little. Fails only where memory was refused.
+/// Returns the files and folders that the include lines of one file name, in order, by its path and text; none if the
+/// text has a fault. A caller that reads them ahead saves calls of `load`. Returns `AllocError` if allocation fails.
 pub fn included(alloc: Global, path: &[u8], text: &[u8]) -> Result<Vec<Want>, AllocError>
     ensures { IfOk result (λ wants. IncludedBy path.now text.now wants.items) }
 {

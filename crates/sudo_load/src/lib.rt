@@ -1,7 +1,7 @@
-//! Policies in several files: include lines are followed, as in sudoers(5), "Including other files from within
-//! sudoers".
+//! Policies in several files, with includes resolved as in sudoers(5), "Including other files from within sudoers".
 //!
-//! `load` reads nothing itself. It is handed the files and folders that it may need, and says which one it wants next.
+//! `load` reads no file itself. The caller provides the files and folders that it may need, and `load` returns the next
+//! one that it needs.
 #![tactic(auto)]
 
 mod fault;

@@ -1,4 +1,4 @@
-//! Files that include files, to one policy.
+//! The loading of a policy from files that include files.
 ghost use Rattle.std.specs.Prelude.{◌≡◌, ℕ, ◌≤◌, ◌<◌, ◌^◌, List, length, map, filter, IfOk, IfErr, Ok, []};
 ghost use Rattle.sudo_load.specs.Unfolding.{FileLoads, FilesLoad, FolderLoads, EntryLoads, EntriesLoad, TextLoads, nothing as spec_nothing, with_file as spec_with_file, with_entry as spec_with_entry};
 ghost use Rattle.sudo_parser.specs.Parsed.{over_limit};
@@ -16,34 +16,34 @@ use sudo_grammar::{Entry, ParseFault, Policy};
 use sudo_parser::first_over_limit;
 use sudo_text::{Place, Seq};
 
-/// How many files, and how many folders, may be read.
+// The maximum number of files that are read, and of folders.
 const READING_LIMIT: usize = 1024;
 
-/// How deep includes may be nested.
+// The maximum depth of nested includes.
 const NESTING_LIMIT: u32 = 128;
 
-/// What is loaded so far.
+/// The state of loading.
 #[derive(Drop)]
 pub(crate) struct Loaded {
     /// The paths of the files read, by file number.
     pub files: Seq<Seq<u8>>,
-    /// How many folders were read.
+    /// The number of folders read.
     pub folders: usize,
-    /// The entries, in order.
+    /// The entries read, in order.
     pub entries: Seq<Entry>,
 }
 
-/// The files read by then, and the fault.
+/// A fault, with the paths of the files read up to it.
 pub(crate) type Refusal = (Seq<Seq<u8>>, LoadFault);
 
-/// Memory was refused. The paths of the files read by then are not handed back.
+// Returns a refusal for an allocation failure. It contains no paths.
 fn out_of_memory(alloc: Global) -> Refusal
     ensures { (result.0 ≡ []) × (result.1 ≡ LoadFault.Memory) }
 {
     (Seq::new(alloc), LoadFault::Memory)
 }
 
-/// Nothing is loaded yet.
+// Returns the initial state.
 fn nothing(alloc: Global) -> Loaded
     ensures { result ≡ spec_nothing }
 {
@@ -54,7 +54,7 @@ fn nothing(alloc: Global) -> Loaded
     }
 }
 
-/// One file more is read.
+// Appends the path of a file.
 fn with_file(loaded: Loaded, path: &Seq<u8>) -> Result<Loaded, AllocError>
     ensures { IfOk result (λ l. l ≡ spec_with_file loaded path.now) }
 {
@@ -71,7 +71,7 @@ fn with_file(loaded: Loaded, path: &Seq<u8>) -> Result<Loaded, AllocError>
     })
 }
 
-/// One entry more is loaded.
+// Appends an entry.
 fn with_entry(loaded: Loaded, entry: Entry) -> Result<Loaded, AllocError>
     ensures { IfOk result (λ l. l ≡ spec_with_entry loaded entry) }
 {
@@ -88,7 +88,7 @@ fn with_entry(loaded: Loaded, entry: Entry) -> Result<Loaded, AllocError>
     })
 }
 
-/// The files at these paths are included at a place, one after another.
+// Includes the files at these paths at a place, one after another.
 #[cycle(loading)]
 fn load_files(
     alloc: Global,
@@ -110,7 +110,7 @@ fn load_files(
     Ok(loaded)
 }
 
-/// The file of a path is included at a place, where so many levels of includes are left.
+// Includes the file at a path at a place, with `levels` levels of includes left.
 #[cycle(loading)]
 fn load_file(
     alloc: Global,
@@ -135,7 +135,7 @@ fn load_file(
     }
 }
 
-/// The folder of a path is included at a place.
+// Includes the folder at a path at a place.
 #[cycle(loading)]
 fn load_folder(
     alloc: Global,
@@ -165,7 +165,7 @@ fn load_folder(
     load_files(alloc, levels, supplies, loaded, place, paths)
 }
 
-/// A line of a file: an include line is followed, any other is loaded.
+// Loads a line of a file: includes the file or folder of an include line, and appends any other entry.
 #[cycle(loading)]
 fn load_entry(
     alloc: Global,
@@ -190,7 +190,7 @@ fn load_entry(
     }
 }
 
-/// The lines of a file, one after another.
+// Loads the lines of a file, one after another.
 #[cycle(loading)]
 fn load_entries(
     alloc: Global,
@@ -213,7 +213,7 @@ fn load_entries(
     Ok(loaded)
 }
 
-/// The text of a file: it is read whole before its includes are followed.
+// Loads the text of a file. It is parsed whole before its includes are resolved.
 #[cycle(loading)]
 fn load_text(
     alloc: Global,
@@ -245,7 +245,7 @@ fn load_text(
     }
 }
 
-/// A policy of what is loaded, unless there are too many definitions in all files together.
+// Returns the policy that was loaded. Returns `Parse(TooMany)` if there are too many definitions in all files together.
 fn closed(loaded: Loaded) -> Result<Policy, Refusal>
     requires { Fine loaded }
     ensures closes { Closes loaded (over_limit loaded.entries) result }
@@ -263,17 +263,18 @@ fn closed(loaded: Loaded) -> Result<Policy, Refusal>
     }
 }
 
-/// The policy of a main file, by its path and text, and of the files and folders that it includes.
+/// Returns the policy of a main file, by its path and text, and of the provided files and folders that it includes.
 ///
-/// Each include line is replaced by the entries of its file, or of its folder's files in the order of their names,
-/// where names that end in `~` or contain `.` are passed over; a relative path is in the including file's folder. A
-/// file is parsed whole before its includes are followed, and files are numbered in the order in which they are read.
+/// Each include line is replaced by the entries of its file, or of its folder's files in the order of their names;
+/// names that end in `~` or contain `.` are skipped. A relative path is in the including file's folder. A file is
+/// parsed whole before its includes are resolved, and files are numbered in the order in which they are read.
 ///
-/// Else the first fault, with the paths of the files read by then, a faulty one among them. Of an include line it is
-/// the first of these that holds: for a file `TooNested` past 128 levels, `TooMany` past 1,024 files, `Wanted` where
-/// it is not handed in, `Missing`, and `Parse`; for a folder `TooMany` past 1,024 folders, and `Wanted`. Last,
-/// `Parse(TooMany)` comes for the first definition past 4,096 of its kind in all files. `Memory` comes only where
-/// memory was refused, with no paths. The file number in a fault is below the number of paths. What is handed in and not asked for changes nothing.
+/// Otherwise returns the first fault, with the paths of the files read up to it, including a faulty one. For an include
+/// line it is the first of these that applies: for a file `TooNested` past 128 levels, `TooMany` past 1,024 files,
+/// `Wanted` if it is not provided, `Missing`, and `Parse`; for a folder `TooMany` past 1,024 folders, and `Wanted`.
+/// Last, returns `Parse(TooMany)` for the first definition past 4,096 of its kind in all files. Returns `Memory` only
+/// if allocation fails, without paths. The file number in a fault is below the number of paths. Supplies that are not
+/// needed have no effect.
 pub fn load(
     alloc: Global,
     path: &[u8],

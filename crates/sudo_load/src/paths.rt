@@ -6,7 +6,7 @@ ghost use Rattle.sudo_load.specs.Paths as spec;
 use std::alloc::{AllocError, Global};
 use sudo_text::{Ch, Seq};
 
-/// How many bytes follow the last `/` of a path.
+// Returns the number of bytes after the last `/` of a path.
 fn name_len(path: &[u8]) -> usize
     ensures len { result ≡ length (take_while (λ b. not (b == 47)) (reverse path.now)) }
     ensures within { result ≤ length path.now }
@@ -14,14 +14,14 @@ fn name_len(path: &[u8]) -> usize
     path.iter().rev().take_while(|b| **b != b'/').count()
 }
 
-/// The folder of a path: its bytes up to and with the last `/`.
+// Returns the folder of a path: its bytes up to and including the last `/`.
 fn folder_of(path: &[u8]) -> &[u8]
     ensures { result.now ≡ spec.folder_of path.now }
 {
     &path[..path.len() - name_len(path)]
 }
 
-/// Whether a path begins at the root.
+// Whether a path is absolute.
 fn is_absolute(path: &[u8]) -> bool
     ensures { result ≡ spec.is_absolute path.now }
 {
@@ -31,7 +31,7 @@ fn is_absolute(path: &[u8]) -> bool
     }
 }
 
-/// Whether a path ends in `/`.
+// Whether a path ends in `/`.
 fn ends_in_slash(path: &[u8]) -> bool
     ensures { result ≡ spec.ends_in_slash path.now }
 {
@@ -41,7 +41,7 @@ fn ends_in_slash(path: &[u8]) -> bool
     }
 }
 
-/// The bytes of the characters of a path.
+/// Returns the bytes of the characters of a path.
 pub(crate) fn bytes(alloc: Global, chars: &[Ch]) -> Result<Seq<u8>, AllocError>
     ensures { IfOk result (λ s. s ≡ map (λ c. c.byte) chars.now) }
 {
@@ -49,7 +49,7 @@ pub(crate) fn bytes(alloc: Global, chars: &[Ch]) -> Result<Seq<u8>, AllocError>
     Ok(Seq::from_vec(bytes))
 }
 
-/// A path as a file names it: a relative one is in the file's folder.
+/// Resolves a path that a file names: a relative one is in the file's folder.
 pub(crate) fn beside(alloc: Global, file: &[u8], path: &[u8]) -> Result<Seq<u8>, AllocError>
     ensures { IfOk result (λ s. s ≡ spec.beside file.now path.now) }
 {
@@ -61,7 +61,7 @@ pub(crate) fn beside(alloc: Global, file: &[u8], path: &[u8]) -> Result<Seq<u8>,
     Ok(whole)
 }
 
-/// The path of a folder's file.
+/// Returns the path of a file in a folder.
 pub(crate) fn in_folder(alloc: Global, folder: &[u8], name: &[u8]) -> Result<Seq<u8>, AllocError>
     ensures { IfOk result (λ s. s ≡ spec.in_folder folder.now name.now) }
 {
@@ -73,7 +73,7 @@ pub(crate) fn in_folder(alloc: Global, folder: &[u8], name: &[u8]) -> Result<Seq
     Ok(whole)
 }
 
-/// Whether a folder's file is read: its name does not end in `~` and has no `.`.
+/// Whether a folder's file is read: whether its name neither ends in `~` nor contains `.`.
 pub(crate) fn is_kept(name: &[u8]) -> bool
     ensures { result ≡ spec.is_kept name.now }
 {

@@ -1,19 +1,19 @@
-//! What is handed in.
+//! The files and folders that a caller provides.
 ghost use Rattle.std.specs.Prelude.{◌≡◌};
 ghost use Rattle.std.specs.Option.{option_copied};
 ghost use Rattle.sudo_load.specs.Supplies.{file_in, folder_in, supplied_file, supplied_folder};
 
 use sudo_text::Seq;
 
-/// A file or a folder as it is found, by its path. Of two supplies of one kind and path the first counts.
+/// A provided file or folder, by its path. Of two supplies of one kind and path the first counts.
 #[derive(Clone, Debug, Drop, PartialEq, Eq)]
 pub enum Supply {
-    /// A file and its text, `None` where there is no such file.
+    /// A file and its text, or `None` if there is no such file.
     File {
         path: Seq<u8>,
         text: Option<Seq<u8>>,
     },
-    /// A folder and the names of its regular files; a folder that is not there has none.
+    /// A folder and the names of its regular files; a folder that does not exist has none.
     Folder {
         path: Seq<u8>,
         names: Seq<Seq<u8>>,
@@ -21,7 +21,7 @@ pub enum Supply {
 }
 
 impl Supply {
-    /// The text of the file at this path, or that it is missing, if this says so.
+    // Returns the text of the file at this path, or that it is missing, if this is its supply.
     fn file(&self, path: &[u8]) -> Option<&Option<Seq<u8>>>
         ensures { option_copied result ≡ file_in path.now self.now }
     {
@@ -37,7 +37,7 @@ impl Supply {
         }
     }
 
-    /// The names of the folder at this path, if this says so.
+    // Returns the names in the folder at this path, if this is its supply.
     fn folder(&self, path: &[u8]) -> Option<&Seq<Seq<u8>>>
         ensures { option_copied result ≡ folder_in path.now self.now }
     {
@@ -54,7 +54,7 @@ impl Supply {
     }
 }
 
-/// The text of the file at a path, or that it is missing; `None` where it is not handed in.
+/// Returns the text of the file at a path, or that it is missing; `None` if it is not provided.
 pub(crate) fn find_file<'a>(supplies: &'a [Supply], path: &[u8]) -> Option<&'a Option<Seq<u8>>>
     ensures { option_copied result ≡ supplied_file supplies.now path.now }
 {
@@ -68,7 +68,7 @@ pub(crate) fn find_file<'a>(supplies: &'a [Supply], path: &[u8]) -> Option<&'a O
     None
 }
 
-/// The names of the folder at a path, where they are handed in.
+/// Returns the names in the folder at a path; `None` if it is not provided.
 pub(crate) fn find_folder<'a>(supplies: &'a [Supply], path: &[u8]) -> Option<&'a Seq<Seq<u8>>>
     ensures { option_copied result ≡ supplied_folder supplies.now path.now }
 {

@@ -1,4 +1,4 @@
--- Lemmas on characters by their places, and on how they are read.
+-- Lemmas on characters by their indices, and on how they are read.
 use Rattle.std.proofs.Common.{◌≡◌, ℕ, zero, suc, ◌+◌, ◌-◌, ◌<◌, ◌≤◌, Bool, true, false, ◌&&◌, not, List, [], ◌∷◌, ◌++◌, map, length, drop, refl, ap, sym, ◌∙◌, Some, None, Option, arith, zero-add, add-zero, cond, ◌^◌, length-append}
 use Rattle.std.specs.Prelude.{slice_get, option_map}
 use Rattle.std.proofs.lemmas.Option.{slice_get-map, slice_get_past, slice_get_within}

@@ -1,4 +1,4 @@
--- Lemmas on brackets that nothing closes.
+-- Lemmas on unclosed brackets.
 use Rattle.std.proofs.Common.{◌≡◌, ℕ, ◌+◌, Bool, true, false, ◌&&◌, not, List, ◌∷◌, drop, refl, ap, sym, ◌∙◌, subst, Some, None, Option, arith}
 use Rattle.std.specs.Prelude.{slice_get, option_map}
 use Rattle.sudo_text.specs.declared.token.Ch.{Ch}

@@ -1,4 +1,4 @@
--- Lemmas on written brackets: what is written is read, and what is read is written.
+-- Lemmas on written brackets: a bracket that is written is read, and one that is read is written.
 use Rattle.std.proofs.Common.{◌≡◌, ℕ, zero, suc, ◌+◌, ◌≤◌, Bool, true, false, ◌&&◌, not, List, [], ◌∷◌, ◌++◌, length, take, drop, refl, ap, sym, ◌∙◌, subst, Some, None, Option, arith, cond, length-append, length-drop}
 use Rattle.std.specs.Prelude.{slice_get, option_map, ◌==◌}
 use Rattle.std.proofs.lemmas.Bool.{eqb-true, not-true}

@@ -1,4 +1,4 @@
--- Lemmas on groups by name and by ID: the first of a name, or of an ID, speaks for all of them.
+-- Lemmas on groups by name and by ID: the first group of a name, or of an ID, represents all of them.
 use Rattle.std.proofs.Common.{◌≡◌, ℕ, ◌+◌, ◌≤◌, Bool, true, false, ◌&&◌, ◌||◌, not, List, [], ◌∷◌, ◌++◌, take, length, refl, ap, sym, ◌∙◌, Some, None, Option, cond, arith}
 use Rattle.std.specs.Prelude.{slice_get, find, is_some, bytes_eq, option_and_then, ◌==◌}
 use Rattle.std.specs.List.{list_any}

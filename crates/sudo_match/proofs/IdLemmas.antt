@@ -1,4 +1,4 @@
--- Group IDs with places, against the map that holds them.
+-- Group IDs with their indices, compared with the map that contains them.
 use Rattle.std.proofs.Common.{◌≡◌, ℕ, List, [], ◌∷◌, ◌++◌, Option, None, Some, Bool, true, false, ◌&&◌, map, refl, ap, sym, ◌∙◌, cond}
 use Rattle.std.specs.Prelude.{nat_eq}
 use Rattle.std.specs.Map.{lookup}

@@ -1,4 +1,4 @@
--- Lemmas on the items of a bracket, by places.
+-- Lemmas on the items of a bracket, by their indices.
 use Rattle.std.proofs.Common.{◌≡◌, ℕ, zero, suc, ◌+◌, ◌-◌, ◌<◌, ◌≤◌, Bool, true, false, ◌&&◌, ◌||◌, not, List, [], ◌∷◌, ◌++◌, map, length, drop, refl, ap, sym, ◌∙◌, Some, None, Option, arith, zero-add, add-zero, cond, length-drop, length-append}
 use Rattle.std.specs.Prelude.{slice_get, option_map, find}
 use Rattle.std.specs.List.{list_any}

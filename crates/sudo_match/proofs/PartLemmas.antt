@@ -1,4 +1,4 @@
--- Lemmas on the parts of a pattern, by places.
+-- Lemmas on the parts of a pattern, by their indices.
 use Rattle.std.proofs.Common.{◌≡◌, ℕ, zero, suc, ◌+◌, Bool, true, false, ◌&&◌, not, List, [], ◌∷◌, drop, refl, ap, sym, ◌∙◌, Some, None, Option, cond}
 use Rattle.std.specs.Prelude.{slice_get, option_map}
 use Rattle.std.specs.List.{list_any}

@@ -9,12 +9,12 @@ use Rattle.sudo_match.specs.Pattern.{is_plain, is_byte}
 abbrev pub lower_char : Ch → Ch
 lower_char c = record { byte = lower c.byte; escaped = c.escaped }
 
--- in lower case, and without a meaning but its own
+-- in lower case, and escaped, so that it stands only for itself
 abbrev pub literal_char : Ch → Ch
 literal_char c = record { byte = lower c.byte; escaped = true }
 
--- an escaped `!` directly after an unescaped `[` counts as unescaped; `is_after` says that the first character stands
--- directly after one
+-- an escaped `!` directly after an unescaped `[` counts as unescaped; `is_after`: the first character is directly after
+-- one
 abbrev pub free_bang : Bool → Ch → Ch
 free_bang is_after c = if is_after && is_byte 33 c then record { byte = 33; escaped = false } else c
 

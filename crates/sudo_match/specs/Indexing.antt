@@ -1,4 +1,4 @@
--- What the indexes behind a directory hold. Only the bodies' proofs need these words.
+-- The contents of the indexes behind a directory; only proofs of bodies need these definitions.
 use Rattle.std.specs.Prelude.{◌≡◌, ℕ, Bool, false, not, List, [], ◌∷◌, ◌++◌, map, length, Option, Some, None, slice_get, option_and_then, is_some, if◌then◌else◌}
 use Rattle.sudo_match.specs.declared.people.Person.{Person}
 use Rattle.sudo_match.specs.declared.people.Group.{Group}
@@ -9,20 +9,20 @@ use Rattle.sudo_match.specs.declared.spots.Spot.{Spot}
 use Rattle.sudo_match.specs.Class.{lower_text}
 use Rattle.sudo_match.specs.Known.{first_clash, groups_of, directory_fault}
 
--- no row clashes with an earlier one, and each name has the place of the first row that has it
+-- no row clashes with an earlier one, and each name has the index of the first row that has it
 pub record AreApart {A : Type 0} (clashes : A → A → Bool) (key : A → List ℕ) (rows : List A) (names : List (List ℕ × ℕ)) : Type 0 where
   pub apart : first_clash clashes rows ≡ None
   pub indexed : Indexes key rows (length rows) (place_of names)
 
--- the names with one more, unless it has a place already
+-- the names with one more, unless it is already there
 abbrev pub noted : List (List ℕ × ℕ) → List ℕ → ℕ → List (List ℕ × ℕ)
 noted names name at = if is_some (place_of names name) then names else names ++ (name, at) ∷ []
 
--- the group that stands there
+-- the group at a position
 abbrev pub group_there : List Person → Spot → Option Group
 group_there people spot = option_and_then (λ u. slice_get u.groups spot.at) (slice_get people spot.user)
 
--- the spots of all groups of all users, in order
+-- the positions of all groups of all users, in order
 abbrev pub AreSpots : List Person → List Spot → Type 0
 AreSpots people spots = map (group_there people) spots ≡ map Some (groups_of people)
 
@@ -31,7 +31,7 @@ abbrev pub differs : {A : Type 0} → (A → Bool) → Option A → Bool
 differs test None = false
 differs test (Some x) = not (test x)
 
--- what a directory keeps beside its rows, and that the rows have no fault
+-- the invariant of a directory: its indexes are those of its rows, and the rows have no fault
 pub record IsKept (people : List Person) (machines : List Machine) (users hosts groups : List (List ℕ × ℕ)) (spots : List Spot) : Type 0 where
   pub users_indexed : Indexes (λ u. u.name) people (length people) (place_of users)
   pub hosts_indexed : Indexes (λ m. lower_text m.name) machines (length machines) (place_of hosts)

@@ -8,7 +8,7 @@ use Rattle.sudo_match.specs.declared.fault.DirFault.{DirFault}
 use Rattle.sudo_match.specs.declared.fault.DirFault.TheVariants.{UserTwice, HostTwice, GroupClash, NoGroup, NoRoot, Memory}
 use Rattle.sudo_match.specs.Class.{lower_text}
 
--- the rows, as they were handed in
+-- the rows from which a directory was created
 pub record Known : Type 0 where
   pub people : List Person
   pub machines : List Machine
@@ -16,7 +16,7 @@ pub record Known : Type 0 where
 unfoldable pub user_named : Known → List ℕ → Option Person
 user_named d name = find (λ u. bytes_eq u.name name) d.people
 
--- without ASCII case
+-- the host of this name, ignoring ASCII case
 unfoldable pub host_named : Known → List ℕ → Option Machine
 host_named d name = find (λ m. bytes_eq (lower_text m.name) (lower_text name)) d.machines
 
@@ -24,16 +24,16 @@ host_named d name = find (λ m. bytes_eq (lower_text m.name) (lower_text name)) 
 abbrev pub groups_of : List Person → List Group
 groups_of people = flat_map (λ u. u.groups) people
 
--- a group is known where some user has it
+-- the group of this name, if some user has it
 unfoldable pub group_named : Known → List ℕ → Option Group
 group_named d name = find (λ g. bytes_eq g.name name) (groups_of d.people)
 
--- whether there is an element, and it clashes with one of these
+-- there is an element, and it clashes with one of these
 abbrev pub clashes_with : {A : Type 0} → (A → A → Bool) → List A → Option A → Bool
 clashes_with clashes others None = false
 clashes_with clashes others (Some x) = list_any (λ y. clashes y x) others
 
--- whether the element at a place clashes with one before it
+-- the element at an index clashes with one before it
 abbrev pub clashes_at : {A : Type 0} → (A → A → Bool) → List A → ℕ → Bool
 clashes_at clashes xs i = clashes_with clashes (take i xs) (slice_get xs i)
 
@@ -55,7 +55,7 @@ abbrev pub is_no_group : List Group → Bool
 is_no_group [] = true
 is_no_group (g ∷ gs) = false
 
--- the first, or else the second
+-- the first value, or the second if there is no first
 abbrev pub or_else : {A : Type 0} → Option A → Option A → Option A
 or_else (Some x) other = Some x
 or_else None other = other
@@ -79,11 +79,11 @@ ungrouped_fault people = option_map (λ u. NoGroup u.name) (find (λ u. is_no_gr
 abbrev pub root_fault : List Person → Option DirFault
 root_fault people = if list_any (λ u. bytes_eq u.name (codes "root")) people then None else Some NoRoot
 
--- the fault of the rows, by the first of the five kinds in this order; each names the first row that shows it
+-- the first fault of the rows, in the order of the five kinds; each names the first row that shows it
 unfoldable pub directory_fault : List Person → List Machine → Option DirFault
 directory_fault people machines =
     or_else (user_fault people) (or_else (host_fault machines) (or_else (group_fault people) (or_else (ungrouped_fault people) (root_fault people))))
 
--- a refusal: this fault where there is one, or want of memory
+-- the given fault, if there is one, or an allocation failure
 abbrev pub IsRefusal : Option DirFault → DirFault → Type 0
 IsRefusal wanted fault = (fault ≡ Memory) ⊎ (wanted ≡ Some fault)

@@ -1,5 +1,5 @@
--- Which atoms match a user, a group, a host, and a command with its arguments, as in sudoers(5), "User_List", "Runas_List",
--- "Host_List", "Cmnd_List" and "Wildcards".
+-- The matching of atoms with a user, a group, a host, and a command with its arguments, as in sudoers(5), "User_List",
+-- "Runas_List", "Host_List", "Cmnd_List" and "Wildcards".
 use Rattle.std.specs.Prelude.{ℕ, ◌-◌, ◌/◌, ◌^◌, Bool, true, false, not, ◌&&◌, ◌||◌, ◌==◌, if◌then◌else◌, List, [], ◌∷◌, map, length, bit_and, bytes_eq, codes, Option, Some, None}
 use Rattle.std.specs.List.{list_any, before_first}
 use Rattle.sudo_text.specs.declared.token.Ch.{Ch}
@@ -25,7 +25,7 @@ user_fits (atom.Group n) u = list_any (λ g. bytes_eq g.name n) u.groups
 user_fits (atom.Gid i) u = list_any (λ g. g.gid == i) u.groups
 user_fits _ u = false
 
--- of a group list, where a plain name is a group's
+-- an atom of a group list, where a plain name is a group's
 unfoldable pub group_fits : Atom → Group → Bool
 group_fits atom.All g = true
 group_fits (atom.Name n) g = bytes_eq n g.name
@@ -51,7 +51,7 @@ compared_name chars name = if has_dot chars then name else short_name name
 abbrev pub host_pattern : List Ch → Bool → List Ch
 host_pattern chars quoted = if quoted then quoted_chars chars else host_chars chars
 
--- the mask of which this many leading bits are set
+-- the mask with the given number of leading bits set
 abbrev pub mask_of : ℕ → ℕ
 mask_of bits = 2 ^ 32 - 2 ^ (32 - bits)
 
@@ -59,7 +59,7 @@ mask_of bits = 2 ^ 32 - 2 ^ (32 - bits)
 abbrev pub is_loopback : ℕ → Bool
 is_loopback addr = addr / 2 ^ 24 == 127
 
--- an interface has this address, or this is the address of its network
+-- the address is that of an interface, or of its network
 abbrev pub address_fits : ℕ → Interface → Bool
 address_fits addr i = not (is_loopback i.addr) && (addr == i.addr || addr == bit_and i.addr (mask_of i.bits))
 
@@ -84,12 +84,12 @@ abbrev pub is_empty : List ℕ → Bool
 is_empty [] = true
 is_empty (b ∷ bs) = false
 
--- none allow any arguments, `""` no arguments, and others are a pattern
+-- a command without arguments allows any, `""` allows none, and any other text is a pattern
 abbrev pub arguments_fit : Slash → Option (List Ch) → List ℕ → Bool
 arguments_fit slash None arguments = true
 arguments_fit slash (Some chars) arguments = if spells (codes "\"\"") chars then is_empty arguments else fits (parts chars) arguments slash
 
--- whether `*` in the arguments of a command may fit a `/`: not in the paths that `sudoedit` edits
+-- `*` in the arguments of a command may fit a `/`, except in the paths that `sudoedit` edits
 abbrev pub arguments_slash : List Ch → Slash
 arguments_slash path = if spells (codes "sudoedit") path then Not else Any
 

@@ -15,7 +15,7 @@ use Rattle.sudo_match.specs.Class.{Class, class_holds, class_name, classes, is_b
 abbrev pub is_byte : ℕ → Ch → Bool
 is_byte b c = c.byte == b
 
--- this byte, not escaped: an escaped byte has no meaning but its own
+-- this byte, unescaped: an escaped byte stands only for itself
 abbrev pub is_plain : ℕ → Ch → Bool
 is_plain b c = not c.escaped && (c.byte == b)
 
@@ -38,7 +38,7 @@ pub data Item : Type 0 where
   Range : (low high : ℕ) → Item
   Single : ℕ → Item
 
--- the bytes of an item; a range whose ends are the wrong way round has none
+-- the bytes of an item; a range whose ends are in the wrong order has none
 abbrev pub item_holds : ℕ → Item → Bool
 item_holds b (InClass k) = class_holds k b
 item_holds b (Range low high) = is_between low high b
@@ -51,33 +51,33 @@ class_end = is_byte 58 ∷ is_plain 93 ∷ []
 abbrev pub class_form : Class → List (Ch → Bool)
 class_form k = is_plain 91 ∷ is_byte 58 ∷ (map is_plain (class_name k) ++ class_end)
 
--- the known class whose form begins the characters
+-- the known class whose form the characters begin with
 abbrev pub class_at : List Ch → Option Class
 class_at cs = find (λ k. begins (class_form k) cs) classes
 
--- a range `a-b`, or one byte. A `-` is itself where no character follows it or the closing `]` does
+-- a range `a-b`, or one byte; a `-` stands for itself if no character follows it or the closing `]` does
 unfoldable pub range_at : Ch → List Ch → Item × ℕ
 range_at a [] = (Single a.byte, 0)
 range_at a (dash ∷ []) = (Single a.byte, 0)
 range_at a (dash ∷ b ∷ cs) =
     if is_plain 45 dash && not (is_plain 93 b) then (Range a.byte b.byte, 2) else (Single a.byte, 0)
 
--- a class, or else another item
+-- a class, or otherwise another item
 abbrev pub class_or : Option Class → Item × ℕ → Item × ℕ
 class_or (Some k) other = (InClass k, length (class_name k) + 3)
 class_or None other = other
 
--- the item with which the characters begin, and how many characters it takes after its first
+-- the item with which the characters begin, and the number of its characters after the first
 abbrev pub item_at : Ch → List Ch → Item × ℕ
 item_at c cs = class_or (class_at (c ∷ cs)) (range_at c cs)
 
--- the same of a list of characters, if it has any
+-- the first item of a list of characters, if there are any
 abbrev pub item_of : List Ch → Option (Item × ℕ)
 item_of [] = None
 item_of (c ∷ cs) = Some (item_at c cs)
 
--- the items up to the closing `]`, an unescaped `]` that is not the first item, and how many characters they take with
--- that `]`; none, where no `]` closes the bracket. The first `skipped` characters belong to the item before
+-- the items up to the closing `]`, an unescaped `]` that is not the first item, and the number of their characters with
+-- that `]`; none if no `]` closes the bracket; the first `skipped` characters belong to the item before
 unfoldable pub items_after : ℕ → Bool → List Ch → Option (List Item × ℕ)
 items_after skipped is_first [] = None
 items_after (suc skipped) is_first (c ∷ cs) = option_map (λ r. (r.0, r.1 + 1)) (items_after skipped false cs)
@@ -88,7 +88,7 @@ items_after zero is_first (c ∷ cs) =
 
 -- ---- Parts
 
--- what fits one byte
+-- a set of bytes, of which a part fits one
 pub data ByteSet : Type 0 where
   Only : ℕ → ByteSet
   AnyByte : ByteSet
@@ -98,7 +98,7 @@ pub data Part : Type 0 where
   One : ByteSet → Part
   Star : Part
 
--- the bracket whose characters, after its `[`, are these, and how many of them it takes
+-- the bracket of the characters after a `[`, and how many of them it takes
 unfoldable pub bracket_after : List Ch → Option (ByteSet × ℕ)
 bracket_after [] = None
 bracket_after (c ∷ cs) =
@@ -106,13 +106,13 @@ bracket_after (c ∷ cs) =
     then option_map (λ r. (Bracket true r.0, r.1 + 1)) (items_after 0 true cs)
     else option_map (λ r. (Bracket false r.0, r.1)) (items_after 0 true (c ∷ cs))
 
--- a bracket, or else a byte that fits itself
+-- a bracket, or otherwise a byte that fits itself
 abbrev pub bracket_or : Option (ByteSet × ℕ) → ℕ → Part × ℕ
 bracket_or (Some r) b = (One r.0, r.1)
 bracket_or None b = (One (Only b), 0)
 
--- the part with which the characters begin, and how many characters it takes after its first.
--- A `[` that nothing closes fits itself
+-- the part with which the characters begin, and the number of its characters after the first; an unclosed `[` fits
+-- itself
 unfoldable pub part_at : Ch → List Ch → Part × ℕ
 part_at c cs =
     if is_plain 42 c then (Star, 0)
@@ -120,7 +120,7 @@ part_at c cs =
     else if is_plain 91 c then bracket_or (bracket_after cs) c.byte
     else (One (Only c.byte), 0)
 
--- the same of a list of characters, if it has any
+-- the first part of a list of characters, if there are any
 abbrev pub part_of : List Ch → Option (Part × ℕ)
 part_of [] = None
 part_of (c ∷ cs) = Some (part_at c cs)
@@ -136,7 +136,7 @@ parts cs = parts_after 0 cs
 
 -- ---- Paths
 
--- a path whose last character is `/` stands for the files of that folder: as if `?*` stood after it
+-- a path whose last character is `/` stands for the files of that folder: it is matched as if `?*` were appended
 abbrev pub ends_in_slash : List Ch → Bool
 ends_in_slash cs = has (is_byte 47) (slice_get cs (length cs - 1))
 
@@ -160,7 +160,7 @@ set_holds s AnyByte b = is_free s b
 set_holds s (Bracket false items) b = is_free s b && list_any (item_holds b) items
 set_holds s (Bracket true items) b = is_free s b && not (list_any (item_holds b) items)
 
--- the bytes that a part fits alone; a star has none
+-- a part fits this byte alone; a star never does
 abbrev pub part_holds : Slash → Part → ℕ → Bool
 part_holds s (One set) b = set_holds s set b
 part_holds s Star b = false
@@ -170,8 +170,8 @@ unfoldable pub cuts : List ℕ → List (List ℕ × List ℕ)
 cuts [] = ([], []) ∷ []
 cuts (b ∷ t) = ([], b ∷ t) ∷ map (λ c. (b ∷ c.0, c.1)) (cuts t)
 
--- no parts fit the empty text; a set and then p fit a byte of the set and then what p fits; a star and then p fit a
--- text that is cut somewhere into bytes that a star may fit and then what p fits
+-- no parts fit the empty text; a set and then p fit a byte of the set and then a text that p fits; a star and then p
+-- fit a text that is cut somewhere into bytes that a star may fit and then a text that p fits
 unfoldable pub fits : List Part → List ℕ → Slash → Bool
 fits [] [] s = true
 fits [] (b ∷ t) s = false

@@ -1,4 +1,5 @@
--- How the private readers of the code see the characters of a pattern and the bytes of a text; only bodies' proofs need it.
+-- The code's views of the characters of a pattern and the bytes of a text; only proofs of bodies need these
+-- definitions.
 use Rattle.std.specs.Prelude.{ℕ, ◌++◌, zero, suc, slice_get, Bool, false, if◌then◌else◌, List, Option, Some, None}
 use Rattle.sudo_text.specs.declared.token.Ch.{Ch}
 use Rattle.sudo_match.specs.declared.patterns.Slash.{Slash}
@@ -10,7 +11,7 @@ use Rattle.sudo_match.specs.Class.{lower_text}
 use Rattle.sudo_match.specs.Pattern.{is_plain, has, is_free, any_name}
 use Rattle.sudo_match.specs.HostNames.{lower_char, literal_char, free_bang, host_chars, quoted_chars}
 
--- whether the character at this place stands directly after an unescaped `[`
+-- the character at this index is directly after an unescaped `[`
 abbrev pub follows_bracket : List Ch → ℕ → Bool
 follows_bracket cs zero = false
 follows_bracket cs (suc n) = has (is_plain 91) (slice_get cs n)
@@ -27,15 +28,15 @@ read Exact cs = cs
 read Host cs = host_chars cs
 read Quoted cs = quoted_chars cs
 
--- what a pattern's characters are, as they are read
+-- the characters of a pattern, as they are read
 abbrev pub seen : Chars → List Ch
 seen c = read c.reading c.chars.now ++ any_name c.is_folder
 
--- what a text's bytes are, as they are read
+-- the bytes of a text, as they are read
 abbrev pub text_of : Text → List ℕ
 text_of t = if t.lower then lower_text t.bytes.now else t.bytes.now
 
--- there is a byte that a star may fit
+-- there is a next byte, and a star may fit it
 abbrev pub is_free_byte : Slash → Option ℕ → Bool
 is_free_byte s None = false
 is_free_byte s (Some b) = is_free s b

@@ -1,4 +1,4 @@
-//! The users and hosts that are known.
+//! The directory of known users and hosts.
 ghost use Rattle.std.specs.Prelude.{◌≡◌, find, bytes_eq, IfOk, IfErr, None};
 ghost use Rattle.std.specs.Option.{option_copied};
 ghost use Rattle.sudo_match.specs.Class.{lower_text};
@@ -12,7 +12,7 @@ use std::marker::Model;
 use sudo_base::Names;
 use sudo_text::Seq;
 
-/// The users and hosts that are known, which contracts see as the rows that were handed in. The rows have no fault.
+/// The known users and hosts. Contracts see the rows from which it was created, which have no fault.
 #[derive(Drop)]
 pub struct Directory {
     people: Seq<Person>,
@@ -31,14 +31,15 @@ impl Model for Directory {
 
     ghost view = { λ d. record { people = d.people; machines = d.machines } };
 
-    ghost invariant = { λ d. IsKept d.people d.machines d.users d.hosts d.groups d.spots.items };
+    ghost invariant = { λ d. IsKept d.people d.machines d.users d.hosts d.groups
+        d.spots.items };
 }
 
 impl Directory {
-    /// Returns the directory of these rows, which are kept as they are, in time about linear in their number on average.
+    /// Creates a directory of these rows, which are kept as they are, in time about linear in their number on average.
     ///
-    /// Returns the first fault of `UserTwice`, `HostTwice`, `GroupClash`, `NoGroup` and `NoRoot`, in this order, exactly
-    /// if the rows have it, and `Memory` if memory is refused.
+    /// Returns the first fault of `UserTwice`, `HostTwice`, `GroupClash`, `NoGroup` and `NoRoot`, in this order,
+    /// exactly if the rows have it, and `Memory` if allocation fails.
     pub fn new(
         alloc: Global,
         people: Vec<Person>,
@@ -52,7 +53,7 @@ impl Directory {
         Directory::of_rows(alloc, Seq::from_vec(people), Seq::from_vec(machines))
     }
 
-    /// Returns the directory of these rows, or their fault.
+    // Creates a directory of these rows, or returns their fault.
     fn of_rows(
         alloc: Global,
         people: Seq<Person>,
@@ -82,14 +83,14 @@ impl Directory {
         })
     }
 
-    /// The rows of each directory have no fault. The call does nothing: its contract is a law.
+    /// A law: the rows of each directory have no fault. The function has an empty body.
     pub fn has_no_fault(&self)
         ensures { directory_fault self.now.people self.now.machines ≡ None }
     {
         let _people = &self.people;
     }
 
-    /// The user of this name, `None` exactly where there is none. Takes no memory.
+    /// Returns the user of this name, or `None` if there is none. Does not allocate.
     pub fn user(&self, name: &[u8]) -> Option<&Person>
         ensures { option_copied result ≡ user_named self.now name.now }
     {
@@ -97,7 +98,7 @@ impl Directory {
         self.people.get(at)
     }
 
-    /// The host of this name without regard to ASCII case, `None` exactly where there is none. Takes no memory.
+    /// Returns the host of this name, ignoring ASCII case, or `None` if there is none. Does not allocate.
     pub fn host(&self, name: &[u8]) -> Option<&Machine>
         ensures { option_copied result ≡ host_named self.now name.now }
     {
@@ -108,7 +109,7 @@ impl Directory {
         self.machines.get(at)
     }
 
-    /// The group of this name that a user has, `None` exactly where no user has one. Takes no memory.
+    /// Returns the group of this name, or `None` if no user has one. Does not allocate.
     pub fn group(&self, name: &[u8]) -> Option<&Group>
         ensures { option_copied result ≡ group_named self.now name.now }
     {
@@ -120,7 +121,7 @@ impl Directory {
     }
 }
 
-/// The first user without a group.
+// Returns the first user without a group.
 fn ungrouped(people: &[Person]) -> Option<&Person>
     ensures { option_copied result ≡ find (λ u. is_no_group u.groups) people.now }
 {
@@ -133,7 +134,7 @@ fn is_same_host(a: &[u8], b: &[u8]) -> bool
     a.eq_ignore_ascii_case(b)
 }
 
-/// The first host of this name, looked for one by one.
+// Returns the first host of this name, ignoring ASCII case, by a linear search.
 fn scanned<'a>(machines: &'a [Machine], name: &[u8]) -> Option<&'a Machine>
     ensures { option_copied result ≡ find (λ m. bytes_eq (lower_text m.name) (lower_text name.now))
         machines.now }

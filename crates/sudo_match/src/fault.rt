@@ -1,4 +1,4 @@
-//! Why rows make no directory.
+//! The faults of the rows of a directory.
 ghost use Rattle.std.specs.Prelude.{Some};
 ghost use Rattle.sudo_match.specs.Known.{IsRefusal};
 
@@ -6,17 +6,17 @@ use std::alloc::{AllocError, Global};
 use sudo_text::Seq;
 use thiserror::Error;
 
-/// Why rows of users and hosts make no directory, in the order in which the faults are looked for. Each names the first
-/// row that shows it.
+/// The reason why rows of users and hosts make no directory, in the order in which the faults are looked for. Each
+/// names the first row that shows it.
 #[derive(Clone, Debug, Drop, PartialEq, Eq, Error)]
 pub enum DirFault {
-    /// Two rows have this user.
+    /// Two rows have this user name.
     #[error("a user twice")]
     UserTwice { name: Seq<u8> },
-    /// Two rows have this host, without regard to ASCII case.
+    /// Two rows have this host name, ignoring ASCII case.
     #[error("a host twice")]
     HostTwice { name: Seq<u8> },
-    /// This group has the name of an earlier one with another ID, or its ID with another name.
+    /// This group has the name of an earlier one but another ID, or its ID but another name.
     #[error("a group clashes")]
     GroupClash { name: Seq<u8> },
     /// This user has no group.
@@ -25,7 +25,7 @@ pub enum DirFault {
     /// No user is named `root`.
     #[error("no user root")]
     NoRoot,
-    /// Memory was refused.
+    /// Out of memory.
     #[error("out of memory")]
     Memory,
 }
@@ -44,7 +44,7 @@ impl From<AllocError> for DirFault {
 impl DirFault {
     ghost use Rattle.sudo_match.specs.declared.fault.DirFault.TheVariants.{UserTwice, HostTwice, GroupClash, NoGroup};
 
-    /// The fault of a user's name that stands again, or want of memory for the name.
+    /// Returns `UserTwice` for a name, or `Memory` if copying the name fails.
     pub(crate) fn user_twice(alloc: Global, name: &[u8]) -> DirFault
         ensures { IsRefusal (Some (UserTwice name.now)) result }
     {
@@ -54,7 +54,7 @@ impl DirFault {
         }
     }
 
-    /// The fault of a host's name that stands again, or want of memory for the name.
+    /// Returns `HostTwice` for a name, or `Memory` if copying the name fails.
     pub(crate) fn host_twice(alloc: Global, name: &[u8]) -> DirFault
         ensures { IsRefusal (Some (HostTwice name.now)) result }
     {
@@ -64,7 +64,7 @@ impl DirFault {
         }
     }
 
-    /// The fault of a group that clashes, or want of memory for its name.
+    /// Returns `GroupClash` for a name, or `Memory` if copying the name fails.
     pub(crate) fn group_clash(alloc: Global, name: &[u8]) -> DirFault
         ensures { IsRefusal (Some (GroupClash name.now)) result }
     {
@@ -74,7 +74,7 @@ impl DirFault {
         }
     }
 
-    /// The fault of a user without a group, or want of memory for the name.
+    /// Returns `NoGroup` for the name of a user, or `Memory` if copying the name fails.
     pub(crate) fn no_group(alloc: Global, user: &[u8]) -> DirFault
         ensures { IsRefusal (Some (NoGroup user.now)) result }
     {

@@ -1,4 +1,4 @@
-//! Group IDs with places.
+//! A map from group IDs to indices.
 ghost use Rattle.std.specs.Prelude.{◌≡◌, [], ◌∷◌, OnOk};
 ghost use Rattle.sudo_base.specs.Places.{place_of};
 ghost use Rattle.sudo_match.specs.Indexing.{noted};
@@ -7,7 +7,7 @@ use indexmap::IndexMap;
 use std::alloc::{AllocError, Global};
 use std::marker::Model;
 
-/// Group IDs, each with a place. Contracts see an ID as a name of one number.
+/// A map from group IDs to indices. Contracts see an ID as a name of one number.
 #[derive(Drop)]
 pub(crate) struct Ids {
     places: IndexMap<u32, usize>,
@@ -23,7 +23,7 @@ impl Model for Ids {
 }
 
 impl Ids {
-    /// No IDs, which takes no memory.
+    /// Creates an empty map. Does not allocate.
     pub(crate) fn new(alloc: Global) -> Ids
         ensures { result ≡ [] }
     {
@@ -32,14 +32,14 @@ impl Ids {
         }
     }
 
-    /// The place of an ID, `None` exactly where it has none. Takes no memory.
+    /// Returns the index of an ID, or `None` if the map does not contain it. Does not allocate.
     pub(crate) fn get(&self, id: u32) -> Option<usize>
         ensures { result ≡ place_of self.now (id ∷ []) }
     {
         self.places.get(&id).copied()
     }
 
-    /// Notes the place of an ID, unless it has one.
+    /// Inserts the index of an ID, unless the ID has one.
     pub(crate) fn note(&mut self, id: u32, place: usize) -> Result<(), AllocError>
         ensures { OnOk result (self.new ≡ noted self.old (id ∷ []) place) }
     {

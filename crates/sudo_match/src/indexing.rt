@@ -1,4 +1,4 @@
-//! Users, hosts and groups by their names.
+//! Indexes of users, hosts and groups by their names.
 ghost use Rattle.std.specs.Prelude.{◌≡◌, ◌==◌, ◌||◌, ◌∷◌, [], ◌≤◌, IfOk, IfErr, OnOk, length, bytes_eq, option_and_then, slice_get};
 ghost use Rattle.std.specs.Option.{option_copied};
 ghost use Rattle.sudo_base.specs.Places.{place_of};
@@ -12,7 +12,7 @@ use crate::{DirFault, Group, Machine, Person};
 use std::alloc::{AllocError, Global};
 use sudo_base::Names;
 
-/// The places of users by name, or the fault of the first one whose name an earlier one has.
+/// Returns the indices of users by name. Returns `UserTwice` for the first user whose name an earlier one has.
 pub(crate) fn user_names(alloc: Global, people: &[Person]) -> Result<Names, DirFault>
     ensures names { IfOk result (AreApart same_user (λ u. u.name) people.now) }
     ensures fault { IfErr result (IsRefusal (user_fault people.now)) }
@@ -28,7 +28,7 @@ pub(crate) fn user_names(alloc: Global, people: &[Person]) -> Result<Names, DirF
     Ok(names)
 }
 
-/// A copy of a name in lower case.
+// Copies a name in lower case.
 fn in_lower_case(alloc: Global, name: &[u8]) -> Result<Vec<u8>, AllocError>
     ensures { IfOk result (λ v. v.items ≡ lower_text name.now) }
 {
@@ -37,7 +37,8 @@ fn in_lower_case(alloc: Global, name: &[u8]) -> Result<Vec<u8>, AllocError>
         .collect(alloc)
 }
 
-/// The places of hosts by name in lower case, or the fault of the first one whose name an earlier one has.
+/// Returns the indices of hosts by name in lower case. Returns `HostTwice` for the first host whose name an earlier one
+/// has.
 pub(crate) fn host_names(alloc: Global, machines: &[Machine]) -> Result<Names, DirFault>
     ensures names { IfOk result (AreApart same_host (λ m. lower_text m.name) machines.now) }
     ensures fault { IfErr result (IsRefusal (host_fault machines.now)) }
@@ -53,10 +54,10 @@ pub(crate) fn host_names(alloc: Global, machines: &[Machine]) -> Result<Names, D
     Ok(names)
 }
 
-/// The longest name that is looked up through the index: a longer one is not a host name by RFC 1123.
+// The greatest length of a name that is looked up through the index: a longer one is not a host name by RFC 1123.
 const LONGEST: usize = 255;
 
-/// The place of a host without regard to ASCII case. Takes no memory: the name is put in lower case on the stack.
+/// Returns the index of a host, ignoring ASCII case. Does not allocate: the name is put in lower case on the stack.
 pub(crate) fn host_place(names: &Names, name: &[u8]) -> Option<usize>
     requires { length name.now ≤ 255 }
     ensures { result ≡ place_of names.now (lower_text name.now) }
@@ -68,7 +69,7 @@ pub(crate) fn host_place(names: &Names, name: &[u8]) -> Option<usize>
     names.get(&lower[..name.len()])
 }
 
-/// Notes the place of a name, unless it has one.
+// Inserts the index of a name, unless the name has one.
 fn note(names: &mut Names, alloc: Global, name: &[u8], place: usize) -> Result<(), AllocError>
     ensures { OnOk result (names.new ≡ noted names.old name.now place) }
 {
@@ -96,7 +97,7 @@ fn has_other_name(found: Option<&Group>, name: &[u8]) -> bool
     }
 }
 
-/// Whether the first group of the same name has another ID, or the first group of the same ID another name.
+// Whether the first group of the same name has another ID, or the first group of the same ID has another name.
 fn clashes(
     people: &[Person],
     spots: &[Spot],
@@ -114,7 +115,8 @@ fn clashes(
         | has_other_name(group_found(people, spots, by_id), group.name.as_slice())
 }
 
-/// The places of groups, among all groups, by name, or the fault of the first one that clashes with an earlier one.
+/// Returns the indices of groups, among all groups, by name. Returns `GroupClash` for the first group that clashes with
+/// an earlier one.
 pub(crate) fn group_names(
     alloc: Global,
     people: &[Person],

@@ -1,17 +1,17 @@
-//! Laws of patterns: how characters are cut into parts.
+//! Laws of patterns: the parts into which characters are cut.
 ghost use Rattle.std.specs.Prelude.{◌≡◌, ◌∷◌, List, Bool, true, false};
 ghost use Rattle.sudo_text.specs.declared.token.Ch.{Ch};
 ghost use Rattle.sudo_match.specs.Pattern.{is_plain, Item, One, Star, Only, AnyByte, Bracket, parts};
 ghost use Rattle.sudo_match.specs.Written.{WritesBracket};
 
-/// `[`, `!` or not, items, and `]` are one part, the bracket of these items.
+/// `[`, an optional `!`, items, and `]` are one part: the bracket of these items.
 pub fn brackets_are_cut()
     ensures { (start : Ch) (complement : Bool) (items : List Item) (cs rest : List Ch)
         → is_plain 91 start ≡ true → WritesBracket complement items cs rest
         → parts (start ∷ cs) ≡ One (Bracket complement items) ∷ parts rest }
 {}
 
-/// A `[` after which nothing writes a bracket is a part by itself, which fits `[` alone.
+/// A `[` that begins no bracket is a part by itself, which fits `[` alone.
 pub fn unclosed_brackets_are_bytes()
     ensures { (start : Ch) (cs : List Ch) → is_plain 91 start ≡ true
         → ((complement : Bool) (items : List Item) (rest : List Ch)
@@ -19,7 +19,8 @@ pub fn unclosed_brackets_are_bytes()
         → parts (start ∷ cs) ≡ One (Only start.byte) ∷ parts cs }
 {}
 
-/// Each other character is a part by itself: an unescaped `*` a star, an unescaped `?` any byte, and all others their byte.
+/// Each other character is a part by itself: an unescaped `*` is a star, an unescaped `?` fits any byte, and any other
+/// character fits its byte.
 pub fn characters_are_parts()
     ensures star { (c : Ch) (cs : List Ch) → is_plain 42 c ≡ true
         → parts (c ∷ cs) ≡ Star ∷ parts cs }

@@ -1,5 +1,5 @@
-//! The rows of an audit (users, hosts, requests and verdicts), patterns, the directory of known users and hosts, and the
-//! matching of one atom of a policy.
+//! The data of an audit (users, hosts, requests and verdicts), patterns, the directory of known users and hosts, and
+//! the matching of one atom of a policy.
 #![tactic(auto)]
 
 mod directory;

@@ -1,4 +1,4 @@
-//! Whether one atom of a policy matches, as in sudoers(5), "User_List", "Host_List" and "Cmnd_List".
+//! The matching of one atom of a policy, as in sudoers(5), "User_List", "Host_List" and "Cmnd_List".
 ghost use Rattle.std.specs.Prelude.{◌≡◌, ◌==◌, ◌^◌, ◌-◌, ◌≤◌, bytes_eq, length};
 ghost use Rattle.std.specs.List.{list_any};
 ghost use Rattle.sudo_match.specs.Matching.{user_fits, group_fits, host_fits, command_fits, compared_name, short_name, has_dot, mask_of, is_loopback, address_fits, net_fits, spells, arguments_fit, arguments_slash};
@@ -37,7 +37,7 @@ pub fn group_matches(atom: &Atom, group: &Group) -> bool
     }
 }
 
-/// The mask of which this many leading bits are set.
+// Returns the mask with the given number of leading bits set.
 fn mask_of(bits: u8) -> u32
     requires { bits ≤ 32 }
     ensures { result ≡ mask_of bits }
@@ -46,14 +46,14 @@ fn mask_of(bits: u8) -> u32
     ((1 << 32) - size) as u32
 }
 
-/// Whether the address is in 127.0.0.0/8.
+// Whether the address is in 127.0.0.0/8.
 fn is_loopback(addr: u32) -> bool
     ensures { result ≡ is_loopback addr }
 {
     addr / (1 << 24) == 127
 }
 
-/// Whether the address is that of the interface, or the interface's own network.
+// Whether the address is that of the interface, or of the interface's network.
 fn address_fits(addr: u32, interface: Interface) -> bool
     ensures { result ≡ address_fits addr interface }
 {
@@ -63,7 +63,7 @@ fn address_fits(addr: u32, interface: Interface) -> bool
     addr == interface.addr || addr == interface.addr & mask_of(interface.bits)
 }
 
-/// Whether the interface's address is in the network.
+// Whether the interface's address is in the network.
 fn net_fits(addr: u32, mask: u32, interface: Interface) -> bool
     ensures { result ≡ net_fits addr mask interface }
 {
@@ -89,7 +89,7 @@ fn any_is_in_net(interfaces: &[Interface], addr: u32, mask: u32) -> bool
         .any(|interface| net_fits(addr, mask, *interface))
 }
 
-/// A host's name up to its first dot.
+// Returns a host's name up to its first dot.
 fn short_name(name: &[u8]) -> &[u8]
     ensures { result.now ≡ short_name name.now }
 {
@@ -107,8 +107,8 @@ fn has_dot(chars: &[Ch]) -> bool
     chars.iter().any(|ch| ch.byte == b'.')
 }
 
-/// The part of a host's name that is compared with a pattern: the whole for a pattern with a dot, else what stands
-/// before the first dot.
+// Returns the part of a host's name that is compared with a pattern: the whole name for a pattern with a dot, otherwise
+// the part before the first dot.
 fn compared_name<'a>(chars: &[Ch], name: &'a [u8]) -> &'a [u8]
     ensures { result.now ≡ compared_name chars.now name.now }
 {
@@ -137,14 +137,15 @@ pub fn host_matches(atom: &Atom, host: &Machine) -> bool
     }
 }
 
-/// Whether the characters are these bytes, none of them escaped.
+// Whether the characters are these bytes, none of them escaped.
 fn spells(name: &[u8], chars: &[Ch]) -> bool
     ensures { result ≡ spells name.now chars.now }
 {
     chars.len() == name.len() && crate::patterns::begins_with(chars, name)
 }
 
-/// Whether arguments are allowed: none allow any, `""` no arguments, and others are a pattern.
+// Whether arguments are allowed: a command without arguments allows any, `""` allows none, and any other text is a
+// pattern.
 fn arguments_fit(slash: Slash, args: &Option<Seq<Ch>>, arguments: &[u8]) -> bool
     ensures { result ≡ arguments_fit slash args.now arguments.now }
 {

@@ -4,7 +4,7 @@ ghost use Rattle.std.specs.List.{list_any};
 
 use sudo_text::Seq;
 
-/// A user, by name, ID and groups, the primary group first.
+/// A user: the name, the ID and the groups, with the primary group first.
 #[derive(Clone, Debug, Drop, PartialEq, Eq)]
 pub struct Person {
     pub name: Seq<u8>,
@@ -31,26 +31,26 @@ impl Person {
     }
 }
 
-/// A group, by name and ID.
+/// A group: its name and its ID.
 #[derive(Clone, Debug, Drop, PartialEq, Eq)]
 pub struct Group {
     pub name: Seq<u8>,
     pub gid: u32,
 }
 
-/// A host, by name and interfaces.
+/// A host: its name and its interfaces.
 #[derive(Clone, Debug, Drop, PartialEq, Eq)]
 pub struct Machine {
     pub name: Seq<u8>,
     pub interfaces: Seq<Interface>,
 }
 
-/// An interface of a host: its address, and how many bits of it name the network.
+/// An interface of a host: its address, and the number of bits of it that name the network.
 #[derive(Clone, Copy, Debug, PartialEq, Eq)]
 pub struct Interface {
-    /// The IPv4 address, its first group in the highest byte.
+    /// The IPv4 address, with its first group in the highest byte.
     pub addr: u32,
-    /// How many bits of the mask are set, at most 32.
+    /// The number of bits that are set in the mask, at most 32.
     pub bits: u8,
     pub ghost in_range: { bits ≤ 32 },
 }

@@ -1,4 +1,4 @@
-//! Where the groups of users stand.
+//! The positions of the groups of users.
 ghost use Rattle.std.specs.Prelude.{◌≡◌, IfOk, slice_get, option_and_then};
 ghost use Rattle.std.specs.Option.{option_copied};
 ghost use Rattle.sudo_match.specs.Indexing.{AreSpots};
@@ -7,14 +7,14 @@ ghost use Rattle.sudo_match.specs.Known.{groups_of};
 use crate::{Group, Person};
 use std::alloc::{AllocError, Global};
 
-/// Where a group stands: the place of its user, and its place among the groups of that user.
+/// The position of a group: the index of its user, and its index among the groups of that user.
 #[derive(Clone, Copy, Debug, PartialEq, Eq)]
 pub(crate) struct Spot {
     user: usize,
     at: usize,
 }
 
-/// The spots of all groups of all users, in order.
+/// Returns the positions of all groups of all users, in order.
 pub(crate) fn spots_of(alloc: Global, people: &[Person]) -> Result<Vec<Spot>, AllocError>
     ensures { IfOk result (λ spots. AreSpots people.now spots.items) }
 {
@@ -27,7 +27,7 @@ pub(crate) fn spots_of(alloc: Global, people: &[Person]) -> Result<Vec<Spot>, Al
     Ok(spots)
 }
 
-/// The group at a place among all groups, `None` exactly past the last one.
+/// Returns the group at an index among all groups, or `None` if the index is past the last one.
 pub(crate) fn group_at<'a>(people: &'a [Person], spots: &[Spot], place: usize) -> Option<&'a Group>
     requires { AreSpots people.now spots.now }
     ensures { option_copied result ≡ slice_get (groups_of people.now) place }
@@ -37,7 +37,7 @@ pub(crate) fn group_at<'a>(people: &'a [Person], spots: &[Spot], place: usize) -
     person.groups.get(spot.at)
 }
 
-/// The group at a place that was looked up, `None` where nothing was found.
+/// Returns the group at an index that was looked up, or `None` if there is none.
 pub(crate) fn group_found<'a>(
     people: &'a [Person],
     spots: &[Spot],

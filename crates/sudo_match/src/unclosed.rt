@@ -1,16 +1,17 @@
-//! What is known of brackets that nothing closes.
+//! The known positions of unclosed brackets.
 
 ghost use Rattle.std.specs.Prelude.{List, ◌≡◌, true};
 ghost use Rattle.sudo_match.specs.Body.Closing.{Knows};
 ghost use Rattle.sudo_text.specs.declared.token.Ch.{Ch};
 
-/// Of three places in a row, which are known to be such that a bracket with an item there is not closed. Three are enough:
-/// readings of brackets that nothing closes all begin an item where a class stands, and go on by one or three characters
-/// elsewhere, so each begins an item at one of any three places. So all that was read is kept, and a pattern of many
-/// unclosed brackets is read about once, and not once for each.
+/// Three consecutive positions, each flagged if a bracket with an item there is known to be unclosed.
+///
+/// Three are enough: each reading of an unclosed bracket begins an item wherever a class is, and otherwise advances by
+/// one or three characters, so it begins an item at one of any three consecutive positions. Thus every reading is
+/// remembered, and a pattern with many unclosed brackets is read about once rather than once for each of them.
 #[derive(Clone, Copy)]
 pub(crate) struct Unclosed {
-    /// The first of the places.
+    /// The first of the positions.
     pub at: usize,
     pub first: bool,
     pub second: bool,
@@ -18,7 +19,7 @@ pub(crate) struct Unclosed {
 }
 
 impl Unclosed {
-    /// Nothing is known from a place on.
+    /// Creates a window from `at` on, with no position known.
     pub fn none(at: usize) -> Unclosed
         ensures nothing { (cs : List Ch) → Knows cs result }
         ensures at { result.at ≡ at }
@@ -35,14 +36,14 @@ impl Unclosed {
         !self.first && !self.second && !self.third
     }
 
-    /// Whether the place is known.
+    /// Whether the position is known.
     pub fn has(self, at: usize) -> bool
         ensures { result ≡ true → (self.first ≡ true) × (self.at ≡ at) }
     {
         self.first && self.at == at
     }
 
-    /// With its first place known.
+    /// Returns the window with its first position flagged.
     pub fn with_first(self) -> Unclosed
         ensures { result ≡ record {
           at = self.at;

@@ -1,4 +1,4 @@
--- What a reading says of forms and faults, as the code has it.
+-- The reading of a line, as the code returns it, compared with its forms and its fault.
 use Rattle.std.proofs.Common.{List, subst, Result, Ok, Err}
 use Rattle.std.specs.Result.{IfOk, IfErr}
 use Rattle.sudo_text.specs.declared.token.Token.{Token}

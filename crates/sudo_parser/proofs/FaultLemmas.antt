@@ -1,4 +1,4 @@
--- What a stop says of a line.
+-- The fault of a line, by the stop of its reading.
 use Rattle.std.proofs.Common.{◌≡◌, ℕ, ◌-◌, ◌≤◌, List, [], ◌∷◌, ◌++◌, length, drop, true, refl, sym, ◌∙◌, ap, subst, inr, arith, length-append}
 use Rattle.std.proofs.Math.Seq.{drop-append_seam}
 use Rattle.sudo_text.specs.declared.token.Token.{Token}

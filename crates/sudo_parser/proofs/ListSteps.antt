@@ -38,7 +38,7 @@ declined-here kind bangs t ts (declines.Refused r) other h = λ room before afte
     (takes.refusal bangs (t ∷ ts) ∙ ap (refused_atom kind t ts) h)
 declined-here kind bangs t ts declines.Memory other h = λ room before after takes shut. tt
 
--- a token that is declined stops the reading
+-- a token that is refused as a member stops the reading
 pub member-declined : (kind : Kind) (bangs : ℕ) (whole : List Token) (t : Token) (ts : List Token) (e : Declined)
     → whole ≡ t ∷ ts → IsNotNext marks.Bang whole → Declines e (atom_of kind t.kind)
     → StopsAtMember kind bangs whole (declined_as kind t ts e (length whole))

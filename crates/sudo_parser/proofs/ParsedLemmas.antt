@@ -1,4 +1,4 @@
--- Entries line by line.
+-- The entries of lines, line by line.
 use Rattle.std.proofs.Common.{◌≡◌, ℕ, true, ◌+◌, ◌-◌, ◌≤◌, List, [], ◌∷◌, ◌++◌, length, refl, sym, ◌∙◌, ap, subst, inl, inr, arith, Option, None, Some, append_assoc}
 use Rattle.std.proofs.lemmas.List.Elements.{All-tail}
 use Rattle.std.specs.Prelude.{All, if◌then◌else◌}
@@ -38,7 +38,7 @@ pub taken_out : (room left : Kind → ℕ) (body : EntryBody) (kind : Kind) (ds 
 taken_out room left body kind ds n is count e =
     subst (λ b. left ≡ less room b) (sym is) (subst (λ (m : ℕ). left ≡ (λ k. room k - (if same_kind kind k then m else 0))) count e)
 
--- What is said is the one thing that is said.
+-- A line has only one entry, or none.
 pub said_is : (line : Line) (entries more : List Entry) (given body : Option EntryBody) → more ≡ entries ++ entry_of line given → given ≡ body
     → more ≡ entries ++ entry_of line body
 said_is line entries more given body is same = is ∙ ap (λ b. entries ++ entry_of line b) same

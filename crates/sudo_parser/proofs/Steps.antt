@@ -1,4 +1,4 @@
--- One step of a reading, and where it stops.
+-- One step of a reading, and the token at which it stops.
 use Rattle.std.proofs.Common.{arith, ◌<◌, ◌≡◌, List, [], ◌∷◌, length, refl, ap, sym, ◌∙◌, subst, Option, None, Some, Result, Ok, Err}
 use Rattle.std.specs.Result.{IfErr, IsErrAnd}
 use Rattle.sudo_text.specs.declared.token.Mark.{Mark}
@@ -73,7 +73,7 @@ pub IsNext-less : (m : Mark) (ts rest : List Token) → IsNext m ts rest → len
 IsNext-less m [] rest h = absurd h
 IsNext-less m (t ∷ ts) rest h = omega (arith, ap length h.1)
 
--- what is said of a stop that is passed on
+-- a stop that is passed on is the stop of the whole reading
 pub passed-on : {X : Type 0} (r : Result X Stopped) (e : Stopped) (P : Stopped → Type 0) → IsErrAnd r (λ y. y ≡ e) → P e → IfErr r P
 passed-on (Ok x) e P h p = tt
 passed-on (Err y) e P h p = subst P (sym h) p

@@ -1,4 +1,4 @@
--- Texts of members, which compute. (Texts with numbers are tested by running.)
+-- Worked texts of members, each by computation. (Texts with numbers are tested by running.)
 use Rattle.std.proofs.Common.{◌≡◌, List, [], ◌∷◌, ◌++◌, refl, None, Some, true, false}
 use Rattle.std.specs.Prelude.{map, codes}
 use Prim.Native.String.{String}

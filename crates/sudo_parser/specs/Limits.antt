@@ -1,4 +1,4 @@
--- The limit of definitions.
+-- The limit on definitions.
 use Rattle.std.specs.Prelude.{ℕ, ◌-◌, length, if◌then◌else◌}
 use Rattle.sudo_grammar.specs.declared.kind.Kind.{Kind}
 use Rattle.sudo_grammar.specs.declared.kind.Kind.TheVariants as kinds
@@ -7,18 +7,18 @@ use Rattle.sudo_grammar.specs.declared.policy.EntryBody.TheVariants as bodies
 use Rattle.sudo_grammar.specs.Kinds.{same_kind}
 use Rattle.sudo_parser.specs.declared.room.Room.{Room}
 
--- how many definitions of a kind may still come
+-- the number of definitions of a kind that are still allowed
 abbrev pub room_of : Room → Kind → ℕ
 room_of room kinds.User = room.user
 room_of room kinds.Runas = room.runas
 room_of room kinds.Host = room.host
 room_of room kinds.Cmnd = room.cmnd
 
--- how many aliases of a kind a line defines
+-- the number of aliases of a kind that a line defines
 abbrev pub defined : Kind → EntryBody → ℕ
 defined kind (bodies.Aliases k definitions) = if same_kind k kind then length definitions else 0
 defined kind _ = 0
 
--- what an entry leaves of the room
+-- the room that is left after an entry
 abbrev pub less : (Kind → ℕ) → EntryBody → Kind → ℕ
 less room body kind = room kind - defined kind body

@@ -1,6 +1,6 @@
--- The entries of a file's lines, and the first fault of lines that have none. sudoers(5), "SUDOERS FILE FORMAT".
+-- The entries of a file's lines, or the first fault of lines that have none. sudoers(5), "SUDOERS FILE FORMAT".
 --
--- Each line's tokens write its entry; a line without tokens gives none. The first faulty line decides: a fault of its
+-- Each line's tokens write its entry; a line without tokens has none. The first faulty line decides: a fault of its
 -- text comes first, and then its grammar fault.
 use Rattle.std.specs.Prelude.{◌≡◌, ℕ, ◌+◌, ◌-◌, Bool, true, nat_le, List, [], ◌∷◌, ◌++◌, length, Option, None, Some, Result, Ok, Err, ◌⊎◌, if◌then◌else◌}
 use Rattle.std.specs.List.{sum_by}
@@ -22,33 +22,34 @@ use Rattle.sudo_grammar.specs.Places.{Room}
 use Rattle.sudo_grammar.specs.Reading.{Stop}
 use Rattle.sudo_grammar.specs.Faults.{WritesWithin, IsGrammarFault}
 
--- The most definitions of aliases of one kind.
+-- the maximum number of definitions of aliases of one kind
 abbrev pub alias_limit : ℕ
 alias_limit = 4096
 
--- how many definitions of a kind may still come after these entries
+-- the number of definitions of a kind that are still allowed after these entries
 abbrev pub room_after : List Entry → Room
 room_after entries kind = alias_limit - sum_by (λ e. defined kind e.body) entries
 
--- A line says nothing where it has no tokens, and else what its tokens write, within the room for definitions.
+-- a line without tokens has no entry, and any other has the entry that its tokens write, within the room for
+-- definitions
 abbrev pub Says : Room → Line → Option EntryBody → Type 0
 Says room line None = spells line [] ≡ true
 Says room line (Some body) =
     (t : Token) × (ts : List Token) × (spells line (t ∷ ts) ≡ true) × WritesWithin room body (t ∷ ts)
 
--- the entry of a line, where it says something
+-- the entry of a line, if it has one
 abbrev pub entry_of : Line → Option EntryBody → List Entry
 entry_of line None = []
 entry_of line (Some body) = record { place = line.first; body = body } ∷ []
 
--- The entries of lines that follow those of the entries before.
+-- the entries of lines that follow those of the entries before
 abbrev pub AreEntriesAfter : List Entry → List Line → List Entry → Type 0
 AreEntriesAfter before [] entries = entries ≡ []
 AreEntriesAfter before (line ∷ lines) entries =
     (said : Option EntryBody) × (rest : List Entry) × Says (room_after before) line said
     × AreEntriesAfter (before ++ entry_of line said) lines rest × (entries ≡ entry_of line said ++ rest)
 
--- The entries of a file's lines.
+-- the entries of a file's lines
 abbrev pub AreEntries : List Line → List Entry → Type 0
 AreEntries lines entries = AreEntriesAfter [] lines entries
 
@@ -70,13 +71,13 @@ abbrev pub text_fault : TextFault → ParseFault
 text_fault texts.Memory = faults.Memory
 text_fault fault = faults.Text fault
 
--- The line's text has a fault, the leftmost.
+-- the line's text has this leftmost fault
 pub record IsTextFault (line : Line) (fault : ParseFault) : Type 0 where
   pub text : TextFault
   pub leftmost : LeftmostFault line text
   pub is : fault ≡ faults.Text text
 
--- The line has tokens, and they have a grammar fault.
+-- the line has tokens, and they have a grammar fault
 pub record IsGrammarFaultOf (room : Room) (line : Line) (fault : ParseFault) : Type 0 where
   pub first : Token
   pub rest : List Token
@@ -88,32 +89,32 @@ pub record IsGrammarFaultOf (room : Room) (line : Line) (fault : ParseFault) : T
 abbrev pub IsLineFault : Room → Line → ParseFault → Type 0
 IsLineFault room line fault = IsTextFault line fault ⊎ IsGrammarFaultOf room line fault
 
--- The first fault of lines that follow those of the entries before.
+-- the first fault of lines that follow those of the entries before
 abbrev pub IsFirstFaultAfter : List Entry → List Line → ParseFault → Type 0
 IsFirstFaultAfter before [] fault = ⊥
 IsFirstFaultAfter before (line ∷ lines) fault =
     IsLineFault (room_after before) line fault
     ⊎ ((said : Option EntryBody) × Says (room_after before) line said × IsFirstFaultAfter (before ++ entry_of line said) lines fault)
 
--- The fault of a file's lines.
+-- the fault of a file's lines
 abbrev pub IsFirstFault : List Line → ParseFault → Type 0
 IsFirstFault lines fault = IsFirstFaultAfter [] lines fault
 
--- It is this that was given, unless memory was refused.
+-- the result is this value, or allocation failed
 abbrev pub GivesOr : {X : Type 0} → X → Result X ParseFault → Type 0
 GivesOr x (Ok given) = given ≡ x
 GivesOr x (Err fault) = fault ≡ faults.Memory
 
--- a line's entry comes after those before
+-- a line's entry, if any, is appended to those before
 abbrev pub Adds : List Entry → Line → List Entry → Type 0
 Adds before line entries = (said : Option EntryBody) × Says (room_after before) line said × (entries ≡ before ++ entry_of line said)
 
--- the definitions of an entry have room
+-- there is room for the definitions of an entry
 abbrev pub fits : Room → EntryBody → Bool
 fits room (bodies.Aliases kind definitions) = nat_le (length definitions) (room kind)
 fits room body = true
 
--- where the first entry stands that has a definition past the room for its kind
+-- the place of the first entry with a definition past the room for its kind
 abbrev pub over_limit_from : Room → List Entry → Option Place
 over_limit_from room [] = None
 over_limit_from room (entry ∷ entries) =

@@ -1,5 +1,5 @@
--- The text of a member that is written out: sudoers(5), "SUDOERS FILE FORMAT" and "Other special characters and reserved
--- words", with an escape wherever a byte of a name has a meaning of its own.
+-- The text of a written-out member: sudoers(5), "SUDOERS FILE FORMAT" and "Other special characters and reserved
+-- words", with an escape before each byte of a name that has a special meaning.
 use Rattle.std.specs.Prelude.{ℕ, ◌+◌, ◌/◌, ◌%◌, Bool, true, false, ◌||◌, ◌==◌, nat_lt, List, [], ◌∷◌, ◌++◌, Option, None, Some, if◌then◌else◌, codes, decimal}
 use Rattle.std.specs.List.{flat_map, list_any}
 use Rattle.std.specs.Str.{bytes_eq}
@@ -13,7 +13,7 @@ use Rattle.sudo_grammar.specs.Words.{is_name}
 abbrev pub hex_digit : ℕ → ℕ
 hex_digit n = if nat_lt n 10 then 48 + n else 87 + n
 
--- a space and what has a meaning of its own between words
+-- a space and the bytes with a special meaning between words
 abbrev pub is_special : ℕ → Bool
 is_special b = list_any (λ s. s == b) (codes " !=:,()\\\"#")
 
@@ -30,7 +30,7 @@ byte_text b =
 abbrev pub name_text : List ℕ → List ℕ
 name_text = flat_map byte_text
 
--- the first byte of a user's name: a percent sign and a plus have a meaning there
+-- the first byte of a user's name: a percent sign and a plus have a special meaning there
 abbrev pub first_text : ℕ → List ℕ
 first_text b = if (b == 37) || (b == 43) then 92 ∷ b ∷ [] else byte_text b
 

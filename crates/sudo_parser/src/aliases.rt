@@ -13,7 +13,8 @@ use std::alloc::Global;
 use sudo_grammar::{Definition, EntryBody, Expected, Kind, Refusal};
 use sudo_text::{Mark, Seq, Token};
 
-/// The name of a definition, and the tokens after it. There may be none where the kind's aliases are as many as may be.
+// Reads the name of a definition, and returns the tokens after it. Refuses any name if `is_full`: the limit of its kind
+// is reached.
 fn definition_name(
     alloc: Global,
     is_full: bool,
@@ -39,7 +40,7 @@ fn definition_name(
     }
 }
 
-/// The definition of an alias, and the tokens after it.
+// Reads the definition of an alias, and returns the tokens after it.
 fn definition(
     alloc: Global,
     kind: Kind,
@@ -59,7 +60,7 @@ fn definition(
     Ok((Definition { name, members }, rest))
 }
 
-/// The definitions of a line, after its keyword. At most `limit` of them may stand there.
+/// Reads the definitions of a line, after its keyword. At most `limit` of them are allowed.
 pub(crate) fn aliases(
     alloc: Global,
     kind: Kind,

@@ -1,4 +1,4 @@
-//! Defaults lines: what they are bound to, and their parameters.
+//! Defaults lines: their bindings and their parameters.
 ghost use Rattle.std.specs.Prelude.{◌≡◌, ◌^◌, ◌<◌, ◌==◌, length, IfOk, IfErr, MatchOption};
 ghost use Rattle.sudo_grammar.specs.Openings.{is_direct, kind_of_mark, operator_of};
 ghost use Rattle.sudo_grammar.specs.Places.{Room, DefaultsStart, bound_to};
@@ -13,10 +13,10 @@ use std::alloc::Global;
 use sudo_grammar::{Binding, EntryBody, Expected, Kind, Member, Operator, Parameter};
 use sudo_text::{Mark, Seq, Token, TokenKind};
 
-/// How many bytes `Defaults` has: where a mark begins right after it, the line is bound.
+// The length of `Defaults` in bytes: a mark that begins at this offset binds the line.
 const DEFAULTS_LEN: u32 = 8;
 
-/// The kind of list that a mark begins.
+// Returns the kind of list that a mark begins.
 fn bound_kind(token: &TokenKind) -> Option<Kind>
     ensures { result ≡ kind_of_mark token.now }
 {
@@ -29,7 +29,7 @@ fn bound_kind(token: &TokenKind) -> Option<Kind>
     }
 }
 
-/// What a list of a kind binds a line to.
+// Returns the binding of a line to a list of a kind.
 fn bound(kind: Kind, members: Seq<Member>) -> Binding
     ensures { result ≡ bound_to kind members }
 {
@@ -41,7 +41,7 @@ fn bound(kind: Kind, members: Seq<Member>) -> Binding
     }
 }
 
-/// What a line is bound to, if it is, and the tokens after that.
+// Reads the binding of a line, if any, and returns the tokens after it.
 fn binding(alloc: Global, tokens: &[Token]) -> Result<(Option<Binding>, &[Token]), Stopped>
     requires { length tokens.now < 2 ^ 32 }
     ensures reads { IfOk result (λ r. ReadsBinding tokens.now r.0 r.1.now) }
@@ -62,7 +62,7 @@ fn binding(alloc: Global, tokens: &[Token]) -> Result<(Option<Binding>, &[Token]
     Ok((Some(bound(kind, members)), after))
 }
 
-/// The word that comes next, and the tokens after it.
+// Reads a word, and returns the tokens after it.
 fn word(expected: Expected, tokens: &[Token]) -> Result<(Token, &[Token]), Stopped>
     ensures reads { IfOk result (λ r. IsWordNext tokens.now r.0 r.1.now) }
     ensures stops { IfErr result (IsWordMissing expected tokens.now) }
@@ -76,7 +76,7 @@ fn word(expected: Expected, tokens: &[Token]) -> Result<(Token, &[Token]), Stopp
     }
 }
 
-/// What a mark does to a parameter.
+// Returns the operator that a mark denotes.
 fn operator_named(token: &TokenKind) -> Option<Operator>
     ensures { result ≡ operator_of token.now }
 {
@@ -88,7 +88,7 @@ fn operator_named(token: &TokenKind) -> Option<Operator>
     }
 }
 
-/// The operator that comes next, if one does, and the tokens after it.
+// Reads an operator, if it comes next, and returns the tokens after it.
 fn next_operator(tokens: &[Token]) -> Option<(Operator, &[Token])>
     ensures { MatchOption result (IsNoOperatorNext tokens.now)
         (λ r. IsOperatorNext tokens.now r.0 r.1.now) }
@@ -102,7 +102,7 @@ fn next_operator(tokens: &[Token]) -> Option<(Operator, &[Token])>
     }
 }
 
-/// A parameter, and the tokens after it.
+// Reads a parameter, and returns the tokens after it.
 fn parameter(tokens: &[Token]) -> Result<(Parameter, &[Token]), Stopped>
     requires { length tokens.now < 2 ^ 32 }
     ensures reads { IfOk result (λ r. ReadsParameter tokens.now r.0 r.1.now) }
@@ -129,7 +129,7 @@ fn parameter(tokens: &[Token]) -> Result<(Parameter, &[Token]), Stopped>
     }
 }
 
-/// The parameters of a line, up to its end.
+// Reads the parameters of a line, up to its end.
 fn parameters(alloc: Global, tokens: &[Token]) -> Result<Seq<Parameter>, Stopped>
     requires { length tokens.now < 2 ^ 32 }
     ensures reads { IfOk result (ReadsParameters tokens.now) }
@@ -153,7 +153,7 @@ fn parameters(alloc: Global, tokens: &[Token]) -> Result<Seq<Parameter>, Stopped
     }
 }
 
-/// A Defaults line, after its first word.
+/// Reads a Defaults line, after its first word.
 pub(crate) fn defaults(alloc: Global, tokens: &[Token]) -> Result<EntryBody, Stopped>
     requires { length tokens.now < 2 ^ 32 }
     ensures { (room : Room) → GivesEntry result (reading room DefaultsStart tokens.now) }

@@ -5,7 +5,7 @@ ghost use Rattle.sudo_grammar.specs.declared.policy.Entry.{Entry};
 ghost use Rattle.sudo_grammar.specs.declared.fault.ParseFault.{ParseFault};
 ghost use Rattle.sudo_parser.specs.Parsed.{AreEntries, IsFirstFault};
 
-/// The lines of a file have one list of entries at most, one first fault at most, and never both.
+/// The lines of a file have at most one list of entries and at most one first fault, and never both.
 pub fn lines_have_one_reading()
     ensures entries { (lines : List Line) (a b : List Entry) → AreEntries lines a
         → AreEntries lines b → a ≡ b }

@@ -26,7 +26,7 @@ use std::alloc::Global;
 use sudo_grammar::{EntryBody, Expected, Kind, Refusal, Unsupported};
 use sudo_text::{Ch, Seq, Token, TokenKind};
 
-/// What a line begins with, if that is no include directive.
+// The kind of line that a first token opens, if it is no include directive.
 #[derive(Clone, Copy)]
 enum Opening {
     Aliases(Kind),
@@ -34,7 +34,7 @@ enum Opening {
     Rule,
 }
 
-/// What the unescaped characters of a word begin a line with.
+// Returns the kind of line that a word of unescaped characters opens.
 fn word_opening(chars: &[Ch]) -> Opening
     ensures { opened result ≡ grammar.plain_opening (Some (bytes_of chars.now)) }
 {
@@ -53,7 +53,7 @@ fn word_opening(chars: &[Ch]) -> Opening
     }
 }
 
-/// What a token begins a line with.
+// Returns the kind of line that a token opens.
 fn first_opening(token: &TokenKind) -> Opening
     ensures { (IsInclude token.now → ⊥) → opened result ≡ grammar.opening_of token.now }
 {
@@ -78,7 +78,7 @@ fn begins_with(chars: &[Ch], byte: u8) -> bool
     }
 }
 
-/// Whether an unescaped `%h` stands in a path.
+// Whether a path contains an unescaped `%h`.
 fn has_host_escape(path: &[Ch]) -> bool
     ensures { result ≡ grammar.has_host_escape path.now }
 {
@@ -96,7 +96,7 @@ fn has_host_escape(path: &[Ch]) -> bool
     }
 }
 
-/// An include line, with so many tokens from its directive on, and those after it.
+// Reads an include line with `left` tokens from its directive on, of which `rest` are those after it.
 fn include(
     alloc: Global,
     folder: bool,
@@ -125,7 +125,7 @@ fn include(
     Ok(EntryBody::Include { folder, hash, path })
 }
 
-/// The entry that a line's tokens give, or the first of them at which the line can't go on.
+// Reads a line's tokens as an entry, or stops at the first of them that cannot continue the line.
 fn read(alloc: Global, room: &Room, tokens: &[Token]) -> Result<EntryBody, Stopped>
     requires { length tokens.now < 2 ^ 32 }
     ensures { GivesEntry result (reading (room_of room.now) Start tokens.now) }
@@ -146,7 +146,8 @@ fn read(alloc: Global, room: &Room, tokens: &[Token]) -> Result<EntryBody, Stopp
     }
 }
 
-/// The entry of which the tokens are a written form, within the room for definitions; else the line's grammar fault.
+/// Returns the entry of which the tokens are a written form, within the room for definitions; otherwise the line's
+/// grammar fault.
 pub(crate) fn entry(alloc: Global, room: &Room, tokens: &[Token]) -> Result<EntryBody, Stopped>
     requires { length tokens.now < 2 ^ 32 }
     ensures written { IfOk result (λ e. WritesWithin (room_of room.now) e tokens.now) }

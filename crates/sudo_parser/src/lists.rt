@@ -14,8 +14,8 @@ use std::alloc::Global;
 use sudo_grammar::{Kind, Member, Refusal, Unsupported};
 use sudo_text::{Mark, Seq, Token};
 
-/// The refusal of a token, or a better one by what comes next: `%` and a colon directly after it is a group of
-/// another kind, and the name of a digest and a colon is a digest.
+// Returns the refusal of a token, or the one that the next token decides: `%` with a colon directly after it is a
+// non-Unix group, and the name of a digest with a colon after it is a digest.
 fn renamed(kind: Kind, token: &Token, rest: &[Token], refusal: Refusal) -> Refusal
     ensures { result ≡ refusals.with_next kind token.now rest.now refusal }
 {
@@ -38,7 +38,7 @@ fn renamed(kind: Kind, token: &Token, rest: &[Token], refusal: Refusal) -> Refus
     }
 }
 
-/// The stop at a token that is no member, with so many tokens left from it on.
+// Returns the stop at a token that is no member, with `left` tokens from it on.
 fn declined(kind: Kind, token: &Token, rest: &[Token], why: Declined, left: usize) -> Stopped
     ensures { result ≡ declined_as kind token.now rest.now why left }
 {
@@ -51,7 +51,7 @@ fn declined(kind: Kind, token: &Token, rest: &[Token], why: Declined, left: usiz
     }
 }
 
-/// Whether a token among commands is an option of one: its name, and an equals sign after it.
+// Whether a token among commands is an option: its name, with an equals sign after it.
 fn begins_option(kind: Kind, token: &Token, rest: &[Token]) -> bool
     ensures { result ≡ option_begins kind token.now rest.now }
 {
@@ -61,7 +61,7 @@ fn begins_option(kind: Kind, token: &Token, rest: &[Token]) -> bool
     }
 }
 
-/// The member that the first token stands for, after so many exclamation marks, and the tokens after it.
+// Reads the first token as a member after `bangs` exclamation marks, and returns the tokens after it.
 fn member(
     alloc: Global,
     kind: Kind,
@@ -91,7 +91,7 @@ fn member(
     }
 }
 
-/// One member with the exclamation marks before it, and the tokens after it.
+/// Reads one member with the exclamation marks before it, and returns the tokens after it.
 pub(crate) fn item(
     alloc: Global,
     kind: Kind,
@@ -105,7 +105,7 @@ pub(crate) fn item(
     member(alloc, kind, count, rest)
 }
 
-/// A list of a kind, and the tokens after it.
+/// Reads a list of a kind, and returns the tokens after it.
 pub(crate) fn members(
     alloc: Global,
     kind: Kind,

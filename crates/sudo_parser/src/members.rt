@@ -1,4 +1,4 @@
-//! What a token stands for as a member of a list.
+//! The meaning of a token as a member of a list.
 ghost use Rattle.std.specs.Prelude.{◌≡◌, IfOk, ◌==◌};
 ghost use Rattle.std.specs.List.{list_any};
 ghost use Rattle.sudo_grammar.specs.Words.{bytes_of};
@@ -14,7 +14,7 @@ use sudo_text::{Ch, Seq, TokenKind};
 
 const LIST: &[u8] = b"list";
 
-/// Why a token is no member, or memory was refused.
+/// A refusal of a token as a member, or out of memory.
 #[derive(Clone, Copy)]
 pub(crate) enum Declined {
     Refused(Refusal),
@@ -32,7 +32,7 @@ impl From<AllocError> for Declined {
     }
 }
 
-/// A network: an address and a mask.
+// Reads a network: an address and a mask.
 fn network(front: &[u8], back: &[u8]) -> Result<Atom, Declined>
     ensures { Gives result (network_of (address_of front.now) back.now) }
 {
@@ -46,14 +46,14 @@ fn network(front: &[u8], back: &[u8]) -> Result<Atom, Declined>
     }
 }
 
-/// A copy of characters.
+// Copies characters.
 fn copied(alloc: Global, chars: &[Ch]) -> Result<Seq<Ch>, AllocError>
     ensures { IfOk result (λ copy. copy ≡ chars.now) }
 {
     Seq::from_slice(alloc, chars)
 }
 
-/// A host's name.
+// Returns a host's name.
 fn host_name(alloc: Global, chars: &[Ch], quoted: bool) -> Result<Atom, Declined>
     ensures { Gives result (Ok (Atom.Host chars.now quoted)) }
 {
@@ -61,7 +61,7 @@ fn host_name(alloc: Global, chars: &[Ch], quoted: bool) -> Result<Atom, Declined
     Ok(Atom::Host { chars, quoted })
 }
 
-/// An unquoted host word without escapes: an address, a network or a name.
+// Reads an unquoted host word without escapes: an address, a network or a name.
 fn plain_host(alloc: Global, chars: &[Ch]) -> Result<Atom, Declined>
     ensures { Gives result (plain_host_of chars.now (bytes_of chars.now)
         (cut_at 47 (bytes_of chars.now))) }
@@ -107,7 +107,7 @@ fn no_member() -> Declined
     Declined::Refused(Refusal::Syntax(Expected::Member))
 }
 
-/// What must stand in a list of a kind.
+/// Returns the expected token in a list of a kind.
 pub(crate) fn expected(kind: Kind) -> Expected
     ensures { result ≡ expected_in kind }
 {
@@ -117,7 +117,7 @@ pub(crate) fn expected(kind: Kind) -> Expected
     }
 }
 
-/// A host.
+// Reads a host.
 fn host(alloc: Global, quoted: bool, chars: &[Ch]) -> Result<Atom, Declined>
     ensures { Gives result (host_of quoted chars.now) }
 {
@@ -135,7 +135,7 @@ fn host(alloc: Global, quoted: bool, chars: &[Ch]) -> Result<Atom, Declined>
     }
 }
 
-/// What stands after `%`.
+// Reads a group, by the characters after `%`.
 fn group(alloc: Global, chars: &[Ch]) -> Result<Atom, Declined>
     ensures { Gives result (group_of (bytes_of chars.now)) }
 {
@@ -155,7 +155,7 @@ fn group(alloc: Global, chars: &[Ch]) -> Result<Atom, Declined>
     }
 }
 
-/// A user, a group or their kin, by the first byte if no escape gave it.
+// Reads a user, a group or one of their refused forms, by the first byte if it is unescaped.
 fn user(alloc: Global, chars: &[Ch]) -> Result<Atom, Declined>
     ensures { Gives result (user_of chars.now) }
 {
@@ -181,7 +181,7 @@ fn user(alloc: Global, chars: &[Ch]) -> Result<Atom, Declined>
     }
 }
 
-/// Whether the first character is an unescaped `^`.
+// Whether the first character is an unescaped `^`.
 fn has_caret(chars: &[Ch]) -> bool
     ensures { result ≡ begins_with_caret chars.now }
 {
@@ -191,7 +191,7 @@ fn has_caret(chars: &[Ch]) -> bool
     }
 }
 
-/// Whether the last character is an unescaped `$`.
+// Whether the last character is an unescaped `$`.
 fn has_dollar(chars: &[Ch]) -> bool
     ensures { result ≡ ends_in_dollar chars.now }
 {
@@ -201,7 +201,7 @@ fn has_dollar(chars: &[Ch]) -> bool
     }
 }
 
-/// A command: its path, and its arguments unless they are a regular expression.
+// Reads a command: its path, and its arguments. Refuses arguments that are a regular expression.
 fn command(alloc: Global, path: &[Ch], args: &Option<Seq<Ch>>) -> Result<Atom, Declined>
     ensures { Gives result (command_of path.now args.now) }
 {
@@ -222,7 +222,7 @@ fn command(alloc: Global, path: &[Ch], args: &Option<Seq<Ch>>) -> Result<Atom, D
     }
 }
 
-/// Why a word is no command.
+// Returns the refusal of a word as a command.
 fn not_command(quoted: bool, chars: &[Ch]) -> Refusal
     ensures { result ≡ no_command quoted chars.now }
 {
@@ -237,7 +237,7 @@ fn not_command(quoted: bool, chars: &[Ch]) -> Refusal
     }
 }
 
-/// A token that is neither `ALL` nor the name of an alias.
+// Reads a token that is neither `ALL` nor the name of an alias.
 fn other(alloc: Global, kind: Kind, token: &TokenKind) -> Result<Atom, Declined>
     ensures { Gives result (other_atom kind token.now) }
 {
@@ -255,7 +255,7 @@ fn other(alloc: Global, kind: Kind, token: &TokenKind) -> Result<Atom, Declined>
     }
 }
 
-/// What a token stands for in a list of a kind, or why it is no member: see sudoers(5), "SUDOERS FILE FORMAT".
+/// Returns the meaning of a token in a list of a kind, or its refusal: see sudoers(5), "SUDOERS FILE FORMAT".
 pub(crate) fn atom(alloc: Global, kind: Kind, token: &TokenKind) -> Result<Atom, Declined>
     ensures { Gives result (atom_of kind token.now) }
 {

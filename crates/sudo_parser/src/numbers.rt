@@ -7,7 +7,7 @@ ghost use Rattle.sudo_grammar.specs.Members.{number_of, cut_at, groups_of, addre
 
 use sudo_grammar::Refusal;
 
-/// The value of one or more decimal digits, where it fits 32 bits.
+/// Returns the value of one or more decimal digits, if it fits 32 bits.
 pub(crate) fn number(bytes: &[u8]) -> Option<u32>
     ensures { result ≡ number_of bytes.now }
 {
@@ -24,7 +24,7 @@ pub(crate) fn number(bytes: &[u8]) -> Option<u32>
     Some(value)
 }
 
-/// The place of the first separator.
+// Returns the index of the first separator.
 fn place_of(bytes: &[u8], separator: u8) -> Option<usize>
     ensures place { result ≡ position (λ b. b == separator) bytes.now }
     ensures inside { IfSome result (λ at. at < length bytes.now) }
@@ -32,7 +32,7 @@ fn place_of(bytes: &[u8], separator: u8) -> Option<usize>
     bytes.iter().position(|b| *b == separator)
 }
 
-/// The bytes before the first separator, and those after it.
+/// Splits bytes at the first separator.
 pub(crate) fn cut(bytes: &[u8], separator: u8) -> Option<(&[u8], &[u8])>
     ensures { option_map (λ parts. (parts.0.now, parts.1.now)) result ≡ cut_at separator bytes.now }
 {
@@ -52,14 +52,14 @@ fn has_digits_alone(bytes: &[u8]) -> bool
     bytes.iter().all(|b| b.is_ascii_digit())
 }
 
-/// One to three digits.
+// Whether bytes are one to three digits.
 fn is_group(bytes: &[u8]) -> bool
     ensures { result ≡ is_octet bytes.now }
 {
     0 < bytes.len() && bytes.len() < 4 && has_digits_alone(bytes)
 }
 
-/// Four groups of bytes with dots between.
+// Four groups of bytes with three dots between them.
 #[derive(Clone, Copy)]
 struct Groups<'a> {
     first: &'a [u8],
@@ -83,14 +83,14 @@ fn four_groups(bytes: &[u8]) -> Option<Groups<'_>>
     })
 }
 
-/// The value of one to three digits.
+// Returns the value of one to three digits.
 fn octet(bytes: &[u8]) -> Option<u32>
     ensures { result ≡ octet_of bytes.now }
 {
     if is_group(bytes) { number(bytes) } else { None }
 }
 
-/// The address of four numbers, none of which may be over 255.
+// Returns the address of four numbers. Returns `BadNumber` if one is over 255.
 fn address_from(a: u32, b: u32, c: u32, d: u32) -> Result<u32, Refusal>
     ensures { result ≡ joined a b c d }
 {
@@ -101,7 +101,8 @@ fn address_from(a: u32, b: u32, c: u32, d: u32) -> Result<u32, Refusal>
     }
 }
 
-/// The address that bytes spell: four groups of one to three digits with dots between, none of them over 255.
+/// Returns the address that bytes spell: four groups of one to three digits with dots between them. Returns `None` for
+/// bytes of another shape, and `BadNumber` if a group is over 255.
 pub(crate) fn address(bytes: &[u8]) -> Option<Result<u32, Refusal>>
     ensures { result ≡ address_of bytes.now }
 {
@@ -113,7 +114,7 @@ pub(crate) fn address(bytes: &[u8]) -> Option<Result<u32, Refusal>>
     Some(address_from(a, b, c, d))
 }
 
-/// The mask of that many leading bits.
+// Returns the mask of `bits` leading bits. Returns `BadNumber` if there are over 32.
 fn leading_bits(bits: u32) -> Result<u32, Refusal>
     ensures { result ≡ mask_of_bits bits }
 {
@@ -124,7 +125,7 @@ fn leading_bits(bits: u32) -> Result<u32, Refusal>
     }
 }
 
-/// A mask: a number of bits up to 32, or as an address.
+/// Reads a mask: a number of bits up to 32, or an address.
 pub(crate) fn mask(bytes: &[u8]) -> Result<u32, Refusal>
     ensures { result ≡ mask_of bytes.now }
 {

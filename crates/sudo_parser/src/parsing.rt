@@ -1,4 +1,4 @@
-//! The lines of a file to its entries.
+//! The parsing of a file's lines into its entries.
 ghost use Rattle.std.specs.Prelude.{◌≡◌, ◌≢◌, ◌≤◌, ◌<◌, ◌-◌, ◌++◌, List, Option, [], length, drop, IfOk, IfErr, OnOk, MatchResult, All, true};
 ghost use Rattle.sudo_text.specs.Tokens.{spells};
 ghost use Rattle.sudo_grammar.specs.declared.policy.Entry.{Entry as AnEntry};
@@ -14,7 +14,7 @@ use std::alloc::Global;
 use sudo_grammar::{Entry, EntryBody, ParseFault, Refusal};
 use sudo_text::{Line, Place, Seq, TEXT_LIMIT, TextFault, Token, tokens};
 
-/// The fault of a text, as one of a policy.
+// Returns the fault of a text as a fault of a policy.
 fn text_fault(fault: TextFault) -> ParseFault
     ensures { result ≡ spec.text_fault fault }
 {
@@ -24,7 +24,7 @@ fn text_fault(fault: TextFault) -> ParseFault
     }
 }
 
-/// The column of the token from which on so many are left, or that of the line's end.
+// Returns the column of the token from which on `left` tokens are left, or of the line's end.
 fn column(line: &Line, tokens: &[Token], left: usize) -> u32
     requires left { left ≤ length tokens.now }
     requires short { length line.now.text ≤ TEXT_LIMIT }
@@ -37,7 +37,7 @@ fn column(line: &Line, tokens: &[Token], left: usize) -> u32
     }
 }
 
-/// The fault of a line that is refused where so many tokens are left.
+// Returns the fault of a line that is refused with `left` tokens left.
 fn refused(line: &Line, tokens: &[Token], refusal: Refusal, left: usize) -> ParseFault
     requires left { left ≤ length tokens.now }
     requires short { length line.now.text ≤ TEXT_LIMIT }
@@ -59,7 +59,7 @@ fn refused(line: &Line, tokens: &[Token], refusal: Refusal, left: usize) -> Pars
     }
 }
 
-/// What a line says: nothing where it has no tokens, else its entry.
+// Reads a line: returns no entry if it has no tokens, and otherwise its entry.
 fn said(alloc: Global, room: &Room, line: &Line) -> Result<Option<EntryBody>, ParseFault>
     requires { length line.now.text ≤ TEXT_LIMIT }
     ensures says { IfOk result (λ body. Says (room_of room.now) line.now body) }
@@ -82,7 +82,7 @@ fn said(alloc: Global, room: &Room, line: &Line) -> Result<Option<EntryBody>, Pa
     }
 }
 
-/// Adds what a line says to the entries of the lines before.
+// Appends a line's entry, if any, to the entries of the lines before.
 fn add_line(
     alloc: Global,
     room: &mut Room,
@@ -114,16 +114,16 @@ fn add_line(
     }
 }
 
-/// Returns the entries of a file's lines, in order; a line without tokens gives none.
+/// Returns the entries of a file's lines, in order; a line without tokens has none.
 ///
-/// The first faulty line decides, and in it the leftmost fault: returns `Text` with the fault of its text if it has one;
-/// else `Syntax`, `NotCommand` and `BadNumber` with the column of the first token that cannot stand there, or of the
-/// line's end, `Unsupported` for a form of sudoers(5) that is known and refused, and `TooMany` for the definition past
-/// 4,096 of its kind. Returns `Memory` only if memory is refused.
+/// The first faulty line decides, and in it the leftmost fault. Returns `Text` with the fault of the line's text if it
+/// has one; otherwise `Syntax`, `NotCommand` and `BadNumber` with the column of the first token that cannot continue
+/// the line, or of the line's end, `Unsupported` for a form of sudoers(5) that is recognized and refused, and `TooMany`
+/// for the definition past 4,096 of its kind. Returns `Memory` only if allocation fails.
 pub fn parse(alloc: Global, lines: &[Line]) -> Result<Vec<Entry>, ParseFault>
     requires { All (λ line. length line.text ≤ TEXT_LIMIT) lines.now }
     ensures entries { IfOk result (λ entries. AreEntries lines.now entries.items) }
-    // Lines that have entries are read, unless memory was refused.
+    // Lines that have entries are read, or allocation fails.
     ensures only { (entries : List AnEntry) → AreEntries lines.now entries → MatchResult result
         (λ read. read.items ≡ entries)
         (λ fault. fault ≡ ParseFault.Memory) }
@@ -136,7 +136,7 @@ pub fn parse(alloc: Global, lines: &[Line]) -> Result<Vec<Entry>, ParseFault>
     }
 }
 
-/// Returns the entries of lines, or the first fault.
+// Returns the entries of lines, or the first fault.
 fn entries_of(alloc: Global, lines: &[Line]) -> Result<Seq<Entry>, ParseFault>
     requires { All (λ line. length line.text ≤ TEXT_LIMIT) lines.now }
     ensures entries { IfOk result (λ entries. AreEntries lines.now entries) }
@@ -158,7 +158,7 @@ fn entries_of(alloc: Global, lines: &[Line]) -> Result<Seq<Entry>, ParseFault>
     Ok(entries)
 }
 
-/// The place of the first entry with a definition of an alias past 4,096 of its kind, in all entries together.
+/// Returns the place of the first entry with a definition of an alias past 4,096 of its kind, in all entries together.
 pub fn first_over_limit(entries: &[Entry]) -> Option<Place>
     ensures { result ≡ over_limit entries.now }
 {

@@ -1,12 +1,12 @@
-//! The room for definitions of aliases.
+//! The number of definitions of aliases that are still allowed.
 ghost use Rattle.std.specs.Prelude.{◌≡◌};
 
 use sudo_grammar::{EntryBody, Kind};
 
-/// The most definitions of aliases of one kind.
+// The maximum number of definitions of aliases of one kind.
 const ALIAS_LIMIT: u32 = 4096;
 
-/// How many definitions of aliases of each kind may still come.
+/// The number of definitions of aliases of each kind that are still allowed.
 #[derive(Clone, Copy, Debug)]
 pub(crate) struct Room {
     pub user: u32,
@@ -22,7 +22,7 @@ impl Room {
     ghost use Rattle.sudo_parser.specs.Parsed.{room_after, fits};
     ghost use Rattle.sudo_grammar.specs.Faults.{HasRoom};
 
-    /// The room of a file with no definitions yet.
+    /// Returns the room before the first definition.
     pub(crate) fn whole() -> Room
         ensures { room_of result ≡ room_after [] }
     {
@@ -47,7 +47,7 @@ impl Room {
         }
     }
 
-    /// The room that an entry leaves.
+    /// Returns the room that is left after an entry.
     pub(crate) fn after(self, body: &EntryBody) -> Room
         requires { HasRoom (room_of self) body.now }
         ensures { room_of result ≡ less (room_of self) body.now }

@@ -1,4 +1,4 @@
-//! Rules: who may run what on which hosts.
+//! Rules: who may run which commands on which hosts.
 ghost use Rattle.std.specs.Prelude.{◌≡◌, ◌^◌, ◌<◌, [], length, IfOk, IfErr, MatchOption};
 ghost use Rattle.sudo_grammar.specs.Places.{Room, Users, Item};
 ghost use Rattle.sudo_grammar.specs.Reading.{reading};
@@ -50,7 +50,7 @@ fn tags(alloc: Global, tokens: &[Token]) -> Result<(Seq<Tag>, &[Token]), AllocEr
     }
 }
 
-/// A command with what is written before it, and the tokens after it.
+// Reads a command with its runas and tags, and returns the tokens after it.
 fn spec(alloc: Global, tokens: &[Token]) -> Result<(CommandSpec, &[Token]), Stopped>
     requires { length tokens.now < 2 ^ 32 }
     ensures reads { IfOk result (λ r. ReadsSpec tokens.now r.0 r.1.now) }
@@ -69,7 +69,7 @@ fn spec(alloc: Global, tokens: &[Token]) -> Result<(CommandSpec, &[Token]), Stop
     ))
 }
 
-/// The commands of a section, and the tokens after them.
+// Reads the commands of a section, and returns the tokens after them.
 fn specs(alloc: Global, tokens: &[Token]) -> Result<(Seq<CommandSpec>, &[Token]), Stopped>
     requires { length tokens.now < 2 ^ 32 }
     ensures reads { IfOk result (λ r. ReadsSpecs tokens.now r.0 r.1.now) }
@@ -87,7 +87,7 @@ fn specs(alloc: Global, tokens: &[Token]) -> Result<(Seq<CommandSpec>, &[Token])
     }
 }
 
-/// A list of hosts and the commands granted there, and the tokens after them.
+// Reads a section: a list of hosts and the commands granted there. Returns the tokens after it.
 fn section(alloc: Global, tokens: &[Token]) -> Result<(Section, &[Token]), Stopped>
     requires { length tokens.now < 2 ^ 32 }
     ensures reads { IfOk result (λ r. ReadsSection tokens.now r.0 r.1.now) }
@@ -102,7 +102,7 @@ fn section(alloc: Global, tokens: &[Token]) -> Result<(Section, &[Token]), Stopp
     Ok((Section { hosts, commands }, rest))
 }
 
-/// The sections of a rule, up to the end of its line.
+// Reads the sections of a rule, up to the end of its line.
 fn sections(alloc: Global, tokens: &[Token]) -> Result<Seq<Section>, Stopped>
     requires { length tokens.now < 2 ^ 32 }
     ensures reads { IfOk result (ReadsSections tokens.now) }
@@ -126,7 +126,7 @@ fn sections(alloc: Global, tokens: &[Token]) -> Result<Seq<Section>, Stopped>
     }
 }
 
-/// A rule: its users and its sections.
+/// Reads a rule: its users and its sections.
 pub(crate) fn rule(alloc: Global, tokens: &[Token]) -> Result<EntryBody, Stopped>
     requires { length tokens.now < 2 ^ 32 }
     ensures { (room : Room) → GivesEntry result (reading room (Item Users 0 []) tokens.now) }

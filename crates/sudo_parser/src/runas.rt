@@ -1,4 +1,4 @@
-//! What stands between parentheses before a command: whom it may be run as.
+//! The parentheses before a command: the users and groups that it may be run as.
 ghost use Rattle.std.specs.Prelude.{◌≡◌, ◌^◌, ◌<◌, length, IfOk, IfErr};
 ghost use Rattle.sudo_parser.specs.Body.Runas.{ReadsUsers, StopsInUsers, ReadsGroups, StopsInGroups, ReadsLists, ReadsRunas, StopsInRunas};
 
@@ -9,7 +9,7 @@ use std::alloc::Global;
 use sudo_grammar::{Expected, Kind, Member, Runas};
 use sudo_text::{Mark, Seq, Token};
 
-/// The users, if there are any, and the tokens after them.
+// Reads the users, if any, and returns the tokens after them.
 fn runas_users(alloc: Global, tokens: &[Token]) -> Result<(Option<Seq<Member>>, &[Token]), Stopped>
     requires { length tokens.now < 2 ^ 32 }
     ensures reads { IfOk result (λ r. ReadsUsers tokens.now r.0 r.1.now) }
@@ -22,7 +22,7 @@ fn runas_users(alloc: Global, tokens: &[Token]) -> Result<(Option<Seq<Member>>, 
     Ok((Some(users), rest))
 }
 
-/// The groups after the colon, if there are any, and the tokens after them.
+// Reads the groups after the colon, if any, and returns the tokens after them.
 fn runas_groups(alloc: Global, tokens: &[Token]) -> Result<(Option<Seq<Member>>, &[Token]), Stopped>
     requires { length tokens.now < 2 ^ 32 }
     ensures reads { IfOk result (λ r. ReadsGroups tokens.now r.0 r.1.now) }
@@ -35,7 +35,7 @@ fn runas_groups(alloc: Global, tokens: &[Token]) -> Result<(Option<Seq<Member>>,
     Ok((Some(groups), rest))
 }
 
-/// The lists between the parentheses, and the tokens from the closing one on.
+// Reads the lists between the parentheses, and returns the tokens from the closing one on.
 fn runas_lists(alloc: Global, tokens: &[Token]) -> Result<(Runas, &[Token]), Stopped>
     requires { length tokens.now < 2 ^ 32 }
     ensures reads { IfOk result (λ r. ReadsLists tokens.now r.0 r.1.now) }
@@ -58,7 +58,7 @@ fn runas_lists(alloc: Global, tokens: &[Token]) -> Result<(Runas, &[Token]), Sto
     Ok((Runas { users, groups }, after))
 }
 
-/// The parentheses, if they come next, and the tokens after them.
+/// Reads the parentheses, if they come next, and returns the tokens after them.
 pub(crate) fn runas(alloc: Global, tokens: &[Token]) -> Result<(Option<Runas>, &[Token]), Stopped>
     requires { length tokens.now < 2 ^ 32 }
     ensures reads { IfOk result (λ r. ReadsRunas tokens.now r.0 r.1.now) }

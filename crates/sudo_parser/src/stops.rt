@@ -1,10 +1,10 @@
-//! Where a line can't go on.
+//! The stop of the parser at a token that cannot continue a line.
 ghost use Rattle.std.specs.Prelude.{◌≡◌};
 
 use std::alloc::AllocError;
 use sudo_grammar::{Expected, Refusal};
 
-/// Why a line is no entry: the refusal, and how many tokens there are from the one at which it stands.
+/// The reason why a line is no entry: the refusal, and the number of tokens from the refused one on.
 #[derive(Clone, Copy, Debug)]
 pub(crate) enum Stopped {
     At { refusal: Refusal, left: usize },
@@ -21,7 +21,7 @@ impl From<AllocError> for Stopped {
     }
 }
 
-/// Something else is wanted, with so many tokens left.
+/// Returns the stop at a token in place of the expected one, with `left` tokens from it on.
 pub(crate) fn wants(expected: Expected, left: usize) -> Stopped
     ensures { result ≡ Stopped.At (Refusal.Syntax expected) left }
 {

@@ -1,4 +1,4 @@
-//! The tokens that come next.
+//! The next tokens of a line.
 ghost use Rattle.std.specs.Prelude.{◌≡◌, ◌^◌, ◌<◌, ◌↔◌, false, [], ◌∷◌, length, IfOk, IsTrue, MatchOption};
 ghost use Rattle.sudo_grammar.specs.Refusals as refusals;
 ghost use Rattle.sudo_parser.specs.Body.Stops.{IsMark, IsNotNext, IsNext};
@@ -16,7 +16,7 @@ pub(crate) fn is_mark(token: &Token, mark: Mark) -> bool
     }
 }
 
-/// The first token, and those after it.
+/// Splits off the first token.
 pub(crate) fn first_token(tokens: &[Token]) -> Option<(&Token, &[Token])>
     ensures { MatchOption result (tokens.now ≡ []) (λ r. tokens.now ≡ r.0.now ∷ r.1.now) }
 {
@@ -26,14 +26,14 @@ pub(crate) fn first_token(tokens: &[Token]) -> Option<(&Token, &[Token])>
     }
 }
 
-/// A copy of a token.
+/// Copies a token.
 pub(crate) fn copy_of(token: &Token) -> Result<Token, AllocError>
     ensures { IfOk result (λ copy. copy ≡ token.now) }
 {
     token.clone()
 }
 
-/// The tokens after a mark, if it comes next.
+/// Returns the tokens after a mark, if it is the next token.
 pub(crate) fn after_mark(tokens: &[Token], mark: Mark) -> Option<&[Token]>
     ensures { MatchOption result (IsNotNext mark tokens.now)
         (λ rest. IsNext mark tokens.now rest.now) }
@@ -50,7 +50,7 @@ pub(crate) fn after_mark(tokens: &[Token], mark: Mark) -> Option<&[Token]>
     }
 }
 
-/// Whether a mark comes next.
+/// Whether the next token is a mark.
 pub(crate) fn is_next(tokens: &[Token], mark: Mark) -> bool
     ensures yes { IsTrue result → IsNotNext mark tokens.now → ⊥ }
     ensures no { result ≡ false → IsNotNext mark tokens.now }
@@ -61,7 +61,7 @@ pub(crate) fn is_next(tokens: &[Token], mark: Mark) -> bool
     }
 }
 
-/// Whether a colon comes next.
+/// Whether the next token is a colon.
 pub(crate) fn colon_comes(tokens: &[Token]) -> bool
     ensures { result ≡ refusals.is_next Mark.Colon tokens.now }
 {
@@ -71,7 +71,7 @@ pub(crate) fn colon_comes(tokens: &[Token]) -> bool
     }
 }
 
-/// Whether a colon comes next, at an offset in the line's text.
+/// Whether the next token is a colon that begins at an offset in the line's text.
 pub(crate) fn colon_comes_at(start: u32, tokens: &[Token]) -> bool
     ensures { result ≡ refusals.is_next_at start Mark.Colon tokens.now }
 {
@@ -83,7 +83,7 @@ pub(crate) fn colon_comes_at(start: u32, tokens: &[Token]) -> bool
     }
 }
 
-/// Whether an equals sign comes next.
+/// Whether the next token is an equals sign.
 pub(crate) fn equals_comes(tokens: &[Token]) -> bool
     ensures { result ≡ refusals.is_next Mark.Equals tokens.now }
 {
@@ -93,7 +93,7 @@ pub(crate) fn equals_comes(tokens: &[Token]) -> bool
     }
 }
 
-/// How many exclamation marks stand first, and the tokens after them.
+/// Returns the number of exclamation marks that come first, and the tokens after them.
 pub(crate) fn bangs(tokens: &[Token]) -> (u32, &[Token])
     requires { length tokens.now < 2 ^ 32 }
     ensures reads { ReadsBangs tokens.now result.0 result.1.now }

@@ -1,4 +1,4 @@
-//! What a word spells.
+//! The meaning of words: names of aliases, tags, options and digests.
 ghost use Rattle.std.specs.Prelude.{◌≡◌, ◌&&◌, IfOk};
 ghost use Rattle.std.specs.Str.{bytes_eq};
 ghost use Rattle.std.specs.List.{list_all};
@@ -11,7 +11,7 @@ use sudo_text::{Ch, Seq, TokenKind};
 
 pub(crate) const ALL: &[u8] = b"ALL";
 
-/// The bytes of characters.
+/// Copies the bytes of characters.
 pub(crate) fn bytes(alloc: Global, chars: &[Ch]) -> Result<Seq<u8>, AllocError>
     ensures { IfOk result (λ bytes. bytes ≡ bytes_of chars.now) }
 {
@@ -19,14 +19,14 @@ pub(crate) fn bytes(alloc: Global, chars: &[Ch]) -> Result<Seq<u8>, AllocError>
     Ok(Seq::from_vec(bytes))
 }
 
-/// Whether no escape gave any of the characters.
+/// Whether none of the characters is escaped.
 pub(crate) fn is_unescaped(chars: &[Ch]) -> bool
     ensures { result ≡ is_plain chars.now }
 {
     chars.iter().all(|c| !c.escaped)
 }
 
-/// What an unquoted word without escapes spells.
+/// Returns the word that a token spells, if it is an unquoted word without escapes.
 pub(crate) fn plain(alloc: Global, token: &TokenKind) -> Result<Option<Seq<u8>>, AllocError>
     ensures { IfOk result (λ word. word ≡ plain_word token.now) }
 {
@@ -53,15 +53,15 @@ fn has_name_bytes(word: &[u8]) -> bool
     word.iter().all(|b| b.is_ascii_uppercase() || b.is_ascii_digit() || *b == b'_')
 }
 
-/// Whether it is the name of an alias: an upper-case letter, and then upper-case letters, digits and underscores, and
-/// not `ALL`.
+/// Whether a word is the name of an alias: an upper-case letter, followed by upper-case letters, digits and
+/// underscores, and not `ALL`.
 pub(crate) fn is_alias_name(word: &[u8]) -> bool
     ensures { result ≡ is_name word.now }
 {
     begins_with_upper(word) && has_name_bytes(word) && word != ALL
 }
 
-/// Whether the bytes of characters are a text.
+/// Whether the bytes of characters are `text`.
 pub(crate) fn spells(chars: &[Ch], text: &[u8]) -> bool
     ensures { result ≡ bytes_eq (bytes_of chars.now) text.now }
 {
@@ -72,14 +72,14 @@ pub(crate) fn spells(chars: &[Ch], text: &[u8]) -> bool
     }
 }
 
-/// Whether unescaped characters spell a text.
+/// Whether the characters spell `text` without escapes.
 pub(crate) fn is_text(chars: &[Ch], text: &[u8]) -> bool
     ensures { result ≡ (is_plain chars.now && bytes_eq (bytes_of chars.now) text.now) }
 {
     is_unescaped(chars) && spells(chars, text)
 }
 
-/// The name of an alias that a token spells.
+/// Returns the name of an alias that a token spells, if any.
 pub(crate) fn name(alloc: Global, token: &TokenKind) -> Result<Option<Seq<u8>>, AllocError>
     ensures { IfOk result (λ name. name ≡ name_of token.now) }
 {
@@ -167,7 +167,7 @@ fn is_option_text(chars: &[Ch]) -> bool
         || spells(chars, b"LIMITPRIVS")
 }
 
-/// Whether a token is the name of an option of a command.
+/// Whether a token is the name of a command's option.
 pub(crate) fn is_option(token: &TokenKind) -> bool
     ensures { result ≡ openings.spells is_option_name (plain_word token.now) }
 {
@@ -188,7 +188,7 @@ fn is_digest_text(chars: &[Ch]) -> bool
         || spells(chars, b"sha512")
 }
 
-/// Whether a token is the name of a digest of a command.
+/// Whether a token is the name of a command's digest.
 pub(crate) fn is_digest(token: &TokenKind) -> bool
     ensures { result ≡ openings.spells is_digest_name (plain_word token.now) }
 {
@@ -200,7 +200,7 @@ pub(crate) fn is_digest(token: &TokenKind) -> bool
     }
 }
 
-/// Whether a token is a percent sign alone, in double quotes or not.
+/// Whether a token is a single percent sign, in double quotes or not.
 pub(crate) fn is_percent(token: &TokenKind) -> bool
     ensures { result ≡ openings.is_percent token.now }
 {

@@ -1,4 +1,4 @@
-//! The text of members that are written out.
+//! The text of the members of a written-out alias.
 ghost use Rattle.std.specs.Prelude.{◌≡◌, ◌++◌, ◌∷◌, ◌<◌, ◌||◌, ◌^◌, [], OnOk, IfOk, codes, decimal, true};
 ghost use Rattle.std.specs.Str.{bytes_eq};
 ghost use Rattle.sudo_grammar.specs.Words.{is_name};
@@ -10,7 +10,7 @@ use std::alloc::{AllocError, Global};
 use sudo_grammar::{Atom, Signed};
 use sudo_text::{Ch, Seq};
 
-/// A hexadecimal digit, in lower case.
+// Returns a hexadecimal digit, in lower case.
 fn hex(digit: u8) -> u8
     requires { digit < 16 }
     ensures { result ≡ hex_digit digit }
@@ -22,7 +22,7 @@ fn hex(digit: u8) -> u8
     }
 }
 
-/// A space, and what has a meaning of its own between words.
+// Whether a byte is a space or a byte with a special meaning between words.
 fn has_meaning(b: u8) -> bool
     ensures { result ≡ is_special b }
 {
@@ -32,7 +32,7 @@ fn has_meaning(b: u8) -> bool
     )
 }
 
-/// Writes one byte of a name.
+// Appends one byte of a name.
 fn push_byte(out: &mut Vec<u8>, b: u8) -> Result<(), AllocError>
     ensures { OnOk result (out.new.items ≡ out.old.items ++ byte_text b) }
 {
@@ -45,7 +45,7 @@ fn push_byte(out: &mut Vec<u8>, b: u8) -> Result<(), AllocError>
     }
 }
 
-/// Writes a name.
+// Appends a name.
 fn push_name(out: &mut Vec<u8>, name: &[u8]) -> Result<(), AllocError>
     ensures { OnOk result (out.new.items ≡ out.old.items ++ name_text name.now) }
 {
@@ -55,8 +55,8 @@ fn push_name(out: &mut Vec<u8>, name: &[u8]) -> Result<(), AllocError>
     Ok(())
 }
 
-/// Writes the name of a user: in double quotes where it reads as `ALL` or as an alias, and else with an escape before
-/// a first percent sign or plus.
+// Appends the name of a user: in double quotes if it would be read as `ALL` or as an alias, and otherwise with an
+// escape before a first percent sign or plus.
 fn push_user(out: &mut Vec<u8>, name: &[u8]) -> Result<(), AllocError>
     ensures { OnOk result (out.new.items ≡ out.old.items ++ user_text name.now) }
 {
@@ -78,7 +78,7 @@ fn push_user(out: &mut Vec<u8>, name: &[u8]) -> Result<(), AllocError>
     }
 }
 
-/// Writes the characters of a pattern.
+// Appends the characters of a pattern.
 fn push_chars(out: &mut Vec<u8>, chars: &[Ch]) -> Result<(), AllocError>
     ensures { OnOk result (out.new.items ≡ out.old.items ++ chars_text chars.now) }
 {
@@ -92,7 +92,7 @@ fn push_chars(out: &mut Vec<u8>, chars: &[Ch]) -> Result<(), AllocError>
     Ok(())
 }
 
-/// Writes characters between double quotes.
+// Appends characters between double quotes.
 fn push_quoted(out: &mut Vec<u8>, chars: &[Ch]) -> Result<(), AllocError>
     ensures { OnOk result (out.new.items ≡ out.old.items ++ host_text chars.now true) }
 {
@@ -107,7 +107,7 @@ fn push_quoted(out: &mut Vec<u8>, chars: &[Ch]) -> Result<(), AllocError>
     out.extend_from_slice(b"\"")
 }
 
-/// Writes a number in decimal.
+// Appends a number in decimal.
 fn push_number(out: &mut Vec<u8>, n: u32) -> Result<(), AllocError>
     ensures { OnOk result (out.new.items ≡ out.old.items ++ decimal n) }
 {
@@ -115,7 +115,7 @@ fn push_number(out: &mut Vec<u8>, n: u32) -> Result<(), AllocError>
     out.extend_from_slice(buffer.format(n).as_bytes())
 }
 
-/// Writes an address as four numbers with dots between.
+// Appends an address as four numbers with dots between them.
 fn push_address(out: &mut Vec<u8>, address: u32) -> Result<(), AllocError>
     ensures { OnOk result (out.new.items ≡ out.old.items ++ address_text address) }
 {
@@ -128,7 +128,7 @@ fn push_address(out: &mut Vec<u8>, address: u32) -> Result<(), AllocError>
     push_number(out, address % 256)
 }
 
-/// Writes a command: its path, and its arguments after a space.
+// Appends a command: its path, and its arguments after a space.
 fn push_command(out: &mut Vec<u8>, path: &[Ch], args: &Option<Seq<Ch>>) -> Result<(), AllocError>
     ensures { OnOk result (out.new.items ≡ out.old.items ++ command_text path.now args.now) }
 {
@@ -178,8 +178,8 @@ fn push_atom(out: &mut Vec<u8>, atom: &Atom) -> Result<(), AllocError>
     }
 }
 
-/// The text of a member that is written out, as sudoers(5) would have it: `!` where it is negated, and its atom with
-/// the escapes that keep each byte.
+/// Returns the text of a written-out member in the syntax of sudoers(5): `!` if it is negated, and its atom with the
+/// escapes that preserve each byte.
 pub fn member_text(alloc: Global, member: &Signed) -> Result<Vec<u8>, AllocError>
     ensures { IfOk result (λ text. text.items ≡ text_of member.now) }
 {

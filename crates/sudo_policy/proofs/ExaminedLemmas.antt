@@ -1,4 +1,4 @@
--- What was found is what the policy has.
+-- The findings of the code are those of the policy.
 use Rattle.std.proofs.Common.{◌≡◌, ℕ, suc, ◌<◌, Bool, true, false, not, cond, List, [], ◌∷◌, ◌++◌, map, length, Option, None, Some, refl, sym, ◌∙◌, ap, subst, arith}
 use Rattle.std.specs.Prelude.{slice_get, option_map, option_and_then, option_to_list, is_none, find, filter, flat_map, Contains, if◌then◌else◌}
 use Rattle.std.specs.List.{items_where_true}

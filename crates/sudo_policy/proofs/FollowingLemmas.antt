@@ -1,4 +1,4 @@
--- Laws of what lists of members come to.
+-- Laws of the values of lists of members.
 use Rattle.std.proofs.Common.{◌≡◌, ℕ, zero, suc, ◌+◌, List, [], ◌∷◌, Option, None, Some, refl, sym, ◌∙◌, ap, subst, arith}
 use Rattle.std.specs.Prelude.{option_map}
 use Rattle.sudo_grammar.specs.declared.kind.Kind.{Kind}

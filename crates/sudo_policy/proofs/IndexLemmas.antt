@@ -1,4 +1,4 @@
--- The index of a survey gives the definitions in force.
+-- The index of a survey yields the definitions in force.
 use Rattle.std.proofs.Common.{◌≡◌, ℕ, Option, None, Some, map, refl, sym, ◌∙◌, ap}
 use Rattle.std.specs.Prelude.{slice_get, option_map, option_and_then}
 use Rattle.sudo_grammar.specs.declared.policy.Policy.{Policy}

@@ -1,4 +1,4 @@
--- What the visit of the graph says of each alias.
+-- The judgement of each alias, by the visit of the graph.
 use Rattle.std.proofs.Common.{◌≡◌, ℕ, suc, min, Bool, true, false, not, List, [], ◌∷◌, map, length, Some, refl, sym, ◌∙◌, ap, subst, arith}
 use Rattle.std.specs.Prelude.{slice_get}
 use Rattle.std.proofs.lemmas.Bool.{lt-ltb, ltb-true}

@@ -1,4 +1,4 @@
--- Laws of lists whose aliases are followed, for every crate that follows them.
+-- Laws of the values of lists, for every crate that writes lists out.
 use Rattle.std.proofs.Common.{◌≡◌, ℕ, zero, suc, ◌<◌, max, Bool, true, false, not, ◌&&◌, List, [], ◌∷◌, ◌++◌, map, Option, Some, None, refl, sym, ◌∙◌, ap, arith, append_assoc, append-nil}
 use Rattle.std.specs.Prelude.{option_and_then, option_map, unwrap_or, is_some, flat_map}
 use Rattle.std.proofs.lemmas.Bool.{and_parts, and_from}

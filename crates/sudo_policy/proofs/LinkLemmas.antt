@@ -1,4 +1,4 @@
--- Paths among numbers are what aliases reach.
+-- An alias reaches another exactly if there is a path between their numbers.
 use Rattle.std.proofs.Common.{◌≡◌, ℕ, suc, ◌<◌, Bool, true, false, List, [], ◌∷◌, map, length, Option, None, Some, refl, sym, ◌∙◌, ap, subst, arith, inl, inr, ◌⊎◌}
 use Rattle.std.specs.Prelude.{slice_get, Contains, option_map, option_and_then, option_to_list, find, flat_map, IsSome, if◌then◌else◌}
 use Rattle.std.proofs.lemmas.Option.{slice_get-map}

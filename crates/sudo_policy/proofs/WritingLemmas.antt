@@ -1,4 +1,4 @@
--- What a loop over a list has written out.
+-- The output of a loop that writes a list out.
 use Rattle.std.proofs.Common.{◌≡◌, ℕ, ◌+◌, ◌≤◌, ◌<◌, List, [], ◌∷◌, ◌++◌, Option, None, Some, Bool, true, false, map, sym, ◌∙◌, ap, subst, arith, append_assoc, append-nil, drop, length, get_or}
 use Rattle.std.specs.Prelude.{option_and_then}
 use Rattle.std.proofs.lemmas.List.{map-append, drop_more}

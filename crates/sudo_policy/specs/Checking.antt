@@ -1,4 +1,4 @@
--- What the check of a policy answers: visudo(8) in its strict mode.
+-- The result of the check of a policy: visudo(8) in its strict mode.
 use Rattle.std.specs.Prelude.{◌≡◌, true, false, List}
 use Rattle.sudo_policy.specs.declared.checking.CheckFault.{CheckFault}
 use Rattle.sudo_policy.specs.declared.checking.CheckFault.TheVariants.{Findings, Memory}
@@ -12,12 +12,12 @@ pub record Passes (p : Policy) : Type 0 where
   pub are : AreFindings p found
   pub none : has_error found ≡ false
 
--- the findings of the policy, and one is an error
+-- the findings of the policy, of which one is an error
 pub record Fails (p : Policy) (found : List Finding) : Type 0 where
   pub are : AreFindings p found
   pub some : has_error found ≡ true
 
--- a refusal hands the policy back, with all findings where one is an error
+-- a refusal hands the policy back, with all findings if one is an error
 abbrev pub Refuses : Policy → CheckFault → Type 0
 Refuses p (Findings back found) = (back ≡ p) × Fails p found
 Refuses p (Memory back) = back ≡ p

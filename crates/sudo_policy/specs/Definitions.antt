@@ -45,7 +45,7 @@ definitions_of e = definitions_of_body e.place e.body
 abbrev pub definitions : Policy → List Defined
 definitions p = flat_map definitions_of p.entries
 
--- whether a definition is one of this name and kind
+-- a definition of this name and kind
 abbrev pub defines : Kind → List ℕ → Defined → Bool
 defines kind name d = same_kind kind d.kind && bytes_eq name d.name
 
@@ -57,16 +57,17 @@ definition_in_force kind p name = find (defines kind name) (definitions p)
 abbrev pub in_force : Kind → Policy → List ℕ → Option (List Member)
 in_force kind p name = option_map (λ (d : Defined). d.members) (definition_in_force kind p name)
 
--- whether some definition of the list has the name and the kind of this one
+-- some definition of the list has the name and the kind of this one
 abbrev pub is_defined_in : List Defined → Defined → Bool
 is_defined_in earlier d = is_some (find (defines d.kind d.name) earlier)
 
--- the definitions of the second list that no definition before them has the name and the kind of, where those of the first list stand before all
+-- the definitions of the second list whose name and kind no earlier definition has, where those of the first list come
+-- before all
 abbrev pub definitions_in_force : List Defined → List Defined → List Defined
 definitions_in_force earlier [] = []
 definitions_in_force earlier (d ∷ ds) = if is_defined_in earlier d then definitions_in_force (earlier ++ d ∷ []) ds else d ∷ definitions_in_force (earlier ++ d ∷ []) ds
 
--- the others: the further definitions of a name of the same kind
+-- the further definitions: those whose name and kind an earlier definition has
 abbrev pub redefinitions : List Defined → List Defined → List Defined
 redefinitions earlier [] = []
 redefinitions earlier (d ∷ ds) = if is_defined_in earlier d then d ∷ redefinitions (earlier ++ d ∷ []) ds else redefinitions (earlier ++ d ∷ []) ds
@@ -75,7 +76,8 @@ redefinitions earlier (d ∷ ds) = if is_defined_in earlier d then d ∷ redefin
 abbrev pub aliases : Policy → List Defined
 aliases p = definitions_in_force [] (definitions p)
 
--- a list of members, as it stands in a policy: the kind of its members, the place of its line, and whether it is a list of a rule or of a bound `Defaults` line
+-- a list of members in a policy: the kind of its members, the place of its line, and whether it belongs to a rule or to
+-- a bound `Defaults` line
 pub record Listed : Type 0 where
   pub kind : Kind
   pub place : Place
@@ -89,7 +91,7 @@ abbrev pub option_lists : Kind → Place → Option (List Member) → List Liste
 option_lists kind place None = []
 option_lists kind place (Some members) = granting_list kind place members ∷ []
 
--- a runas part: its user list and its group list, whose aliases are both of the kind Runas
+-- the lists of a runas: its user list and its group list, whose aliases are both of the kind Runas
 abbrev pub runas_lists : Place → Option RunasPart → List Listed
 runas_lists place None = []
 runas_lists place (Some part) = option_lists Runas place part.users ++ option_lists Runas place part.groups
@@ -155,7 +157,7 @@ pub record Refers (p : Policy) (kind : Kind) (a b : List ℕ) : Type 0 where
   pub names_b : Contains (names_used members) b
   pub defined_b : IsSome (in_force kind p b)
 
--- one or more such steps
+-- one or more such references
 pub data Reaches (p : Policy) (kind : Kind) : List ℕ → List ℕ → Type 0 where
   step : {a b : List ℕ} → Refers p kind a b → Reaches p kind a b
   more : {a b c : List ℕ} → Refers p kind a b → Reaches p kind b c → Reaches p kind a c

@@ -1,4 +1,4 @@
--- The findings on a policy: what strict mode of visudo(8) says of its aliases.
+-- The findings on a policy's aliases, in strict mode of visudo(8).
 use Rattle.std.specs.Prelude.{◌≡◌, ℕ, suc, ◌<◌, Bool, true, false, List, [], ◌++◌, Some, is_none, map, flat_map, filter, slice_get, length, Contains, IsTrue, ◌⊎◌, ◌↔◌}
 use Rattle.std.specs.List.{items_where_true, list_any}
 use Rattle.sudo_policy.specs.declared.finding.Class.{Class}
@@ -41,7 +41,7 @@ pub record IsUsed (p : Policy) (d : Defined) : Type 0 where
 abbrev pub IsUnused : Policy → Defined → Type 0
 IsUnused p d = IsUsed p d → ⊥
 
--- one mark for each definition of the list, true exactly where T holds
+-- one mark for each definition of the list, true exactly if T holds of it
 pub record Marks (T : Defined → Type 0) (ds : List Defined) (marks : List Bool) : Type 0 where
   pub same_length : length marks ≡ length ds
   pub exact : (i : ℕ) (d : Defined) (mark : Bool) → slice_get ds i ≡ Some d → slice_get marks i ≡ Some mark → IsTrue mark ↔ T d
@@ -52,7 +52,8 @@ undefined_in p list =
     map (λ name. record { class = Undefined; place = list.place; kind = list.kind; name = name })
     (filter (λ name. is_none (in_force list.kind p name)) (names_used list.members))
 
--- the findings by the marks of the aliases that are cyclic, too deep, too wide and unused: class by class, each class in the order of the file
+-- the findings, by the marks of the aliases that are cyclic, too deep, too wide and unused: class by class, each class
+-- in the order of the file
 abbrev pub found_by : Policy → List Bool → List Bool → List Bool → List Bool → List Finding
 found_by p cyclic deep wide unused =
     map (finding_on Redefined) (redefinitions [] (definitions p))
@@ -74,7 +75,7 @@ pub record AreFindings (p : Policy) (found : List Finding) : Type 0 where
   pub unused_are : Marks (IsUnused p) (aliases p) unused
   pub list : found ≡ found_by p cyclic deep wide unused
 
--- whether a class is one of errors
+-- findings of this class are errors
 abbrev pub is_error : Class → Bool
 is_error Redefined = true
 is_error Undefined = true
@@ -83,7 +84,7 @@ is_error TooDeep = true
 is_error TooWide = true
 is_error Unused = false
 
--- whether one of the findings is an error
+-- one of the findings is an error
 abbrev pub has_error : List Finding → Bool
 has_error found = list_any (λ f. is_error f.class) found
 

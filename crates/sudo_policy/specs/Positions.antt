@@ -1,4 +1,4 @@
--- Where the definition in force of each name stands: words that only the proofs of the index need.
+-- The position of the definition in force of each name: definitions that only the proofs of the index need.
 use Rattle.std.specs.Prelude.{◌≡◌, ℕ, List, Option, None, option_and_then, option_map, slice_get}
 use Rattle.sudo_base.specs.Places.{place_of}
 use Rattle.sudo_grammar.specs.declared.kind.Kind.{Kind}
@@ -20,7 +20,7 @@ names_of index Runas = index.runas
 names_of index Host = index.hosts
 names_of index Cmnd = index.commands
 
--- where the index says that the definition of a name stands
+-- the position of a name's definition, by the index
 abbrev pub position_in : Index → Kind → List ℕ → Option Position
 position_in index kind name = option_and_then (slice_get index.positions.items) (place_of (names_of index kind) name)
 
@@ -30,10 +30,10 @@ definition_at_body (Defaults binding parameters) at = None
 definition_at_body (Rule users sections) at = None
 definition_at_body (Include folder hash path) at = None
 
--- the members of the definition that stands at a position
+-- the members of the definition at a position
 abbrev pub members_at : Policy → Position → Option (List Member)
 members_at p position = option_and_then (λ (e : Entry). definition_at_body e.body position.definition) (slice_get p.entries position.entry)
 
--- the index gives the position of each definition in force
+-- the index yields the position of each definition in force
 abbrev pub IsIndex : Policy → Index → Type 0
 IsIndex p index = (kind : Kind) (name : List ℕ) → in_force kind p name ≡ option_and_then (members_at p) (position_in index kind name)

@@ -1,4 +1,4 @@
--- Lists whose aliases can be followed to their end. sudoers(5), "Aliases".
+-- Lists that resolve: whose aliases are all defined, to a limited depth. sudoers(5), "Aliases".
 use Rattle.std.specs.Prelude.{ℕ, max, Bool, true, ◌&&◌, List, [], ◌∷◌, Option, Some, None, IsTrue, is_some, unwrap_or, Contains}
 use Rattle.std.specs.List.{list_all}
 use Rattle.sudo_grammar.specs.declared.kind.Kind.{Kind}
@@ -12,34 +12,34 @@ use Rattle.sudo_policy.specs.Definitions.{lists, Listed}
 use Rattle.sudo_policy.specs.Following.{depth, reading_within}
 use Rattle.sudo_policy.specs.Written.{writing, Written, written}
 
--- a list resolves: every alias that it reaches is defined, and no more than 64 definitions stand one inside the other
+-- a list resolves: every alias that it reaches is defined, and at most 64 definitions are nested
 unfoldable pub resolves : Kind → Policy → List Member → Bool
 resolves kind p ms = is_some (reading_within writing kind p 64 ms)
 
--- every list of the policy resolves: those of rules, of runas parts, of bound `Defaults` lines and of alias definitions
+-- every list of the policy resolves: those of rules, runas, bound `Defaults` lines and alias definitions
 unfoldable pub IsSound : Policy → Type 0
 IsSound p = IsTrue (list_all (λ (l : Listed). resolves l.kind p l.members) (lists p))
 
--- each list of the policy has the written form that `written` gives
+-- the written form of each list of the policy is `written`
 abbrev pub AreWritten : Policy → Type 0
 AreWritten p = (l : Listed) → Contains (lists p) l → Written l.kind p l.members (written l.kind p l.members)
 
--- the greatest of a number for each item, or 0
+-- the greatest value of f on the items, or 0
 abbrev pub greatest : {X : Type 0} → (X → ℕ) → List X → ℕ
 greatest f [] = 0
 greatest f (x ∷ xs) = max (f x) (greatest f xs)
 
--- how many definitions stand one inside the other in a list; 0 for a member that does not resolve
+-- the depth of nested definitions in a list; 0 for a member that does not resolve
 unfoldable pub rank : Kind → Policy → List Member → ℕ
 rank kind p ms = greatest (λ (m : Member). unwrap_or (reading_within depth kind p 64 (m ∷ [])) 0) ms
 
--- The lists of a rule resolve, part by part.
+-- the lists of a rule resolve, part by part
 
 abbrev pub list_resolves : Policy → Option (List Member) → Bool
 list_resolves p None = true
 list_resolves p (Some members) = resolves Runas p members
 
--- a group list of a runas part names Runas aliases
+-- both lists of a runas resolve; a group list names Runas aliases
 abbrev pub runas_resolves : Policy → Option RunasPart → Bool
 runas_resolves p None = true
 runas_resolves p (Some part) = list_resolves p part.users && list_resolves p part.groups

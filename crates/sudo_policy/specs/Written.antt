@@ -7,25 +7,25 @@ use Rattle.sudo_grammar.specs.declared.policy.Policy.{Policy}
 use Rattle.sudo_policy.specs.Definitions.{alias_named}
 use Rattle.sudo_policy.specs.Following.{Reading, ReadsAs, reading_within}
 
--- whether exactly one of the two holds
+-- exactly one of the two is true
 abbrev pub differ : Bool → Bool → Bool
 differ true b = not b
 differ false b = b
 
--- whether a member is negated: it has an odd number of exclamation marks
+-- a member is negated: it has an odd number of exclamation marks
 abbrev pub is_negated : Member → Bool
 is_negated m = m.bangs % 2 == 1
 
--- a signed atom, negated once more where told to
+-- a signed atom, negated once more if `negate` is true
 abbrev pub negated_if : Bool → Signed → Signed
 negated_if negate s = record { negated = differ negate s.negated; atom = s.atom }
 
--- a member that is no alias stands for itself with its sign; an undefined name stands for nothing
+-- a member that is no alias is written as itself with its sign; an undefined name has no written form
 abbrev pub alone_written : Member → Option (List ℕ) → Option (List Signed)
 alone_written m None = Some (record { negated = is_negated m; atom = m.atom } ∷ [])
 alone_written m (Some name) = None
 
--- an alias stands for the written members of its definition, each negated once more if the alias is negated
+-- an alias is written as the members of its definition, each negated once more if the alias is negated
 abbrev pub writing : Reading (List Signed)
 writing = record {
   nothing = [];
@@ -34,15 +34,16 @@ writing = record {
   through = λ m ws. map (negated_if (is_negated m)) ws;
 }
 
--- a list written out is ws: its members in order, with the definition of each alias in its place and signs turned; a list that reaches a cycle or an undefined name has no written form
+-- ws is the list written out: its members in order, with each alias replaced by its definition and signs turned; a list
+-- that reaches a cycle or an undefined name has no written form
 abbrev pub Written : Kind → Policy → List Member → List Signed → Type 0
 Written kind p ms ws = ReadsAs writing kind p ms ws
 
--- the written form of one member, through at most 64 definitions one inside the other; nothing where it has none
+-- the written form of one member, through at most 64 nested definitions; empty if it has none
 abbrev pub member_written : Kind → Policy → Member → List Signed
 member_written kind p m = unwrap_or (reading_within writing kind p 64 (m ∷ [])) []
 
--- a list written out, member by member; of each list of a policy that passes the check it is the written form
+-- a list written out, member by member; the written form of each list of a policy that passes the check
 unfoldable pub written : Kind → Policy → List Member → List Signed
 written kind p ms = flat_map (member_written kind p) ms
 

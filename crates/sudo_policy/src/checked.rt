@@ -9,7 +9,7 @@ use crate::index::{Index, members_at};
 use std::marker::Model;
 use sudo_grammar::{Kind, Member, Policy};
 
-/// A policy that was checked and has no error among its findings. Contracts see the policy.
+/// A checked policy: none of its findings is an error. Contracts see the policy.
 #[derive(Drop)]
 pub struct Checked {
     policy: Policy,
@@ -30,7 +30,7 @@ impl Model for Checked {
 }
 
 impl Checked {
-    /// A policy whose findings have no error, with the index of its definitions.
+    /// Creates a checked policy from a policy without errors and the index of its definitions.
     pub(crate) fn new(policy: Policy, index: Index) -> Checked
         requires index { IsIndex policy index }
         requires passes { Passes policy }
@@ -40,7 +40,7 @@ impl Checked {
         Checked { policy, index }
     }
 
-    /// The policy.
+    /// Returns the policy.
     pub fn policy(&self) -> &Policy
         ensures value { result.now ≡ self.now }
         ensures passes { Passes self.now }
@@ -49,7 +49,7 @@ impl Checked {
         &self.policy
     }
 
-    /// The list of the alias's definition in force, `None` exactly where there is none. Takes no memory.
+    /// Returns the list of the alias's definition in force, or `None` if there is none. Does not allocate.
     pub fn definition(&self, kind: Kind, name: &[u8]) -> Option<&[Member]>
         ensures value { option_copied result ≡ in_force kind self.now name.now }
         ensures resolves { IfSome result (λ members. IsTrue (resolves kind self.now members.now)) }

@@ -10,20 +10,20 @@ use sudo_grammar::Policy;
 use sudo_text::Seq;
 use thiserror::Error;
 
-/// Why a policy was not accepted. Both hand the policy back.
+/// The reason why a policy was not accepted, with the policy.
 #[derive(Debug, Drop, Error)]
 pub enum CheckFault {
-    /// Some finding is an error; all findings, as `findings` gives them.
+    /// Some finding is an error. Contains all findings, as `findings` returns them.
     #[error("the policy has errors")]
     Findings(Policy, Seq<Finding>),
-    /// Memory was refused.
+    /// Out of memory.
     #[error("out of memory")]
     Memory(Policy),
 }
 
 /// Checks the aliases of a policy as strict mode of visudo(8) does.
 ///
-/// `Findings` is answered exactly where a finding is an error, `Memory` where memory was refused.
+/// Returns `Findings` exactly if a finding is an error, and `Memory` if allocation fails.
 pub fn check(alloc: Global, policy: Policy) -> Result<Checked, CheckFault>
     ensures same { IfOk result (λ checked. checked ≡ policy) }
     ensures passes { IfOk result (λ checked. Passes policy) }

@@ -1,4 +1,4 @@
-//! Which aliases are on a cycle.
+//! The aliases on cycles.
 ghost use Rattle.std.specs.Prelude.{◌≡◌, ◌↔◌, ◌<◌, ◌∷◌, [], ℕ, Contains, IfOk, OnOk, length, map, not, replicate, true};
 ghost use Rattle.sudo_policy.specs.Body.Graph.{IsClosed, IsInside, MarksOf, Path, StatesHold, IsSettled, is_looped};
 ghost use Rattle.sudo_policy.specs.declared.graph.State.{State};
@@ -11,10 +11,10 @@ use crate::reach::spread;
 use std::alloc::{AllocError, Global};
 use sudo_text::Seq;
 
-/// For each alias whether it is reached from itself.
+/// Returns, for each alias, whether it reaches itself.
 ///
-/// The answer is the same in any order of `looped`. The time is linear where these are the aliases that reach a
-/// cycle, in the order in which their visits ended.
+/// The result does not depend on the order of `looped`. The time is linear if `looped` contains the aliases that reach
+/// a cycle, in the order in which their visits ended.
 pub(crate) fn cycles(
     alloc: Global,
     links: &[Seq<Option<usize>>],
@@ -47,14 +47,14 @@ pub(crate) fn cycles(
     Ok(cyclic)
 }
 
-/// Whether some alias reaches a cycle.
+// Whether some alias reaches a cycle.
 fn any_looped(states: &[State]) -> bool
     ensures { result ≡ list_any is_looped states.now }
 {
     states.iter().any(|state| matches!(state, State::Looped))
 }
 
-/// For each alias whether it reaches no cycle.
+// Returns, for each alias, whether it reaches no cycle.
 fn not_looped(alloc: Global, states: &[State]) -> Result<Vec<bool>, AllocError>
     ensures { IfOk result (λ marks. marks.items ≡ map (λ s. not (is_looped s)) states.now) }
 {
@@ -64,7 +64,7 @@ fn not_looped(alloc: Global, states: &[State]) -> Result<Vec<bool>, AllocError>
         .collect(alloc)
 }
 
-/// Decides of each alias whether it is on a cycle: first of those that reach one, beginning with the last of them.
+// Decides, for each alias, whether it is on a cycle: first for those that reach one, beginning with the last of them.
 fn decide_all(
     alloc: Global,
     links: &[Seq<Option<usize>>],
@@ -89,7 +89,7 @@ fn decide_all(
     Ok(())
 }
 
-/// Decides whether an alias is on a cycle, and with it those that are on one with it.
+// Decides whether an alias is on a cycle, and with it the aliases on a cycle through it.
 fn decide(
     alloc: Global,
     links: &[Seq<Option<usize>>],
@@ -118,10 +118,10 @@ fn decide(
     Ok(())
 }
 
-/// The aliases that an alias both leads to and is reached from.
-///
-/// What is done is passed over: with an alias that is done those are done that it leads to and is reached from.
-/// `aside` marks every alias, before and after.
+// Returns the aliases that an alias both reaches and is reached from.
+//
+// Skips the aliases that are done; these include, with each alias, all that it both reaches and is reached from.
+// `aside` marks every alias, before and after.
 fn round(
     alloc: Global,
     links: &[Seq<Option<usize>>],
@@ -148,7 +148,7 @@ fn round(
     Ok(round)
 }
 
-/// The aliases that an alias leads to, past those that are marked.
+// Returns the aliases that an alias reaches along unmarked ones. The marks are the same after the call.
 fn ahead(
     alloc: Global,
     links: &[Seq<Option<usize>>],
@@ -167,7 +167,7 @@ fn ahead(
     Ok(found)
 }
 
-/// Sets the marks of some aliases.
+// Sets the marks of the given aliases to `mark`.
 fn set_marks(mark: bool, aliases: &[usize], marks: &mut [bool])
     requires inside { (i : ℕ) → Contains aliases.now i → i < length marks.old }
     ensures { AreSet mark aliases.now marks.old marks.new }
@@ -177,7 +177,7 @@ fn set_marks(mark: bool, aliases: &[usize], marks: &mut [bool])
     }
 }
 
-/// The links turned round: for each alias those that name it.
+// Returns the reversed links: for each alias, those that name it.
 fn reversed(
     alloc: Global,
     links: &[Seq<Option<usize>>],
@@ -195,7 +195,7 @@ fn reversed(
     Ok(back)
 }
 
-/// Adds the links of a row, turned round.
+// Adds the links of a row, reversed.
 fn turn_row(
     from: usize,
     row: &[Option<usize>],
@@ -210,7 +210,7 @@ fn turn_row(
     Ok(())
 }
 
-/// Adds a link, turned round.
+// Adds a link, reversed.
 fn turn_link(
     from: usize,
     link: Option<usize>,

@@ -30,7 +30,7 @@ pub(crate) struct Examined {
     pub(crate) index: Index,
 }
 
-/// For each alias in force whether it is on a cycle, begins too long a chain, has too many members, or is used nowhere.
+// For each alias in force, whether it is on a cycle, begins too long a chain, has too many members, or is unused.
 #[derive(Drop)]
 struct Judged {
     cyclic: Vec<bool>,
@@ -39,9 +39,10 @@ struct Judged {
     unused: Vec<bool>,
 }
 
-/// What strict mode of visudo(8) finds in a policy: the findings by class, each class in the order of the loaded policy.
+/// Returns the findings of visudo(8)'s strict mode on a policy: class by class, each class in the order of the loaded
+/// policy.
 ///
-/// Fails only where memory was refused.
+/// Returns `AllocError` if allocation fails.
 pub fn findings(alloc: Global, policy: &Policy) -> Result<Vec<Finding>, AllocError>
     ensures { IfOk result (λ found. AreFindings policy.now found.items) }
 {
@@ -49,7 +50,7 @@ pub fn findings(alloc: Global, policy: &Policy) -> Result<Vec<Finding>, AllocErr
     Ok(findings)
 }
 
-/// The findings on a policy, with the index of its definitions.
+/// Returns the findings on a policy, with the index of its definitions.
 pub(crate) fn examine(alloc: Global, policy: &Policy) -> Result<Examined, AllocError>
     ensures findings { IfOk result (λ examined. AreFindings policy.now examined.findings.items) }
     ensures index { IfOk result (λ examined. IsIndex policy.now examined.index) }
@@ -69,7 +70,7 @@ pub(crate) fn examine(alloc: Global, policy: &Policy) -> Result<Examined, AllocE
     Ok(Examined { findings, index })
 }
 
-/// What there is to say of each alias in force.
+// Judges each alias in force.
 fn judge(alloc: Global, survey: &Survey<'_>, lists: &[Listed<'_>]) -> Result<Judged, AllocError>
     requires inside { LeadsInside survey.now }
     ensures { IfOk result (λ judged. (p : Policy) → IsSurvey p (policies.definitions p) survey.now
@@ -96,7 +97,7 @@ fn judge(alloc: Global, survey: &Survey<'_>, lists: &[Listed<'_>]) -> Result<Jud
     })
 }
 
-/// Whether an alias begins a chain of more than 64 aliases.
+// Whether an alias begins a chain of more than 64 aliases.
 fn is_deep(state: State) -> bool
     ensures { result ≡ judgement.is_deep state }
 {
@@ -106,7 +107,7 @@ fn is_deep(state: State) -> bool
     }
 }
 
-/// Whether an alias has more than 65,536 members when it is written out.
+// Whether an alias has more than 65,536 members when it is written out.
 fn is_wide(state: State) -> bool
     ensures { result ≡ judgement.is_wide state }
 {
@@ -116,14 +117,14 @@ fn is_wide(state: State) -> bool
     }
 }
 
-/// For each alias whether it begins too long a chain.
+// Returns, for each alias, whether it begins too long a chain.
 fn too_deep(alloc: Global, states: &[State]) -> Result<Vec<bool>, AllocError>
     ensures { IfOk result (λ marks. marks.items ≡ map judgement.is_deep states.now) }
 {
     states.iter().map(|state| is_deep(*state)).collect(alloc)
 }
 
-/// For each alias whether it has too many members.
+// Returns, for each alias, whether it has too many members.
 fn too_wide(alloc: Global, states: &[State]) -> Result<Vec<bool>, AllocError>
     ensures { IfOk result (λ marks. marks.items ≡ map judgement.is_wide states.now) }
 {
@@ -136,7 +137,7 @@ fn negated(alloc: Global, marks: &[bool]) -> Result<Vec<bool>, AllocError>
     marks.iter().map(|mark| !*mark).collect(alloc)
 }
 
-/// The findings, class by class.
+// Returns the findings, class by class.
 fn collected(
     alloc: Global,
     survey: &Survey<'_>,
@@ -182,7 +183,7 @@ fn collected(
     Ok(found)
 }
 
-/// A finding on a definition.
+// Returns a finding on a definition.
 fn finding_on(alloc: Global, class: Class, alias: &Named<'_>) -> Result<Finding, AllocError>
     ensures { IfOk result (λ made. made ≡ found.finding_on class (named_view alias.now)) }
 {
@@ -194,7 +195,7 @@ fn finding_on(alloc: Global, class: Class, alias: &Named<'_>) -> Result<Finding,
     })
 }
 
-/// Appends a finding for each further definition of a name.
+// Appends a finding for each further definition of a name.
 fn push_repeats(
     alloc: Global,
     redefinitions: &[Named<'_>],
@@ -210,7 +211,7 @@ fn push_repeats(
     Ok(())
 }
 
-/// Appends a finding for each alias that is marked.
+// Appends a finding for each alias that is marked.
 fn push_marked(
     alloc: Global,
     class: Class,
@@ -228,7 +229,7 @@ fn push_marked(
     Ok(())
 }
 
-/// Appends a finding on an alias, if it is marked.
+// Appends a finding on an alias if it is marked.
 fn push_if(
     alloc: Global,
     class: Class,
@@ -246,7 +247,7 @@ fn push_if(
     Ok(())
 }
 
-/// Appends a finding for each use of a name without a definition.
+// Appends a finding for each use of an undefined name.
 fn push_undefined(
     alloc: Global,
     index: &Index,
@@ -262,7 +263,7 @@ fn push_undefined(
     Ok(())
 }
 
-/// Appends a finding for each use in a list of a name without a definition.
+// Appends a finding for each use of an undefined name in a list.
 fn push_uses(
     alloc: Global,
     index: &Index,
@@ -285,7 +286,7 @@ fn push_uses(
     Ok(())
 }
 
-/// Appends a finding where a name is used that has no definition.
+// Appends a finding if a name is undefined.
 fn push_use(
     alloc: Global,
     index: &Index,

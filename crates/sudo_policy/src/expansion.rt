@@ -11,13 +11,13 @@ use std::alloc::{AllocError, Global};
 use sudo_grammar::{Kind, Member, Signed};
 use thiserror::Error;
 
-/// Why an alias cannot be written out.
+/// The reason why an alias cannot be written out.
 #[derive(Clone, Copy, Debug, PartialEq, Eq, Error)]
 pub enum ExpandFault {
     /// The name has no definition of that kind.
     #[error("no such alias")]
     NoSuchAlias,
-    /// Memory was refused.
+    /// Out of memory.
     #[error("out of memory")]
     Memory,
 }
@@ -33,17 +33,17 @@ impl From<AllocError> for ExpandFault {
     }
 }
 
-/// Whether exactly one of the two holds.
+// Whether exactly one of the two is true.
 fn differ(a: bool, b: bool) -> bool
     ensures { result ≡ differ a b }
 {
     if a { !b } else { b }
 }
 
-/// Returns the alias written out, as cvtsudoers(1) does with its option -e: its members in order, with each alias in its
-/// place, each negated once for each odd negation on the way to it.
+/// Returns the alias written out, as cvtsudoers(1) does with its option -e: its members in order, with each alias
+/// replaced by the members of its definition, each negated once for each odd negation on the way to it.
 ///
-/// Returns `NoSuchAlias` exactly if the name has no definition of that kind, and `Memory` if memory is refused.
+/// Returns `NoSuchAlias` exactly if the name has no definition of that kind, and `Memory` if allocation fails.
 pub fn expand(
     alloc: Global,
     checked: &Checked,
@@ -66,7 +66,7 @@ pub fn expand(
     Ok(atoms)
 }
 
-/// Appends a list written out, each member negated once more where told to.
+// Appends a written-out list, with each member negated once more if `negate` is true.
 fn write_out(
     alloc: Global,
     checked: &Checked,

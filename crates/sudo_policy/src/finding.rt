@@ -1,14 +1,15 @@
-//! What the check of a policy's aliases finds.
+//! The findings of the check of a policy's aliases.
 
 use sudo_grammar::Kind;
 use sudo_text::{Place, Seq};
 
-/// The classes of findings, in the order in which they are listed: those of the strict check of visudo(8). The first five are errors, the last one is a warning.
+/// The classes of findings, in the order in which they are listed: those of the strict check of visudo(8). The first
+/// five are errors, the last one is a warning.
 #[derive(Clone, Copy, Debug, PartialEq, Eq)]
 pub enum Class {
     /// A further definition of a name of the same kind.
     Redefined,
-    /// A use of a name that has no definition of that kind.
+    /// A use of a name without a definition of that kind.
     Undefined,
     /// An alias that is reached from itself.
     Cycle,
@@ -20,7 +21,7 @@ pub enum Class {
     Unused,
 }
 
-/// One finding: its class, the place of the line that it is on, and the alias's kind and name.
+/// A finding: its class, the place of its line, and the kind and the name of the alias.
 #[derive(Debug, Drop, PartialEq, Eq)]
 pub struct Finding {
     pub class: Class,

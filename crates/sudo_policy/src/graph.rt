@@ -1,4 +1,4 @@
-//! Aliases as a graph of numbers: which reach a cycle, and how deep and wide the others are.
+//! Aliases as a graph of numbers: the aliases that reach a cycle, and the depth and width of the others.
 ghost use Rattle.std.specs.Prelude.{◌≡◌, ◌<◌, ℕ, IfOk, OnOk, Some, List, Option, length, option_map, slice_get};
 ghost use Rattle.sudo_policy.specs.declared.graph.State.{State};
 ghost use Rattle.sudo_policy.specs.Following.{joined};
@@ -7,21 +7,22 @@ ghost use Rattle.sudo_policy.specs.Body.Graph.{Edge, IsClosed, StatesHold, OpenL
 use std::alloc::{AllocError, Global};
 use sudo_text::Seq;
 
-/// How many definitions are one inside the other, and how many members there are, up to just beyond the limits.
+/// The number of definitions nested in one another, and the number of members, both counted up to just beyond the
+/// limits.
 #[derive(Clone, Copy, Debug, PartialEq, Eq)]
 pub(crate) struct Measure {
     pub(crate) depth: u32,
     pub(crate) width: u32,
 }
 
-/// How far the visit of an alias has come.
+/// The state of the visit of an alias.
 #[derive(Clone, Copy, Debug, PartialEq, Eq)]
 pub(crate) enum State {
     /// Not visited.
     New,
-    /// Its members are being visited.
+    /// Its visit has begun: its members are being visited.
     Open,
-    /// It reaches no cycle; the measure of its definition.
+    /// It reaches no cycle. Contains the measure of its definition.
     Done(Measure),
     /// It reaches a cycle.
     Looped,
@@ -32,7 +33,7 @@ impl Measure {
 
     const ONE_MEMBER: Measure = Measure { depth: 0, width: 1 };
 
-    /// The measure of a list that is this one and the other.
+    // Returns the measure of this list followed by the other.
     fn beside(self, other: Measure) -> Measure
         ensures { result ≡ beside self other }
     {
@@ -42,7 +43,7 @@ impl Measure {
         }
     }
 
-    /// The measure of an alias, by that of its definition.
+    // Returns the measure of an alias from that of its definition.
     fn deeper(self) -> Measure
         ensures { result ≡ deeper self }
     {
@@ -53,7 +54,7 @@ impl Measure {
     }
 }
 
-/// The measure of one link, `None` where it leads to an alias that is not done.
+// Returns the measure of one link, or `None` if it leads to an alias that is not done.
 fn link_measure(states: &[State], link: Option<usize>) -> Option<Measure>
     ensures { result ≡ link_measure (done_measure states.now) link }
 {
@@ -66,7 +67,7 @@ fn link_measure(states: &[State], link: Option<usize>) -> Option<Measure>
     }
 }
 
-/// The measure of both, if both are known.
+// Returns the measure of both lists together, if both are known.
 fn joined(a: Option<Measure>, b: Option<Measure>) -> Option<Measure>
     ensures { result ≡ joined beside a b }
 {
@@ -76,16 +77,16 @@ fn joined(a: Option<Measure>, b: Option<Measure>) -> Option<Measure>
     }
 }
 
-/// What is known of the aliases when all were visited.
+/// The result of visiting all aliases.
 #[derive(Drop)]
 pub(crate) struct Visited {
-    /// For each alias whether it reaches a cycle, and else the measure of its definition.
+    /// For each alias, whether it reaches a cycle, and otherwise the measure of its definition.
     pub(crate) states: Vec<State>,
     /// The aliases that reach a cycle, in the order in which their visits ended.
     pub(crate) looped: Vec<usize>,
 }
 
-/// Visits an alias that is new and, before it is over, the new ones that it reaches.
+// Visits a new alias and, before the visit ends, the new ones that it reaches.
 #[cycle(visiting)]
 fn visit(
     links: &[Seq<Option<usize>>],
@@ -122,7 +123,7 @@ fn visit(
     Ok(())
 }
 
-/// Visits the alias that a link of an open one leads to, where it is new.
+// Visits the alias to which a link of an open one leads, if it is new.
 #[cycle(visiting)]
 fn visit_link(
     links: &[Seq<Option<usize>>],
@@ -149,7 +150,7 @@ fn visit_link(
     Ok(())
 }
 
-/// What the visits of all aliases come to.
+/// Visits all aliases and returns the result.
 pub(crate) fn all_visited(
     alloc: Global,
     links: &[Seq<Option<usize>>],
@@ -166,7 +167,7 @@ pub(crate) fn all_visited(
     Ok(Visited { states, looped })
 }
 
-/// Visits each of the aliases.
+// Visits each of the aliases.
 fn visit_all(
     links: &[Seq<Option<usize>>],
     states: &mut [State],
@@ -185,7 +186,7 @@ fn visit_all(
     Ok(())
 }
 
-/// Visits an alias, where it is new and none is open.
+// Visits an alias if it is new, while none is open.
 fn visit_new(
     links: &[Seq<Option<usize>>],
     states: &mut [State],

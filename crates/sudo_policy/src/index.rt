@@ -1,4 +1,4 @@
-//! Where definitions stand.
+//! An index of the definitions in force.
 ghost use Rattle.std.specs.Prelude.{◌≡◌, None, [], ◌∷◌, ◌++◌, false, OnOk, length, option_copied};
 ghost use Rattle.sudo_base.specs.Places.{place_of};
 ghost use Rattle.sudo_grammar.specs.declared.kind.Kind.{Kind};
@@ -9,14 +9,14 @@ use std::alloc::{AllocError, Global};
 use sudo_base::Names;
 use sudo_grammar::{EntryBody, Kind, Member, Policy};
 
-/// Where a definition stands: the entry, and the definition in it, both from 0.
+/// The position of a definition: the index of the entry, and the index of the definition in it.
 #[derive(Clone, Copy, Debug)]
 pub(crate) struct Position {
     pub(crate) entry: usize,
     pub(crate) definition: usize,
 }
 
-/// The definitions in force: for each kind the number of each name's definition, and the position of each of these.
+/// The definitions in force: for each kind, the number of each name's definition, and the position of each definition.
 #[derive(Drop)]
 pub(crate) struct Index {
     pub(crate) users: Names,
@@ -27,7 +27,7 @@ pub(crate) struct Index {
 }
 
 impl Index {
-    /// No definitions.
+    /// Creates an empty index.
     pub(crate) fn new(alloc: Global) -> Index
         ensures names { (kind : Kind) → names_of result kind ≡ [] }
         ensures positions { result.positions.items ≡ [] }
@@ -67,7 +67,7 @@ impl Index {
         }
     }
 
-    /// The number of the definition in force of a name.
+    /// Returns the number of the name's definition in force.
     pub(crate) fn number(&self, kind: Kind, name: &[u8]) -> Option<usize>
         ensures { result ≡ place_of (names_of self.now kind) name.now }
     {
@@ -79,7 +79,7 @@ impl Index {
         }
     }
 
-    /// Where the definition in force of a name stands.
+    /// Returns the position of the name's definition in force.
     pub(crate) fn position(&self, kind: Kind, name: &[u8]) -> Option<Position>
         ensures { result ≡ position_in self.now kind name.now }
     {
@@ -88,7 +88,7 @@ impl Index {
     }
 }
 
-/// The members of the definition at a position.
+/// Returns the members of the definition at a position.
 pub(crate) fn members_at(policy: &Policy, position: Position) -> Option<&[Member]>
     ensures { option_copied result ≡ members_at policy.now position }
 {

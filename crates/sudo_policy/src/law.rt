@@ -1,16 +1,16 @@
-//! Laws of the words that the contracts here use.
+//! Laws of the definitions that the contracts of this crate use.
 ghost use Rattle.sudo_policy.specs.Found.{FoundOnce};
 ghost use Rattle.sudo_policy.specs.Resolving.{AreWritten};
 ghost use Rattle.sudo_policy.specs.Written.{WrittenOnce};
 
 use crate::Checked;
 
-/// The findings of a policy are one list.
+/// A policy has one list of findings.
 pub fn findings_are_one_list()
     ensures { FoundOnce }
 {}
 
-/// A list has one written form at most.
+/// A list has at most one written form.
 pub fn written_form_is_one()
     ensures { WrittenOnce }
 {}

@@ -1,4 +1,4 @@
-//! Policies of sudo that were checked: the findings on their aliases, and aliases written out.
+//! Checked sudo policies: the findings on their aliases, and aliases written out.
 //!
 //! sudoers(5), "Aliases"; visudo(8), its strict check; cvtsudoers(1), its option -e.
 #![tactic(auto)]

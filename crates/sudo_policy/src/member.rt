@@ -1,4 +1,4 @@
-//! What is asked of the members of lists.
+//! Properties of the members of lists.
 ghost use Rattle.std.specs.Prelude.{◌≡◌, option_copied, IfOk};
 ghost use Rattle.sudo_policy.specs.Definitions.{alias_named};
 ghost use Rattle.sudo_policy.specs.Written as written;
@@ -7,7 +7,7 @@ use std::alloc::{AllocError, Global};
 use sudo_grammar::{Atom, Member};
 use sudo_text::{Ch, Seq};
 
-/// The alias that an atom names.
+/// Returns the name of the alias that an atom is, or `None` for any other atom.
 pub fn alias_name(atom: &Atom) -> Option<&[u8]>
     ensures { option_copied result ≡ alias_named atom.now }
 {
@@ -17,14 +17,14 @@ pub fn alias_name(atom: &Atom) -> Option<&[u8]>
     }
 }
 
-/// Whether a member is negated: it has an odd number of exclamation marks.
+/// Whether a member is negated: whether it has an odd number of exclamation marks.
 pub fn is_negated(member: &Member) -> bool
     ensures { result ≡ written.is_negated member.now }
 {
     member.bangs % 2 == 1
 }
 
-/// A copy of an atom. Fails only where memory was refused.
+/// Copies an atom. Returns `AllocError` if allocation fails.
 pub(crate) fn atom_copied(alloc: Global, atom: &Atom) -> Result<Atom, AllocError>
     ensures { IfOk result (λ copy. copy ≡ atom.now) }
 {

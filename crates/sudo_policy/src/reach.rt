@@ -1,4 +1,4 @@
-//! Which aliases links lead to.
+//! The aliases that links reach.
 ghost use Rattle.std.specs.Prelude.{◌≡◌, ◌↔◌, ◌∷◌, [], ℕ, true, Some, Contains, IfOk, OnOk, length};
 ghost use Rattle.sudo_policy.specs.Body.Graph.{IsClosed, IsInside, IsReached, MarksOf};
 ghost use Rattle.sudo_policy.specs.Body.Marking.{AreSet, Marked, ReachedPast};
@@ -6,7 +6,7 @@ ghost use Rattle.sudo_policy.specs.Body.Marking.{AreSet, Marked, ReachedPast};
 use std::alloc::{AllocError, Global};
 use sudo_text::Seq;
 
-/// For each alias whether some root is it or leads to it.
+/// Returns, for each alias, whether a root is it or reaches it.
 pub(crate) fn reached(
     alloc: Global,
     links: &[Seq<Option<usize>>],
@@ -22,7 +22,7 @@ pub(crate) fn reached(
     Ok(marks)
 }
 
-/// Marks the aliases that some root is or leads to, past those that were marked before, and returns them.
+/// Marks the aliases that a root is or reaches along unmarked aliases, and returns those that it has marked.
 pub(crate) fn spread(
     alloc: Global,
     links: &[Seq<Option<usize>>],
@@ -46,7 +46,7 @@ pub(crate) fn spread(
     Ok(found)
 }
 
-/// Marks the aliases that a row leads to, and notes those that were not marked before.
+// Marks the aliases to which a row leads, and appends to `work` those that were unmarked.
 fn mark_row(
     row: &[Option<usize>],
     marks: &mut [bool],
@@ -61,7 +61,7 @@ fn mark_row(
     Ok(())
 }
 
-/// Marks the alias that a link leads to, and notes it if it was not marked before.
+// Marks the alias to which a link leads, and appends it to `work` if it was unmarked.
 fn mark_link(
     link: Option<usize>,
     marks: &mut [bool],

@@ -12,7 +12,7 @@ use sudo_grammar::{
 };
 use sudo_text::{Place, Seq};
 
-/// A definition of an alias, and where it stands.
+/// A definition of an alias, and its position.
 #[derive(Clone, Copy)]
 pub(crate) struct Named<'a> {
     pub(crate) kind: Kind,
@@ -22,7 +22,8 @@ pub(crate) struct Named<'a> {
     pub(crate) position: Position,
 }
 
-/// A list of members: the kind of its members, the place of its line, and whether it is a list of a rule or of a bound `Defaults` line.
+/// A list of members: the kind of its members, the place of its line, and whether it belongs to a rule or to a bound
+/// `Defaults` line.
 #[derive(Clone, Copy)]
 pub(crate) struct Listed<'a> {
     pub(crate) kind: Kind,
@@ -31,7 +32,7 @@ pub(crate) struct Listed<'a> {
     pub(crate) members: &'a [Member],
 }
 
-/// Every definition of the policy, in order.
+/// Returns every definition of the policy, in order.
 pub(crate) fn definitions(alloc: Global, policy: &Policy) -> Result<Vec<Named<'_>>, AllocError>
     ensures all { IfOk result (λ all. map named_view all.items ≡ definitions policy.now) }
     ensures placed { IfOk result (λ all. All (IsPlaced policy.now) all.items) }
@@ -43,7 +44,7 @@ pub(crate) fn definitions(alloc: Global, policy: &Policy) -> Result<Vec<Named<'_
     Ok(all)
 }
 
-/// Appends the definitions of an entry.
+// Appends the definitions of an entry.
 fn push_entry<'a>(entry: &'a Entry, at: usize, all: &mut Vec<Named<'a>>) -> Result<(), AllocError>
     ensures placed { OnOk result ((p : Policy) → slice_get p.entries at ≡ Some entry.now
         → All (IsPlaced p) all.old.items → All (IsPlaced p) all.new.items) }
@@ -61,7 +62,7 @@ fn push_entry<'a>(entry: &'a Entry, at: usize, all: &mut Vec<Named<'a>>) -> Resu
     }
 }
 
-/// Appends the definitions of an alias line.
+// Appends the definitions of an alias line.
 fn push_definitions<'a>(
     kind: Kind,
     place: Place,
@@ -89,7 +90,7 @@ fn push_definitions<'a>(
     Ok(())
 }
 
-/// Every list of the policy, in order.
+/// Returns every list of the policy, in order.
 pub(crate) fn lists(alloc: Global, policy: &Policy) -> Result<Vec<Listed<'_>>, AllocError>
     ensures { IfOk result (λ all. map listed_view all.items ≡ lists policy.now) }
 {
@@ -100,7 +101,7 @@ pub(crate) fn lists(alloc: Global, policy: &Policy) -> Result<Vec<Listed<'_>>, A
     Ok(all)
 }
 
-/// Appends the lists of an entry.
+// Appends the lists of an entry.
 fn push_lists<'a>(
     place: Place,
     body: &'a EntryBody,
@@ -126,7 +127,7 @@ fn push_lists<'a>(
     }
 }
 
-/// Appends the lists of definitions.
+// Appends the lists of definitions.
 fn push_defined<'a>(
     kind: Kind,
     place: Place,
@@ -147,7 +148,7 @@ fn push_defined<'a>(
     Ok(())
 }
 
-/// Appends a list of a rule or of a bound `Defaults` line.
+// Appends a list of a rule or of a bound `Defaults` line.
 fn push_granting<'a>(
     kind: Kind,
     place: Place,
@@ -166,7 +167,7 @@ fn push_granting<'a>(
     Ok(())
 }
 
-/// Appends the list that a `Defaults` line is bound to.
+// Appends the list to which a `Defaults` line is bound.
 fn push_binding<'a>(
     place: Place,
     binding: &'a Binding,
@@ -183,7 +184,7 @@ fn push_binding<'a>(
     }
 }
 
-/// Appends the lists of a rule's sections.
+// Appends the lists of a rule's sections.
 fn push_sections<'a>(
     place: Place,
     sections: &'a [Section],
@@ -199,7 +200,7 @@ fn push_sections<'a>(
     Ok(())
 }
 
-/// Appends the lists of the commands of a section.
+// Appends the lists of the commands of a section.
 fn push_commands<'a>(
     place: Place,
     commands: &'a [CommandSpec],
@@ -214,7 +215,7 @@ fn push_commands<'a>(
     Ok(())
 }
 
-/// Appends the lists of a command of a section: those of its runas part, and the command itself.
+// Appends the lists of a command of a section: those of its runas, and the command itself.
 fn push_command<'a>(
     place: Place,
     command: &'a CommandSpec,
@@ -232,7 +233,7 @@ fn push_command<'a>(
     )
 }
 
-/// Appends the lists of a runas part, if there is one.
+// Appends the lists of a runas, if any.
 fn push_runas<'a>(
     place: Place,
     runas: &'a Option<Runas>,
@@ -250,7 +251,7 @@ fn push_runas<'a>(
     }
 }
 
-/// Appends a list of a runas part, if it is there.
+// Appends a list of a runas, if it is present.
 fn push_option<'a>(
     place: Place,
     members: &'a Option<Seq<Member>>,
@@ -265,7 +266,8 @@ fn push_option<'a>(
     }
 }
 
-/// The definitions in force, in the order of the file and by their names; and the further definitions of names.
+/// The definitions in force, in the order of the file and by their names, and the redefinitions: further definitions of
+/// names.
 #[derive(Drop)]
 pub(crate) struct Survey<'a> {
     pub(crate) aliases: Vec<Named<'a>>,
@@ -274,10 +276,10 @@ pub(crate) struct Survey<'a> {
 }
 
 impl<'a> Survey<'a> {
-    /// Adds a definition: to those in force where its name is new, else to the others.
+    // Adds a definition: to those in force if its name is new, otherwise to the redefinitions.
     fn add(&mut self, alloc: Global, definition: Named<'a>) -> Result<(), AllocError>
-        ensures kept { OnOk result ((p : Policy) (done : List Defined) → IsPlaced p definition.entry
-            → IsSurvey p done self.old → IsSurvey p
+        ensures kept { OnOk result ((p : Policy) (done : List Defined)
+            → IsPlaced p definition.entry → IsSurvey p done self.old → IsSurvey p
             (done ++ named_view definition.entry ∷ []) self.new) }
     {
         match self.index.number(definition.kind, definition.name) {
@@ -291,7 +293,7 @@ impl<'a> Survey<'a> {
     }
 }
 
-/// Parts the definitions into those in force and the others.
+/// Divides the definitions into those in force and the redefinitions.
 pub(crate) fn surveyed<'a>(
     alloc: Global,
     definitions: &[Named<'a>],
@@ -310,7 +312,7 @@ pub(crate) fn surveyed<'a>(
     Ok(survey)
 }
 
-/// For each alias the aliases that its members name.
+/// Returns, for each alias, the numbers of the aliases that its members name.
 pub(crate) fn links(
     alloc: Global,
     index: &Index,
@@ -326,7 +328,7 @@ pub(crate) fn links(
     Ok(rows)
 }
 
-/// For each member the alias that it names.
+/// Returns, for each member, the number of the alias that it names, if any.
 pub(crate) fn row(
     alloc: Global,
     index: &Index,
@@ -346,7 +348,7 @@ pub(crate) fn row(
     Ok(Seq::from_vec(row))
 }
 
-/// The aliases that the lists of rules and of bound `Defaults` lines name.
+/// Returns the numbers of the aliases that the lists of rules and of bound `Defaults` lines name.
 pub(crate) fn roots(
     alloc: Global,
     index: &Index,
@@ -362,7 +364,7 @@ pub(crate) fn roots(
     Ok(roots)
 }
 
-/// Appends the aliases that a list of a rule or of a bound `Defaults` line names.
+// Appends the numbers of the aliases that a list names, if it belongs to a rule or to a bound `Defaults` line.
 fn push_roots(
     alloc: Global,
     index: &Index,

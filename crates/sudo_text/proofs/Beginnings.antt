@@ -1,4 +1,4 @@
--- What stands first in a run, by the rule that reads it there.
+-- The first bytes of a run, by the rule that reads it.
 use Rattle.std.proofs.Common.{◌≡◌, ◌≢◌, ℕ, ◌+◌, Bool, List, length, drop, get_or, true, false, refl, sym, ◌∙◌, inl, inr, Option, Some, None}
 use Rattle.std.proofs.lemmas.Bool.{eqb-true, eq-eqb}
 use Rattle.std.specs.Prelude.{◌==◌, ◌&&◌, ◌||◌, ◌⊎◌, not, if◌then◌else◌, nat_le, nat_lt, nat_eq, IsTrue, codes}

@@ -1,4 +1,4 @@
--- A run ends at the first byte that ends it and that no backslash takes.
+-- A run ends at the first byte that ends it and that no backslash escapes.
 use Rattle.std.proofs.Common.{◌≡◌, ℕ, zero, suc, ◌+◌, ◌-◌, ◌<◌, ◌≤◌, Bool, List, [], ◌∷◌, length, drop, get_or, true, false, refl, sym, ◌∙◌, ap, subst, inl, inr, Some, None, ◌*◌, cond, arith}
 use Rattle.std.proofs.lemmas.List.{get_or-drop}
 use Rattle.std.proofs.lemmas.List.Folds.{length-prefix_len}

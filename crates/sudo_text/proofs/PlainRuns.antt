@@ -1,4 +1,4 @@
--- A run without a backslash is read as it stands.
+-- The characters of a run without a backslash are its bytes.
 use Rattle.std.proofs.Common.{◌≡◌, ◌≢◌, ℕ, zero, suc, ◌+◌, ◌-◌, ◌<◌, ◌≤◌, List, [], ◌∷◌, length, take, drop, map, get_or, false, refl, sym, ◌∙◌, ap, Some, ◌*◌, drop-cons, arith}
 use Rattle.std.proofs.lemmas.Bool.{eqb-true}
 use Rattle.std.specs.Prelude.{◌==◌, ◌&&◌, if◌then◌else◌, nat_le, nat_lt}

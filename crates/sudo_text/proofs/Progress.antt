@@ -1,4 +1,4 @@
--- A run in progress, as the loop over physical lines has it.
+-- A run in progress: the state of the loop over physical lines.
 use Rattle.std.proofs.Common.{◌≡◌, ℕ, suc, ◌+◌, ◌<◌, Bool, List, [], ◌∷◌, ◌++◌, length, true, false, refl, sym, ◌∙◌, ap, subst, Result, Ok, Err, arith, zero-add, append_assoc, length-append}
 use Rattle.std.specs.Prelude.{if◌then◌else◌}
 use Rattle.std.specs.List.{onto_first}

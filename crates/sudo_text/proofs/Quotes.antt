@@ -1,4 +1,4 @@
--- Which double quote closes a quoted word, by the backslashes directly before it.
+-- The double quote that closes a quoted word, by the backslashes directly before it.
 use Rattle.std.proofs.Common.{◌≡◌, ℕ, zero, suc, ◌+◌, ◌<◌, ◌≤◌, Bool, List, [], ◌∷◌, length, drop, get_or, true, false, refl, sym, ◌∙◌, ap, subst, arith}
 use Rattle.std.proofs.lemmas.List.{drop_all, get_or-drop}
 use Rattle.std.proofs.lemmas.Bool.{eqb-true, eq-eqb}

@@ -1,4 +1,4 @@
--- A line spells at most one list of tokens, and none where it has a fault.
+-- A line spells at most one list of tokens, and none if it has a fault.
 use Rattle.std.proofs.Common.{◌≡◌, ℕ, ◌+◌, List, [], ◌∷◌, length, get_or, true, false, refl, sym, ◌∙◌, ap, subst, Option, Some, None}
 use Rattle.std.proofs.lemmas.Bool.{eqb-true}
 use Rattle.std.specs.Prelude.{◌==◌, if◌then◌else◌, nat_le}

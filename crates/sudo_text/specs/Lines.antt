@@ -12,79 +12,79 @@ use Rattle.sudo_text.specs.declared.fault.TextFault.{TextFault}
 use Rattle.sudo_text.specs.declared.fault.TextFault.TheVariants.{BadEscape, TooLong}
 use Rattle.sudo_text.specs.Bytes.{is_blank, is_digit, is_include}
 
--- The text, cut at its newlines. A newline at the end begins no further line.
+-- the text, cut at its newlines; a newline at the end begins no further line
 abbrev pub cut : List ℕ → List (List ℕ)
 cut [] = []
 cut (b ∷ bs) = if b == 10 then [] ∷ cut bs else onto_first b (cut bs)
 
--- A line without a carriage return at its end.
+-- a line without a carriage return at its end
 abbrev pub without_return : List ℕ → List ℕ
 without_return line =
     if slice_index line (length line - 1) == 13 then take (length line - 1) line else line
 
--- A line without the blanks at its front.
+-- a line without the blanks at its front
 abbrev pub without_indent : List ℕ → List ℕ
 without_indent line = drop (length (take_while is_blank line)) line
 
 abbrev pub physical_lines : List ℕ → List (List ℕ)
 physical_lines text = map (λ line. without_indent (without_return line)) (cut text)
 
--- A line that begins with `#`, is no include directive, and has no digit directly after the `#`.
+-- a line that begins with `#`, is no include directive, and has no digit directly after the `#`
 abbrev pub is_comment : List ℕ → Bool
 is_comment line =
     (slice_index line 0 == 35) && (not (is_include line) && not (is_digit (slice_index line 1)))
 
--- A line that ends in an odd number of backslashes.
+-- a line that ends in an odd number of backslashes
 abbrev pub ends_in_escape : List ℕ → Bool
 ends_in_escape line = length (take_while (λ b. b == 92) (reverse line)) % 2 == 1
 
--- The next line continues this one, which itself continues another or not.
+-- the next line continues this one; `continuing`: this one continues another
 abbrev pub is_continued : Bool → List ℕ → Bool
 is_continued continuing line = (continuing || not (is_comment line)) && ends_in_escape line
 
--- The physical lines in runs, the first of which may continue a run before.
+-- the physical lines in runs; `continuing`: the first continues an earlier run
 abbrev pub runs : Bool → List (List ℕ) → List (List (List ℕ))
 runs continuing [] = []
 runs continuing (line ∷ rest) =
     if is_continued continuing line then onto_first line (runs true rest) else (line ∷ []) ∷ runs false rest
 
--- The last line asks for a next one.
+-- the last line asks for a next one
 abbrev pub is_cut_short : Bool → List (List ℕ) → Bool
 is_cut_short continuing [] = continuing
 is_cut_short continuing (line ∷ rest) = is_cut_short (is_continued continuing line) rest
 
--- A line without its last backslash.
+-- a line without its last backslash
 abbrev pub without_escape : List ℕ → List ℕ
 without_escape line = take (length line - 1) line
 
--- The lines of a run one after the other, each but the last without its last backslash.
+-- the lines of a run concatenated, each but the last without its last backslash
 abbrev pub joined : List (List ℕ) → List ℕ
 joined [] = []
 joined (line ∷ []) = line
 joined (line ∷ next ∷ rest) = without_escape line ++ joined (next ∷ rest)
 
--- Where the further lines of a run begin in the joined text, the first at an offset.
+-- the offsets in the joined text at which the further lines of a run begin, the first at an offset
 abbrev pub joins_from : ℕ → List (List ℕ) → List ℕ
 joins_from at [] = []
 joins_from at (line ∷ []) = []
 joins_from at (line ∷ next ∷ rest) =
     (at + length (without_escape line)) ∷ joins_from (at + length (without_escape line)) (next ∷ rest)
 
--- Where a logical line begins.
+-- the place where a logical line begins
 abbrev pub place : ℕ → ℕ → Place
 place file number = record { file = file; line = number }
 
--- The logical line of a run of a file, whose first physical line has this number.
+-- the logical line of a run of a file, whose first physical line has this number
 abbrev pub line_of : ℕ → ℕ → List (List ℕ) → Line
 line_of file number run = record { first = place file number; text = joined run; joins = joins_from 0 run }
 
--- The lines before, and those that are still to come.
+-- the lines before, followed by those of the rest
 abbrev pub with_front : List Line → Result (List Line) TextFault → Result (List Line) TextFault
 with_front front (Ok lines) = Ok (front ++ lines)
 with_front front (Err fault) = Err fault
 
--- The logical lines of the runs of a file, each with the number of its first physical line. Where the last run is cut short,
--- there are none, and the fault stands at its last backslash, the last byte of its joined text.
+-- the logical lines of the runs of a file, each with the number of its first physical line; if the last run is cut
+-- short, a fault at its last backslash, the last byte of its joined text
 abbrev pub numbered : ℕ → Bool → ℕ → List (List (List ℕ)) → Result (List Line) TextFault
 numbered file short number [] = Ok []
 numbered file short number (run ∷ []) =
@@ -92,17 +92,17 @@ numbered file short number (run ∷ []) =
 numbered file short number (run ∷ next ∷ rest) =
     with_front (line_of file number run ∷ []) (numbered file short (number + length run) (next ∷ rest))
 
--- The logical lines of physical lines of a file, of which the first has this number.
+-- the logical lines of physical lines of a file, of which the first has this number
 abbrev pub folded_from : ℕ → ℕ → List (List ℕ) → Result (List Line) TextFault
 folded_from file number lines = numbered file (is_cut_short false lines) number (runs false lines)
 
 abbrev pub folded : ℕ → List ℕ → Result (List Line) TextFault
 folded file text = folded_from file 1 (physical_lines text)
 
--- The most bytes that a text may have.
+-- the greatest length of a text, in bytes
 abbrev pub text_limit : ℕ
 text_limit = 16777216
 
--- What the lines of a file's text are.
+-- the logical lines of a file's text, or its fault
 abbrev pub lines_of : ℕ → List ℕ → Result (List Line) TextFault
 lines_of file text = if nat_lt text_limit (length text) then Err (TooLong file) else folded file text

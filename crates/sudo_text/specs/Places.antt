@@ -1,4 +1,4 @@
--- Which rule reads the text at a place of a line.
+-- The rule that reads the text at an offset of a line.
 use Rattle.std.specs.Prelude.{ℕ, Bool, true, false, not, ◌&&◌, ◌||◌, ◌==◌, nat_eq, nat_le, nat_lt, ◌≤◌, if◌then◌else◌, List, length, drop, slice_index, ◌+◌, Option, Some, None, codes}
 use Rattle.std.specs.List.{starts_with}
 use Rattle.sudo_text.specs.declared.token.TokenKind.{TokenKind}
@@ -16,7 +16,7 @@ use Rattle.sudo_text.specs.declared.piece.Style.TheVariants as styles
 use Rattle.sudo_text.specs.Bytes.{is_blank, is_digit, begins_word}
 use Rattle.sudo_text.specs.Pieces.{piece_at, is_end}
 
--- The text begins with `Defaults`, and a blank, the end or one of `@ : ! >` follows.
+-- the text begins with `Defaults`, followed by a blank, the end or one of `@ : ! >`
 unfoldable pub begins_defaults : List ℕ → Bool
 begins_defaults text =
     starts_with nat_eq text (codes "Defaults")
@@ -48,14 +48,14 @@ before_mark marks.Greater = befores.Opener
 before_mark marks.PlusEquals = befores.Assignment
 before_mark marks.MinusEquals = befores.Assignment
 
--- What a token says about the place after it.
+-- the class of a token, for the offset after it
 abbrev pub before_of : TokenKind → Before
 before_of (kinds.Word quoted chars) = befores.Other
 before_of (kinds.Command path args) = befores.Other
 before_of (kinds.Mark mark) = before_mark mark
 before_of (kinds.Include folder hash path) = befores.Other
 
--- A `#` with a digit after it begins a word or value there.
+-- a `#` with a digit after it begins a word or a value after this token
 abbrev pub opens : Before → Bool
 opens befores.Nothing = true
 opens befores.EqualSign = true
@@ -63,7 +63,7 @@ opens befores.Assignment = false
 opens befores.Opener = true
 opens befores.Other = false
 
--- An unquoted word there is a value, in a Defaults line.
+-- an unquoted word after this token is a value, in a Defaults line
 abbrev pub wants_value : Before → Bool
 wants_value befores.Nothing = false
 wants_value befores.EqualSign = true
@@ -81,7 +81,7 @@ word_style lines.General = styles.Word
 word_style lines.Defaults = styles.DefaultsWord
 word_style (lines.Include folder hash) = styles.Word
 
--- The marks of Defaults lines alone: `+=` and `-=`, and `@` and `>` directly after the first word.
+-- the marks of Defaults lines alone: `+=` and `-=`, and `@` and `>` directly after the first word
 unfoldable pub defaults_mark_at : List ℕ → ℕ → Option Mark
 defaults_mark_at text at =
     if (slice_index text at == 43) && (slice_index text (at + 1) == 61) then Some marks.PlusEquals
@@ -113,7 +113,7 @@ mark_len marks.Greater = 1
 mark_len marks.PlusEquals = 2
 mark_len marks.MinusEquals = 2
 
--- The unquoted word at an offset is `sudoedit`, without escapes: its eight bytes, and then nothing that goes on.
+-- the unquoted word at an offset is `sudoedit`, without escapes: its eight bytes, and then the end of the word
 unfoldable pub is_sudoedit : LineKind → List ℕ → ℕ → Bool
 is_sudoedit kind text at =
     nat_le (at + 8) (length text)
@@ -124,7 +124,7 @@ abbrev pub mark_or_word : Option Mark → Rule
 mark_or_word (Some mark) = rules.Mark mark
 mark_or_word None = rules.Word
 
--- The first rule that applies, apart from those for the start of a line.
+-- the first rule that applies, apart from those for the start of a line
 unfoldable pub general_rule_at : LineKind → Before → List ℕ → ℕ → Rule
 general_rule_at kind before text at =
     if (slice_index text at == 35) && not (opens before && is_digit (slice_index text (at + 1))) then rules.Comment
@@ -133,13 +133,13 @@ general_rule_at kind before text at =
     else (if (slice_index text at == 47) || is_sudoedit kind text at then rules.Command
     else mark_or_word (mark_at kind text at))))
 
--- An include line begins with an include token, and a Defaults line with the word `Defaults`.
+-- an include line begins with an include token, and a Defaults line with the word `Defaults`
 abbrev pub first_rule : LineKind → Rule → Rule
 first_rule (lines.Include folder hash) rule = rules.Include folder hash
 first_rule lines.Defaults rule = rules.Keyword
 first_rule lines.General rule = rule
 
--- The first rule that applies.
+-- the first rule that applies
 unfoldable pub rule_at : LineKind → Before → List ℕ → ℕ → Rule
 rule_at kind before text at =
     if nat_lt 0 at then general_rule_at kind before text at
@@ -148,13 +148,13 @@ rule_at kind before text at =
 abbrev pub directive_len : Bool → ℕ
 directive_len folder = if folder then 11 else 8
 
--- A text of this length has room for what its kind says that it begins with.
+-- a text of this length is long enough for the word or directive that begins a line of this kind
 abbrev pub KindFits : LineKind → ℕ → Type 0
 KindFits lines.General len = Unit {0}
 KindFits lines.Defaults len = 8 ≤ len
 KindFits (lines.Include folder hash) len = directive_len folder ≤ len
 
--- So many bytes have room for what the rule says that stands there.
+-- `len` bytes are long enough for the token of this rule
 abbrev pub RuleFits : Rule → ℕ → Type 0
 RuleFits (rules.Include folder hash) len = directive_len folder ≤ len
 RuleFits rules.Keyword len = 8 ≤ len

@@ -1,5 +1,5 @@
--- What holds of runs, in words that do not go along the text: which double quote closes a quoted word, what stands first in
--- a word, a value or a path, and which blanks arguments have.
+-- Facts about runs that do not follow the text byte by byte: which double quote closes a quoted word, with which bytes
+-- a word, a value or a path begins, and which blanks arguments contain.
 use Rattle.std.specs.Prelude.{◌≡◌, ◌≢◌, ℕ, zero, suc, Bool, true, false, not, ◌&&◌, ◌==◌, if◌then◌else◌, nat_eq, List, length, map, take, drop, slice_index, slice_get, ◌+◌, ◌%◌, ◌<◌, ◌≤◌, ◌⊎◌, ◌↔◌, Some, IsTrue, codes}
 use Rattle.std.specs.List.{starts_with}
 use Rattle.sudo_text.specs.declared.token.Ch.{Ch}
@@ -14,71 +14,72 @@ use Rattle.sudo_text.specs.Pieces.{plain, skip, IsBlankAt, is_mark, is_assignmen
 use Rattle.sudo_text.specs.Places.{opens, is_defaults, directive_len, rule_at}
 use Rattle.sudo_text.specs.Tokens.{has_closing, quoted_end, command_end}
 
--- How many backslashes stand directly before an offset, one beside the other.
+-- the number of consecutive backslashes directly before an offset
 abbrev pub backslashes_before : List ℕ → ℕ → ℕ
 backslashes_before text zero = 0
 backslashes_before text (suc at) = if slice_index text at == 92 then suc (backslashes_before text at) else 0
 
--- A double quote stands there, and no backslash takes it, since those before it take each other by pairs.
+-- a double quote that no backslash escapes, since those before it escape each other in pairs
 pub record IsClosingQuote (text : List ℕ) (at : ℕ) : Type 0 where
   pub quote : slice_index text at ≡ 34
   pub even : backslashes_before text at % 2 ≡ 0
 
--- It is the first such quote.
+-- the first such double quote
 pub record IsFirstClosingQuote (text : List ℕ) (at : ℕ) : Type 0 where
   pub is : IsClosingQuote text at
   pub first : (i : ℕ) → i < at → IsClosingQuote text i → ⊥
 
--- The text behind an opening quote has a closing one exactly where it has such a quote.
+-- the text after an opening double quote has a closing one exactly if it has such a double quote
 abbrev pub QuotesClose : Type 0
 QuotesClose = (text : List ℕ) → (has_closing false text ≡ true) ↔ ((at : ℕ) × IsClosingQuote text at)
 
--- A run between quotes that ends at a double quote, so many bytes from its start, ends at the first that closes.
+-- a run between double quotes that ends at a double quote, `len` bytes from its start, ends at the first that closes
 abbrev pub QuotesEndRuns : Type 0
 QuotesEndRuns = (text : List ℕ) (start len : ℕ) (cs : List Ch)
     → run_end styles.Quoted text start cs ≡ Some (start + len) → slice_index text (start + len) ≡ 34 → IsFirstClosingQuote (drop start text) len
 
--- The offset is directly behind the first quote that closes after an opening one.
+-- the offset is directly after the first double quote that closes after an opening one
 pub record IsBehindFirstQuote (text : List ℕ) (at end : ℕ) : Type 0 where
   pub len : ℕ
   pub behind : end ≡ at + 1 + len + 1
   pub is : IsFirstClosingQuote (drop (at + 1) text) len
 
--- A quoted word ends directly behind the first quote that closes.
+-- a quoted word ends directly after the first double quote that closes
 abbrev pub QuotesEndWords : Type 0
 QuotesEndWords = (text : List ℕ) (at end : ℕ) (cs : List Ch) → quoted_end text at cs ≡ Some end → IsBehindFirstQuote text at end
 
--- A byte that ends the run from `start` stands so many bytes behind its start, and no backslash of the run takes it.
+-- the byte `len` bytes after `start` ends the run from `start`, and no backslash of the run escapes it
 pub record EndsBehind (style : Style) (text : List ℕ) (start len : ℕ) : Type 0 where
   pub ends : ends_run style text start (start + len) ≡ true
   pub even : backslashes_before (drop start text) len % 2 ≡ 0
 
--- Blanks stand there, and behind them nothing, or what ends arguments.
+-- blanks at an offset, followed by the end of the text or by a byte that ends arguments
 abbrev pub LeadsOut : List ℕ → ℕ → Type 0
 LeadsOut text at = IsBlankAt text at × ((length text ≤ skip text at) ⊎ (ends_run styles.Arguments text (skip text at) (skip text at) ≡ true))
 
--- The run from `start` goes up to the first byte that ends it, or the end of the text; arguments leave out the blanks before that.
+-- the run from `start` extends to the first byte that ends it, or to the end of the text; arguments leave out the
+-- blanks before that
 pub record IsWholeRun (style : Style) (text : List ℕ) (start end : ℕ) : Type 0 where
   pub len : ℕ
   pub behind : end ≡ start + len
   pub first : (i : ℕ) → i < len → EndsBehind style text start i → ⊥
   pub last : (length text ≤ end) ⊎ (EndsBehind style text start len ⊎ (IsTrue (is_arguments style) × LeadsOut text end))
 
--- Each run is as long as that.
+-- each run is whole in this sense
 abbrev pub RunsAreWhole : Type 0
 RunsAreWhole = (style : Style) (text : List ℕ) (start end : ℕ) (cs : List Ch) → run_end style text start cs ≡ Some end → IsWholeRun style text start end
 
--- Apart from arguments, a run without a backslash has its bytes as they stand.
+-- the characters of a run without a backslash are its bytes, except in arguments
 abbrev pub PlainRuns : Type 0
 PlainRuns = (style : Style) (text : List ℕ) (start len : ℕ) (cs : List Ch) → is_arguments style ≡ false
     → ((i : ℕ) → i < len → slice_index text (start + i) ≢ 92) → run_end style text start cs ≡ Some (start + len) → cs ≡ map plain (take len (drop start text))
 
--- A `#` that stands there begins a number: a digit follows it, and the token before lets a number begin.
+-- a `#` at an offset begins a number: a digit follows it, and the token before allows a number
 abbrev pub OnlyNumbers : Before → List ℕ → ℕ → Type 0
 OnlyNumbers before text at = slice_index text at ≡ 35 → IsTrue (opens before) × IsTrue (is_digit (slice_index text (at + 1)))
 
--- What stands first in a word: no blank, no mark, no double quote, no slash, and no `#` but that of a number; in a Defaults
--- line no `+=` or `-=` either, and directly behind the word `Defaults` no `@` or `>`.
+-- the first byte of a word: no blank, no mark, no double quote, no slash, and no `#` except that of a number; in a
+-- Defaults line no `+=` or `-=` either, and directly after the word `Defaults` no `@` or `>`
 pub record BeginsWord (kind : LineKind) (before : Before) (text : List ℕ) (at : ℕ) : Type 0 where
   pub no_blank : is_blank (slice_index text at) ≡ false
   pub no_mark : is_mark (slice_index text at) ≡ false
@@ -88,18 +89,18 @@ pub record BeginsWord (kind : LineKind) (before : Before) (text : List ℕ) (at 
   pub no_assignment : IsTrue (is_defaults kind) → is_assignment text at ≡ false
   pub no_binding : IsTrue (is_defaults kind) → at ≡ 8 → (slice_index text at ≢ 64) × (slice_index text at ≢ 62)
 
--- What stands first in a value of a Defaults line: no blank, no comma, no double quote, and no `#` but that of a number.
+-- the first byte of a value of a Defaults line: no blank, no comma, no double quote, and no `#` except that of a number
 pub record BeginsValue (before : Before) (text : List ℕ) (at : ℕ) : Type 0 where
   pub no_blank : is_blank (slice_index text at) ≡ false
   pub no_comma : slice_index text at ≢ 44
   pub no_quote : slice_index text at ≢ 34
   pub number : OnlyNumbers before text at
 
--- What stands first in a command: a slash, or the bytes of `sudoedit`.
+-- the first bytes of a command: a slash, or the bytes of `sudoedit`
 abbrev pub BeginsPath : List ℕ → ℕ → Type 0
 BeginsPath text at = (slice_index text at ≡ 47) ⊎ IsTrue (starts_with nat_eq (drop at text) (codes "sudoedit"))
 
--- What stands first where this rule reads; the path of an include line, after the directive, begins with no blank.
+-- the first bytes for each rule; the path of an include line, after the directive, does not begin with a blank
 abbrev pub Begins : Rule → LineKind → Before → List ℕ → ℕ → Type 0
 Begins rules.Word kind before text at = BeginsWord kind before text at
 Begins rules.Value kind before text at = BeginsValue before text at
@@ -113,17 +114,17 @@ Begins (rules.Mark mark) kind before text at = Unit {0}
 abbrev pub RunsBegin : Type 0
 RunsBegin = (kind : LineKind) (before : Before) (text : List ℕ) (from : ℕ) → Begins (rule_at kind before text (skip text from)) kind before text (skip text from)
 
--- The character is a blank, and no escape gives it.
+-- a blank that no escape yields
 abbrev pub is_plain_blank : Ch → Bool
 is_plain_blank c = not c.escaped && is_blank c.byte
 
--- A character stands at the place, and it is no such blank.
+-- the character at an index exists and is not such a blank
 pub record HasNoBlankAt (cs : List Ch) (at : ℕ) : Type 0 where
   pub char : Ch
   pub there : slice_get cs at ≡ Some char
   pub no_blank : is_plain_blank char ≡ false
 
--- Each such blank is a space, and a character that is none stands directly behind it.
+-- each such blank is a space, directly followed by a character that is not one
 pub record AreSpaced (cs : List Ch) : Type 0 where
   pub space : (at : ℕ) (c : Ch) → slice_get cs at ≡ Some c → is_plain_blank c ≡ true → c.byte ≡ 32
   pub followed : (at : ℕ) (c : Ch) → slice_get cs at ≡ Some c → is_plain_blank c ≡ true → HasNoBlankAt cs (suc at)
@@ -131,7 +132,7 @@ pub record AreSpaced (cs : List Ch) : Type 0 where
 abbrev pub BlanksOfArguments : Type 0
 BlanksOfArguments = (text : List ℕ) (start end : ℕ) (cs : List Ch) → run_end styles.Arguments text start cs ≡ Some end → AreSpaced cs
 
--- The arguments of a command begin with a character that is no such blank, and have single spaces within.
+-- the arguments of a command begin with a character that is not such a blank, and have single spaces within
 abbrev pub ArgumentsOfCommands : Type 0
 ArgumentsOfCommands = (kind : LineKind) (text : List ℕ) (at end : ℕ) (path cs : List Ch)
     → command_end kind text at path (Some cs) ≡ Some end → HasNoBlankAt cs 0 × AreSpaced cs

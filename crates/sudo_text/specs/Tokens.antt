@@ -1,9 +1,9 @@
 -- The tokens of a line.
 --
--- `spells` judges a finished list: the spans of its tokens stand in order and apart, with blanks alone between them and
--- at most one comment after the last; each span is read by the first rule that applies where it begins, is as long as
--- that rule allows, and gives exactly the characters of its token. `LeftmostFault` judges a fault in the same way: the
--- tokens before it, and the rule that comes to a flaw after them.
+-- `spells` judges a finished list: the spans of its tokens are in order and apart, with only blanks between them and at
+-- most one comment after the last; each span is read by the first rule that applies where it begins, is as long as that
+-- rule allows, and has exactly the characters of its token. `LeftmostFault` judges a fault in the same way: by the
+-- tokens before it and the rule that then fails.
 use Rattle.std.specs.Prelude.{◌≡◌, ℕ, Bool, true, false, not, ◌&&◌, ◌||◌, ◌==◌, nat_lt, nat_le, if◌then◌else◌, List, [], ◌∷◌, length, map, drop, slice_index, ◌+◌, ◌<◌, ◌⊎◌, Option, Some, None, Result, Ok, Err, IsTrue, codes}
 use Rattle.std.specs.Option.{option_and_then}
 use Rattle.std.specs.List.{list_any}
@@ -37,14 +37,15 @@ same_chars [] (d ∷ ds) = false
 same_chars (c ∷ cs) [] = false
 same_chars (c ∷ cs) (d ∷ ds) = same_ch c d && same_chars cs ds
 
--- Each function below gives the end of a token that begins at an offset and has these parts, where the text has it.
+-- each function below returns the end of the token that begins at an offset and has the given parts, if the text has it
+-- there
 
--- What stands between double quotes, which begin at the offset.
+-- a text between double quotes that begin at the offset
 unfoldable pub quoted_end : List ℕ → ℕ → List Ch → Option ℕ
 quoted_end text at cs =
     option_and_then (λ end. if slice_index text end == 34 then Some (end + 1) else None) (run_end styles.Quoted text (at + 1) cs)
 
--- An unquoted word that begins at the offset.
+-- an unquoted word that begins at the offset
 abbrev pub WordEnds : Style → List ℕ → ℕ → TokenKind → ℕ → Type 0
 WordEnds style text at (kinds.Word true cs) end = ⊥
 WordEnds style text at (kinds.Word false cs) end = run_end style text at cs ≡ Some end
@@ -52,15 +53,15 @@ WordEnds style text at (kinds.Command path args) end = ⊥
 WordEnds style text at (kinds.Mark mark) end = ⊥
 WordEnds style text at (kinds.Include folder hash path) end = ⊥
 
--- The word `Defaults` that begins a line.
+-- the word `Defaults` that begins a line
 abbrev pub keyword : List Ch
 keyword = map plain (codes "Defaults")
 
 unfoldable pub keyword_end : ℕ → List Ch → Option ℕ
 keyword_end at cs = if same_chars cs keyword then Some (at + 8) else None
 
--- A command whose path ends at an offset has arguments: blanks follow, and then what begins them. A command of a
--- Defaults line has none.
+-- a command whose path ends at an offset has arguments: blanks follow, and then a byte that begins them; a command of a
+-- Defaults line has none
 unfoldable pub has_arguments : LineKind → List ℕ → ℕ → Bool
 has_arguments kind text end =
     not (is_defaults kind)
@@ -77,7 +78,7 @@ unfoldable pub command_end : LineKind → List ℕ → ℕ → List Ch → Optio
 command_end kind text at path args =
     option_and_then (λ end. arguments_end kind text end args) (run_end styles.Path text at path)
 
--- Marks by number.
+-- the marks, numbered
 abbrev pub mark_code : Mark → ℕ
 mark_code marks.Bang = 0
 mark_code marks.Equals = 1
@@ -90,14 +91,14 @@ mark_code marks.Greater = 7
 mark_code marks.PlusEquals = 8
 mark_code marks.MinusEquals = 9
 
--- The path of an include line, after the blanks behind a directive that ends at an offset.
+-- the path of an include line, after the directive, which ends at an offset, and blanks
 unfoldable pub path_end : List ℕ → ℕ → List Ch → Option ℕ
 path_end text directive path =
     if nat_le (length text) (skip text directive) then (if same_chars path [] then Some directive else None)
     else (if slice_index text (skip text directive) == 34 then quoted_end text (skip text directive) path
     else run_end styles.Include text (skip text directive) path)
 
--- The end of a token that begins at an offset and is read by this rule.
+-- the end of the token that begins at an offset, read by the given rule
 abbrev pub token_by : Rule → LineKind → List ℕ → ℕ → TokenKind → Option ℕ
 token_by rules.Quoted kind text at (kinds.Word true chars) = quoted_end text at chars
 token_by rules.Word kind text at (kinds.Word false chars) = run_end (word_style kind) text at chars
@@ -110,7 +111,7 @@ token_by (rules.Include f h) kind text at (kinds.Include folder hash path) =
     if same_bool f folder && same_bool h hash then path_end text (at + directive_len f) path else None
 token_by rule kind text at token = None
 
--- By the first rule that applies.
+-- the end of the token that begins at an offset, read by the first rule that applies
 unfoldable pub token_end : LineKind → Before → List ℕ → ℕ → TokenKind → Option ℕ
 token_end kind before text at token = token_by (rule_at kind before text at) kind text at token
 
@@ -124,7 +125,7 @@ is_comment rules.Command = false
 is_comment (rules.Mark mark) = false
 is_comment rules.Word = false
 
--- A comment that goes on over a join: one of the joins lies after its `#`.
+-- a comment that continues over a join: one of the joins lies after its `#`
 abbrev pub has_join_after : List ℕ → ℕ → Bool
 has_join_after joins at = list_any (λ join. nat_lt at join) joins
 
@@ -132,20 +133,20 @@ abbrev pub is_offset : Option ℕ → ℕ → Bool
 is_offset None at = false
 is_offset (Some end) at = end == at
 
--- A token stands next after an offset.
+-- the token is the next one after an offset
 unfoldable pub stands : LineKind → List ℕ → ℕ → Before → Token → Bool
 stands kind text from before token =
     (token.start == skip text from)
     && nat_lt token.start (length text)
     && is_offset (token_end kind before text token.start token.kind) token.end
 
--- After the last token stand blanks, and then nothing, or a comment without a join.
+-- after the last token there are blanks, and then nothing, or a comment without a join
 unfoldable pub closes_line : LineKind → List ℕ → List ℕ → ℕ → Before → Bool
 closes_line kind text joins from before =
     nat_le (length text) (skip text from)
     || (is_comment (rule_at kind before text (skip text from)) && not (has_join_after joins (skip text from)))
 
--- The text from an offset on spells the tokens.
+-- the text from an offset on spells the tokens
 abbrev pub spells_from : LineKind → List ℕ → List ℕ → ℕ → Before → List Token → Bool
 spells_from kind text joins from before [] = closes_line kind text joins from before
 spells_from kind text joins from before (token ∷ rest) =
@@ -154,25 +155,25 @@ spells_from kind text joins from before (token ∷ rest) =
 unfoldable pub spells : Line → List Token → Bool
 spells line tokens = spells_from (line_kind line.text) line.text line.joins 0 befores.Nothing tokens
 
--- A double quote closes, and a backslash takes the next byte, where no backslash takes them.
+-- a double quote closes the quoted word unless a backslash escapes it
 abbrev pub closes : Bool → ℕ → Bool
 closes taken b = not taken && (b == 34)
 
 abbrev pub takes_next : Bool → ℕ → Bool
 takes_next taken b = not taken && (b == 92)
 
--- A double quote stands later on, with no backslash that takes it; the first byte is taken or not.
+-- the text contains a double quote that no backslash escapes; the first byte is escaped or not
 abbrev pub has_closing : Bool → List ℕ → Bool
 has_closing taken [] = false
 has_closing taken (b ∷ bs) = if closes taken b then true else has_closing (takes_next taken b) bs
 
--- The flaw of a quoted word that begins at an offset.
+-- the flaw of a quoted word that begins at an offset
 abbrev pub QuotedFlaw : List ℕ → ℕ → Flaw → ℕ → Type 0
 QuotedFlaw text at flaw place =
     (IsTrue (has_closing false (drop (at + 1) text)) × Breaks styles.Quoted text (at + 1) flaw place)
     ⊎ (IsTrue (not (has_closing false (drop (at + 1) text))) × (flaw ≡ flaws.BadQuote) × (place ≡ at))
 
--- The flaw of a command's arguments, whose path has no flaw.
+-- the flaw of a command's arguments, after a path without a flaw
 pub record ArgumentsFlaw (kind : LineKind) (text : List ℕ) (at : ℕ) (flaw : Flaw) (place : ℕ) : Type 0 where
   pub path : List Ch
   pub end : ℕ
@@ -180,18 +181,18 @@ pub record ArgumentsFlaw (kind : LineKind) (text : List ℕ) (at : ℕ) (flaw : 
   pub goes_on : has_arguments kind text end ≡ true
   pub breaks : Breaks styles.Arguments text (skip text end) flaw place
 
--- The flaw of a command.
+-- the flaw of a command
 abbrev pub CommandFlaw : LineKind → List ℕ → ℕ → Flaw → ℕ → Type 0
 CommandFlaw kind text at flaw place = Breaks styles.Path text at flaw place ⊎ ArgumentsFlaw kind text at flaw place
 
--- The flaw of the path of an include line, after a directive that ends at an offset.
+-- the flaw of the path of an include line, after a directive that ends at an offset
 abbrev pub PathFlaw : List ℕ → ℕ → Flaw → ℕ → Type 0
 PathFlaw text directive flaw place =
     (skip text directive < length text)
     × ((IsTrue (slice_index text (skip text directive) == 34) × QuotedFlaw text (skip text directive) flaw place)
     ⊎ (IsTrue (not (slice_index text (skip text directive) == 34)) × Breaks styles.Include text (skip text directive) flaw place))
 
--- What is read by this rule at an offset comes to a flaw.
+-- reading by the given rule at an offset fails with a flaw
 abbrev pub FlawBy : Rule → LineKind → List ℕ → List ℕ → ℕ → Flaw → ℕ → Type 0
 FlawBy (rules.Include folder hash) kind text joins at flaw place = PathFlaw text (at + directive_len folder) flaw place
 FlawBy rules.Keyword kind text joins at flaw place = ⊥
@@ -203,7 +204,7 @@ FlawBy rules.Command kind text joins at flaw place = CommandFlaw kind text at fl
 FlawBy (rules.Mark mark) kind text joins at flaw place = ⊥
 FlawBy rules.Word kind text joins at flaw place = Breaks (word_style kind) text at flaw place
 
--- After the tokens that the text from an offset on spells, it comes to a flaw.
+-- reading fails with a flaw after the tokens that the text spells from an offset on
 abbrev pub FlawAfter : LineKind → List ℕ → List ℕ → ℕ → Before → List Token → Flaw → ℕ → Type 0
 FlawAfter kind text joins from before [] flaw place =
     (skip text from < length text)
@@ -218,7 +219,7 @@ fault_of first flaws.BadHex place = faults.BadHex first (place + 1)
 fault_of first flaws.BadEscape place = faults.BadEscape first (place + 1)
 fault_of first flaws.NotPrintable place = faults.NotPrintable first (place + 1)
 
--- The leftmost fault of a line, with the tokens before it.
+-- the leftmost fault of a line, with the tokens before it
 pub record LeftmostFault (line : Line) (fault : TextFault) : Type 0 where
   pub before : List Token
   pub flaw : Flaw
@@ -226,16 +227,16 @@ pub record LeftmostFault (line : Line) (fault : TextFault) : Type 0 where
   pub after : FlawAfter (line_kind line.text) line.text line.joins 0 befores.Nothing before flaw place
   pub is : fault ≡ fault_of line.first flaw place
 
--- The text after an offset comes to a flaw at once.
+-- the text after an offset has a flaw before any further token
 abbrev pub FlawNext : LineKind → List ℕ → List ℕ → ℕ → Before → Flaw → ℕ → Type 0
 FlawNext kind text joins from before flaw place = FlawAfter kind text joins from before [] flaw place
 
--- The fault of a line that begins at this place, for what a function of a token reports.
+-- the fault of a line that begins at this place, for a refusal of one of its tokens
 abbrev pub IsFaultOf : Place → Refusal → TextFault → Type 0
 IsFaultOf first refusals.Memory fault = fault ≡ faults.Memory
 IsFaultOf first (refusals.Wrong flaw place) fault = fault ≡ fault_of first flaw place
 
--- No token, and a token, were found.
+-- the end of the line was reached; `IfToken`: a token was read, and a fact holds of it
 abbrev pub IsDone : Result (Option Token) Refusal → Type 0
 IsDone (Ok None) = Unit {0}
 IsDone (Ok (Some token)) = ⊥
@@ -246,19 +247,19 @@ IfToken (Ok None) P = Unit {0}
 IfToken (Ok (Some token)) P = P token
 IfToken (Err refusal) P = Unit {0}
 
--- No line spells two lists of tokens.
+-- no line spells two lists of tokens
 abbrev pub SpelledOnce : Type 0
 SpelledOnce = (line : Line) (ts us : List Token) → spells line ts ≡ true → spells line us ≡ true → ts ≡ us
 
--- A line that spells a list of tokens has no fault.
+-- a line that spells a list of tokens has no fault
 abbrev pub FaultsExclude : Type 0
 FaultsExclude = (line : Line) (fault : TextFault) (ts : List Token) → LeftmostFault line fault → spells line ts ≡ true → ⊥
 
--- No line has two leftmost faults.
+-- no line has two leftmost faults
 abbrev pub FaultedOnce : Type 0
 FaultedOnce = (line : Line) (fault other : TextFault) → LeftmostFault line fault → LeftmostFault line other → fault ≡ other
 
--- The place that a fault names, where it names one.
+-- the place that a fault names, if any
 abbrev pub fault_place : TextFault → Option Place
 fault_place (faults.BadQuote place col) = Some place
 fault_place (faults.BadHex place col) = Some place
@@ -267,6 +268,6 @@ fault_place (faults.NotPrintable place col) = Some place
 fault_place (faults.TooLong file) = None
 fault_place faults.Memory = None
 
--- A leftmost fault names the place where its line begins.
+-- a leftmost fault names the place where its line begins
 abbrev pub FaultsPlaced : Type 0
 FaultsPlaced = (line : Line) (fault : TextFault) → LeftmostFault line fault → fault_place fault ≡ Some line.first

@@ -1,4 +1,4 @@
-//! A text's logical lines.
+//! Logical lines: physical lines cut at newlines and joined.
 ghost use Rattle.std.specs.Prelude.{◌≡◌, ◌+◌, ◌^◌, ◌<◌, ◌≤◌, ◌∷◌, [], length, reverse, ◌==◌, not, false, MatchResult, IfOk, IfErr, All};
 ghost use Rattle.std.specs.List.{take_while};
 ghost use Rattle.sudo_text.specs.Faults.{Fails, Gives};
@@ -9,38 +9,38 @@ use crate::bytes::{blank_count, is_digit, is_include, peek};
 use crate::{Line, Place, TextFault};
 use std::alloc::Global;
 
-/// The most bytes that a text may have.
+/// The greatest length of a text, in bytes.
 pub const TEXT_LIMIT: usize = 16_777_216;
 
-/// Whether a physical line begins with `#`, is no include directive, and has no digit directly after the `#`.
+// Whether a physical line begins with `#`, is no include directive, and has no digit directly after the `#`.
 fn is_comment(line: &[u8]) -> bool
     ensures { result ≡ spec.is_comment line.now }
 {
     peek(line, 0) == b'#' && !is_include(line) && !is_digit(peek(line, 1))
 }
 
-/// How many backslashes end a physical line.
+// Returns the number of backslashes at the end of a physical line.
 fn escape_count(line: &[u8]) -> usize
     ensures { result ≡ length (take_while (λ b. b == 92) (reverse line.now)) }
 {
     line.iter().rev().take_while(|b| **b == b'\\').count()
 }
 
-/// Whether a physical line ends in an odd number of backslashes.
+// Whether a physical line ends in an odd number of backslashes.
 fn ends_in_escape(line: &[u8]) -> bool
     ensures { result ≡ spec.ends_in_escape line.now }
 {
     escape_count(line) % 2 == 1
 }
 
-/// Whether a physical line that continues no other one is continued by the next.
+// Whether the next line continues a physical line that does not continue another.
 fn begins_run(line: &[u8]) -> bool
     ensures { result ≡ is_continued false line.now }
 {
     !is_comment(line) && ends_in_escape(line)
 }
 
-/// The offset of the first newline, or the length where there is none.
+// Returns the offset of the first newline, or the length if there is none.
 fn line_end(text: &[u8]) -> usize
     ensures at { result ≡ length (take_while (λ b. not (b == 10)) text.now) }
     ensures within { result ≤ length text.now }
@@ -48,7 +48,7 @@ fn line_end(text: &[u8]) -> usize
     text.iter().take_while(|b| **b != b'\n').count()
 }
 
-/// The bytes up to a newline, and those after it.
+// Splits a text into the bytes before its first newline and those after it.
 fn cut_first(text: &[u8]) -> (&[u8], &[u8])
     requires { 0 < length text.now }
     ensures cut { cut text.now ≡ result.0.now ∷ cut result.1.now }
@@ -62,7 +62,7 @@ fn cut_first(text: &[u8]) -> (&[u8], &[u8])
     (&text[..end], &text[end + 1..])
 }
 
-/// A line without a carriage return at its end.
+// Strips a carriage return from the end of a line.
 fn without_return(line: &[u8]) -> &[u8]
     ensures { result.now ≡ spec.without_return line.now }
 {
@@ -72,14 +72,14 @@ fn without_return(line: &[u8]) -> &[u8]
     }
 }
 
-/// A line without the blanks at its front.
+// Strips the blanks from the front of a line.
 fn without_indent(line: &[u8]) -> &[u8]
     ensures { result.now ≡ spec.without_indent line.now }
 {
     &line[blank_count(line)..]
 }
 
-/// The first physical line, and the text after it.
+// Splits a text into its first physical line and the text after it.
 fn physical_line(text: &[u8]) -> (&[u8], &[u8])
     requires { 0 < length text.now }
     ensures line { physical_lines text.now ≡ result.0.now ∷ physical_lines result.1.now }
@@ -90,7 +90,8 @@ fn physical_line(text: &[u8]) -> (&[u8], &[u8])
     (without_indent(without_return(line)), rest)
 }
 
-/// The first logical line of a text that is not empty, the text after it, and the number of the next physical line.
+// Returns the first logical line of a text that is not empty, the text after it, and the number of the next physical
+// line.
 fn logical_line(
     alloc: Global,
     file: u32,
@@ -135,17 +136,17 @@ fn logical_line(
     Ok((line, rest, number + 1))
 }
 
-/// The logical lines of a text, in order, blank ones and comment lines among them.
+/// Splits a text into its logical lines, in order, including blank lines and comment lines.
 ///
-/// A line that ends in an odd number of backslashes loses the last one and goes on with the next line, as in
-/// sudoers(5); a comment line never does. Carriage returns at the ends of lines and blanks at their fronts are dropped.
-/// `file` is the number that the places of the lines have. Refuses a text over the limit with `TooLong`; one whose last
-/// line goes on with `BadEscape`, at its last backslash; and with `Memory` only where memory was refused.
+/// A line that ends in an odd number of backslashes loses the last one and is continued by the next line, as in
+/// sudoers(5); a comment line never is. Carriage returns at the ends of lines and blanks at their fronts are dropped.
+/// `file` is the file number in the places of the lines. Returns `TooLong` if the text is over the limit, `BadEscape`
+/// if its last line asks for a next one, at its last backslash, and `Memory` only if allocation fails.
 pub fn lines(alloc: Global, file: u32, text: &[u8]) -> Result<Vec<Line>, TextFault>
     ensures lines { Gives (λ v. v.items) result (lines_of file text.now) }
-    // Each line is short enough for its tokens to be read.
+    // Each line is short enough for `tokens`.
     ensures short { IfOk result (λ v. All (λ line. length line.text ≤ TEXT_LIMIT) v.items) }
-    // A text over the limit is refused before anything grows.
+    // A text over the limit is refused before any allocation.
     ensures memory { IfErr result (λ fault. fault ≡ TextFault.Memory
         → length text.now ≤ TEXT_LIMIT) }
 {

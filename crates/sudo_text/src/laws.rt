@@ -1,4 +1,4 @@
-//! Laws of the definitions, each the contract of a function that does nothing.
+//! Laws of the definitions: each is the contract of a function with an empty body.
 ghost use Rattle.sudo_text.specs.Runs.{QuotesClose, QuotesEndRuns, QuotesEndWords, RunsAreWhole, PlainRuns, RunsBegin, BlanksOfArguments, ArgumentsOfCommands};
 ghost use Rattle.sudo_text.specs.Tokens.{SpelledOnce, FaultsExclude, FaultedOnce, FaultsPlaced};
 
@@ -22,44 +22,44 @@ pub fn faults_name_their_line()
     ensures { FaultsPlaced }
 {}
 
-/// The text behind an opening quote closes it exactly where it has a double quote with an even number of backslashes
-/// directly before it.
+/// The text after an opening double quote closes it exactly if it contains a double quote with an even number of
+/// backslashes directly before it.
 pub fn quotes_close()
     ensures { QuotesClose }
 {}
 
-/// What stands between quotes ends at the first double quote with an even number of backslashes directly before it.
+/// A run between double quotes ends at the first double quote with an even number of backslashes directly before it.
 pub fn quotes_end_runs()
     ensures { QuotesEndRuns }
 {}
 
-/// A quoted word ends directly behind that quote.
+/// A quoted word ends directly after that double quote.
 pub fn quotes_end_words()
     ensures { QuotesEndWords }
 {}
 
-/// A word, a value, a path or what stands between quotes goes up to the first byte that ends it, where an even number of
-/// backslashes stands directly before that byte, or to the end of the text. Arguments leave out the blanks before that.
+/// A word, a value, a path or a quoted text extends to the first byte that ends it and has an even number of
+/// backslashes directly before it, or to the end of the text. Arguments leave out the blanks before that.
 pub fn runs_are_whole()
     ensures { RunsAreWhole }
 {}
 
-/// A word, a value, a path or what stands between quotes has its bytes as its characters, where none is a backslash.
+/// The characters of a word, a value, a path or a quoted text without backslashes are its bytes.
 pub fn plain_runs()
     ensures { PlainRuns }
 {}
 
-/// A word, a value or a path never begins with what would end it further on, apart from the `#` of a number.
+/// A word, a value or a path never begins with a byte that would end it further on, apart from the `#` of a number.
 pub fn what_begins_a_run()
     ensures { RunsBegin }
 {}
 
-/// Blanks among arguments are one space, with a character after it that is no blank.
+/// Blanks among arguments are one space, followed by a character that is not a blank.
 pub fn blanks_of_arguments()
     ensures { BlanksOfArguments }
 {}
 
-/// The arguments of a command have a first character, which is no blank.
+/// The arguments of a command have a first character, which is not a blank.
 pub fn arguments_of_commands()
     ensures { ArgumentsOfCommands }
 {}

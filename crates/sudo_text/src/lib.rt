@@ -1,7 +1,7 @@
 //! The text of a sudoers file: logical lines, and the tokens of a line.
 //!
-//! A file is cut into logical lines first: comment lines stand alone, and a line that ends in a backslash goes on
-//! with the next one. Each logical line is then cut into tokens, whose escapes are undone.
+//! A file is first cut into logical lines: a comment line stands alone, and a line that ends in a backslash is
+//! continued by the next one. Each logical line is then cut into tokens, whose escapes are undone.
 #![tactic(auto)]
 
 mod bytes;

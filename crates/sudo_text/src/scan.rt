@@ -20,21 +20,21 @@ use crate::run::{Refusal, run};
 use crate::{Ch, Line, Place, Seq, TextFault, Token, TokenKind};
 use std::alloc::{AllocError, Global};
 
-/// Whether a byte closes a quoted word, where a backslash may take it.
+// Whether a byte closes a quoted word; `taken` says that a backslash escapes it.
 fn closes(taken: bool, byte: u8) -> bool
     ensures { result ≡ spec.closes taken byte }
 {
     !taken && byte == b'"'
 }
 
-/// Whether a byte takes the next one, where a backslash may take it.
+// Whether a byte is a backslash that escapes the next byte; `taken` says that it is escaped itself.
 fn takes_next(taken: bool, byte: u8) -> bool
     ensures { result ≡ spec.takes_next taken byte }
 {
     !taken && byte == b'\\'
 }
 
-/// Whether a double quote closes a quoted word whose text follows.
+// Whether the text after an opening double quote contains the closing one.
 fn has_closing(text: &[u8]) -> bool
     ensures { result ≡ spec.has_closing false text.now }
 {
@@ -48,7 +48,7 @@ fn has_closing(text: &[u8]) -> bool
     false
 }
 
-/// The characters of the quoted word that begins at an offset, and its end.
+// Reads the quoted word at an offset. Returns its characters and its end.
 #[tactic(auto, unfolding(crate::specs::Tokens::quoted_end))]
 fn quoted(alloc: Global, text: &[u8], at: usize) -> Result<(Seq<Ch>, usize), Refusal>
     requires at { at < length text.now }
@@ -69,7 +69,7 @@ fn quoted(alloc: Global, text: &[u8], at: usize) -> Result<(Seq<Ch>, usize), Ref
     }
 }
 
-/// Whether arguments follow a command's path that ends at an offset.
+// Whether arguments follow a command's path that ends at an offset.
 #[tactic(auto, unfolding(crate::specs::Tokens::has_arguments))]
 fn has_arguments(kind: LineKind, text: &[u8], end: usize) -> bool
     requires end { end ≤ length text.now }
@@ -83,7 +83,7 @@ fn has_arguments(kind: LineKind, text: &[u8], end: usize) -> bool
         && !ends_run(Style::Arguments, text, next, next)
 }
 
-/// The command that begins at an offset, and its end.
+// Reads the command at an offset. Returns it and its end.
 #[tactic(auto, unfolding(crate::specs::Tokens::command_end))]
 fn command(
     alloc: Global,
@@ -106,7 +106,7 @@ fn command(
     Ok((path, Some(arguments), end))
 }
 
-/// The path of an include line whose directive ends at an offset, and its end.
+// Reads the path of an include line whose directive ends at an offset. Returns the path and its end.
 #[tactic(auto, unfolding(crate::specs::Tokens::path_end))]
 fn include_path(alloc: Global, text: &[u8], directive: usize) -> Result<(Seq<Ch>, usize), Refusal>
     requires directive { directive ≤ length text.now }
@@ -126,7 +126,7 @@ fn include_path(alloc: Global, text: &[u8], directive: usize) -> Result<(Seq<Ch>
     }
 }
 
-/// A byte as it stands.
+// Returns the character of a byte that no escape yields.
 fn plain(byte: u8) -> Ch
     ensures { result ≡ spec_plain byte }
 {
@@ -134,7 +134,7 @@ fn plain(byte: u8) -> Ch
     Ch { byte, escaped }
 }
 
-/// The characters of the word `Defaults`.
+// Returns the characters of the word `Defaults`.
 fn keyword(alloc: Global) -> Result<Seq<Ch>, AllocError>
     ensures { IfOk result (λ s. s ≡ spec.keyword) }
 {
@@ -151,7 +151,7 @@ fn keyword(alloc: Global) -> Result<Seq<Ch>, AllocError>
     Seq::from_slice(alloc, &chars)
 }
 
-/// An unquoted word or value.
+// Reads an unquoted word or a value. Returns it and its end.
 fn word(alloc: Global, style: Style, text: &[u8], at: usize) -> Result<(TokenKind, usize), Refusal>
     requires at { at < length text.now }
     requires fits { length text.now < 2 ^ 32 }
@@ -166,7 +166,7 @@ fn word(alloc: Global, style: Style, text: &[u8], at: usize) -> Result<(TokenKin
     Ok((TokenKind::Word { quoted, chars }, end))
 }
 
-/// The token that begins at an offset and is read by this rule, which is none of a comment, and its end.
+// Reads the token at an offset by the given rule, which must not be `Comment`. Returns it and its end.
 #[tactic(auto, unfolding(crate::specs::Tokens::keyword_end))]
 fn token_at(
     alloc: Global,
@@ -210,14 +210,14 @@ fn token_at(
     }
 }
 
-/// Whether one of the joins lies after an offset.
+// Whether one of the joins lies after an offset.
 fn has_join_after(joins: &[u32], at: usize) -> bool
     ensures { result ≡ spec.has_join_after joins.now at }
 {
     joins.iter().any(|join| at < *join as usize)
 }
 
-/// The token that stands next after an offset, `None` where none does up to the end of the line.
+// Returns the first token after an offset, or `None` if the line has no further one.
 #[tactic(auto, unfolding(crate::specs::Tokens::closes_line, crate::specs::Tokens::stands, crate::specs::Tokens::token_end))]
 fn next_token(
     alloc: Global,
@@ -257,7 +257,7 @@ fn next_token(
     }))
 }
 
-/// The fault of a line for a refusal.
+// Returns the fault of a line for a refusal.
 fn fault_of(first: Place, refusal: Refusal) -> TextFault
     requires { Refuses (λ _ place. place + 1 < 2 ^ 32) refusal }
     ensures { IsFaultOf first refusal result }
@@ -276,7 +276,7 @@ fn fault_of(first: Place, refusal: Refusal) -> TextFault
     }
 }
 
-/// The tokens of a line, or its leftmost fault.
+// Returns the tokens of a line, or its leftmost fault.
 fn all_tokens(alloc: Global, line: &Line) -> Result<Vec<Token>, TextFault>
     requires { length line.now.text ≤ TEXT_LIMIT }
     ensures tokens { IfOk result (λ v. spells line.now v.items ≡ true) }
@@ -301,23 +301,23 @@ fn all_tokens(alloc: Global, line: &Line) -> Result<Vec<Token>, TextFault>
     }
 }
 
-/// The tokens of a line, none for a blank or a comment line.
+/// Splits a line into tokens; a blank line and a comment line have none.
 ///
-/// Blanks separate tokens; at each place the first rule that applies is taken, and every word is as long as possible.
-/// Refuses an unclosed double quote with `BadQuote`, `\x` without two hexadecimal digits with `BadHex`, a backslash with
-/// nothing after it and a comment that goes on over a join with `BadEscape`, and a control byte outside a comment with
-/// `NotPrintable`: the leftmost of these decides. `Memory` comes only where memory was refused.
+/// Blanks separate tokens. At each offset the first rule that applies is taken, and every word is as long as possible.
+/// The leftmost fault decides. Returns `BadQuote` for an unclosed double quote, `BadHex` for `\x` without two
+/// hexadecimal digits, `BadEscape` for a backslash with nothing after it and for a comment that continues over a join,
+/// `NotPrintable` for a control byte outside a comment, and `Memory` only if allocation fails.
 pub fn tokens(alloc: Global, line: &Line) -> Result<Vec<Token>, TextFault>
     requires { length line.now.text ≤ TEXT_LIMIT }
-    // What is read is spelled so.
+    // The line spells the tokens that are returned.
     ensures tokens { IfOk result (λ v. spells line.now v.items ≡ true) }
-    // No more of them than bytes of the line, and each begins within it.
+    // There are at most as many tokens as bytes in the line, and each begins within it.
     ensures few { IfOk result (λ v. length v.items ≤ length line.now.text) }
     ensures inside { IfOk result (λ v. All (λ t. t.start < length line.now.text) v.items) }
-    // What is spelled so is read, unless memory was refused.
+    // If the line spells a list of tokens, that list is returned, or allocation fails.
     ensures only { (ts : List Token) → spells line.now ts ≡ true
         → Gives (λ v. v.items) result (Ok ts) }
-    // Which fault it is.
+    // Any other fault is the line's leftmost one.
     ensures fault { IfErr result (λ f. f ≢ TextFault.Memory → LeftmostFault line.now f) }
 {
     all_tokens(alloc, line)

@@ -1,4 +1,4 @@
--- How a list decides, from the decisions of its parts: the last part that decides at all.
+-- The decision of a list, by the decisions of its parts: that of the last part that decides at all.
 use Rattle.std.proofs.Common.{◌≡◌, ℕ, ◌<◌, ◌≤◌, Bool, true, false, not, cond, List, [], ◌∷◌, ◌++◌, map, Option, Some, None, refl, sym, ◌∙◌, ap, arith}
 use Rattle.std.specs.Option.{option_or, option_map}
 use Rattle.std.proofs.Common.{length}

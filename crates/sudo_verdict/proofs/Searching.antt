@@ -1,4 +1,4 @@
--- The search from the last grant back finds what the last grant that applies says.
+-- The search from the last grant back finds the verdict of the last grant that applies.
 use Rattle.std.proofs.Common.{◌≡◌, ℕ, zero, suc, ◌+◌, Bool, true, false, not, cond, ◌&&◌, List, [], ◌∷◌, ◌++◌, map, length, take, flat_map, Option, Some, None, refl, sym, ◌∙◌, ap, arith, option_to_list}
 use Rattle.std.specs.Option.{option_or, option_map, unwrap_or}
 use Rattle.std.specs.List.{slice_get}

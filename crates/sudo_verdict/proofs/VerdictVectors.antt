@@ -1,4 +1,5 @@
--- Worked examples of verdicts, each by computation. The rules and requests stand in each one's comment as sudoers(5) writes them.
+-- Worked examples of verdicts, each by computation. The comment of each has its rules and requests as sudoers(5) writes
+-- them.
 use Rattle.std.proofs.Common.{◌≡◌, ℕ, true, false, List, [], ◌∷◌, map, Option, Some, None, refl, IsTrue}
 use Rattle.std.specs.Prelude.{codes, nat_lt, not}
 use Rattle.std.specs.List.{list_all}

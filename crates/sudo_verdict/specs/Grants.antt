@@ -21,7 +21,7 @@ use Rattle.sudo_verdict.specs.Questions.{Question}
 use Rattle.sudo_verdict.specs.Values.{user_listed, host_listed}
 use Rattle.sudo_verdict.specs.RunasForms.{runas_holds}
 
--- one written-out command, with all that it is granted under
+-- one written-out command, with its users, hosts, runas and tags
 pub record Grant : Type 0 where
   pub place : Place
   pub users : List Member
@@ -47,7 +47,7 @@ grant_of place users s i w = record {
 unfoldable pub place_grants : Policy → Place → List Member → Section → ℕ × CommandSpec → List Grant
 place_grants p place users s (i, c) = map (grant_of place users s i) (written kind.Cmnd p (c.command ∷ []))
 
--- the grants of a section: those of each command, with its number from 0
+-- the grants of a section: those of each command, with its index
 unfoldable pub section_grants : Policy → Place → List Member → Section → List Grant
 section_grants p place users s = flat_map (place_grants p place users s) (enumerate_from 0 s.commands)
 
@@ -62,7 +62,7 @@ entry_grants p e = body_grants p e.place e.body
 unfoldable pub grants : Policy → List Grant
 grants p = flat_map (entry_grants p) p.entries
 
--- a grant applies: the user list and the host list allow, the runas holds and the atom matches
+-- a grant applies: the user list and the host list allow, the runas allows, and the atom matches
 unfoldable pub applies : Policy → Question → Grant → Bool
 applies p q g =
     ((user_listed p g.users q && host_listed p g.hosts q) && runas_holds p q g.runas)

@@ -7,7 +7,7 @@ abbrev pub last_that : {X : Type 0} → (X → Bool) → List X → Option X
 last_that f [] = None
 last_that f (x ∷ xs) = option_or (last_that f xs) (cond (f x) (Some x) None)
 
--- the last value that is there
+-- the last value that is present
 abbrev pub last_set : {X : Type 0} → List (Option X) → Option X
 last_set [] = None
 last_set (o ∷ os) = option_or (last_set os) o

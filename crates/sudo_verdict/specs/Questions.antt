@@ -8,19 +8,20 @@ use Rattle.sudo_match.specs.declared.request.What.{What}
 use Rattle.sudo_match.specs.declared.request.What.TheVariants.{User, Host, Target, Group as GroupAsked}
 use Rattle.sudo_match.specs.Known.{Known, user_named, host_named, group_named}
 
--- who asks and where, as whom, and for which command
+-- the invoking user and the host, the target, and the command
 pub record Question : Type 0 where
   pub user : Person
   pub host : Machine
-  -- the user asked for, and the group, if any
+  -- the user and the group that are asked for, if any
   pub asked : Option Person
   pub group : Option Group
-  -- whom the command is to run as: the user asked for; without one, the invoking user if a group is asked for, else root
+  -- the user to run the command as: the user asked for; without one, the invoking user if a group is asked for,
+  -- otherwise root
   pub target : Option Person
   pub command : List ℕ
   pub arguments : List ℕ
 
--- a name that may be asked for, looked up: none where it is asked for and unknown
+-- an optional name, looked up; none if the name is unknown
 abbrev pub looked_up : {X : Type 0} → (List ℕ → Option X) → Option (List ℕ) → Option (Option X)
 looked_up find None = Some None
 looked_up find (Some name) = option_map (λ x. Some x) (find name)
@@ -47,6 +48,6 @@ abbrev pub with_user : Known → Request → Option Person → Result Question W
 with_user d r None = Err User
 with_user d r (Some u) = with_host d r u (host_named d r.host)
 
--- the request with its names looked up, or the first that is unknown of the user, the host, the target and the group
+-- the request with its names looked up, or the first unknown name, of the user, the host, the target and the group
 unfoldable pub question_of : Known → Request → Result Question What
 question_of d r = with_user d r (user_named d r.user)

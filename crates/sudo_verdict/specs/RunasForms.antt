@@ -1,4 +1,4 @@
--- As whom a command may be run: the five forms of a runas. sudoers(5), "Runas_Spec".
+-- The users and groups that a command may be run as: the five forms of a runas. sudoers(5), "Runas_Spec".
 use Rattle.std.specs.Prelude.{Bool, true, false, ◌&&◌, ◌==◌, List, bytes_eq, codes, Option, Some, None, is_some, unwrap_or}
 use Rattle.std.specs.List.{list_any}
 use Rattle.sudo_grammar.specs.declared.kind.Kind.TheVariants as kind
@@ -14,16 +14,16 @@ use Rattle.sudo_verdict.specs.Questions.{Question}
 abbrev pub has_group : Person → Group → Bool
 has_group u g = list_any (λ h. h.gid == g.gid) u.groups
 
--- a directory has each name once
+-- equality of users: a directory has each name once
 abbrev pub is_same_user : Person → Person → Bool
 is_same_user t u = bytes_eq t.name u.name
 
--- if a group is asked for, the user has it
+-- the user has the group that is asked for, if any
 abbrev pub has_asked : Person → Option Group → Bool
 has_asked u None = true
 has_asked u (Some g) = has_group u g
 
--- the user asked for is the invoking user, or no user is asked for
+-- the user that is asked for, if any, is the invoking user
 abbrev pub is_own : Person → Option Person → Bool
 is_own u None = true
 is_own u (Some t) = is_same_user t u
@@ -41,21 +41,23 @@ abbrev pub users_hold : Policy → Question → List Member → Option Person �
 users_hold p q users None = false
 users_hold p q users (Some t) = allows (target_value p users t) && has_asked t q.group
 
--- (users:groups): the list allows the target, or has no value for him where he is the invoking user and a group is asked for; and the group list allows the group, or has no value for it and the target has it
+-- (users:groups): the list allows the target, or has no value for the target if that is the invoking user and a group
+-- is asked for; and the group list allows the group, or has no value for it and the target has it
 abbrev pub users_and_groups_hold : Policy → Question → List Member → List Member → Option Person → Bool
 users_and_groups_hold p q users groups None = false
 users_and_groups_hold p q users groups (Some t) =
     unwrap_or (target_value p users t) (is_some q.group && is_same_user t q.user) && group_allowed p groups t q.group
 
--- (:groups): the command runs as the invoking user; the group list allows the group, or has no value for it and he has it
+-- (:groups): the command runs as the invoking user; the group list allows the group, or has no value for it and the
+-- user has it
 abbrev pub groups_hold : Policy → Question → List Member → Bool
 groups_hold p q groups = is_own q.user q.asked && group_allowed p groups q.user q.group
 
--- (): the command runs as the invoking user, with a group of his own
+-- (): the command runs as the invoking user, with a group of that user
 abbrev pub own_holds : Question → Bool
 own_holds q = is_own q.user q.asked && has_asked q.user q.group
 
--- without parentheses: as root, with a group of root's
+-- without parentheses: as root, with a group of root
 abbrev pub root_holds : Question → Option Person → Bool
 root_holds q None = false
 root_holds q (Some t) = bytes_eq t.name (codes "root") && has_asked t q.group
@@ -67,7 +69,7 @@ form_holds p q (Some users) None = users_hold p q users q.target
 form_holds p q None (Some groups) = groups_hold p q groups
 form_holds p q None None = own_holds q
 
--- a runas, or none, lets the command run as the user and the group asked for
+-- a runas, or its absence, allows the command to run as the user and the group asked for
 unfoldable pub runas_holds : Policy → Question → Option Runas → Bool
 runas_holds p q None = root_holds q q.target
 runas_holds p q (Some r) = form_holds p q r.users r.groups

@@ -1,4 +1,4 @@
--- What a list says of a user, a group, a host or a command. sudoers(5), "User_List", "Host_List", "Cmnd_List".
+-- The value of a list for a user, a group, a host or a command. sudoers(5), "User_List", "Host_List", "Cmnd_List".
 use Rattle.std.specs.Prelude.{Bool, true, false, not, List, Option, option_map, unwrap_or}
 use Rattle.sudo_grammar.specs.declared.kind.Kind.{Kind}
 use Rattle.sudo_grammar.specs.declared.kind.Kind.TheVariants as kind
@@ -15,7 +15,8 @@ abbrev pub is_all : Atom → Bool
 is_all All = true
 is_all _ = false
 
--- the value of a list: the sign of the last atom of the written-out list that passes the test (true for allow), or none; of each list of a checked policy, `written` is the written form (`lists_are_written`)
+-- the value of a list: the sign of the last atom of the written-out list that passes the test (true for allow), or
+-- none; for each list of a checked policy, `written` is its written form (`lists_are_written`)
 unfoldable pub value : Kind → Policy → List Member → (Atom → Bool) → Option Bool
 value kind p list test = option_map (λ s. not s.negated) (last_that (λ s. test s.atom) (written kind p list))
 

@@ -17,7 +17,8 @@ use Rattle.sudo_verdict.specs.Grants.{Grant, grants, applies}
 abbrev pub decided_by : Place → Tags → Bool → Bool → Verdict
 decided_by place tags negated all = cond negated (Deny place) (Allow place (tags_given all tags))
 
--- what a grant decides: deny where it is negated; else allow with its tags, where ALL adds SETENV if that pair is unset
+-- the verdict of a grant: deny if it is negated; otherwise allow with its tags, where ALL adds SETENV if that pair is
+-- unset
 abbrev pub verdict_by : Grant → Verdict
 verdict_by g = decided_by g.place g.tags g.negated (is_all g.atom)
 
@@ -25,7 +26,7 @@ abbrev pub verdict_if_any : Option Grant → Verdict
 verdict_if_any None = NoMatch
 verdict_if_any (Some g) = verdict_by g
 
--- the last grant that applies decides; without one nothing matches
+-- the last grant that applies decides; without one, no match
 unfoldable pub verdict_on : Policy → Question → Verdict
 verdict_on p q = verdict_if_any (last_that (applies p q) (grants p))
 
@@ -33,6 +34,7 @@ abbrev pub verdict_if_known : Policy → Result Question What → Verdict
 verdict_if_known p (Err what) = Unknown what
 verdict_if_known p (Ok q) = verdict_on p q
 
--- the verdict on a request: the first name that is not known, of the user, the host, the target and the group; else what the last grant that applies decides
+-- the verdict on a request: the first unknown name, of the user, the host, the target and the group; otherwise the
+-- verdict of the last grant that applies
 unfoldable pub verdict_of : Policy → Known → Request → Verdict
 verdict_of p d r = verdict_if_known p (question_of d r)

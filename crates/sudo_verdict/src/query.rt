@@ -1,4 +1,4 @@
-//! A request whose names are known, and what it asks of the lists of a rule.
+//! A request whose names are known, and its answers from the lists of a rule.
 
 ghost use Rattle.std.specs.Prelude.{◌≡◌, ◌∷◌, [], IsTrue, Option, Some, None, MatchResult, Ok, Err, option_copied, is_some, unwrap_or, bytes_eq, codes};
 ghost use Rattle.sudo_grammar.specs.declared.kind.Kind.TheVariants as kind;
@@ -14,22 +14,22 @@ use sudo_match::{Directory, Group, Machine, Person, Request, What};
 use sudo_policy::{Checked, Kind, Member, Runas};
 use sudo_text::Seq;
 
-/// A request whose names are known.
+/// A request whose names have been looked up.
 #[derive(Clone, Copy)]
 pub(crate) struct Query<'a> {
     pub(crate) user: &'a Person,
     pub(crate) host: &'a Machine,
-    /// The user asked for.
+    /// The user that is asked for, if any.
     pub(crate) asked: Option<&'a Person>,
-    /// The group asked for.
+    /// The group that is asked for, if any.
     pub(crate) group: Option<&'a Group>,
-    /// Whom the command is to run as, where known.
+    /// The user to run the command as, if known.
     pub(crate) target: Option<&'a Person>,
     pub(crate) command: &'a [u8],
     pub(crate) arguments: &'a [u8],
 }
 
-/// The request with its names looked up, or the first name that is unknown.
+/// Returns the request with its names looked up, or the first name that is unknown.
 #[tactic(auto, unfolding(crate::specs::Questions::question_of))]
 pub(crate) fn query_of<'a>(
     directory: &'a Directory,
@@ -69,7 +69,8 @@ pub(crate) fn query_of<'a>(
     })
 }
 
-/// Whom a command is to run as: the user asked for; without one, the invoking user if a group is asked for, else root.
+// Returns the user to run a command as: the user asked for; without one, the invoking user if a group is asked for,
+// otherwise root.
 fn target<'a>(
     directory: &'a Directory,
     user: &'a Person,
@@ -105,7 +106,7 @@ impl Query<'_> {
         value(checked, Kind::Host, hosts, &host).unwrap_or(false)
     }
 
-    /// Whether a runas, or none, lets the command run as the target and group asked for.
+    /// Whether a runas, or its absence, allows the command to run as the target and the group asked for.
     #[tactic(auto, unfolding(crate::specs::RunasForms::runas_holds))]
     pub(crate) fn runas_holds(&self, checked: &Checked, runas: Option<&Runas>) -> bool
         requires { IsTrue (runas_resolves checked.now (option_copied runas)) }
@@ -141,7 +142,7 @@ impl Query<'_> {
         }
     }
 
-    /// The form `(users:groups)`.
+    // Whether the form `(users:groups)` allows it.
     fn users_and_groups_hold(&self, checked: &Checked, users: &[Member], groups: &[Member]) -> bool
         requires users { IsTrue (resolves kind.Runas checked.now users.now) }
         requires groups { IsTrue (resolves kind.Runas checked.now groups.now) }
@@ -158,7 +159,7 @@ impl Query<'_> {
         allowed && group_allowed(checked, target, groups, self.group)
     }
 
-    /// The form `(users)`.
+    // Whether the form `(users)` allows it.
     fn users_hold(&self, checked: &Checked, users: &[Member]) -> bool
         requires { IsTrue (resolves kind.Runas checked.now users.now) }
         ensures { result ≡ form.users_hold checked.now (question self.now) users.now
@@ -170,7 +171,7 @@ impl Query<'_> {
         target_value(checked, users, target).unwrap_or(false) && has_asked(target, self.group)
     }
 
-    /// The form `(:groups)`.
+    // Whether the form `(:groups)` allows it.
     fn groups_hold(&self, checked: &Checked, groups: &[Member]) -> bool
         requires { IsTrue (resolves kind.Runas checked.now groups.now) }
         ensures { result ≡ form.groups_hold checked.now (question self.now) groups.now }
@@ -178,14 +179,14 @@ impl Query<'_> {
         is_own(self.user, self.asked) && group_allowed(checked, self.user, groups, self.group)
     }
 
-    /// The form `()`.
+    /// Whether the form `()` allows it.
     pub(crate) fn own_holds(&self) -> bool
         ensures { result ≡ form.own_holds (question self.now) }
     {
         is_own(self.user, self.asked) && has_asked(self.user, self.group)
     }
 
-    /// Without a runas.
+    /// Whether the absence of a runas allows it.
     pub(crate) fn root_holds(&self) -> bool
         ensures { result ≡ form.root_holds (question self.now) (question self.now).target }
     {
@@ -224,7 +225,7 @@ fn group_allowed(
     }
 }
 
-/// Whether the user has the group, where one is asked for.
+/// Whether the user has the group that is asked for, if any.
 pub(crate) fn has_asked(person: &Person, group: Option<&Group>) -> bool
     ensures { result ≡ form.has_asked person.now (option_copied group.entry) }
 {
@@ -234,7 +235,7 @@ pub(crate) fn has_asked(person: &Person, group: Option<&Group>) -> bool
     }
 }
 
-/// Whether the user asked for, if any, is the invoking user.
+/// Whether the user that is asked for, if any, is the invoking user.
 pub(crate) fn is_own(user: &Person, asked: Option<&Person>) -> bool
     ensures { result ≡ form.is_own user.now (option_copied asked.entry) }
 {

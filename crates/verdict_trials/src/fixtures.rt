@@ -1,4 +1,4 @@
-//! A policy and requests as text, and the verdicts as text.
+//! Policies and requests as text, and the verdicts on them as text.
 
 use crate::oracle::verdict_by_listing;
 use audit_files::{Script, read_hosts, read_requests, read_users};
@@ -17,7 +17,7 @@ const HOSTS: &str = "host,interfaces\nweb1,10.1.2.3/16 127.0.0.1/8\nweb2,10.2.0.
 
 const HEADER: &str = "number,user,host,runas_user,runas_group,command,arguments\n";
 
-/// The users root, alice, bob and operator, and the hosts web1 and web2.
+/// Returns the directory of the users root, alice, bob and operator, and of the hosts web1 and web2.
 pub(crate) fn directory(alloc: Global) -> Result<Directory, Fail> {
     let mut users = Script::of(alloc, USERS.as_bytes(), 4096)?;
     let people = read_users(alloc, &mut users)?;
@@ -26,7 +26,7 @@ pub(crate) fn directory(alloc: Global) -> Result<Directory, Fail> {
     Ok(Directory::new(alloc, people, machines)?)
 }
 
-/// The policy of one file, checked.
+/// Checks the policy of one file.
 pub(crate) fn checked(alloc: Global, text: &str) -> Result<Checked, Fail> {
     let supplies: [Supply; 0] = [];
     match load(alloc, b"sudoers", text.as_bytes(), &supplies) {
@@ -38,7 +38,7 @@ pub(crate) fn checked(alloc: Global, text: &str) -> Result<Checked, Fail> {
     }
 }
 
-/// Requests, each on a line: user, host, target, group, command and arguments, with commas between them.
+/// Reads requests, each on a line: user, host, target, group, command and arguments, with commas between them.
 pub(crate) fn requests(alloc: Global, lines: &str) -> Result<Seq<Request>, Fail> {
     let mut text = String::from_str(alloc, HEADER)?;
     let mut number = 0u32;
@@ -51,7 +51,7 @@ pub(crate) fn requests(alloc: Global, lines: &str) -> Result<Seq<Request>, Fail>
     Ok(read_requests(alloc, &mut reader)?.list)
 }
 
-/// What the three bodies say to a request: by the index, by the search and by listing.
+/// Returns the verdict of the three bodies, by the index, by the search and by listing. Fails if they differ.
 pub(crate) fn said(
     alloc: Global,
     checked: &Checked,
@@ -89,7 +89,7 @@ fn line_of(verdict: Verdict) -> Option<u32> {
     }
 }
 
-// Appends a tag that is set: its name, or its opposite's.
+// Appends a tag that is set, by its name or the name of its opposite.
 fn append_tag(text: &mut String, choice: Option<bool>, name: &str) -> Result<(), AllocError> {
     if let Some(is_set) = choice {
         text.push_str(if is_set { " " } else { " NO" })?;
@@ -112,7 +112,7 @@ fn append_tags(text: &mut String, verdict: Verdict) -> Result<(), AllocError> {
     Ok(())
 }
 
-/// Appends the verdict, its line and its tags, and a comma.
+// Appends the verdict, its line and its tags, and a comma.
 fn append(alloc: Global, text: &mut String, verdict: Verdict) -> Result<(), AllocError> {
     text.push_str(word(verdict))?;
     if let Some(line) = line_of(verdict) {
@@ -123,7 +123,7 @@ fn append(alloc: Global, text: &mut String, verdict: Verdict) -> Result<(), Allo
     text.push_str(",")
 }
 
-/// The policy of a row, which has `;` between its lines.
+// Returns the policy of a row, with `;` between its lines.
 fn policy_of(alloc: Global, policy: &str) -> Result<String, AllocError> {
     let mut text = String::new(alloc);
     for line in policy.split(';') {
@@ -133,7 +133,7 @@ fn policy_of(alloc: Global, policy: &str) -> Result<String, AllocError> {
     Ok(text)
 }
 
-/// The verdicts on the requests, in order, with a comma after each.
+// Returns the verdicts on the requests, in order, with a comma after each.
 fn verdicts(
     alloc: Global,
     directory: &Directory,
@@ -149,7 +149,7 @@ fn verdicts(
     Ok(text)
 }
 
-/// Fails where the policy does not give this verdict to the request.
+/// Fails if the policy does not give this verdict to the request.
 pub(crate) fn holds(
     alloc: Global,
     directory: &Directory,
@@ -175,7 +175,7 @@ fn row_holds(alloc: Global, directory: &Directory, row: &str) -> Result<(), Fail
     holds(alloc, directory, text.as_str(), asks.trim(), want.trim())
 }
 
-/// Fails where a row of the table does not hold: a policy, with `;` between its lines, a request and its verdict.
+/// Fails if a row of the table does not hold. A row is a policy, with `;` between its lines, a request and its verdict.
 pub(crate) fn rows_hold(alloc: Global, table: &str) -> Result<(), Fail> {
     let directory = directory(alloc)?;
     for row in table.lines() {

@@ -1,5 +1,5 @@
-//! Tests of verdicts, from the text of a policy and the bytes of the users, hosts and requests files; and of what a verdict
-//! stands on: patterns, known users and hosts, the matching of one atom.
+//! Tests of verdicts, from the text of a policy and the bytes of the users, hosts and requests files; and of the parts
+//! of a verdict: patterns, known users and hosts, and the matching of one atom.
 #![tactic(auto)]
 
 #[cfg(test)]

@@ -1,4 +1,4 @@
-//! Patterns, matching and directories, by the table.
+//! Tests of patterns, matching and directories.
 
 use std::alloc::{AllocError, Global};
 use std::test::Fail;
@@ -9,7 +9,7 @@ use sudo_match::{
 };
 use sudo_text::{Ch, Seq};
 
-/// The characters of a word, a backslash before those that it escapes.
+// Returns the characters of a word, in which a backslash escapes the next one.
 fn chars(alloc: Global, text: &[u8]) -> Result<Seq<Ch>, AllocError> {
     let mut chars = Seq::new(alloc);
     let mut escaped = false;
@@ -27,7 +27,7 @@ fn chars(alloc: Global, text: &[u8]) -> Result<Seq<Ch>, AllocError> {
     Ok(chars)
 }
 
-/// Whether a pattern matches a text where its stars fit `/`, and where they do not.
+// Whether a pattern matches a text, first with `Slash::Any` and then with `Slash::Not`.
 fn both(alloc: Global, pattern: &[u8], text: &[u8]) -> Result<(bool, bool), AllocError> {
     let chars = chars(alloc, pattern)?;
     let pattern = Pattern::of(chars.as_slice());
@@ -88,7 +88,7 @@ fn classes(rt: HostRuntime) -> Result<(), Fail> {
     Ok(())
 }
 
-/// A pattern of 1,000 times `*a`, and then `*b`.
+// Returns a pattern of 1,000 times `*a`, followed by `*b`.
 fn many_stars(alloc: Global) -> Result<Seq<Ch>, AllocError> {
     let star = Ch {
         byte: b'*',
@@ -125,8 +125,8 @@ fn many_stars_are_fast(rt: HostRuntime) -> Result<(), Fail> {
     Ok(())
 }
 
-/// Whether a star and 300 times these characters fit 300 times this text, and 300 bytes `[` before it, at both values of
-/// `Slash`; no longer, once an `x` follows the text.
+// Whether a star and 300 times the characters of `unit` fit 300 bytes `[` followed by 300 times `fitted`, for both
+// values of `Slash`, but not with an `x` after the text.
 fn fit_repeated(rt: HostRuntime, unit: &[u8], fitted: &[u8]) -> Result<bool, Fail> {
     let mut chars = chars(rt.alloc(), b"*")?;
     let mut text = Seq::new(rt.alloc());
@@ -160,7 +160,7 @@ fn many_unclosed_brackets_are_fast(rt: HostRuntime) -> Result<(), Fail> {
     Ok(())
 }
 
-/// A command with arguments.
+// Returns a command with arguments.
 fn with_arguments(alloc: Global, path: &[u8], args: &[u8]) -> Result<Atom, AllocError> {
     let path = chars(alloc, path)?;
     let args = chars(alloc, args)?;
@@ -196,7 +196,7 @@ fn commands(rt: HostRuntime) -> Result<(), Fail> {
     Ok(())
 }
 
-/// A host with this address, 16 bits of which name its network, and a loopback interface.
+// Returns a host with this address, 16 bits of which name its network, and a loopback interface.
 fn machine(alloc: Global, name: &[u8], addr: u32) -> Result<Machine, AllocError> {
     let name = Seq::from_slice(alloc, name)?;
     let mut interfaces = Seq::new(alloc);
@@ -245,13 +245,13 @@ fn hosts(rt: HostRuntime) -> Result<(), Fail> {
     Ok(())
 }
 
-/// A group of a name and an ID.
+// Returns a group with this name and this ID.
 fn group(alloc: Global, name: &[u8], gid: u32) -> Result<Group, AllocError> {
     let name = Seq::from_slice(alloc, name)?;
     Ok(Group { name, gid })
 }
 
-/// A user with one group.
+// Returns a user with one group.
 fn person(alloc: Global, name: &[u8], group: Group) -> Result<Person, AllocError> {
     let name = Seq::from_slice(alloc, name)?;
     let mut groups = Seq::new(alloc);
@@ -284,7 +284,7 @@ fn users_and_groups(rt: HostRuntime) -> Result<(), Fail> {
     Ok(())
 }
 
-/// The users `root` of the group `root`, and `alice` of this group.
+// Returns the users `root`, of the group `root`, and `alice`, of the given group.
 fn users(alloc: Global, group_of_alice: Group) -> Result<Vec<Person>, AllocError> {
     let mut people = Vec::new(alloc);
     people.push(person(alloc, b"root", group(alloc, b"root", 0)?)?)?;
@@ -292,7 +292,7 @@ fn users(alloc: Global, group_of_alice: Group) -> Result<Vec<Person>, AllocError
     Ok(people)
 }
 
-/// The host `web1`, and another of this name.
+// Returns the host `web1` and another of the given name.
 fn two_hosts(alloc: Global, name: &[u8]) -> Result<Vec<Machine>, AllocError> {
     let mut machines = Vec::new(alloc);
     machines.push(machine(alloc, b"web1", 1)?)?;
@@ -313,7 +313,7 @@ fn directory_knows_its_rows(rt: HostRuntime) -> Result<(), Fail> {
     Ok(())
 }
 
-/// A name of five letters for each number below 26^5.
+// Returns a name of five letters for each number below 26^5.
 fn bucket_of(alloc: Global, number: u32) -> Result<Seq<u8>, AllocError> {
     let mut name = Seq::new(alloc);
     let mut left = number;
@@ -345,7 +345,7 @@ fn large_directories_are_fast(rt: HostRuntime) -> Result<(), Fail> {
     Ok(())
 }
 
-/// The fault of rows, or none.
+// Returns the fault of rows, if any.
 fn fault(alloc: Global, people: Vec<Person>, machines: Vec<Machine>) -> Option<DirFault> {
     match Directory::new(alloc, people, machines) {
         Ok(_) => None,

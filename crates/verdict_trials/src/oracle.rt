@@ -1,6 +1,7 @@
-//! A plain verdict to compare with: every list written out, every grant in the order of the file, the last that applies.
+//! A plain verdict for comparison: every list is written out, every grant is tried in the order of the file, and the
+//! last that applies decides.
 //!
-//! It shares no code with the verdict of the product but the writing out of aliases and the matching of one atom.
+//! It shares no code with the verdict of the product except the writing out of aliases and the matching of one atom.
 
 use std::alloc::{AllocError, Global};
 use sudo_match::{
@@ -13,7 +14,7 @@ use sudo_policy::{
 use sudo_text::{Place, Seq};
 use sudo_verdict::{Request, Tags, Verdict, What};
 
-// What the members of a list are matched with.
+// The subject with which the members of a list are matched.
 #[derive(Clone, Copy)]
 enum Subject<'a> {
     User(&'a Person),
@@ -31,7 +32,7 @@ fn fits(subject: Subject<'_>, atom: &Atom) -> bool {
     }
 }
 
-// A request whose names are known.
+// A request whose names have been looked up.
 #[derive(Clone, Copy)]
 struct Asked<'a> {
     user: &'a Person,
@@ -68,7 +69,7 @@ fn is_all(atom: &Atom) -> bool {
     }
 }
 
-// The last member of the written-out list that matches. A checked policy has no name without a definition.
+// Returns the last member of the written-out list that matches. A checked policy has no undefined name.
 fn last_match(
     alloc: Global,
     checked: &Checked,
@@ -107,7 +108,7 @@ fn last_match(
     Ok(last)
 }
 
-// Whether the list allows, `None` if nothing of it matches.
+// Whether the list allows; `None` if no member matches.
 fn value(
     alloc: Global,
     checked: &Checked,
@@ -201,7 +202,7 @@ fn has_gid(person: &Person, group: Option<&Group>) -> bool {
     }
 }
 
-// Whether the user asked for, if any, is the invoking one.
+// Whether the user that is asked for, if any, is the invoking user.
 fn is_own(asked: &Asked<'_>) -> bool {
     match asked.asked {
         Some(other) => is_same(other, asked.user),
@@ -209,7 +210,8 @@ fn is_own(asked: &Asked<'_>) -> bool {
     }
 }
 
-// Whether a list of groups, or else the groups of the person, have the group asked for, if any.
+// Whether a list of groups allows the group that is asked for, if any; if no member of the list matches, whether the
+// person has the group.
 fn group_holds(
     alloc: Global,
     checked: &Checked,
@@ -226,7 +228,7 @@ fn group_holds(
     }
 }
 
-// sudoers(5), "Runas_Spec": the four forms, and root without any.
+// Whether a runas allows the request: the four forms of sudoers(5), "Runas_Spec", and root without a runas.
 fn runas_holds(
     alloc: Global,
     checked: &Checked,
@@ -263,7 +265,7 @@ fn runas_holds(
     }
 }
 
-// What one command says, with the tags and the runas that hold for it.
+// Returns the verdict of one command, with the tags and the runas that apply to it.
 fn command_said(
     alloc: Global,
     checked: &Checked,

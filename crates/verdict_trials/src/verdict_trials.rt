@@ -1,4 +1,4 @@
-//! What the verdicts must be comes from sudoers(5).
+//! Tests of verdicts. The expected verdicts come from sudoers(5).
 
 use crate::fixtures::{checked, directory, holds, requests, rows_hold, said};
 use std::alloc::Global;
@@ -118,7 +118,7 @@ fn names_and_arguments(rt: HostRuntime) -> Result<(), Fail> {
     rows_hold(rt.alloc(), NAMES_AND_ARGUMENTS)
 }
 
-/// `A1 = A2`, and so on, `A64 = /bin/ls`, and a rule for A1.
+// Defines `A1 = A2`, and so on, up to `A64 = /bin/ls`, with a rule for A1.
 fn deep(alloc: Global) -> Result<String, Fail> {
     let mut text = String::new(alloc);
     for number in 1..64u32 {
@@ -142,7 +142,7 @@ fn aliases_may_be_deep(rt: HostRuntime) -> Result<(), Fail> {
     )
 }
 
-/// `W0 = /bin/ls`, `W1 = W0, W0`, and so on: W16 has 65,536 members. The rule is for `!W16`.
+// Defines `W0 = /bin/ls`, `W1 = W0, W0`, and so on: W16 has 65,536 members. The rule is for `!W16`.
 fn wide(alloc: Global) -> Result<String, Fail> {
     let mut text = String::from_str(alloc, "Cmnd_Alias W0 = /bin/ls\n")?;
     for number in 1..17u32 {
@@ -176,7 +176,7 @@ const RULES: &str =
 const ASKS: &str =
     "alice,web1,,,/bin/ls,\nalice,web1,,,/bin/su,\nalice,web1,,,/bin/id,\nalice,web1,root,,/bin/su,\nalice,web1,operator,,/bin/ls,\nalice,web1,operator,,/bin/id,\nalice,web1,,adm,/bin/ls,\nalice,web1,,operator,/bin/su,\nalice,web1,operator,operator,/bin/ls,\nalice,web1,operator,adm,/bin/id,\nalice,web1,root,adm,/bin/ls,\nalice,web1,alice,adm,/bin/su,\nbob,web1,operator,,/bin/ls,\nbob,web2,,,/bin/id,\nalice,web2,,,/bin/su,\nalice,web2,operator,adm,/bin/ls,";
 
-/// How many of the requests a policy of two rules allows. Fails where the three bodies differ.
+// Returns the number of requests that a policy of two rules allows. Fails if the three bodies differ.
 fn allowed(alloc: Global, directory: &Directory, first: &str, second: &str) -> Result<u32, Fail> {
     let text = format!(in alloc; "{ALIASES}{first}\n{second}")?;
     let checked = checked(alloc, text.as_str())?;
@@ -200,7 +200,7 @@ fn the_bodies_agree(rt: HostRuntime) -> Result<(), Fail> {
             count = count.saturating_add(allowed(alloc, &directory, first, second)?);
         }
     }
-    // Neither answer is rare among the 3,136 requests.
+    // Both verdicts are frequent among the 3,136 requests.
     assert!(rt; count > 300 && count < 2800, "{count} allowed");
     Ok(())
 }

@@ -1,4 +1,4 @@
--- What a policy keeps, of what is loaded; a body's proof alone needs these words.
+-- The invariant of a policy, for a state of loading; only the proof of a body needs these definitions.
 use Rattle.std.specs.Prelude.{◌≡◌, ℕ, Bool, true, not, nat_lt, List, length}
 use Rattle.std.specs.List.{list_all}
 use Rattle.sudo_grammar.specs.declared.policy.Entry.{Entry}
@@ -11,7 +11,7 @@ placed_in n entries = list_all (λ e. nat_lt e.place.file n) entries
 abbrev pub followed_all : List Entry → Bool
 followed_all entries = list_all (λ e. not (is_include e.body)) entries
 
--- What is loaded stands in the files that were read, and has no include line.
+-- the loaded entries belong to the files that were read, and none is an include line
 pub record Fine (loaded : Loaded) : Type 0 where
   pub placed : placed_in (length loaded.files) loaded.entries ≡ true
   pub unfolded : followed_all loaded.entries ≡ true

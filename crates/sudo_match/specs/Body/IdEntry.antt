@@ -1,4 +1,4 @@
--- What the private map of group IDs shows; only the model of `Ids` needs it.
+-- The model of the private map of group IDs; only the model of `Ids` uses it.
 use Rattle.std.specs.Prelude.{ℕ, List, [], ◌∷◌}
 
 -- an entry, with its ID as a name of one number

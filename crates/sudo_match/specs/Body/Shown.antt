@@ -1,4 +1,5 @@
--- What the private classes of the code stand for, and what it finds of an item; only bodies' proofs need them.
+-- The meaning of the code's private classes, and of an item that it has read; only proofs of bodies need these
+-- definitions.
 use Rattle.std.specs.Prelude.{ℕ, Bool, List, [], ◌∷◌, Option, find}
 use Rattle.sudo_text.specs.declared.token.Ch.{Ch}
 use Rattle.sudo_match.specs.Pattern.{Item, item_holds, class_form, begins}
@@ -20,13 +21,13 @@ class_of Space = class.Space
 class_of Upper = class.Upper
 class_of Xdigit = class.Xdigit
 
--- whether an item holds a byte, and what comes with the item
+-- whether an item holds a byte, with the number of its further characters
 abbrev pub held_by : ℕ → Item × ℕ → Bool × ℕ
 held_by b r = (item_holds b r.0, r.1)
 
 abbrev pub known_classes : List Class
 known_classes = Alnum ∷ Alpha ∷ Blank ∷ Cntrl ∷ Digit ∷ Graph ∷ Lower ∷ Print ∷ Punct ∷ Space ∷ Upper ∷ Xdigit ∷ []
 
--- the first private class whose form begins the characters
+-- the first private class whose form the characters begin with
 abbrev pub opened : List Ch → Option Class
 opened cs = find (λ k. begins (class_form (class_of k)) cs) known_classes

@@ -1,5 +1,5 @@
--- What one step of matching finds: the part at a place of the pattern, and whether it fits the byte at a place
--- of the text; only the loop's proof needs it.
+-- One step of matching: the part at a position of the pattern, and whether it fits the byte at a position of the text;
+-- only the proof of the loop needs these definitions.
 use Rattle.std.specs.Prelude.{◌≡◌, ℕ, ◌+◌, ◌<◌, true, false, List, ◌∷◌, length, drop}
 use Rattle.sudo_text.specs.declared.token.Ch.{Ch}
 use Rattle.sudo_match.specs.declared.patterns.Slash.{Slash}
@@ -17,7 +17,7 @@ pub record Takes (s : Slash) (cs : List Ch) (t : List ℕ) (at place more : ℕ)
   pub at_within : at + more < length cs
   pub place_within : place < length t
 
--- the pattern goes on with a star
+-- the pattern continues with a star
 pub record IsStarred (cs : List Ch) (at : ℕ) : Type 0 where
   pub parts_are : parts (drop at cs) ≡ Star ∷ parts (drop (at + 1) cs)
   pub within : at < length cs

@@ -1,4 +1,4 @@
--- Words for bodies' proofs alone: what the parts of the parser say of the reading of alias lines.
+-- Definitions for proofs of bodies alone: the parser's functions for alias lines, compared with the reading of a line.
 use Rattle.std.specs.Prelude.{◌≡◌, ℕ, ◌<◌, nat_lt, not, Bool, false, List, [], length}
 use Rattle.sudo_text.specs.declared.token.Mark.TheVariants as marks
 use Rattle.sudo_text.specs.declared.token.Token.{Token}
@@ -10,11 +10,11 @@ use Rattle.sudo_grammar.specs.Refusals.{is_option, last_command}
 use Rattle.sudo_grammar.specs.Reading.{reading}
 use Rattle.sudo_parser.specs.Body.Stops.{Stops, IsNotNext}
 
--- whether a further definition would be one too many
+-- `full`: a further definition would be over the limit
 abbrev pub IsFull : Room → Kind → List Definition → Bool → Type 0
 IsFull room kind done full = nat_lt (length done) (room kind) ≡ not full
 
--- Where the name of a definition must stand, one is read up to other tokens, of which there are less.
+-- where the name of a definition is expected, the reading of one leads to the rest, which is shorter
 pub record ReadsName (full : Bool) (ts : List Token) (w : List ℕ) (rest : List Token) : Type 0 where
   pub less : length rest < length ts
   pub reads : (room : Room) (kind : Kind) (done : List Definition) → IsFull room kind done full
@@ -24,7 +24,8 @@ abbrev pub StopsInName : Bool → List Token → Stopped → Type 0
 StopsInName full ts e = (room : Room) (kind : Kind) (done : List Definition) → IsFull room kind done full
     → Stops e (reading room (AliasName kind done) ts)
 
--- Where a definition may stand, one is read up to other tokens, of which there are less, and no comma comes next.
+-- where a definition is expected, the reading of one leads to the rest, which is shorter and does not begin with a
+-- comma
 pub record ReadsDefinition (kind : Kind) (full : Bool) (ts : List Token) (d : Definition) (rest : List Token) : Type 0 where
   pub less : length rest < length ts
   pub no_more : IsNotNext marks.Comma rest
@@ -36,7 +37,7 @@ abbrev pub StopsInDefinition : Kind → Bool → List Token → Stopped → Type
 StopsInDefinition kind full ts e = (room : Room) (done : List Definition) → IsFull room kind done full
     → Stops e (reading room (AliasName kind done) ts)
 
--- Definitions of the kind and the colon after them are read up to other tokens.
+-- the reading of definitions of the kind, each with the colon after it, leads to the rest
 abbrev pub ReadsToDefinition : Kind → ℕ → List Token → List Definition → List Token → Type 0
 ReadsToDefinition kind limit ts ds rest = (room : Room) → room kind ≡ limit
     → reading room (AliasName kind []) ts ≡ reading room (AliasName kind ds) rest

@@ -1,4 +1,5 @@
--- Words for bodies' proofs alone: what the parts of the parser say of the reading of Defaults lines.
+-- Definitions for proofs of bodies alone: the parser's functions for Defaults lines, compared with the reading of a
+-- line.
 use Rattle.std.specs.Prelude.{◌≡◌, ◌<◌, ◌≤◌, true, false, List, [], ◌∷◌, ◌++◌, length, Option, None, Some, Ok}
 use Rattle.sudo_text.specs.declared.token.Mark.TheVariants as marks
 use Rattle.sudo_text.specs.declared.token.Token.{Token}
@@ -16,7 +17,7 @@ use Rattle.sudo_grammar.specs.Places.{DefaultsStart, AtParameter, AfterSwitch, A
 use Rattle.sudo_grammar.specs.Reading.{reading}
 use Rattle.sudo_parser.specs.Body.Stops.{Stops, IsMark}
 
--- What the line is bound to is read, if it is bound, up to other tokens.
+-- the reading of the line's binding, if any, leads to the rest
 pub record ReadsBinding (ts : List Token) (b : Option Binding) (rest : List Token) : Type 0 where
   pub no_longer : length rest ≤ length ts
   pub reads : (room : Room) → reading room DefaultsStart ts ≡ reading room (AtParameter b [] 0) rest
@@ -24,7 +25,7 @@ pub record ReadsBinding (ts : List Token) (b : Option Binding) (rest : List Toke
 abbrev pub StopsInBinding : List Token → Stopped → Type 0
 StopsInBinding ts e = (room : Room) → Stops e (reading room DefaultsStart ts)
 
--- a word comes next, and the rest after it
+-- the next token is this word, and these are the tokens after it
 abbrev pub IsWordNext : List Token → Token → List Token → Type 0
 IsWordNext ts w rest = (ts ≡ w ∷ rest) × (is_word w.kind ≡ true)
 
@@ -32,13 +33,13 @@ abbrev pub IsNoWordNext : List Token → Type 0
 IsNoWordNext [] = Unit {0}
 IsNoWordNext (t ∷ ts) = is_word t.kind ≡ false
 
--- no word comes next, and something else is wanted there, unless memory was refused
+-- the next token is no word, and the refusal says which token is expected, or allocation failed
 abbrev pub IsWordMissing : Expected → List Token → Stopped → Type 0
 IsWordMissing wanted ts stops.Memory = Unit {0}
 IsWordMissing wanted ts (stops.At refusal left) =
     (refusal ≡ refusals.Syntax wanted) × ((left ≡ length ts) × IsNoWordNext ts)
 
--- an operator comes next, and the rest after it
+-- the next token is this operator, and these are the tokens after it
 abbrev pub IsOperatorNext : List Token → Operator → List Token → Type 0
 IsOperatorNext [] o rest = ⊥
 IsOperatorNext (t ∷ ts) o rest = (operator_of t.kind ≡ Some o) × (ts ≡ rest)
@@ -47,18 +48,18 @@ abbrev pub IsNoOperatorNext : List Token → Type 0
 IsNoOperatorNext [] = Unit {0}
 IsNoOperatorNext (t ∷ ts) = operator_of t.kind ≡ None
 
--- the place after a parameter
+-- the state after a parameter
 abbrev pub parameter_place : Option Binding → List Parameter → Parameter → Place
 parameter_place b done (parameters.Switch n name) = AfterSwitch b done n name
 parameter_place b done (parameters.Assign name o v) = AfterValue b (done ++ parameters.Assign name o v ∷ [])
 
--- after a parameter nothing but a comma leads on
+-- after a parameter only a comma continues the line
 abbrev pub IsPast : Parameter → List Token → Type 0
 IsPast x [] = Unit {0}
 IsPast x (t ∷ ts) = (room : Room) (b : Option Binding) (done : List Parameter) → (IsMark marks.Comma t → ⊥)
     → step room (parameter_place b done x) t ≡ None
 
--- A parameter is read up to other tokens, of which there are less.
+-- the reading of a parameter leads to the rest, which is shorter
 pub record ReadsParameter (ts : List Token) (x : Parameter) (rest : List Token) : Type 0 where
   pub less : length rest < length ts
   pub past : IsPast x rest
@@ -69,12 +70,12 @@ abbrev pub StopsInParameter : List Token → Stopped → Type 0
 StopsInParameter ts e = (room : Room) (b : Option Binding) (done : List Parameter)
     → Stops e (reading room (AtParameter b done 0) ts)
 
--- Parameters and the comma after them are read up to other tokens.
+-- the reading of parameters, each with the comma after it, leads to the rest
 abbrev pub ReadsToParameter : List Token → List Parameter → List Token → Type 0
 ReadsToParameter ts xs rest = (room : Room) (b : Option Binding)
     → reading room (AtParameter b [] 0) ts ≡ reading room (AtParameter b xs 0) rest
 
--- Parameters are read, and the line ends there.
+-- the parameters are read up to the end of the line
 abbrev pub ReadsParameters : List Token → List Parameter → Type 0
 ReadsParameters ts xs = (room : Room) (b : Option Binding) → reading room (AtParameter b [] 0) ts ≡ Ok (entries.Defaults b xs)
 

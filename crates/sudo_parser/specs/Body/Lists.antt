@@ -1,4 +1,4 @@
--- Words for bodies' proofs alone: what the parts of the parser say of the reading of lists.
+-- Definitions for proofs of bodies alone: the parser's functions for lists, compared with the reading of a line.
 use Rattle.std.specs.Prelude.{◌≡◌, ℕ, suc, ◌&&◌, ◌<◌, ◌≤◌, Bool, true, false, List, [], ◌∷◌, length, Option, None, Some, Ok, Err}
 use Rattle.sudo_text.specs.declared.token.Mark.TheVariants as marks
 use Rattle.sudo_text.specs.declared.token.Token.{Token}
@@ -20,28 +20,28 @@ use Rattle.sudo_grammar.specs.Refusals.{is_option, is_next, with_next, last_comm
 use Rattle.sudo_grammar.specs.Reading.{reading}
 use Rattle.sudo_parser.specs.Body.Stops.{Stops, IsMark, IsNotNext}
 
--- Exclamation marks are counted at these places.
+-- these states count exclamation marks
 abbrev pub Counts : Room → (ℕ → Place) → Type 0
 Counts room place = (n : ℕ) (t : Token) → IsMark marks.Bang t → step room (place n) t ≡ Some (place (suc n))
 
--- Wherever exclamation marks are counted, so many are read up to other tokens.
+-- wherever exclamation marks are counted, reading `count` of them leads to the rest
 pub record ReadsBangs (ts : List Token) (count : ℕ) (rest : List Token) : Type 0 where
   pub no_longer : length rest ≤ length ts
   pub none : count ≡ 0 → ts ≡ rest
   pub reads : (room : Room) (place : ℕ → Place) → Counts room place
       → reading room (place 0) ts ≡ reading room (place count) rest
 
--- a member that is a command
+-- the member, if it is a command
 abbrev pub command_in : Kind → Member → Option Member
 command_in kinds.Cmnd m = Some m
 command_in _ m = None
 
--- no parenthesis comes next that would lead on from the place
+-- the next token is no parenthesis that would continue the line in this state
 abbrev pub IsShut : Room → Place → List Token → Type 0
 IsShut room place [] = Unit {0}
 IsShut room place (t ∷ ts) = IsMark marks.LeftParen t → step room place t ≡ None
 
--- Members of the kind are taken at these places, by the number of exclamation marks before them, and lead to those.
+-- the states `before`, by the number of exclamation marks, accept members of the kind, and lead to the states `after`
 pub record Takes (kind : Kind) (room : Room) (before : ℕ → Place) (after : Member → Place) : Type 0 where
   pub counts : Counts room before
   pub takes : (m : Member) → atom_of kind m.token.kind ≡ Ok m.atom → step room (before m.bangs) m.token ≡ Some (after m)
@@ -54,29 +54,29 @@ pub record Takes (kind : Kind) (room : Room) (before : ℕ → Place) (after : M
   pub option : (m : Member) (ts : List Token) → is_option (command_in kind m) ts ≡ true
       → reading room (after m) ts ≡ Err (record { rest = ts; refusal = refusals.Unsupported forms.CommandOption })
 
--- what the refusal of a token says of a line, with so many tokens from it on
+-- the stop of the parser for a refusal of a token, with `left` tokens from it on
 abbrev pub declined_as : Kind → Token → List Token → Declined → ℕ → Stopped
 declined_as kind t ts (declines.Refused r) left = stops.At (with_next kind t ts r) left
 declined_as kind t ts declines.Memory left = stops.Memory
 
--- an option of a command: its name, and an equals sign after it
+-- an option of a command: its name, with an equals sign after it
 abbrev pub option_begins : Kind → Token → List Token → Bool
 option_begins kinds.Cmnd t ts = spells is_option_name (plain_word t.kind) && is_next marks.Equals ts
 option_begins _ t ts = false
 
--- the first token is a member of the kind, after so many exclamation marks, and the name of no option
+-- the first token is a member of the kind, after `bangs` exclamation marks, and not the name of an option
 pub record IsTaken (kind : Kind) (bangs : ℕ) (ts : List Token) (m : Member) (rest : List Token) : Type 0 where
   pub whole : ts ≡ m.token ∷ rest
   pub count : m.bangs ≡ bangs
   pub atom : atom_of kind m.token.kind ≡ Ok m.atom
   pub no_option : is_option (command_in kind m) rest ≡ false
 
--- After so many exclamation marks the reading stops at a member of the kind, or after it.
+-- after `bangs` exclamation marks the reading stops at a member of the kind, or after it
 abbrev pub StopsAtMember : Kind → ℕ → List Token → Stopped → Type 0
 StopsAtMember kind bangs ts e = (room : Room) (before : ℕ → Place) (after : Member → Place) → Takes kind room before after
     → IsShut room (before bangs) ts → Stops e (reading room (before bangs) ts)
 
--- Wherever members of the kind are taken, one is read up to other tokens, of which there are less.
+-- wherever members of the kind are accepted, the reading of one leads to the rest, which is shorter
 pub record ReadsItem (kind : Kind) (ts : List Token) (m : Member) (rest : List Token) : Type 0 where
   pub less : length rest < length ts
   pub bare : m.bangs ≡ 0 → ts ≡ m.token ∷ rest
@@ -84,17 +84,17 @@ pub record ReadsItem (kind : Kind) (ts : List Token) (m : Member) (rest : List T
   pub reads : (room : Room) (before : ℕ → Place) (after : Member → Place) → Takes kind room before after
       → reading room (before 0) ts ≡ reading room (after m) rest
 
--- Wherever members of the kind are taken, and no parenthesis comes next, the reading stops in one.
+-- wherever members of the kind are accepted, and no parenthesis is next, the reading stops in one
 abbrev pub StopsInItem : Kind → List Token → Stopped → Type 0
 StopsInItem kind ts e = (room : Room) (before : ℕ → Place) (after : Member → Place) → Takes kind room before after
     → IsShut room (before 0) ts → Stops e (reading room (before 0) ts)
 
--- In any list of the kind, items and the comma after them are read up to other tokens.
+-- in any list of the kind, the reading of items, each with the comma after it, leads to the rest
 abbrev pub ReadsToItem : Kind → List Token → List Member → List Token → Type 0
 ReadsToItem kind ts ms rest = (room : Room) (p : Purpose) → kind_for p ≡ kind
     → reading room (Item p 0 []) ts ≡ reading room (Item p 0 ms) rest
 
--- In any list of the kind, items are read up to other tokens, of which there are less, and no comma comes next.
+-- in any list of the kind, the reading of items leads to the rest, which is shorter and does not begin with a comma
 pub record ReadsItems (kind : Kind) (ts : List Token) (ms : List Member) (rest : List Token) : Type 0 where
   pub less : length rest < length ts
   pub no_more : IsNotNext marks.Comma rest
@@ -102,6 +102,6 @@ pub record ReadsItems (kind : Kind) (ts : List Token) (ms : List Member) (rest :
   pub reads : (room : Room) (p : Purpose) → kind_for p ≡ kind
       → reading room (Item p 0 []) ts ≡ reading room (AfterItem p ms) rest
 
--- In any list of the kind, the reading stops in it.
+-- in any list of the kind, the reading stops within it
 abbrev pub StopsInItems : Kind → List Token → Stopped → Type 0
 StopsInItems kind ts e = (room : Room) (p : Purpose) → kind_for p ≡ kind → Stops e (reading room (Item p 0 []) ts)

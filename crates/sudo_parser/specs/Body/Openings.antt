@@ -1,4 +1,4 @@
--- Words for bodies' proofs alone: how the code names what a line begins with.
+-- Definitions for proofs of bodies alone: the code's type for the kind of line that a token opens.
 use Rattle.sudo_text.specs.declared.token.TokenKind.{TokenKind}
 use Rattle.sudo_text.specs.declared.token.TokenKind.TheVariants as tokens
 use Rattle.sudo_grammar.specs.Openings as grammar

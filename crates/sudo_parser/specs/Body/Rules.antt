@@ -1,4 +1,4 @@
--- Words for bodies' proofs alone: what the parts of the parser say of the reading of rules.
+-- Definitions for proofs of bodies alone: the parser's functions for rules, compared with the reading of a line.
 use Rattle.std.specs.Prelude.{◌≡◌, ◌<◌, ◌≤◌, false, List, [], ◌∷◌, ◌++◌, length, Option, None, Some, Ok, ◌⊎◌}
 use Rattle.sudo_text.specs.declared.token.Mark.TheVariants as marks
 use Rattle.sudo_text.specs.declared.token.Token.{Token}
@@ -53,12 +53,12 @@ StopsInSpec ts e = (room : Room) (g : Granting) → Stops e (reading room (Comma
 abbrev pub granted : List Member → List Section → List Member → List CommandSpec → Granting
 granted users sections hosts commands = record { users = users; sections = sections; hosts = hosts; commands = commands }
 
--- Commands of a section and the comma after them are read up to other tokens.
+-- the reading of commands of a section, each with the comma after it, leads to the rest
 abbrev pub ReadsToSpec : List Token → List CommandSpec → List Token → Type 0
 ReadsToSpec ts cs rest = (room : Room) (us : List Member) (done : List Section) (hs : List Member)
     → reading room (Command (granted us done hs []) None [] 0) ts ≡ reading room (Command (granted us done hs cs) None [] 0) rest
 
--- The commands of a section are read up to other tokens, of which there are less, and no comma comes next.
+-- the reading of the commands of a section leads to the rest, which is shorter and does not begin with a comma
 pub record ReadsSpecs (ts : List Token) (cs : List CommandSpec) (rest : List Token) : Type 0 where
   pub before : List CommandSpec
   pub last : CommandSpec
@@ -75,7 +75,7 @@ abbrev pub StopsInSpecs : List Token → Stopped → Type 0
 StopsInSpecs ts e = (room : Room) (us : List Member) (done : List Section) (hs : List Member)
     → Stops e (reading room (Command (granted us done hs []) None [] 0) ts)
 
--- A section of a rule is read up to other tokens, of which there are less, and no comma comes next.
+-- the reading of a section of a rule leads to the rest, which is shorter and does not begin with a comma
 pub record ReadsSection (ts : List Token) (s : Section) (rest : List Token) : Type 0 where
   pub before : List CommandSpec
   pub last : CommandSpec
@@ -91,12 +91,12 @@ abbrev pub StopsInSection : List Token → Stopped → Type 0
 StopsInSection ts e = (room : Room) (us : List Member) (done : List Section)
     → Stops e (reading room (Item (Hosts us done) 0 []) ts)
 
--- Sections of a rule and the colon after them are read up to other tokens.
+-- the reading of sections of a rule, each with the colon after it, leads to the rest
 abbrev pub ReadsToSection : List Token → List Section → List Token → Type 0
 ReadsToSection ts ss rest = (room : Room) (us : List Member)
     → reading room (Item (Hosts us []) 0 []) ts ≡ reading room (Item (Hosts us ss) 0 []) rest
 
--- The sections of a rule are read, and the line ends there.
+-- the sections of a rule are read up to the end of the line
 abbrev pub ReadsSections : List Token → List Section → Type 0
 ReadsSections ts ss = (room : Room) (us : List Member) → reading room (Item (Hosts us []) 0 []) ts ≡ Ok (entries.Rule us ss)
 

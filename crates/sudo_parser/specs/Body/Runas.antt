@@ -1,4 +1,4 @@
--- Words for bodies' proofs alone: what the parts of the parser say of the reading of what stands between parentheses.
+-- Definitions for proofs of bodies alone: the parser's functions for parentheses, compared with the reading of a line.
 use Rattle.std.specs.Prelude.{◌≡◌, ◌≤◌, List, [], length, Option, None, Some}
 use Rattle.sudo_text.specs.declared.token.Mark.TheVariants as marks
 use Rattle.sudo_text.specs.declared.token.Token.{Token}
@@ -12,17 +12,17 @@ use Rattle.sudo_grammar.specs.Places.{Granting, RunasUsers, RunasGroups, Place, 
 use Rattle.sudo_grammar.specs.Reading.{reading}
 use Rattle.sudo_parser.specs.Body.Stops.{Stops, IsNext, IsNotNext}
 
--- after the users between parentheses, if there are any
+-- the state after the users between parentheses, if any
 abbrev pub users_place : Granting → Option (List Member) → Place
 users_place g None = RunasStart g
 users_place g (Some ms) = AfterItem (RunasUsers g) ms
 
--- Without users a colon or the closing parenthesis comes next, and after users no comma.
+-- without users a colon or the closing parenthesis is next, and after users no comma is
 abbrev pub EndsUsers : Option (List Member) → List Token → Type 0
 EndsUsers None rest = IsNotNext marks.Colon rest → IsNotNext marks.RightParen rest → ⊥
 EndsUsers (Some ms) rest = IsNotNext marks.Comma rest
 
--- After the opening parenthesis the users are read up to other tokens.
+-- after the opening parenthesis the reading of the users leads to the rest
 pub record ReadsUsers (ts : List Token) (us : Option (List Member)) (rest : List Token) : Type 0 where
   pub no_longer : length rest ≤ length ts
   pub ends : EndsUsers us rest
@@ -31,17 +31,17 @@ pub record ReadsUsers (ts : List Token) (us : Option (List Member)) (rest : List
 abbrev pub StopsInUsers : List Token → Stopped → Type 0
 StopsInUsers ts e = (room : Room) (g : Granting) → Stops e (reading room (RunasStart g) ts)
 
--- after the groups between parentheses, if there are any
+-- the state after the groups between parentheses, if any
 abbrev pub groups_place : Granting → Option (List Member) → Option (List Member) → Place
 groups_place g us None = GroupsStart g us
 groups_place g us (Some ms) = AfterItem (RunasGroups g us) ms
 
--- Without groups the closing parenthesis comes next, and after groups no comma.
+-- without groups the closing parenthesis is next, and after groups no comma is
 abbrev pub EndsGroups : Option (List Member) → List Token → Type 0
 EndsGroups None rest = IsNotNext marks.RightParen rest → ⊥
 EndsGroups (Some ms) rest = IsNotNext marks.Comma rest
 
--- After the colon the groups are read up to other tokens.
+-- after the colon the reading of the groups leads to the rest
 pub record ReadsGroups (ts : List Token) (gs : Option (List Member)) (rest : List Token) : Type 0 where
   pub no_longer : length rest ≤ length ts
   pub ends : EndsGroups gs rest
@@ -51,7 +51,7 @@ pub record ReadsGroups (ts : List Token) (gs : Option (List Member)) (rest : Lis
 abbrev pub StopsInGroups : List Token → Stopped → Type 0
 StopsInGroups ts e = (room : Room) (g : Granting) (us : Option (List Member)) → Stops e (reading room (GroupsStart g us) ts)
 
--- Before the closing parenthesis the lists were read: it leads on, and nothing else does.
+-- the lists were read before the closing parenthesis, which alone continues the line
 pub record ReadsLists (ts : List Token) (r : Runas) (rest : List Token) : Type 0 where
   pub no_longer : length rest ≤ length ts
   pub closes : (after : List Token) → IsNext marks.RightParen rest after → (room : Room) (g : Granting)
@@ -59,7 +59,7 @@ pub record ReadsLists (ts : List Token) (r : Runas) (rest : List Token) : Type 0
   pub unclosed : IsNotNext marks.RightParen rest → (room : Room) (g : Granting)
       → Stops (stops.At (refusals.Syntax wants.RightParen) (length rest)) (reading room (RunasStart g) ts)
 
--- Where a command may begin, parentheses are read, if there are any, and up to other tokens.
+-- where a command may begin, the reading of parentheses, if any, leads to the rest
 pub record ReadsRunas (ts : List Token) (r : Option Runas) (rest : List Token) : Type 0 where
   pub no_longer : length rest ≤ length ts
   pub closed : r ≡ None → IsNotNext marks.LeftParen rest

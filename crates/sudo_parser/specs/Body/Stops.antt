@@ -1,4 +1,4 @@
--- Words for bodies' proofs alone: what a function of the parser says of the reading of a line where it stops.
+-- Definitions for proofs of bodies alone: the parser's stops, compared with the reading of a line.
 use Rattle.std.specs.Prelude.{◌≡◌, List, [], ◌∷◌, length, Result, Ok, Err}
 use Rattle.sudo_text.specs.declared.token.Mark.{Mark}
 use Rattle.sudo_text.specs.declared.token.Token.{Token}
@@ -8,13 +8,13 @@ use Rattle.sudo_parser.specs.declared.stops.Stopped.{Stopped}
 use Rattle.sudo_parser.specs.declared.stops.Stopped.TheVariants as stops
 use Rattle.sudo_grammar.specs.Reading.{Stop}
 
--- It is the stop that was given, unless memory was refused.
+-- the reading stops with this refusal and as many tokens left, or allocation failed
 abbrev pub Stops : Stopped → Result EntryBody Stop → Type 0
 Stops (stops.At refusal left) given =
     (stop : Stop) × ((given ≡ Err stop) × ((stop.refusal ≡ refusal) × (length stop.rest ≡ left)))
 Stops stops.Memory given = Unit {0}
 
--- It is the entry or the stop that was given, unless memory was refused.
+-- the reading yields this entry or this stop, or allocation failed
 abbrev pub GivesEntry : Result EntryBody Stopped → Result EntryBody Stop → Type 0
 GivesEntry (Ok e) given = given ≡ Ok e
 GivesEntry (Err e) given = Stops e given
@@ -23,12 +23,12 @@ GivesEntry (Err e) given = Stops e given
 abbrev pub IsMark : Mark → Token → Type 0
 IsMark m t = t.kind ≡ tokens.Mark m
 
--- the mark does not come next
+-- the next token is not this mark
 abbrev pub IsNotNext : Mark → List Token → Type 0
 IsNotNext m [] = Unit {0}
 IsNotNext m (t ∷ ts) = IsMark m t → ⊥
 
--- The mark comes next, and the rest after it.
+-- the next token is this mark, and these are the tokens after it
 abbrev pub IsNext : Mark → List Token → List Token → Type 0
 IsNext m [] rest = ⊥
 IsNext m (t ∷ ts) rest = IsMark m t × (ts ≡ rest)

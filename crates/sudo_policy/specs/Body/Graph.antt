@@ -1,4 +1,5 @@
--- Aliases as a graph, words that only proofs need: each alias by its number, with a link for each member of its definition: the number of the alias that the member names, or none.
+-- Aliases as a graph, definitions that only proofs need: each alias by its number, with a link for each member of its
+-- definition: the number of the alias that the member names, or none.
 use Rattle.std.specs.Prelude.{◌≡◌, ℕ, zero, suc, ◌+◌, ◌<◌, min, max, Bool, true, false, List, [], ◌∷◌, Option, Some, None, option_map, option_and_then, slice_get, Contains, length, IsTrue, ◌⊎◌, ◌↔◌}
 use Rattle.sudo_policy.specs.declared.graph.Measure.{Measure}
 use Rattle.sudo_policy.specs.declared.graph.State.{State}
@@ -31,7 +32,7 @@ pub record IsReached (g : Links) (roots : List (Option ℕ)) (i : ℕ) : Type 0 
   pub among : Contains roots (Some root)
   pub way : (root ≡ i) ⊎ Path g root i
 
--- one mark for each of n aliases, true exactly where T holds
+-- one mark for each of n aliases, true exactly if T holds of it
 pub record MarksOf (n : ℕ) (T : ℕ → Type 0) (marks : List Bool) : Type 0 where
   pub same_length : length marks ≡ n
   pub exact : (i : ℕ) (mark : Bool) → slice_get marks i ≡ Some mark → IsTrue mark ↔ T i
@@ -57,11 +58,11 @@ beside a b = record { depth = max a.depth b.depth; width = min (a.width + b.widt
 abbrev pub deeper : Measure → Measure
 deeper a = record { depth = min (a.depth + 1) 65; width = a.width }
 
--- the same of members: depth and width of a list, up to just beyond the limits
+-- the measure of a list: its depth and width, up to just beyond the limits
 abbrev pub measured : Reading Measure
 measured = record { nothing = no_member; join = beside; alone = λ _. Some one_member; through = λ _ a. deeper a }
 
--- the measure of one link, where `inner` gives that of an alias's definition
+-- the measure of one link, where `inner` is that of an alias's definition
 abbrev pub link_measure : (ℕ → Option Measure) → Option ℕ → Option Measure
 link_measure inner None = Some one_member
 link_measure inner (Some j) = option_map deeper (inner j)
@@ -70,7 +71,7 @@ abbrev pub row_measure : (ℕ → Option Measure) → List (Option ℕ) → Opti
 row_measure inner [] = Some no_member
 row_measure inner (l ∷ ls) = joined beside (link_measure inner l) (row_measure inner ls)
 
--- the measure of an alias's definition, where no chain of more than `steps` aliases begins at a link of it
+-- the measure of an alias's definition, if no chain of more than `steps` aliases begins at a link of it
 unfoldable pub measure_within : Links → ℕ → ℕ → Option Measure
 measure_within g zero i = option_and_then (row_measure (λ _. None)) (slice_get g i)
 measure_within g (suc steps) i = option_and_then (row_measure (measure_within g steps)) (slice_get g i)
@@ -80,7 +81,7 @@ pub record Measures (g : Links) (i : ℕ) (a : Measure) : Type 0 where
   pub steps : ℕ
   pub reads : measure_within g steps i ≡ Some a
 
--- what is known of an alias by the state that it is in
+-- the meaning of the state of an alias
 abbrev pub StateHolds : Links → ℕ → State → Type 0
 StateHolds g i New = Unit {0}
 StateHolds g i Open = Unit {0}
@@ -90,7 +91,7 @@ StateHolds g i Looped = ReachesCycle g i
 abbrev pub StatesHold : Links → List State → Type 0
 StatesHold g states = (i : ℕ) (s : State) → slice_get states i ≡ Some s → StateHolds g i s
 
--- the aliases that are open lead to i
+-- the open aliases lead to i
 abbrev pub OpenLead : Links → List State → ℕ → Type 0
 OpenLead g states i = (j : ℕ) → slice_get states j ≡ Some Open → Path g j i
 
@@ -116,7 +117,7 @@ measure_of_state Looped = None
 abbrev pub done_measure : List State → ℕ → Option Measure
 done_measure states i = option_and_then measure_of_state (slice_get states i)
 
--- a state that is new may change, but not to open; any other stays
+-- the state of a new alias may change, but not to open; any other state stays
 abbrev pub MayTurn : State → State → Type 0
 MayTurn New t = (t ≡ Open) → ⊥
 MayTurn Open t = t ≡ Open
@@ -133,7 +134,7 @@ IsSettled Open = ⊥
 IsSettled (Done a) = Unit {0}
 IsSettled Looped = Unit {0}
 
--- the aliases that are open lead to i, or are i
+-- the open aliases lead to i, or are i
 abbrev pub OpenNear : Links → List State → ℕ → Type 0
 OpenNear g states i = (j : ℕ) → slice_get states j ≡ Some Open → (j ≡ i) ⊎ Path g j i
 

@@ -1,4 +1,4 @@
--- What there is to say of each alias in force: words that only proofs need.
+-- The judgement of each alias in force: definitions that only proofs need.
 use Rattle.std.specs.Prelude.{◌≡◌, ℕ, Bool, true, false, nat_lt, List, [], ◌∷◌, ◌++◌, Option, Some, None, is_none, map, flat_map, slice_get, if◌then◌else◌}
 use Rattle.std.specs.List.{items_where_true}
 use Rattle.sudo_base.specs.Places.{place_of}
@@ -29,7 +29,7 @@ is_wide Open = false
 is_wide (Done a) = nat_lt 65536 a.width
 is_wide Looped = false
 
--- a use of a name without a definition
+-- a finding for the use of a name without a definition
 abbrev pub use_missing : Index → Kind → Place → List ℕ → List Finding
 use_missing index kind place name = if is_none (place_of (names_of index kind) name) then record { class = Undefined; place = place; kind = kind; name = name } ∷ [] else []
 
@@ -37,7 +37,7 @@ abbrev pub atom_missing : Index → Kind → Place → Option (List ℕ) → Lis
 atom_missing index kind place None = []
 atom_missing index kind place (Some name) = use_missing index kind place name
 
--- the uses in a list of names without a definition, member by member
+-- the findings for the uses in a list of names without a definition, member by member
 abbrev pub missing_in : Index → Listed → List Finding
 missing_in index l = flat_map (λ (m : Member). atom_missing index l.kind l.place (alias_named m.atom)) l.members
 
@@ -50,7 +50,7 @@ found_in index aliases redefinitions lists judged =
     ++ (map (finding_on TooWide) (items_where_true judged.wide.items aliases)
     ++ map (finding_on Unused) (items_where_true judged.unused.items aliases)))))
 
--- where no alias is on a cycle, each definition in force has a depth
+-- if no alias is on a cycle, each definition in force has a depth
 abbrev pub HaveDepths : Policy → List Bool → Type 0
 HaveDepths p cyclic = ((i : ℕ) → slice_get cyclic i ≡ Some true → ⊥) → (i : ℕ) (d : Defined) → slice_get (aliases p) i ≡ Some d → (n : ℕ) × ReadsAs depth d.kind p d.members n
 

@@ -1,4 +1,4 @@
--- Definitions, lists and links as the survey of a policy holds them: words that only proofs need.
+-- Definitions, lists and links in the survey of a policy: definitions that only proofs need.
 use Rattle.std.specs.Prelude.{◌≡◌, ◌<◌, ℕ, List, [], Option, Some, map, find, option_map, option_and_then, slice_get, length, if◌then◌else◌}
 use Rattle.sudo_grammar.specs.declared.kind.Kind.{Kind}
 use Rattle.sudo_policy.specs.declared.index.Index.{Index}
@@ -20,7 +20,7 @@ named_view n = record { kind = n.kind; place = n.place; name = n.name.now; membe
 abbrev pub listed_view : HeldList → Listed
 listed_view l = record { kind = l.kind; place = l.place; granting = l.granting; members = l.members.now }
 
--- the number of the alias that a member names, where these are the names of its kind
+-- the number of the alias that a member names, among the names of its kind
 abbrev pub link_among : List (List ℕ × ℕ) → Member → Option ℕ
 link_among names m = option_and_then (λ name. place_of names name) (alias_named m.atom)
 
@@ -33,11 +33,11 @@ row_of index kind ms = map (link_of index kind) ms
 abbrev pub row_of_alias : Index → Defined → List (Option ℕ)
 row_of_alias index d = row_of index d.kind d.members
 
--- the aliases that a list names, if it is one of a rule or of a bound `Defaults` line
+-- the aliases that a list names, if it belongs to a rule or to a bound `Defaults` line
 abbrev pub granting_row : Index → Listed → List (Option ℕ)
 granting_row index l = if l.granting then row_of index l.kind l.members else []
 
--- where the definition stands
+-- the definition is at its position
 abbrev pub IsPlaced : Policy → Named → Type 0
 IsPlaced p n = members_at p n.position ≡ Some n.members.now
 
@@ -45,7 +45,7 @@ IsPlaced p n = members_at p n.position ≡ Some n.members.now
 abbrev pub StandAt : Policy → ℕ → List Definition → Type 0
 StandAt p entry ds = (j : ℕ) → members_at p (record { entry = entry; definition = j }) ≡ option_map (λ (d : Definition). d.members) (slice_get ds j)
 
--- what is known of the names of each kind, the aliases and their positions
+-- the invariant of the names of each kind, the aliases and their positions
 pub record IsIndexed (p : Policy) (done aliases : List Defined) (names : Kind → List (List ℕ × ℕ)) (positions : List Position) : Type 0 where
   pub lookup : (kind : Kind) (name : List ℕ) → option_and_then (slice_get aliases) (place_of (names kind) name) ≡ find (defines kind name) done
   pub inside : (kind : Kind) (name : List ℕ) (i : ℕ) → place_of (names kind) name ≡ Some i → i < length aliases

@@ -1,4 +1,4 @@
--- What a request whose names were looked up says. Only a body's proof needs it.
+-- The question of a request whose names have been looked up; only proofs of bodies need it.
 use Rattle.std.specs.Prelude.{option_copied}
 use Rattle.sudo_verdict.specs.declared.query.Query.{Query}
 use Rattle.sudo_verdict.specs.Questions.{Question}

@@ -1,4 +1,4 @@
--- Lines whose lists can be followed to their end. Only a body's proof needs it.
+-- Lines whose lists resolve; only proofs of bodies need it.
 use Rattle.std.specs.Prelude.{Bool, true}
 use Rattle.sudo_grammar.specs.declared.policy.EntryBody.{EntryBody}
 use Rattle.sudo_grammar.specs.declared.policy.EntryBody.TheVariants.{Rule}
