@@ -29,7 +29,7 @@ def options():
 
 
 class Case:
-    """What the rows and rules are drawn from."""
+    """The names from which the rows and rules are drawn."""
 
     def __init__(self, given):
         self.given = given

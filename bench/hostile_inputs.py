@@ -30,7 +30,7 @@ HEADER = "number,user,host,runas_user,runas_group,command,arguments\n"
 
 
 class Input(NamedTuple):
-    """What was written: its size in words, and the words of the program that read it."""
+    """An input as written: its size in words, and the words of the program that read it."""
 
     size: str
     words: list[str]

@@ -1,4 +1,4 @@
-"""What the commands under tools/ share.
+"""Modules that the commands under tools/ share.
 
-These modules prepare what the proved program reads and show what it answers. They judge nothing.
+These modules prepare the inputs of the proved program and show its answers. They judge nothing.
 """

@@ -1,4 +1,4 @@
-"""Answers: each row of a report beside its request, and what a key says of it."""
+"""Answers: each row of a report beside its request, and the fields of its key."""
 
 import heapq
 from collections.abc import Iterator, Sequence
@@ -17,7 +17,7 @@ _Numbered = tuple[int, Sequence[str]]
 
 
 class Verdict(NamedTuple):
-    """What a report says of a request."""
+    """The verdict of a report on a request."""
 
     verdict: str
     place: str
@@ -25,7 +25,7 @@ class Verdict(NamedTuple):
 
 
 class Answer(NamedTuple):
-    """A request with its answer, and the fields of its key after the number, none where there is no key."""
+    """A request with its answer, and the fields of its key after the number, none without a key."""
 
     sender: str
     number: int
@@ -64,7 +64,7 @@ def verdicts(report: str) -> Iterator[tuple[int, str, int, Verdict]]:
 
 
 def answers(report: str, sources: Sequence[Source], key_header: Sequence[str] | None = None) -> Iterator[Answer]:
-    """Yields the answers of a report in its order. Raises `Fault` where it is not of these requests."""
+    """Yields the answers of a report in its order. Raises `Fault` if it is not of these requests."""
     files = by_sender(sources)
     senders: dict[str, tuple[Iterator[_Numbered], Iterator[_Numbered] | None]] = {}
     for line, sender, number, verdict in verdicts(report):
@@ -89,7 +89,7 @@ def _taken(numbered: Iterator[_Numbered], number: int, place: str, what: str) ->
 
 
 def _want_ends(report: str, files: dict[str, list[Source]], senders: dict[str, tuple]) -> None:
-    """Raises `Fault` where requests have no row in the report."""
+    """Raises `Fault` if requests have no row in the report."""
     for sender, sources in files.items():
         left = (
             senders[sender][0]

@@ -1,4 +1,4 @@
-"""What changes between two audits of the same requests."""
+"""The changes between two audits of the same requests."""
 
 import contextlib
 import tempfile
@@ -45,7 +45,7 @@ def _freedoms(tags: str) -> frozenset[str]:
 
 
 def kind_of(old: Verdict, new: Verdict) -> str | None:
-    """Returns which change there is, or `None` where verdict and tags are the same."""
+    """Returns which change there is, or `None` if verdict and tags are the same."""
     if (old.verdict, old.tags) == (new.verdict, new.tags):
         return None
     if old.verdict != ALLOW and new.verdict != ALLOW:

@@ -34,7 +34,7 @@ class Group(NamedTuple):
 
     @property
     def fits_a_list(self) -> bool:
-        """Tells whether a list of groups can hold the group."""
+        """Returns whether a list of groups can hold the group."""
         return " " not in self.name and ":" not in self.name
 
 
@@ -54,7 +54,7 @@ class Machine(NamedTuple):
 
 
 class Host(NamedTuple):
-    """What was copied of a host."""
+    """The copied files of a host."""
 
     folder: str
     people: list[Person]
@@ -234,7 +234,7 @@ def _copied_addresses(folder: str) -> tuple[str, ...]:
 
 
 def merged(hosts: Iterable[Host]) -> list[Person]:
-    """Returns the users of all hosts. Raises `Fault` where hosts say different things of a user or a group."""
+    """Returns the users of all hosts. Raises `Fault` if hosts say different things of a user or a group."""
     found: dict[str, tuple[Person, str]] = {}
     names: dict[str, tuple[int, str]] = {}
     gids: dict[int, tuple[str, str]] = {}

@@ -29,7 +29,7 @@ from kulavemia.fleet_handed import Handed, judge
 from kulavemia.fleet_plan import travelling
 from kulavemia.fleet_work import FAILED, UNFIT, Answer, Job
 
-# Seconds to reach a scheduler, and to let it go where it is gone; seconds to wait for a worker where there is none.
+# Seconds to reach a scheduler, and to release it if it is gone; seconds to wait for a worker if there is none.
 CONNECTION = 5.0
 PATIENCE = 60.0
 TICK = 1.0
@@ -75,7 +75,7 @@ def _uninterrupted() -> Iterator[None]:
 
 @contextlib.contextmanager
 def at(address: str) -> Iterator[Client]:
-    """Yields a client of a scheduler that is there. Raises `Fault` where it does not answer, or has no worker."""
+    """Yields a client of a scheduler that is there. Raises `Fault` if it does not answer, or has no worker."""
     try:
         client = Client(address, timeout=CONNECTION)
     except (OSError, ValueError) as error:
@@ -89,7 +89,7 @@ def at(address: str) -> Iterator[Client]:
 
 
 def page_of(client: Client) -> str:
-    """Returns the address of the scheduler's page of workers, empty where there is none."""
+    """Returns the address of the scheduler's page of workers, empty if it has none."""
     try:
         link = f"{client.dashboard_link.rpartition('/')[0]}/{PAGE}"
         with urllib.request.urlopen(link, timeout=CONNECTION):
@@ -124,7 +124,7 @@ class Runner:
         self.asked = -TICK
         self.seen = time.monotonic()
         warnings.filterwarnings("ignore", message="Large object of size")
-        # What is said of a connection that is lost is said here.
+        # A lost connection is reported here.
         logging.disable()
         try:
             client.register_worker_plugin(Handed(self.handed, handed.files), name=self.handed)
@@ -140,13 +140,13 @@ class Runner:
             self.client.unregister_worker_plugin(self.handed)
 
     def run(self, jobs: Iterator[Job]) -> Iterator[tuple[Job, Answer]]:
-        """Yields what comes of each shard, in whatever order it comes. Raises `Fault` where the scheduler goes away."""
+        """Yields the result of each shard, in any order. Raises `Fault` if the scheduler goes away."""
         try:
             yield from self._run(jobs)
         except CancelledError:
             raise self._gone() from None
         except OSError as error:
-            # What Dask says of a connection has no number, and what is said of a file has one.
+            # Dask's errors of a connection have no number, and those of a file have one.
             if error.errno is None:
                 raise self._gone() from None
             raise
@@ -173,7 +173,7 @@ class Runner:
             yield from self._next()
 
     def _workers(self) -> dict[str, Any]:
-        """Returns the workers, as the scheduler told them some moments ago."""
+        """Returns the workers, as the scheduler reported them some moments ago."""
         if time.monotonic() > self.asked + TICK:
             self.workers = self.client.scheduler_info()["workers"]
             self.asked = time.monotonic()
@@ -184,7 +184,7 @@ class Runner:
         return WAITING * max(1, sum(worker["nthreads"] for worker in self._workers().values()))
 
     def _submit(self, shard: _Shard) -> None:
-        """Hands a shard to the scheduler: for the workers on which it was not tried, where there are any."""
+        """Hands a shard to the scheduler: for the workers on which it was not tried, if there are any."""
         shard.tries += 1
         shard.wanted = set(self._workers()) - shard.unfit if shard.unfit else set()
         key = f"{shard.job.name}-{shard.job.digest[:16]}-{secrets.token_hex(4)}"
@@ -203,7 +203,7 @@ class Runner:
                 self._submit(shard)
 
     def _next(self) -> Iterator[tuple[Job, Answer]]:
-        """Yields what came of the next shards that ended, but for those that are tried again."""
+        """Yields the results of the next shards that ended, except those that are tried again."""
         for future, found in self._ended():
             _, shard = self.running.pop(future.key)
             answer = self._answer(future, found, shard)
@@ -231,7 +231,7 @@ class Runner:
         return [(future, found.get(future.key)) for future in futures]
 
     def _answer(self, future: Future, found: Any, shard: _Shard) -> Answer | None:
-        """Returns what came of a shard that ended, or `None` where the workers that had it died.
+        """Returns what came of a shard that ended, or `None` if the workers that had it died.
 
         Dask suspects each shard that was with a worker when it died; one that was alone with it is the cause.
         """
@@ -251,7 +251,7 @@ class Runner:
             raise self._gone() from None
 
     def _want_workers(self) -> None:
-        """Raises `Fault` where there has been no worker for a while."""
+        """Raises `Fault` if there has been no worker for a while."""
         if self._workers():
             self.seen = time.monotonic()
         elif time.monotonic() > self.seen + PATIENCE:

@@ -1,4 +1,4 @@
-"""What every worker of a fleet is handed once: the program, the files that hosts share, and the code that judges.
+"""Files that every worker of a fleet receives once: the program, the files that hosts share, and the code that judges.
 
 A worker gets this module's code by value, so that beside Dask and the same version of Python it needs nothing.
 """
@@ -56,7 +56,7 @@ class Handed:
         shutil.rmtree(self.place, ignore_errors=True)
 
     def begin(self, scratch: str) -> None:
-        """Says below which folder the files are kept."""
+        """Sets the folder below which the files are kept."""
         self.scratch = scratch
         self.place = os.path.join(scratch, self.name)
         self.lock = threading.Lock()
@@ -76,7 +76,7 @@ class Handed:
             return self.place
 
     def judge(self, job: tuple[Any, ...]) -> tuple[Any, ...]:
-        """Returns what comes of a shard, as the code says that was handed over."""
+        """Returns the result of a shard, by the code that was handed over."""
         try:
             folder = self.folder()
             code = self._loaded(os.path.join(folder, CODE))
@@ -100,7 +100,7 @@ class Handed:
 
 
 def judge(job: tuple[Any, ...], handed: str) -> tuple[str, tuple[Any, ...]]:
-    """Returns the address of the worker of Dask that runs this, and what comes of a shard on it."""
+    """Returns the address of the worker of Dask that runs this, and the result of a shard on it."""
     from distributed import get_worker
 
     worker = get_worker()

@@ -222,7 +222,7 @@ def _tree(folder: str, main: str) -> dict[str, bytes]:
 
 
 def _want_plain(folder: str, name: str) -> None:
-    """Raises `Fault` where a name below a folder leads elsewhere."""
+    """Raises `Fault` if a name below a folder leads elsewhere."""
     path = os.path.join(folder, name)
     if os.path.realpath(path) != os.path.join(os.path.realpath(folder), name):
         raise Fault(f"{name}: a link; the folders of a fleet have none")
@@ -238,7 +238,7 @@ def _read(folder: str, name: str) -> bytes:
 
 
 def want_own_senders(hosts: Iterable[Host]) -> None:
-    """Raises `Fault` where a sender is of two hosts: nobody could tell their rows apart."""
+    """Raises `Fault` if a sender is of two hosts: their rows could not be distinguished."""
     owners: dict[str, str] = {}
     for host in hosts:
         for sender in (sender for shard in host.shards for sender in shard):

@@ -56,7 +56,7 @@ class Results:
         os.makedirs(self.folder, exist_ok=True)
 
     def put(self, job: Job, answer: Answer) -> None:
-        """Writes the result of a shard, in place of one that stands there."""
+        """Writes the result of a shard, in place of an earlier one."""
         data = unpacked(answer.report) if answer.report else b""
         found = Result(
             job.name,
@@ -73,7 +73,7 @@ class Results:
             file.keep(os.path.join(self.folder, file_of(job.name)))
 
     def stands(self, job: Job) -> bool:
-        """Tells whether the result of a shard with these inputs is there, and need not be made again."""
+        """Returns whether the result of a shard with these inputs exists and need not be made again."""
         path = os.path.join(self.folder, file_of(job.name))
         if not os.path.exists(path):
             return False
@@ -128,7 +128,7 @@ class _Fresh:
 
 
 def read_result(path: str) -> Result:
-    """Returns the first line of a result. Raises `Fault` where the file is no whole result."""
+    """Returns the first line of a result. Raises `Fault` if the file is no whole result."""
     with open(path, "rb") as file:
         line = file.readline()
         size = os.fstat(file.fileno()).st_size - len(line)
@@ -144,7 +144,7 @@ def read_result(path: str) -> Result:
 
 
 def rows_of(path: str, found: Result) -> bytes:
-    """Returns the rows of a result. Raises `Fault` where they are not those that were written."""
+    """Returns the rows of a result. Raises `Fault` if they are not those that were written."""
     with open(path, "rb") as file:
         file.readline()
         data = file.read()
@@ -154,7 +154,7 @@ def rows_of(path: str, found: Result) -> bytes:
 
 
 class Joined(NamedTuple):
-    """What a fleet's report has: rows, and shards by their status."""
+    """The content of a fleet's report: rows, and shards by their status."""
 
     rows: int
     done: int
@@ -202,7 +202,7 @@ class _Join:
                 self.wrong.append(f"{shard}: a stranger, in {path}: the fleet has no such shard")
 
     def want_whole(self) -> None:
-        """Raises `Fault` where something is wrong, and names the first of it."""
+        """Raises `Fault` with the first problems, if there are any."""
         for line in self.wrong[:SHOWN]:
             tell(line)
         if self.wrong:
@@ -233,7 +233,7 @@ def _row(fields: tuple[str, ...]) -> bytes:
 
 
 def join(fleet: Fleet, results: Results) -> Joined:
-    """Writes the joined report and the status of shards. Raises `Fault` where a result is missing, twice or a stranger."""
+    """Writes the joined report and the status of shards. Raises `Fault` if a result is missing, twice or unknown."""
     results.forget()
     joining = _Join(fleet, results)
     joining.read()

@@ -1,4 +1,4 @@
-"""What is done with one shard of a fleet, by a worker or in place."""
+"""The audit of one shard of a fleet, by a worker or in place."""
 
 import os
 import signal
@@ -13,7 +13,7 @@ from kulavemia.program import Policy, audit_words, copy_rows
 from kulavemia.requests import Source
 
 # The program runs in the folder of the policy's tree, and reads it by this path: so nothing that it is asked of the
-# policy, and nothing that it answers, tells where a worker keeps the files.
+# policy, and nothing that it answers, shows where a worker keeps the files.
 ROOT = "/proc/self/cwd"
 TREE = "tree"
 USERS = "users.csv"
@@ -42,7 +42,7 @@ class Job(NamedTuple):
 
 
 class Answer(NamedTuple):
-    """What came of a shard: a status, the line of a fault, how many rows, and the packed rows of its report."""
+    """The result of a shard: a status, the line of a fault, how many rows, and the packed rows of its report."""
 
     status: str
     fault: str = ""
@@ -51,7 +51,7 @@ class Answer(NamedTuple):
 
 
 def judged(job: Job, shared: str, scratch: str) -> Answer:
-    """Returns what comes of a shard whose files are packed; a folder has the program and what hosts share.
+    """Returns the result of a shard whose files are packed; a folder has the program and what hosts share.
 
     The status is unfit where that lies with this machine, and not with the shard.
     """

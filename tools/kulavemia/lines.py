@@ -1,7 +1,7 @@
 """The physical lines of a policy's text, and how they are joined.
 
 A text is cut at its newlines; a carriage return at the end of a line and blanks at its front are dropped; a line that
-ends in an odd number of backslashes loses the last one and goes on with the next line, unless it is a comment line.
+ends in an odd number of backslashes loses the last one and is continued by the next line, unless it is a comment line.
 """
 
 import re
@@ -26,12 +26,12 @@ def cut(text: bytes) -> list[bytes]:
 
 
 def is_comment(line: bytes) -> bool:
-    """Tells whether a line without its indent is a comment line: `#` begins neither a user ID nor an include."""
+    """Returns whether a line without its indent is a comment line: `#` begins neither a user ID nor an include."""
     return _COMMENT.match(line) is not None
 
 
 def ends_in_escape(line: bytes) -> bool:
-    """Tells whether the line ends in an odd number of backslashes."""
+    """Returns whether the line ends in an odd number of backslashes."""
     return (len(line) - len(line.rstrip(b"\\"))) % 2 == 1
 
 

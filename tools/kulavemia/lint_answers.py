@@ -1,4 +1,4 @@
-"""What `sudo_audit check` answers, read back from what it prints and its exit status."""
+"""The answer of `sudo_audit check`, read back from its output and its exit status."""
 
 import re
 from dataclasses import dataclass
@@ -6,7 +6,7 @@ from dataclasses import dataclass
 ERROR, WARNING, NOTE = "error", "warning", "note"
 OK, REFUSED, FAILED = 0, 1, 4
 
-# Each rule's name, and what it is about.
+# Each rule's name, and its subject.
 RULES = {
     "syntax-error": "The line is no entry of a policy from this place on.",
     "not-a-command": "A command is an absolute path, sudoedit, ALL or an alias.",
@@ -64,7 +64,7 @@ class Finding:
 
 @dataclass(frozen=True)
 class Report:
-    """What came of one file or folder: its path, the exit status that it calls for, and the findings."""
+    """The result for one file or folder: its path, the exit status that it calls for, and the findings."""
 
     path: str
     status: int
@@ -78,7 +78,7 @@ def number(text: str | None) -> int | None:
 
 
 def rule_of(text: str) -> str:
-    """Returns the name of the rule that a fault's text tells of."""
+    """Returns the name of the rule for a fault's text."""
     word = text.split(",")[0].replace(" ", "-")
     if word in RULES:
         return word

@@ -17,7 +17,7 @@ GITHUB_COMMANDS = {"error": "error", "warning": "warning", "note": "notice"}
 
 @dataclass(frozen=True)
 class Context:
-    """What a format needs beside the reports: the version, the exit status, and the folder of the run."""
+    """The data that a format needs beside the reports: the version, the exit status, and the folder of the run."""
 
     version: str
     status: int

@@ -38,7 +38,7 @@ def folder_files(folder: str) -> tuple[list[str], list[Finding]]:
 
 
 def folder_report(folder: str) -> tuple[list[str], Report | None]:
-    """Returns the files of a folder, and the report of the folder where there is something to say of it."""
+    """Returns the files of a folder, and the report of the folder, if it has a problem."""
     try:
         files, found = folder_files(folder)
     except OSError as error:

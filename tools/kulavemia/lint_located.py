@@ -29,7 +29,7 @@ class Located:
 
     @property
     def is_moved(self) -> bool:
-        """Says whether the physical place is not where the program's own words point."""
+        """Returns whether the physical place is not where the program's own words point."""
         return self.finding.column is not None and (self.line, self.column) != (self.finding.line, self.finding.column)
 
 

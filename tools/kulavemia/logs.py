@@ -1,4 +1,4 @@
-"""Logs that tell of sudo: syslog's lines, sudo's own file, the journal as JSON, and sudo's JSON events."""
+"""Logs with entries of sudo: syslog's lines, sudo's own file, the journal as JSON, and sudo's JSON events."""
 
 import bz2
 import datetime
@@ -56,7 +56,7 @@ class Options(NamedTuple):
 
 
 class Found(NamedTuple):
-    """A line of a log, with its time and event, or why it tells of no request."""
+    """A line of a log, with its time and event, or why it has no request."""
 
     line: int
     time: str
@@ -129,7 +129,7 @@ class Log:
         self.dates: dict[tuple[str | Any, ...], str] = {}
 
     def __iter__(self) -> Iterator[Found]:
-        """Yields what each line says, in their order."""
+        """Yields the content of each line, in order."""
         with self.raw, self.file:
             try:
                 for line, text, own in self._entries():
@@ -150,7 +150,7 @@ class Log:
         return first.found(self.options.quoting)
 
     def _lines(self) -> Iterator[tuple[int, str]]:
-        """Yields the physical lines; one that is too long is passed over and told."""
+        """Yields the physical lines; one that is too long is skipped and reported."""
         line = 0
         while text := self.file.readline(LINE_LIMIT):
             line += 1

@@ -1,4 +1,4 @@
-"""What sudo writes of a command: the text behind the user's name, and the events of its JSON logs."""
+"""The messages of sudo on a command: the text behind the user's name, and the events of its JSON logs."""
 
 import functools
 import re
@@ -117,7 +117,7 @@ def _notes(fields: Mapping[str, str], rest: str) -> list[str]:
 
 
 def event_of(user: str, host: str, text: str, quoting: str = "auto") -> Event | str:
-    """Returns the event that a message behind a user's name tells of, or why it tells of none."""
+    """Returns the event of a message behind a user's name, or why it has none."""
     match = _COMMAND.search(text)
     if match is None:
         return f"no command: {text.split(' ; ')[0][:80]}" if text.strip() else "an empty message"
@@ -165,7 +165,7 @@ def json_events(value: Any) -> list[tuple[str, Pairs]]:
 
 
 def event_of_json(kind: str, body: Pairs, host: str) -> tuple[str, Event | str]:
-    """Returns the time and the event of a body of a JSON log, or why it tells of none."""
+    """Returns the time and the event of a body of a JSON log, or why it has none."""
     fields = dict(body)
     time = _json_time(fields)
     if kind not in _KINDS:

@@ -23,7 +23,7 @@ REPORT = "report.csv"
 
 
 class Inputs(NamedTuple):
-    """What a page is made of; what is empty is left out."""
+    """The inputs of a page; empty ones are left out."""
 
     title: str
     policy: str = ""
@@ -68,7 +68,7 @@ class Changes:
 
 
 class Page:
-    """What the template shows."""
+    """The data that the template shows."""
 
     def __init__(self, inputs: Inputs) -> None:
         self.inputs = inputs

@@ -1,4 +1,4 @@
-"""The lines of a policy, for showing them; what they mean is for the proved program to say."""
+"""The lines of a policy, to be shown; their meaning is left to the proved program."""
 
 import os
 import re
@@ -25,7 +25,7 @@ class Line(NamedTuple):
     text: bytes
 
     def is_rule(self) -> bool:
-        """Tells whether the line says who may do what: whether it is no other line."""
+        """Returns whether the line is a rule, and no other line."""
         others = (_INCLUDE, _KEYWORD, _DEFAULTS)
         return bool(self.text) and not is_comment(self.text) and not any(form.match(self.text) for form in others)
 

@@ -25,7 +25,7 @@ MEANING = {PROGRAM: "the program sudo_audit is not there, or refuses; its own li
 
 
 class Policy(NamedTuple):
-    """What requests are judged by. Places in a copy below a root folder are told without that folder."""
+    """The policy by which requests are judged. Places in a copy below a root folder are shown without that folder."""
 
     file: str
     users: str
@@ -47,7 +47,7 @@ def add_options(words: ArgumentParser) -> None:
 
 
 def find(given: str | None) -> str:
-    """Returns the path of the program. Raises `Fault` where it is not there."""
+    """Returns the path of the program. Raises `Fault` if it is not there."""
     named = given or os.environ.get("SUDO_AUDIT")
     beside = os.path.join(os.path.dirname(os.path.abspath(sys.argv[0])), NAME)
     found = shutil.which(named) if named else shutil.which(NAME) or shutil.which(beside) or shutil.which(BUILT)
@@ -73,7 +73,7 @@ def _said(program: str, done: subprocess.CompletedProcess[bytes], out: bytes, ro
 
 
 def check(program: str, policy: str, root: str = "") -> str:
-    """Returns the program's findings on a policy. Raises `Fault` where it refuses the policy."""
+    """Returns the program's findings on a policy. Raises `Fault` if it refuses the policy."""
     done = subprocess.run([program, "check", policy], stdout=subprocess.PIPE, stderr=subprocess.PIPE, check=False)
     if done.returncode != 0:
         raise _said(program, done, done.stdout, root)
@@ -82,7 +82,7 @@ def check(program: str, policy: str, root: str = "") -> str:
 
 
 def audit(program: str, policy: Policy, sources: Sequence[Source], out: str, workers: int = 2) -> None:
-    """Writes the report of all sources, in runs that the program takes. Raises `Fault` where it refuses."""
+    """Writes the report of all sources, in runs that the program takes. Raises `Fault` if it refuses."""
     total = len(sources)
     done = 0
     with open(out, "wb") as report, Progress("judging", total) as progress:

@@ -19,7 +19,7 @@ Say = Callable[[str], None]
 
 
 class Given(NamedTuple):
-    """What a replay is made of, all of it found and named."""
+    """The inputs of a replay, all found and named."""
 
     policy: Prepared
     old_policy: Prepared | None
@@ -62,7 +62,7 @@ def _directory(given: argparse.Namespace) -> tuple[str, str]:
 
 
 class Replay:
-    """Runs the steps, and tells of each."""
+    """Runs the steps, and reports each."""
 
     def __init__(self, given: argparse.Namespace, found: Given, say: Say) -> None:
         self.given = given

@@ -28,7 +28,7 @@ _CLOSE_ROOM = 64
 
 
 class Request(NamedTuple):
-    """What somebody asked for."""
+    """The request of a user."""
 
     user: str
     host: str
@@ -39,7 +39,7 @@ class Request(NamedTuple):
 
 
 class Source(NamedTuple):
-    """A requests file of a sender, and its key where there is one."""
+    """A requests file of a sender, and its key if there is one."""
 
     sender: str
     name: str
@@ -74,7 +74,7 @@ class Appender:
             self.flush()
 
     def flush(self) -> None:
-        """Writes out what waits."""
+        """Writes out all texts that wait."""
         for path, texts in self.waiting.items():
             with open_write(path, "a") as file:
                 file.writelines(texts)

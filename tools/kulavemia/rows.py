@@ -47,7 +47,7 @@ def write_rows(path: str, header: Sequence[str], body: Iterable[Sequence[str]]) 
 
 
 def header_of(path: str) -> list[str]:
-    """Returns the first record of a file, empty where there is none."""
+    """Returns the first record of a file, empty if it has none."""
     with open_read(path) as file:
         try:
             return _first(csv.reader(file, strict=True))

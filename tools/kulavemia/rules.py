@@ -28,7 +28,7 @@ class Rules:
         return path.removeprefix(self.root) if self.root else path
 
     def text(self, place: str) -> str:
-        """Returns the text of the line at a place, empty where there is none."""
+        """Returns the text of the line at a place, empty if there is none."""
         line = self.lines.get(place)
         return _text(line) if line else ""
 

@@ -89,7 +89,7 @@ def ended(program: str, run: Run, folder: str, seconds: float) -> Ended:
 
 
 def fault_of(ended: Ended, seconds: float) -> str:
-    """Returns what is wrong with the end of a run by itself, empty where nothing is."""
+    """Returns what is wrong with the end of a run by itself, empty if nothing is."""
     if ended.status is None:
         return f"no end within {seconds:g} s"
     if ended.status < 0:
@@ -98,7 +98,7 @@ def fault_of(ended: Ended, seconds: float) -> str:
 
 
 def difference(first: Ended, second: Ended) -> str:
-    """Returns how two runs of one question differ that both ended without want of memory, empty where they do not."""
+    """Returns how two runs of one question differ that both ended without status 4, empty if they do not."""
     if FAILED in (first.status, second.status):
         return ""
     if first.status != second.status:
@@ -108,7 +108,7 @@ def difference(first: Ended, second: Ended) -> str:
 
 
 def least_memory(program: str, seconds: float) -> int | None:
-    """Returns a limit of memory under which the program starts, with room for words; `None` where none is found."""
+    """Returns a limit of memory under which the program starts, with room for words; `None` if none is found."""
     low, high = 0, MOST_MEMORY
     question = Question("help", ["--help"], False)
     if ended(program, Run(question, None, None), "/", seconds).status != DONE:
@@ -136,7 +136,7 @@ class Soak:
         self.statuses: Counter[int] = Counter()
 
     def round(self, seed: int, keep: str) -> str:
-        """Runs a case. Returns what went wrong, with the inputs in a folder `keep`; empty where nothing did."""
+        """Runs a case. Returns what went wrong, with the inputs in a folder `keep`; empty if nothing did."""
         folder = tempfile.mkdtemp(prefix="soak-")
         try:
             for question, runs in self._asked(seed, folder):
@@ -164,7 +164,7 @@ class Soak:
             yield question, [runs[0]._replace(memory=None), *runs[1:]]
 
     def _limit(self, power: float) -> int | None:
-        """Returns the least limit of memory, doubled so often; none where there is none, or the power is below 0."""
+        """Returns the least limit of memory, doubled `power` times; `None` if there is none, or the power is below 0."""
         return int(self.memory * 2**power) if self.memory and power >= 0 else None
 
     def _same(self, question: Question, runs: Sequence[Run], folder: str) -> None:
@@ -196,7 +196,7 @@ class Soak:
 
 
 def run_for(soak: Soak, seconds: float, seed: int, keep: str) -> str:
-    """Runs cases with rising seeds for a time, at least one. Returns what went wrong, empty where nothing did."""
+    """Runs cases with rising seeds for a time, at least one. Returns what went wrong, empty if nothing did."""
     start = time.monotonic()
     with Progress("soaking", max(1, int(seconds))) as progress:
         while True:

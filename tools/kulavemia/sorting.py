@@ -138,7 +138,7 @@ class Sorted(NamedTuple):
 
 
 class Sorter:
-    """Puts what logs say into the files of a folder."""
+    """Sorts the content of logs into the files of a folder."""
 
     def __init__(self, given: argparse.Namespace, folder: str, lists: IO[str], skipped: IO[str]) -> None:
         self.names = Names(given)
@@ -151,7 +151,7 @@ class Sorter:
         self.hosts: Counter[str] = Counter()
 
     def take(self, log: str, line: int, time: str, event: Event | str) -> None:
-        """Takes what a line says."""
+        """Takes the content of a line."""
         if isinstance(event, str):
             self._skip(log, line, time, event)
             return
@@ -177,7 +177,7 @@ class Sorter:
 
 
 def sort(logs: Sequence[str], folder: str, given: argparse.Namespace) -> Sorted:
-    """Puts what logs say into a folder, and returns how much there was."""
+    """Sorts the content of logs into a folder, and returns how much there was."""
     how = Options(given.host, given.year, given.quoting, given.syslog_length)
     total = sum(size_of(path) for path in logs)
     os.makedirs(folder, exist_ok=True)

@@ -11,13 +11,13 @@ def _folded(host: str) -> bytes:
 
 
 def domain_of(hosts: Iterable[str]) -> str:
-    """Returns the one domain that all hosts are in, by what stands behind the first dot; empty where there is none."""
+    """Returns the one domain that all hosts are in, by the text behind the first dot; empty if there is none."""
     domains = {_folded(host).partition(b".")[2] for host in hosts}
     return domains.pop().decode("utf-8", "surrogateescape") if len(domains) == 1 else ""
 
 
 def warning(requests: Mapping[str, int], hosts: Iterable[str]) -> str:
-    """Returns how many requests name a host that is not among these, and what helps; empty where none does."""
+    """Returns how many requests name a host that is not among these, and what helps; empty if none does."""
     known = list(hosts)
     folded = {_folded(host) for host in known}
     missing = [host for host in requests if _folded(host) not in folded]

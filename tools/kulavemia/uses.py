@@ -1,4 +1,4 @@
-"""What an audit says of the requests of logs: what changed since, and which rules decided."""
+"""The answers of an audit to the requests of logs: which changed since, and which rules decided."""
 
 import itertools
 from collections import Counter
@@ -17,7 +17,7 @@ TEXT_LIMIT = 2000
 
 
 class LogLine(NamedTuple):
-    """Where a request stands in a log."""
+    """The place of a request in a log."""
 
     log: str
     line: int

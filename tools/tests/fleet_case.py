@@ -1,4 +1,4 @@
-"""What the tests of a fleet share: small fleets, and their report as one machine gives it."""
+"""Helpers that the tests of a fleet share: small fleets, and their report as one machine gives it."""
 
 import os
 import subprocess

@@ -35,17 +35,17 @@ URI = re.compile(r"(?P<scheme>[A-Za-z][A-Za-z0-9+.-]*:)?(?:[A-Za-z0-9._~!$&'()*+
 
 
 def is_integer(value: Any, least: int) -> bool:
-    """Tells whether a value is a number without a fraction, and at least another."""
+    """Returns whether a value is a number without a fraction, and at least another."""
     return isinstance(value, int) and not isinstance(value, bool) and value >= least
 
 
 def is_text(value: Any) -> bool:
-    """Tells whether a value is a text of Unicode that is not empty."""
+    """Returns whether a value is a text of Unicode that is not empty."""
     return isinstance(value, str) and value != "" and not re.search("[\ud800-\udfff]", value)
 
 
 def is_uri(value: Any) -> bool:
-    """Tells whether a value is a URI, or a relative reference whose first part has no colon."""
+    """Returns whether a value is a URI, or a relative reference whose first part has no colon."""
     match = URI.fullmatch(value) if is_text(value) else None
     return match is not None and (match["scheme"] is not None or ":" not in value.partition("/")[0])
 

@@ -1,4 +1,4 @@
-"""What the tests of the tools share."""
+"""Helpers that the tests of the tools share."""
 
 import os
 import shutil
@@ -27,13 +27,13 @@ def program() -> str | None:
 
 
 def has_jinja() -> bool:
-    """Tells whether pages can be made."""
+    """Returns whether pages can be made."""
     done = subprocess.run(["/usr/bin/python3", "-c", "import jinja2"], stderr=subprocess.DEVNULL, check=False)
     return done.returncode == 0
 
 
 def has_dask() -> bool:
-    """Tells whether there is Dask's distributed scheduler, and what encrypts its connections."""
+    """Returns whether Dask's distributed scheduler and the module that encrypts its connections are installed."""
     found = "import importlib.util as u, sys; sys.exit(None in map(u.find_spec, ('distributed', 'cryptography')))"
     return subprocess.run(["/usr/bin/python3", "-c", found], check=False).returncode == 0
 

@@ -66,7 +66,7 @@ def sources_of(crate, folder, ending):
 
 
 def contracts_of(crate, name):
-    """Returns what stands before the bodies of the functions of this name, `Type::name` or `name`."""
+    """Returns the contracts, before the bodies, of the functions of this name, `Type::name` or `name`."""
     kind, _, function = name.rpartition("::")
     found = []
     for path in sources_of(crate, "src", ".rt"):
@@ -112,7 +112,7 @@ def anchors_of(document):
 
 
 class Contracts(unittest.TestCase):
-    """What the tables of contracts name."""
+    """The names in the tables of contracts."""
 
     def holds(self, crate, functions, clauses, definitions):
         """Fails where a function, a clause or a definition of a row is not there."""
@@ -142,7 +142,7 @@ class Contracts(unittest.TestCase):
 
 
 class Files(unittest.TestCase):
-    """What documents name and link to."""
+    """The files and links that documents name."""
 
     def test_named_files(self):
         for document in DOCUMENTS:
@@ -194,7 +194,7 @@ def examples_of(document):
 
 
 class Examples(unittest.TestCase):
-    """What documents show of the program."""
+    """The examples of the program in documents."""
 
     def shows(self, document):
         """Fails where the program prints something else than the document shows, on the files that the document shows."""

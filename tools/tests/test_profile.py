@@ -64,7 +64,7 @@ GRANTS = [
 
 
 def policy_of(cell):
-    """Returns the policy that the first cell of a row shows, or `None` where it shows none."""
+    """Returns the policy that the first cell of a row shows, or `None` if it shows none."""
     lines = CODE.findall(cell)
     if not cell.startswith("lines `") and len(lines) != 1 or not re.match(r"(lines )?`[\w@#!\"%]", cell):
         return None

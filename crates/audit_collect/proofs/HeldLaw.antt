@@ -1,4 +1,4 @@
--- What is held is counted by the arrivals.
+-- The arrivals determine what the state holds.
 use Rattle.std.proofs.Common.{◌≡◌, ◌⊎◌, ℕ, zero, suc, ◌+◌, ◌≤◌, Bool, true, false, cond, ◌&&◌, ◌==◌, List, ◌++◌, length, map, Option, None, Some, Ok, slice_get, is_some, count_by, IsPermutation, sym, ap, subst, ◌∙◌, refl, inl, inr, arith, if◌then◌else◌}
 use Rattle.std.proofs.lemmas.Bool.Decides.{nat_tests}
 use Rattle.std.proofs.lemmas.List.{length-map}

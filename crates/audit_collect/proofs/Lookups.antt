@@ -1,4 +1,4 @@
--- What the answers of a released list and of waiting entries are at a number.
+-- The answers with a number in a released list and in waiting entries.
 use Rattle.std.specs.Prelude.{Result, OnOk}
 use Rattle.std.proofs.Common.{Ok, Err, ◌≡◌, ℕ, zero, suc, ◌+◌, ◌<◌, ◌≤◌, Bool, true, false, cond, List, [], ◌∷◌, ◌++◌, length, Option, None, Some, slice_get, is_some, nat_eq, refl, sym, ap, ◌∙◌, arith, ◌≢◌}
 use Rattle.std.proofs.lemmas.Bool.Decides.{nat_tests}
@@ -109,7 +109,8 @@ released_at-push xs a (suc i) =
     let e : nat_eq i (length xs) ≡ nat_eq (suc i) (length xs + 1) = grind (arith, nat_tests) in
     slice_get-push xs a i ∙ ap (λ b. cond b (Some a) (slice_get xs i)) e
 
--- two pairs of a list and of entries with the same answers, but for one more in the second, stand for maps that differ by it
+-- two pairs of a list and of entries with the same answers, except for one more in the second,
+-- represent maps that differ by it
 pub answers_of-inserted : (xs ys : List Answer) (es fs : List (ℕ × Answer)) (n : ℕ) (a : Answer)
     → ((q : ℕ) → answer_at ys fs q ≡ cond (nat_eq q n) (Some a) (answer_at xs es q)) → answers_of ys fs ≡ insert (answers_of xs es) n a
 answers_of-inserted xs ys es fs n a h = same_map nat_cmp_total nat_cmp-IsAntisymmetric _ _ (λ q.

@@ -1,21 +1,21 @@
-//! What arrives at a collector.
+//! Messages to a collector.
 
 use sudo_match::{Request, Verdict};
 
-/// The verdict for one request of a sender.
+/// The verdict on one request of a sender.
 #[derive(Clone, Debug, Drop, PartialEq, Eq)]
 pub struct Answer {
-    /// The sender's place in the roster, from 0.
+    /// The sender's index in the roster, from 0.
     pub sender: u32,
     pub request: Request,
     pub verdict: Verdict,
 }
 
-/// One message to a collector.
+/// A message to a collector.
 #[derive(Clone, Debug, Drop, PartialEq, Eq)]
 pub enum Arrival {
     /// The answer to a request.
     Reply(Answer),
-    /// The mark by which a sender says how many requests it sent.
+    /// The close mark of a sender: how many requests it sent.
     Close { sender: u32, count: u32 },
 }

@@ -1,4 +1,4 @@
-//! Reports.
+//! Reports of a collector.
 
 use crate::arrival::Answer;
 use sudo_text::Seq;

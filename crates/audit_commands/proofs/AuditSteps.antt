@@ -1,4 +1,4 @@
--- What the parts of `audit` say together.
+-- The contract of `audit` from those of its parts.
 use Rattle.std.proofs.Common.{◌≡◌, ◌≤◌, ℕ, List, Option, Result, Ok, Err, refl, arith}
 use Rattle.std.specs.Prelude.{IfErr, IfOk}
 use Rattle.audit_collect.specs.declared.report.Report.{Report}

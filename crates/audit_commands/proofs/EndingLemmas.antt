@@ -1,4 +1,4 @@
--- How runs end.
+-- The ends of runs.
 use Rattle.std.proofs.Common.{◌≡◌, ◌<◌, ◌≤◌, ◌⊎◌, ℕ, List, length, take, Option, Result, Ok, Err, inl, inr, refl, sym, subst, ◌∙◌, arith}
 use Rattle.std.specs.Prelude.{IfErr, IfOk}
 use Rattle.audit_commands.specs.Body.Ended.{IsFault, IsPrinted}

@@ -1,4 +1,4 @@
--- What is handed in may be there.
+-- Supplies that may exist.
 use Rattle.std.proofs.Common.{List, [], ◌∷◌, ◌++◌, Option}
 use Rattle.sudo_load.specs.declared.supply.Supply.{Supply}
 use Rattle.audit_commands.specs.Holding.{AreHeld, Holdings, IsHeld}

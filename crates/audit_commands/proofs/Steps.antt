@@ -1,4 +1,4 @@
--- What the parts of `check` and `expand` say together.
+-- The contracts of `check` and `expand` from those of their parts.
 use Rattle.std.proofs.Common.{◌≡◌, ◌≤◌, ◌⊎◌, ℕ, Bool, true, false, List, Option, None, Result, Ok, Err, inl, inr, refl, sym, subst, ◌∙◌, arith}
 use Rattle.std.specs.Prelude.{if◌then◌else◌, IfErr}
 use Rattle.sudo_policy.specs.Found.{has_error}

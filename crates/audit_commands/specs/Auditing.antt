@@ -1,4 +1,4 @@
--- What `audit` prints.
+-- The output of `audit`.
 use Rattle.std.specs.Prelude.{◌≡◌, ⊤, ℕ, List, Option, None, Result, Ok, Err}
 use Rattle.audit_collect.specs.declared.report.Report.{Report}
 use Rattle.audit_files.specs.Feeding.{Ahead}
@@ -20,8 +20,9 @@ use Rattle.audit_commands.specs.Loading.{IsChecked, IsFine, IsNotChecked}
 use Rattle.audit_commands.specs.declared.fault.Fault.{Fault}
 use Rattle.audit_commands.specs.declared.fault.Fault.TheVariants as faults
 
--- What an audit is given: the files of its policy and the path of the main one, what the readers of users and of hosts tell
--- of their bytes, the names of its sources, what their readers tell, and the number of workers.
+-- the input of an audit: the files of its policy and the path of the main one, the bytes ahead of
+-- the readers of users and of hosts, the names of its sources, the bytes ahead of their readers,
+-- and the number of workers
 pub record Given : Type 0 where
   pub held : Option Holdings
   pub path : List ℕ
@@ -31,13 +32,13 @@ pub record Given : Type 0 where
   pub told : List (Option Ahead)
   pub workers : ℕ
 
--- These are the users and hosts that the files state, and they have no fault.
+-- these are the users and hosts that the files state, and they have no fault
 pub record IsDirectory (users hosts : Option Ahead) (directory : Known) : Type 0 where
   pub people_read : IsRead people users (Ok directory.people)
   pub machines_read : IsRead machines hosts (Ok directory.machines)
   pub no_fault : directory_fault directory.people directory.machines ≡ None
 
--- The files state users and hosts that have this fault.
+-- the files state users and hosts that have this fault together
 pub record AreRefused (users hosts : Option Ahead) (fault : DirFault) : Type 0 where
   pub persons : List Person
   pub rows : List Machine
@@ -45,8 +46,8 @@ pub record AreRefused (users hosts : Option Ahead) (fault : DirFault) : Type 0 w
   pub machines_read : IsRead machines hosts (Ok rows)
   pub refusal : IsRefusal (directory_fault persons rows) fault
 
--- Why the files state no directory: the users file has a fault; it has none, and the hosts file has one; or both together
--- have one.
+-- why the files state no directory: the users file has a fault; it has none, and the hosts file has
+-- one; or both together have one
 abbrev pub IsNoDirectory : Option Ahead → Option Ahead → Fault → Type 0
 IsNoDirectory users hosts (faults.Users fault) = States people users (Err fault)
 IsNoDirectory users hosts (faults.Hosts fault) = ((persons : List Person) × IsRead people users (Ok persons)) × States machines hosts (Err fault)
@@ -60,20 +61,21 @@ IsNoDirectory users hosts (faults.Audit names fault) = ⊥
 IsNoDirectory users hosts (faults.Write written) = ⊥
 IsNoDirectory users hosts faults.Memory = ⊥
 
--- What an audit of the sources answers under a policy and a directory.
+-- the result of an audit of the sources under a policy and a directory
 pub record Answers (policy : Policy) (directory : Known) (sources : List (List ℕ)) (told : List (Option Ahead)) (workers : ℕ) (result : Result Report AuditFault) : Type 0 where
   pub before : PassView
   pub after : PassView
   pub audited : Audited (names_of policy directory) sources told workers before after result
 
--- What an audit answers, under the policy, which passes the check, and the directory that the files state.
+-- the result of an audit under the policy, which passes the check, and the directory that the files
+-- state
 pub record IsAnswer (given : Given) (policy : Policy) (result : Result Report AuditFault) : Type 0 where
   pub is_policy : IsChecked given.held given.path policy
   pub directory : Known
   pub is_directory : IsDirectory given.users given.hosts directory
   pub answers : Answers policy directory given.sources given.told given.workers result
 
--- What `audit` prints, with status 0: the text of the report.
+-- the output of `audit` with status 0: the text of the report
 pub record IsAudited (given : Given) (text : List ℕ) (status : ℕ) : Type 0 where
   pub policy : Policy
   pub report : Report
@@ -81,8 +83,9 @@ pub record IsAudited (given : Given) (text : List ℕ) (status : ℕ) : Type 0 w
   pub text_is : text ≡ report_text policy.files report
   pub status_is : status ≡ 0
 
--- Why there is no report, in this order: no policy passes the check; the users, the hosts or both together are refused; the
--- audit answers a fault, which is told with the names of the sources; or memory failed.
+-- why there is no report, in this order: no policy passes the check; the users, the hosts or both
+-- together are refused; the audit returns a fault, which is printed with the names of the sources;
+-- or memory failed
 abbrev pub IsNotAudited : Given → Fault → Type 0
 IsNotAudited given (faults.Refused files fault) = IsNotChecked given.held given.path (faults.Refused files fault)
 IsNotAudited given (faults.CannotRead unread) = IsNotChecked given.held given.path (faults.CannotRead unread)
@@ -96,7 +99,7 @@ IsNotAudited given (faults.NoSuchAlias name) = ⊥
 IsNotAudited given (faults.BadSender word) = ⊥
 IsNotAudited given (faults.Write written) = ⊥
 
--- Only bodies' proofs need the words that follow.
+-- Only the proofs of bodies use the definitions below.
 
 -- the text of the report of an audit under a policy and a directory
 pub record IsReported (policy : Policy) (directory : Known) (sources : List (List ℕ)) (told : List (Option Ahead)) (workers : ℕ) (text : List ℕ) (status : ℕ) : Type 0 where
@@ -105,7 +108,7 @@ pub record IsReported (policy : Policy) (directory : Known) (sources : List (Lis
   pub text_is : text ≡ report_text policy.files report
   pub status_is : status ≡ 0
 
--- why there is none
+-- why an audit under a policy and a directory has no report
 abbrev pub IsUnreported : Policy → Known → List (List ℕ) → List (Option Ahead) → ℕ → Fault → Type 0
 IsUnreported policy directory sources told workers (faults.Audit names fault) = (names.items ≡ sources) × Answers policy directory sources told workers (Err fault)
 IsUnreported policy directory sources told workers faults.Memory = ⊤

@@ -1,4 +1,4 @@
--- How a run of the program ends.
+-- The end of a run of the program.
 use Rattle.std.specs.Prelude.{◌≡◌, ◌<◌, ◌⊎◌, ℕ, List, length, take, Option}
 use Rattle.std.specs.Io.KnownBytes.{Appends}
 use Rattle.audit_commands.specs.FaultLines.{memory_line, printed_of}
@@ -6,7 +6,8 @@ use Rattle.audit_commands.specs.Faults.{status_of}
 use Rattle.audit_commands.specs.declared.fault.Fault.{Fault}
 use Rattle.audit_commands.specs.declared.fault.Fault.TheVariants as faults
 
--- A writer before and after: the bytes that it has taken, where it tells them, and how many of its writes have failed.
+-- a writer before and after: the bytes written to it, if it specifies them, and how many of its
+-- writes have failed
 pub record Written : Type 0 where
   pub before : Option (List ℕ)
   pub after : Option (List ℕ)
@@ -20,23 +21,23 @@ written taken failed old new = record { before = taken old; after = taken new; f
 abbrev pub IsWell : Written → Type 0
 IsWell writer = writer.failed_after ≡ writer.failed_before
 
--- the writer got these bytes and nothing else
+-- the writer received these bytes and nothing else
 abbrev pub Gets : Written → List ℕ → Type 0
 Gets writer bytes = Appends writer.before writer.after bytes
 
 abbrev pub GetsNothing : Written → Type 0
 GetsNothing writer = writer.after ≡ writer.before
 
--- the status, and the line that the writer got, if its writes went well
+-- the status, and the line that the writer received, if no write failed
 abbrev pub Says : ℕ → List ℕ → ℕ → Written → Type 0
 Says own line status err = (status ≡ own) × (IsWell err → Gets err line)
 
--- A fault is told: by what is printed of it, with its own status; or, where memory for its line is refused, by the line of
--- want of memory, with status 4.
+-- a fault is printed: its own text, with its own status; or, if allocation for its line failed, the
+-- line of out of memory, with status 4
 abbrev pub IsTold : Fault → ℕ → Written → Type 0
 IsTold fault status err = Says (status_of fault) (printed_of fault) status err ⊎ Says 4 memory_line status err
 
--- The run printed a text that it may print with this status, whole and alone.
+-- the run printed, whole and alone, a text that it may print with this status
 pub record Prints (Good : List ℕ → ℕ → Type 0) (status : ℕ) (out err : Written) : Type 0 where
   pub text : List ℕ
   pub good : Good text status
@@ -44,7 +45,7 @@ pub record Prints (Good : List ℕ → ℕ → Type 0) (status : ℕ) (out err :
   pub got : Gets out text
   pub quiet : GetsNothing err
 
--- A fault of this kind ended the run, and nothing was printed on `out`.
+-- a fault of this kind ended the run, and nothing was printed on `out`
 pub record Refuses (Bad : Fault → Type 0) (status : ℕ) (out err : Written) : Type 0 where
   pub fault : Fault
   pub bad : Bad fault
@@ -52,7 +53,8 @@ pub record Refuses (Bad : Fault → Type 0) (status : ℕ) (out err : Written) :
   pub nothing : GetsNothing out
   pub told : IsTold fault status err
 
--- A write failed: of a text that the run may print, `out` got the first bytes, as many as the line on `err` says and not all.
+-- a write failed: of a text that the run may print, `out` received the first bytes, as many as the
+-- line on `err` says and not all
 pub record Loses (Good : List ℕ → ℕ → Type 0) (status : ℕ) (out err : Written) : Type 0 where
   pub text : List ℕ
   pub meant : ℕ
@@ -63,6 +65,6 @@ pub record Loses (Good : List ℕ → ℕ → Type 0) (status : ℕ) (out err : 
   pub failed : IsWell out → ⊥
   pub told : IsTold (faults.Write count) status err
 
--- A run that may print such a text with such a status, and may be ended by such a fault.
+-- the end of a run that may print such a text with such a status, and may end with such a fault
 abbrev pub Ends : (List ℕ → ℕ → Type 0) → (Fault → Type 0) → ℕ → Written → Written → Type 0
 Ends Good Bad status out err = Prints Good status out err ⊎ (Refuses Bad status out err ⊎ Loses Good status out err)

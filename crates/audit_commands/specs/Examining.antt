@@ -1,4 +1,4 @@
--- What `check` prints.
+-- The output of `check`.
 use Rattle.std.specs.Prelude.{◌≡◌, ℕ, false, List, [], ◌∷◌, ◌++◌, Option, codes, if◌then◌else◌}
 use Rattle.sudo_policy.specs.Found.{AreFindings, has_error}
 use Rattle.sudo_policy.specs.declared.finding.Finding.{Finding}
@@ -11,11 +11,11 @@ use Rattle.audit_commands.specs.Loading.{IsLoaded}
 abbrev pub check_text : List (List ℕ) → List Finding → List ℕ
 check_text files found = finding_lines files false found ++ (if has_error found then [] else codes "ok" ++ 10 ∷ [])
 
--- 1 where one of the findings is an error
+-- 1 if one of the findings is an error, else 0
 abbrev pub check_status : List Finding → ℕ
 check_status found = if has_error found then 1 else 0
 
--- What `check` prints, and its status, for the policy that the file of a path unfolds to.
+-- the output of `check` and its status, for the policy that the file at a path unfolds to
 pub record IsExamined (held : Option Holdings) (path : List ℕ) (text : List ℕ) (status : ℕ) : Type 0 where
   pub policy : Policy
   pub loaded : IsLoaded held path policy

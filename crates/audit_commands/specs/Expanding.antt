@@ -1,4 +1,4 @@
--- What `expand` prints. cvtsudoers(1), aliases written out.
+-- The output of `expand`: cvtsudoers(1), aliases written out.
 use Rattle.std.specs.Prelude.{◌≡◌, ℕ, List, [], ◌∷◌, ◌++◌, Option, Some, None, flat_map, ⊤}
 use Rattle.sudo_grammar.specs.declared.kind.Kind.{Kind}
 use Rattle.sudo_grammar.specs.declared.kind.Member.{Member}
@@ -16,23 +16,24 @@ use Rattle.audit_commands.specs.declared.fault.Fault.TheVariants as faults
 abbrev pub line_of : Signed → List ℕ
 line_of member = text_of member ++ 10 ∷ []
 
--- These are the lines of an alias of a policy: its definition in force, written out.
+-- the lines of an alias of a policy: its definition in force, written out
 abbrev pub AreAliasLines : Policy → Kind → List ℕ → List ℕ → Type 0
 AreAliasLines policy kind name lines =
     (members : List Member) × (atoms : List Signed) × (in_force kind policy name ≡ Some members)
     × Written kind policy members atoms × (lines ≡ flat_map line_of atoms)
 
--- What `expand` prints, with status 0: the lines of an alias of the policy that the file of a path unfolds to, which passes
--- the check.
+-- the output of `expand` with status 0: the lines of an alias of the policy that the file at a path
+-- unfolds to, which passes the check
 abbrev pub IsExpanded : Option Holdings → List ℕ → Kind → List ℕ → List ℕ → ℕ → Type 0
 IsExpanded held path kind name text status =
     (status ≡ 0) × ((policy : Policy) × IsChecked held path policy × AreAliasLines policy kind name text)
 
--- The policy that the file of a path unfolds to passes the check, and has no such alias.
+-- the policy that the file at a path unfolds to passes the check, and has no such alias
 abbrev pub HasNoAlias : Option Holdings → List ℕ → Kind → List ℕ → Type 0
 HasNoAlias held path kind name = (policy : Policy) × IsChecked held path policy × (in_force kind policy name ≡ None)
 
--- Why there is nothing of an alias to print: no policy passes the check, or it has no alias of the name, or memory failed.
+-- why there is nothing of an alias to print: no policy passes the check, or it has no alias of this
+-- name, or memory failed
 abbrev pub IsNotExpanded : Option Holdings → List ℕ → Kind → List ℕ → Fault → Type 0
 IsNotExpanded held path kind name (faults.NoSuchAlias alias) = (alias ≡ name) × HasNoAlias held path kind name
 IsNotExpanded held path kind name (faults.Refused files fault) = IsNotChecked held path (faults.Refused files fault)
@@ -46,7 +47,7 @@ IsNotExpanded held path kind name (faults.Directory fault) = ⊥
 IsNotExpanded held path kind name (faults.Audit names fault) = ⊥
 IsNotExpanded held path kind name (faults.Write written) = ⊥
 
--- Only bodies' proofs need the word that follows: why a policy gives nothing of an alias to print.
+-- why a policy has nothing of an alias to print; only the proofs of bodies use this definition
 abbrev pub IsNotExpandedOf : Policy → Kind → List ℕ → Fault → Type 0
 IsNotExpandedOf policy kind name (faults.NoSuchAlias alias) = (alias ≡ name) × (in_force kind policy name ≡ None)
 IsNotExpandedOf policy kind name faults.Memory = ⊤

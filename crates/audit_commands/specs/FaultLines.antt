@@ -1,10 +1,10 @@
--- The line that is printed of a fault.
+-- The line that is printed for a fault.
 use Rattle.std.specs.Prelude.{ℕ, List, [], ◌∷◌, ◌++◌, codes, decimal}
 use Rattle.audit_commands.specs.FaultTexts.{audit_fault_text, called_fault_text, cannot_read, directory_fault_text, load_fault_text, no_memory}
 use Rattle.audit_commands.specs.declared.fault.Fault.{Fault}
 use Rattle.audit_commands.specs.declared.fault.Fault.TheVariants as faults
 
--- why there is nothing to print
+-- the text of a fault
 abbrev pub fault_text : Fault → List ℕ
 fault_text (faults.CannotRead path) = cannot_read path
 fault_text (faults.Refused files fault) = load_fault_text files fault
@@ -22,7 +22,8 @@ fault_text faults.Memory = no_memory
 abbrev pub line_of : List ℕ → List ℕ
 line_of text = codes "sudo_audit: " ++ text ++ 10 ∷ []
 
--- what is printed of a fault: one line, but for the errors of a policy, which are printed as `check` prints them
+-- the text printed for a fault: one line, except for the errors of a policy, which are printed as
+-- `check` prints them
 abbrev pub printed_of : Fault → List ℕ
 printed_of (faults.Errors lines) = lines.items
 printed_of (faults.CannotRead path) = line_of (fault_text (faults.CannotRead path))
@@ -36,6 +37,6 @@ printed_of (faults.Audit names fault) = line_of (fault_text (faults.Audit names 
 printed_of (faults.Write written) = line_of (fault_text (faults.Write written))
 printed_of faults.Memory = line_of (fault_text faults.Memory)
 
--- what is printed where memory for the line of a fault is refused
+-- the line printed if allocation for the line of a fault failed
 abbrev pub memory_line : List ℕ
 memory_line = line_of no_memory

@@ -36,7 +36,7 @@ no_memory = codes "out of memory"
 abbrev pub cannot_read : List ℕ → List ℕ
 cannot_read path = codes "cannot read " ++ path
 
--- what the grammar wants
+-- the text of an expected form
 abbrev pub expected_text : Expected → List ℕ
 expected_text expecteds.AliasName = codes "alias name"
 expected_text expecteds.Equals = codes "="
@@ -48,7 +48,7 @@ expected_text expecteds.Value = codes "value"
 expected_text expecteds.Path = codes "path"
 expected_text expecteds.EndOfLine = codes "end of line"
 
--- what is not supported
+-- the text of an unsupported form
 abbrev pub unsupported_text : Unsupported → List ℕ
 unsupported_text unsupporteds.Netgroup = codes "netgroup"
 unsupported_text unsupporteds.Digest = codes "digest"
@@ -58,15 +58,15 @@ unsupported_text unsupporteds.CommandOption = codes "option"
 unsupported_text unsupporteds.List = codes "list"
 unsupported_text unsupporteds.HostEscape = codes "%h"
 
--- `PATH:LINE: ` and what is wrong there
+-- `PATH:LINE: ` and a fault
 abbrev pub at_line : List (List ℕ) → Place → List ℕ → List ℕ
 at_line files place what = place_text files place ++ codes ": " ++ what
 
--- `PATH:LINE:COLUMN: ` and what is wrong there
+-- `PATH:LINE:COLUMN: ` and a fault
 abbrev pub at_column : List (List ℕ) → Place → ℕ → List ℕ → List ℕ
 at_column files place col what = place_text files place ++ codes ":" ++ decimal col ++ codes ": " ++ what
 
--- why a text has no tokens
+-- the fault of a text
 abbrev pub text_fault_text : List (List ℕ) → TextFault → List ℕ
 text_fault_text files (texts.BadQuote place col) = at_column files place col (codes "bad quote")
 text_fault_text files (texts.BadHex place col) = at_column files place col (codes "bad hexadecimal")
@@ -75,7 +75,7 @@ text_fault_text files (texts.NotPrintable place col) = at_column files place col
 text_fault_text files (texts.TooLong file) = path_of files file ++ codes ": text too long"
 text_fault_text files texts.Memory = no_memory
 
--- why a file is no policy
+-- the fault of a policy file
 abbrev pub parse_fault_text : List (List ℕ) → ParseFault → List ℕ
 parse_fault_text files (parses.Syntax place col expected) =
     at_column files place col (codes "syntax error, expected ") ++ expected_text expected
@@ -86,12 +86,12 @@ parse_fault_text files (parses.TooMany place) = at_line files place (codes "too 
 parse_fault_text files (parses.Text fault) = text_fault_text files fault
 parse_fault_text files parses.Memory = no_memory
 
--- the path of what is wanted
+-- the path of a needed file or folder
 abbrev pub wanted_path : Want → List ℕ
 wanted_path (wants.File path) = path
 wanted_path (wants.Folder path) = path
 
--- why files are no policy, by the paths of those that were read
+-- the fault of a policy, given the paths of the files that were read
 abbrev pub load_fault_text : List (List ℕ) → LoadFault → List ℕ
 load_fault_text files (loads.Parse fault) = parse_fault_text files fault
 load_fault_text files (loads.TooNested place) = at_line files place (codes "includes too deep")
@@ -100,11 +100,11 @@ load_fault_text files (loads.Missing place path) = at_line files place (codes "m
 load_fault_text files (loads.Wanted want) = cannot_read (wanted_path want)
 load_fault_text files loads.Memory = no_memory
 
--- what is wrong in a row
+-- `row ROW: ` and a fault
 abbrev pub row_text : ℕ → List ℕ → List ℕ
 row_text row what = codes "row " ++ decimal row ++ codes ": " ++ what
 
--- why a file of users, of hosts or of requests is refused
+-- the fault of a users file, a hosts file or a requests file
 abbrev pub file_fault_text : FileFault → List ℕ
 file_fault_text file_faults.Header = codes "bad header"
 file_fault_text (file_faults.BadRow row) = row_text row (codes "bad row")
@@ -114,7 +114,7 @@ file_fault_text file_faults.TooMany = codes "too many rows"
 file_fault_text file_faults.Read = codes "read failed"
 file_fault_text file_faults.Memory = no_memory
 
--- the same, after what the file is called; want of memory is no fault of a file
+-- `called` and the fault of a file, or only the text of out of memory
 abbrev pub called_fault_text : List ℕ → FileFault → List ℕ
 called_fault_text called file_faults.Memory = no_memory
 called_fault_text called file_faults.Header = called ++ file_fault_text file_faults.Header
@@ -124,7 +124,7 @@ called_fault_text called (file_faults.RowAfterClose row) = called ++ file_fault_
 called_fault_text called file_faults.TooMany = called ++ file_fault_text file_faults.TooMany
 called_fault_text called file_faults.Read = called ++ file_fault_text file_faults.Read
 
--- why users and hosts make no directory
+-- the fault of users and hosts that form no directory
 abbrev pub directory_fault_text : DirFault → List ℕ
 directory_fault_text (directories.UserTwice name) = codes "user " ++ name ++ codes " twice"
 directory_fault_text (directories.HostTwice name) = codes "host " ++ name ++ codes " twice"
@@ -133,26 +133,26 @@ directory_fault_text (directories.NoGroup user) = codes "user " ++ user ++ codes
 directory_fault_text directories.NoRoot = codes "no user root"
 directory_fault_text directories.Memory = no_memory
 
--- a sender by its name
+-- `sender NAME`
 abbrev pub named_sender : List ℕ → List ℕ
 named_sender name = codes "sender " ++ name
 
--- a sender by its place in the roster of the sources' names
+-- `sender NAME`, for the sender with this index in the roster of the sources' names
 abbrev pub sender_text : List (List ℕ) → ℕ → List ℕ
 sender_text names sender = named_sender (slice_index_or (roster names) sender [])
 
--- a request of a sender, and what is wrong with it
+-- a request of a sender, and a fault
 abbrev pub request_text : List (List ℕ) → ℕ → ℕ → List ℕ → List ℕ
 request_text names sender number what =
     sender_text names sender ++ codes ": request " ++ decimal number ++ what
 
--- why there is no collector for the senders
+-- the fault of a roster
 abbrev pub roster_fault_text : RosterFault → List ℕ
 roster_fault_text (rosters.SenderTwice name) = named_sender name ++ codes " twice"
 roster_fault_text rosters.TooManySenders = codes "too many senders"
 roster_fault_text rosters.Memory = no_memory
 
--- why a collector does not take what a source states
+-- the collector's refusal of what a source states
 abbrev pub refusal_text : List (List ℕ) → Refused → List ℕ
 refusal_text names (refusals.Double sender number) = request_text names sender number (codes " twice")
 refusal_text names (refusals.ClosedTwice sender) = sender_text names sender ++ codes ": closed twice"
@@ -161,31 +161,31 @@ refusal_text names (refusals.Stranger sender) = codes "refused by the collector"
 refusal_text names (refusals.ZeroNumber sender) = codes "refused by the collector"
 refusal_text names refusals.Memory = no_memory
 
--- what the sources lack
+-- the fault of sources that lack something
 abbrev pub lack_text : List (List ℕ) → Unfinished → List ℕ
 lack_text names (unfinished.Open sender) = sender_text names sender ++ codes ": not closed"
 lack_text names (unfinished.Gap sender number) = request_text names sender number (codes " missing")
 
--- why requests make no report
+-- the fault of requests that make no report
 abbrev pub collect_fault_text : List (List ℕ) → CollectFault → List ℕ
 collect_fault_text names (collects.Roster fault) = roster_fault_text fault
 collect_fault_text names (collects.Refused refused) = refusal_text names refused
 collect_fault_text names (collects.Unfinished lack) = lack_text names lack
 
--- two sources or more have the name
+-- at least two sources have the name
 abbrev pub has_parts : List (List ℕ) → List ℕ → Bool
 has_parts names name = nat_lt 1 (count_by (λ other. bytes_eq other name) names)
 
--- the number of the part, where the sender has several
+-- the number of the part, if the sender has several
 abbrev pub part_text : List (List ℕ) → List ℕ → ℕ → List ℕ
 part_text names name part = if has_parts names name then codes " part " ++ decimal part else []
 
--- why a source is refused, by its sender and its part
+-- the fault of a source, after its sender and its part
 abbrev pub source_fault_text : List (List ℕ) → List ℕ → ℕ → FileFault → List ℕ
 source_fault_text names name part fault =
     named_sender name ++ part_text names name part ++ codes ": " ++ file_fault_text fault
 
--- why an audit gives no report, by the names of its sources
+-- the fault of an audit, given the names of its sources
 abbrev pub audit_fault_text : List (List ℕ) → AuditFault → List ℕ
 audit_fault_text names (audits.Sender name part fault) = source_fault_text names name part fault
 audit_fault_text names (audits.Collect fault) = collect_fault_text names fault

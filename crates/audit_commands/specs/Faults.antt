@@ -1,4 +1,4 @@
--- What ends the program with another status than 0.
+-- Faults that end the program with a status other than 0.
 use Rattle.std.specs.Prelude.{ℕ}
 use Rattle.audit_collect.specs.declared.fault.CollectFault.{CollectFault}
 use Rattle.audit_collect.specs.declared.fault.CollectFault.TheVariants as collects
@@ -15,10 +15,12 @@ use Rattle.sudo_match.specs.declared.fault.DirFault.TheVariants as directories
 use Rattle.audit_commands.specs.declared.fault.Fault.{Fault}
 use Rattle.audit_commands.specs.declared.fault.Fault.TheVariants as faults
 
--- 1 says that the policy is refused, has errors or has no such alias, 2 that a word of the command line names no sender, 3 that the users,
--- the hosts or the requests are refused, 4 that reading, writing, a thread or memory failed.
+-- 1: the policy is refused, has errors or has no such alias. 2: a word of the command line names no
+-- sender. 3: the users, the hosts or the requests are refused. 4: reading, writing, a thread or
+-- memory failed.
 
--- the status for a file that is refused: reading it failed, memory failed, or what it holds is refused
+-- the status for a file that is refused: reading it failed, memory failed, or its content is
+-- refused
 abbrev pub file_status : FileFault → ℕ
 file_status file_faults.Read = 4
 file_status file_faults.Memory = 4
@@ -28,7 +30,7 @@ file_status (file_faults.OutOfOrder row) = 3
 file_status (file_faults.RowAfterClose row) = 3
 file_status file_faults.TooMany = 3
 
--- the status for users and hosts that make no directory: they are refused, or memory failed
+-- the status for users and hosts that form no directory: they are refused, or memory failed
 abbrev pub directory_status : DirFault → ℕ
 directory_status (directories.UserTwice name) = 3
 directory_status (directories.HostTwice name) = 3
@@ -37,13 +39,13 @@ directory_status (directories.NoGroup user) = 3
 directory_status directories.NoRoot = 3
 directory_status directories.Memory = 4
 
--- the status for senders that make no roster: they are refused, or memory failed
+-- the status for senders that form no roster: they are refused, or memory failed
 abbrev pub roster_status : RosterFault → ℕ
 roster_status (rosters.SenderTwice name) = 3
 roster_status rosters.TooManySenders = 3
 roster_status rosters.Memory = 4
 
--- the status for what a source states and the collector does not take: it is refused, or memory failed
+-- the status for a refusal of the collector: the requests are refused, or memory failed
 abbrev pub refusal_status : Refused → ℕ
 refusal_status (refusals.Stranger sender) = 3
 refusal_status (refusals.ZeroNumber sender) = 3
@@ -58,8 +60,8 @@ collect_status (collects.Roster fault) = roster_status fault
 collect_status (collects.Refused refused) = refusal_status refused
 collect_status (collects.Unfinished unfinished) = 3
 
--- the status for an audit without a report: a source is refused as a file is, the requests are refused, there are too many
--- sources, or a thread or memory failed
+-- the status for an audit without a report: a source is refused as a file is, the requests are
+-- refused, there are too many sources, or a thread or memory failed
 abbrev pub audit_status : AuditFault → ℕ
 audit_status (audits.Sender name part fault) = file_status fault
 audit_status (audits.Collect fault) = collect_status fault
@@ -67,7 +69,7 @@ audit_status audits.NoThread = 4
 audit_status audits.Memory = 4
 audit_status audits.TooManyParts = 3
 
--- the exit status of each fault
+-- the exit status for a fault
 abbrev pub status_of : Fault → ℕ
 status_of (faults.Refused files fault) = 1
 status_of (faults.Errors lines) = 1

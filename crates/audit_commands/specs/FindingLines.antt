@@ -15,7 +15,7 @@ keyword kinds.Runas = codes "Runas_Alias"
 keyword kinds.Host = codes "Host_Alias"
 keyword kinds.Cmnd = codes "Cmnd_Alias"
 
--- what a class of findings is called
+-- the text of a class of findings
 abbrev pub class_text : Class → List ℕ
 class_text Redefined = codes ": error: redefined "
 class_text Undefined = codes ": error: undefined "
@@ -24,14 +24,14 @@ class_text TooDeep = codes ": error: too deep "
 class_text TooWide = codes ": error: too wide "
 class_text Unused = codes ": warning: unused "
 
--- the line of a finding on a policy of these files
+-- the line of a finding on a policy with these files
 abbrev pub finding_line : List (List ℕ) → Finding → List ℕ
 finding_line files finding = place_text files finding.place ++ class_text finding.class ++ keyword finding.kind ++ codes " " ++ finding.name ++ 10 ∷ []
 
--- its line, if it is listed: where errors alone are, no warning is
+-- the line of a finding, if it is listed: a warning is not, if only errors are
 abbrev pub listed_line : List (List ℕ) → Bool → Finding → List ℕ
 listed_line files errors_alone finding = if not errors_alone || is_error finding.class then finding_line files finding else []
 
--- the lines of findings, of all or of the errors alone
+-- the lines of all findings, or of the errors only
 abbrev pub finding_lines : List (List ℕ) → Bool → List Finding → List ℕ
 finding_lines files errors_alone found = flat_map (listed_line files errors_alone) found

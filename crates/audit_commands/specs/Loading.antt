@@ -1,4 +1,4 @@
--- The policy that the program works on.
+-- The policy of a run.
 use Rattle.std.specs.Prelude.{◌≡◌, ◌⊎◌, ⊤, ℕ, List, Option, None, Some, Ok, Err, true}
 use Rattle.sudo_grammar.specs.declared.policy.Policy.{Policy}
 use Rattle.sudo_load.specs.declared.fault.LoadFault.{LoadFault}
@@ -11,22 +11,25 @@ use Rattle.audit_commands.specs.Holding.{AreHeld, HoldsFile, Holdings, IsUnreada
 use Rattle.audit_commands.specs.declared.fault.Fault.{Fault}
 use Rattle.audit_commands.specs.declared.fault.Fault.TheVariants as faults
 
--- It is what the text of the main file, and texts and names of what is included, unfold to, as the files are, where that is
--- told.
+-- the policy is that to which the text of the main file, and the texts and names of what is
+-- included, unfold, for the files that exist, if they are specified
 abbrev pub IsLoaded : Option Holdings → List ℕ → Policy → Type 0
 IsLoaded held path policy =
     (text : List ℕ) × (handed : List Supply) × HoldsFile held path (Some text) × AreHeld held handed × IsLoad path text handed (Ok policy)
 
--- The files unfold to no policy, for this reason, with the paths of those that are read by then.
+-- the files unfold to no policy, for this reason; `read` are the paths of those that were read
+-- until then
 abbrev pub IsUnloaded : Option Holdings → List ℕ → List (List ℕ) → LoadFault → Type 0
 IsUnloaded held path read fault =
     (text : List ℕ) × (handed : List Supply) × HoldsFile held path (Some text) × AreHeld held handed × IsLoad path text handed (Err (read, fault))
 
--- A path that cannot be read: reading fails there, or it is that of the main file, which is not there.
+-- the path cannot be read: reading fails there, or it is that of the main file, which does not
+-- exist
 abbrev pub IsUnread : Option Holdings → List ℕ → List ℕ → Type 0
 IsUnread held path unread = IsUnreadable held unread ⊎ ((unread ≡ path) × HoldsFile held path None)
 
--- Why there is no policy: a path cannot be read, memory failed, or what the files hold is refused.
+-- why there is no policy: a path cannot be read, memory failed, or the content of the files is
+-- refused
 abbrev pub IsNoPolicy : Option Holdings → List ℕ → Fault → Type 0
 IsNoPolicy held path (faults.Refused files fault) = IsUnloaded held path files fault
 IsNoPolicy held path (faults.CannotRead unread) = IsUnread held path unread
@@ -40,24 +43,24 @@ IsNoPolicy held path (faults.Directory fault) = ⊥
 IsNoPolicy held path (faults.Audit names fault) = ⊥
 IsNoPolicy held path (faults.Write written) = ⊥
 
--- The policy that the file of a path unfolds to, and it passes the check.
+-- the policy is that to which the file at a path unfolds, and it passes the check
 pub record IsChecked (held : Option Holdings) (path : List ℕ) (policy : Policy) : Type 0 where
   pub loaded : IsLoaded held path policy
   pub passes : Passes policy
 
--- It passes the check: what the file of a path, with all that it includes, unfolds to has no error.
+-- the policy at a path, with all that it includes, has no error
 abbrev pub IsFine : Option Holdings → List ℕ → Type 0
 IsFine held path = (policy : Policy) × IsChecked held path policy
 
--- These are the lines of the errors that the check finds in a policy. There is one at least.
+-- these are the lines of the errors that the check finds in a policy, of at least one error
 abbrev pub AreErrorsOf : Policy → List ℕ → Type 0
 AreErrorsOf policy lines = (found : List Finding) × Fails policy found × (lines ≡ finding_lines policy.files true found)
 
--- The lines of the errors of the policy that the file of a path unfolds to.
+-- these are the lines of the errors of the policy that the file at a path unfolds to
 abbrev pub AreErrors : Option Holdings → List ℕ → List ℕ → Type 0
 AreErrors held path lines = (policy : Policy) × IsLoaded held path policy × AreErrorsOf policy lines
 
--- Why there is no policy that passes the check: there is none, or it has errors.
+-- why no policy passes the check: there is no policy, or it has errors
 abbrev pub IsNotChecked : Option Holdings → List ℕ → Fault → Type 0
 IsNotChecked held path (faults.Refused files fault) = IsNoPolicy held path (faults.Refused files fault)
 IsNotChecked held path (faults.CannotRead unread) = IsNoPolicy held path (faults.CannotRead unread)
@@ -71,7 +74,7 @@ IsNotChecked held path (faults.Directory fault) = ⊥
 IsNotChecked held path (faults.Audit names fault) = ⊥
 IsNotChecked held path (faults.Write written) = ⊥
 
--- Only bodies' proofs need the word that follows: why a policy that is loaded does not pass.
+-- why a loaded policy does not pass the check; only the proofs of bodies use this definition
 abbrev pub IsNotCheckedOf : Policy → Fault → Type 0
 IsNotCheckedOf policy (faults.Errors lines) = AreErrorsOf policy lines.items
 IsNotCheckedOf policy faults.Memory = ⊤

@@ -1,4 +1,4 @@
--- The files that an audit is asked for, opened.
+-- The files of an audit, opened.
 use Rattle.std.specs.Prelude.{◌≡◌, ⊤, ℕ, true, List, ◌∷◌, ◌++◌, Some, map, slice_get, take, All}
 use Rattle.std.specs.List.{AllZip}
 use Rattle.audit_run.specs.declared.source.Source.{Source}
@@ -6,23 +6,23 @@ use Rattle.audit_commands.specs.Senders.{is_sender_name}
 use Rattle.audit_commands.specs.declared.fault.Fault.{Fault}
 use Rattle.audit_commands.specs.declared.fault.Fault.TheVariants as faults
 
--- a sender's name, and a path
+-- the name of a sender, and a path
 abbrev pub Pair : Type 0
 Pair = List ℕ × List ℕ
 
--- its word, `NAME=PATH`
+-- the word of a pair: `NAME=PATH`
 abbrev pub word_of : Pair → List ℕ
 word_of pair = pair.0 ++ 61 ∷ pair.1
 
 abbrev pub IsNamed : Pair → Type 0
 IsNamed pair = is_sender_name pair.0 ≡ true
 
--- The words are these senders and paths, in order.
+-- the words are these senders and paths, in order
 pub record AreSenders (words : List (List ℕ)) (pairs : List Pair) : Type 0 where
   pub spelled : map word_of pairs ≡ words
   pub named : All IsNamed pairs
 
--- The first word that is no `NAME=PATH` with a sender's name.
+-- the first word that is not `NAME=PATH` with the name of a sender
 pub record IsFirstBad (words : List (List ℕ)) (word : List ℕ) : Type 0 where
   pub at : ℕ
   pub pairs : List Pair
@@ -30,15 +30,15 @@ pub record IsFirstBad (words : List (List ℕ)) (word : List ℕ) : Type 0 where
   pub there : slice_get words at ≡ Some word
   pub bad : (pair : Pair) → word ≡ word_of pair → IsNamed pair → ⊥
 
--- Each source has the name of its sender, and a reader of its path.
+-- each source has the name of its sender, and a reader of its path
 abbrev pub AreOpened : {R : Type 0} → (List ℕ → R → Type 0) → List Pair → List (Source R) → Type 0
 AreOpened Opens pairs sources = AllZip (λ pair source. (source.name ≡ pair.0) × Opens pair.1 source.reader) pairs sources
 
--- The sources are those of the words.
+-- the sources are those of the words
 abbrev pub AreSources : {R : Type 0} → (List ℕ → R → Type 0) → List (List ℕ) → List (Source R) → Type 0
 AreSources Opens words sources = (pairs : List Pair) × AreSenders words pairs × AreOpened Opens pairs sources
 
--- Why the files are not opened: a word is bad, a path is closed, or memory failed.
+-- why the files are not opened: a word is bad, a path has no reader, or memory failed
 abbrev pub IsNotOpened : (List ℕ → Type 0) → List (List ℕ) → Fault → Type 0
 IsNotOpened Closed words (faults.BadSender word) = IsFirstBad words word
 IsNotOpened Closed words (faults.CannotRead path) = Closed path

@@ -1,4 +1,4 @@
-//! `audit`: requests answered.
+//! `audit`: answers requests.
 ghost use Rattle.std.specs.Prelude.{◌≡◌, ◌≤◌, ℕ, List, Option, IfErr, IfOk, map};
 ghost use Rattle.audit_commands.specs.Auditing.{Given, IsAudited, IsDirectory, IsNoDirectory, IsNotAudited, IsReported, IsUnreported};
 ghost use Rattle.audit_commands.specs.Holding.{Holdings};
@@ -19,7 +19,7 @@ use sudo_match::Directory;
 use sudo_policy::Checked;
 use sudo_text::Seq;
 
-/// The users and hosts that the files state.
+// Reads the users and the hosts, and returns the directory of both.
 fn directory_of<U: Feed, H: Feed>(
     alloc: Global,
     users: &mut U,
@@ -42,7 +42,7 @@ fn directory_of<U: Feed, H: Feed>(
     }
 }
 
-/// A copy of the names of the sources, for the texts of faults.
+// Returns a copy of the names of the sources, for the texts of faults.
 fn names_of<R>(alloc: Global, sources: &[Source<R>]) -> Result<Vec<Seq<u8>>, AllocError>
     ensures { IfOk result (λ names. names.items ≡ map (λ s. s.name) sources.now) }
 {
@@ -53,7 +53,7 @@ fn names_of<R>(alloc: Global, sources: &[Source<R>]) -> Result<Vec<Seq<u8>>, All
     Ok(names)
 }
 
-/// The report of the sources, under a policy and a directory.
+// Returns the report of the sources, under a policy and a directory.
 fn report_under<T: Threads + Wait + Sync, R: Feed + Drop + Send>(
     alloc: Global,
     rt: &T,
@@ -86,7 +86,7 @@ fn report_under<T: Threads + Wait + Sync, R: Feed + Drop + Send>(
     }
 }
 
-/// What the requests of the sources give to print, under the policy of a file.
+// Returns the text and the status of an audit of the sources, under the policy of a file.
 fn audited<T: Threads + Wait + Sync, U: Feed, H: Feed, R: Feed + Drop + Send>(
     alloc: Global,
     rt: &T,
@@ -126,13 +126,15 @@ fn audited<T: Threads + Wait + Sync, U: Feed, H: Feed, R: Feed + Drop + Send>(
     }
 }
 
-/// Prints on `out` the report of the requests of the sources: for each sender, in the order in which their names first
-/// appear, and for each of its requests, in the order of their numbers, what the policy of a file says of it.
+/// Prints on `out` the report of the requests of the sources: for each sender, in the order in
+/// which their names first appear, and for each of its requests, in the order of their numbers, the
+/// verdict of the policy of a file.
 ///
-/// Gives the exit status: 0; 1 where the policy is refused; 3 where the users, the hosts or the requests are refused; 4
-/// where reading, writing, a thread or memory failed. The checks come in this order: the policy, the users, the hosts, both
-/// together, the requests. The errors that the check of the policy finds are printed on `err`, as `check` prints them;
-/// any other fault is one line on `err`. Then nothing was printed on `out` but by a write that failed part way.
+/// Returns the exit status: 0; 1 if the policy is refused; 3 if the users, the hosts or the
+/// requests are refused; 4 if reading, writing, a thread or memory failed. Checks in this order:
+/// the policy, the users, the hosts, both together, the requests. If the check of the policy finds
+/// errors, prints them on `err`, as `check` prints them; prints any other fault as one line on
+/// `err`. Then nothing was printed on `out`, except by a write that failed part way.
 pub fn audit_into<
     T: Threads + Wait + Sync,
     F: Files,

@@ -1,4 +1,4 @@
-//! `check`: the findings on a policy.
+//! `check`: lists the findings on a policy.
 ghost use Rattle.std.specs.Prelude.{◌≡◌, ◌≤◌, IfErr, IfOk};
 ghost use Rattle.audit_commands.specs.Endings.{written as sent, Ends};
 ghost use Rattle.audit_commands.specs.Examining.{check_status, check_text, IsExamined};
@@ -15,7 +15,7 @@ use std::alloc::{AllocError, Global};
 use sudo_policy::{Finding, findings, has_error};
 use sudo_text::Seq;
 
-/// A line for each finding, and `ok` if none is an error.
+// Returns a line for each finding, and `ok` if none is an error.
 fn examined_lines(
     alloc: Global,
     files: &[Seq<u8>],
@@ -32,7 +32,7 @@ fn examined_lines(
     Ok(Printed { text, status: 0 })
 }
 
-/// What the check of the policy of a file gives to print.
+// Returns the text and the status of a check of the policy of a file.
 fn examined<F: Files>(alloc: Global, path: &[u8], files: &mut F) -> Result<Printed, Fault>
     ensures printed { IfOk result (λ p. IsExamined
         (F.held files.old) path.now p.text.items p.status) }
@@ -43,11 +43,12 @@ fn examined<F: Files>(alloc: Global, path: &[u8], files: &mut F) -> Result<Print
     Ok(examined_lines(alloc, policy.files.as_slice(), &found)?)
 }
 
-/// Prints one line on `out` for each finding on the policy of a file, then `ok` if none is an error.
+/// Prints on `out` one line for each finding on the policy of a file, then `ok` if none is an
+/// error.
 ///
-/// Gives the exit status: 0; 1 where a finding is an error or the policy is refused; 4 where reading, writing or
-/// memory failed. A fault is one line on `err`, and then nothing was printed on `out` but by a write that failed part
-/// way.
+/// Returns the exit status: 0; 1 if a finding is an error or the policy is refused; 4 if reading,
+/// writing or memory failed. Prints a fault as one line on `err`; then nothing was printed on
+/// `out`, except by a write that failed part way.
 pub fn check_run<F: Files, O: Sink, E: Sink>(
     alloc: Global,
     path: &[u8],

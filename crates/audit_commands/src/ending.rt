@@ -1,4 +1,4 @@
-//! How a run ends: what it prints, and its status.
+//! The end of a run: its output and its exit status.
 ghost use Rattle.std.specs.Prelude.{◌≡◌, ◌++◌, IfOk, OnOk, codes, decimal};
 ghost use Rattle.audit_commands.specs.Body.Ended.{IsFault, IsPrinted};
 ghost use Rattle.audit_commands.specs.Endings.{written as sent, Ends, IsTold, Says};
@@ -14,7 +14,7 @@ use crate::printed::Printed;
 use audit_files::{Sink, WriteFault, write_all_of};
 use std::alloc::{AllocError, Global};
 
-/// Appends the text of a fault.
+// Appends the text of a fault.
 fn push_fault(line: &mut Vec<u8>, fault: &Fault) -> Result<(), AllocError>
     ensures { OnOk result (line.new.items ≡ line.old.items ++ fault_text fault.now) }
 {
@@ -37,7 +37,7 @@ fn push_fault(line: &mut Vec<u8>, fault: &Fault) -> Result<(), AllocError>
     }
 }
 
-/// The line of a fault.
+// Returns the line of a fault.
 fn fault_line(alloc: Global, fault: &Fault) -> Result<Vec<u8>, AllocError>
     ensures { IfOk result (λ line. line.items ≡ line_of (fault_text fault.now)) }
 {
@@ -48,7 +48,7 @@ fn fault_line(alloc: Global, fault: &Fault) -> Result<Vec<u8>, AllocError>
     Ok(line)
 }
 
-/// Prints a line as far as that goes, and gives this status.
+// Prints a line as far as writes succeed, and returns this status.
 fn say<E: Sink>(line: &[u8], status: u8, err: &mut E) -> u8
     ensures { Says status line.now result (sent E.taken E.stalled_writes err.old err.new) }
 {
@@ -56,8 +56,8 @@ fn say<E: Sink>(line: &[u8], status: u8, err: &mut E) -> u8
     status
 }
 
-/// Prints a fault and gives its status; where memory for its line is refused, says that and gives 4. What cannot be
-/// printed is left out.
+/// Prints a fault, and returns its status. If allocation for its line failed, prints that instead
+/// and returns 4. Ignores a write that fails.
 pub fn report_fault<E: Sink>(alloc: Global, fault: &Fault, err: &mut E) -> u8
     ensures { IsTold fault.now result (sent E.taken E.stalled_writes err.old err.new) }
 {
@@ -70,8 +70,8 @@ pub fn report_fault<E: Sink>(alloc: Global, fault: &Fault, err: &mut E) -> u8
     }
 }
 
-/// Ends a run: prints its text on `out` and gives its status, or tells the fault on `err`. A write on `out` that fails
-/// is a fault.
+/// Ends a run: prints its text on `out` and returns its status, or prints the fault on `err` and
+/// returns the fault's status. A write on `out` that fails is a fault.
 pub(crate) fn end_run<O: Sink, E: Sink>(
     alloc: Global,
     ended: Result<Printed, Fault>,

@@ -1,4 +1,4 @@
-//! `expand`: an alias written out.
+//! `expand`: writes an alias out.
 ghost use Rattle.std.specs.Prelude.{◌≡◌, ◌≤◌, ◌++◌, flat_map, IfErr, IfOk, OnOk};
 ghost use Rattle.audit_commands.specs.Endings.{written as sent, Ends};
 ghost use Rattle.audit_commands.specs.Expanding.{line_of, AreAliasLines, IsExpanded, IsNotExpanded, IsNotExpandedOf};
@@ -15,7 +15,7 @@ use sudo_parser::member_text;
 use sudo_policy::{Checked, ExpandFault, expand};
 use sudo_text::Seq;
 
-/// A line for each member.
+// Returns a line for each member.
 fn member_lines(alloc: Global, members: &[Signed]) -> Result<Vec<u8>, AllocError>
     ensures { IfOk result (λ lines. lines.items ≡ flat_map line_of members.now) }
 {
@@ -26,7 +26,7 @@ fn member_lines(alloc: Global, members: &[Signed]) -> Result<Vec<u8>, AllocError
     Ok(lines)
 }
 
-/// Appends the line of a member.
+// Appends the line of a member.
 fn push_member(alloc: Global, lines: &mut Vec<u8>, member: &Signed) -> Result<(), AllocError>
     ensures { OnOk result (lines.new.items ≡ lines.old.items ++ line_of member.now) }
 {
@@ -36,7 +36,8 @@ fn push_member(alloc: Global, lines: &mut Vec<u8>, member: &Signed) -> Result<()
     Ok(())
 }
 
-/// The lines of an alias of a checked policy.
+// Returns the lines of an alias of a checked policy. Returns `NoSuchAlias` if the policy has no
+// such alias.
 fn alias_lines(alloc: Global, checked: &Checked, kind: Kind, name: &[u8]) -> Result<Vec<u8>, Fault>
     ensures lines { IfOk result (λ lines. AreAliasLines checked.now kind name.now lines.items) }
     ensures fault { IfErr result (IsNotExpandedOf checked.now kind name.now) }
@@ -48,7 +49,7 @@ fn alias_lines(alloc: Global, checked: &Checked, kind: Kind, name: &[u8]) -> Res
     }
 }
 
-/// What the alias of the policy of a file gives to print.
+// Returns the text and the status of an expansion of an alias of the policy of a file.
 fn expanded<F: Files>(
     alloc: Global,
     path: &[u8],
@@ -67,11 +68,12 @@ fn expanded<F: Files>(
     }
 }
 
-/// Prints the members of an alias on `out`, one a line, in order, each with its sign.
+/// Prints the members of an alias on `out`, one per line, in order, each with its sign.
 ///
-/// Gives the exit status: 0; 1 where the policy is refused or has no such alias; 4 where reading, writing or memory
-/// failed. The errors that the check of the policy finds are printed on `err`, as `check` prints them; any other fault
-/// is one line on `err`. Then nothing was printed on `out` but by a write that failed part way.
+/// Returns the exit status: 0; 1 if the policy is refused or has no such alias; 4 if reading,
+/// writing or memory failed. If the check of the policy finds errors, prints them on `err`, as
+/// `check` prints them; prints any other fault as one line on `err`. Then nothing was printed on
+/// `out`, except by a write that failed part way.
 pub fn expand_run<F: Files, O: Sink, E: Sink>(
     alloc: Global,
     path: &[u8],

@@ -1,4 +1,4 @@
-//! What ends the program with another status than 0.
+//! Faults that end the program with a status other than 0.
 ghost use Rattle.std.specs.Prelude.{◌≡◌};
 ghost use Rattle.audit_commands.specs.Faults.{audit_status as status_of_audit, file_status as status_of_file, status_of};
 
@@ -10,30 +10,30 @@ use sudo_load::LoadFault;
 use sudo_match::DirFault;
 use sudo_text::Seq;
 
-/// Why there is nothing to print.
+/// The reason why a run has nothing to print.
 #[derive(Debug, Drop)]
 pub enum Fault {
-    /// A file or a folder cannot be read, by its path.
+    /// The file or the folder at this path cannot be read.
     CannotRead(Seq<u8>),
-    /// The files are no policy: the paths of those that were read, and why.
+    /// The files are not a policy: the paths of those that were read, and the fault.
     Refused(Seq<Seq<u8>>, LoadFault),
     /// The check finds errors in the policy: their lines.
     Errors(Vec<u8>),
-    /// The policy has no such alias, by its name.
+    /// The policy has no alias of this name.
     NoSuchAlias(Seq<u8>),
-    /// A word is no `NAME=PATH` with a sender's name.
+    /// This word is not `NAME=PATH` with the name of a sender.
     BadSender(Seq<u8>),
     /// The users file is refused.
     Users(FileFault),
     /// The hosts file is refused.
     Hosts(FileFault),
-    /// The users and hosts are refused.
+    /// The users and hosts together are refused.
     Directory(DirFault),
-    /// The requests are refused: the names of the sources, and why.
+    /// The requests are refused: the names of the sources, and the fault.
     Audit(Vec<Seq<u8>>, AuditFault),
-    /// A write failed after so many bytes.
+    /// A write failed after this number of bytes.
     Write { written: u64 },
-    /// Memory was refused.
+    /// Out of memory.
     Memory,
 }
 
@@ -60,9 +60,9 @@ impl<T: Drop> From<AllocFailed<T>> for Fault {
 }
 
 impl Fault {
-    /// The exit status: 1 where the policy is refused, has errors or has no such alias, 2 for a bad sender, 3 where the
-    /// users, the hosts
-    /// or the requests are refused, 4 where reading, writing, a thread or memory failed.
+    /// Returns the exit status: 1 if the policy is refused, has errors or has no such alias, 2 for
+    /// a bad sender, 3 if the users, the hosts or the requests are refused, 4 if reading, writing,
+    /// a thread or memory failed.
     pub fn status(&self) -> u8
         ensures { result ≡ status_of self.now }
     {
@@ -78,7 +78,7 @@ impl Fault {
     }
 }
 
-/// The exit status for a file that is refused.
+// Returns the exit status for a file that is refused.
 fn file_status(fault: FileFault) -> u8
     ensures { result ≡ status_of_file fault }
 {
@@ -88,7 +88,7 @@ fn file_status(fault: FileFault) -> u8
     }
 }
 
-/// The exit status for an audit without a report.
+// Returns the exit status for an audit without a report.
 fn audit_status(fault: &AuditFault) -> u8
     ensures { result ≡ status_of_audit fault.now }
 {

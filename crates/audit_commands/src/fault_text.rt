@@ -13,7 +13,7 @@ use sudo_load::{LoadFault, Want};
 use sudo_match::DirFault;
 use sudo_text::{Place, Seq, TextFault};
 
-/// Appends that memory was refused.
+/// Appends the text of out of memory.
 pub(crate) fn push_no_memory(line: &mut Vec<u8>) -> Result<(), AllocError>
     ensures { OnOk result (line.new.items ≡ line.old.items ++ no_memory) }
 {
@@ -27,7 +27,7 @@ pub(crate) fn push_cannot_read(line: &mut Vec<u8>, path: &[u8]) -> Result<(), Al
     push_both(line, b"cannot read ", path)
 }
 
-/// What the grammar wants.
+// Returns the text of an expected form.
 fn expected_text(expected: Expected) -> &'static [u8]
     ensures { result.now ≡ text_of_expected expected }
 {
@@ -44,7 +44,7 @@ fn expected_text(expected: Expected) -> &'static [u8]
     }
 }
 
-/// What is not supported.
+// Returns the text of an unsupported form.
 fn unsupported_text(what: Unsupported) -> &'static [u8]
     ensures { result.now ≡ text_of_unsupported what }
 {
@@ -59,7 +59,7 @@ fn unsupported_text(what: Unsupported) -> &'static [u8]
     }
 }
 
-/// Appends `PATH:LINE: ` and what is wrong there.
+// Appends `PATH:LINE: ` and a fault.
 fn push_at_line(
     line: &mut Vec<u8>,
     files: &[Seq<u8>],
@@ -73,7 +73,7 @@ fn push_at_line(
     push(line, what)
 }
 
-/// Appends `PATH:LINE:COLUMN: ` and what is wrong there.
+// Appends `PATH:LINE:COLUMN: ` and a fault.
 fn push_at_column(
     line: &mut Vec<u8>,
     files: &[Seq<u8>],
@@ -91,7 +91,7 @@ fn push_at_column(
     push(line, what)
 }
 
-/// Appends why a text has no tokens.
+// Appends the fault of a text.
 fn push_text_fault(
     line: &mut Vec<u8>,
     files: &[Seq<u8>],
@@ -120,7 +120,7 @@ fn push_text_fault(
     }
 }
 
-/// Appends why a file is no policy.
+// Appends the fault of a policy file.
 fn push_parse_fault(
     line: &mut Vec<u8>,
     files: &[Seq<u8>],
@@ -154,7 +154,7 @@ fn push_parse_fault(
     }
 }
 
-/// The path of what is wanted.
+// Returns the path of a needed file or folder.
 fn wanted_path(want: &Want) -> &[u8]
     ensures { result.now ≡ path_of_wanted want.now }
 {
@@ -163,7 +163,7 @@ fn wanted_path(want: &Want) -> &[u8]
     }
 }
 
-/// Appends why files are no policy.
+/// Appends the fault of a policy.
 pub(crate) fn push_load_fault(
     line: &mut Vec<u8>,
     files: &[Seq<u8>],
@@ -184,7 +184,7 @@ pub(crate) fn push_load_fault(
     }
 }
 
-/// Appends `row ROW: ` and what is wrong there.
+// Appends `row ROW: ` and a fault.
 fn push_row(line: &mut Vec<u8>, row: u32, what: &[u8]) -> Result<(), AllocError>
     ensures { OnOk result (line.new.items ≡ line.old.items ++ row_text row what.now) }
 {
@@ -194,7 +194,7 @@ fn push_row(line: &mut Vec<u8>, row: u32, what: &[u8]) -> Result<(), AllocError>
     push(line, what)
 }
 
-/// Appends why a file of users, of hosts or of requests is refused.
+// Appends the fault of a users file, a hosts file or a requests file.
 fn push_file_fault(line: &mut Vec<u8>, fault: FileFault) -> Result<(), AllocError>
     ensures { OnOk result (line.new.items ≡ line.old.items ++ file_fault_text fault) }
 {
@@ -209,7 +209,7 @@ fn push_file_fault(line: &mut Vec<u8>, fault: FileFault) -> Result<(), AllocErro
     }
 }
 
-/// Appends the same after what the file is called.
+/// Appends `called` and the fault of a file, or only the text of out of memory.
 pub(crate) fn push_called_fault(
     line: &mut Vec<u8>,
     called: &[u8],
@@ -224,7 +224,7 @@ pub(crate) fn push_called_fault(
     push_file_fault(line, fault)
 }
 
-/// Appends a name between two texts.
+// Appends a name between two texts.
 fn push_named(
     line: &mut Vec<u8>,
     before: &[u8],
@@ -239,7 +239,7 @@ fn push_named(
     push(line, after)
 }
 
-/// Appends why users and hosts make no directory.
+/// Appends the fault of users and hosts that form no directory.
 pub(crate) fn push_directory_fault(line: &mut Vec<u8>, fault: &DirFault) -> Result<(), AllocError>
     ensures { OnOk result (line.new.items ≡ line.old.items ++ directory_fault_text fault.now) }
 {
@@ -253,7 +253,7 @@ pub(crate) fn push_directory_fault(line: &mut Vec<u8>, fault: &DirFault) -> Resu
     }
 }
 
-/// The name at a place of the roster, which holds each of the sources' names once.
+// Returns the name at this index of the roster, which holds each of the sources' names once.
 fn sender_at(names: &[Seq<u8>], place: u32) -> &[u8]
     ensures { result.now ≡ slice_index_or (roster names.now) place [] }
 {
@@ -271,14 +271,14 @@ fn sender_at(names: &[Seq<u8>], place: u32) -> &[u8]
     b""
 }
 
-/// Appends `sender NAME`.
+// Appends `sender NAME`.
 fn push_named_sender(line: &mut Vec<u8>, name: &[u8]) -> Result<(), AllocError>
     ensures { OnOk result (line.new.items ≡ line.old.items ++ named_sender name.now) }
 {
     push_both(line, b"sender ", name)
 }
 
-/// Appends `sender NAME` by the sender's place in the roster, and what is wrong with it.
+// Appends `sender NAME`, for the sender at this index of the roster, and a fault.
 fn push_sender(
     line: &mut Vec<u8>,
     names: &[Seq<u8>],
@@ -292,7 +292,7 @@ fn push_sender(
     push(line, what)
 }
 
-/// Appends `sender NAME: request NUMBER`, and what is wrong with it.
+// Appends `sender NAME: request NUMBER`, and a fault.
 fn push_request(
     line: &mut Vec<u8>,
     names: &[Seq<u8>],
@@ -308,7 +308,7 @@ fn push_request(
     push(line, what)
 }
 
-/// Appends why there is no collector for the senders.
+// Appends the fault of a roster.
 fn push_roster_fault(line: &mut Vec<u8>, fault: &RosterFault) -> Result<(), AllocError>
     ensures { OnOk result (line.new.items ≡ line.old.items ++ roster_fault_text fault.now) }
 {
@@ -322,7 +322,7 @@ fn push_roster_fault(line: &mut Vec<u8>, fault: &RosterFault) -> Result<(), Allo
     }
 }
 
-/// Appends why a collector does not take what a source states.
+// Appends the collector's refusal of what a source states.
 fn push_refusal(line: &mut Vec<u8>, names: &[Seq<u8>], refused: Refused) -> Result<(), AllocError>
     ensures { OnOk result (line.new.items ≡ line.old.items ++ refusal_text names.now refused) }
 {
@@ -339,7 +339,7 @@ fn push_refusal(line: &mut Vec<u8>, names: &[Seq<u8>], refused: Refused) -> Resu
     }
 }
 
-/// Appends what the sources lack.
+// Appends the fault of sources that lack something.
 fn push_lack(line: &mut Vec<u8>, names: &[Seq<u8>], lack: Unfinished) -> Result<(), AllocError>
     ensures { OnOk result (line.new.items ≡ line.old.items ++ lack_text names.now lack) }
 {
@@ -351,7 +351,7 @@ fn push_lack(line: &mut Vec<u8>, names: &[Seq<u8>], lack: Unfinished) -> Result<
     }
 }
 
-/// Appends why requests make no report.
+// Appends the fault of requests that make no report.
 fn push_collect_fault(
     line: &mut Vec<u8>,
     names: &[Seq<u8>],
@@ -367,14 +367,14 @@ fn push_collect_fault(
     }
 }
 
-/// Whether two sources have the name.
+// Whether at least two sources have the name.
 fn has_parts(names: &[Seq<u8>], name: &Seq<u8>) -> bool
     ensures { result ≡ two_have names.now name.now }
 {
     names.iter().filter(|other| *other == name).count() > 1
 }
 
-/// Appends ` part PART` where two sources have the name.
+// Appends ` part PART` if at least two sources have the name.
 fn push_part(
     line: &mut Vec<u8>,
     names: &[Seq<u8>],
@@ -390,7 +390,7 @@ fn push_part(
     push_number(line, u64::from(part))
 }
 
-/// Appends why a source is refused, by its sender and its part.
+// Appends the fault of a source, after its sender and its part.
 fn push_source_fault(
     line: &mut Vec<u8>,
     names: &[Seq<u8>],
@@ -407,7 +407,7 @@ fn push_source_fault(
     push_file_fault(line, fault)
 }
 
-/// Appends why an audit gives no report.
+/// Appends the fault of an audit.
 pub(crate) fn push_audit_fault(
     line: &mut Vec<u8>,
     names: &[Seq<u8>],

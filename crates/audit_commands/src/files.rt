@@ -1,4 +1,4 @@
-//! The files of a policy.
+//! The files and folders of a policy.
 ghost use Rattle.std.specs.Prelude.{◌≡◌, Option, None, IfErr, IfOk};
 ghost use Rattle.audit_commands.specs.Holding.{Holdings, HoldsFile, HoldsFolder, IsUnreadable};
 
@@ -10,13 +10,13 @@ use std::io::ErrorKind;
 use sudo_text::{Seq, TEXT_LIMIT};
 use thiserror::Error;
 
-/// Why a file or a folder is not read.
+/// The reason why a file or a folder cannot be read.
 #[derive(Clone, Copy, Debug, PartialEq, Eq, Error)]
 pub enum FilesFault {
     /// A read failed, or a name is not text.
     #[error("failed")]
     Failed,
-    /// Memory was refused.
+    /// Out of memory.
     #[error("out of memory")]
     Memory,
 }
@@ -27,19 +27,22 @@ impl From<AllocError> for FilesFault {
     }
 }
 
-/// Where the files of a policy are read.
+/// Files and folders from which a policy is read.
 pub trait Files {
-    // The files and folders that there are, and the paths at which reading fails, where it tells them.
+    // The files and folders that exist, and the paths at which reading fails, if the value
+    // specifies them.
     ghost held: { Self → Option Holdings };
 
-    /// The text of a file, cut one byte past the limit for a text; `None` where there is no such file.
+    /// Returns the text of a file, cut one byte past the limit for a text, or `None` if there is no
+    /// such file. Returns `Failed` if reading failed, and `Memory` if allocation failed.
     fn file(&mut self, alloc: Global, path: &[u8]) -> Result<Option<Seq<u8>>, FilesFault>
         ensures text { IfOk result (λ text. HoldsFile (held self.old) path.now text) }
         ensures failed { IfErr result (λ e. e ≡ FilesFault.Failed
             → IsUnreadable (held self.old) path.now) }
         ensures same { held self.new ≡ held self.old };
 
-    /// The names of a folder's regular files; none where there is no such folder.
+    /// Returns the names of a folder's regular files, none if there is no such folder. Returns
+    /// `Failed` if reading failed or a name is not text, and `Memory` if allocation failed.
     fn folder(&mut self, alloc: Global, path: &[u8]) -> Result<Seq<Seq<u8>>, FilesFault>
         ensures names { IfOk result (λ names. HoldsFolder (held self.old) path.now names) }
         ensures failed { IfErr result (λ e. e ≡ FilesFault.Failed
@@ -54,12 +57,13 @@ pub struct Disk<'a> {
 }
 
 impl<'a> Disk<'a> {
+    /// Creates the files of this machine.
     pub fn new(rt: &'a HostRuntime) -> Disk<'a> {
         Disk { rt }
     }
 }
 
-/// A text that is longer than the limit, whatever it says.
+// Returns a text that is longer than the limit, in place of one whose content does not matter.
 fn too_long(alloc: Global) -> Result<Seq<u8>, FilesFault> {
     let mut text = Vec::new(alloc);
     text.resize(TEXT_LIMIT + 1, 0)?;

@@ -1,4 +1,5 @@
-//! The three commands of the auditor, how a run ends, and the text of every fault.
+//! The three commands of the auditor, the output and the status of a run, and the text of each
+//! fault.
 #![tactic(auto)]
 
 mod audit;

@@ -24,7 +24,7 @@ pub(crate) fn push_both(line: &mut Vec<u8>, first: &[u8], second: &[u8]) -> Resu
     push(line, second)
 }
 
-/// Appends a number.
+/// Appends a number in decimal.
 pub(crate) fn push_number(line: &mut Vec<u8>, number: u64) -> Result<(), AllocError>
     ensures { OnOk result (line.new.items ≡ line.old.items ++ decimal number) }
 {
@@ -32,7 +32,7 @@ pub(crate) fn push_number(line: &mut Vec<u8>, number: u64) -> Result<(), AllocEr
     line.extend_from_slice(digits.format(number).as_bytes())
 }
 
-/// The keyword of a kind of alias.
+// Returns the keyword of a kind of alias.
 fn keyword(kind: Kind) -> &'static [u8]
     ensures { result.now ≡ keyword_of kind }
 {
@@ -44,7 +44,7 @@ fn keyword(kind: Kind) -> &'static [u8]
     }
 }
 
-/// What a class of findings is called.
+// Returns the text of a class of findings.
 fn called(class: Class) -> &'static [u8]
     ensures { result.now ≡ class_text class }
 {
@@ -58,7 +58,7 @@ fn called(class: Class) -> &'static [u8]
     }
 }
 
-/// Appends the line of a finding, as `PATH:LINE: error: undefined Host_Alias NAME`.
+// Appends the line of a finding, as `PATH:LINE: error: undefined Host_Alias NAME`.
 fn push_finding(lines: &mut Vec<u8>, files: &[Seq<u8>], finding: &Finding) -> Result<(), AllocError>
     ensures { OnOk result (lines.new.items ≡ lines.old.items
         ++ finding_line files.now finding.now) }
@@ -71,7 +71,7 @@ fn push_finding(lines: &mut Vec<u8>, files: &[Seq<u8>], finding: &Finding) -> Re
     push(lines, b"\n")
 }
 
-/// Appends the line of a finding, but of a warning where errors alone are listed.
+// Appends the line of a finding. Appends nothing for a warning if only errors are listed.
 fn push_listed(
     lines: &mut Vec<u8>,
     files: &[Seq<u8>],
@@ -88,7 +88,7 @@ fn push_listed(
     }
 }
 
-/// A line for each finding.
+/// Returns a line for each finding, or for each error only.
 pub(crate) fn finding_lines(
     alloc: Global,
     files: &[Seq<u8>],

@@ -1,4 +1,4 @@
-//! A policy from its files.
+//! Reads a policy from its files.
 ghost use Rattle.std.specs.Prelude.{◌≡◌, ◌⊎◌, Some, IfErr, IfOk, OnOk};
 ghost use Rattle.sudo_policy.specs.Checking.{Passes};
 ghost use Rattle.audit_commands.specs.Holding.{AreHeld, HoldsFile, IsHeld, IsUnreadable};
@@ -13,10 +13,10 @@ use sudo_load::{LoadFault, Supply, Want, folder_files, included, load};
 use sudo_policy::{CheckFault, Checked, check};
 use sudo_text::Seq;
 
-/// How often files are asked for, at most.
+// Upper bound on the number of reads.
 const MOST_CALLS: usize = 2048;
 
-/// Why the main file cannot be read.
+// Returns the fault of a main file that cannot be read.
 fn unread_main(alloc: Global, path: &[u8]) -> Fault
     ensures { (result ≡ Fault.Memory) ⊎ (result ≡ Fault.CannotRead path.now) }
 {
@@ -26,7 +26,7 @@ fn unread_main(alloc: Global, path: &[u8]) -> Fault
     }
 }
 
-/// The text of the main file, which has to be there.
+// Returns the text of the main file, which must exist.
 fn main_text<F: Files>(alloc: Global, files: &mut F, path: &[u8]) -> Result<Seq<u8>, Fault>
     ensures held { IfOk result (λ text. HoldsFile (F.held files.old) path.now (Some text)) }
     ensures same { F.held files.new ≡ F.held files.old }
@@ -39,7 +39,7 @@ fn main_text<F: Files>(alloc: Global, files: &mut F, path: &[u8]) -> Result<Seq<
     }
 }
 
-/// The file or the folder that is wanted; or its path, and why it is not read.
+// Reads a needed file or folder. Returns its path and the fault if that fails.
 fn fetch<F: Files>(
     alloc: Global,
     files: &mut F,
@@ -62,7 +62,7 @@ fn fetch<F: Files>(
     }
 }
 
-/// Whether a file or a folder was read.
+// Whether a file or a folder was read before.
 fn is_read(supplies: &[Supply], want: &Want) -> bool {
     supplies.iter().any(|supply| match (supply, want) {
         (Supply::File { path, .. }, Want::File(wanted)) => path == wanted,
@@ -71,7 +71,8 @@ fn is_read(supplies: &[Supply], want: &Want) -> bool {
     })
 }
 
-/// What the include lines of a file name; nothing where there is no such file.
+// Returns the files and folders that the include lines of a file name, none if there is no such
+// file.
 fn named_by_file(
     alloc: Global,
     path: &Seq<u8>,
@@ -83,7 +84,7 @@ fn named_by_file(
     }
 }
 
-/// The files of a folder.
+// Returns the files of a folder.
 fn named_by_folder(
     alloc: Global,
     path: &Seq<u8>,
@@ -96,7 +97,7 @@ fn named_by_folder(
     Ok(wants)
 }
 
-/// What is wanted next where this was read.
+// Returns the files and folders that a file or a folder names.
 fn named_by(alloc: Global, supply: &Supply) -> Result<Vec<Want>, AllocError> {
     match supply {
         Supply::File { path, text } => named_by_file(alloc, path, text),
@@ -104,8 +105,8 @@ fn named_by(alloc: Global, supply: &Supply) -> Result<Vec<Want>, AllocError> {
     }
 }
 
-/// Reads a file or a folder, and notes what it names. What can't be read is left: whether it is wanted at all is not
-/// known yet. `Err` comes only where memory was refused.
+// Reads a file or a folder, and notes what it names. Skips what cannot be read, since it may not be
+// needed. Returns `AllocError` only if allocation failed.
 fn read_one<F: Files>(
     alloc: Global,
     files: &mut F,
@@ -127,8 +128,9 @@ fn read_one<F: Files>(
     }
 }
 
-/// Reads ahead what a file includes, so that little is left to be asked for and no file is parsed again and again. It
-/// decides nothing: it ends where memory is refused, and what it left is read when it is wanted.
+// Reads ahead what a file includes, so that `load` is rarely called again and no file is parsed
+// repeatedly. It decides nothing: it stops if allocation fails, and what it skipped is read when it
+// is needed.
 fn read_ahead<F: Files>(alloc: Global, files: &mut F, path: &[u8], text: &[u8]) -> Vec<Supply>
     ensures held { AreHeld (F.held files.new) result.items }
     ensures same { F.held files.new ≡ F.held files.old }
@@ -151,7 +153,7 @@ fn read_ahead<F: Files>(alloc: Global, files: &mut F, path: &[u8], text: &[u8]) 
     supplies
 }
 
-/// Reads a file or a folder that is wanted.
+// Reads a needed file or folder.
 fn push_wanted<F: Files>(
     alloc: Global,
     files: &mut F,
@@ -171,7 +173,7 @@ fn push_wanted<F: Files>(
     }
 }
 
-/// Reads what is wanted. The first time, all that the main file includes is read ahead.
+// Reads a needed file or folder. The first time, reads ahead all that the main file includes.
 fn hand_in<F: Files>(
     alloc: Global,
     files: &mut F,
@@ -194,7 +196,8 @@ fn hand_in<F: Files>(
     push_wanted(alloc, files, path, want, supplies)
 }
 
-/// The policy of a file and of all that it includes: what is wanted is read, and the loading begins anew.
+/// Returns the policy of a file and of all that it includes. Reads what `load` needs, and calls
+/// `load` again.
 pub(crate) fn load_policy<F: Files>(
     alloc: Global,
     path: &[u8],
@@ -221,7 +224,7 @@ pub(crate) fn load_policy<F: Files>(
     Err(Fault::Memory)
 }
 
-/// The policy of a file and of all that it includes, if it passes the check.
+/// Returns the policy of a file and of all that it includes, if it passes the check.
 pub(crate) fn checked_policy<F: Files>(
     alloc: Global,
     path: &[u8],
@@ -234,7 +237,7 @@ pub(crate) fn checked_policy<F: Files>(
     passed(alloc, policy)
 }
 
-/// A policy that passes the check; or the lines of its errors.
+// Returns a policy that passes the check, or `Errors` with the lines of its errors.
 fn passed(alloc: Global, policy: Policy) -> Result<Checked, Fault>
     ensures same { IfOk result (λ checked. checked ≡ policy) }
     ensures passes { IfOk result (λ checked. Passes policy) }

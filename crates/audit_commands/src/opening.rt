@@ -1,4 +1,4 @@
-//! Where the files that the command line names are opened.
+//! Opening of the files that the command line names.
 ghost use Rattle.std.specs.Prelude.{ℕ, List, ⊤, IfNone, IfSome};
 
 use audit_files::Device;
@@ -6,10 +6,10 @@ use std::fs::File;
 
 /// Opens files for reading, by their paths.
 pub trait Opener<R> {
-    // Whether a reader may be of the file at a path.
+    // Whether a reader may be that of the file at a path.
     ghost opens: { Self → List ℕ → R → Type 0 };
 
-    // Whether there may be no reader for a path.
+    // Whether a path may have no reader.
     ghost closed: { Self → List ℕ → Type 0 };
 
     /// Opens a file for reading. Returns `None` if that fails.
@@ -18,13 +18,14 @@ pub trait Opener<R> {
         ensures closed { IfNone result (closed self.now path.now) };
 }
 
-/// Opens the files of this machine. It tells nothing of them.
+/// Opens the files of this machine. Its contracts leave the content of the files unspecified.
 #[derive(Drop)]
 pub(crate) struct Machine<'a> {
     rt: &'a HostRuntime,
 }
 
 impl<'a> Machine<'a> {
+    /// Creates an opener of the files of this machine.
     pub(crate) fn new(rt: &'a HostRuntime) -> Machine<'a> {
         Machine { rt }
     }

@@ -1,7 +1,7 @@
-//! What a run prints.
+//! The output of a run.
 ghost use Rattle.std.specs.Prelude.{◌≤◌};
 
-/// What a run prints, and its status: 1 where the policy has errors.
+/// The text that a run prints, and its status: 1 if the policy has errors.
 #[derive(Drop)]
 pub(crate) struct Printed {
     pub(crate) text: Vec<u8>,

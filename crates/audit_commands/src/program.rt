@@ -1,4 +1,4 @@
-//! The program: what its words ask for is done.
+//! The program: executes the command that its words ask for.
 ghost use Rattle.audit_words.specs.Words.{WorkersFit};
 
 use crate::check::check_run;
@@ -15,7 +15,7 @@ use std::env;
 use std::sync::Wait;
 use std::thread::Threads;
 
-/// Does what the words ask for, and gives the exit status.
+// Executes a command, and returns the exit status.
 fn run<T: Threads + Wait + Sync>(rt: &HostRuntime, threads: &T, asked: Asked<'_>) -> u8
     requires { WorkersFit asked }
 {
@@ -44,8 +44,8 @@ fn run<T: Threads + Wait + Sync>(rt: &HostRuntime, threads: &T, asked: Asked<'_>
     }
 }
 
-/// Prints the text of `clap`, and gives the exit status: help or the version, where asked for, goes to standard output, with
-/// status 0, and a mistake in the words to standard error, with status 2.
+// Prints the text of `clap`, and returns the exit status: help or the version, if asked for, goes
+// to standard output, with status 0, and a mistake in the words to standard error, with status 2.
 fn refuse(rt: &HostRuntime, error: &Error) -> u8 {
     if error.kind() == ErrorKind::OutOfMemory {
         let mut err = Device::new(rt.stderr());
@@ -61,7 +61,7 @@ fn refuse(rt: &HostRuntime, error: &Error) -> u8 {
     }
 }
 
-/// The words of the command line, the program's own name first.
+// Returns the words of the command line, the program's own name first.
 fn words(rt: &HostRuntime) -> Result<Vec<String>, Error> {
     match env::args(rt) {
         Ok(words) => Ok(words.collect(rt.alloc())?),
@@ -69,9 +69,9 @@ fn words(rt: &HostRuntime) -> Result<Vec<String>, Error> {
     }
 }
 
-/// Does what the words of the command line ask for, and returns the exit status.
+/// Executes the command that the words of the command line ask for, and returns the exit status.
 ///
-/// `threads` is the runtime, where it can start threads.
+/// `threads` is the runtime, if it can start threads.
 pub fn run_program<T: Threads + Wait + Sync>(rt: &HostRuntime, threads: &T) -> u8 {
     let words = match words(rt) {
         Ok(words) => words,

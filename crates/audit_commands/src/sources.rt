@@ -1,4 +1,4 @@
-//! The files that an audit is asked for, opened.
+//! Opens the files of an audit.
 ghost use Rattle.std.specs.Prelude.{◌≡◌, ◌≤◌, ℕ, List, IfErr, IfOk, map};
 ghost use Rattle.audit_commands.specs.Opening.{AreOpened, AreSenders, AreSources, IsNotOpened};
 
@@ -15,7 +15,8 @@ use std::sync::Wait;
 use std::thread::Threads;
 use sudo_text::Seq;
 
-/// The senders and paths of the words, each as `NAME=PATH`; or the first word that is not.
+// Returns the senders and the paths of the words `NAME=PATH`. Returns `BadSender` with the first
+// word that is not of this form.
 fn senders_of<'a>(alloc: Global, words: &[&'a str]) -> Result<Vec<(&'a str, &'a str)>, Fault>
     ensures senders { let words = map (λ w. w.now) words.now in
         IfOk result (λ pairs. AreSenders words (map (λ p. (p.0.now, p.1.now)) pairs.items)) }
@@ -31,7 +32,7 @@ fn senders_of<'a>(alloc: Global, words: &[&'a str]) -> Result<Vec<(&'a str, &'a 
     Ok(senders)
 }
 
-/// Opens a file, or names it.
+// Opens a file. Returns `CannotRead` with its path if that fails.
 fn open<R, O: Opener<R>>(alloc: Global, opener: &O, path: &str) -> Result<R, Fault>
     ensures opened { IfOk result (O.opens opener.now path.now) }
     ensures fault { (words : List (List ℕ)) → IfErr result
@@ -43,7 +44,7 @@ fn open<R, O: Opener<R>>(alloc: Global, opener: &O, path: &str) -> Result<R, Fau
     }
 }
 
-/// Opens the requests file of a sender.
+// Opens the requests file of a sender.
 fn open_source<R, O: Opener<R>>(
     alloc: Global,
     opener: &O,
@@ -64,7 +65,7 @@ fn open_source<R, O: Opener<R>>(
     }
 }
 
-/// Opens the requests files, in the order in which they are named.
+// Opens the requests files, in the order in which they are named.
 fn open_sources<R: Drop, O: Opener<R>>(
     alloc: Global,
     opener: &O,
@@ -85,7 +86,7 @@ fn open_sources<R: Drop, O: Opener<R>>(
     Ok(sources)
 }
 
-/// The files of users, of hosts and of requests.
+/// The files of users, of hosts and of requests, opened.
 #[derive(Drop)]
 pub struct Opened<R> {
     pub users: R,
@@ -93,7 +94,8 @@ pub struct Opened<R> {
     pub sources: Vec<Source<R>>,
 }
 
-/// Opens the files, or names the first that cannot be opened; a bad sender comes before that.
+/// Opens the files. Returns `BadSender` for a bad sender before any file is opened, and
+/// `CannotRead` with the path of the first file that cannot be opened.
 pub fn open_all<R: Drop, O: Opener<R>>(
     alloc: Global,
     opener: &O,
@@ -126,8 +128,8 @@ pub fn open_all<R: Drop, O: Opener<R>>(
     }
 }
 
-/// Answers the requests of the files that the words `NAME=PATH` name, and gives the exit status. `threads` is the runtime,
-/// where it can start threads.
+/// Answers the requests of the files that the words `NAME=PATH` name, and returns the exit status.
+/// `threads` is the runtime, if it can start threads.
 pub(crate) fn run_audit<T: Threads + Wait + Sync>(
     rt: &HostRuntime,
     threads: &T,

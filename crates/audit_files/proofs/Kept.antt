@@ -1,4 +1,4 @@
--- The users of a file with one row a membership, written out again, are its rows.
+-- The users of a file with one row per membership, written out again, are its rows.
 use Rattle.std.proofs.Common.{◌≡◌, ◌-◌, ◌∙◌, ℕ, suc, Bool, true, false, List, [], ◌∷◌, ◌++◌, length, refl, sym, ap, subst, arith, append-nil, append_assoc, Option, Some, None, slice_get, filter_map, map, cond, option_map, option_and_then}
 use Rattle.std.specs.Prelude.{⊤, bytes_eq, is_some, not, ◌&&◌, ◌||◌, ◌==◌}
 use Rattle.std.specs.List.{flat_map, fold}

@@ -1,4 +1,4 @@
--- One more row of a file with one row a membership.
+-- One more row of a file with one row per membership.
 use Rattle.std.proofs.Common.{◌≡◌, ◌<◌, ◌∙◌, true, false, List, [], ◌∷◌, ◌++◌, refl, ap, sym, append_assoc, length, Option, Some, None, filter_map, nat_le}
 use Rattle.std.specs.Prelude.{bytes_eq, is_some}
 use Rattle.std.proofs.lemmas.Bool.{lt-leb}

@@ -12,7 +12,7 @@ use Rattle.audit_files.specs.Files.{IsRead, States, byte_limit, bytes_read, byte
 use Rattle.audit_files.specs.declared.fault.FileFault.{FileFault}
 use Rattle.audit_files.specs.declared.fault.FileFault.TheVariants.{TooMany, Read}
 
--- the bytes that a reader tells, or whatever it may give
+-- the bytes that a reader specifies, or any bytes
 known : (told : Option Ahead) (any : Ahead) (r : Result (List ℕ) FileFault) → ((a : Ahead) → told ≡ Some a → bytes_read a ≡ r) → bytes_read any ≡ r → IsRead itself told r
 known None any r some e = record { ahead = any; gives = tt; states = rw e (same r) }
   where

@@ -3,7 +3,7 @@ use Rattle.std.specs.Prelude.{ℕ, ⊤, Option, Some, None, Result, Ok, Err}
 use Rattle.audit_files.specs.declared.fault.FileFault.{FileFault}
 use Rattle.audit_files.specs.declared.fault.FileFault.TheVariants.{Header, BadRow, OutOfOrder, RowAfterClose, TooMany, Read, Memory}
 
--- a fault of the file or of reading it, and not out of memory
+-- a fault of the file or of reading it: every fault but out of memory
 abbrev pub IsOfFile : FileFault → Type 0
 IsOfFile Header = ⊤
 IsOfFile (BadRow row) = ⊤
@@ -18,7 +18,7 @@ abbrev pub unless : {T : Type 0} → Option FileFault → T → Result T FileFau
 unless None x = Ok x
 unless (Some e) x = Err e
 
--- 1 where it tells of a read that failed
+-- the number of failed reads that the fault reports: 1 for `Read`, else 0
 abbrev pub failures_in : FileFault → ℕ
 failures_in Header = 0
 failures_in (BadRow row) = 0

@@ -1,4 +1,5 @@
--- What the records of a file state, and what is read.
+-- The content of a file: from the bytes of a reader to its records, and to the value that they
+-- state.
 use Rattle.std.specs.Prelude.{◌≡◌, ⊤, ℕ, Bool, List, [], ◌∷◌, length, nat_eq, nat_lt, slice_index_or, Option, Some, None, Result, Ok, Err, if◌then◌else◌}
 use Rattle.std.specs.Cmp.Lexicographic.{pointwise}
 use Rattle.audit_files.specs.Feeding.{Ahead}
@@ -11,45 +12,47 @@ use Rattle.audit_files.specs.declared.fault.FileFault.TheVariants.{Header, TooMa
 abbrev pub same_fields : Fields → Fields → Bool
 same_fields = pointwise (pointwise nat_eq)
 
--- the field at a place
+-- the field at this index
 abbrev pub field_in : Fields → ℕ → List ℕ
 field_in fields at = slice_index_or fields at []
 
--- the records after the header, where the first record is the header
+-- the records after the header, if the first record is the header
 abbrev pub headed : Fields → List Fields → Option (List Fields)
 headed header [] = None
 headed header (first ∷ rest) = if same_fields first header then Some rest else None
 
--- the first fault of the records after the header, or that there is no header
+-- the first fault of the records after the header, or `Header` without a header
 abbrev pub fault_after : (List Fields → Fields → Option FileFault) → Option (List Fields) → Option FileFault
 fault_after fault None = Some Header
 fault_after fault (Some rest) = first_fault fault [] rest
 
--- the records after the header state a value, unless there is a fault
+-- the value that the records after the header state, or their fault
 abbrev pub stated_by : {T : Type 0} → (List Fields → Fields → Option FileFault) → (List Fields → T) → Option (List Fields) → Result T FileFault
 stated_by fault value None = Err Header
 stated_by fault value (Some rest) = unless (first_fault fault [] rest) (value rest)
 
--- what the records of a file state under this header, or `Header` where they have another or none
+-- the value that the records of a file state under this header; `Header` if the header is another
+-- or missing
 abbrev pub stated : {T : Type 0} → Fields → (List Fields → Fields → Option FileFault) → (List Fields → T) → List Fields → Result T FileFault
 stated header fault value all = stated_by fault value (headed header all)
 
--- how many bytes a file may have
+-- the most bytes that a file may have
 abbrev pub byte_limit : ℕ
 byte_limit = 268435456
 
--- the bytes that are read up to a limit: too many before all else, then a read that fails after them
+-- the bytes that are read up to a limit: `TooMany` above the limit before all else, then `Read` if
+-- reading fails after them
 abbrev pub bytes_upto : ℕ → Ahead → Result (List ℕ) FileFault
 bytes_upto limit a =
     if nat_lt limit (length a.bytes) then Err TooMany
     else if a.fails then Err Read
     else Ok a.bytes
 
--- the bytes that are read of a file
+-- the bytes of a file, as they are read
 abbrev pub bytes_read : Ahead → Result (List ℕ) FileFault
 bytes_read a = bytes_upto byte_limit a
 
--- what they state
+-- the value that these bytes state
 abbrev pub stated_in : {T : Type 0} → (List ℕ → Result T FileFault) → Result (List ℕ) FileFault → Result T FileFault
 stated_in meaning (Ok bytes) = meaning bytes
 stated_in meaning (Err e) = Err e
@@ -57,22 +60,22 @@ stated_in meaning (Err e) = Err e
 abbrev pub read_as : {T : Type 0} → (List ℕ → Result T FileFault) → Ahead → Result T FileFault
 read_as meaning a = stated_in meaning (bytes_read a)
 
--- what is told of the bytes that a reader gives: they are those that it tells, or any where it tells none
+-- the bytes that a reader may have ahead: those that it specifies, or any if it specifies none
 abbrev pub Tells : Option Ahead → Ahead → Type 0
 Tells None a = ⊤
 Tells (Some told) a = a ≡ told
 
--- a reader of which this is told may give bytes that are read so
+-- these may be the bytes ahead of the reader, and this result is read from them
 pub record IsRead {T : Type 0} (meaning : List ℕ → Result T FileFault) (told : Option Ahead) (result : Result T FileFault) : Type 0 where
   pub ahead : Ahead
   pub gives : Tells told ahead
   pub states : read_as meaning ahead ≡ result
 
--- what is answered is what some bytes state that the reader may give: want of memory aside
+-- the result is what some possible bytes of the reader state; out of memory is unspecified
 abbrev pub States : {T : Type 0} → (List ℕ → Result T FileFault) → Option Ahead → Result T FileFault → Type 0
 States meaning told (Ok x) = IsRead meaning told (Ok x)
 States meaning told (Err e) = IsOfFile e → IsRead meaning told (Err e)
 
--- the bytes themselves
+-- the bytes themselves, as a value
 abbrev pub itself : List ℕ → Result (List ℕ) FileFault
 itself bytes = Ok bytes

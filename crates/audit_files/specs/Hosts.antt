@@ -1,4 +1,4 @@
--- What a hosts file states.
+-- The content of a hosts file.
 use Rattle.std.specs.Prelude.{◌≡◌, refl, Bool, true, false, nat_le, ℕ, List, [], ◌∷◌, ◌+◌, ◌*◌, nat_lt, codes, filter_map, Option, Some, None, Result, option_map, option_and_then, if◌then◌else◌}
 use Rattle.std.proofs.lemmas.Bool.{leb-true}
 use Rattle.sudo_match.specs.declared.people.Interface.{Interface}
@@ -13,7 +13,7 @@ use Rattle.audit_files.specs.declared.fault.FileFault.{FileFault}
 abbrev pub hosts_header : Fields
 hosts_header = codes "host" ∷ codes "interfaces" ∷ []
 
--- a byte of an address: a number below 256
+-- the byte of an address: a number below 256
 abbrev pub octet_of : List ℕ → Option ℕ
 octet_of text = octet_in (number_of text)
   where
@@ -26,13 +26,13 @@ abbrev pub address_by : Option ℕ → Option ℕ → Option ℕ → Option ℕ 
 address_by (Some a) (Some b) (Some c) (Some d) = Some (((a * 256 + b) * 256 + c) * 256 + d)
 address_by _ _ _ _ = None
 
--- four bytes with dots between
+-- the address of four bytes, separated by dots
 abbrev pub address_of : List ℕ → Option ℕ
 address_of text =
     option_and_then (λ p. option_and_then (λ q. option_and_then (λ r.
     address_by (octet_of p.0) (octet_of q.0) (octet_of r.0) (octet_of r.1)) (cut_at 46 q.1)) (cut_at 46 p.1)) (cut_at 46 text)
 
--- an interface of so many bits, where they are at most 32
+-- an interface with this number of bits, if they are at most 32
 abbrev pub interface_if : (addr bits : ℕ) (fits : Bool) → nat_le bits 32 ≡ fits → Option Interface
 interface_if addr bits true e = Some (record { addr = addr; bits = bits; in_range = leb-true bits 32 e })
 interface_if addr bits false e = None
@@ -40,12 +40,12 @@ interface_if addr bits false e = None
 abbrev pub interface_with : ℕ → ℕ → Option Interface
 interface_with addr bits = interface_if addr bits (nat_le bits 32) refl
 
--- an address, a slash, and how many bits of it are the network's, up to 32
+-- an address, a slash, and the number of its network bits, up to 32
 abbrev pub interface_of : List ℕ → Option Interface
 interface_of word =
     option_and_then (λ p. option_and_then (λ a. option_and_then (λ n. interface_with a n) (number_of p.1)) (address_of p.0)) (cut_at 47 word)
 
--- a host that is not empty, and interfaces one space apart
+-- a nonempty host, and interfaces separated by one space
 abbrev pub machine_of : Fields → Option Machine
 machine_of (host ∷ interfaces ∷ []) =
     if is_empty host then None else option_map (λ list. record { name = host; interfaces = list }) (items_of interface_of interfaces)
@@ -54,6 +54,6 @@ machine_of _ = None
 abbrev pub machine_fault : List Fields → Fields → Option FileFault
 machine_fault before fields = row_fault before (machine_of fields)
 
--- what the bytes of a hosts file state, or their first fault
+-- the hosts that the bytes of a hosts file state, or its first fault
 abbrev pub machines : List ℕ → Result (List Machine) FileFault
 machines text = stated hosts_header machine_fault (filter_map machine_of) (records_of text)

@@ -2,7 +2,7 @@
 use Rattle.std.specs.Prelude.{ℕ, List, [], ◌++◌, codes, decimal, slice_index_or}
 use Rattle.sudo_text.specs.declared.line.Place.{Place}
 
--- the path of a file by its number
+-- the path of the file with this number
 abbrev pub path_of : List (List ℕ) → ℕ → List ℕ
 path_of files file = slice_index_or files file []
 

@@ -19,14 +19,14 @@ line fields = row_text default_writer fields
 abbrev pub header : List (List ℕ)
 header = codes "sender" ∷ codes "number" ∷ codes "verdict" ∷ codes "line" ∷ codes "tags" ∷ []
 
--- which name is unknown
+-- the word for the name that is unknown
 abbrev pub unknown_word : What → List ℕ
 unknown_word what.User = codes "unknown-user"
 unknown_word what.Host = codes "unknown-host"
 unknown_word what.Target = codes "unknown-target"
 unknown_word what.Group = codes "unknown-group"
 
--- what the policy says, in a word
+-- the word for a verdict
 abbrev pub verdict_word : Verdict → List ℕ
 verdict_word (Allow place tags) = codes "allow"
 verdict_word (Deny place) = codes "deny"
@@ -70,14 +70,15 @@ verdict_tags (Deny place) = []
 verdict_tags NoMatch = []
 verdict_tags (Unknown w) = []
 
--- the fields of a record
+-- the fields of an answer's record
 abbrev pub answer_fields : List (List ℕ) → List ℕ → Answer → List (List ℕ)
 answer_fields files sender a = sender ∷ decimal a.request.number ∷ verdict_word a.verdict ∷ verdict_place files a.verdict ∷ verdict_tags a.verdict ∷ []
 
--- a record for each answer of a sender, in their order
+-- one record for each answer of a sender, in order
 abbrev pub sender_text : List (List ℕ) → SenderReport → List ℕ
 sender_text files s = flat_map (λ a. line (answer_fields files s.name a)) s.answers
 
--- the header, and each sender's records, in the order of the roster; places are in a policy of these files
+-- the header, and each sender's records, in the order of the roster; `files` are the files of the
+-- policy
 abbrev pub report_text : List (List ℕ) → Report → List ℕ
 report_text files r = line header ++ flat_map (sender_text files) r.senders

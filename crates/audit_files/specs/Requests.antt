@@ -1,4 +1,4 @@
--- What a requests file states.
+-- The content of a requests file.
 use Rattle.std.specs.Prelude.{⊤, ◌<◌, ℕ, suc, Bool, false, not, List, [], ◌∷◌, ◌+◌, ◌-◌, ◌==◌, ◌&&◌, ◌||◌, nat_le, nat_eq, length, codes, filter_map, slice_get, is_some, Option, Some, None, Result, option_map, if◌then◌else◌}
 use Rattle.std.specs.Option.{option_map_or}
 use Rattle.std.specs.Cmp.Lexicographic.{pointwise}
@@ -18,7 +18,7 @@ same_text = pointwise nat_eq
 abbrev pub requests_header : Fields
 requests_header = codes "number" ∷ codes "user" ∷ codes "host" ∷ codes "runas_user" ∷ codes "runas_group" ∷ codes "command" ∷ codes "arguments" ∷ []
 
--- an empty field asks for nothing
+-- the target that a field asks for: none if it is empty
 abbrev pub asked_for : List ℕ → Option (List ℕ)
 asked_for [] = None
 asked_for (b ∷ rest) = Some (b ∷ rest)
@@ -33,12 +33,12 @@ abbrev pub is_command : List ℕ → Bool
 is_command [] = false
 is_command (b ∷ rest) = (b == 47) || same_text (b ∷ rest) (codes "sudoedit")
 
--- the number of a request: from 1, with a user, a host and a command beside it
+-- the number of a request: from 1, beside a user, a host and a command
 abbrev pub asked_number : List ℕ → List ℕ → List ℕ → List ℕ → Option ℕ
 asked_number number user host command =
     if not (is_empty user) && (not (is_empty host) && is_command command) then positive (number_of number) else None
 
--- the request that fields state
+-- the request that these fields state
 abbrev pub request_of : Fields → Option Request
 request_of (number ∷ user ∷ host ∷ runas_user ∷ runas_group ∷ command ∷ arguments ∷ []) =
     option_map (λ n. record {
@@ -71,28 +71,30 @@ requests_in all = filter_map request_of all
 abbrev pub closes_in : List Fields → List ℕ
 closes_in all = filter_map close_of all
 
--- the number of the last request, 0 where there is none
+-- the number of the last request, 0 if there is none
 abbrev pub last_number : List Request → ℕ
 last_number requests = option_map_or (λ r. r.number) (slice_get requests (length requests - 1)) 0
 
--- how many requests a file may have
+-- the most requests that a file may have
 abbrev pub request_limit : ℕ
 request_limit = 1000000
 
--- a number after these requests: it is greater than the last one's, and there is room for it
+-- the fault of a number after these requests: `OutOfOrder` if it is not greater than the last one,
+-- `TooMany` if the list is full
 abbrev pub order_fault : ℕ → List Request → ℕ → Option FileFault
 order_fault row before number =
     if nat_le number (last_number before) then Some (OutOfOrder row)
     else if nat_le request_limit (length before) then Some TooMany
     else None
 
--- the fault of a record of seven fields that no close row precedes
+-- the fault of a record of seven fields that follows no close row
 abbrev pub shape_fault : ℕ → List Request → Option Request → Option ℕ → Option FileFault
 shape_fault row before (Some r) close = order_fault row before r.number
 shape_fault row before None (Some count) = None
 shape_fault row before None None = Some (BadRow row)
 
--- the fault of a record after these: its number of fields, a close row before it, its shape, its number
+-- the fault of a record after these, in this order: its number of fields, a close row before it,
+-- its shape, its number
 abbrev pub request_fault : List Fields → Fields → Option FileFault
 request_fault before fields =
     let row = length before + 2 in
@@ -100,11 +102,11 @@ request_fault before fields =
     else if is_some (slice_get (closes_in before) 0) then Some (RowAfterClose row)
     else shape_fault row (requests_in before) (request_of fields) (close_of fields)
 
--- the requests and the close row's count, if there is one
+-- the requests of some records, and the count of their close row, if they have one
 abbrev pub requests_of : List Fields → Requests
 requests_of all = record { list = requests_in all; close = slice_get (closes_in all) 0 }
 
--- what the bytes of a requests file state, or their first fault
+-- the content of a requests file, from its bytes, or its first fault
 abbrev pub sent : List ℕ → Result Requests FileFault
 sent text = stated requests_header request_fault requests_of (records_of text)
 
@@ -113,6 +115,6 @@ abbrev pub RiseAbove : ℕ → List Request → Type 0
 RiseAbove n [] = ⊤
 RiseAbove n (r ∷ rest) = (n < r.number) × RiseAbove r.number rest
 
--- they are at least 1, and each is greater than the one before it
+-- the numbers are at least 1, and each is greater than the previous one
 abbrev pub AreRising : List Request → Type 0
 AreRising requests = RiseAbove 0 requests

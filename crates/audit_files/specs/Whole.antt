@@ -1,23 +1,24 @@
--- The whole of what a reader gives.
+-- All bytes of a reader, up to a limit.
 use Rattle.std.specs.Prelude.{ℕ, List, length, ⊤, Result, Ok, Err, nat_lt, if◌then◌else◌}
 use Rattle.audit_files.specs.Feeding.{Ahead}
 use Rattle.audit_files.specs.declared.whole.ReadFault.{ReadFault}
 use Rattle.audit_files.specs.declared.whole.ReadFault.TheVariants.{TooLong, Failed, Memory}
 
--- the whole text: too long above the limit, whatever comes after; else all bytes, unless reading then fails
+-- the whole text: too long above the limit, whatever follows; else all bytes, unless reading then
+-- fails
 abbrev pub whole_of : ℕ → Ahead → Result (List ℕ) ReadFault
 whole_of limit a =
     if nat_lt limit (length a.bytes) then Err TooLong
     else if a.fails then Err Failed
     else Ok a.bytes
 
--- a fault of the text or of reading it, and not out of memory
+-- a fault of the text or of reading it: every fault but out of memory
 abbrev pub IsOfReader : ReadFault → Type 0
 IsOfReader TooLong = ⊤
 IsOfReader Failed = ⊤
 IsOfReader Memory = ⊥
 
--- 1 where it is a read that failed
+-- 1 if it is a failed read, else 0
 abbrev pub fault_failures : ReadFault → ℕ
 fault_failures TooLong = 0
 fault_failures Failed = 1

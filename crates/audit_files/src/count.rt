@@ -1,9 +1,10 @@
+//! Counts that contracts alone see.
 ghost use Rattle.std.specs.Prelude.{◌≡◌, ◌+◌};
 ghost use Rattle.audit_files.specs.Count.{times};
 
 use std::snapshot::Snapshot;
 
-/// How often something has happened. Contracts alone see the number, and it has no greatest value.
+/// A count of events. Only contracts see its value, which has no upper bound.
 #[derive(Drop)]
 pub enum Count {
     Never,
@@ -11,7 +12,7 @@ pub enum Count {
 }
 
 impl Count {
-    /// Once more.
+    /// Adds one.
     pub fn add_one(&mut self)
         ensures { times self.new ≡ times self.old + 1 }
     {

@@ -1,10 +1,12 @@
+//! Readers and writers of the system.
 ghost use Rattle.std.specs.Prelude.{◌≡◌, None};
 ghost use Rattle.audit_files.specs.Count.{times};
 
 use crate::{Count, Failed, Feed, Sink};
 use std::io::{Read, Write};
 
-/// A reader or a writer of the system. It tells nothing of the bytes that go through it.
+/// A reader or a writer of the system. Its contracts leave the bytes that it reads or writes
+/// unspecified.
 #[derive(Drop)]
 pub struct Device<T> {
     inner: T,
@@ -13,7 +15,7 @@ pub struct Device<T> {
 }
 
 impl<T> Device<T> {
-    /// A reader or a writer of which nothing has failed yet.
+    /// Creates a device over a reader or a writer. No call has failed yet.
     pub fn new(inner: T) -> Device<T>
         ensures inner { result.inner ≡ inner }
         ensures reads { times result.failed_reads ≡ 0 }

@@ -1,30 +1,30 @@
-//! Why a file is refused.
+//! Faults of files.
 
 use std::alloc::AllocError;
 use thiserror::Error;
 
-/// Why a file was refused. Rows are counted by records, from 1 for the header.
+/// The reason why a file is refused. `row` counts the records, from 1 for the header.
 #[derive(Clone, Copy, Debug, PartialEq, Eq, Error)]
 pub enum FileFault {
-    /// The first record is not the header of such a file, or there is none.
+    /// The first record is not the header of such a file, or the file has no record.
     #[error("bad header")]
     Header,
     /// A record has another number of fields, or a field of another shape.
     #[error("row {row}: bad row")]
     BadRow { row: u32 },
-    /// The number of a request is not greater than the one before it.
+    /// The number of a request is not greater than the previous one.
     #[error("row {row}: out of order")]
     OutOfOrder { row: u32 },
     /// A record follows the close row.
     #[error("row {row}: row after close")]
     RowAfterClose { row: u32 },
-    /// There are more bytes or rows than a file may have.
+    /// The file has more bytes or rows than allowed.
     #[error("too many rows")]
     TooMany,
     /// A read failed.
     #[error("read failed")]
     Read,
-    /// Memory was refused.
+    /// Out of memory.
     #[error("out of memory")]
     Memory,
 }

@@ -1,18 +1,19 @@
+//! The trait of readers.
 ghost use Rattle.std.specs.Prelude.{◌≡◌, ◌+◌, ◌≤◌, ℕ, Option, IfOk, length};
 ghost use Rattle.audit_files.specs.Feeding.{Ahead, Reads, failures_of};
 
 use crate::Failed;
 
-/// A reader.
+/// A reader of bytes.
 pub trait Feed {
-    // What reads give from here on, where the reader tells it.
+    // The bytes still to be read, if the reader specifies them.
     ghost ahead: { Self → Option Ahead };
 
-    // How many reads have failed.
+    // The number of reads that have failed.
     ghost failed_reads: { Self → ℕ };
 
-    /// Reads the next bytes into the front of the buffer, and says how many: none only at the end or
-    /// where the buffer has no room.
+    /// Reads the next bytes into the front of the buffer, and returns their number. Returns 0 only
+    /// at the end or if the buffer is empty, and `Failed` if the read failed.
     fn read(&mut self, buffer: &mut [u8]) -> Result<usize, Failed>
         ensures bound { IfOk result (λ n. n ≤ length buffer.new) }
         ensures bytes { Reads (ahead self.old) (ahead self.new) result buffer.new }

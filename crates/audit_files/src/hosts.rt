@@ -1,3 +1,4 @@
+//! Hosts files.
 ghost use Rattle.std.specs.Prelude.{◌≡◌, ◌+◌, ◌∷◌, ◌++◌, [], Ok, Err, IfOk, IfErr, OnOk, IfSome, filter_map, length};
 ghost use Rattle.csv.specs.Records.{fields_of};
 ghost use Rattle.audit_files.specs.Faults.{IsOfFile, failures_in, read_failures};
@@ -15,7 +16,7 @@ use std::alloc::{AllocError, Global};
 use sudo_match::{Interface, Machine};
 use sudo_text::Seq;
 
-// A byte of an address.
+// Returns the byte of an address that a text denotes: a number below 256.
 fn octet(text: &[u8]) -> Option<u8>
     ensures { result ≡ octet_of text.now }
 {
@@ -25,7 +26,7 @@ fn octet(text: &[u8]) -> Option<u8>
     }
 }
 
-// The address of four bytes, where there are four.
+// Returns the address of four bytes, the first one highest, if all are present.
 fn address_from(
     first: Option<u8>,
     second: Option<u8>,
@@ -43,7 +44,7 @@ fn address_from(
     }
 }
 
-// The address that four bytes with dots between them write.
+// Returns the address that a text denotes: four bytes, separated by dots.
 fn address(text: &[u8]) -> Option<u32>
     ensures { result ≡ address_of text.now }
 {
@@ -53,7 +54,7 @@ fn address(text: &[u8]) -> Option<u32>
     address_from(octet(first), octet(second), octet(third), octet(fourth))
 }
 
-// An interface of so many bits, where they are at most 32.
+// Returns the interface with this number of network bits, if they are at most 32.
 fn interface(addr: u32, bits: u32) -> Option<Interface>
     ensures { result ≡ interface_with addr bits }
 {
@@ -83,7 +84,7 @@ impl Item for Interface {
     }
 }
 
-// The machine that a record states.
+// Returns the host that a record states, if it states one.
 #[tactic(auto, using(crate::proofs::FieldLemmas::two_fields))]
 fn machine(alloc: Global, record: &ByteRecord) -> Result<Option<Machine>, AllocError>
     ensures { IfOk result (λ o. o ≡ machine_of (fields_of «record».now)) }
@@ -94,7 +95,7 @@ fn machine(alloc: Global, record: &ByteRecord) -> Result<Option<Machine>, AllocE
     machine_by(alloc, field(record, 0), field(record, 1))
 }
 
-// The machine that two fields state.
+// Returns the host that two fields state, if they state one.
 fn machine_by(alloc: Global, host: &[u8], interfaces: &[u8]) -> Result<Option<Machine>, AllocError>
     ensures { IfOk result (λ o. o ≡ machine_of (host.now ∷ interfaces.now ∷ [])) }
 {
@@ -111,7 +112,7 @@ fn machine_by(alloc: Global, host: &[u8], interfaces: &[u8]) -> Result<Option<Ma
     }))
 }
 
-// The machines so far.
+// The hosts that were read so far.
 #[derive(Drop)]
 struct Machines {
     alloc: Global,
@@ -125,7 +126,7 @@ impl Table for Machines {
 
     ghost fault = { machine_fault };
 
-    // One machine for each record.
+    // One host for each record.
     ghost holds = { λ list before. (list.list.items ≡ filter_map machine_of before) × (length list.list.items ≡ length before) };
 
     #[tactic(auto, using(crate::proofs::FieldLemmas::no_header, crate::proofs::FieldLemmas::two_fields))]
@@ -162,7 +163,7 @@ impl Machines {
     }
 }
 
-// What the bytes of a hosts file state, or their first fault.
+// Returns the hosts that the bytes of a hosts file state, in order, or its first fault.
 fn machines_in(alloc: Global, text: &[u8]) -> Result<Vec<Machine>, FileFault>
     ensures stated { IfOk result (λ list. machines text.now ≡ Ok list.items) }
     ensures fault { IfErr result (λ e. IsOfFile e → machines text.now ≡ Err e) }
@@ -176,13 +177,15 @@ fn machines_in(alloc: Global, text: &[u8]) -> Result<Vec<Machine>, FileFault>
     Ok(table.list)
 }
 
-/// Reads a hosts file to its end: its machines, in order.
+/// Reads a hosts file to its end, and returns its hosts, in order.
 ///
-/// The header is `host,interfaces`. A row has a host that is not empty, and interfaces as
-/// `a.b.c.d/bits` one space apart, possibly none, with bits from 0 to 32. For each record the faults are, in this order: another
-/// number of fields or a field of another shape (`BadRow`), more than 100,000 rows (`TooMany`); the
-/// first faulty record decides. `TooMany` also comes for more than 268,435,456 bytes before any row is
-/// read, `Read` where a read failed, `Memory` where memory was refused.
+/// The header is `host,interfaces`. A row has a nonempty host, and interfaces as `a.b.c.d/bits`,
+/// separated by one space, possibly none, with bits from 0 to 32.
+///
+/// Returns `Header` if the header is another or missing. The first faulty record decides: returns
+/// `BadRow` if it has another number of fields or a field of another shape, or else `TooMany` if it
+/// is past 100,000 rows. Returns `TooMany` also for more than 268,435,456 bytes, before any row is
+/// read, `Read` if a read failed, and `Memory` if allocation failed.
 pub fn read_hosts<R: Feed>(alloc: Global, reader: &mut R) -> Result<Vec<Machine>, FileFault>
     ensures stated { IfOk result (λ list. IsRead machines (R.ahead reader.old) (Ok list.items)) }
     ensures fault { IfErr result (λ e. IsOfFile e

@@ -1,5 +1,5 @@
-//! The files of an audit: readers and writers whose contracts say what goes through them and how often they failed, the
-//! users, hosts and requests read from CSV, and the text of a report.
+//! The files of an audit: readers and writers whose contracts specify the bytes that pass through
+//! them and count failures; users, hosts and requests from CSV files; and the text of a report.
 #![tactic(auto)]
 
 mod count;

@@ -1,4 +1,4 @@
-//! Users files with one row a membership.
+//! Users files with one row per membership.
 ghost use Rattle.std.specs.Prelude.{◌≡◌, ◌∷◌, [], IfOk, IfErr, OnOk, is_some, length, option_map};
 ghost use Rattle.std.specs.Option.{option_copied};
 ghost use Rattle.csv.specs.Records.{fields_of};
@@ -17,7 +17,7 @@ use std::alloc::{AllocError, Global};
 use sudo_match::{Group, Person};
 use sudo_text::Seq;
 
-// Whether a record is the header of such a file.
+// Whether a record is the header of a file with one row per membership.
 #[tactic(auto, using(crate::proofs::FieldLemmas::no_header, crate::proofs::FieldLemmas::four_fields))]
 fn is_header(record: &ByteRecord) -> bool
     ensures { result ≡ same_fields (fields_of «record».now) memberships_header }
@@ -29,7 +29,7 @@ fn is_header(record: &ByteRecord) -> bool
         && field(record, 3) == b"group".as_slice()
 }
 
-/// Whether a text has the header of such a file.
+/// Whether a text has the header of a file with one row per membership.
 pub(crate) fn has_header(alloc: Global, text: &[u8]) -> Result<bool, AllocError>
     ensures { IfOk result (λ found. found ≡ is_some
         (headed memberships_header (records_of text.now))) }
@@ -41,7 +41,8 @@ pub(crate) fn has_header(alloc: Global, text: &[u8]) -> Result<bool, AllocError>
     Ok(is_header(&rows.record))
 }
 
-// The group that two fields state, or that they state none.
+// Returns the group that two fields state, as a list, which is empty if both fields are; `None` for
+// any other fields.
 fn groups(alloc: Global, gid: &[u8], name: &[u8]) -> Result<Option<Seq<Group>>, AllocError>
     ensures { IfOk result (λ o. o ≡ groups_of_row gid.now name.now) }
 {
@@ -57,7 +58,7 @@ fn groups(alloc: Global, gid: &[u8], name: &[u8]) -> Result<Option<Seq<Group>>, 
     Ok(Some(groups))
 }
 
-// The user that a record states, with one group or none.
+// Returns the user that a record states, with one group or none, if it states one.
 #[tactic(auto, using(crate::proofs::FieldLemmas::four_fields))]
 fn member(alloc: Global, record: &ByteRecord) -> Result<Option<Person>, AllocError>
     ensures { IfOk result (λ o. o ≡ member_of (fields_of «record».now)) }
@@ -74,7 +75,7 @@ fn member(alloc: Global, record: &ByteRecord) -> Result<Option<Person>, AllocErr
     )
 }
 
-// The user that four fields state.
+// Returns the user that four fields state, if they state one.
 fn member_by(
     alloc: Global,
     user: &[u8],
@@ -103,7 +104,7 @@ fn has_groups(person: &Person) -> bool
     !person.groups.is_empty()
 }
 
-// Whether a row may stand behind the rows of this user.
+// Whether a row may follow the rows of this user.
 fn may_follow(last: &Person, row: &Person) -> bool
     ensures { result ≡ goes_after last.now row.now }
 {
@@ -153,7 +154,7 @@ impl Table for Memberships {
 }
 
 impl Memberships {
-    // Whether a row may stand behind those so far.
+    // Whether a row may follow the rows so far.
     fn fits(&self, row: &Person) -> bool
         ensures { result ≡ is_some (row_behind (last_of self.now.list.items) (Some row.now)) }
     {
@@ -163,7 +164,8 @@ impl Memberships {
         }
     }
 
-    // Adds the group of a row to the last user where it is of that user; else it is a further user.
+    // Adds the group of a row to the last user if the row is of that user, or else appends the row
+    // as another user.
     fn keep(&mut self, row: Person) -> Result<(), AllocError>
         ensures { OnOk result (self.new.list.items ≡ with_row self.old.list.items row) }
     {
@@ -182,7 +184,8 @@ impl Memberships {
     }
 }
 
-/// What the bytes of such a file state, or their first fault.
+/// Returns the users that the bytes of a file with one row per membership state, in order, or its
+/// first fault.
 pub(crate) fn people_by_membership(alloc: Global, text: &[u8]) -> Result<Vec<Person>, FileFault>
     ensures stated { IfOk result (λ list. stated memberships_header membership_fault users_of
         (records_of text.now) ≡ Ok list.items) }

@@ -6,7 +6,7 @@ use itoa::Buffer;
 use std::alloc::AllocError;
 use sudo_text::{Place, Seq};
 
-/// Appends the path of a file by its number.
+/// Appends the path of the file with this number.
 pub fn push_path(text: &mut Vec<u8>, files: &[Seq<u8>], file: u32) -> Result<(), AllocError>
     ensures { OnOk result (text.new.items ≡ text.old.items ++ path_of files.now file) }
 {
@@ -16,7 +16,7 @@ pub fn push_path(text: &mut Vec<u8>, files: &[Seq<u8>], file: u32) -> Result<(),
     }
 }
 
-/// Appends a place, as `PATH:LINE`.
+/// Appends a place as `PATH:LINE`.
 pub fn push_place(text: &mut Vec<u8>, files: &[Seq<u8>], place: Place) -> Result<(), AllocError>
     ensures { OnOk result (text.new.items ≡ text.old.items ++ place_text files.now place) }
 {

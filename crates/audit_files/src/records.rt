@@ -1,3 +1,4 @@
+//! CSV records written to memory.
 ghost use Rattle.std.specs.Prelude.{◌≡◌, ◌++◌, [], IfOk, OnOk, map};
 ghost use Rattle.csv.specs.Writing.{default_writer, row_text};
 ghost use Rattle.audit_files.specs.Body.Text.{IsBetween, written};
@@ -5,13 +6,14 @@ ghost use Rattle.audit_files.specs.Body.Text.{IsBetween, written};
 use csv::{Writer, WriterBuilder};
 use std::alloc::{AllocError, Global};
 
-/// A text of records in memory.
+/// A text of CSV records in memory.
 #[derive(Drop)]
 pub(crate) struct Text {
     writer: Writer<Vec<u8>>,
 }
 
 impl Text {
+    /// Creates an empty text.
     pub(crate) fn new(alloc: Global) -> Text
         ensures between { IsBetween result }
         ensures empty { written result ≡ [] }
@@ -21,7 +23,7 @@ impl Text {
         }
     }
 
-    /// Writes a record. It fails only for memory.
+    /// Appends a record. Fails only if allocation failed.
     pub(crate) fn put(&mut self, fields: &[&[u8]]) -> Result<(), AllocError>
         requires { IsBetween self.old }
         ensures between { OnOk result (IsBetween self.new) }
@@ -34,7 +36,7 @@ impl Text {
         Err(AllocError)
     }
 
-    /// The text.
+    /// Returns the text. Fails only if allocation failed.
     pub(crate) fn finish(self) -> Result<Vec<u8>, AllocError>
         ensures { IfOk result (λ text. text.items ≡ written self) }
     {

@@ -25,7 +25,7 @@ fn word(verdict: &Verdict) -> &'static [u8]
     }
 }
 
-// Puts the place of the grant that decided in place of the text.
+// Replaces the text by the place of the grant that decided.
 fn set_place(text: &mut Vec<u8>, files: &[Seq<u8>], verdict: &Verdict) -> Result<(), AllocError>
     ensures { OnOk result (text.new.items ≡ verdict_place files.now verdict.now) }
 {
@@ -91,7 +91,7 @@ fn set_tags(text: &mut Vec<u8>, verdict: &Verdict) -> Result<(), AllocError>
     }
 }
 
-// Writes a record of five fields.
+// Appends a record of five fields.
 fn put_five<'a>(
     text: &mut Text,
     first: &'a [u8],
@@ -109,14 +109,14 @@ fn put_five<'a>(
     text.put(&[first, second, third, fourth, fifth])
 }
 
-// The fields of a record that are written anew for each answer.
+// The fields of a record that each answer overwrites.
 #[derive(Drop)]
 struct Scratch {
     place: Vec<u8>,
     tags: Vec<u8>,
 }
 
-// Writes an answer's record.
+// Appends the record of an answer.
 fn put_answer(
     text: &mut Text,
     scratch: &mut Scratch,
@@ -142,7 +142,7 @@ fn put_answer(
     )
 }
 
-// Writes a sender's records.
+// Appends the records of a sender.
 fn put_sender(
     text: &mut Text,
     scratch: &mut Scratch,

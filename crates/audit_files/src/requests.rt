@@ -1,3 +1,4 @@
+//! Requests files.
 ghost use Rattle.std.specs.Prelude.{◌≡◌, ◌≢◌, ◌+◌, ◌∷◌, ◌++◌, [], Some, Ok, Err, List, ℕ, IfOk, OnOk, IfErr, IfSome, IfNone, length, slice_get};
 ghost use Rattle.csv.specs.Records.{fields_of};
 ghost use Rattle.audit_files.specs.Faults.{IsOfFile, failures_in, read_failures};
@@ -14,7 +15,8 @@ use std::alloc::{AllocError, Global};
 use sudo_match::Request;
 use sudo_text::Seq;
 
-/// What a requests file states: its requests in order, and the count of its close row, if it has one.
+/// The content of a requests file: its requests in order, and the count of its close row, if it has
+/// one.
 #[derive(Drop)]
 pub struct Requests {
     pub list: Seq<Request>,
@@ -34,7 +36,7 @@ struct RequestRow<'a> {
 }
 
 impl<'a> RequestRow<'a> {
-    // The row, where the record has seven fields.
+    // Returns the fields of a record as a row, if there are seven.
     #[tactic(auto, using(crate::proofs::FieldLemmas::seven_fields))]
     fn of(record: &'a ByteRecord) -> Option<RequestRow<'a>>
         ensures some { IfSome result (λ row. fields_of record.entry.now ≡ fields_in row) }
@@ -66,7 +68,7 @@ impl<'a> RequestRow<'a> {
             && self.arguments == b"arguments".as_slice()
     }
 
-    // The count, where this is a close row.
+    // Returns the count, if this is a close row.
     fn close(self) -> Option<u32>
         ensures { result ≡ close_of (fields_in self.entry) }
     {
@@ -79,7 +81,7 @@ impl<'a> RequestRow<'a> {
         if is_close { number(self.user) } else { None }
     }
 
-    // The number, where this is a request.
+    // Returns the number, if this is a request.
     fn asked_number(self) -> Option<u32>
         ensures { result ≡ number_asked self.entry.number.now self.entry.user.now
             self.entry.host.now self.entry.command.now }
@@ -93,7 +95,7 @@ impl<'a> RequestRow<'a> {
         }
     }
 
-    // The request, of which this is the number.
+    // Returns the request of this row, whose number is `number`.
     fn request(self, alloc: Global, number: u32) -> Result<Request, AllocError>
         requires { number_asked self.number.now self.user.now self.host.now self.command.now
             ≡ Some number }
@@ -122,7 +124,7 @@ fn is_command(text: &[u8]) -> bool
     }
 }
 
-// What an optional field asks for.
+// Returns the target that an optional field asks for; `None` if it is empty.
 fn target(alloc: Global, text: &[u8]) -> Result<Option<Seq<u8>>, AllocError>
     ensures { IfOk result (λ o. o ≡ asked_for text.now) }
 {
@@ -141,7 +143,7 @@ fn last_number(requests: &[Request]) -> u32
     }
 }
 
-// The fault of a request of this number after these.
+// Returns the fault of a request with this number after these requests, if it has one.
 fn order_fault(row: u32, before: &[Request], number: u32) -> Option<FileFault>
     ensures { result ≡ fault_of_order row before.now number }
 {
@@ -154,7 +156,7 @@ fn order_fault(row: u32, before: &[Request], number: u32) -> Option<FileFault>
     None
 }
 
-// The requests and the close row so far.
+// The requests and the close row that were read so far.
 #[derive(Drop)]
 struct Sent {
     alloc: Global,
@@ -204,7 +206,7 @@ impl Table for Sent {
 }
 
 impl Sent {
-    // Keeps the request, of which this is the number.
+    // Keeps the request of this row, whose number is `number`.
     fn keep(&mut self, fields: RequestRow<'_>, number: u32) -> Result<(), AllocError>
         requires { number_asked fields.number.now fields.user.now fields.host.now fields.command.now
             ≡ Some number }
@@ -219,7 +221,8 @@ impl Sent {
     }
 }
 
-/// What the bytes of a requests file state, or their first fault. Beside that only memory can be wanting.
+/// Returns the content of a requests file from its bytes, or its first fault. Otherwise fails only
+/// with `Memory`.
 pub(crate) fn requests_of_text(alloc: Global, text: &[u8]) -> Result<Requests, FileFault>
     ensures stated { IfOk result (λ requests. sent text.now ≡ Ok requests) }
     ensures fault { IfErr result (λ e. IsOfFile e → sent text.now ≡ Err e) }
@@ -237,16 +240,19 @@ pub(crate) fn requests_of_text(alloc: Global, text: &[u8]) -> Result<Requests, F
     })
 }
 
-/// Reads a requests file to its end: its requests, whose numbers rise, and the count of its close row.
+/// Reads a requests file to its end, and returns its requests, whose numbers rise, and the count of
+/// its close row.
 ///
-/// The header is `number,user,host,runas_user,runas_group,command,arguments`. A row has a number from
-/// 1, a user, a host, and a command that is `sudoedit` or begins with `/`; an empty target user or
-/// group asks for none. The last row is `close,COUNT,,,,,`. `TooMany` comes for more than 268,435,456
-/// bytes before any row is read, and for more than 1,000,000 requests; `Read` where a read failed, `Memory`
-/// where memory was refused. For each record the faults are, in this order: another number of fields
-/// (`BadRow`), a record after the close row (`RowAfterClose`), a field of another shape (`BadRow`), a
-/// number not greater than the one before (`OutOfOrder`), too many requests (`TooMany`). The first
-/// faulty record decides.
+/// The header is `number,user,host,runas_user,runas_group,command,arguments`. A row has a number
+/// from 1, a user, a host, and a command that is `sudoedit` or begins with `/`; an empty target
+/// user or group asks for none. The last row is `close,COUNT,,,,,`.
+///
+/// Returns `Header` if the header is another or missing. The first faulty record decides, by the
+/// first of these that applies: `BadRow` if it has another number of fields, `RowAfterClose` if it
+/// follows the close row, `BadRow` if a field has another shape, `OutOfOrder` if its number is not
+/// greater than the previous one, `TooMany` if it is past 1,000,000 requests. Returns `TooMany`
+/// also for more than 268,435,456 bytes, before any row is read, `Read` if a read failed, and
+/// `Memory` if allocation failed.
 pub fn read_requests<R: Feed>(alloc: Global, reader: &mut R) -> Result<Requests, FileFault>
     ensures states { States sent (R.ahead reader.old) result }
     ensures failures { R.failed_reads reader.new

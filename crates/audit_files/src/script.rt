@@ -1,3 +1,4 @@
+//! Readers and writers over memory.
 ghost use Rattle.std.specs.Prelude.{◌≡◌, ◌<◌, ◌≤◌, ◌++◌, ◌-◌, [], None, Some, false, IfOk, OnErr, length, max, take, vec_len};
 ghost use Rattle.audit_files.specs.Count.{times};
 ghost use Rattle.audit_files.specs.Feeding.{failing, given_before_call};
@@ -5,8 +6,8 @@ ghost use Rattle.audit_files.specs.Feeding.{failing, given_before_call};
 use crate::{Count, Failed, Feed, Sink};
 use std::alloc::{AllocError, Global};
 
-/// A reader and a writer over memory that tells all, moves at most so many bytes a call, and can fail
-/// at a named call.
+/// A reader and a writer over memory. Its contracts specify all bytes; it moves a limited number of
+/// bytes per call, and can fail at a chosen call.
 #[derive(Drop)]
 pub struct Script {
     text: Vec<u8>,
@@ -23,7 +24,8 @@ pub struct Script {
 impl Script {
     ghost use Rattle.audit_files.specs.Script.{ahead_of, taken_of, writes_of, stalled_of, step_of};
 
-    /// A reader of these bytes, which moves at most `step` bytes a call, and at least one.
+    /// Creates a reader of these bytes, which moves at most `step` bytes per call, but at least
+    /// one. Returns `AllocError` if allocation failed.
     pub fn of(alloc: Global, bytes: &[u8], step: usize) -> Result<Script, AllocError>
         ensures ahead { IfOk result (λ s. ahead_of s
             ≡ record { bytes = bytes.now; fails = false }) }
@@ -46,8 +48,8 @@ impl Script {
         })
     }
 
-    /// The call of this number fails, from 1, and each later one: a read where every read before it gives a whole step,
-    /// and a write. A reader that ends before that call never fails.
+    /// Makes the call with this number, from 1, fail, and each later one: a write, and a read if
+    /// every read before it moves a whole step. A reader that ends before that call never fails.
     pub fn failing_at(mut self, call: u64) -> Script
         ensures ahead { ahead_of result ≡ failing call (step_of self) (ahead_of self) }
         ensures taken { taken_of result ≡ taken_of self }
@@ -64,7 +66,7 @@ impl Script {
         self
     }
 
-    /// The bytes that it has taken.
+    /// Returns the bytes that were written.
     pub fn taken(&self) -> &[u8]
         ensures { result.now ≡ taken_of self.now }
     {
@@ -72,7 +74,8 @@ impl Script {
     }
 }
 
-// How many of the bytes that are left the reads before this one give; `None` where they give all and the end too.
+// Returns how many of the bytes that are left the reads before this one return; `None` if they
+// return all and the end too.
 fn given_before(call: u64, step: usize, left: usize) -> Option<usize>
     requires { 0 < step }
     ensures { result ≡ given_before_call call step left }
@@ -106,7 +109,8 @@ impl Feed for Script {
     }
 }
 
-// Copies the first bytes to the front of the buffer, as many as it has room for and at most `most`.
+// Copies the first bytes to the front of the buffer, as many as fit and at most `most`, and returns
+// their number.
 fn copy_front(bytes: &[u8], buffer: &mut [u8], most: usize) -> usize
     requires { 0 < most }
     ensures given { result ≤ length bytes.now }
@@ -141,7 +145,7 @@ impl Script {
     ghost use Rattle.audit_files.specs.Script.{stalled_of, taken_of, writes_of};
     ghost use Rattle.audit_files.specs.Sinking.{CountsDown};
 
-    // One write, not yet counted.
+    // Writes once, without counting a failure.
     fn take(&mut self, bytes: &[u8]) -> Result<usize, Failed>
         ensures bound { IfOk result (λ n. n ≤ length bytes.now) }
         ensures ok { IfOk result (λ n. taken_of self.new ≡ taken_of self.old ++ take n bytes.now) }

@@ -1,3 +1,4 @@
+//! Reading a table record by record.
 ghost use Rattle.std.specs.Prelude.{◌≡◌, ◌+◌, ◌∷◌, ◌++◌, [], ℕ, List, Option, Some, None, length, OnOk, IfErr};
 ghost use Rattle.csv.specs.Records.{fields_of};
 ghost use Rattle.audit_files.specs.Faults.{IsOfFile, failures_in};
@@ -10,21 +11,21 @@ use crate::rows::Rows;
 use csv::ByteRecord;
 use std::alloc::Global;
 
-/// What gathers the records of a file, one after another.
+/// A collection of the records of a file, one after another.
 pub(crate) trait Table {
     ghost header: { Fields };
 
-    // The fault of a record, by those before it.
+    // The fault of a record, given those before it.
     ghost fault: { List Fields → Fields → Option FileFault };
 
-    // The table stands after these records.
+    // The table represents these records.
     ghost holds: { Self → List Fields → Type 0 };
 
     /// Whether a record is the header.
     fn is_header(&self, record: &ByteRecord) -> bool
         ensures { result ≡ same_fields (fields_of record.now) header };
 
-    /// Takes the next record, which is the one of this number.
+    /// Adds the next record, which has the number `row`.
     fn add(&mut self, row: u32, record: &ByteRecord) -> Result<(), FileFault>
         ensures ok { OnOk result ((before : List Fields) → holds self.old before
             → row ≡ length before + 2
@@ -36,7 +37,7 @@ pub(crate) trait Table {
         ensures no_read { IfErr result (λ e. failures_in e ≡ 0) };
 }
 
-// Gathers all records that are left, up to the first fault.
+// Adds all records that are left, and stops at the first fault.
 fn fill<T: Table>(rows: &mut Rows<'_>, table: &mut T) -> Result<(), FileFault>
     requires reading { IsReading rows.old }
     requires empty { T.holds table.old [] }
@@ -55,7 +56,8 @@ fn fill<T: Table>(rows: &mut Rows<'_>, table: &mut T) -> Result<(), FileFault>
     Err(FileFault::Memory)
 }
 
-/// Gathers the records of a text under the header, up to the first fault.
+/// Adds the records of a text after its header, and stops at the first fault. Returns `Header` if
+/// the first record is not the header.
 pub(crate) fn gather<T: Table>(alloc: Global, text: &[u8], table: &mut T) -> Result<(), FileFault>
     requires { T.holds table.old [] }
     ensures ok { OnOk result ((rest : List Fields)

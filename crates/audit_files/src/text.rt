@@ -1,4 +1,4 @@
-//! The bytes of a file.
+//! Reading the bytes of a file.
 ghost use Rattle.std.specs.Prelude.{◌≡◌, ◌+◌, Ok, Err, IfOk, IfErr};
 ghost use Rattle.audit_files.specs.Faults.{IsOfFile, read_failures};
 ghost use Rattle.audit_files.specs.Files.{IsRead, itself};
@@ -6,10 +6,11 @@ ghost use Rattle.audit_files.specs.Files.{IsRead, itself};
 use crate::{Feed, FileFault, ReadFault, read_whole};
 use std::alloc::Global;
 
-/// How many bytes a file may have.
+// The most bytes that a file may have.
 const BYTE_LIMIT: usize = 268_435_456;
 
-/// The bytes of a file, read to its end.
+/// Reads a file to its end, and returns its bytes. Returns `TooMany` for more than 268,435,456
+/// bytes, `Read` if a read failed, and `Memory` if allocation failed.
 pub(crate) fn read_text<R: Feed>(alloc: Global, reader: &mut R) -> Result<Vec<u8>, FileFault>
     ensures text { IfOk result (λ text. IsRead itself (R.ahead reader.old) (Ok text.items)) }
     ensures fault { IfErr result (λ e. IsOfFile e → IsRead itself (R.ahead reader.old) (Err e)) }

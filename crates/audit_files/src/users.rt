@@ -1,3 +1,4 @@
+//! Users files.
 ghost use Rattle.std.specs.Prelude.{◌≡◌, ◌+◌, ◌∷◌, ◌++◌, [], Ok, Err, IfOk, IfErr, OnOk, IfSome, filter_map, length};
 ghost use Rattle.csv.specs.Records.{fields_of};
 ghost use Rattle.audit_files.specs.Faults.{IsOfFile, failures_in, read_failures};
@@ -35,7 +36,7 @@ impl Item for Group {
     }
 }
 
-// The person that a record states.
+// Returns the user that a record states, if it states one.
 #[tactic(auto, using(crate::proofs::FieldLemmas::three_fields))]
 fn person(alloc: Global, record: &ByteRecord) -> Result<Option<Person>, AllocError>
     ensures { IfOk result (λ o. o ≡ person_of (fields_of «record».now)) }
@@ -46,7 +47,7 @@ fn person(alloc: Global, record: &ByteRecord) -> Result<Option<Person>, AllocErr
     person_by(alloc, field(record, 0), field(record, 1), field(record, 2))
 }
 
-// The person that three fields state.
+// Returns the user that three fields state, if they state one.
 fn person_by(
     alloc: Global,
     user: &[u8],
@@ -72,7 +73,7 @@ fn person_by(
     }))
 }
 
-// The persons so far.
+// The users that were read so far.
 #[derive(Drop)]
 struct People {
     alloc: Global,
@@ -86,7 +87,7 @@ impl Table for People {
 
     ghost fault = { person_fault };
 
-    // One person for each record.
+    // One user for each record.
     ghost holds = { λ people before. (people.list.items ≡ filter_map person_of before) × (length people.list.items ≡ length before) };
 
     #[tactic(auto, using(crate::proofs::FieldLemmas::no_header, crate::proofs::FieldLemmas::three_fields))]
@@ -124,7 +125,8 @@ impl People {
     }
 }
 
-// What the bytes of a file with one row a user state, or their first fault.
+// Returns the users that the bytes of a file with one row per user state, in order, or its first
+// fault.
 fn people_by_user(alloc: Global, text: &[u8]) -> Result<Vec<Person>, FileFault>
     ensures stated { IfOk result (λ list. stated users_header person_fault (filter_map person_of)
         (records_of text.now) ≡ Ok list.items) }
@@ -140,7 +142,7 @@ fn people_by_user(alloc: Global, text: &[u8]) -> Result<Vec<Person>, FileFault>
     Ok(table.list)
 }
 
-// What the bytes of a users file state, or their first fault.
+// Returns the users that the bytes of a users file state, in order, or its first fault.
 fn people_in(alloc: Global, text: &[u8]) -> Result<Vec<Person>, FileFault>
     ensures stated { IfOk result (λ list. people text.now ≡ Ok list.items) }
     ensures fault { IfErr result (λ e. IsOfFile e → people text.now ≡ Err e) }
@@ -152,24 +154,24 @@ fn people_in(alloc: Global, text: &[u8]) -> Result<Vec<Person>, FileFault>
     people_by_user(alloc, text)
 }
 
-/// Reads a users file to its end: its persons, in order.
+/// Reads a users file to its end, and returns its users, in order.
 ///
 /// The header is `user,uid,groups` or `user,uid,gid,group`.
 ///
-/// Under the first a row is a user: a name that is not empty, a number, and groups as `name:gid` one
-/// space apart, possibly none.
+/// Under the first header a row is a user: a nonempty name, a number, and groups as `name:gid`,
+/// separated by one space, possibly none.
 ///
-/// Under the second a row is a membership: a name that is not empty, a number, and the number and the
-/// name of one group, which may have any name but an empty one. Rows of one user that follow one
-/// another are one person, with the groups in the order of the rows, the primary group first. A user
-/// without groups has one row, with both fields of the group empty. A row behind one of the same user
-/// is a `BadRow` where its number is another, or where one of the two has no group. Rows of a user
-/// that come back behind those of another are a further person of the same name.
+/// Under the second header a row is a membership: a nonempty name, a number, and the number and the
+/// name of one group, which may have any nonempty name. Consecutive rows of one user are one user,
+/// with the groups in the order of the rows, the primary group first. A user without groups has one
+/// row, in which both fields of the group are empty. A row after one of the same user is a `BadRow`
+/// if its number differs, or if one of the two has no group. Rows of a user that return after those
+/// of another are a further user of the same name.
 ///
-/// For each record the faults are, in this order: another number of fields, a field of another shape
-/// or a row that may not follow (`BadRow`), more than 100,000 rows (`TooMany`); the first faulty
-/// record decides. `Header` comes for another header or none, `TooMany` also for more than 268,435,456
-/// bytes before any row is read, `Read` where a read failed, `Memory` where memory was refused.
+/// Returns `Header` if the header is another or missing. The first faulty record decides: returns
+/// `BadRow` if it has another number of fields, has a field of another shape, or may not follow, or
+/// else `TooMany` if it is past 100,000 rows. Returns `TooMany` also for more than 268,435,456
+/// bytes, before any row is read, `Read` if a read failed, and `Memory` if allocation failed.
 pub fn read_users<R: Feed>(alloc: Global, reader: &mut R) -> Result<Vec<Person>, FileFault>
     ensures stated { IfOk result (λ list. IsRead people (R.ahead reader.old) (Ok list.items)) }
     ensures fault { IfErr result (λ e. IsOfFile e → IsRead people (R.ahead reader.old) (Err e)) }

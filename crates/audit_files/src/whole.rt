@@ -1,4 +1,4 @@
-//! The whole of what a reader gives.
+//! Reading all bytes of a reader.
 ghost use Rattle.std.specs.Prelude.{◌≡◌, ◌+◌, ◌≤◌, IfOk, IfErr, IfSome, vec_len};
 ghost use Rattle.audit_files.specs.Whole.{IsOfReader, failure_of, whole_of};
 
@@ -6,16 +6,16 @@ use crate::{Failed, Feed};
 use std::alloc::{AllocError, Global};
 use thiserror::Error;
 
-/// Why a text was not read.
+/// The reason why a text is not read.
 #[derive(Clone, Copy, Debug, PartialEq, Eq, Error)]
 pub enum ReadFault {
-    /// More bytes came than the limit.
+    /// The text has more bytes than the limit.
     #[error("too long")]
     TooLong,
     /// A read failed.
     #[error("read failed")]
     Failed,
-    /// Memory was refused.
+    /// Out of memory.
     #[error("out of memory")]
     Memory,
 }
@@ -31,8 +31,9 @@ impl From<AllocError> for ReadFault {
     }
 }
 
-/// Reads all there is, up to a limit. `TooLong` comes where more bytes than the limit came, `Failed`
-/// where a read failed before that, and the reading stops there.
+/// Reads to the end, up to a limit, and returns the bytes. Returns `TooLong` if there are more
+/// bytes than the limit, `Failed` if a read failed before that, and `Memory` if allocation failed;
+/// then it reads no further.
 pub fn read_whole<R: Feed>(
     alloc: Global,
     reader: &mut R,

@@ -1,4 +1,4 @@
--- What the arrivals of answered jobs count, told by the sources.
+-- The counts of the arrivals of answered jobs, from the sources.
 use Rattle.std.proofs.Common.{◌≡◌, ◌⊎◌, ℕ, zero, suc, ◌+◌, ◌≤◌, ◌<◌, Bool, true, false, cond, ◌&&◌, ◌==◌, List, [], ◌∷◌, ◌++◌, length, map, flat_map, replicate, Option, None, Some, Ok, Err, nat_lt, count_by, IsPermutation, append_assoc, sym, ap, subst, ◌∙◌, refl, inl, inr, arith, if◌then◌else◌}
 use Rattle.std.proofs.lemmas.List.{map-append}
 use Rattle.audit_collect.specs.declared.arrival.Arrival.{Arrival}

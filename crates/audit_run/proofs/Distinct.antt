@@ -1,4 +1,4 @@
--- In a roster no name stands twice.
+-- No name occurs twice in a roster.
 use Rattle.std.proofs.Common.{◌≡◌, ◌≢◌, ℕ, zero, suc, ◌<◌, Bool, true, false, List, [], ◌∷◌, Some, None, refl, sym, ◌∙◌, cond, arith}
 use Rattle.std.specs.Prelude.{⊤, not, bytes_eq, slice_get}
 use Rattle.std.proofs.lemmas.Slice.Eq.{bytes_eq-Decides}

@@ -1,4 +1,4 @@
--- Sources that are whole have no fault, and one report.
+-- Whole sources have no fault, and one report.
 use Rattle.std.proofs.Common.{◌≡◌, ◌⊎◌, ℕ, zero, suc, ◌+◌, ◌≤◌, ◌<◌, Bool, true, false, cond, ◌==◌, List, [], ◌∷◌, ◌++◌, length, flat_map, Option, None, Some, Ok, Err, slice_get, count_by, All, sym, ap, subst, ◌∙◌, refl, inl, inr, arith, if◌then◌else◌}
 use Rattle.std.proofs.lemmas.List.Elements.{All-head, All-tail}
 use Rattle.std.proofs.lemmas.Option.{same_Some, slice_get_within, slice_get_past}

@@ -1,4 +1,4 @@
--- What a pass gains, and what is gathered, step after step.
+-- The gains of a pass and the gathered outcomes, step by step.
 use Rattle.std.proofs.Common.{◌≡◌, ℕ, inl, inr, List, [], ◌∷◌, ◌++◌, map, sym, ap, ◌∙◌, ⊎_elim, refl, arith, append_assoc, append-nil}
 use Rattle.audit_collect.proofs.Members.{count_by-append}
 use Rattle.std.proofs.lemmas.List.{map-append}

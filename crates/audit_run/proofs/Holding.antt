@@ -1,4 +1,4 @@
--- What a collector holds, and lacks, is what the sources have and lack.
+-- A collector holds what the sources state, and lacks what they lack.
 use Rattle.std.proofs.Common.{◌≡◌, ◌⊎◌, ◌↔◌, ℕ, zero, suc, ◌+◌, ◌≤◌, ◌<◌, Bool, true, false, cond, ◌&&◌, ◌==◌, List, [], ◌∷◌, ◌++◌, length, map, flat_map, Option, None, Some, IsSome, IsTrue, Ok, Err, slice_get, is_some, count_by, IsPermutation, All, sym, ap, subst, ◌∙◌, refl, inl, inr, arith}
 use Rattle.std.proofs.lemmas.Option.{slice_get_within}
 use Rattle.std.specs.FinMap.{get, contains_key}

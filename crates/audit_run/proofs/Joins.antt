@@ -1,4 +1,4 @@
--- What a pass has when the passes of threads are joined to it.
+-- A pass after the passes of threads are joined to it.
 use Rattle.std.proofs.Common.{◌≡◌, ℕ, ◌+◌, List, [], ◌∷◌, ◌++◌, map, Option, sym, ap, ◌∙◌, arith, append_assoc, append-nil}
 use Rattle.std.proofs.lemmas.List.{map-append}
 use Rattle.std.proofs.lemmas.List.Concat.{flat_map-append}
@@ -44,7 +44,7 @@ one_source p handoff names n old new =
       outcomes_taken = append-nil p.outcomes_taken i;
     }
 
--- what the sources tell whose threads run, and those still to be started
+-- the bytes ahead of the sources whose threads run, and of those still to be started
 pub one_started : {X Y T : Type 0} (told : X → T) (tells : Y → T) (hs after : List X) (h : X) (y : Y) (ys rest : List Y) (all : List T)
     → after ≡ hs ++ h ∷ [] → told h ≡ tells y → ys ≡ y ∷ rest → map told hs ++ map tells ys ≡ all → map told after ++ map tells rest ≡ all
 one_started told tells hs after h y ys rest all pushed is step was =

@@ -1,4 +1,4 @@
--- What is read of sources: numbers that rise, and owners in the roster.
+-- The content of sources: numbers that rise, and owners in the roster.
 use Rattle.std.proofs.Common.{◌≡◌, ◌⊎◌, ℕ, suc, ◌+◌, ◌<◌, Bool, true, false, cond, not, List, [], ◌∷◌, length, map, Option, None, Some, Result, Ok, Err, All, sym, ap, subst, ◌∙◌, refl, inl, inr, arith, bytes_eq, filter, if◌then◌else◌}
 use Rattle.std.specs.List.{AllZip, zip}
 use Rattle.std.proofs.lemmas.List.Elements.{All-cons, All-nil}

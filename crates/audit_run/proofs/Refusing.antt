@@ -1,4 +1,4 @@
--- What a collector refuses is a fault that the sources have.
+-- A refusal of a collector is a fault that the sources have.
 use Rattle.std.proofs.Common.{◌≡◌, ℕ, ◌+◌, ◌≤◌, ◌<◌, Bool, true, false, cond, ◌==◌, List, [], ◌∷◌, ◌++◌, length, map, flat_map, Option, None, Some, Ok, Err, nat_lt, count_by, IsPermutation, All, sym, ap, subst, ◌∙◌, refl, inl, inr, arith}
 use Rattle.std.proofs.lemmas.Bool.Decides.{nat_tests}
 use Rattle.std.proofs.lemmas.List.Elements.{All-head, All-tail}
@@ -22,7 +22,7 @@ use Rattle.audit_run.specs.Parts.{Stated, run_jobs}
 use Rattle.audit_run.proofs.Counted.{among_flat, closes_below_counted, closes_counted, count_same, jobs_arrivals, part_arrivals, replies_counted}
 use Rattle.audit_run.proofs.Twice.{Rises, ask_in_two, no_zero}
 
--- a source's owner is one of so many senders
+-- a source's owner is one of this many senders
 abbrev pub IsOwned : ℕ → ℕ × Stated → Type 0
 IsOwned senders part = part.0 < senders
 

@@ -1,4 +1,4 @@
--- How a roster is found name by name.
+-- A roster, built name by name.
 use Rattle.std.proofs.Common.{◌≡◌, ◌≢◌, ℕ, suc, ◌+◌, Bool, true, false, ◌||◌, List, [], ◌∷◌, ◌++◌, length, map, refl, sym, ap, ◌∙◌, cond, arith, append_assoc}
 use Rattle.std.specs.Prelude.{not, bytes_eq, filter, if◌then◌else◌}
 use Rattle.std.specs.List.{list_any, zip}

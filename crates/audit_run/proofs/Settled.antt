@@ -1,4 +1,4 @@
--- Where all passes are joined and nothing is left, what was gathered is the answers of all jobs.
+-- If all passes are joined and nothing is left, the gathered outcomes are the answers of all jobs.
 use Rattle.std.proofs.Common.{◌≡◌, ℕ, suc, ◌+◌, ◌-◌, ◌<◌, ◌≤◌, List, [], ◌∷◌, ◌++◌, map, Option, None, Result, Ok, Err, IsPermutation, refl, sym, ap, ◌∙◌, subst, ⊎_elim, arith, append-nil, vec_len, length}
 use Rattle.std.specs.List.{zip}
 use Rattle.std.proofs.lemmas.Slice.Zip.{AllZip-long}
@@ -97,7 +97,7 @@ pub faults_long : (names : Names) (told : List (ℕ × Option Ahead)) (sources :
 faults_long names told sources prepared ended run =
     ap (λ l. length l) run.faults ∙ (length_map (λ (part : ℕ × Stated). fault_in part.1) run.parts ∙ AllZip-long IsPart told run.parts run.read)
 
--- where memory ran out while arrivals were gathered, the answer does not depend on them
+-- if memory ran out while arrivals were gathered, the result does not depend on them
 any_arrivals : (sources : List (List ℕ)) (faults : List (Option FileFault)) (comes : Result (List Held) Refused) (result : Result Report AuditFault)
     → Answers sources faults (Err refused.Memory) result → Answers sources faults comes result
 any_arrivals sources faults comes (Ok report) a = absurd (ok_or_err _ _ a.1.1)
@@ -133,7 +133,7 @@ refused_by : (names : Names) (sources : List (List ℕ)) (told : List (Option Ah
 refused_by names sources told states workers outcomes why read all e =
     refused_of_sources names (roster sources) workers (owned sources states) outcomes (all_rise sources told states read) (all_owned sources states) all why e
 
--- what a collector answers to the arrivals is the outcome of what the sources state
+-- the result of a collector for the arrivals is the outcome of what the sources state
 come_to : (names : Names) (sources : List (List ℕ)) (told : List (Option Ahead)) (states : List Stated) (workers : ℕ) (outcomes : List Outcome) (result : Result Report AuditFault)
     → AreRead told states → IsPermutation (map (answer names) (run_jobs workers (owned sources states))) outcomes
     → Answers sources (faults_of states) (after (start (roster sources)) (arrivals_of outcomes)) result → IsOutcome names sources states result
@@ -156,14 +156,14 @@ come_to names sources told states workers outcomes (Err NoThread) read all a = t
 come_to names sources told states workers outcomes (Err Memory) read all a = tt
 come_to names sources told states workers outcomes (Err TooManyParts) read all a = absurd a
 
--- where there is a report, the arrivals are complete
+-- if there is a report, the arrivals are complete
 arrived_of : (sources : List (List ℕ)) (faults : List (Option FileFault)) (outcomes : List Outcome) (result : Result Report AuditFault)
     → Answers sources faults (after (start (roster sources)) (arrivals_of outcomes)) result → IsReportOfArrived sources outcomes result
 arrived_of sources faults outcomes (Ok report) (sound, (held, ran, finished, is)) =
     subst (IsReportOf (roster sources) (arrivals_of outcomes)) (sym is) (finished_report (roster sources) (arrivals_of outcomes) held ran finished)
 arrived_of sources faults outcomes (Err fault) a = tt
 
--- an answer of a run
+-- a result of a run
 audited : (names : Names) (sources : List (List ℕ)) (told : List (Option Ahead)) (workers : ℕ) (old new : PassView) (faults : List (Option FileFault)) (comes : Result (List Held) Refused) (result : Result Report AuditFault)
     → Answers sources faults comes result → Ran names sources told workers old new result → Audited names sources told workers old new result
 audited names sources told workers old new faults comes (Ok report) a ran = ran
@@ -177,7 +177,7 @@ audited names sources told workers old new faults comes (Err NoThread) a ran = (
 audited names sources told workers old new faults comes (Err Memory) a ran = tt
 audited names sources told workers old new faults comes (Err TooManyParts) a ran = absurd a
 
--- an answer before any thread starts
+-- a result before any thread starts
 pub senders_refused : (names : Names) (sources : List (List ℕ)) (told : List (Option Ahead)) (workers : ℕ) (p : PassView) (fault : AuditFault)
     → length sources ≤ most_parts → RefusesSenders (roster sources) fault → Audited names sources told workers p p (Err fault)
 senders_refused names sources told workers p (Sender name part fault) few refuses = absurd refuses

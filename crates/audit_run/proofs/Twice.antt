@@ -1,4 +1,4 @@
--- A number that is asked twice is asked by two sources.
+-- A number that is asked for twice is asked for by two sources.
 use Rattle.std.proofs.Common.{◌≡◌, ◌≢◌, ◌⊎◌, ℕ, zero, suc, ◌+◌, ◌≤◌, ◌<◌, Bool, true, false, cond, ◌==◌, List, [], ◌∷◌, ◌++◌, length, Option, None, Some, Ok, Err, slice_get, nat_eq, count_by, All, sym, ap, subst, ◌∙◌, refl, inl, inr, arith}
 use Rattle.std.proofs.lemmas.List.Elements.{All-head, All-tail}
 use Rattle.audit_collect.proofs.HeldLaw.{tested}

@@ -1,4 +1,4 @@
--- The arrivals among what the workers put.
+-- The arrivals among the outcomes that workers put.
 use Rattle.std.specs.Prelude.{List, [], ◌∷◌}
 use Rattle.audit_collect.specs.declared.arrival.Arrival.{Arrival}
 use Rattle.audit_run.specs.declared.message.Outcome.{Outcome}

@@ -1,4 +1,4 @@
--- What is asked for of each sender, over all its sources: its requests, and the counts of its close marks.
+-- The requests and the close counts of each sender, over all its sources.
 use Rattle.std.specs.Prelude.{ℕ, Bool, List, [], ◌∷◌, ◌==◌, Option, Some, None, Ok, Err, count_by, flat_map, if◌then◌else◌}
 use Rattle.sudo_match.specs.declared.request.Request.{Request}
 use Rattle.audit_run.specs.Parts.{Stated}
@@ -12,12 +12,12 @@ abbrev pub count_listed : Option ℕ → List ℕ
 count_listed None = []
 count_listed (Some count) = count ∷ []
 
--- the count of its close row, if it has one
+-- the count of a source's close row, if it has one
 abbrev pub counts_in : Stated → List ℕ
 counts_in (Ok requests) = count_listed requests.close
 counts_in (Err fault) = []
 
--- of a source of this sender, and nothing of another's
+-- the values of a source of this sender; none of another's
 abbrev pub if_of : {X : Type 0} → ℕ → (Stated → List X) → ℕ × Stated → List X
 if_of sender f part = if part.0 == sender then f part.1 else []
 
@@ -25,13 +25,13 @@ if_of sender f part = if part.0 == sender then f part.1 else []
 abbrev pub asked_of : ℕ → List (ℕ × Stated) → List Request
 asked_of sender parts = flat_map (if_of sender requests_in) parts
 
--- the counts of its close marks
+-- the counts of a sender's close marks
 abbrev pub counts_of : ℕ → List (ℕ × Stated) → List ℕ
 counts_of sender parts = flat_map (if_of sender counts_in) parts
 
 abbrev pub has_number : ℕ → Request → Bool
 has_number number request = request.number == number
 
--- how often a sender asks a number
+-- how often a sender asks for a number
 abbrev pub times_asked : ℕ → ℕ → List (ℕ × Stated) → ℕ
 times_asked sender number parts = count_by (has_number number) (asked_of sender parts)

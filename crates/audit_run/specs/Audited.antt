@@ -1,4 +1,4 @@
--- What an audit answers, and what it leaves.
+-- The result of an audit, and its effect on the pass.
 use Rattle.std.specs.Prelude.{◌≡◌, ℕ, ◌<◌, ◌≤◌, ◌++◌, ⊤, List, map, length, slice_get, Option, Some, None, Result, Ok, Err, IsPermutation}
 use Rattle.audit_collect.specs.Complete.{IsReportOf}
 use Rattle.audit_collect.specs.Roster.{IsRoster, most_senders}
@@ -32,19 +32,21 @@ pub record IsFirstFault (faults : List (Option FileFault)) (place : ℕ) (fault 
   pub there : slice_get faults place ≡ Some (Some fault)
   pub earlier : (i : ℕ) → i < place → slice_get faults i ≡ Some None
 
--- This is the first source that is refused: its name, its number among the sources of that name, and why.
+-- this is the first source that is refused: its name, its number among the sources of that name,
+-- and its fault
 abbrev pub IsRefusedSource : List (List ℕ) → List (Option FileFault) → List ℕ → ℕ → FileFault → Type 0
 IsRefusedSource sources faults name part fault =
     (place : ℕ) × IsFirstFault faults place fault × IsOfFile fault
     × (slice_get sources place ≡ Some name) × (part ≡ part_at sources place name)
 
--- Where there is a report, what the workers put for the collector is a complete list of arrivals, and it is the report of them.
+-- a report is that of the arrivals that the workers put, which are complete
 abbrev pub IsReportOfArrived : List (List ℕ) → List Outcome → Result Report AuditFault → Type 0
 IsReportOfArrived sources outcomes (Ok report) = IsReportOf (roster sources) (arrivals_of outcomes) report
 IsReportOfArrived sources outcomes (Err fault) = ⊤
 
--- What an audit of these sources answers, by what they state. The report, where each sender is whole over all its sources; else the
--- first source, in their order, that is refused; else what a collector refuses or lacks. Of `NoThread` and `Memory` nothing is said.
+-- the result of an audit of sources with this content: the report, if each sender is whole over all
+-- its sources; or else the first source, in their order, that is refused; or else what a collector
+-- refuses or what is missing; `NoThread` and `Memory` are not constrained
 abbrev pub IsOutcome : Names → List (List ℕ) → List Stated → Result Report AuditFault → Type 0
 IsOutcome names sources states (Ok report) =
     NoneRefused (faults_of states) × AreWhole (length (roster sources)) (owned sources states) × IsReport names (roster sources) (owned sources states) report
@@ -56,8 +58,9 @@ IsOutcome names sources states (Err NoThread) = ⊤
 IsOutcome names sources states (Err Memory) = ⊤
 IsOutcome names sources states (Err TooManyParts) = ⊥
 
--- The threads ran on sources of these names and with these bytes ahead, and the answer is the outcome of what they state. The
--- pass is whole again with nothing left, and has gained the answers of all jobs, in some order.
+-- the threads ran on sources with these names and these bytes ahead, and the result is the outcome
+-- of their content; the pass is whole again with nothing left, and has gained the answers of all
+-- jobs, in some order
 pub record Ran (names : Names) (sources : List (List ℕ)) (told : List (Option Ahead)) (workers : ℕ) (old new : PassView) (result : Result Report AuditFault) : Type 0 where
   pub few : length sources ≤ most_parts
   pub is_roster : IsRoster (roster sources)
@@ -73,8 +76,8 @@ pub record Ran (names : Names) (sources : List (List ℕ)) (told : List (Option 
   pub same_names : new.names ≡ old.names
   pub empty : IsEmpty new
 
--- Faults of the roster come before any thread starts, and leave the pass as it was. `NoThread` comes only where they have none;
--- of the pass nothing is said then, nor after `Memory`.
+-- faults of the roster are returned before any thread starts, with the pass unchanged; `NoThread`
+-- only if the roster has none; the pass is unspecified after `NoThread` and `Memory`
 abbrev pub Audited : Names → List (List ℕ) → List (Option Ahead) → ℕ → PassView → PassView → Result Report AuditFault → Type 0
 Audited names sources told workers old new (Ok report) = Ran names sources told workers old new (Ok report)
 Audited names sources told workers old new (Err (Sender name part fault)) = Ran names sources told workers old new (Err (Sender name part fault))

@@ -1,4 +1,4 @@
--- Words that only the proofs of bodies need: no contract of a public function cites them.
+-- Definitions that only the proofs of bodies use: no contract of a public function cites them.
 pub mod Concluded
 pub mod FreshPasses
 pub mod Gathered

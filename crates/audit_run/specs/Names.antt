@@ -1,4 +1,5 @@
--- What is right for the policy and the directory that a pass names: sudoers(5), "the last match is used".
+-- The answers that are right for the policy and the directory that a pass names: sudoers(5), "the
+-- last match is used".
 use Rattle.std.specs.Prelude.{◌≡◌, ℕ, ⊤, [], Option, Some, None, refl}
 use Rattle.audit_collect.specs.declared.arrival.Answer.{Answer}
 use Rattle.audit_collect.specs.declared.arrival.Arrival.{Arrival}
@@ -20,7 +21,7 @@ names_of policy directory = record { policy = policy; directory = directory }
 abbrev pub answer_to : Names → (sender : ℕ) → Request → Answer
 answer_to names sender request = record { sender = sender; request = request; verdict = verdict_of names.policy names.directory request }
 
--- what a worker puts for a job
+-- the outcome that a worker puts for a job
 abbrev pub answer : Names → Job → Outcome
 answer names (job.Ask sender request) = outcome.Arrived (Reply (answer_to names sender request))
 answer names (job.Close sender count) = outcome.Arrived (Close sender count)
@@ -37,7 +38,8 @@ IsRight names (outcome.Arrived arrival) = HasVerdict names arrival
 IsRight names (outcome.End sender) = ⊤
 IsRight names outcome.Stopped = ⊤
 
--- Only the model of a pass needs these: the names of a queue's first pass are set after it is made.
+-- only the model of a pass uses these: the names of a queue's first pass are set after it is
+-- created
 abbrev pub nobody : Names
 nobody = record { policy = record { files = []; entries = []; placed = refl; unfolded = refl }; directory = record { people = []; machines = [] } }
 

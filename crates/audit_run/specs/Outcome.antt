@@ -1,4 +1,4 @@
--- What the sources of an audit have as faults, when they are whole, and the report of them.
+-- The faults of the sources of an audit, when they are whole, and their report.
 use Rattle.std.specs.Prelude.{◌≡◌, ℕ, ◌+◌, ◌<◌, ◌≤◌, List, [], ◌∷◌, Some, slice_get, length, count_by}
 use Rattle.std.specs.List.{Contains}
 use Rattle.sudo_match.specs.declared.request.Request.{Request}
@@ -14,7 +14,8 @@ use Rattle.audit_run.specs.Names.{answer_to}
 use Rattle.audit_run.specs.Parts.{Stated}
 use Rattle.audit_run.specs.Asked.{asked_of, counts_of, has_number, requests_in, times_asked}
 
--- The sender has one close mark, and over all its sources the numbers 1 to its count, each once, and no other.
+-- the sender has one close mark, and over all its sources the numbers 1 to its count, each once,
+-- and no other
 pub record IsWholeSender (sender : ℕ) (parts : List (ℕ × Stated)) : Type 0 where
   pub count : ℕ
   pub closed : counts_of sender parts ≡ count ∷ []
@@ -22,16 +23,16 @@ pub record IsWholeSender (sender : ℕ) (parts : List (ℕ × Stated)) : Type 0 
   pub no_zero : times_asked sender 0 parts ≡ 0
   pub none_past : (number : ℕ) → count < number → times_asked sender number parts ≡ 0
 
--- Each of so many senders is whole.
+-- each of this many senders is whole
 abbrev pub AreWhole : ℕ → List (ℕ × Stated) → Type 0
 AreWhole senders parts = (sender : ℕ) → sender < senders → IsWholeSender sender parts
 
--- the source is the sender's, and asks the number
+-- the source is the sender's, and asks for the number
 pub record Asks (sender number : ℕ) (part : ℕ × Stated) : Type 0 where
   pub of : part.0 ≡ sender
   pub asks : 1 ≤ count_by (has_number number) (requests_in part.1)
 
--- two different sources of the sender ask the number
+-- two different sources of the sender ask for the number
 pub record AskInTwo (sender number : ℕ) (parts : List (ℕ × Stated)) : Type 0 where
   pub first : ℕ
   pub second : ℕ
@@ -43,15 +44,16 @@ pub record AskInTwo (sender number : ℕ) (parts : List (ℕ × Stated)) : Type 
   pub first_asks : Asks sender number first_part
   pub second_asks : Asks sender number second_part
 
--- the sender asks a number above the count of a close mark of its own
+-- the sender asks for a number that exceeds the count of one of its close marks
 pub record IsPast (sender number : ℕ) (parts : List (ℕ × Stated)) : Type 0 where
   pub asked : 1 ≤ times_asked sender number parts
   pub count : ℕ
   pub closed : Contains (counts_of sender parts) count
   pub past : count < number
 
--- The sources have what the collector refuses: a number in two sources of one sender, two close marks, or a number past one.
--- They have no stranger and no number 0, and want of memory is no fault of theirs.
+-- the sources have the fault that the collector refuses: a number in two sources of one sender, two
+-- close marks, or a number past one; they have no stranger and no number 0, and out of memory is no
+-- fault of theirs
 abbrev pub HaveRefused : List (ℕ × Stated) → Refused → Type 0
 HaveRefused parts (Double sender number) = AskInTwo sender number parts
 HaveRefused parts (ClosedTwice sender) = 2 ≤ length (counts_of sender parts)
@@ -60,7 +62,8 @@ HaveRefused parts (Stranger sender) = ⊥
 HaveRefused parts (ZeroNumber sender) = ⊥
 HaveRefused parts Memory = ⊥
 
--- the sender has one close mark, and this is the least number from 1 to its count that it does not ask
+-- the sender has one close mark, and this is the least number from 1 to its count that it does not
+-- ask for
 pub record IsGap (sender number : ℕ) (parts : List (ℕ × Stated)) : Type 0 where
   pub count : ℕ
   pub closed : counts_of sender parts ≡ count ∷ []
@@ -69,20 +72,21 @@ pub record IsGap (sender number : ℕ) (parts : List (ℕ × Stated)) : Type 0 w
   pub missing : times_asked sender number parts ≡ 0
   pub least : (smaller : ℕ) → 1 ≤ smaller → smaller < number → 1 ≤ times_asked sender smaller parts
 
--- The sources of one of so many senders lack a close mark, or a number up to its count.
+-- the sources of one of this many senders lack a close mark, or a number up to its count
 abbrev pub Lack : ℕ → List (ℕ × Stated) → Unfinished → Type 0
 Lack senders parts (Open sender) = (sender < senders) × (counts_of sender parts ≡ [])
 Lack senders parts (Gap sender number) = (sender < senders) × IsGap sender number parts
 
--- The row of the sender at this place of the roster: its name, and as many answers as its one close mark counts. The answer
--- at place i is to a request of the sender with the number i + 1, and has the verdict of the policy and the directory.
+-- the row of the sender with this index in the roster: its name, and as many answers as its one
+-- close mark counts; the answer at index i is to a request of the sender with the number i + 1, and
+-- has the verdict of the policy and the directory
 pub record IsRow (names : Names) (roster : List (List ℕ)) (parts : List (ℕ × Stated)) (sender : ℕ) (row : SenderReport) : Type 0 where
   pub name : slice_get roster sender ≡ Some row.name
   pub closed : counts_of sender parts ≡ length row.answers ∷ []
   pub answers : (place : ℕ) (answer : Answer) → slice_get row.answers place ≡ Some answer
       → (request : Request) × Contains (asked_of sender parts) request × (request.number ≡ place + 1) × (answer ≡ answer_to names sender request)
 
--- The report of the sources: a row for each sender of the roster, in its order.
+-- the report of the sources: a row for each sender, in the order of the roster
 pub record IsReport (names : Names) (roster : List (List ℕ)) (parts : List (ℕ × Stated)) (report : Report) : Type 0 where
   pub one_each : length report.senders ≡ length roster
   pub rows : (sender : ℕ) (row : SenderReport) → slice_get report.senders sender ≡ Some row → IsRow names roster parts sender row

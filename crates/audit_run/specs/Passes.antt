@@ -1,4 +1,5 @@
--- What a pass of a handoff knows, and what each call does to it. A pass is what one thread puts and takes messages with.
+-- The state of a pass of a handoff, and the effect of each call on it. One thread puts and takes
+-- messages with one pass.
 use Rattle.std.specs.Prelude.{◌≡◌, ℕ, ◌+◌, ◌-◌, ◌≤◌, List, [], ◌∷◌, ◌++◌, length, IsPermutation}
 use Rattle.atomic_table.specs.Seated.{TableId}
 use Rattle.sudo_match.specs.Known.{Known}
@@ -8,12 +9,12 @@ use Rattle.audit_run.specs.declared.message.Job.{Job}
 use Rattle.audit_run.specs.declared.message.Outcome.{Outcome}
 use Rattle.audit_run.specs.Names.{names_of}
 
--- which handoff it is: the queue of jobs and the queue of outcomes
+-- the identity of a handoff: the queue of jobs and the queue of outcomes
 abbrev pub HandoffId : Type 0
 HandoffId = TableId × TableId
 
--- The handoff, the policy and the directory, the weight, and what was put and taken, in order. The weights of all passes of a
--- handoff add up to 1,024.
+-- the handoff, the policy and the directory, the weight, and the messages put and taken, in order;
+-- the weights of all passes of a handoff add up to 1,024
 pub record PassView : Type 0 where
   pub handoff : HandoffId
   pub names : Names
@@ -45,7 +46,7 @@ after_split p = record p { weight = p.weight - 1 }
 abbrev pub split_off : PassView → PassView
 split_off p = record { handoff = p.handoff; names = p.names; weight = 1; jobs_put = []; jobs_taken = []; outcomes_put = []; outcomes_taken = [] }
 
--- a join adds the weights and puts the lists together, the joined ones last
+-- a join adds the weights and appends the lists of the joined pass
 abbrev pub with_joined : PassView → PassView → PassView
 with_joined p q = record p {
   weight = p.weight + q.weight;
@@ -55,11 +56,11 @@ with_joined p q = record p {
   outcomes_taken = p.outcomes_taken ++ q.outcomes_taken;
 }
 
--- it is the one pass of its handoff
+-- the pass is the only one of its handoff
 abbrev pub IsWhole : PassView → Type 0
 IsWhole p = p.weight ≡ 1024
 
--- as often as they were put, the messages are those taken and those left, at most 256
+-- the messages put are, as often, those taken and those left, at most 256
 abbrev pub JobsLeft : PassView → List Job → Type 0
 JobsLeft p left = IsPermutation p.jobs_put (p.jobs_taken ++ left) × (length left ≤ 256)
 

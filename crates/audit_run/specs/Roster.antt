@@ -1,4 +1,4 @@
--- The roster of an audit: sources of one name are the parts of one sender.
+-- The roster of an audit: sources with the same name are the parts of one sender.
 use Rattle.std.specs.Prelude.{ℕ, ◌+◌, List, [], ◌∷◌, Bool, not, bytes_eq, filter, map, take, count_by, if◌then◌else◌}
 
 -- the names other than this one
@@ -10,19 +10,19 @@ abbrev pub roster : List (List ℕ) → List (List ℕ)
 roster [] = []
 roster (name ∷ names) = name ∷ without name (roster names)
 
--- the place of the first name that is the same, from 0; the number of names where there is none
+-- the index of the first name equal to this one, from 0; the number of names if there is none
 abbrev pub place_of : List ℕ → List (List ℕ) → ℕ
 place_of name [] = 0
 place_of name (other ∷ names) = if bytes_eq other name then 0 else 1 + place_of name names
 
--- the place of each name in a roster
+-- the index of each name in a roster
 abbrev pub places_in : List (List ℕ) → List (List ℕ) → List ℕ
 places_in roster names = map (λ name. place_of name roster) names
 
--- the owner of each source, by the sources' names: the place of its sender in the roster
+-- the owner of each source, given the sources' names: the index of its sender in the roster
 abbrev pub owners : List (List ℕ) → List ℕ
 owners names = places_in (roster names) names
 
--- the source at this place is, among those of its name, the part of this number, from 1
+-- the number of the source at this index among the sources of its name, from 1
 abbrev pub part_at : List (List ℕ) → ℕ → List ℕ → ℕ
 part_at names place name = 1 + count_by (λ other. bytes_eq other name) (take place names)

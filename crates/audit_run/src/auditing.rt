@@ -1,4 +1,4 @@
-//! A whole audit: starts the threads, gathers what they answer, and joins them.
+//! A whole audit: starts the threads, gathers their answers, and joins them.
 ghost use Rattle.std.specs.Prelude.{◌≡◌, ◌+◌, ◌<◌, ◌≤◌, [], Ok, Err, ℕ, List, IfOk, IfErr, OnOk, None, Some, Option, MatchOption, map, slice_get, vec_len, vec_capacity, length, IsTrue, IfSome, IfNone, ◌↔◌};
 ghost use Rattle.std.specs.List.{zip};
 ghost use Rattle.audit_files.specs.declared.fault.FileFault.TheVariants.{Memory};
@@ -39,6 +39,7 @@ use sudo_verdict::RuleIndex;
 pub const MOST_PARTS: usize = 256;
 
 // Starts the workers and a thread for each source, gathers until all have ended, and joins them.
+// `all_started` is false if a thread could not be started.
 fn run<'s, 'e: 's, R: Threads + Wait + Sync, F: Feed + Drop + Send + 'e, G: Gate + Sync>(
     rt: &'e R,
     scope: &Scope<'s, &'e ()>,
@@ -95,7 +96,7 @@ fn run<'s, 'e: 's, R: Threads + Wait + Sync, F: Feed + Drop + Send + 'e, G: Gate
     }
 }
 
-// Runs what is prepared in a scope of its own.
+// Runs a prepared audit in a thread scope of its own.
 fn run_scoped<R: Threads + Wait + Sync, F: Feed + Drop + Send, G: Gate + Sync>(
     rt: &R,
     shared: Shared<'_>,
@@ -129,7 +130,7 @@ fn run_scoped<R: Threads + Wait + Sync, F: Feed + Drop + Send, G: Gate + Sync>(
     )
 }
 
-// Whether memory was refused to a source.
+// Whether allocation failed for a source.
 fn wants_memory(faults: &[Option<FileFault>]) -> bool
     ensures { (place : ℕ) → slice_get faults.now place ≡ Some (Some Memory) → IsTrue result }
 {
@@ -141,7 +142,7 @@ fn wants_memory(faults: &[Option<FileFault>]) -> bool
     false
 }
 
-// The first source that is refused.
+// Returns the first source that is refused, by its index, and its fault.
 fn first_fault(faults: &[Option<FileFault>]) -> Option<(usize, FileFault)>
     ensures { MatchOption result (NoneRefused faults.now)
         (λ first. IsFirstFault faults.now first.0 first.1) }
@@ -154,7 +155,7 @@ fn first_fault(faults: &[Option<FileFault>]) -> Option<(usize, FileFault)>
     None
 }
 
-// The part's number among the sources of its name, from 1.
+// Returns the number of the source at this index among the sources of this name, from 1.
 fn part_number(names: &[Seq<u8>], place: usize, name: &[u8]) -> u32
     requires { (place ≤ length names.now) × (length names.now ≤ 256) }
     ensures { result ≡ part_at names.now place name.now }
@@ -168,7 +169,7 @@ fn part_number(names: &[Seq<u8>], place: usize, name: &[u8]) -> u32
     part
 }
 
-// The report of what was gathered, or why there is none.
+// Returns the report of the gathered arrivals, or the fault.
 fn conclude(
     names: Vec<Seq<u8>>,
     faults: &[Option<FileFault>],
@@ -202,15 +203,19 @@ fn conclude(
     }
 }
 
-/// Audits the requests of the sources by one thread for each source and by these workers, 1 to 16. Sources of one name are the
-/// parts of one sender.
+/// Audits the requests of the sources, with one thread for each source and this number of worker
+/// threads, 1 to 16. Sources with the same name are the parts of one sender.
 ///
-/// The report has a row for each sender, in the order in which their names first appear, with the verdict of the policy for
-/// each request, in the order of their numbers. Else answers `TooManyParts` for more than 256 sources, a roster fault for
-/// more than 64 senders, both before any thread starts and with the pass as it was; `NoThread` where a thread could not be
-/// started; `Memory` where memory was refused; `Sender` with the first source, in their order, that is refused; or what the
-/// collector refuses or lacks. The pass is then whole again with nothing left, but after `NoThread` and `Memory`, of which
-/// nothing is said.
+/// The report has a row for each sender, in the order in which their names first appear, with the
+/// verdict of the policy on each request, in the order of their numbers.
+///
+/// Returns `TooManyParts` for more than 256 sources, and the roster fault for more than 64 senders,
+/// both before any thread starts and with the pass unchanged; `NoThread` if a thread could not be
+/// started; `Memory` if allocation failed; `Sender` with the first source, in their order, that is
+/// refused; or else the first refusal of the collector, or what is missing.
+///
+/// Afterwards the pass is whole and the queues are empty, except after `NoThread` and `Memory`,
+/// when the pass is unspecified.
 pub fn audit<R: Threads + Wait + Sync, F: Feed + Drop + Send, G: Gate + Sync>(
     alloc: Global,
     rt: &R,

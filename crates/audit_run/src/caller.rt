@@ -1,4 +1,5 @@
-//! The caller's part while the threads run: takes outcomes, offers arrivals, stops the workers.
+//! The caller's part while the threads run: takes outcomes, offers arrivals to the collector, stops
+//! the workers.
 ghost use Rattle.std.specs.Prelude.{◌≡◌, [], ◌∷◌, false, replicate};
 ghost use Rattle.audit_run.specs.Names.{names_of};
 ghost use Rattle.audit_run.specs.Passes.{IsWhole, OutcomesLeft, JobsLeft};
@@ -16,7 +17,7 @@ use audit_collect::Arrival;
 use std::sync::Wait;
 use std::thread;
 
-/// Offers an arrival, unless one was refused before.
+// Offers an arrival to the collector, unless one was refused before.
 fn offer(gathering: &mut Gathering, arrival: Arrival)
     ensures gathers { Gathers gathering.old (Arrived arrival ∷ []) gathering.new }
     ensures counts { HasSameCounts gathering.old gathering.new }
@@ -29,8 +30,8 @@ fn offer(gathering: &mut Gathering, arrival: Arrival)
     }
 }
 
-/// Takes an outcome, and counts its thread as ended or offers its arrival. Returns whether there was one; there was none at
-/// one moment of the call if not.
+// Takes an outcome, and counts its thread as ended or offers its arrival. Returns whether there was
+// one; if not, there was none at one moment of the call.
 fn gather_one<R: Wait>(
     rt: &R,
     handoff: &Handoff,
@@ -55,7 +56,7 @@ fn gather_one<R: Wait>(
     true
 }
 
-/// Gathers until none of these threads runs.
+// Gathers until none of the awaited threads runs.
 fn gather_until_ended<R: Wait>(
     rt: &R,
     handoff: &Handoff,
@@ -78,7 +79,7 @@ fn gather_until_ended<R: Wait>(
     unreachable!()
 }
 
-/// Puts `Stop`. While the jobs are full, an outcome is gathered between tries.
+// Puts `Stop`. Gathers one outcome between attempts while the queue of jobs is full.
 fn put_stop<R: Wait>(rt: &R, handoff: &Handoff, pass: &mut Pass, gathering: &mut Gathering)
     requires { pass.old.handoff ≡ handoff.now }
     ensures { Conducts pass.old gathering.old (job.Stop ∷ []) pass.new gathering.new }
@@ -111,8 +112,8 @@ fn put_stops<R: Wait>(
     }
 }
 
-/// Gathers until each source has ended, stops the workers, and gathers until each has stopped. Each outcome is counted when
-/// it is taken, so it does not matter in which order they come.
+/// Gathers until each source has ended, stops the workers, and gathers until each has stopped.
+/// Counts each outcome when it is taken, so their order does not matter.
 pub fn gather_all<R: Wait>(
     rt: &R,
     handoff: &Handoff,
@@ -133,7 +134,7 @@ pub fn gather_all<R: Wait>(
     gather_until_ended(rt, handoff, pass, gathering, Awaited::Workers);
 }
 
-/// Gathers until there is no outcome.
+// Gathers until no outcome is left.
 fn gather_rest<R: Wait>(rt: &R, handoff: &Handoff, pass: &mut Pass, gathering: &mut Gathering)
     requires { pass.old.handoff ≡ handoff.now }
     ensures taken { Conducts pass.old gathering.old [] pass.new gathering.new }
@@ -147,7 +148,7 @@ fn gather_rest<R: Wait>(rt: &R, handoff: &Handoff, pass: &mut Pass, gathering: &
     unreachable!()
 }
 
-/// Answers each job that is left as a worker does, and gathers what is left.
+/// Answers each job that is left as a worker does, and gathers all outcomes that are left.
 pub fn drain<R: Wait, G: Gate>(
     rt: &R,
     shared: Shared<'_>,

@@ -1,4 +1,4 @@
-//! Why an audit gives no report.
+//! Faults of an audit.
 
 use audit_collect::CollectFault;
 use audit_files::FileFault;
@@ -6,23 +6,24 @@ use std::alloc::AllocError;
 use sudo_text::Seq;
 use thiserror::Error;
 
-/// Why an audit gives no report.
+/// The reason why an audit returns no report.
 #[derive(Clone, Debug, Drop, PartialEq, Eq, Error)]
 pub enum AuditFault {
-    /// The first source, in their order, that is refused. The part is counted from 1 among the sender's sources.
+    /// A source is refused; it is the first such, in their order. `part` counts the sender's
+    /// sources from 1.
     #[error("part {part}: {fault}")]
     Sender {
         name: Seq<u8>,
         part: u32,
         fault: FileFault,
     },
-    /// The roster or what the sources state is refused by the collector.
+    /// The collector refuses the roster or what the sources state.
     #[error(transparent)]
     Collect(CollectFault),
     /// A thread could not be started.
     #[error("no thread")]
     NoThread,
-    /// Memory was refused.
+    /// Out of memory.
     #[error("out of memory")]
     Memory,
     /// There are more than 256 sources.

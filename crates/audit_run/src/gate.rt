@@ -1,11 +1,12 @@
-//! What sees the workers at work.
+//! Hooks around each judgement, for tests.
 
-/// Is told of each request that a worker judges, by its sender's place in the roster, from 0, and its number.
+/// Hooks that are called for each request that a worker judges. `sender` is the sender's index in
+/// the roster, from 0, and `number` is the number of the request.
 pub trait Gate {
-    /// The request was taken and is not yet judged.
+    /// Called after the request was taken, before it is judged.
     fn before(&self, sender: u32, number: u32);
 
-    /// The answer was put for the caller.
+    /// Called after the answer was put for the caller.
     fn after(&self, sender: u32, number: u32);
 }
 

@@ -1,4 +1,4 @@
-//! What the caller gathers.
+//! The arrivals that the caller gathers.
 ghost use Rattle.std.specs.Prelude.{◌≡◌};
 ghost use Rattle.audit_run.specs.Body.Gathered.{running_of};
 
@@ -9,9 +9,9 @@ use audit_collect::{Collector, Refused};
 pub struct Gathering {
     pub collector: Collector,
     pub refused: Option<Refused>,
-    /// How many sources have not put `End` yet.
+    /// The number of sources that have not put `End` yet.
     pub sources_running: usize,
-    /// How many workers have not put `Stopped` yet.
+    /// The number of workers that have not put `Stopped` yet.
     pub workers_running: usize,
 }
 
@@ -23,7 +23,7 @@ pub enum Awaited {
 }
 
 impl Gathering {
-    /// Returns how many of these threads still run.
+    /// Returns the number of awaited threads that still run.
     pub fn running(&self, awaited: Awaited) -> usize
         ensures { result ≡ running_of awaited self.now }
     {

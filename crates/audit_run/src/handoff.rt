@@ -1,4 +1,4 @@
-//! The two queues between the threads of an audit, and the passes that threads use them with.
+//! The two queues between the threads of an audit, and the passes with which threads use them.
 ghost use Rattle.std.specs.Prelude.{◌≡◌, ◌<◌, ◌≤◌, List, Some, IfOk, IfSome, MatchResult, MatchOption, length, [], ◌∷◌};
 ghost use Rattle.audit_run.specs.Names.{names_of, IsRight};
 ghost use Rattle.audit_run.specs.Passes.{new_pass, with_job_put, with_job_taken, with_outcome_put, with_outcome_taken, after_split, split_off, with_joined, IsEmpty, IsWhole, JobsLeft, OutcomesLeft};
@@ -14,10 +14,11 @@ use std::sync::Wait;
 use sudo_match::Directory;
 use sudo_policy::Checked;
 
-/// Two queues of 256 places, one for jobs and one for outcomes. Contracts see which queues they are.
+/// Two queues with 256 places each, one for jobs and one for outcomes. Contracts see the identity
+/// of the queues.
 ///
-/// A call for which there is no room, or no message, answers at once; a caller that wants to wait tries again. No call but
-/// `new` takes memory.
+/// A call returns at once, also if the queue is full or empty; a caller that wants to wait tries
+/// again. No call but `new` allocates.
 #[derive(Drop)]
 pub struct Handoff {
     jobs: Line<Job, Names>,
@@ -36,8 +37,9 @@ impl Model for Handoff {
     ghost invariant = { λ h. (ruled_capacity h.jobs ≡ 256) × (ruled_capacity h.outcomes ≡ 256) };
 }
 
-/// What one thread uses a handoff with. It holds no data: contracts alone see its handoff, its policy and directory, its
-/// weight, and the lists of what it has put and taken. A pass of weight 1,024 is the only one of its handoff.
+/// The permission of one thread to use a handoff. It holds no data: only contracts see its handoff,
+/// its policy and directory, its weight, and the lists of the messages that it has put and taken. A
+/// pass of weight 1,024 is whole: it is the only one of its handoff.
 #[derive(Drop)]
 pub struct Pass {
     jobs: Seat<Job, Names>,
@@ -57,7 +59,7 @@ impl Model for Pass {
     ghost invariant = { λ p. (p.jobs.me.1 ≡ []) × (p.outcomes.me.1 ≡ []) × (0 < (known p.jobs).weight) × ((known p.outcomes).weight ≡ (known p.jobs).weight) × ((known p.outcomes).names ≡ (known p.jobs).names) × IsSome (known p.jobs).names };
 }
 
-// Makes the queues for the names of `J`, which the call picks.
+// Creates the queues for the names of `J`, which the call chooses.
 fn opened<J: Naming<Names>>(
     alloc: Global,
     policy: &Checked,
@@ -77,8 +79,8 @@ fn opened<J: Naming<Names>>(
 }
 
 impl Handoff {
-    /// A handoff with nothing in it, and its one pass, which is whole and names the policy and the directory. `AllocError`
-    /// where memory was refused.
+    /// Creates an empty handoff and its one pass, which is whole and names the policy and the
+    /// directory. Returns `AllocError` if allocation failed.
     pub fn new(
         alloc: Global,
         policy: &Checked,
@@ -90,8 +92,8 @@ impl Handoff {
         opened::<Brand>(alloc, policy, directory)
     }
 
-    /// Puts a job. It comes back only where the queue was full at some moment of the call; for a whole pass, exactly where
-    /// 256 jobs were left.
+    /// Puts a job. Returns it only if the queue was full at some moment of the call; for a whole
+    /// pass, exactly if 256 jobs were left.
     pub fn put_job<R: Wait>(&self, rt: &R, pass: &mut Pass, job: Job) -> Result<(), Job>
         requires pass { pass.old.handoff ≡ self.now }
         ensures answer { MatchResult result (λ _. pass.new ≡ with_job_put pass.old job)
@@ -102,8 +104,8 @@ impl Handoff {
         rule::put(rt, &self.jobs, &mut pass.jobs, job)
     }
 
-    /// Takes a job. `None` only where the queue was empty at some moment of the call; for a whole pass, exactly where none
-    /// was left.
+    /// Takes a job. Returns `None` only if the queue was empty at some moment of the call; for a
+    /// whole pass, exactly if none was left.
     pub fn take_job<R: Wait>(&self, rt: &R, pass: &mut Pass) -> Option<Job>
         requires pass { pass.old.handoff ≡ self.now }
         ensures answer { MatchOption result (pass.new ≡ pass.old)
@@ -114,7 +116,8 @@ impl Handoff {
         rule::take(rt, &self.jobs, &mut pass.jobs)
     }
 
-    /// Puts an outcome, as `put_job` a job. A reply has to have the verdict of the pass's policy and directory.
+    /// Puts an outcome, as `put_job` puts a job. A reply must have the verdict of the pass's policy
+    /// and directory.
     pub fn put_outcome<R: Wait>(
         &self,
         rt: &R,
@@ -131,7 +134,8 @@ impl Handoff {
         rule::put(rt, &self.outcomes, &mut pass.outcomes, outcome)
     }
 
-    /// Takes an outcome, as `take_job` a job. A reply has the verdict of the pass's policy and directory, whoever put it.
+    /// Takes an outcome, as `take_job` takes a job. A reply has the verdict of the pass's policy
+    /// and directory, whichever thread put it.
     pub fn take_outcome<R: Wait>(&self, rt: &R, pass: &mut Pass) -> Option<Outcome>
         requires pass { pass.old.handoff ≡ self.now }
         ensures answer { MatchOption result (pass.new ≡ pass.old)
@@ -145,7 +149,7 @@ impl Handoff {
 }
 
 impl Pass {
-    /// Another pass of the handoff, with 1 of the weight.
+    /// Splits off another pass of the handoff, with 1 of the weight.
     pub fn split<R: Wait>(&mut self, _rt: &R, handoff: &Handoff) -> Pass
         requires pass { self.old.handoff ≡ handoff.now }
         requires weight { 2 ≤ self.old.weight }
@@ -157,7 +161,7 @@ impl Pass {
         }
     }
 
-    /// Takes a pass of the handoff back, with its weight and its lists.
+    /// Joins a pass of the handoff to this one, with its weight and its lists.
     pub fn join<R: Wait>(&mut self, _rt: &R, handoff: &Handoff, other: Pass)
         requires pass { (self.old.handoff ≡ handoff.now) × (other.handoff ≡ handoff.now) }
         ensures { self.new ≡ with_joined self.old other }

@@ -1,8 +1,10 @@
-//! Audits requests against a policy with several threads: one for each source of requests, and workers that judge them.
+//! Audits requests against a policy with several threads: one for each source of requests, and
+//! workers that judge them.
 //!
-//! Two queues join the threads, and each thread uses them with a pass: senders put jobs, workers take them and put outcomes,
-//! and the caller takes those. What a pass has put and taken is known to contracts, so that no message is lost, doubled or
-//! invented between threads, whatever order they run in. `laws` tie what has arrived to what the sources state.
+//! Two queues join the threads, and each thread uses them with a pass: senders put jobs, workers
+//! take them and put outcomes, and the caller takes those. Contracts see the messages that a pass
+//! has put and taken, so no message is lost, duplicated or invented between threads, in whatever
+//! order they run. The `laws` relate the messages that have arrived to what the sources state.
 #![tactic(auto)]
 
 mod auditing;

@@ -1,4 +1,4 @@
-//! What the threads of a run need, made before any of them starts.
+//! The resources of a run, made before any of its threads starts.
 ghost use Rattle.std.specs.Prelude.{◌≡◌, ◌+◌, ◌<◌, None, All, IfOk, vec_len};
 ghost use Rattle.audit_run.specs.Names.{names_of};
 ghost use Rattle.audit_run.specs.Passes.{split_off};
@@ -14,7 +14,8 @@ use audit_files::FileFault;
 use std::alloc::{AllocError, Global};
 use std::sync::Wait;
 
-/// What a run begins with: a pass for the caller and one for each thread, and room for what the threads leave.
+/// The state before a run: a pass for the caller and one for each thread, and capacity for the
+/// results of the threads.
 #[derive(Drop)]
 pub struct Prepared {
     pub pass: Pass,
@@ -25,7 +26,7 @@ pub struct Prepared {
     pub faults: Vec<Option<FileFault>>,
 }
 
-/// What a run ends with. All threads that were started are joined.
+/// The state after a run. All threads that were started are joined.
 #[derive(Drop)]
 pub struct Ended {
     pub pass: Pass,
@@ -34,7 +35,7 @@ pub struct Ended {
     pub all_started: bool,
 }
 
-// Splits off a pass for each of so many threads.
+// Splits off a pass for each of `count` threads.
 fn split_passes<R: Wait>(
     alloc: Global,
     rt: &R,
@@ -54,7 +55,8 @@ fn split_passes<R: Wait>(
     Ok(passes)
 }
 
-/// Splits off the passes of a run for so many sources and workers, and makes room for what their threads leave.
+/// Splits off the passes of a run with these numbers of sources and workers, and reserves capacity
+/// for the results of their threads. Returns `AllocError` if allocation failed.
 pub fn prepare<R: Wait>(
     rt: &R,
     shared: Shared<'_>,

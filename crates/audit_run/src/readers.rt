@@ -13,14 +13,15 @@ use std::snapshot::Snapshot;
 use std::sync::Wait;
 use std::thread::{Promise, PromisedHandle, Scope, Threads};
 
-/// What a source's thread gives back: its pass, and why the source is refused, if it is.
+/// The result of a source's thread: its pass, and the fault of the source, if it is refused.
 #[derive(Drop)]
 pub struct Sent {
     pub pass: Pass,
     pub fault: Option<FileFault>,
 }
 
-/// What a source's thread leaves: it has put the jobs of what its source states, or `End` alone where it is refused.
+/// The promise of a source's thread: it puts the jobs of what its source states, or `End` alone if
+/// the source is refused.
 #[derive(Drop)]
 pub struct SourceRan<F> {
     pub before: Snapshot<Pass>,
@@ -32,6 +33,7 @@ impl<F: Feed> Promise<Sent> for SourceRan<F> {
     ghost kept_by = { λ p r. HasSent (F.ahead p.reader.value) p.before.value p.owner r };
 }
 
+/// The handle of a source's thread.
 pub type ReaderHandle<F> = PromisedHandle<Sent, SourceRan<F>>;
 
 // Reads the source and puts its jobs.
@@ -86,7 +88,8 @@ fn start_reader<'s, 'e: 's, R: Threads + Wait + Sync, F: Feed + Drop + Send + 'e
     scope.spawn_with(promise, body).ok()
 }
 
-/// Starts a thread for each source, into room that is there. False where one could not be started; then no further one is.
+/// Starts a thread for each source, and appends its handle, for which `handles` needs capacity.
+/// Returns false if one could not be started, and then starts no further one.
 pub fn start_readers<'s, 'e: 's, R: Threads + Wait + Sync, F: Feed + Drop + Send + 'e>(
     alloc: Global,
     rt: &'e R,
@@ -119,7 +122,8 @@ pub fn start_readers<'s, 'e: 's, R: Threads + Wait + Sync, F: Feed + Drop + Send
     true
 }
 
-/// Joins the threads of the sources, takes their passes back, and puts into room that is there why each source is refused.
+/// Joins the threads of the sources and their passes, and appends the fault of each source, if it
+/// is refused, for which `faults` needs capacity.
 pub fn join_readers<R: Threads + Wait, F: Feed>(
     rt: &R,
     handoff: &Handoff,

@@ -14,7 +14,7 @@ use audit_files::Feed;
 use std::alloc::{AllocError, Global};
 use sudo_text::Seq;
 
-// The names of the sources, and their readers.
+// Separates the names of the sources from their readers.
 fn split_sources<F: Drop>(
     alloc: Global,
     sources: Vec<Source<F>>,
@@ -34,7 +34,7 @@ fn split_sources<F: Drop>(
     Ok((names, readers))
 }
 
-// The place of the first name that is the same; past the end where there is none.
+// Returns the index of the first name equal to this one, or the number of names if there is none.
 fn place_in(names: &[Seq<u8>], name: &[u8]) -> usize
     ensures place { result ≡ place_of name.now names.now }
     ensures within { result ≤ length names.now }
@@ -51,7 +51,7 @@ fn place_in(names: &[Seq<u8>], name: &[u8]) -> usize
     place
 }
 
-// Each name once, in the order of first appearance.
+// Returns each name once, in the order of first appearance.
 fn roster_of(alloc: Global, names: &[Seq<u8>]) -> Result<Vec<Seq<u8>>, AllocError>
     ensures names { IfOk result (λ r. r.items ≡ roster names.now) }
     ensures few { IfOk result (λ r. vec_len r ≤ length names.now) }
@@ -67,7 +67,7 @@ fn roster_of(alloc: Global, names: &[Seq<u8>]) -> Result<Vec<Seq<u8>>, AllocErro
     Ok(found)
 }
 
-// Each reader with its owner, the place of its name in the roster.
+// Returns each reader with its owner, the index of its name in the roster.
 fn parts_of<F: Feed + Drop>(
     alloc: Global,
     roster: &[Seq<u8>],
@@ -92,7 +92,7 @@ fn parts_of<F: Feed + Drop>(
     Ok(parts)
 }
 
-// The collector for the senders of the sources.
+// Creates the collector for the senders of the sources.
 fn collector_for(alloc: Global, names: Vec<Seq<u8>>) -> Result<Collector, AuditFault>
     requires { AreDistinct names.items }
     ensures ok { IfOk result (λ collector. (collector ≡ start names.items) × IsRoster names.items) }
@@ -108,7 +108,8 @@ fn collector_for(alloc: Global, names: Vec<Seq<u8>>) -> Result<Collector, AuditF
     }
 }
 
-/// What an audit makes of its sources: their names, each source with its owner, and a collector for their senders.
+/// The sources of an audit, registered: their names, each source with its owner, and a collector
+/// for their senders.
 #[derive(Drop)]
 pub struct Registered<F> {
     pub names: Vec<Seq<u8>>,
@@ -116,7 +117,8 @@ pub struct Registered<F> {
     pub collector: Collector,
 }
 
-/// Finds the roster of at most 256 sources, and each source's place in it. Answers a roster fault of it, or `Memory`.
+/// Builds the roster of at most 256 sources and finds the index of each source in it. Returns the
+/// roster fault for more than 64 senders, and `Memory` if allocation failed.
 pub fn register<F: Feed + Drop>(
     alloc: Global,
     sources: Vec<Source<F>>,

@@ -1,7 +1,9 @@
-//! A queue between threads under one rule, for any message and any fact that each message in it must have.
+//! A queue between threads under one rule, for any type of message and any property that each
+//! message in it must have.
 //!
-//! The rule is in `specs/Rule.antt`. Each kind of step (a queue made with its first pass, a pass split, a push taken or not,
-//! a pop with a message or without, passes joined) keeps it, whichever threads take the steps and in whatever order.
+//! The rule is in `specs/Body/Rule.antt`. Each kind of step (a queue created with its first pass, a
+//! pass split, a push with or without success, a pop with or without a message, passes joined)
+//! keeps it, whichever threads take the steps and in whatever order.
 ghost use Rattle.std.specs.Prelude.{◌≡◌, ◌<◌, ◌≤◌, List, Option, Some, None, Ok, Err, IfOk, MatchResult, MatchOption, length, [], ◌∷◌};
 ghost use Rattle.crossbeam_queue.specs.Passes.{view, IsPassOf, IsSamePass, ruled_capacity};
 ghost use Rattle.audit_run.specs.Body.Rule.{tally, putting, taking, kept_by_split, given_by_split, joined, Leaves, Suits, Put, Took};
@@ -13,15 +15,16 @@ use std::collections::LinkedList;
 use std::marker::{Brand, PhantomData};
 use std::sync::Wait;
 
-/// The places of a queue.
+/// The capacity of a queue.
 pub const PLACES: usize = 256;
 
-/// A message, and what it has to meet for the names that the passes of its queue share.
+/// A message, and the property that it must have for the names that the passes of its queue share.
 pub trait Message<N> {
     ghost fits: { N → Self → Type 0 };
 }
 
-/// What a pass of one queue knows: its weight, the names, and what it has put and taken. No value of it is made.
+/// The knowledge of one pass of a queue: its weight, the names, and the messages that it has put
+/// and taken. No value of it exists.
 pub struct Tally<T, N> {
     pub weight: u64,
     pub names: Option<N>,
@@ -29,7 +32,7 @@ pub struct Tally<T, N> {
     pub taken: LinkedList<T>,
 }
 
-/// The rule of such a queue.
+/// The rule of a queue, as a protocol.
 pub struct Counted;
 
 impl<T: Message<N>, N> Protocol<T, Tally<T, N>> for Counted {
@@ -46,7 +49,7 @@ pub type Line<T, N> = RuledArrayQueue<T, Tally<T, N>, Counted>;
 /// A pass of such a queue.
 pub type Seat<T, N> = Pass<T, Tally<T, N>>;
 
-/// The names that a queue is opened for. The call that opens it picks them.
+/// The names that a queue is opened for. The call that opens it chooses them.
 pub trait Naming<N> {
     ghost names: { Option N };
 }
@@ -115,7 +118,8 @@ impl<T: Message<N>, N> Lesson<T, Tally<T, N>> for Takes {
     ghost fact = { λ v items. Seen v items };
 }
 
-/// Makes a queue of 256 places with its first pass, which is whole and has these names.
+/// Creates a queue of 256 places with its first pass, which is whole and has these names. Returns
+/// `AllocError` if allocation failed.
 pub fn open<T: Message<N>, N, J: Naming<N>>(
     alloc: Global,
 ) -> Result<(Line<T, N>, Seat<T, N>), AllocError>
@@ -127,7 +131,7 @@ pub fn open<T: Message<N>, N, J: Naming<N>>(
     Ok((line, seat))
 }
 
-/// Puts a message. It comes back only where the queue was full at one moment of the call.
+/// Puts a message. Returns it only if the queue was full at some moment of the call.
 pub fn put<T: Message<N>, N, R: Wait>(
     rt: &R,
     line: &Line<T, N>,
@@ -147,7 +151,7 @@ pub fn put<T: Message<N>, N, R: Wait>(
     line.push_as::<Puts, R>(rt, seat, message)
 }
 
-/// Takes a message. `None` only where the queue was empty at one moment of the call.
+/// Takes a message. Returns `None` only if the queue was empty at some moment of the call.
 pub fn take<T: Message<N>, N, R: Wait>(
     rt: &R,
     line: &Line<T, N>,
@@ -165,7 +169,7 @@ pub fn take<T: Message<N>, N, R: Wait>(
     line.pop_as::<Takes, R>(rt, seat)
 }
 
-/// Another pass of the queue, with 1 of the weight.
+/// Splits off another pass of the queue, with 1 of the weight.
 pub fn split<T: Message<N>, N>(line: &Line<T, N>, seat: &mut Seat<T, N>) -> Seat<T, N>
     requires line { IsPassOf line.now seat.old }
     requires weight { 2 ≤ (view seat.old).weight }
@@ -176,7 +180,7 @@ pub fn split<T: Message<N>, N>(line: &Line<T, N>, seat: &mut Seat<T, N>) -> Seat
     line.another::<Halved>(seat)
 }
 
-/// Takes a pass of the queue back.
+/// Joins a pass of the queue to this one.
 pub fn join<T: Message<N>, N>(line: &Line<T, N>, seat: &mut Seat<T, N>, other: Seat<T, N>)
     requires line { IsPassOf line.now seat.old × IsPassOf line.now other }
     requires weight { (0 < (view seat.old).weight) × (0 < (view other).weight) }

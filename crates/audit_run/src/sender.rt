@@ -9,7 +9,7 @@ use audit_files::Requests;
 use std::sync::Wait;
 use std::thread;
 
-/// Puts a job, and tries again while the queue is full.
+/// Puts a job. Tries again while the queue is full.
 pub fn put_job<R: Wait>(rt: &R, handoff: &Handoff, pass: &mut Pass, job: Job)
     requires { pass.old.handoff ≡ handoff.now }
     ensures { pass.new ≡ with_job_put pass.old job }

@@ -1,4 +1,4 @@
-//! What the threads of an audit share.
+//! The data that the threads of an audit share.
 
 use crate::Handoff;
 use std::alloc::Global;
@@ -6,7 +6,8 @@ use sudo_match::Directory;
 use sudo_policy::Checked;
 use sudo_verdict::RuleIndex;
 
-/// What the threads of an audit share: the policy with its index, the known users and hosts, and the queues.
+/// The data that the threads of an audit share: the policy with its index, the known users and
+/// hosts, and the queues.
 #[derive(Clone, Copy)]
 pub struct Shared<'e> {
     pub alloc: Global,

@@ -14,7 +14,7 @@ use std::snapshot::Snapshot;
 use std::sync::Wait;
 use std::thread::{Promise, PromisedHandle, Scope, Threads};
 
-/// What a worker's thread leaves of its pass: it has put the answer of each job that it took, once.
+/// The promise of a worker's thread: it puts the answer of each job that it takes, once.
 #[derive(Drop)]
 pub struct WorkerRan {
     pub before: Snapshot<Pass>,
@@ -24,6 +24,7 @@ impl Promise<Pass> for WorkerRan {
     ghost kept_by = { λ p r. HasWorked p.before.value r };
 }
 
+/// The handle of a worker's thread.
 pub type WorkerHandle = PromisedHandle<Pass, WorkerRan>;
 
 fn start_worker<'s, 'e: 's, R: Threads + Wait + Sync, G: Gate + Sync>(
@@ -41,7 +42,8 @@ fn start_worker<'s, 'e: 's, R: Threads + Wait + Sync, G: Gate + Sync>(
     let promise = WorkerRan {
         before: Snapshot::of(&pass),
     };
-    // The closure takes plain references: with the whole value in it, what it ensures is lost to `spawn_with`.
+    // The closure captures plain references: if it captured the whole value, `spawn_with` would
+    // lose its contract.
     let Shared {
         alloc,
         policy,
@@ -67,7 +69,8 @@ fn start_worker<'s, 'e: 's, R: Threads + Wait + Sync, G: Gate + Sync>(
     scope.spawn_with(promise, body).ok()
 }
 
-/// Starts a worker for each pass, into room that is there. False where one could not be started; then no further one is.
+/// Starts a worker for each pass, and appends its handle, for which `handles` needs capacity.
+/// Returns false if one could not be started, and then starts no further one.
 pub fn start_workers<'s, 'e: 's, R: Threads + Wait + Sync, G: Gate + Sync>(
     rt: &'e R,
     scope: &Scope<'s, &'e ()>,
@@ -98,7 +101,7 @@ pub fn start_workers<'s, 'e: 's, R: Threads + Wait + Sync, G: Gate + Sync>(
     true
 }
 
-/// Joins the workers, and takes their passes back.
+/// Joins the workers and their passes.
 pub fn join_workers<R: Threads + Wait>(
     rt: &R,
     shared: Shared<'_>,

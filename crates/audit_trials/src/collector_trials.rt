@@ -1,4 +1,5 @@
-//! Worked examples. Their answers come from the rules, not from the collector.
+//! Worked examples of the collector. The expected values come from the rules, not from the
+//! collector.
 use audit_collect::{
     Answer, Arrival, CollectFault, Collector, Refused, Report, RosterFault, Unfinished, collect_all,
 };
@@ -30,7 +31,7 @@ fn close(sender: u32, count: u32) -> Arrival {
     Arrival::Close { sender, count }
 }
 
-// A roster of names of one letter.
+// Returns a roster of names of one letter.
 fn roster(alloc: Global, letters: &[u8]) -> Result<Vec<Seq<u8>>, AllocError> {
     let mut names = Vec::new(alloc);
     for letter in letters {
@@ -48,7 +49,7 @@ fn refusal(collector: &mut Collector, arrival: Arrival) -> Option<Refused> {
     }
 }
 
-// Whether the answers are numbered from 1 up to the length that is wanted.
+// Whether the answers are numbered from 1 up to the expected length.
 fn are_numbered(answers: &[Answer], len: usize) -> bool {
     let mut next = 1;
     for answer in answers {
@@ -135,7 +136,7 @@ fn one_collector_throughout(rt: HostRuntime) -> Result<(), AllocError> {
     Ok(())
 }
 
-// How many answers of the sender 0 can be released, if they are numbered from 1.
+// Returns how many answers of the sender 0 can be released, if they are numbered from 1.
 fn released_len(collector: &Collector) -> Option<usize> {
     match collector.released(0) {
         Some(answers) if are_numbered(answers, answers.len()) => Some(answers.len()),
@@ -165,7 +166,7 @@ fn any_order_gives_the_report(rt: HostRuntime) -> Result<(), AllocError> {
     Ok(())
 }
 
-// Whether the fault names the sender of one letter twice.
+// Whether the fault is `SenderTwice` for the sender named by this letter.
 fn names_letter(fault: RosterFault, letter: u8) -> bool {
     match fault {
         RosterFault::SenderTwice { name } => {

@@ -1,3 +1,5 @@
+//! Readers and writers that fail or move few bytes per call.
+
 use audit_files::{Feed, ReadFault, Script, Sink, read_whole, write_all_of};
 use std::test::Fail;
 

@@ -1,3 +1,5 @@
+//! Users files, hosts files and requests files, from their bytes.
+
 use audit_files::{FileFault, Script, read_hosts, read_requests, read_users};
 use std::alloc::Global;
 use std::test::Fail;
@@ -8,7 +10,7 @@ const HEADER: &str = "number,user,host,runas_user,runas_group,command,arguments\
 const ROWS: &str =
     "1,alice,web1.example.org,,,/bin/kill,-9 7\n2,carol,web1.example.org,,,/bin/kill,\nclose,2,,,,,\n";
 
-// The fault of a requests file with these rows.
+// Returns the fault of a requests file with these rows.
 fn fault_of(alloc: Global, rows: &str) -> Result<Option<FileFault>, Fail> {
     let mut text = String::from_str(alloc, HEADER)?;
     text.push_str(rows)?;
@@ -62,7 +64,7 @@ fn names_the_first_fault(rt: HostRuntime) -> Result<(), Fail> {
     Ok(())
 }
 
-// What is read of a requests file that is cut to its first bytes: the count of its close row, if it is a file.
+// Reads the first bytes of a requests file, and returns the count of its close row, or its fault.
 fn read_of_cut(n: usize) -> Result<Option<u32>, FileFault> {
     match n {
         0..=56 => Err(FileFault::Header),
@@ -122,7 +124,7 @@ fn reads_as_csv_reads(rt: HostRuntime) -> Result<(), Fail> {
 #[test]
 fn names_a_read_that_fails(rt: HostRuntime) -> Result<(), Fail> {
     let alloc = rt.alloc();
-    // The header is read in seven reads, of which the last finds the end.
+    // Reading the header takes seven reads, of which the last finds the end.
     for call in 1..8 {
         let mut reader = Script::of(alloc, HEADER.as_bytes(), 10)?.failing_at(call);
         assert!(rt; matches!(read_requests(alloc, &mut reader), Err(FileFault::Read)));
@@ -164,7 +166,8 @@ fn reads_users(rt: HostRuntime) -> Result<(), Fail> {
     Ok(())
 }
 
-// A users file with one row a membership, and the users that it states, as `name uid name:gid ..;` for each, or its fault.
+// Users files with one row per membership, each with the users that it states, as `name uid
+// name:gid ..;` for each, or with its fault.
 const MEMBERSHIPS: [(&str, Result<&str, FileFault>); 24] = [
     ("", Ok("")),
     ("root,0,0,root\n", Ok("root 0 root:0;")),
@@ -172,9 +175,9 @@ const MEMBERSHIPS: [(&str, Result<&str, FileFault>); 24] = [
     ("a,1,7,g\nb,2,7,g\n", Ok("a 1 g:7;b 2 g:7;")),
     ("a,1,7,g\na,1,7,g\n", Ok("a 1 g:7 g:7;")),
     ("a,1,,\nb,2,,\n", Ok("a 1;b 2;")),
-    // Rows of a user that come back are a further user.
+    // Rows of a user that return after those of another are a further user.
     ("a,1,7,g\nb,2,,\na,9,8,h\n", Ok("a 1 g:7;b 2;a 9 h:8;")),
-    // Names that one row a user cannot hold.
+    // Names that a file with one row per user cannot hold.
     ("a,1,5000,domain users\n", Ok("a 1 domain users:5000;")),
     (
         "a,1,5,x:y\na,1,6,\"b,\"\"c\"\"\"\n",
@@ -204,7 +207,7 @@ const MEMBERSHIPS: [(&str, Result<&str, FileFault>); 24] = [
     ("a,1,7,g\nb,2,g:7\n", Err(FileFault::BadRow { row: 3 })),
 ];
 
-// The users as the table writes them.
+// Returns the users, as the table writes them.
 fn written(alloc: Global, users: &[Person]) -> Result<String, Fail> {
     let mut text = String::new(alloc);
     for user in users {

@@ -26,7 +26,7 @@ fn person(alloc: Global, name: &[u8], id: u32) -> Result<Person, AllocError> {
     })
 }
 
-/// `root` and `alice`, and the host `web1.example.org`.
+// Returns the directory of `root` and `alice`, and the host `web1.example.org`.
 fn directory(alloc: Global) -> Result<Directory, Fail> {
     let mut people = Vec::new(alloc);
     people.push(person(alloc, b"root", 0)?)?;
@@ -47,7 +47,8 @@ fn directory(alloc: Global) -> Result<Directory, Fail> {
     }
 }
 
-/// A policy under which alice may run `/bin/kill` on web1 without a password, and not `/bin/su`.
+// Returns a policy under which alice may run `/bin/kill` on web1 without a password, and not
+// `/bin/su`.
 fn policy(alloc: Global) -> Result<Checked, Fail> {
     let text = b"alice web1 = NOPASSWD: /bin/kill, !/bin/su\n";
     let supplies: [Supply; 0] = [];
@@ -60,21 +61,21 @@ fn policy(alloc: Global) -> Result<Checked, Fail> {
     }
 }
 
-/// What requests are judged by.
+/// The policy and the directory by which requests are judged.
 #[derive(Drop)]
 pub(crate) struct Ground {
     pub policy: Checked,
     pub directory: Directory,
 }
 
-/// The policy and the directory above.
+/// Returns the policy and the directory above.
 pub(crate) fn make_ground(alloc: Global) -> Result<Ground, Fail> {
     let policy = policy(alloc)?;
     let directory = directory(alloc)?;
     Ok(Ground { policy, directory })
 }
 
-/// A requests file: the header and these rows.
+/// Returns a requests file with the header and these rows.
 pub(crate) fn requests_file(alloc: Global, rows: &[u8]) -> Result<Vec<u8>, AllocError> {
     let mut text = Vec::new(alloc);
     text.extend_from_slice(HEADER)?;
@@ -82,7 +83,7 @@ pub(crate) fn requests_file(alloc: Global, rows: &[u8]) -> Result<Vec<u8>, Alloc
     Ok(text)
 }
 
-/// A source over memory.
+/// Returns a source over memory.
 pub(crate) fn source(
     alloc: Global,
     name: &[u8],
@@ -95,7 +96,7 @@ pub(crate) fn source(
     })
 }
 
-/// An audit of the sources.
+// Audits the sources under this policy and directory.
 fn audited_by<R: Threads + Wait + Sync, F: Feed + Drop + Send, G: Gate + Sync>(
     alloc: Global,
     rt: &R,
@@ -114,7 +115,7 @@ fn audited_by<R: Threads + Wait + Sync, F: Feed + Drop + Send, G: Gate + Sync>(
     ))
 }
 
-/// An audit of the sources under the policy and the directory above.
+/// Audits the sources under the policy and the directory above.
 pub(crate) fn audited<R: Threads + Wait + Sync, F: Feed + Drop + Send, G: Gate + Sync>(
     alloc: Global,
     rt: &R,
@@ -139,7 +140,7 @@ fn fault_shown(alloc: Global, fault: &AuditFault) -> Result<String, Fail> {
     Ok(format!(in alloc; "{fault}")?)
 }
 
-/// The text of the report, or of the fault.
+/// Returns the text of the report, or of the fault.
 pub(crate) fn shown(alloc: Global, answer: &Result<Report, AuditFault>) -> Result<String, Fail> {
     match answer {
         Ok(report) => report_shown(alloc, report),

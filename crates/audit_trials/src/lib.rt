@@ -1,5 +1,5 @@
-//! Tests of whole audits, from the bytes of requests files to the text of the report; and of what an audit stands on: readers
-//! and writers, the CSV files, the collector in every order of arrival.
+//! Tests of whole audits, from the bytes of requests files to the text of the report, and of the
+//! parts of an audit: readers and writers, the CSV files, the collector in every order of arrival.
 #![tactic(auto)]
 
 #[cfg(test)]

@@ -44,8 +44,9 @@ fn arrival(alloc: Global, step: Step) -> Arrival {
     }
 }
 
-// The steps in the order of this number. Its digits, the first below the number of steps, the next below one less and so
-// on, choose each next step among those that are left: so n steps have n! numbers, and each order has one.
+// Returns the steps in the order with this number. Its digits, the first below the number of steps,
+// the next below one less and so on, choose each next step among those that are left. So n steps
+// have n! numbers, and each order has one.
 fn in_order(alloc: Global, steps: &[Step], order: usize) -> Result<Vec<Arrival>, AllocError> {
     let mut left = Vec::new(alloc);
     for step in steps {
@@ -70,7 +71,7 @@ fn name(alloc: Global, letter: u8) -> Result<Seq<u8>, AllocError> {
     Ok(Seq::from_vec(name))
 }
 
-// A roster of names of one letter.
+// Returns a roster of names of one letter.
 fn roster(alloc: Global, letters: &[u8]) -> Result<Vec<Seq<u8>>, AllocError> {
     let mut names = Vec::new(alloc);
     for letter in letters {
@@ -79,7 +80,7 @@ fn roster(alloc: Global, letters: &[u8]) -> Result<Vec<Seq<u8>>, AllocError> {
     Ok(names)
 }
 
-// Whether the collector answers this to the steps in the order of this number.
+// Whether the collector returns this result for the steps in the order with this number.
 fn answers(
     alloc: Global,
     letters: &[u8],
@@ -92,7 +93,7 @@ fn answers(
     Ok(collect_all(alloc, names, arrivals) == *wanted)
 }
 
-// The report on a sender whose answers have the numbers 1 to the count.
+// Returns the report of a sender whose answers have the numbers 1 to `count`.
 fn sender_report(
     alloc: Global,
     letter: u8,
@@ -109,7 +110,7 @@ fn sender_report(
     })
 }
 
-// The report on the sender a, which sent two requests, and the sender b, which sent one.
+// Returns the report of the sender a, which sent two requests, and the sender b, which sent one.
 fn two_and_one(alloc: Global) -> Result<Report, AllocError> {
     let mut senders = Vec::new(alloc);
     senders.push(sender_report(alloc, b'a', 0, 2)?)?;
@@ -220,7 +221,7 @@ fn refusal(collector: &mut Collector, arrival: Arrival) -> Option<Refused> {
     }
 }
 
-// How many answers of the sender are released, `None` for a stranger.
+// Returns how many answers of the sender are released, or `None` for a stranger.
 fn released_len(collector: &Collector, sender: u32) -> Option<usize> {
     match collector.released(sender) {
         Some(answers) => Some(answers.len()),

@@ -7,7 +7,7 @@ use std::alloc::Global;
 use std::sync::Wait;
 use std::test::Fail;
 
-/// Whether a close mark of this count could be put.
+// Puts a close mark with this count, and returns whether that succeeded.
 fn puts_close<R: Wait>(rt: &R, handoff: &Handoff, pass: &mut Pass, count: u32) -> bool
     requires { pass.old.handoff ≡ handoff.now }
     ensures { pass.new.handoff ≡ handoff.now }
@@ -18,7 +18,7 @@ fn puts_close<R: Wait>(rt: &R, handoff: &Handoff, pass: &mut Pass, count: u32) -
     }
 }
 
-/// How many close marks could be put, of 256.
+// Puts 256 close marks, and returns how many succeeded.
 fn filled<R: Wait>(rt: &R, handoff: &Handoff, pass: &mut Pass) -> u32
     requires { pass.old.handoff ≡ handoff.now }
     ensures { pass.new.handoff ≡ handoff.now }
@@ -32,7 +32,7 @@ fn filled<R: Wait>(rt: &R, handoff: &Handoff, pass: &mut Pass) -> u32
     put
 }
 
-/// Whether `Stop` comes back.
+// Whether putting `Stop` returns it.
 fn hands_stop_back<R: Wait>(rt: &R, handoff: &Handoff, pass: &mut Pass) -> bool
     requires { pass.old.handoff ≡ handoff.now }
     ensures { pass.new.handoff ≡ handoff.now }
@@ -43,7 +43,7 @@ fn hands_stop_back<R: Wait>(rt: &R, handoff: &Handoff, pass: &mut Pass) -> bool
     }
 }
 
-/// The count of the close mark that is taken.
+// Takes a job, and returns the count of the close mark that it is.
 fn taken_count<R: Wait>(rt: &R, handoff: &Handoff, pass: &mut Pass) -> Option<u32>
     requires { pass.old.handoff ≡ handoff.now }
     ensures { pass.new.handoff ≡ handoff.now }
@@ -54,7 +54,8 @@ fn taken_count<R: Wait>(rt: &R, handoff: &Handoff, pass: &mut Pass) -> Option<u3
     }
 }
 
-/// How many close marks could be put, whether `Stop` came back, and the count of the first close mark.
+// Returns how many close marks were put, whether `Stop` was returned, and the count of the first
+// close mark taken.
 fn used<R: Wait>(rt: &R, handoff: &Handoff, pass: &mut Pass) -> (u32, bool, Option<u32>)
     requires { pass.old.handoff ≡ handoff.now }
 {
@@ -63,7 +64,7 @@ fn used<R: Wait>(rt: &R, handoff: &Handoff, pass: &mut Pass) -> (u32, bool, Opti
     (put, is_back, taken_count(rt, handoff, pass))
 }
 
-/// The same of a new handoff.
+// Returns the same for a new handoff.
 fn used_by<R: Wait>(
     alloc: Global,
     rt: &R,
@@ -73,7 +74,7 @@ fn used_by<R: Wait>(
     Ok(used(rt, &handoff, &mut pass))
 }
 
-// Drops the ground, so that no assert has to.
+// A function of its own drops the ground, so that no assertion has to.
 fn used_anew<R: Wait>(alloc: Global, rt: &R) -> Result<(u32, bool, Option<u32>), Fail> {
     let ground = make_ground(alloc)?;
     used_by(alloc, rt, &ground)

@@ -9,7 +9,8 @@ use std::test::Fail;
 use std::thread::Threads;
 use sudo_text::Seq;
 
-/// A source of 151 bytes, of which each read gives 60; the read of this number, from 1, fails.
+// Returns a source of 151 bytes, of which each read returns 60; the read with this number, from 1,
+// fails.
 fn failing(alloc: Global, call: u64) -> Result<Source<Script>, AllocError> {
     let rows = rows(alloc, "1=kill 2=stranger close=2")?;
     let text = requests_file(alloc, rows.as_str().as_bytes())?;
@@ -19,7 +20,7 @@ fn failing(alloc: Global, call: u64) -> Result<Source<Script>, AllocError> {
     })
 }
 
-/// What is printed where the second source fails at this read.
+// Returns the text that is printed if the second source fails at this read.
 fn printed<R: Threads + Wait + Sync>(alloc: Global, rt: &R, call: u64) -> Result<String, Fail> {
     let mut sources = Vec::new(alloc);
     sources.push(source(alloc, b"t", b"close,0,,,,,\n")?)?;

@@ -1,4 +1,5 @@
-//! Audits that are refused before any thread starts: no reader is read, no worker is at a request.
+//! Audits that are refused before any thread starts: no source is read, and no worker judges a
+//! request.
 
 use crate::fixtures::audited;
 use audit_run::{Failed, Feed, Gate, Source};
@@ -9,7 +10,7 @@ use std::test::Fail;
 use std::thread::Threads;
 use sudo_text::Seq;
 
-/// A reader that has no bytes, and counts its calls.
+// A reader that has no bytes, and counts its calls.
 #[derive(Drop)]
 struct Counting<'a> {
     calls: &'a AtomicU64,
@@ -28,7 +29,7 @@ impl Feed for Counting<'_> {
     }
 }
 
-/// Counts the calls of workers.
+// Counts the calls of workers.
 #[derive(Drop)]
 struct Watch {
     calls: AtomicU64,
@@ -44,7 +45,7 @@ impl Gate for Watch {
     }
 }
 
-/// So many sources, each of a sender of its own if `apart`, else all of one.
+// Returns this number of sources, each of a sender of its own if `apart`, else all of one.
 fn sources<'a>(
     alloc: Global,
     count: u32,
@@ -63,7 +64,8 @@ fn sources<'a>(
     Ok(sources)
 }
 
-/// How often readers and workers are called in an audit of these sources, and whether it is refused.
+// Audits these sources, and returns how often readers and workers are called, and whether the audit
+// is refused.
 fn calls_of<R: Threads + Wait + Sync>(
     alloc: Global,
     rt: &R,

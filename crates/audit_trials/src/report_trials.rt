@@ -1,3 +1,5 @@
+//! The text of reports.
+
 use audit_collect::{Answer, Report, SenderReport};
 use audit_files::report_text;
 use std::alloc::{AllocError, Global};

@@ -1,8 +1,8 @@
-//! Audits as text: a table has a row a line, with ` =>` between the sources and what is printed.
+//! Audits as text: each line of a table has the sources, ` =>`, and the expected output.
 //!
-//! Sources stand apart by `|`, each as its name, a colon, and a word for each row of its file: `close=COUNT`, or the number
-//! of a request, `=`, and which request it is. A report is printed as `report`, then its rows, and `;` stands for the end of
-//! each line.
+//! Sources are separated by `|`, each written as its name, a colon, and a word for each row of its
+//! file: `close=COUNT`, or the number of a request, `=`, and which request it is. A report is
+//! written as `report`, then its rows, with `;` for the end of each line.
 
 ghost use Rattle.std.specs.Prelude.{◌≤◌};
 
@@ -16,7 +16,7 @@ use std::thread::Threads;
 /// The first line of a report.
 pub(crate) const HEAD: &str = "sender,number,verdict,line,tags\n";
 
-/// What follows the number of a request.
+// Returns the rest of a request's row after its number.
 fn request(which: &str) -> &'static str {
     match which {
         "kill" => ",alice,web1.example.org,,,/bin/kill,-9 7\n",
@@ -26,7 +26,7 @@ fn request(which: &str) -> &'static str {
     }
 }
 
-/// Appends the row for a word; nothing for an empty one.
+// Appends the row for a word, and nothing for an empty word.
 fn push_row(rows: &mut String, word: &str) -> Result<(), AllocError> {
     let Some((first, second)) = word.split_once('=') else {
         return Ok(());
@@ -40,7 +40,7 @@ fn push_row(rows: &mut String, word: &str) -> Result<(), AllocError> {
     rows.push_str(request(second))
 }
 
-/// The rows of a requests file.
+/// Returns the rows of a requests file.
 pub(crate) fn rows(alloc: Global, words: &str) -> Result<String, AllocError> {
     let mut rows = String::new(alloc);
     for word in words.split(' ') {
@@ -49,7 +49,7 @@ pub(crate) fn rows(alloc: Global, words: &str) -> Result<String, AllocError> {
     Ok(rows)
 }
 
-/// Appends a source; nothing for a text without a name.
+// Appends a source, and nothing for a text without a name.
 fn push_source(
     alloc: Global,
     sources: &mut Vec<Source<Script>>,
@@ -64,7 +64,7 @@ fn push_source(
     Ok(())
 }
 
-/// The sources of a row.
+/// Returns the sources of a row.
 pub(crate) fn sources(alloc: Global, text: &str) -> Result<Vec<Source<Script>>, AllocError> {
     let mut sources = Vec::new(alloc);
     for source in text.split('|') {
@@ -73,7 +73,7 @@ pub(crate) fn sources(alloc: Global, text: &str) -> Result<Vec<Source<Script>>, 
     Ok(sources)
 }
 
-/// What an audit of the sources of a row prints.
+/// Audits the sources of a row, and returns the text that is printed.
 pub(crate) fn printed<R: Threads + Wait + Sync>(
     alloc: Global,
     rt: &R,
@@ -86,7 +86,7 @@ pub(crate) fn printed<R: Threads + Wait + Sync>(
     shown(alloc, &answer)
 }
 
-/// What is printed, as a row has it.
+// Returns a printed text, as a row writes it.
 fn folded(alloc: Global, text: &str) -> Result<String, AllocError> {
     let Some(rows) = text.strip_prefix(HEAD) else {
         return String::from_str(alloc, text);
@@ -98,7 +98,7 @@ fn folded(alloc: Global, text: &str) -> Result<String, AllocError> {
     Ok(line)
 }
 
-/// Appends a row for which something else is printed, with that.
+// Appends the row and its output, if that differs from the expected. Skips a line without ` =>`.
 fn check_row<R: Threads + Wait + Sync>(
     alloc: Global,
     rt: &R,
@@ -117,7 +117,7 @@ fn check_row<R: Threads + Wait + Sync>(
     Ok(())
 }
 
-/// The rows of a table for which something else is printed, with that.
+/// Returns the rows of a table whose output differs from the expected, each with its output.
 pub(crate) fn wrong_rows<R: Threads + Wait + Sync>(
     alloc: Global,
     rt: &R,

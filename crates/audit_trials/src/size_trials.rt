@@ -1,4 +1,4 @@
-//! How many sources, senders and requests an audit takes.
+//! Audits of the most sources, senders and requests, and beyond.
 
 use crate::fixtures::{audited, shown, source};
 use crate::rows::{HEAD, printed};
@@ -6,7 +6,7 @@ use audit_run::{Open, Script, Source};
 use std::alloc::{AllocError, Global};
 use std::test::Fail;
 
-/// So many sources of the name `s` without a row.
+// Returns this number of sources with the name `s` and no row.
 fn parts(alloc: Global, count: u32) -> Result<Vec<Source<Script>>, AllocError> {
     let mut parts = Vec::new(alloc);
     for _ in 0..count {
@@ -25,7 +25,7 @@ fn parts_are_limited(rt: HostRuntime) -> Result<(), Fail> {
     Ok(())
 }
 
-/// The words of so many sources, each of a sender of its own.
+// Returns the words of this number of sources, each of a sender of its own.
 fn senders(alloc: Global, count: u32) -> Result<String, AllocError> {
     let mut text = String::new(alloc);
     for number in 0..count {
@@ -48,7 +48,7 @@ fn senders_are_limited(rt: HostRuntime) -> Result<(), Fail> {
     Ok(())
 }
 
-/// The words of a source of this name with requests 1 to 1,000 and this close mark.
+// Returns the words of a source with this name, with requests 1 to 1,000 and this close mark.
 fn thousand(alloc: Global, name: &str, close: u32) -> Result<String, AllocError> {
     let mut text = format!(in alloc; "{name}:")?;
     for number in 1..1001u32 {
@@ -60,7 +60,8 @@ fn thousand(alloc: Global, name: &str, close: u32) -> Result<String, AllocError>
     Ok(text)
 }
 
-/// The queues hold 256 messages, and a source of many more ends although its first close mark refuses it.
+// The queues hold 256 messages, and a source of many more ends although its first close mark
+// refuses it.
 #[test]
 fn a_long_source_is_closed_early(rt: HostRuntime) -> Result<(), Fail> {
     let alloc = rt.alloc();

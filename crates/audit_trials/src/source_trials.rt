@@ -1,5 +1,5 @@
-//! What audits print. Each expected text comes from the rows of its sources, from sudoers(5) and from the table of faults in
-//! the manual page.
+//! The output of audits. Each expected text comes from the rows of its sources, from sudoers(5) and
+//! from the table of faults in the manual page.
 
 use crate::rows::{printed, wrong_rows};
 use std::test::Fail;

@@ -1,4 +1,4 @@
-//! Many parts, and a part that stands still while others run on.
+//! Many parts, and a part whose reader waits while others run.
 
 ghost use Rattle.std.specs.Prelude.{◌≤◌};
 
@@ -13,10 +13,10 @@ use std::thread;
 use std::thread::Threads;
 use sudo_text::Seq;
 
-/// How often a thread lets others run before it counts as one that waits in vain.
+// How often a thread yields before it counts as one that waits in vain.
 const TURNS: u32 = 10_000_000;
 
-/// Counts the requests that are answered.
+// Counts the requests that are answered.
 #[derive(Drop)]
 struct Answered<'a> {
     count: &'a AtomicU64,
@@ -30,7 +30,7 @@ impl Gate for Answered<'_> {
     }
 }
 
-/// A reader that stands still until so many requests are answered.
+// A reader that waits until this number of requests is answered.
 #[derive(Drop)]
 struct Standing<'a, F> {
     inner: F,
@@ -39,7 +39,7 @@ struct Standing<'a, F> {
     late: &'a AtomicU64,
 }
 
-/// Waits until so many are counted, and counts a wait that is in vain.
+// Waits until the count reaches `until`, and counts a wait that is in vain.
 fn wait_until(count: &AtomicU64, until: u64, late: &AtomicU64) {
     for _ in 0..TURNS {
         if count.load(Ordering::SeqCst) >= until {
@@ -61,7 +61,8 @@ impl<'a, F: Feed> Feed for Standing<'a, F> {
     }
 }
 
-/// A part: its sender, its requests from `first` to below `end`, its last row, and after how many answers it is read.
+// A part: its sender, its requests from `first` to below `end`, its last row, and after how many
+// answers it is read.
 #[derive(Clone, Copy)]
 struct Part {
     name: &'static str,
@@ -71,7 +72,7 @@ struct Part {
     until: u64,
 }
 
-/// The bytes of a part.
+// Returns the bytes of a part.
 fn text_of(alloc: Global, part: Part) -> Result<Vec<u8>, AllocError> {
     let mut rows = String::new(alloc);
     for number in part.first..part.end {
@@ -82,7 +83,7 @@ fn text_of(alloc: Global, part: Part) -> Result<Vec<u8>, AllocError> {
     requests_file(alloc, rows.as_str().as_bytes())
 }
 
-/// The sources of these parts.
+// Returns the sources of these parts.
 fn sources<'a>(
     alloc: Global,
     parts: &[Part],
@@ -105,7 +106,8 @@ fn sources<'a>(
     Ok(sources)
 }
 
-/// What an audit of these parts prints, how many requests were answered, and how many waits were in vain.
+// Audits these parts, and returns the output, how many requests were answered, and how many waits
+// were in vain.
 fn printed<R: Threads + Wait + Sync>(
     alloc: Global,
     rt: &R,
@@ -127,7 +129,7 @@ fn printed<R: Threads + Wait + Sync>(
     ))
 }
 
-/// The report on so many requests of the sender `s`.
+// Returns the report of this number of requests of the sender `s`.
 fn report(alloc: Global, count: u32) -> Result<String, AllocError> {
     let mut text = String::from_str(alloc, HEAD)?;
     for before in 0..count {
@@ -138,7 +140,8 @@ fn report(alloc: Global, count: u32) -> Result<String, AllocError> {
     Ok(text)
 }
 
-/// The first part is not read before the 600 requests of the others are answered: more than the queues hold.
+// The first part is read only after the 600 requests of the others are answered: more than the
+// queues hold.
 const ONE_STANDS: [Part; 3] = [
     Part {
         name: "s",
@@ -175,7 +178,7 @@ fn a_part_may_stand_still(rt: HostRuntime) -> Result<(), Fail> {
     Ok(())
 }
 
-/// So many parts of `s` of a request each, and a part of the close mark alone.
+// Returns this number of parts of `s` with one request each, and a part with the close mark alone.
 fn many(alloc: Global, count: u32) -> Result<Vec<Part>, AllocError> {
     let mut parts = Vec::new(alloc);
     parts.push(Part {

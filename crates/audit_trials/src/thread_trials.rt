@@ -1,4 +1,4 @@
-//! Threads that run at once: one could not end before the other has begun.
+//! Threads that run at the same time: one could not end before the other has begun.
 
 use crate::fixtures::{audited, requests_file};
 use crate::rows::sources;
@@ -11,10 +11,10 @@ use std::thread;
 use std::thread::Threads;
 use sudo_text::Seq;
 
-/// How often a thread lets others run before it counts as one that waits in vain.
+// How often a thread yields before it counts as one that waits in vain.
 const TURNS: u32 = 10_000_000;
 
-/// Waits until the flag is not 0, and counts a wait that is in vain.
+// Waits until the flag is not 0, and counts a wait that is in vain.
 fn wait_for(flag: &AtomicU64, late: &AtomicU64) {
     for _ in 0..TURNS {
         if flag.load(Ordering::SeqCst) != 0 {
@@ -25,7 +25,7 @@ fn wait_for(flag: &AtomicU64, late: &AtomicU64) {
     late.fetch_add(1, Ordering::SeqCst);
 }
 
-/// How often a worker was at one of two requests.
+// How often a worker began and ended a request.
 #[derive(Drop)]
 struct Calls {
     before: AtomicU64,
@@ -45,7 +45,7 @@ impl Calls {
     }
 }
 
-/// The request of the number `waiting` is not judged before that of the number `other` is answered.
+// A gate that lets request `waiting` be judged only after request `other` is answered.
 #[derive(Drop)]
 struct Order {
     waiting: u32,
@@ -76,7 +76,7 @@ impl Gate for Order {
     }
 }
 
-/// Whether each of requests 1 and 2 is judged once by two workers, and none waits in vain.
+// Whether two workers judge each of requests 1 and 2 once, and none waits in vain.
 fn is_judged_after<R: Threads + Wait + Sync>(
     alloc: Global,
     rt: &R,
@@ -107,7 +107,7 @@ fn two_workers_run_at_once(rt: HostRuntime) -> Result<(), Fail> {
     Ok(())
 }
 
-/// A reader whose reads return only after another's was called.
+// A reader whose reads return only after another reader was called.
 #[derive(Drop)]
 struct Meeting<'a, F> {
     inner: F,
@@ -128,7 +128,7 @@ impl<'a, F: Feed> Feed for Meeting<'a, F> {
     }
 }
 
-/// A source of this name and these rows, whose reader waits for the other.
+// Returns a source with this name and these rows, whose reader waits for the other.
 fn meeting_source<'a>(
     alloc: Global,
     name: &[u8],
@@ -149,7 +149,8 @@ fn meeting_source<'a>(
     })
 }
 
-/// Whether sources of these names, each of which waits for the other's first read, are both read without a wait in vain.
+// Whether sources with these names, each of which waits for the other's first read, are both read
+// without a wait in vain.
 fn are_read_at_once<R: Threads + Wait + Sync>(
     alloc: Global,
     rt: &R,

@@ -1,4 +1,4 @@
--- Words that ask for nothing.
+-- Words that ask for no command.
 use Rattle.std.proofs.Common.{◌≡◌, List, Some, codes, sym, ◌∙◌}
 use Rattle.std.specs.Prelude.{◌≢◌}
 use Rattle.clap.specs.Words.{Row, Text, first_of}

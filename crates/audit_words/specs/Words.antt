@@ -1,4 +1,4 @@
--- What the words of the command line ask for, by `clap`'s meaning of a simple command.
+-- The commands that the words of the command line ask for, by `clap`'s meaning of a simple command.
 use Rattle.std.specs.Prelude.{◌≡◌, ◌≤◌, ◌⊎◌, ℕ, pos, true, false, List, [], ◌∷◌, map, codes, ⊤, Some, Ok, unwrap_or}
 use Rattle.std.specs.Str.Parse.{ParsesUnsigned}
 use Rattle.std.specs.declared.num.ParseIntError.{ParseIntError}
@@ -21,11 +21,11 @@ kind_word kind.Runas = codes "runas"
 kind_word kind.Host = codes "host"
 kind_word kind.Cmnd = codes "cmnd"
 
--- a positional word that has to be there
+-- a required positional word
 abbrev pub needed : Text → Rule
 needed id = record (new_rule id) { required = true }
 
--- an option `--id` that has to be there
+-- a required option `--id`
 abbrev pub needed_option : Text → Rule
 needed_option id = record (new_rule id) { long = Some id; required = true }
 
@@ -53,11 +53,11 @@ audit_paths_app = with_rule (with_rule (with_rule (new_app (codes "audit")) (nee
 abbrev pub audit_app : App
 audit_app = with_rule (with_rule audit_paths_app workers_rule) senders_rule
 
--- the program's name; it has a version, and wants a subcommand
+-- the program's name; it has a version and requires a subcommand
 abbrev pub named_app : App
 named_app = on_top (λ s. record s { has_version = true; subcommand_required = true }) (new_app (codes "sudo_audit"))
 
--- the program's command: one of the three
+-- the program's command, with its three subcommands
 abbrev pub program_app : App
 program_app = with_subcommand (with_subcommand (with_subcommand named_app check_app.top) expand_app.top) audit_app.top
 
@@ -65,7 +65,7 @@ program_app = with_subcommand (with_subcommand (with_subcommand named_app check_
 abbrev pub IsNumberIn : ℕ → List Row → Type 0
 IsNumberIn workers rows = (text : Text) × (one_of (codes "workers") rows ≡ Some text) × ParsesUnsigned {E = ParseIntError} 32 10 text (Ok workers)
 
--- what is asked for is what the rows of the subcommand hold
+-- the rows of the subcommand hold this command
 abbrev pub States : Asked → Text × List Row → Type 0
 States (Check file) p = (p.0 ≡ codes "check") × (first_of (codes "file") p.1 ≡ Some file.now)
 States (Expand file kind name) p =
@@ -76,26 +76,26 @@ States (Audit file users hosts workers senders) p =
     × (first_of (codes "users") p.1 ≡ Some users.now) × (first_of (codes "hosts") p.1 ≡ Some hosts.now)
     × IsNumberIn workers p.1 × (unwrap_or (all_of (codes "senders") p.1) [] ≡ map (λ s. s.now) senders.items)
 
--- as many workers as an audit takes
+-- the number of workers is one that an audit accepts
 abbrev pub WorkersFit : Asked → Type 0
 WorkersFit (Check file) = ⊤
 WorkersFit (Expand file kind name) = ⊤
 WorkersFit (Audit file users hosts workers senders) = (1 ≤ workers) × (workers ≤ 16)
 
--- nothing is asked for by a subcommand with these rows: another name, or a KIND that is none
+-- a subcommand with these rows asks for no command: its name is another, or its KIND is invalid
 abbrev pub AsksNothing : Text × List Row → Type 0
 AsksNothing p = (asked : Asked) → States asked p → ⊥
 
--- `clap` takes no such words, or they ask for nothing
+-- `clap` does not accept the words, or they ask for no command
 abbrev pub IsMisuse : List Text → Type 0
 IsMisuse words =
     (takes program_app words ≡ false)
     ⊎ ((p : Text × List Row) → subcommand_of program_app words ≡ Some p → AsksNothing p)
 
--- why words are refused: memory was refused, or they are misuse
+-- the error for refused words: out of memory, or they are misuse
 abbrev pub IsRefusal : List Text → Error → Type 0
 IsRefusal words error = (kind_of error ≡ OutOfMemory) ⊎ IsMisuse words
 
--- Words that are not read are misuse, as of a value that is none; or memory was refused.
+-- the error for words that cannot be read: misuse, as for an invalid value, or out of memory
 abbrev pub IsUnread : ErrorKind → Type 0
 IsUnread kind = (kind ≡ ValueValidation) ⊎ (kind ≡ OutOfMemory)

@@ -8,7 +8,7 @@ use clap::builder::ValueParser;
 use clap::{Arg, Command};
 use std::alloc::{AllocError, Global};
 
-/// A word that has to be there.
+// Returns a required positional word.
 fn word<'a>(alloc: Global, id: &'a str, help: &'a str) -> Arg<'a>
     ensures rule { rule_of result ≡ needed id.entry.now }
     ensures local { result.global ≡ false }
@@ -16,7 +16,7 @@ fn word<'a>(alloc: Global, id: &'a str, help: &'a str) -> Arg<'a>
     Arg::new(alloc, id).required(true).help(help)
 }
 
-/// `FILE`
+// Returns `FILE`.
 fn file<'a>(alloc: Global) -> Arg<'a>
     ensures rule { rule_of result ≡ needed (codes "file") }
     ensures local { result.global ≡ false }
@@ -24,7 +24,7 @@ fn file<'a>(alloc: Global) -> Arg<'a>
     word(alloc, "file", "The main file of the policy")
 }
 
-/// `check FILE`
+// Returns `check FILE`.
 fn check<'a>(alloc: Global) -> Result<Command<'a>, AllocError>
     ensures app { IfOk result (λ c. app_of c ≡ check_app) }
     ensures local { IfOk result (λ c. (fields_of c).has_globals ≡ false) }
@@ -32,7 +32,7 @@ fn check<'a>(alloc: Global) -> Result<Command<'a>, AllocError>
     Command::new(alloc, "check").arg(file(alloc))
 }
 
-/// `expand FILE KIND NAME`
+// Returns `expand FILE KIND NAME`.
 fn expand<'a>(alloc: Global) -> Result<Command<'a>, AllocError>
     ensures app { IfOk result (λ c. app_of c ≡ expand_app) }
     ensures local { IfOk result (λ c. (fields_of c).has_globals ≡ false) }
@@ -43,7 +43,7 @@ fn expand<'a>(alloc: Global) -> Result<Command<'a>, AllocError>
         .arg(word(alloc, "name", "The alias"))
 }
 
-/// `--workers N`, from 1 to 16 and by default 2
+// Returns `--workers N`, from 1 to 16 and by default 2.
 fn workers<'a>(alloc: Global) -> Arg<'a>
     ensures rule { rule_of result ≡ workers_rule }
     ensures local { result.global ≡ false }
@@ -55,7 +55,7 @@ fn workers<'a>(alloc: Global) -> Arg<'a>
         .help("How many workers judge the requests, from 1 to 16")
 }
 
-/// `[NAME=PATH]...`
+// Returns `[NAME=PATH]...`.
 fn senders<'a>(alloc: Global) -> Arg<'a>
     ensures rule { rule_of result ≡ senders_rule }
     ensures local { result.global ≡ false }
@@ -65,7 +65,7 @@ fn senders<'a>(alloc: Global) -> Arg<'a>
         .help("NAME=PATH: a sender, and a file of its requests")
 }
 
-/// `--ID PATH`
+// Returns `--ID PATH`.
 fn path_option<'a>(alloc: Global, id: &'a str, help: &'a str) -> Arg<'a>
     ensures rule { rule_of result ≡ needed_option id.entry.now }
     ensures local { result.global ≡ false }
@@ -73,7 +73,7 @@ fn path_option<'a>(alloc: Global, id: &'a str, help: &'a str) -> Arg<'a>
     Arg::new(alloc, id).long(id).required(true).help(help)
 }
 
-/// `audit FILE --users F --hosts F`
+// Returns `audit FILE --users F --hosts F`.
 fn audit_paths<'a>(alloc: Global) -> Result<Command<'a>, AllocError>
     ensures app { IfOk result (λ c. app_of c ≡ audit_paths_app) }
     ensures local { IfOk result (λ c. (fields_of c).has_globals ≡ false) }
@@ -84,7 +84,7 @@ fn audit_paths<'a>(alloc: Global) -> Result<Command<'a>, AllocError>
         .arg(path_option(alloc, "hosts", "The known hosts, as CSV"))
 }
 
-/// `audit FILE --users F --hosts F [--workers N] [NAME=PATH]...`
+// Returns `audit FILE --users F --hosts F [--workers N] [NAME=PATH]...`.
 fn audit<'a>(alloc: Global) -> Result<Command<'a>, AllocError>
     ensures app { IfOk result (λ c. app_of c ≡ audit_app) }
     ensures local { IfOk result (λ c. (fields_of c).has_globals ≡ false) }
@@ -92,7 +92,7 @@ fn audit<'a>(alloc: Global) -> Result<Command<'a>, AllocError>
     audit_paths(alloc)?.arg(workers(alloc))?.arg(senders(alloc))
 }
 
-/// The program's name and version, with no subcommand yet.
+// Returns the program's name and version, without a subcommand.
 fn named<'a>(alloc: Global) -> Command<'a>
     ensures app { app_of result ≡ named_app }
     ensures local { (fields_of result).has_globals ≡ false }
@@ -102,7 +102,7 @@ fn named<'a>(alloc: Global) -> Command<'a>
         .subcommand_required(true)
 }
 
-/// The program's command.
+/// Returns the program's command, with its three subcommands.
 pub(crate) fn program<'a>(alloc: Global) -> Result<Command<'a>, AllocError>
     ensures app { IfOk result (λ c. app_of c ≡ program_app) }
 {

@@ -12,7 +12,7 @@ use std::convert::AsStr;
 use std::io::ErrorKind as ReadKind;
 use sudo_grammar::Kind;
 
-/// The kind that a word names.
+// Returns the kind that a word names, if it names one.
 fn kind_of(word: &str) -> Option<Kind>
     ensures some { IfSome result (λ k. word.now ≡ kind_word k) }
     ensures none { result ≡ None → (k : Kind) → word.now ≢ kind_word k }
@@ -32,7 +32,7 @@ fn kind_of(word: &str) -> Option<Kind>
     None
 }
 
-/// The value of an argument.
+// Returns the value of a required argument.
 #[tactic(auto, using(crate::proofs::RowLemmas::row_lemmas))]
 fn value<'a>(given: &ArgMatches<'a>, id: &str) -> Result<&'a str, Error>
     ensures value { IfOk result (λ text. first_of id.now (rows_of (found_of given.now))
@@ -45,7 +45,7 @@ fn value<'a>(given: &ArgMatches<'a>, id: &str) -> Result<&'a str, Error>
     }
 }
 
-/// The values of an argument, which may be none.
+// Returns the values of an argument, possibly none.
 #[tactic(auto, using(crate::proofs::RowLemmas::row_lemmas))]
 fn values<'a>(alloc: Global, given: &ArgMatches<'a>, id: &str) -> Result<Vec<&'a str>, Error>
     ensures values { IfOk result (λ v. unwrap_or (all_of id.now (rows_of (found_of given.now))) []
@@ -58,7 +58,7 @@ fn values<'a>(alloc: Global, given: &ArgMatches<'a>, id: &str) -> Result<Vec<&'a
     }
 }
 
-/// The number of workers.
+// Returns the number of workers.
 #[tactic(auto, using(crate::proofs::RowLemmas::row_lemmas))]
 fn workers(given: &ArgMatches<'_>) -> Result<u32, Error>
     ensures few { IfOk result (λ n. (1 ≤ n) × (n ≤ 16)) }
@@ -71,7 +71,7 @@ fn workers(given: &ArgMatches<'_>) -> Result<u32, Error>
     }
 }
 
-/// What a subcommand asks for, unless its KIND is none.
+// Returns the command that a subcommand asks for, or `None` if its KIND is invalid.
 fn asked_by<'a>(
     alloc: Global,
     name: &str,
@@ -111,12 +111,13 @@ fn asked_by<'a>(
     Ok(None)
 }
 
-/// What the words ask for, the program's own name first: what `clap` reads in them for a command
-/// with the subcommands `check FILE`, `expand FILE KIND NAME`, where KIND is `user`, `runas`, `host` or `cmnd`, and
+/// Returns the command that the words ask for, the program's own name first, as `clap` reads them:
+/// `check FILE`, `expand FILE KIND NAME`, where KIND is `user`, `runas`, `host` or `cmnd`, or
 /// `audit FILE --users F --hosts F [--workers N] [NAME=PATH]...`, where N is 1 to 16, by default 2.
 ///
-/// The error is `clap`'s. Memory aside, it comes exactly where `clap` does not take the words (they are no such command,
-/// or ask for help or for the version) or KIND is none of the four.
+/// Returns `clap`'s error, apart from allocation failure, exactly if `clap` does not accept the
+/// words (they are no such command, or ask for help or for the version) or KIND is none of the
+/// four.
 pub fn asked<'a, S: AsStr>(alloc: Global, words: &'a [S]) -> Result<Asked<'a>, Error>
     ensures stated { IfOk result (λ a. (p : Text × List Row)
         × (subcommand_of program_app (map S.text words.entry.now) ≡ Some p) × States a p) }
@@ -134,7 +135,7 @@ pub fn asked<'a, S: AsStr>(alloc: Global, words: &'a [S]) -> Result<Asked<'a>, E
     Err(command.error(ErrorKind::InvalidValue, text)?)
 }
 
-/// What is said of a word that is no text.
+// Returns the error for a word that is not text.
 fn no_text(alloc: Global) -> Result<Error, AllocError>
     ensures { IfOk result (λ e. error_kind e ≡ ErrorKind.ValueValidation) }
 {
@@ -145,8 +146,8 @@ fn no_text(alloc: Global) -> Result<Error, AllocError>
     )
 }
 
-/// Why the words of the command line are not read, by the kind of what reading them answers: memory was refused, or else
-/// a word is no text, which is misuse.
+/// Returns the error for words of the command line that could not be read, by its kind: out of
+/// memory, or else a word that is not text, which is misuse.
 pub fn unread(alloc: Global, kind: ReadKind) -> Error
     ensures memory { kind ≡ ReadKind.OutOfMemory → error_kind result ≡ ErrorKind.OutOfMemory }
     ensures kinds { IsUnread (error_kind result) }

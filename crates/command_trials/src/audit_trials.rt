@@ -1,4 +1,4 @@
-//! Audits over memory. What they must print comes from sudoers(5) and docs/PROFILE.md.
+//! Audits over memory. The expected output comes from sudoers(5) and docs/PROFILE.md.
 ghost use Rattle.std.specs.Prelude.{◌≤◌};
 
 use crate::policy_trials::{Item, Shelf};
@@ -11,18 +11,22 @@ use std::test::Fail;
 use std::thread::Threads;
 use sudo_text::Seq;
 
+/// The text of a policy.
 pub(crate) const POLICY: &[u8] =
     b"alice web1 = NOPASSWD: /bin/kill, /usr/bin/lprm, PASSWD: /bin/ls : web2 = /bin/kill\n";
 
+/// The bytes of a users file.
 pub(crate) const USERS: &[u8] =
     b"user,uid,groups\nroot,0,root:0\nalice,1000,alice:1000 adm:4\nbob,1001,bob:1001 operator:37\noperator,11,operator:37\n";
 
+/// The bytes of a hosts file.
 pub(crate) const HOSTS: &[u8] =
     b"host,interfaces\nweb1.example.org,10.1.2.3/16 127.0.0.1/8\nweb2.example.org,10.2.0.9/16\n";
 
+/// The header of a requests file.
 pub(crate) const HEADER: &[u8] = b"number,user,host,runas_user,runas_group,command,arguments\n";
 
-/// The files of an audit.
+// The files of an audit.
 #[derive(Clone, Copy)]
 struct Given<'a> {
     policy: &'a [u8],
@@ -36,14 +40,15 @@ const GIVEN: Given<'static> = Given {
     hosts: HOSTS,
 };
 
-/// A requests file: its sender, and the numbers of its rows, each a request of alice's for `/bin/kill`; and its close count.
+// A requests file: its sender, the numbers of its rows, each a request of alice's for `/bin/kill`,
+// and its close count.
 #[derive(Clone, Copy)]
 struct Part<'a> {
     name: &'a [u8],
     rows: &'a [u8],
 }
 
-/// A source over memory with the header and these rows.
+// Returns a source over memory with the header and these rows.
 fn source(alloc: Global, part: Part<'_>) -> Result<Source<Script>, AllocError> {
     let mut text = Vec::from_slice(alloc, HEADER)?;
     text.extend_from_slice(part.rows)?;
@@ -53,7 +58,7 @@ fn source(alloc: Global, part: Part<'_>) -> Result<Source<Script>, AllocError> {
     })
 }
 
-/// Whether an audit ends so.
+// Whether an audit ends with this status and output.
 fn audits<T: Threads + Wait + Sync>(
     alloc: Global,
     rt: &T,
@@ -86,7 +91,7 @@ fn audits<T: Threads + Wait + Sync>(
     Ok(ended == status && out.taken() == out_text && err.taken() == err_text)
 }
 
-/// Whether an audit of one sender's rows, in one file, ends with this fault and status 3.
+// Whether an audit of one sender's rows, in one file, ends with this fault and status 3.
 fn refuses<T: Threads + Wait + Sync>(
     alloc: Global,
     rt: &T,
@@ -97,7 +102,7 @@ fn refuses<T: Threads + Wait + Sync>(
     audits(alloc, rt, GIVEN, &parts, 2, 3, b"", err_text)
 }
 
-/// Whether an audit of one sender's rows, in two files, ends with this fault and status 3.
+// Whether an audit of one sender's rows, in two files, ends with this fault and status 3.
 fn refuses_two<T: Threads + Wait + Sync>(
     alloc: Global,
     rt: &T,
@@ -118,7 +123,7 @@ fn refuses_two<T: Threads + Wait + Sync>(
     audits(alloc, rt, GIVEN, &parts, 2, 3, b"", err_text)
 }
 
-/// Whether an audit without requests ends with this fault and status 3.
+// Whether an audit without requests ends with this fault and status 3.
 fn refuses_given<T: Threads + Wait + Sync>(
     alloc: Global,
     rt: &T,

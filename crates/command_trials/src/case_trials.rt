@@ -1,4 +1,5 @@
-//! Worked cases as whole runs. What they must print comes from sudoers(5) and visudo(8), and from docs/PROFILE.md.
+//! Worked cases as whole runs. The expected output comes from sudoers(5) and visudo(8), and from
+//! docs/PROFILE.md.
 
 use crate::audit_trials::{HOSTS, USERS};
 use crate::policy_trials::{Item, Shelf};
@@ -12,7 +13,7 @@ use std::test::Fail;
 use std::thread::Threads;
 use sudo_grammar::Kind;
 
-/// Shows a check of a policy.
+// Shows a check of a policy.
 fn check_of<F: Files>(alloc: Global, path: &[u8], files: &mut F) -> Result<String, AllocError> {
     let mut out = Script::of(alloc, b"", 1000)?;
     let mut err = Script::of(alloc, b"", 1000)?;
@@ -20,7 +21,7 @@ fn check_of<F: Files>(alloc: Global, path: &[u8], files: &mut F) -> Result<Strin
     shown(alloc, status, &out, &err)
 }
 
-/// Shows a check of a policy of one file.
+// Shows a check of a policy of one file.
 fn check_text(alloc: Global, policy: &[u8]) -> Result<String, AllocError> {
     let items = [Item {
         path: b"p",
@@ -30,7 +31,7 @@ fn check_text(alloc: Global, policy: &[u8]) -> Result<String, AllocError> {
     check_of(alloc, b"p", &mut Shelf { items: &items })
 }
 
-/// Shows an audit by two workers of these rows of `s`.
+// Shows an audit of these rows of `s` by two workers.
 fn audit_of<T: Threads + Wait + Sync, F: Files>(
     alloc: Global,
     rt: &T,
@@ -45,7 +46,7 @@ fn audit_of<T: Threads + Wait + Sync, F: Files>(
     audit_shown(alloc, rt, path, files, readers, 2, out)
 }
 
-/// A policy of three files, two of them in a folder.
+// A policy of three files, two of them in a folder.
 const INCLUDED: [Item<'static>; 6] = [
     Item {
         path: b"p/sudoers",
@@ -85,7 +86,8 @@ const THREE: &[u8] =
 const THREE_ANSWERS: &str =
     "0 sender,number,verdict,line,tags;s,1,deny,p/d/b:2,;s,2,allow,p/d/b:2,;s,3,allow,p/sudoers:3,;";
 
-/// What is shown of `check` and `audit` of the policy of three files, and of `check` of the two that are refused.
+// Shows `check` and `audit` of the policy of three files, and `check` of the two policies that are
+// refused.
 fn included<T: Threads + Wait + Sync, F: Files>(
     alloc: Global,
     rt: &T,
@@ -98,7 +100,7 @@ fn included<T: Threads + Wait + Sync, F: Files>(
     format!(in alloc; "{checked}\n{audited}\n{missing}\n{deep}\n")
 }
 
-/// What must be shown of these.
+// Returns the expected text of these runs.
 fn included_wanted(alloc: Global) -> Result<String, AllocError> {
     let missing = "1 ! sudo_audit: p/missing:2: missing p/gone;";
     let deep = "1 ! sudo_audit: p/deep:1: includes too deep;";
@@ -114,16 +116,16 @@ fn includes_are_followed(rt: HostRuntime) -> Result<(), Fail> {
     Ok(())
 }
 
-/// Writes a file, and tells whether that could be done.
+// Writes a file, and returns whether that succeeded.
 fn writes(rt: &HostRuntime, path: &str, text: &[u8]) -> bool {
     fs::write(rt, path, text).is_ok()
 }
 
-/// Makes the same files on the disk, with two that are not read and a folder, and tells whether they are there. Folders of an
-/// earlier run may stand.
+// Writes the same files to the disk, with two that are not read and a folder, and returns whether
+// that succeeded. Folders of an earlier run may exist.
 fn makes_files(rt: &HostRuntime) -> bool {
     for folder in ["p", "p/d", "p/d/folder"] {
-        // What matters is whether the files below can be written.
+        // It only matters whether the files below can be written.
         let _ = fs::create_dir(rt, folder);
     }
     writes(rt, "p/d/c.old", b"not a policy")
@@ -189,7 +191,7 @@ fn aliases_are_limited(rt: HostRuntime) -> Result<(), Fail> {
     Ok(())
 }
 
-/// A policy of aliases A1 to the one of this number, of which each names the next.
+// Returns a policy of aliases A1 to the one with this number, each of which names the next.
 fn chain(alloc: Global, last: u32) -> Result<String, AllocError> {
     let mut policy = String::from_str(alloc, "alice ALL = A1\n")?;
     for number in 1..last {
@@ -202,7 +204,8 @@ fn chain(alloc: Global, last: u32) -> Result<String, AllocError> {
     Ok(policy)
 }
 
-/// A policy of aliases W0 to the one of this number, of which each names the one before it twice.
+// Returns a policy of aliases W0 to the one with this number, each of which names the previous one
+// twice.
 fn doubling(alloc: Global, last: u32) -> Result<String, AllocError> {
     let mut policy = String::from_str(alloc, "Cmnd_Alias W0 = /bin/ls\n")?;
     for before in 0..last {
@@ -233,7 +236,7 @@ fn aliases_may_be_deep_and_wide(rt: HostRuntime) -> Result<(), Fail> {
     Ok(())
 }
 
-/// Shows the expansion of the alias A1 of commands.
+// Shows the expansion of the command alias A1.
 fn expansion(alloc: Global, policy: &str) -> Result<String, AllocError> {
     let items = [Item {
         path: b"p",
@@ -264,7 +267,7 @@ fn a_sender_may_ask_nothing(rt: HostRuntime) -> Result<(), Fail> {
     Ok(())
 }
 
-/// Opens each path as an empty reader.
+// Opens each path as an empty reader.
 #[derive(Clone, Copy)]
 struct Blank {
     alloc: Global,
@@ -282,7 +285,7 @@ impl Opener<Script> for Blank {
     }
 }
 
-/// Shows what an audit ends with where one of its words names no sender.
+// Shows an audit of which one word names no sender.
 fn bad_word(alloc: Global, word: &str) -> Result<String, AllocError> {
     let out = Script::of(alloc, b"", 1000)?;
     let mut err = Script::of(alloc, b"", 1000)?;
@@ -310,7 +313,7 @@ fn bad_senders_are_named(rt: HostRuntime) -> Result<(), Fail> {
     Ok(())
 }
 
-/// Shows an audit without requests of these users and hosts, each with a row more.
+// Shows an audit without requests, with these users and hosts, each with one row more.
 fn directory_shown<T: Threads + Wait + Sync>(
     alloc: Global,
     rt: &T,
@@ -363,7 +366,7 @@ fn a_row_more_is_named(rt: HostRuntime) -> Result<(), Fail> {
     Ok(())
 }
 
-/// Shows an audit where the host of the requests stands in the file in upper case.
+// Shows an audit in which the hosts file writes the host of the requests in upper case.
 fn upper_case_shown<T: Threads + Wait + Sync>(alloc: Global, rt: &T) -> Result<String, AllocError> {
     let text = requests(alloc, ROWS)?;
     let mut readers = Readers::known(alloc)?;

@@ -10,7 +10,7 @@ use std::sync::Wait;
 use std::test::Fail;
 use std::thread::Threads;
 
-/// A reader of the first bytes of a text; of all, where the words are not the same.
+// Returns a reader of the first bytes of a text, or of all if the two words differ.
 fn cut(
     alloc: Global,
     text: &[u8],
@@ -26,7 +26,7 @@ fn cut(
     Script::of(alloc, front, 100)
 }
 
-/// Shows an audit in which the file that the word names ends after so many bytes.
+// Shows an audit in which the file that the word names ends after this number of bytes.
 fn audit_cut<T: Threads + Wait + Sync>(
     alloc: Global,
     rt: &T,
@@ -43,7 +43,7 @@ fn audit_cut<T: Threads + Wait + Sync>(
     audit_shown(alloc, rt, b"p", &mut shelf, readers, 1, out)
 }
 
-/// The runs of a table of cut files that show something else.
+// Returns the runs of a table of cut files whose output differs from the expected.
 fn wrong_cuts<T: Threads + Wait + Sync>(
     alloc: Global,
     rt: &T,
@@ -141,7 +141,7 @@ const SIGNS: &[u8] =
 const FOLDED: &[u8] =
     b"#1000 ALL = /bin/ls, \\\n    /bin/cat # note\n# old rule \\\nalice ALL = /bin/ls\n";
 
-/// Shows a check of the first bytes of a policy.
+// Shows a check of the first bytes of a policy.
 fn check_cut(alloc: Global, policy: &[u8]) -> Result<String, AllocError> {
     let items = [
         Item {
@@ -162,7 +162,8 @@ fn check_cut(alloc: Global, policy: &[u8]) -> Result<String, AllocError> {
     shown(alloc, status, &out, &err)
 }
 
-/// The text, with `end` for the column after the last byte of the policy where it names that for a syntax error.
+// Replaces the column of a syntax error by `end`, if it is the one after the last byte of the
+// policy.
 fn with_end(alloc: Global, policy: &[u8], text: String) -> Result<String, AllocError> {
     let mut column = 1usize;
     for byte in policy {
@@ -179,7 +180,7 @@ fn with_end(alloc: Global, policy: &[u8], text: String) -> Result<String, AllocE
     }
 }
 
-/// Shows a check of the policy that the word names, where it ends after so many bytes.
+// Shows a check of the policy that the word names, cut after this number of bytes.
 fn policy_cut(alloc: Global, word: &str, len: usize) -> Result<String, AllocError> {
     let policy = match word {
         "common" => COMMON,

@@ -1,4 +1,4 @@
-//! Runs in which each read, and each write, fails in turn.
+//! Runs in which each read and each write fails in turn.
 
 use crate::audit_trials::{HOSTS, USERS};
 use crate::policy_trials::{Item, Shelf};
@@ -12,7 +12,8 @@ use std::thread::Threads;
 use sudo_grammar::Kind;
 use sudo_text::{Seq, TEXT_LIMIT};
 
-/// A reader of these bytes, of which each read gives ten; the read of this number fails, where it is above 0.
+// Returns a reader of these bytes, of which each read returns ten; the read with this number fails,
+// if it is above 0.
 fn reader(alloc: Global, text: &[u8], call: u64) -> Result<Script, AllocError> {
     let script = Script::of(alloc, text, 10)?;
     Ok(if call == 0 {
@@ -22,12 +23,13 @@ fn reader(alloc: Global, text: &[u8], call: u64) -> Result<Script, AllocError> {
     })
 }
 
-/// The call, where the two words are the same; else 0.
+// Returns the call if the two words are equal, else 0.
 fn call_of(word: &str, other: &str, call: u64) -> u64 {
     if word == other { call } else { 0 }
 }
 
-/// Files over memory, of which each read gives ten bytes; this read of the file at this path fails.
+// Files over memory, of which each read returns ten bytes; this read of the file at this path
+// fails.
 #[derive(Clone, Copy)]
 struct Failing<'a> {
     items: &'a [Item<'a>],
@@ -60,7 +62,7 @@ impl Files for Failing<'_> {
     }
 }
 
-/// Shows an audit in which this read of the file that the word names fails.
+// Shows an audit in which this read of the file that the word names fails.
 fn audit_failing<T: Threads + Wait + Sync>(
     alloc: Global,
     rt: &T,
@@ -104,7 +106,7 @@ fn each_read_of_an_audit_may_fail(rt: HostRuntime) -> Result<(), Fail> {
     Ok(())
 }
 
-/// A policy of two files, of 26 and 31 bytes.
+// A policy of two files, of 26 and 31 bytes.
 const TWO_FILES: [Item<'static>; 2] = [
     Item {
         path: b"p",
@@ -118,7 +120,7 @@ const TWO_FILES: [Item<'static>; 2] = [
     },
 ];
 
-/// Shows a check in which this read of the file at this path fails.
+// Shows a check in which this read of the file at this path fails.
 fn check_failing(alloc: Global, path: &str, call: u64) -> Result<String, AllocError> {
     let mut files = Failing {
         items: &TWO_FILES,
@@ -148,7 +150,8 @@ fn each_read_of_a_policy_may_fail(rt: HostRuntime) -> Result<(), Fail> {
     Ok(())
 }
 
-/// Shows the run of the command that the word names, on a writer that takes so many bytes a call and fails at this call.
+// Shows a run of the command that the word names, with a writer that takes `step` bytes per call
+// and fails at this call.
 fn written<T: Threads + Wait + Sync>(
     alloc: Global,
     rt: &T,
@@ -182,14 +185,14 @@ fn written<T: Threads + Wait + Sync>(
     shown(alloc, status, &out, &err)
 }
 
-/// A policy with two warnings, and an alias of three members.
+// A policy with two warnings, and an alias of three members.
 const ALIASES: [Item<'static>; 1] = [Item {
     path: b"p",
     text: b"Cmnd_Alias A = /bin/ls, /bin/cat, !/bin/su\nHost_Alias B = web1\n",
     names: b"",
 }];
 
-/// What the command that the word names writes, on one line.
+// Returns the whole output of the command that the word names, on one line.
 fn whole(word: &str) -> &'static str {
     match word {
         "audit" => "sender,number,verdict,line,tags;s,1,allow,p:1,NOPASSWD;s,2,unknown-user,,;",
@@ -198,7 +201,7 @@ fn whole(word: &str) -> &'static str {
     }
 }
 
-/// Shows what a run must show whose writer of ten bytes fails at this call.
+// Returns the expected text of a run whose writer of ten bytes per call fails at this call.
 fn cut_off(alloc: Global, word: &str, call: u64) -> Result<String, AllocError> {
     let gone = call.saturating_sub(1).saturating_mul(10);
     let text = whole(word);

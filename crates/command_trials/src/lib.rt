@@ -1,4 +1,5 @@
-//! Tests of the commands, from the words of the command line and the text of files to what is printed and the exit status.
+//! Tests of the commands, from the words of the command line and the text of files to the output
+//! and the exit status.
 #![tactic(auto)]
 
 #[cfg(test)]

@@ -1,5 +1,5 @@
-//! Runs of the program over memory. What they must print comes from sudoers(5), visudo(8) and cvtsudoers(1), and from
-//! docs/PROFILE.md.
+//! Runs of the program over memory. The expected output comes from sudoers(5), visudo(8) and
+//! cvtsudoers(1), and from docs/PROFILE.md.
 
 use audit_commands::{Files, FilesFault, check_run, expand_run};
 use audit_files::Script;
@@ -8,7 +8,7 @@ use std::test::Fail;
 use sudo_grammar::Kind;
 use sudo_text::Seq;
 
-/// A file or a folder: its path, and its text or the names of its files, each with a space after it.
+/// A file or a folder: its path, and its text or the names of its files, each followed by a space.
 #[derive(Clone, Copy)]
 pub(crate) struct Item<'a> {
     pub(crate) path: &'a [u8],
@@ -16,7 +16,7 @@ pub(crate) struct Item<'a> {
     pub(crate) names: &'a [u8],
 }
 
-/// Files over memory. A file that is not there is missing, and a folder has no names.
+/// Files over memory. Any other file is missing, and any other folder is empty.
 #[derive(Clone, Copy)]
 pub(crate) struct Shelf<'a> {
     pub(crate) items: &'a [Item<'a>],
@@ -46,7 +46,7 @@ impl Files for Shelf<'_> {
     }
 }
 
-/// One file over memory, and nothing else. It tells what it holds.
+// One file over memory, and nothing else. Its contracts specify the file.
 #[derive(Drop)]
 struct Alone {
     path: Seq<u8>,
@@ -74,7 +74,7 @@ impl Files for Alone {
     }
 }
 
-/// The names that a space follows each.
+// Splits names that are each followed by a space.
 fn names_in(alloc: Global, text: &[u8]) -> Result<Seq<Seq<u8>>, AllocError> {
     let mut names = Seq::new(alloc);
     let mut name = Seq::new(alloc);
@@ -89,12 +89,12 @@ fn names_in(alloc: Global, text: &[u8]) -> Result<Seq<Seq<u8>>, AllocError> {
     Ok(names)
 }
 
-/// Whether the writers took these bytes.
+// Whether these bytes were written to the two writers.
 fn took(out: &Script, err: &Script, out_text: &[u8], err_text: &[u8]) -> bool {
     out.taken() == out_text && err.taken() == err_text
 }
 
-/// Whether `check` of a policy of one file ends so.
+// Whether `check` of a policy of one file ends with this status and output.
 fn checks(
     alloc: Global,
     policy: &[u8],
@@ -114,12 +114,12 @@ fn checks(
     Ok(ended == status && took(&out, &err, out_text, err_text))
 }
 
-/// Whether a policy of one file is refused with this fault.
+// Whether a policy of one file is refused with this fault.
 fn refuses(alloc: Global, policy: &[u8], err_text: &[u8]) -> Result<bool, AllocError> {
     checks(alloc, policy, 1, b"", err_text)
 }
 
-/// Whether `expand` of a policy of one file ends so.
+// Whether `expand` of a policy of one file ends with this status and output.
 fn expands(
     alloc: Global,
     policy: &[u8],

@@ -7,7 +7,7 @@ use std::alloc::{AllocError, Global};
 use std::test::Fail;
 use sudo_text::Seq;
 
-/// Files over memory, and one path that cannot be read, for this reason.
+// Files over memory, and one path that cannot be read, for this reason.
 #[derive(Clone, Copy)]
 struct Locked<'a> {
     shelf: Shelf<'a>,
@@ -35,7 +35,8 @@ impl Files for Locked<'_> {
     }
 }
 
-/// Whether `check` of this policy ends so, where reading `locked` fails for this reason.
+// Whether `check` of this policy ends with this status and output, if reading `locked` fails for
+// this reason.
 fn checks_locked(
     alloc: Global,
     policy: &[u8],
@@ -99,7 +100,7 @@ fn counts_what_went_out(rt: HostRuntime) -> Result<(), Fail> {
     Ok(())
 }
 
-/// Opens each path but `gone` as a reader that is the path.
+// Opens each path except `gone`; its reader is the path itself.
 #[derive(Clone, Copy)]
 struct Named {
     alloc: Global,

@@ -1,8 +1,8 @@
-//! Runs of the commands over memory, each shown as a line: the exit status, what was printed on the output and, after `!`, what
-//! was printed on the error output. `;` stands for the end of each printed line.
+//! Runs of the commands over memory, each shown as a line: the exit status, the text on the output
+//! and, after `!`, the text on the error output, with `;` for the end of each line.
 //!
-//! A table of runs has a row a line: a word, the first and the last of the numbers that the runs go through, ` =>`, and what
-//! each of them shows.
+//! Each line of a table of runs has a word, the first and the last number of the runs, ` =>`, and
+//! the text that each of them shows.
 
 ghost use Rattle.std.specs.Prelude.{◌≤◌};
 
@@ -28,7 +28,7 @@ pub(crate) const FILES: [Item<'static>; 1] = [Item {
     names: b"",
 }];
 
-/// The text of a requests file with these rows.
+/// Returns the text of a requests file with these rows.
 pub(crate) fn requests(alloc: Global, rows: &[u8]) -> Result<Vec<u8>, AllocError> {
     let mut text = Vec::from_slice(alloc, HEADER)?;
     text.extend_from_slice(rows)?;
@@ -66,7 +66,7 @@ impl Readers {
     }
 }
 
-/// Returns a line for an exit status and what was printed.
+/// Returns a line with an exit status and the printed texts.
 pub(crate) fn shown(
     alloc: Global,
     status: u8,
@@ -82,7 +82,7 @@ pub(crate) fn shown(
     Ok(line)
 }
 
-/// Appends what was printed, `;` for the end of each line.
+// Appends a printed text, with `;` for the end of each line.
 fn push_folded(line: &mut String, text: &[u8]) -> Result<(), AllocError> {
     for byte in text {
         line.push(if *byte == b'\n' { ';' } else { *byte as char })?;
@@ -90,7 +90,7 @@ fn push_folded(line: &mut String, text: &[u8]) -> Result<(), AllocError> {
     Ok(())
 }
 
-/// Shows an audit of these files, readers and this writer.
+/// Shows an audit of these files and readers, with this writer.
 pub(crate) fn audit_shown<T: Threads + Wait + Sync, F: Files>(
     alloc: Global,
     rt: &T,
@@ -114,7 +114,8 @@ pub(crate) fn audit_shown<T: Threads + Wait + Sync, F: Files>(
     shown(alloc, status, &out, &err)
 }
 
-/// The word and the two numbers of a row, and what its runs show; `None` for another line.
+// Returns the word and the two numbers of a row, and the text that its runs show, or `None` for
+// another line.
 fn row(line: &str) -> Option<(&str, u64, u64, &str)> {
     let (runs, wanted) = line.split_once(" => ")?;
     let (word, numbers) = runs.split_once(' ')?;
@@ -122,7 +123,8 @@ fn row(line: &str) -> Option<(&str, u64, u64, &str)> {
     Some((word, first.parse().ok()?, last.parse().ok()?, wanted))
 }
 
-/// Appends each run of a row that shows something else, with that; and a line that is no row.
+// Appends each run of a row that shows another text than the expected, with that text, and a line
+// that is not a row.
 fn check_row<S>(alloc: Global, wrong: &mut String, line: &str, show: &S) -> Result<(), Fail>
 where
     S: Fn(&str, u64) -> Result<String, Fail>,
@@ -141,7 +143,7 @@ where
     Ok(())
 }
 
-/// Returns the runs of a table that show something else, each with that.
+/// Returns the runs of a table that show another text than the expected, each with that text.
 pub(crate) fn wrong_runs<S>(alloc: Global, table: &str, show: S) -> Result<String, Fail>
 where
     S: Fn(&str, u64) -> Result<String, Fail>,

@@ -1,4 +1,4 @@
-//! Audits that are too large or end early, through the program's own texts.
+//! Audits that are too large or end early, by the program's own texts.
 
 use crate::policy_trials::Shelf;
 use crate::runs::{FILES, Readers, audit_shown, requests};
@@ -8,7 +8,7 @@ use std::sync::Wait;
 use std::test::Fail;
 use std::thread::Threads;
 
-/// Shows an audit by two workers of these parts of `s`.
+// Shows an audit of these parts of `s` by two workers.
 fn parts_shown<T: Threads + Wait + Sync>(
     alloc: Global,
     rt: &T,
@@ -19,7 +19,7 @@ fn parts_shown<T: Threads + Wait + Sync>(
     audit_shown(alloc, rt, b"p", &mut shelf, readers, 2, out)
 }
 
-/// The rows of requests 1 to 1,000, and of the close mark of one request.
+// Returns the rows of requests 1 to 1,000, and of the close mark with the count 1.
 fn closed_early(alloc: Global) -> Result<String, AllocError> {
     let mut rows = String::new(alloc);
     for number in 1..1001u32 {
@@ -30,7 +30,7 @@ fn closed_early(alloc: Global) -> Result<String, AllocError> {
     Ok(rows)
 }
 
-/// The number of the request that is past the close mark.
+// Returns the number of the request that is past the close mark.
 fn number_past_close(line: &str) -> Option<u32> {
     let rest = line.strip_prefix("3 ! sudo_audit: sender s: request ")?;
     rest.strip_suffix(" past close;")?.parse().ok()
@@ -51,7 +51,7 @@ fn a_sender_may_be_closed_early(rt: HostRuntime) -> Result<(), Fail> {
     Ok(())
 }
 
-/// Readers of so many parts of `s` without a row.
+// Returns readers of this number of parts of `s` without a row.
 fn empty_parts(alloc: Global, count: u32) -> Result<Readers, AllocError> {
     let text = requests(alloc, b"")?;
     let mut readers = Readers::known(alloc)?;

@@ -1,5 +1,6 @@
-//! Verdicts of whole audits. A table has a row a request of alice's: the host, the command, the arguments, ` =>`, and what the
-//! report says after its number. What it must say comes from sudoers(5).
+//! Verdicts of whole audits. Each line of a table has a request of alice's (the host, the command,
+//! the arguments), ` =>`, and the text of the report after the request's number. The expected text
+//! comes from sudoers(5).
 
 use crate::policy_trials::{Item, Shelf};
 use crate::runs::{Readers, audit_shown, requests};
@@ -9,7 +10,7 @@ use std::sync::Wait;
 use std::test::Fail;
 use std::thread::Threads;
 
-/// Appends the row of a request, and the line of the report on it.
+// Appends the row of a request, and the line of the report on it.
 fn push_rows(
     alloc: Global,
     rows: &mut String,
@@ -26,7 +27,7 @@ fn push_rows(
     report.push_str(line.as_str())
 }
 
-/// Shows an audit of the requests of a table, and what must be shown.
+// Shows an audit of the requests of a table, and the expected text.
 fn answers<T: Threads + Wait + Sync>(
     alloc: Global,
     rt: &T,

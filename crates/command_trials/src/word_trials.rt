@@ -48,7 +48,7 @@ fn reads_an_audit(rt: HostRuntime) -> Result<(), Fail> {
     Ok(())
 }
 
-// Whether an audit with so many workers is asked for.
+// Whether an audit with this number of workers is accepted.
 fn takes_workers(alloc: Global, count: &'static str) -> bool {
     let words = [
         "x",
@@ -115,7 +115,7 @@ fn tells_words_that_are_not_read(rt: HostRuntime) {
     assert!(rt; memory.kind() == ErrorKind::OutOfMemory);
 }
 
-/// Shows which output the text on refused words goes to, and the text.
+// Shows which output the text on refused words is printed on, and the text.
 fn refusal(alloc: Global, words: &[&'static str]) -> Result<String, Fail> {
     match asked(alloc, words) {
         Ok(_) => Ok(String::from_str(alloc, "asked")?),

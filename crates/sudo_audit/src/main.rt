@@ -1,4 +1,4 @@
-//! An auditor of sudoers policies.
+//! The program: an auditor of sudoers policies.
 #![tactic(auto)]
 
 use audit_commands::run_program;

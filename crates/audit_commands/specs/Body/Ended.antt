@@ -1,9 +1,9 @@
--- What a run ends with, before it is printed. Only bodies' proofs need these words.
+-- The result of a run, before it is printed. Only the proofs of bodies use these definitions.
 use Rattle.std.specs.Prelude.{◌≡◌, ℕ, List, Result, Ok, Err}
 use Rattle.audit_commands.specs.declared.fault.Fault.{Fault}
 use Rattle.audit_commands.specs.declared.printed.Printed.{Printed}
 
--- this is the text to print, and the status
+-- the result is this text to print, with this status
 abbrev pub IsPrinted : Result Printed Fault → List ℕ → ℕ → Type 0
 IsPrinted ended text status = (printed : Printed) × (ended ≡ Ok printed) × (text ≡ printed.text.items) × (status ≡ printed.status)
 

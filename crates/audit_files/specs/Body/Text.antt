@@ -1,4 +1,4 @@
--- What a text of records holds.
+-- The state of a text of records.
 use Rattle.std.specs.Prelude.{◌≡◌, ℕ, false, List, ◌++◌}
 use Rattle.csv.specs.Writing.{default_writer, fields_written, has_written, writer_pending, writer_setup, writer_under}
 use Rattle.audit_files.specs.declared.records.Text.{Text}
@@ -7,6 +7,6 @@ use Rattle.audit_files.specs.declared.records.Text.{Text}
 abbrev pub written : Text → List ℕ
 written t = (writer_under t.writer).items ++ writer_pending t.writer
 
--- it stands between two records
+-- the text is between two records
 abbrev pub IsBetween : Text → Type 0
 IsBetween t = (writer_setup t.writer ≡ default_writer) × (fields_written t.writer ≡ 0) × (has_written t.writer ≡ false)

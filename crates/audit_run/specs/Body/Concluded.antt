@@ -1,4 +1,5 @@
--- What a collector answers to what was gathered. Only the bodies' proofs need these words.
+-- The result of a collector on the gathered arrivals. Only the proofs of bodies use these
+-- definitions.
 use Rattle.std.specs.Prelude.{◌≡◌, ◌<◌, ℕ, ⊤, List, length, slice_get, Option, Some, Result, Ok, Err}
 use Rattle.audit_collect.specs.Finished.{AllFinished, IsFirstMissing, report_of}
 use Rattle.audit_collect.specs.Held.{Held}
@@ -14,7 +15,7 @@ use Rattle.audit_run.specs.declared.fault.AuditFault.{AuditFault}
 use Rattle.audit_run.specs.declared.fault.AuditFault.TheVariants.{Sender, Collect, NoThread, Memory, TooManyParts}
 use Rattle.audit_run.specs.Audited.{IsRefusedSource, NoneRefused}
 
--- why there is no collector for the senders
+-- the fault of a roster of these senders
 abbrev pub RefusesSenders : List (List ℕ) → AuditFault → Type 0
 RefusesSenders senders (Collect (collect.Roster roster_fault.TooManySenders)) = most_senders < length senders
 RefusesSenders senders (Collect (collect.Roster (roster_fault.SenderTwice name))) = ⊥
@@ -26,9 +27,9 @@ RefusesSenders senders NoThread = ⊥
 RefusesSenders senders Memory = ⊤
 RefusesSenders senders TooManyParts = ⊥
 
--- The answer where the threads ran. `faults` says why each source is refused, if it is, and `comes` what a collector holds
--- after all arrivals, or why it refuses the first one that it refuses. Memory that was refused comes before all else, then a
--- refused source.
+-- the result after the threads ran; `faults` has the fault of each source that is refused, and
+-- `comes` the state of a collector after all arrivals, or the refusal of the first that it refuses;
+-- `Memory` comes before all else, then a refused source
 abbrev pub Answers : List (List ℕ) → List (Option FileFault) → Result (List Held) Refused → Result Report AuditFault → Type 0
 Answers names faults comes (Ok report) = NoneRefused faults × ((held : List Held) × (comes ≡ Ok held) × AllFinished held × (report ≡ report_of held))
 Answers names faults comes (Err (Sender name part fault)) =

@@ -1,4 +1,4 @@
--- Further words for passes. Only the bodies' proofs need them.
+-- Further definitions for passes. Only the proofs of bodies use them.
 use Rattle.std.specs.Prelude.{◌≡◌, ℕ, ◌-◌, List, [], ◌++◌}
 use Rattle.audit_run.specs.declared.message.Job.{Job}
 use Rattle.audit_run.specs.declared.message.Names.{Names}
@@ -18,7 +18,7 @@ fresh handoff policy directory = fresh_with handoff (names_of policy directory)
 abbrev pub IsFresh : HandoffId → PassView → Type 0
 IsFresh handoff p = p ≡ fresh_with handoff p.names
 
--- so many passes were split off
+-- the pass after this many others were split off
 abbrev pub lighter : PassView → ℕ → PassView
 lighter p n = record p { weight = p.weight - n }
 

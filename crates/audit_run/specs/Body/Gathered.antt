@@ -1,4 +1,5 @@
--- What the caller's thread does: it takes outcomes and offers each arrival to one collector, up to the first refusal.
+-- The part of the caller's thread: it takes outcomes and offers each arrival to one collector, up
+-- to the first refusal. Only the proofs of bodies use these definitions.
 use Rattle.std.specs.Prelude.{◌≡◌, ◌⊎◌, ℕ, ◌-◌, Bool, true, false, List, [], ◌++◌, map, count_by, Option, Some, None, Result, Err}
 use Rattle.audit_collect.specs.Held.{Held, after}
 use Rattle.audit_collect.specs.declared.arrival.Arrival.{Arrival}
@@ -16,9 +17,7 @@ use Rattle.audit_run.specs.declared.gather.Gathering.{Gathering}
 use Rattle.audit_run.specs.Arrivals.{arrivals_of}
 use Rattle.audit_run.specs.Body.FreshPasses.{gaining}
 
--- Only the bodies' proofs need the words that follow.
-
--- what comes of a collector that holds this, or has refused, when these arrivals follow
+-- the state of a collector after these arrivals, from this state or this refusal
 abbrev pub comes_of : List Held → Option Refused → List Arrival → Result (List Held) Refused
 comes_of held None rest = after held rest
 comes_of held (Some why) rest = Err why
@@ -26,7 +25,7 @@ comes_of held (Some why) rest = Err why
 abbrev pub IsOutOfMemory : Gathering → Type 0
 IsOutOfMemory g = g.refused ≡ Some Memory
 
--- h has taken these outcomes after g, or memory ran out
+-- `h` is `g` after these outcomes were taken, or memory ran out
 pub record Gathers (g : Gathering) (outcomes : List Outcome) (h : Gathering) : Type 0 where
   pub stuck : IsOutOfMemory g → IsOutOfMemory h
   pub same : IsOutOfMemory h ⊎ ((rest : List Arrival) → comes_of g.collector g.refused (arrivals_of outcomes ++ rest) ≡ comes_of h.collector h.refused rest)
@@ -43,12 +42,12 @@ is_stopped (Arrived arrival) = false
 is_stopped (End sender) = false
 is_stopped Stopped = true
 
--- how many of the threads that are waited for still run
+-- the number of awaited threads that still run
 abbrev pub running_of : Awaited → Gathering → ℕ
 running_of Sources g = g.sources_running
 running_of Workers g = g.workers_running
 
--- each source and each worker whose last outcome is among these runs no longer
+-- each source and each worker whose last outcome is among these no longer runs
 pub record Counts (g : Gathering) (outcomes : List Outcome) (h : Gathering) : Type 0 where
   pub sources : h.sources_running ≡ g.sources_running - count_by is_end outcomes
   pub workers : h.workers_running ≡ g.workers_running - count_by is_stopped outcomes
@@ -57,20 +56,20 @@ pub record HasSameCounts (g h : Gathering) : Type 0 where
   pub sources : h.sources_running ≡ g.sources_running
   pub workers : h.workers_running ≡ g.workers_running
 
--- the pass has put these jobs, has taken outcomes, and these were gathered
+-- the pass has put these jobs and taken outcomes, and these were gathered
 pub record Conducts (p : PassView) (g : Gathering) (jobs : List Job) (q : PassView) (h : Gathering) : Type 0 where
   pub outcomes : List Outcome
   pub pass : q ≡ gaining p jobs [] [] outcomes
   pub gathered : Gathers g outcomes h
   pub counted : Counts g outcomes h
 
--- the same, whatever threads were waited for
+-- the same, without the counts of running threads
 pub record HasGatheredAll (p : PassView) (g : Gathering) (jobs : List Job) (q : PassView) (h : Gathering) : Type 0 where
   pub outcomes : List Outcome
   pub pass : q ≡ gaining p jobs [] [] outcomes
   pub gathered : Gathers g outcomes h
 
--- the pass has taken jobs and has put what answers them, has taken outcomes, and these were gathered
+-- the pass has taken jobs, put their answers, and taken outcomes, and these were gathered
 pub record Drains (names : Names) (p : PassView) (g : Gathering) (q : PassView) (h : Gathering) : Type 0 where
   pub jobs : List Job
   pub outcomes : List Outcome

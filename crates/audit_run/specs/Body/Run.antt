@@ -1,4 +1,4 @@
--- What a run asks for, and what it leaves. Only the bodies' proofs need these words.
+-- The conditions and the effect of a run. Only the proofs of bodies use these definitions.
 use Rattle.std.specs.Prelude.{◌≡◌, ℕ, ◌+◌, ◌≤◌, List, [], All, Option, map, vec_len, vec_capacity}
 use Rattle.audit_files.specs.Feeding.{Ahead}
 use Rattle.audit_run.specs.declared.message.Job.{Job}
@@ -14,7 +14,8 @@ use Rattle.audit_run.specs.Body.Work.{AreParts, after_run}
 use Rattle.sudo_match.specs.Known.{Known}
 use Rattle.sudo_grammar.specs.declared.policy.Policy.{Policy}
 
--- each thread of so many sources and of the workers has a pass of the handoff, and there is room for what they leave
+-- each thread of this many sources and of the workers has a pass of the handoff, and there is
+-- capacity for their results
 pub record IsReady (handoff : HandoffId) (policy : Policy) (directory : Known) (sources : ℕ) (prepared : Prepared) : Type 0 where
   pub pass : prepared.pass.handoff ≡ handoff
   pub source_passes : All (λ p. IsFresh handoff p) prepared.source_passes.items
@@ -25,7 +26,8 @@ pub record IsReady (handoff : HandoffId) (policy : Policy) (directory : Known) (
   pub no_faults : prepared.faults.items ≡ []
   pub room_for_faults : vec_len prepared.faults + sources ≤ vec_capacity prepared.faults
 
--- all threads ran: the sources put their jobs, the workers put the answer of each job that they took, and the caller gathered what it took
+-- all threads ran: the sources put their jobs, the workers put the answer of each job that they
+-- took, and the caller gathered the outcomes that it took
 pub record HasRun (names : Names) (told : List (ℕ × Option Ahead)) (sources : ℕ) (prepared : Prepared) (ended : Ended) : Type 0 where
   pub parts : List (ℕ × Stated)
   pub read : AreParts told parts

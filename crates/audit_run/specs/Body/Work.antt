@@ -1,4 +1,5 @@
--- What the threads of an audit do with their passes. Only the bodies' proofs need these words.
+-- The effect of the threads of an audit on their passes. Only the proofs of bodies use these
+-- definitions.
 use Rattle.std.specs.Prelude.{◌≡◌, ℕ, ◌+◌, List, ◌++◌, Option, map}
 use Rattle.std.specs.List.{AllZip}
 use Rattle.audit_files.specs.Feeding.{Ahead}
@@ -12,42 +13,44 @@ use Rattle.audit_run.specs.Passes.{PassView}
 use Rattle.audit_run.specs.declared.readers.Sent.{Sent}
 use Rattle.audit_run.specs.Parts.{Stated, fault_in, put_of}
 
--- the jobs were taken, and what answers them was put
+-- the pass after these jobs were taken and their answers put
 abbrev pub worked : Names → PassView → List Job → PassView
 worked names p jobs = record p { jobs_taken = p.jobs_taken ++ jobs; outcomes_put = p.outcomes_put ++ map (answer names) jobs }
 
--- what a worker leaves of its pass: it has put the answer of each job that it took, once
+-- a worker's pass after its thread: it has put the answer of each job that it took, once
 abbrev pub HasWorked : PassView → PassView → Type 0
 HasWorked p q = (jobs : List Job) × (q ≡ worked p.names p jobs)
 
--- the jobs were put
+-- the pass after these jobs were put
 abbrev pub putting_jobs : PassView → List Job → PassView
 putting_jobs p jobs = record p { jobs_put = p.jobs_put ++ jobs }
 
--- what a source's thread leaves: the jobs of what the source states were put, and its fault is told
+-- the result of a source's thread: the jobs of what the source states were put, and its fault is
+-- returned
 abbrev pub HasSent : Option Ahead → PassView → ℕ → Sent → Type 0
 HasSent told before owner r = (state : Stated) × States sent_by told state × (r.pass ≡ putting_jobs before (put_of owner state)) × (r.fault ≡ fault_in state)
 
--- a source with its owner, and what its reader tells
+-- a source by its owner and by the bytes ahead of its reader
 abbrev pub told_by : ℕ → Option Ahead → ℕ × Option Ahead
 told_by owner told = (owner, told)
 
--- the same source, and what it states
+-- the same source, by what it states
 abbrev pub IsPart : (ℕ × Option Ahead) → (ℕ × Stated) → Type 0
 IsPart told part = (part.0 ≡ told.0) × States sent_by told.1 part.1
 
 abbrev pub AreParts : List (ℕ × Option Ahead) → List (ℕ × Stated) → Type 0
 AreParts told parts = AllZip IsPart told parts
 
--- the passes of workers that took these jobs were joined
+-- the pass after the passes of workers that took these jobs were joined
 abbrev pub joined_workers : Names → PassView → ℕ → List Job → PassView
 joined_workers names p workers jobs = record p { weight = p.weight + workers; jobs_taken = p.jobs_taken ++ jobs; outcomes_put = p.outcomes_put ++ map (answer names) jobs }
 
--- the passes of sources that put these jobs were joined
+-- the pass after the passes of sources that put these jobs were joined
 abbrev pub joined_sources : PassView → ℕ → List Job → PassView
 joined_sources p sources jobs = record p { weight = p.weight + sources; jobs_put = p.jobs_put ++ jobs }
 
--- what a run leaves of the caller's pass: its stops were put, and each source's and each worker's pass was joined
+-- the caller's pass after a run: its stops were put, and each source's and each worker's pass was
+-- joined
 abbrev pub after_run : Names → PassView → ℕ → ℕ → List Job → List Job → List Outcome → PassView
 after_run names p sources workers put taken gathered = record p {
   weight = (p.weight + sources) + workers;

@@ -5,7 +5,6 @@ use Rattle.audit_files.proofs.script.Script.failing_at.Goals as goal
 use Rattle.audit_files.proofs.script.Script.failing_at.Goals.{in-Some, in_default}
 use Rattle.audit_files.proofs.Failing.{cut_short, not_cut}
 
--- src/script.rt:50:5
 pub returns-clause-ahead : goal.returns-clause-ahead
 returns-clause-ahead c =
     elim c.match-given_before.branch [
