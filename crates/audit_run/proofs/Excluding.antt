@@ -22,14 +22,14 @@ use Rattle.audit_run.proofs.Refusing.{IsOwned}
 use Rattle.audit_run.proofs.Twice.{here_and_rest, untested}
 
 -- a sender past the roster has no source
-none_past : {X : Type 0} (f : Stated → List X) (senders s : ℕ) (parts : List (ℕ × Stated)) → All (IsOwned senders) parts → senders ≤ s → flat_map (if_of s f) parts ≡ []
+pub none_past : {X : Type 0} (f : Stated → List X) (senders s : ℕ) (parts : List (ℕ × Stated)) → All (IsOwned senders) parts → senders ≤ s → flat_map (if_of s f) parts ≡ []
 none_past f senders s [] all past = refl
 none_past {X} f senders s (part ∷ parts) all past =
     let owner = All-head (IsOwned senders) part parts all in
     let other = untested part.0 s (λ e. omega (arith, e, owner, past)) in
     ap (λ b. cond b (f part.1) [] ++ flat_map (if_of s f) parts) other ∙ none_past f senders s parts (All-tail (IsOwned senders) part parts all) past
 
-within_or_past : (s n : ℕ) → (s < n) ⊎ (n ≤ s)
+pub within_or_past : (s n : ℕ) → (s < n) ⊎ (n ≤ s)
 within_or_past s zero = inr (omega arith)
 within_or_past zero (suc n) = inl (omega arith)
 within_or_past (suc s) (suc n) = elim (within_or_past s n) [ inl less ↦ inl (omega (arith, less)) | inr past ↦ inr (omega (arith, past)) ]

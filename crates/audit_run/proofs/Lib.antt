@@ -12,3 +12,10 @@ pub mod Joins
 pub mod Permuted
 pub mod Rosters
 pub mod Settled
+pub mod Apart
+pub mod Beside
+pub mod JoinedReports
+pub mod JoinedFaults
+pub mod JoinedSources
+pub mod Sharded
+pub mod Rerun

@@ -57,7 +57,8 @@ among_without gone name (n ∷ names) other m = by (bytes_eq gone n) refl m (amo
     by false e (inl same) rest = inl same
     by false e (inr m) rest = inr (rest m)
 
-among_roster : (name : List ℕ) (names : List (List ℕ)) → Among name names → Among name (roster names)
+-- each name stands in the roster
+pub among_roster : (name : List ℕ) (names : List (List ℕ)) → Among name names → Among name (roster names)
 among_roster name [] m = absurd m
 among_roster name (n ∷ names) (inl same) = inl same
 among_roster name (n ∷ names) (inr m) = by (bytes_eq n name) refl (among_roster name names m)

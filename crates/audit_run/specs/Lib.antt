@@ -6,4 +6,5 @@ pub mod Arrivals
 pub mod Asked
 pub mod Outcome
 pub mod Audited
+pub mod Shards
 pub mod Body

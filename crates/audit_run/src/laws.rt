@@ -1,5 +1,5 @@
 //! Laws of what an audit of sources comes to. The functions do nothing: each contract is a law.
-ghost use Rattle.std.specs.Prelude.{◌≡◌, ℕ, List, Option, Ok, Err, length, map};
+ghost use Rattle.std.specs.Prelude.{◌≡◌, ◌++◌, ℕ, List, Option, Ok, Err, length, map};
 ghost use Rattle.std.specs.List.Sorted.{IsPermutation};
 ghost use Rattle.audit_collect.specs.Finished.{AllFinished, IsFirstMissing, report_of};
 ghost use Rattle.audit_collect.specs.Held.{Held, after, start};
@@ -8,13 +8,19 @@ ghost use Rattle.audit_collect.specs.declared.fault.Refused.{Refused};
 ghost use Rattle.audit_collect.specs.declared.fault.Unfinished.{Unfinished};
 ghost use Rattle.audit_collect.specs.declared.report.Report.{Report};
 ghost use Rattle.audit_files.specs.Feeding.{Ahead};
+ghost use Rattle.audit_files.specs.Report.{header, line, report_text};
+ghost use Rattle.audit_files.specs.declared.fault.FileFault.{FileFault};
 ghost use Rattle.audit_run.specs.Names.{answer};
 ghost use Rattle.audit_run.specs.declared.message.Names.{Names};
 ghost use Rattle.audit_run.specs.declared.message.Outcome.{Outcome};
+ghost use Rattle.audit_run.specs.declared.fault.AuditFault.{AuditFault};
+ghost use Rattle.audit_run.specs.declared.fault.AuditFault.TheVariants.{Sender};
 ghost use Rattle.audit_run.specs.Arrivals.{arrivals_of};
+ghost use Rattle.audit_run.specs.Audited.{IsOutcome, NoneRefused};
 ghost use Rattle.audit_run.specs.Outcome.{AreWhole, HaveRefused, IsReport, Lack};
-ghost use Rattle.audit_run.specs.Parts.{AreRead, Stated, owned, run_jobs};
+ghost use Rattle.audit_run.specs.Parts.{AreRead, Stated, faults_of, owned, run_jobs};
 ghost use Rattle.audit_run.specs.Roster.{roster};
+ghost use Rattle.audit_run.specs.Shards.{AreApart, AreShards, IsJoined, IsNoneOfSources, IsOfEither, MayReturn, fault_after, joined_report, names_of_sources};
 
 /// Whatever the order in which the answers of all jobs come, and whatever the number of workers: where a collector refuses
 /// an arrival, the sources have the fault that it names.
@@ -67,4 +73,74 @@ pub fn whole_sources_have_one_report()
 /// The roster of sources has no name twice.
 pub fn rosters_are_distinct()
     ensures { (sources : List (List ℕ)) → AreDistinct (roster sources) }
+{}
+
+/// Two lists of sources that have no name in common: the roster of both lists is the first's and then the second's. If each list
+/// has a report, the report of both is the first's rows and then the second's; and both have a report only if each list has one.
+/// The text of the joined report is the first's and then the second's without its header.
+pub fn shards_have_joined_reports()
+    ensures roster { (first : List (List ℕ)) (second : List (List ℕ)) → AreApart first second
+        → roster (first ++ second) ≡ roster first ++ roster second }
+    ensures report { (names : Names) (first : List (List ℕ)) (second : List (List ℕ))
+        (states : List Stated) (more : List Stated) (report : Report) (other : Report)
+        → AreShards first second states → IsOutcome names first states (Ok report)
+        → IsOutcome names second more (Ok other) → IsOutcome names (first ++ second)
+        (states ++ more) (Ok (joined_report report other)) }
+    ensures only { (names : Names) (first : List (List ℕ)) (second : List (List ℕ))
+        (states : List Stated) (more : List Stated) (report : Report)
+        → AreShards first second states
+        → IsOutcome names (first ++ second) (states ++ more) (Ok report)
+        → IsJoined names first second states more report }
+    ensures text { (files : List (List ℕ)) (report : Report) (other : Report) (records : List ℕ)
+        → report_text files other ≡ line header ++ records
+        → report_text files (joined_report report other) ≡ report_text files report ++ records }
+{}
+
+/// Likewise, what one list is refused for, both are, unless a source of the other is refused; a refused source of the first list
+/// comes before those of the second. Both are refused for nothing else.
+pub fn shards_have_their_refusals()
+    ensures source { (names : Names) (first : List (List ℕ)) (second : List (List ℕ))
+        (states : List Stated) (more : List Stated) (name : List ℕ) (part : ℕ) (why : FileFault)
+        → AreShards first second states → IsOutcome names first states (Err (Sender name part why))
+        → IsOutcome names (first ++ second) (states ++ more) (Err (Sender name part why)) }
+    ensures of_first { (names : Names) (first : List (List ℕ)) (second : List (List ℕ))
+        (states : List Stated) (more : List Stated) (fault : AuditFault)
+        → AreShards first second states → IsOutcome names first states (Err fault)
+        → NoneRefused (faults_of more)
+        → IsOutcome names (first ++ second) (states ++ more) (Err fault) }
+    ensures of_second { (names : Names) (first : List (List ℕ)) (second : List (List ℕ))
+        (states : List Stated) (more : List Stated) (fault : AuditFault)
+        → AreShards first second states → IsOutcome names second more (Err fault)
+        → NoneRefused (faults_of states) → IsOutcome names (first ++ second) (states ++ more)
+        (Err (fault_after (length (roster first)) fault)) }
+    ensures only { (names : Names) (first : List (List ℕ)) (second : List (List ℕ))
+        (states : List Stated) (more : List Stated) (fault : AuditFault)
+        → AreShards first second states
+        → IsOutcome names (first ++ second) (states ++ more) (Err fault)
+        → IsOfEither names first second states more fault }
+{}
+
+/// Likewise, for audits by readers that report their bytes: if each list may return a report, both may return no other than the
+/// joined one, and no fault of the sources. If either may return a fault of its sources, both may return no report.
+pub fn audits_of_shards_join()
+    ensures report { (names : Names) (first : List (List ℕ × Ahead))
+        (second : List (List ℕ × Ahead)) (report : Report) (other : Report) (whole : Report)
+        → AreApart (names_of_sources first) (names_of_sources second)
+        → MayReturn names first (Ok report) → MayReturn names second (Ok other)
+        → MayReturn names (first ++ second) (Ok whole) → whole ≡ joined_report report other }
+    ensures no_fault { (names : Names) (first : List (List ℕ × Ahead))
+        (second : List (List ℕ × Ahead)) (report : Report) (other : Report) (fault : AuditFault)
+        → AreApart (names_of_sources first) (names_of_sources second)
+        → MayReturn names first (Ok report) → MayReturn names second (Ok other)
+        → MayReturn names (first ++ second) (Err fault) → IsNoneOfSources fault }
+    ensures first_refused { (names : Names) (first : List (List ℕ × Ahead))
+        (second : List (List ℕ × Ahead)) (fault : AuditFault) (whole : Report)
+        → AreApart (names_of_sources first) (names_of_sources second)
+        → MayReturn names first (Err fault) → (IsNoneOfSources fault → ⊥)
+        → MayReturn names (first ++ second) (Ok whole) → ⊥ }
+    ensures second_refused { (names : Names) (first : List (List ℕ × Ahead))
+        (second : List (List ℕ × Ahead)) (fault : AuditFault) (whole : Report)
+        → AreApart (names_of_sources first) (names_of_sources second)
+        → MayReturn names second (Err fault) → (IsNoneOfSources fault → ⊥)
+        → MayReturn names (first ++ second) (Ok whole) → ⊥ }
 {}
