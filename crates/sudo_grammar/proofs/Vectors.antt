@@ -24,7 +24,7 @@ use Rattle.sudo_grammar.specs.declared.fault.Expected.TheVariants as wants
 use Rattle.sudo_grammar.specs.declared.fault.Unsupported.TheVariants as forms
 use Rattle.sudo_grammar.specs.declared.fault.Refusal.{Refusal}
 use Rattle.sudo_grammar.specs.declared.fault.Refusal.TheVariants as refusals
-use Rattle.sudo_grammar.specs.Places.{Room, Start}
+use Rattle.sudo_grammar.specs.States.{Room, Start}
 use Rattle.sudo_grammar.specs.Reading.{reading, Stop}
 
 abbrev chars : String → List Ch

@@ -10,8 +10,8 @@ mod laws;
 mod matchers;
 mod patterns;
 mod people;
+mod positions;
 mod request;
-mod spots;
 mod unclosed;
 
 pub use directory::Directory;
