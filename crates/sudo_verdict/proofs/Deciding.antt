@@ -1,6 +1,6 @@
 -- The decision of a list, by the decisions of its parts: that of the last part that decides at all.
 use Rattle.std.proofs.Common.{◌≡◌, ℕ, ◌<◌, ◌≤◌, Bool, true, false, not, cond, List, [], ◌∷◌, ◌++◌, map, Option, Some, None, refl, sym, ◌∙◌, ap, arith}
-use Rattle.std.specs.Option.{option_or, option_map}
+use Rattle.std.specs.Option.{option_or, option_map, is_some}
 use Rattle.std.proofs.Common.{length}
 use Rattle.std.proofs.lemmas.Bool.{and_parts, both_ways}
 use Rattle.sudo_grammar.specs.declared.kind.Kind.{Kind}
@@ -120,3 +120,13 @@ sign_of (Some s) = refl
 pub value_decided : (k : Kind) (p : Policy) (ms : List Member) (test : Atom → Bool) → value k p ms test ≡ option_map (λ d. not d.negated) (decided k p ms test)
 unfolding value decided decided_in
 value_decided k p ms test = sign_of (last_that (λ s. test s.atom) (written k p ms))
+
+-- A list whose last member decides so.
+pub last_is : (k : Kind) (p : Policy) (test : Atom → Bool) (left rest : List Member) (m : Member) → left ≡ rest ++ m ∷ [] → (o : Option Decision) →
+    decided k p (m ∷ []) test ≡ o → is_some o ≡ true → decided k p left test ≡ o
+last_is k p test left rest m is (Some d) e some = last_decides k p test left rest m is d e
+last_is k p test left rest m is None e some = cc
+
+pub none-is : {X : Type 0} (o : Option X) → is_some o ≡ false → o ≡ None
+none-is None e = refl
+none-is (Some x) e = cc

@@ -1,4 +1,5 @@
 pub mod Lasts
+pub mod Recalling
 pub mod Deciding
 pub mod Tagging
 pub mod Searching

@@ -1,5 +1,6 @@
 -- Words that only the proofs of bodies need: no contract of a public function cites them.
 pub mod Blocks
 pub mod Queries
+pub mod Recalling
 pub mod Resolved
 pub mod Silence

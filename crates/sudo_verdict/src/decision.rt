@@ -1,12 +1,14 @@
 //! How a list decides about a user, a group, a host or a command.
 
-ghost use Rattle.std.specs.Prelude.{◌≡◌, ◌∷◌, [], Bool, IsTrue};
+ghost use Rattle.std.specs.Prelude.{◌≡◌, ◌∷◌, [], Bool, IsTrue, option_copied, option_map};
 ghost use Rattle.sudo_grammar.specs.declared.kind.Atom.{Atom};
 ghost use Rattle.sudo_policy.specs.Resolving.{resolves};
 ghost use Rattle.sudo_match.specs.Matching.{user_fits, group_fits, host_fits, command_fits};
 ghost use Rattle.sudo_verdict.specs.Values as values;
+ghost use Rattle.sudo_verdict.specs.Body.Recalling.{Recalls};
 ghost use Rattle.sudo_verdict.specs.Decided.{decided, negated_once};
 
+use crate::aliases::{Aliases, Numbers, REMEMBERED, Slot, number_of, recall, remember};
 use sudo_match::{
     Group, Machine, Person, command_matches, group_matches, host_matches, user_matches,
 };
@@ -85,16 +87,19 @@ pub(crate) struct Decision {
     pub(crate) all: bool,
 }
 
-impl Decision {
-    /// As a member of an alias that is negated, or not.
-    pub(crate) fn negated_if(self, negated: bool) -> Decision
-        ensures { result ≡ negated_once negated self }
-    {
-        Decision {
-            negated: if negated { !self.negated } else { self.negated },
-            all: self.all,
-        }
-    }
+// Returns how a member decides whose alias decides so.
+fn with_sign(found: Option<Decision>, negated: bool) -> Option<Decision>
+    ensures { result ≡ option_map (negated_once negated) found }
+{
+    let decision = found?;
+    Some(Decision {
+        negated: if negated {
+            !decision.negated
+        } else {
+            decision.negated
+        },
+        all: decision.all,
+    })
 }
 
 /// Whether the atom is `ALL`.
@@ -107,59 +112,133 @@ pub(crate) fn is_all(atom: &Atom) -> bool
     }
 }
 
-/// The sign of the last member of the written-out list that matches (true for allow), or none.
+/// Returns the sign of the last member of the written-out list that matches (true for allow), or `None`.
 pub(crate) fn value<S: Subject>(
     checked: &Checked,
     kind: Kind,
     members: &[Member],
     subject: &S,
+    aliases: Option<&Aliases>,
 ) -> Option<bool>
     requires { IsTrue (resolves kind checked.now members.now) }
     ensures { result ≡ values.value kind checked.now members.now (S.fits subject.now) }
 {
-    match decide(checked, kind, members, subject) {
+    match decide_list(checked, kind, members, subject, aliases) {
         Some(decision) => Some(!decision.negated),
         None => None,
     }
 }
 
-/// How the list decides, from its last member to its first; it stops at the first that matches.
-#[cycle(deciding)]
-pub(crate) fn decide<S: Subject>(
+/// Returns how a list decides. Where there are `aliases`, each is decided once.
+pub(crate) fn decide_list<S: Subject>(
     checked: &Checked,
     kind: Kind,
     members: &[Member],
     subject: &S,
+    aliases: Option<&Aliases>,
 ) -> Option<Decision>
     requires { IsTrue (resolves kind checked.now members.now) }
     ensures { result ≡ decided kind checked.now members.now (S.fits subject.now) }
 {
+    match aliases {
+        None => decide(checked, kind, members, subject, None, &mut []),
+        Some(aliases) => {
+            let mut slots = [None; REMEMBERED];
+            decide(
+                checked,
+                kind,
+                members,
+                subject,
+                Some(aliases.of_kind(kind)),
+                &mut slots,
+            )
+        }
+    }
+}
+
+/// Returns how a list of one member decides. Where there are `aliases`, each is decided once.
+pub(crate) fn decide_one<S: Subject>(
+    checked: &Checked,
+    kind: Kind,
+    member: &Member,
+    subject: &S,
+    aliases: Option<&Aliases>,
+) -> Option<Decision>
+    requires { IsTrue (resolves kind checked.now (member.now ∷ [])) }
+    ensures { result ≡ decided kind checked.now (member.now ∷ []) (S.fits subject.now) }
+{
+    match aliases {
+        None => decide_member(checked, kind, member, subject, None, &mut []),
+        Some(aliases) => {
+            let mut slots = [None; REMEMBERED];
+            decide_member(
+                checked,
+                kind,
+                member,
+                subject,
+                Some(aliases.of_kind(kind)),
+                &mut slots,
+            )
+        }
+    }
+}
+
+/// Returns how the list decides, from its last member to its first; it stops at the first that matches. What is known of
+/// aliases stands in the slots of their numbers.
+#[cycle(deciding)]
+fn decide<S: Subject>(
+    checked: &Checked,
+    kind: Kind,
+    members: &[Member],
+    subject: &S,
+    numbers: Option<&Numbers>,
+    slots: &mut [Slot],
+) -> Option<Decision>
+    requires resolves { IsTrue (resolves kind checked.now members.now) }
+    requires recalls { Recalls kind checked.now (option_copied numbers) (S.fits subject.now)
+        slots.old }
+    ensures value { result ≡ decided kind checked.now members.now (S.fits subject.now) }
+    ensures recalls { Recalls kind checked.now (option_copied numbers.entry) (S.fits subject.now)
+        slots.new }
+{
     let mut left = members;
     while let Some((member, rest)) = left.split_last() {
-        if let Some(decision) = decide_member(checked, kind, member, subject) {
-            return Some(decision);
+        let decided = decide_member(checked, kind, member, subject, numbers, slots);
+        if decided.is_some() {
+            return decided;
         }
         left = rest;
     }
     None
 }
 
-/// How one member decides: itself, or by the list of its alias.
+/// Returns how one member decides: itself, or by the list of its alias.
 #[cycle(deciding)]
-pub(crate) fn decide_member<S: Subject>(
+fn decide_member<S: Subject>(
     checked: &Checked,
     kind: Kind,
     member: &Member,
     subject: &S,
+    numbers: Option<&Numbers>,
+    slots: &mut [Slot],
 ) -> Option<Decision>
-    requires { IsTrue (resolves kind checked.now (member.now ∷ [])) }
-    ensures { result ≡ decided kind checked.now (member.now ∷ []) (S.fits subject.now) }
+    requires resolves { IsTrue (resolves kind checked.now (member.now ∷ [])) }
+    requires recalls { Recalls kind checked.now (option_copied numbers) (S.fits subject.now)
+        slots.old }
+    ensures value { result ≡ decided kind checked.now (member.now ∷ []) (S.fits subject.now) }
+    ensures recalls { Recalls kind checked.now (option_copied numbers.entry) (S.fits subject.now)
+        slots.new }
 {
     match &member.atom {
         Atom::Alias(name) => {
             let members = checked.definition(kind, name.as_slice())?;
-            let found = decide(checked, kind, members, subject)?;
-            Some(found.negated_if(is_negated(member)))
+            let number = number_of(numbers, name.as_slice());
+            if let Some(known) = recall(slots, number) {
+                return with_sign(known, is_negated(member));
+            }
+            let found = decide(checked, kind, members, subject, numbers, slots);
+            remember(slots, number, found);
+            with_sign(found, is_negated(member))
         }
         atom => {
             if subject.matches(atom) {

@@ -3,6 +3,7 @@
 //! sudoers(5), "User Specification": the last match is used.
 #![tactic(auto)]
 
+mod aliases;
 mod candidates;
 mod decision;
 mod numbers;

@@ -9,6 +9,7 @@ ghost use Rattle.sudo_verdict.specs.RunasForms as form;
 ghost use Rattle.sudo_verdict.specs.Questions.{question_of, target_of};
 ghost use Rattle.sudo_verdict.specs.Body.Queries.{question};
 
+use crate::aliases::Aliases;
 use crate::decision::{AsGroup, AsHost, AsUser, value};
 use sudo_match::{Directory, Group, Machine, Person, Request, What};
 use sudo_policy::{Checked, Kind, Member, Runas};
@@ -27,6 +28,8 @@ pub(crate) struct Query<'a> {
     pub(crate) target: Option<&'a Person>,
     pub(crate) command: &'a [u8],
     pub(crate) arguments: &'a [u8],
+    /// The numbers of aliases, where each is to be decided once for a list.
+    pub(crate) aliases: Option<&'a Aliases>,
 }
 
 /// Returns the request with its names looked up, or the first name that is unknown.
@@ -34,6 +37,7 @@ pub(crate) struct Query<'a> {
 pub(crate) fn query_of<'a>(
     directory: &'a Directory,
     request: &'a Request,
+    aliases: Option<&'a Aliases>,
 ) -> Result<Query<'a>, What>
     ensures { MatchResult result (λ q. question_of directory.now request.now ≡ Ok (question q))
         (λ w. question_of directory.now request.now ≡ Err w) }
@@ -66,6 +70,7 @@ pub(crate) fn query_of<'a>(
         target: target(directory, user, asked, group),
         command: request.command.as_slice(),
         arguments: request.arguments.as_slice(),
+        aliases,
     })
 }
 
@@ -94,7 +99,7 @@ impl Query<'_> {
         ensures { result ≡ values.user_listed checked.now users.now (question self.now) }
     {
         let user = AsUser { user: self.user };
-        value(checked, Kind::User, users, &user).unwrap_or(false)
+        value(checked, Kind::User, users, &user, self.aliases).unwrap_or(false)
     }
 
     /// Whether a section's host list allows the host.
@@ -103,7 +108,7 @@ impl Query<'_> {
         ensures { result ≡ values.host_listed checked.now hosts.now (question self.now) }
     {
         let host = AsHost { host: self.host };
-        value(checked, Kind::Host, hosts, &host).unwrap_or(false)
+        value(checked, Kind::Host, hosts, &host, self.aliases).unwrap_or(false)
     }
 
     /// Whether a runas, or its absence, allows the command to run as the target and the group asked for.
@@ -152,11 +157,11 @@ impl Query<'_> {
         let Some(target) = self.target else {
             return false;
         };
-        let allowed = match target_value(checked, users, target) {
+        let allowed = match self.target_value(checked, users, target) {
             Some(allowed) => allowed,
             None => self.group.is_some() && is_same_user(target, self.user),
         };
-        allowed && group_allowed(checked, target, groups, self.group)
+        allowed && self.group_allowed(checked, target, groups)
     }
 
     // Whether the form `(users)` allows it.
@@ -168,7 +173,7 @@ impl Query<'_> {
         let Some(target) = self.target else {
             return false;
         };
-        target_value(checked, users, target).unwrap_or(false) && has_asked(target, self.group)
+        self.target_value(checked, users, target).unwrap_or(false) && has_asked(target, self.group)
     }
 
     // Whether the form `(:groups)` allows it.
@@ -176,7 +181,32 @@ impl Query<'_> {
         requires { IsTrue (resolves kind.Runas checked.now groups.now) }
         ensures { result ≡ form.groups_allow checked.now (question self.now) groups.now }
     {
-        is_own(self.user, self.asked) && group_allowed(checked, self.user, groups, self.group)
+        is_own(self.user, self.asked) && self.group_allowed(checked, self.user, groups)
+    }
+
+    // Returns the value of a runas user list for a target.
+    fn target_value(&self, checked: &Checked, users: &[Member], target: &Person) -> Option<bool>
+        requires { IsTrue (resolves kind.Runas checked.now users.now) }
+        ensures { result ≡ form.target_value checked.now users.now target.now }
+    {
+        let target = AsUser { user: target };
+        value(checked, Kind::Runas, users, &target, self.aliases)
+    }
+
+    // Whether a runas group list, or else the person's own groups, allow the group asked for.
+    fn group_allowed(&self, checked: &Checked, person: &Person, groups: &[Member]) -> bool
+        requires { IsTrue (resolves kind.Runas checked.now groups.now) }
+        ensures { result ≡ form.group_allowed checked.now groups.now person.now
+            (question self.now).group }
+    {
+        let Some(group) = self.group else {
+            return true;
+        };
+        let subject = AsGroup { group };
+        match value(checked, Kind::Runas, groups, &subject, self.aliases) {
+            Some(allowed) => allowed,
+            None => person.has_gid(group.gid),
+        }
     }
 
     /// Whether the form `()` allows it.
@@ -194,34 +224,6 @@ impl Query<'_> {
             return false;
         };
         is_root(target) && has_asked(target, self.group)
-    }
-}
-
-fn target_value(checked: &Checked, users: &[Member], target: &Person) -> Option<bool>
-    requires { IsTrue (resolves kind.Runas checked.now users.now) }
-    ensures { result ≡ form.target_value checked.now users.now target.now }
-{
-    let target = AsUser { user: target };
-    value(checked, Kind::Runas, users, &target)
-}
-
-fn group_allowed(
-    checked: &Checked,
-    person: &Person,
-    groups: &[Member],
-    group: Option<&Group>,
-) -> bool
-    requires { IsTrue (resolves kind.Runas checked.now groups.now) }
-    ensures { result ≡ form.group_allowed checked.now groups.now person.now
-        (option_copied group.entry) }
-{
-    let Some(group) = group else {
-        return true;
-    };
-    let subject = AsGroup { group };
-    match value(checked, Kind::Runas, groups, &subject) {
-        Some(allowed) => allowed,
-        None => person.has_gid(group.gid),
     }
 }
 

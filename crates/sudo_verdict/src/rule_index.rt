@@ -10,6 +10,7 @@ ghost use Rattle.sudo_verdict.specs.Verdicts.{verdict_of};
 ghost use Rattle.sudo_verdict.specs.Found.{entry_found};
 ghost use Rattle.sudo_verdict.specs.Postings.{Indexes};
 
+use crate::aliases::Aliases;
 use crate::candidates::{add_command, add_user, last_in_both_before};
 use crate::postings::Postings;
 use crate::query::{Query, query_of};
@@ -28,6 +29,7 @@ const BLOCK: usize = 256;
 pub struct RuleIndex {
     users: Rows,
     commands: Rows,
+    aliases: Option<Aliases>,
 }
 
 impl Model for RuleIndex {
@@ -48,6 +50,7 @@ impl RuleIndex {
         Ok(RuleIndex {
             users: postings.users.rows,
             commands: postings.commands.rows,
+            aliases: Aliases::of(alloc, checked)?,
         })
     }
 
@@ -57,7 +60,7 @@ impl RuleIndex {
         requires { Indexes checked.now self.now }
         ensures { result ≡ verdict_of checked.now directory.now request.now }
     {
-        match query_of(directory, request) {
+        match query_of(directory, request, self.aliases.as_ref()) {
             Ok(query) => match search_indexed(checked, self, &query) {
                 Some(verdict) => verdict,
                 None => Verdict::NoMatch,

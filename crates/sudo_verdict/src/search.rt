@@ -11,7 +11,7 @@ ghost use Rattle.sudo_verdict.specs.Verdicts.{verdict_of};
 ghost use Rattle.sudo_verdict.specs.Body.Resolved.{body_resolves};
 ghost use Rattle.sudo_verdict.specs.Found.{verdict_from, command_found, commands_found, section_found, entry_found};
 
-use crate::decision::{AsCommand, Decision, decide_member};
+use crate::decision::{AsCommand, Decision, decide_one};
 use crate::query::{Query, query_of};
 use crate::tags::{tags_before_end, tags_given};
 use sudo_match::{Directory, Request, Verdict};
@@ -23,10 +23,10 @@ use sudo_text::Place;
 ///
 /// sudoers(5): "Where there are multiple matches, the last match is used". The definition speaks of lists as written out;
 /// that each list of a checked policy has a written form is the law [`sudo_policy::lists_are_written`].
-pub fn verdict(checked: &Checked, directory: &Directory, request: &Request) -> Verdict
+pub fn verdict<'a>(checked: &Checked, directory: &'a Directory, request: &'a Request) -> Verdict
     ensures { result ≡ verdict_of checked.now directory.now request.now }
 {
-    match query_of(directory, request) {
+    match query_of(directory, request, None) {
         Ok(query) => match search(checked, &query) {
             Some(verdict) => verdict,
             None => Verdict::NoMatch,
@@ -164,7 +164,8 @@ fn search_command(
         command: query.command,
         arguments: query.arguments,
     };
-    let Some(decision) = decide_member(checked, Kind::Cmnd, &spec.command, &subject) else {
+    let Some(decision) = decide_one(checked, Kind::Cmnd, &spec.command, &subject, query.aliases)
+    else {
         return Examined {
             verdict: None,
             refused,
