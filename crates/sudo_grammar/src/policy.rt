@@ -3,7 +3,7 @@ ghost use Rattle.std.specs.Prelude.{IsTrue, nat_lt, length, not};
 ghost use Rattle.std.specs.List.{list_all};
 ghost use Rattle.sudo_grammar.specs.Includes.{is_include};
 
-use crate::{Kind, Member};
+use crate::{Kind, Member, Tag};
 use sudo_text::{Ch, Place, Seq, Token};
 
 /// A policy, as sudoers(5) has it: what its files say, in the order in which they are read.
@@ -83,27 +83,6 @@ pub struct CommandSpec {
 pub struct Runas {
     pub users: Option<Seq<Member>>,
     pub groups: Option<Seq<Member>>,
-}
-
-/// A tag of a command; each stands beside its opposite.
-#[derive(Clone, Copy, Debug, PartialEq, Eq, PartialOrd, Ord, Hash)]
-pub enum Tag {
-    Exec,
-    NoExec,
-    Follow,
-    NoFollow,
-    Intercept,
-    NoIntercept,
-    LogInput,
-    NoLogInput,
-    LogOutput,
-    NoLogOutput,
-    Mail,
-    NoMail,
-    Passwd,
-    NoPasswd,
-    SetEnv,
-    NoSetEnv,
 }
 
 /// What a `Defaults` line is bound to: `@hosts`, `:users`, `!commands` or `>runas`.
