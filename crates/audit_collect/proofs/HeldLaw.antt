@@ -8,7 +8,7 @@ use Rattle.audit_collect.specs.declared.arrival.Answer.{Answer}
 use Rattle.audit_collect.specs.declared.arrival.Arrival.{Arrival}
 use Rattle.audit_collect.specs.declared.arrival.Arrival.TheVariants.{Reply, Close}
 use Rattle.audit_collect.specs.Faults.{is_close, is_reply}
-use Rattle.audit_collect.specs.Held.{Held, after, nothing_of, start}
+use Rattle.audit_collect.specs.SenderState.{SenderState, after, empty_sender, start}
 use Rattle.audit_collect.proofs.Arrived.{arrivals_of, runs}
 use Rattle.audit_collect.proofs.Counts.{both_true, close_held, closes_once, replies_once, reply_held}
 use Rattle.audit_collect.proofs.FaultLaw.{arrivals_of-start, close_in_part, part_in_all, reply_in_part, well_at}
@@ -26,7 +26,7 @@ zero_or_some : (k : ℕ) → (k ≡ 0) ⊎ (1 ≤ k)
 zero_or_some zero = inl refl
 zero_or_some (suc k) = inr (omega arith)
 
-module _ (names : List (List ℕ)) (arrivals : List Arrival) (held : List Held) (ran : after (start names) arrivals ≡ Ok held) where
+module _ (names : List (List ℕ)) (arrivals : List Arrival) (held : List SenderState) (ran : after (start names) arrivals ≡ Ok held) where
   well : AllWell 0 held
   well = (runs (start names) arrivals held ran).well (AllWell-start 0 names)
 
@@ -35,12 +35,12 @@ module _ (names : List (List ℕ)) (arrivals : List Arrival) (held : List Held) 
 
   -- a sender is held for each name
   pub one_each : length held ≡ length names
-  one_each = sym (length-map held (λ h. h.name)) ∙ ap length (runs (start names) arrivals held ran).names ∙ length-map (start names) (λ h. h.name) ∙ length-map names nothing_of
+  one_each = sym (length-map held (λ h. h.name)) ∙ ap length (runs (start names) arrivals held ran).names ∙ length-map (start names) (λ h. h.name) ∙ length-map names empty_sender
 
   counted : (p : Arrival → Bool) → count_by p (arrivals_of 0 held) ≡ count_by p arrivals
   counted p = count_by-permutation p arrivals (arrivals_of 0 held) same
 
-  module _ (s : ℕ) (h : Held) (there : slice_get held s ≡ Some h) where
+  module _ (s : ℕ) (h : SenderState) (there : slice_get held s ≡ Some h) where
     no_close : h.close ≡ None → (x : Arrival) → Among x (arrivals_of 0 held) → is_close s x ≡ true → ⊥
     no_close unclosed (Reply a) m e = absurd (cc)
     no_close unclosed (Close t c) m e =
@@ -49,7 +49,7 @@ module _ (names : List (List ℕ)) (arrivals : List Arrival) (held : List Held) 
         let at = found.at in
         let place : found.place ≡ s = omega (arith, at, own) in
         let sender = same_Some found.sender h (sym found.there ∙ ap (slice_get held) place ∙ there) in
-        let clash : Some c ≡ None = sym found.got ∙ ap (λ (k : Held). k.close) sender ∙ unclosed in
+        let clash : Some c ≡ None = sym found.got ∙ ap (λ (k : SenderState). k.close) sender ∙ unclosed in
         cc
 
     no_reply : (n : ℕ) → get h.answers n ≡ None → (x : Arrival) → Among x (arrivals_of 0 held) → is_reply s n x ≡ true → ⊥
@@ -62,7 +62,7 @@ module _ (names : List (List ℕ)) (arrivals : List Arrival) (held : List Held) 
         let at = found.at in
         let place : found.place ≡ s = omega (arith, at, own) in
         let sender = same_Some found.sender h (sym found.there ∙ ap (slice_get held) place ∙ there) in
-        let clash : Some a ≡ None = sym found.got ∙ ap (λ (k : Held). get k.answers a.request.number) sender ∙ ap (get h.answers) number ∙ none in
+        let clash : Some a ≡ None = sym found.got ∙ ap (λ (k : SenderState). get k.answers a.request.number) sender ∙ ap (get h.answers) number ∙ none in
         cc
 
     -- the close mark of a sender that is closed has arrived

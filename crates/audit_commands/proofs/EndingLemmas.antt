@@ -2,42 +2,42 @@
 use Rattle.std.proofs.Common.{◌≡◌, ◌<◌, ◌≤◌, ◌⊎◌, ℕ, List, length, take, Option, Result, Ok, Err, inl, inr, refl, sym, subst, ◌∙◌, arith}
 use Rattle.std.specs.Prelude.{IfErr, IfOk}
 use Rattle.audit_commands.specs.Body.Ended.{IsFault, IsPrinted}
-use Rattle.audit_commands.specs.Endings.{Written, Ends, Gets, GetsNothing, IsTold, IsWell, Loses, Prints, Refuses, Says}
+use Rattle.audit_commands.specs.Endings.{Written, Ends, HasWritten, HasWrittenNothing, IsFaultPrinted, IsWell, FailsToWrite, Prints, Refuses, PrintsLine}
 use Rattle.audit_commands.specs.FaultLines.{fault_text, line_of, printed_of}
 use Rattle.audit_commands.specs.Faults.{status_of}
 use Rattle.audit_commands.specs.declared.fault.Fault.{Fault}
 use Rattle.audit_commands.specs.declared.fault.Fault.TheVariants as faults
-use Rattle.audit_commands.specs.declared.printed.Printed.{Printed}
+use Rattle.audit_commands.specs.declared.printed.RunOutput.{RunOutput}
 use Rattle.audit_commands.proofs.Statuses.{status_low, status_most}
 
-pub says_same : (own own' status : ℕ) (line line' : List ℕ) (err : Written) → own ≡ own' → line ≡ line' → Says own line status err → Says own' line' status err
-says_same own own' status line line' err e f h = (h.0 ∙ e, λ well. subst (Gets err) f (h.1 well))
+pub says_same : (own own' status : ℕ) (line line' : List ℕ) (err : Written) → own ≡ own' → line ≡ line' → PrintsLine own line status err → PrintsLine own' line' status err
+says_same own own' status line line' err e f h = (h.0 ∙ e, λ well. subst (HasWritten err) f (h.1 well))
 
-pub whole_ends : (ended : Result Printed Fault) (printed : Printed) (bytes : List ℕ) (out err : Written) → ended ≡ Ok printed → bytes ≡ printed.text.items
-    → IsWell out → Gets out bytes → GetsNothing err → Ends (IsPrinted ended) (IsFault ended) printed.status out err
+pub whole_ends : (ended : Result RunOutput Fault) (printed : RunOutput) (bytes : List ℕ) (out err : Written) → ended ≡ Ok printed → bytes ≡ printed.text.items
+    → IsWell out → HasWritten out bytes → HasWrittenNothing err → Ends (IsPrinted ended) (IsFault ended) printed.status out err
 whole_ends ended printed bytes out err is same well got quiet = inl (
     record { text = bytes; good = (printed, is, same, refl); well = well; got = got; quiet = quiet }
     )
 
-pub refused_ends : (ended : Result Printed Fault) (fault : Fault) (status : ℕ) (out err : Written) → ended ≡ Err fault → IsWell out → GetsNothing out
-    → IsTold fault status err → Ends (IsPrinted ended) (IsFault ended) status out err
-refused_ends ended fault status out err is well nothing told = inr (inl (
-    record { fault = fault; bad = is; well = well; nothing = nothing; told = told }
+pub refused_ends : (ended : Result RunOutput Fault) (fault : Fault) (status : ℕ) (out err : Written) → ended ≡ Err fault → IsWell out → HasWrittenNothing out
+    → IsFaultPrinted fault status err → Ends (IsPrinted ended) (IsFault ended) status out err
+refused_ends ended fault status out err is well nothing printed_fault = inr (inl (
+    record { fault = fault; bad = is; well = well; nothing = nothing; printed_fault = printed_fault }
     ))
 
-pub lost_ends : (ended : Result Printed Fault) (printed : Printed) (bytes : List ℕ) (count status : ℕ) (out err : Written) → ended ≡ Ok printed → bytes ≡ printed.text.items
-    → count < length bytes → Gets out (take count bytes) → (IsWell out → ⊥) → IsTold (faults.Write count) status err → Ends (IsPrinted ended) (IsFault ended) status out err
-lost_ends ended printed bytes count status out err is same part got failed told = inr (inr (
-    record { text = bytes; meant = printed.status; good = (printed, is, same, refl); count = count; part = part; got = got; failed = failed; told = told }
+pub lost_ends : (ended : Result RunOutput Fault) (printed : RunOutput) (bytes : List ℕ) (count status : ℕ) (out err : Written) → ended ≡ Ok printed → bytes ≡ printed.text.items
+    → count < length bytes → HasWritten out (take count bytes) → (IsWell out → ⊥) → IsFaultPrinted (faults.Write count) status err → Ends (IsPrinted ended) (IsFault ended) status out err
+lost_ends ended printed bytes count status out err is same part got failed printed_fault = inr (inr (
+    record { text = bytes; meant = printed.status; good = (printed, is, same, refl); count = count; part = part; got = got; failed = failed; printed_fault = printed_fault }
     ))
 
 -- How a run ends, by what its text and its fault are.
-pub run_ends : (Good : List ℕ → ℕ → Type 0) (Bad : Fault → Type 0) (ended : Result Printed Fault) (status : ℕ) (out err : Written)
+pub run_ends : (Good : List ℕ → ℕ → Type 0) (Bad : Fault → Type 0) (ended : Result RunOutput Fault) (status : ℕ) (out err : Written)
     → IfOk ended (λ p. Good p.text.items p.status) → IfErr ended Bad → Ends (IsPrinted ended) (IsFault ended) status out err → Ends Good Bad status out err
 run_ends Good Bad ended status out err good bad ends = elim ends [
   | inl prints ↦ inl (record { text = prints.text; good = good_of prints.text status prints.good; well = prints.well; got = prints.got; quiet = prints.quiet })
   | inr rest ↦ inr (elim rest [
-    | inl refuses ↦ inl (record { fault = refuses.fault; bad = bad_of refuses.fault refuses.bad; well = refuses.well; nothing = refuses.nothing; told = refuses.told })
+    | inl refuses ↦ inl (record { fault = refuses.fault; bad = bad_of refuses.fault refuses.bad; well = refuses.well; nothing = refuses.nothing; printed_fault = refuses.printed_fault })
     | inr loses ↦ inr (record {
       text = loses.text;
       meant = loses.meant;
@@ -46,7 +46,7 @@ run_ends Good Bad ended status out err good bad ends = elim ends [
       part = loses.part;
       got = loses.got;
       failed = loses.failed;
-      told = loses.told;
+      printed_fault = loses.printed_fault;
     })
   ])
 ]
@@ -59,8 +59,8 @@ run_ends Good Bad ended status out err good bad ends = elim ends [
     bad_of : (fault : Fault) → IsFault ended fault → Bad fault
     bad_of fault is = subst (λ r. IfErr r Bad) is bad
 
-not_told : (fault : Fault) (status : ℕ) (err : Written) → IsTold fault status err → status ≡ 0 → ⊥
-not_told fault status err told zero = elim told [
+not_told : (fault : Fault) (status : ℕ) (err : Written) → IsFaultPrinted fault status err → status ≡ 0 → ⊥
+not_told fault status err printed_fault zero = elim printed_fault [
   | inl own ↦ status_low fault (sym own.0 ∙ zero)
   | inr memory ↦ absurd (omega (arith, memory.0, zero))
 ]
@@ -70,13 +70,13 @@ pub zero_prints : (Good : List ℕ → ℕ → Type 0) (Bad : Fault → Type 0) 
 zero_prints Good Bad status out err ends zero = elim ends [
   | inl prints ↦ prints
   | inr rest ↦ elim rest [
-    | inl refuses ↦ absurd (not_told refuses.fault status err refuses.told zero)
-    | inr loses ↦ absurd (not_told (faults.Write loses.count) status err loses.told zero)
+    | inl refuses ↦ absurd (not_told refuses.fault status err refuses.printed_fault zero)
+    | inr loses ↦ absurd (not_told (faults.Write loses.count) status err loses.printed_fault zero)
   ]
 ]
 
-told_most : (fault : Fault) (status : ℕ) (err : Written) → IsTold fault status err → status ≤ 4
-told_most fault status err told = elim told [
+told_most : (fault : Fault) (status : ℕ) (err : Written) → IsFaultPrinted fault status err → status ≤ 4
+told_most fault status err printed_fault = elim printed_fault [
   | inl own ↦ (let most = status_most fault in omega (arith, own.0, most))
   | inr memory ↦ omega (arith, memory.0)
 ]
@@ -87,8 +87,8 @@ pub ends_most : (Good : List ℕ → ℕ → Type 0) (Bad : Fault → Type 0) (s
 ends_most Good Bad status out err most ends = elim ends [
   | inl prints ↦ most prints.text status prints.good
   | inr rest ↦ elim rest [
-    | inl refuses ↦ told_most refuses.fault status err refuses.told
-    | inr loses ↦ told_most (faults.Write loses.count) status err loses.told
+    | inl refuses ↦ told_most refuses.fault status err refuses.printed_fault
+    | inr loses ↦ told_most (faults.Write loses.count) status err loses.printed_fault
   ]
 ]
 

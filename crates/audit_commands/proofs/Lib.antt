@@ -1,4 +1,4 @@
-pub mod Held
+pub mod HeldSupplies
 pub mod Rosters
 pub mod SenderLemmas
 pub mod Statuses

@@ -8,7 +8,7 @@ use Rattle.audit_commands.specs.Endings.{Prints, Written}
 use Rattle.audit_commands.specs.Examining.{IsExamined}
 use Rattle.audit_commands.specs.Expanding.{IsExpanded, IsNotExpanded, IsNotExpandedOf}
 use Rattle.audit_commands.specs.Holding.{HoldsFile, Holdings}
-use Rattle.audit_commands.specs.Loading.{IsChecked, IsFine, IsLoaded, IsNoPolicy, IsNotChecked, IsNotCheckedOf, IsUnread}
+use Rattle.audit_commands.specs.Loading.{IsChecked, PassesCheck, IsLoaded, IsNoPolicy, IsNotChecked, IsNotCheckedOf, IsUnread}
 use Rattle.audit_commands.specs.declared.fault.Fault.{Fault}
 use Rattle.audit_commands.specs.declared.fault.Fault.TheVariants as faults
 
@@ -18,7 +18,7 @@ none_of true status s e =
     absurd (omega (arith, one, e))
 none_of false status s e = refl
 
-pub fine_of : (held : Option Holdings) (path : List ℕ) (status : ℕ) (out err : Written) → Prints (IsExamined held path) status out err → status ≡ 0 → IsFine held path
+pub fine_of : (held : Option Holdings) (path : List ℕ) (status : ℕ) (out err : Written) → Prints (IsExamined held path) status out err → status ≡ 0 → PassesCheck held path
 fine_of held path status out err prints e =
     let x = prints.good in
     (x.policy, record { loaded = x.loaded; passes = record { found = x.found; are = x.are; none = none_of (has_error x.found) status x.status_is e } })

@@ -8,15 +8,15 @@ use Rattle.audit_files.specs.Users.{people}
 use Rattle.audit_run.specs.Names.{names_of}
 use Rattle.audit_run.specs.Passes.{PassView}
 use Rattle.audit_files.specs.Report.{report_text}
-use Rattle.audit_run.specs.Audited.{Audited}
+use Rattle.audit_run.specs.IsAuditResult.{IsAuditResult}
 use Rattle.audit_run.specs.declared.fault.AuditFault.{AuditFault}
 use Rattle.sudo_match.specs.declared.fault.DirFault.{DirFault}
-use Rattle.sudo_match.specs.Known.{IsRefusal, Known, directory_fault}
+use Rattle.sudo_match.specs.KnownRows.{IsRefusal, KnownRows, directory_fault}
 use Rattle.sudo_match.specs.declared.people.Machine.{Machine}
 use Rattle.sudo_match.specs.declared.people.Person.{Person}
 use Rattle.sudo_grammar.specs.declared.policy.Policy.{Policy}
 use Rattle.audit_commands.specs.Holding.{Holdings}
-use Rattle.audit_commands.specs.Loading.{IsChecked, IsFine, IsNotChecked}
+use Rattle.audit_commands.specs.Loading.{IsChecked, PassesCheck, IsNotChecked}
 use Rattle.audit_commands.specs.declared.fault.Fault.{Fault}
 use Rattle.audit_commands.specs.declared.fault.Fault.TheVariants as faults
 
@@ -29,11 +29,11 @@ pub record Given : Type 0 where
   pub users : Option Ahead
   pub hosts : Option Ahead
   pub sources : List (List ℕ)
-  pub told : List (Option Ahead)
+  pub readable_bytes : List (Option Ahead)
   pub workers : ℕ
 
 -- these are the users and hosts that the files state, and they have no fault
-pub record IsDirectory (users hosts : Option Ahead) (directory : Known) : Type 0 where
+pub record IsDirectory (users hosts : Option Ahead) (directory : KnownRows) : Type 0 where
   pub people_read : IsRead people users (Ok directory.people)
   pub machines_read : IsRead machines hosts (Ok directory.machines)
   pub no_fault : directory_fault directory.people directory.machines ≡ None
@@ -62,18 +62,18 @@ IsNoDirectory users hosts (faults.Write written) = ⊥
 IsNoDirectory users hosts faults.Memory = ⊥
 
 -- the result of an audit of the sources under a policy and a directory
-pub record Answers (policy : Policy) (directory : Known) (sources : List (List ℕ)) (told : List (Option Ahead)) (workers : ℕ) (result : Result Report AuditFault) : Type 0 where
+pub record Answers (policy : Policy) (directory : KnownRows) (sources : List (List ℕ)) (readable_bytes : List (Option Ahead)) (workers : ℕ) (result : Result Report AuditFault) : Type 0 where
   pub before : PassView
   pub after : PassView
-  pub audited : Audited (names_of policy directory) sources told workers before after result
+  pub audited : IsAuditResult (names_of policy directory) sources readable_bytes workers before after result
 
 -- the result of an audit under the policy, which passes the check, and the directory that the files
 -- state
 pub record IsAnswer (given : Given) (policy : Policy) (result : Result Report AuditFault) : Type 0 where
   pub is_policy : IsChecked given.held given.path policy
-  pub directory : Known
+  pub directory : KnownRows
   pub is_directory : IsDirectory given.users given.hosts directory
-  pub answers : Answers policy directory given.sources given.told given.workers result
+  pub answers : Answers policy directory given.sources given.readable_bytes given.workers result
 
 -- the output of `audit` with status 0: the text of the report
 pub record IsAudited (given : Given) (text : List ℕ) (status : ℕ) : Type 0 where
@@ -90,9 +90,9 @@ abbrev pub IsNotAudited : Given → Fault → Type 0
 IsNotAudited given (faults.Refused files fault) = IsNotChecked given.held given.path (faults.Refused files fault)
 IsNotAudited given (faults.CannotRead unread) = IsNotChecked given.held given.path (faults.CannotRead unread)
 IsNotAudited given (faults.Errors lines) = IsNotChecked given.held given.path (faults.Errors lines)
-IsNotAudited given (faults.Users fault) = IsFine given.held given.path × IsNoDirectory given.users given.hosts (faults.Users fault)
-IsNotAudited given (faults.Hosts fault) = IsFine given.held given.path × IsNoDirectory given.users given.hosts (faults.Hosts fault)
-IsNotAudited given (faults.Directory fault) = IsFine given.held given.path × IsNoDirectory given.users given.hosts (faults.Directory fault)
+IsNotAudited given (faults.Users fault) = PassesCheck given.held given.path × IsNoDirectory given.users given.hosts (faults.Users fault)
+IsNotAudited given (faults.Hosts fault) = PassesCheck given.held given.path × IsNoDirectory given.users given.hosts (faults.Hosts fault)
+IsNotAudited given (faults.Directory fault) = PassesCheck given.held given.path × IsNoDirectory given.users given.hosts (faults.Directory fault)
 IsNotAudited given (faults.Audit names fault) = (names.items ≡ given.sources) × ((policy : Policy) × IsAnswer given policy (Err fault))
 IsNotAudited given faults.Memory = ⊤
 IsNotAudited given (faults.NoSuchAlias name) = ⊥
@@ -102,22 +102,22 @@ IsNotAudited given (faults.Write written) = ⊥
 -- Only the proofs of bodies use the definitions below.
 
 -- the text of the report of an audit under a policy and a directory
-pub record IsReported (policy : Policy) (directory : Known) (sources : List (List ℕ)) (told : List (Option Ahead)) (workers : ℕ) (text : List ℕ) (status : ℕ) : Type 0 where
+pub record IsReported (policy : Policy) (directory : KnownRows) (sources : List (List ℕ)) (readable_bytes : List (Option Ahead)) (workers : ℕ) (text : List ℕ) (status : ℕ) : Type 0 where
   pub report : Report
-  pub answers : Answers policy directory sources told workers (Ok report)
+  pub answers : Answers policy directory sources readable_bytes workers (Ok report)
   pub text_is : text ≡ report_text policy.files report
   pub status_is : status ≡ 0
 
 -- why an audit under a policy and a directory has no report
-abbrev pub IsUnreported : Policy → Known → List (List ℕ) → List (Option Ahead) → ℕ → Fault → Type 0
-IsUnreported policy directory sources told workers (faults.Audit names fault) = (names.items ≡ sources) × Answers policy directory sources told workers (Err fault)
-IsUnreported policy directory sources told workers faults.Memory = ⊤
-IsUnreported policy directory sources told workers (faults.Refused files fault) = ⊥
-IsUnreported policy directory sources told workers (faults.CannotRead unread) = ⊥
-IsUnreported policy directory sources told workers (faults.Errors lines) = ⊥
-IsUnreported policy directory sources told workers (faults.NoSuchAlias name) = ⊥
-IsUnreported policy directory sources told workers (faults.BadSender word) = ⊥
-IsUnreported policy directory sources told workers (faults.Users fault) = ⊥
-IsUnreported policy directory sources told workers (faults.Hosts fault) = ⊥
-IsUnreported policy directory sources told workers (faults.Directory fault) = ⊥
-IsUnreported policy directory sources told workers (faults.Write written) = ⊥
+abbrev pub IsUnreported : Policy → KnownRows → List (List ℕ) → List (Option Ahead) → ℕ → Fault → Type 0
+IsUnreported policy directory sources readable_bytes workers (faults.Audit names fault) = (names.items ≡ sources) × Answers policy directory sources readable_bytes workers (Err fault)
+IsUnreported policy directory sources readable_bytes workers faults.Memory = ⊤
+IsUnreported policy directory sources readable_bytes workers (faults.Refused files fault) = ⊥
+IsUnreported policy directory sources readable_bytes workers (faults.CannotRead unread) = ⊥
+IsUnreported policy directory sources readable_bytes workers (faults.Errors lines) = ⊥
+IsUnreported policy directory sources readable_bytes workers (faults.NoSuchAlias name) = ⊥
+IsUnreported policy directory sources readable_bytes workers (faults.BadSender word) = ⊥
+IsUnreported policy directory sources readable_bytes workers (faults.Users fault) = ⊥
+IsUnreported policy directory sources readable_bytes workers (faults.Hosts fault) = ⊥
+IsUnreported policy directory sources readable_bytes workers (faults.Directory fault) = ⊥
+IsUnreported policy directory sources readable_bytes workers (faults.Write written) = ⊥

@@ -22,49 +22,49 @@ abbrev pub IsWell : Written → Type 0
 IsWell writer = writer.failed_after ≡ writer.failed_before
 
 -- the writer received these bytes and nothing else
-abbrev pub Gets : Written → List ℕ → Type 0
-Gets writer bytes = Appends writer.before writer.after bytes
+abbrev pub HasWritten : Written → List ℕ → Type 0
+HasWritten writer bytes = Appends writer.before writer.after bytes
 
-abbrev pub GetsNothing : Written → Type 0
-GetsNothing writer = writer.after ≡ writer.before
+abbrev pub HasWrittenNothing : Written → Type 0
+HasWrittenNothing writer = writer.after ≡ writer.before
 
 -- the status, and the line that the writer received, if no write failed
-abbrev pub Says : ℕ → List ℕ → ℕ → Written → Type 0
-Says own line status err = (status ≡ own) × (IsWell err → Gets err line)
+abbrev pub PrintsLine : ℕ → List ℕ → ℕ → Written → Type 0
+PrintsLine own line status err = (status ≡ own) × (IsWell err → HasWritten err line)
 
 -- a fault is printed: its own text, with its own status; or, if allocation for its line failed, the
 -- line of out of memory, with status 4
-abbrev pub IsTold : Fault → ℕ → Written → Type 0
-IsTold fault status err = Says (status_of fault) (printed_of fault) status err ⊎ Says 4 memory_line status err
+abbrev pub IsFaultPrinted : Fault → ℕ → Written → Type 0
+IsFaultPrinted fault status err = PrintsLine (status_of fault) (printed_of fault) status err ⊎ PrintsLine 4 memory_line status err
 
 -- the run printed, whole and alone, a text that it may print with this status
 pub record Prints (Good : List ℕ → ℕ → Type 0) (status : ℕ) (out err : Written) : Type 0 where
   pub text : List ℕ
   pub good : Good text status
   pub well : IsWell out
-  pub got : Gets out text
-  pub quiet : GetsNothing err
+  pub got : HasWritten out text
+  pub quiet : HasWrittenNothing err
 
 -- a fault of this kind ended the run, and nothing was printed on `out`
 pub record Refuses (Bad : Fault → Type 0) (status : ℕ) (out err : Written) : Type 0 where
   pub fault : Fault
   pub bad : Bad fault
   pub well : IsWell out
-  pub nothing : GetsNothing out
-  pub told : IsTold fault status err
+  pub nothing : HasWrittenNothing out
+  pub printed_fault : IsFaultPrinted fault status err
 
 -- a write failed: of a text that the run may print, `out` received the first bytes, as many as the
 -- line on `err` says and not all
-pub record Loses (Good : List ℕ → ℕ → Type 0) (status : ℕ) (out err : Written) : Type 0 where
+pub record FailsToWrite (Good : List ℕ → ℕ → Type 0) (status : ℕ) (out err : Written) : Type 0 where
   pub text : List ℕ
   pub meant : ℕ
   pub good : Good text meant
   pub count : ℕ
   pub part : count < length text
-  pub got : Gets out (take count text)
+  pub got : HasWritten out (take count text)
   pub failed : IsWell out → ⊥
-  pub told : IsTold (faults.Write count) status err
+  pub printed_fault : IsFaultPrinted (faults.Write count) status err
 
 -- the end of a run that may print such a text with such a status, and may end with such a fault
 abbrev pub Ends : (List ℕ → ℕ → Type 0) → (Fault → Type 0) → ℕ → Written → Written → Type 0
-Ends Good Bad status out err = Prints Good status out err ⊎ (Refuses Bad status out err ⊎ Loses Good status out err)
+Ends Good Bad status out err = Prints Good status out err ⊎ (Refuses Bad status out err ⊎ FailsToWrite Good status out err)

@@ -49,8 +49,8 @@ pub record IsChecked (held : Option Holdings) (path : List ℕ) (policy : Policy
   pub passes : Passes policy
 
 -- the policy at a path, with all that it includes, has no error
-abbrev pub IsFine : Option Holdings → List ℕ → Type 0
-IsFine held path = (policy : Policy) × IsChecked held path policy
+abbrev pub PassesCheck : Option Holdings → List ℕ → Type 0
+PassesCheck held path = (policy : Policy) × IsChecked held path policy
 
 -- these are the lines of the errors that the check finds in a policy, of at least one error
 abbrev pub AreErrorsOf : Policy → List ℕ → Type 0

@@ -9,7 +9,7 @@ use crate::ending::end_run;
 use crate::fault::Fault;
 use crate::files::Files;
 use crate::loading::checked_policy;
-use crate::printed::Printed;
+use crate::printed::RunOutput;
 use audit_files::{Feed, Sink, read_hosts, read_users, report_text};
 use audit_run::{Handoff, Open, Source, audit};
 use std::alloc::{AllocError, Global};
@@ -61,15 +61,15 @@ fn report_under<T: Threads + Wait + Sync, R: Feed + Drop + Send>(
     directory: &Directory,
     sources: Vec<Source<R>>,
     workers: u32,
-) -> Result<Printed, Fault>
+) -> Result<RunOutput, Fault>
     requires { (1 ≤ workers) × (workers ≤ 16) }
     ensures report { let names = map (λ s. s.name) sources.items in
-        let told = map (λ s. R.ahead s.reader) sources.items in
-        IfOk result (λ p. IsReported policy.now directory.now names told workers p.text.items
+        let readable_bytes = map (λ s. R.ahead s.reader) sources.items in
+        IfOk result (λ p. IsReported policy.now directory.now names readable_bytes workers p.text.items
         p.status) }
     ensures fault { let names = map (λ s. s.name) sources.items in
-        let told = map (λ s. R.ahead s.reader) sources.items in
-        IfErr result (IsUnreported policy.now directory.now names told workers) }
+        let readable_bytes = map (λ s. R.ahead s.reader) sources.items in
+        IfErr result (IsUnreported policy.now directory.now names readable_bytes workers) }
 {
     let names = names_of(alloc, &sources)?;
     let (handoff, mut pass) = Handoff::new(alloc, policy, directory)?;
@@ -80,7 +80,7 @@ fn report_under<T: Threads + Wait + Sync, R: Feed + Drop + Send>(
         Ok(report) => {
             let files = policy.policy().files.as_slice();
             let text = report_text(alloc, &report, files)?;
-            Ok(Printed { text, status: 0 })
+            Ok(RunOutput { text, status: 0 })
         }
         Err(fault) => Err(Fault::Audit(names, fault)),
     }
@@ -95,7 +95,7 @@ fn audited<T: Threads + Wait + Sync, U: Feed, H: Feed, R: Feed + Drop + Send>(
     hosts: &mut H,
     sources: Vec<Source<R>>,
     workers: u32,
-) -> Result<Printed, Fault>
+) -> Result<RunOutput, Fault>
     requires { (1 ≤ workers) × (workers ≤ 16) }
     ensures report { (held : Option Holdings) (path : List ℕ) → IsChecked held path policy.now →
         let given : Given = record {
@@ -104,7 +104,7 @@ fn audited<T: Threads + Wait + Sync, U: Feed, H: Feed, R: Feed + Drop + Send>(
           users = U.ahead users.old;
           hosts = H.ahead hosts.old;
           sources = map (λ s. s.name) sources.items;
-          told = map (λ s. R.ahead s.reader) sources.items;
+          readable_bytes = map (λ s. R.ahead s.reader) sources.items;
           workers = workers;
         } in
         IfOk result (λ p. IsAudited given p.text.items p.status) }
@@ -115,7 +115,7 @@ fn audited<T: Threads + Wait + Sync, U: Feed, H: Feed, R: Feed + Drop + Send>(
           users = U.ahead users.old;
           hosts = H.ahead hosts.old;
           sources = map (λ s. s.name) sources.items;
-          told = map (λ s. R.ahead s.reader) sources.items;
+          readable_bytes = map (λ s. R.ahead s.reader) sources.items;
           workers = workers;
         } in
         IfErr result (IsNotAudited given) }
@@ -163,7 +163,7 @@ pub fn audit_into<
       users = U.ahead users.old;
       hosts = H.ahead hosts.old;
       sources = map (λ s. s.name) sources.items;
-      told = map (λ s. R.ahead s.reader) sources.items;
+      readable_bytes = map (λ s. R.ahead s.reader) sources.items;
       workers = workers;
     } in
         Ends (IsAudited given) (IsNotAudited given) result

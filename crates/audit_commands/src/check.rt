@@ -2,45 +2,45 @@
 ghost use Rattle.std.specs.Prelude.{◌≡◌, ◌≤◌, IfErr, IfOk};
 ghost use Rattle.audit_commands.specs.Endings.{written as sent, Ends};
 ghost use Rattle.audit_commands.specs.Examining.{check_status, check_text, IsExamined};
-ghost use Rattle.audit_commands.specs.Loading.{IsFine, IsNoPolicy};
+ghost use Rattle.audit_commands.specs.Loading.{PassesCheck, IsNoPolicy};
 
 use crate::ending::end_run;
 use crate::fault::Fault;
 use crate::files::Files;
 use crate::lines::{finding_lines, push};
 use crate::loading::load_policy;
-use crate::printed::Printed;
+use crate::printed::RunOutput;
 use audit_files::Sink;
 use std::alloc::{AllocError, Global};
 use sudo_policy::{Finding, findings, has_error};
 use sudo_text::Seq;
 
 // Returns a line for each finding, and `ok` if none is an error.
-fn examined_lines(
+fn check_lines(
     alloc: Global,
     files: &[Seq<u8>],
     found: &[Finding],
-) -> Result<Printed, AllocError>
+) -> Result<RunOutput, AllocError>
     ensures text { IfOk result (λ printed. printed.text.items ≡ check_text files.now found.now) }
     ensures status { IfOk result (λ printed. printed.status ≡ check_status found.now) }
 {
     let mut text = finding_lines(alloc, files, found, false)?;
     if has_error(found) {
-        return Ok(Printed { text, status: 1 });
+        return Ok(RunOutput { text, status: 1 });
     }
     push(&mut text, b"ok\n")?;
-    Ok(Printed { text, status: 0 })
+    Ok(RunOutput { text, status: 0 })
 }
 
 // Returns the text and the status of a check of the policy of a file.
-fn examined<F: Files>(alloc: Global, path: &[u8], files: &mut F) -> Result<Printed, Fault>
+fn check_output<F: Files>(alloc: Global, path: &[u8], files: &mut F) -> Result<RunOutput, Fault>
     ensures printed { IfOk result (λ p. IsExamined
         (F.held files.old) path.now p.text.items p.status) }
     ensures fault { IfErr result (IsNoPolicy (F.held files.old) path.now) }
 {
     let policy = load_policy(alloc, path, files)?;
     let found = findings(alloc, &policy)?;
-    Ok(examined_lines(alloc, policy.files.as_slice(), &found)?)
+    Ok(check_lines(alloc, policy.files.as_slice(), &found)?)
 }
 
 /// Prints on `out` one line for each finding on the policy of a file, then `ok` if none is an
@@ -57,12 +57,12 @@ pub fn check_run<F: Files, O: Sink, E: Sink>(
     err: &mut E,
 ) -> u8
     ensures most { result ≤ 4 }
-    ensures fine { result ≡ 0 → IsFine (F.held files.old) path.now }
+    ensures fine { result ≡ 0 → PassesCheck (F.held files.old) path.now }
     ensures ends { Ends (IsExamined (F.held files.old) path.now)
         (IsNoPolicy (F.held files.old) path.now) result
         (sent O.taken O.stalled_writes out.old out.new)
         (sent E.taken E.stalled_writes err.old err.new) }
 {
-    let ended = examined(alloc, path, files);
+    let ended = check_output(alloc, path, files);
     end_run(alloc, ended, out, err)
 }

@@ -1,7 +1,7 @@
 //! The end of a run: its output and its exit status.
 ghost use Rattle.std.specs.Prelude.{◌≡◌, ◌++◌, IfOk, OnOk, codes, decimal};
 ghost use Rattle.audit_commands.specs.Body.Ended.{IsFault, IsPrinted};
-ghost use Rattle.audit_commands.specs.Endings.{written as sent, Ends, IsTold, Says};
+ghost use Rattle.audit_commands.specs.Endings.{written as sent, Ends, IsFaultPrinted, PrintsLine};
 ghost use Rattle.audit_commands.specs.FaultLines.{fault_text, line_of};
 
 use crate::fault::Fault;
@@ -10,7 +10,7 @@ use crate::fault_text::{
     push_no_memory,
 };
 use crate::lines::{push, push_both, push_number};
-use crate::printed::Printed;
+use crate::printed::RunOutput;
 use audit_files::{Sink, WriteFault, write_all_of};
 use std::alloc::{AllocError, Global};
 
@@ -49,8 +49,8 @@ fn fault_line(alloc: Global, fault: &Fault) -> Result<Vec<u8>, AllocError>
 }
 
 // Prints a line as far as writes succeed, and returns this status.
-fn say<E: Sink>(line: &[u8], status: u8, err: &mut E) -> u8
-    ensures { Says status line.now result (sent E.taken E.stalled_writes err.old err.new) }
+fn write_line<E: Sink>(line: &[u8], status: u8, err: &mut E) -> u8
+    ensures { PrintsLine status line.now result (sent E.taken E.stalled_writes err.old err.new) }
 {
     let _ = write_all_of(err, line);
     status
@@ -59,14 +59,14 @@ fn say<E: Sink>(line: &[u8], status: u8, err: &mut E) -> u8
 /// Prints a fault, and returns its status. If allocation for its line failed, prints that instead
 /// and returns 4. Ignores a write that fails.
 pub fn report_fault<E: Sink>(alloc: Global, fault: &Fault, err: &mut E) -> u8
-    ensures { IsTold fault.now result (sent E.taken E.stalled_writes err.old err.new) }
+    ensures { IsFaultPrinted fault.now result (sent E.taken E.stalled_writes err.old err.new) }
 {
     if let Fault::Errors(lines) = fault {
-        return say(lines, 1, err);
+        return write_line(lines, 1, err);
     }
     match fault_line(alloc, fault) {
-        Ok(line) => say(&line, fault.status(), err),
-        Err(_) => say(b"sudo_audit: out of memory\n", 4, err),
+        Ok(line) => write_line(&line, fault.status(), err),
+        Err(_) => write_line(b"sudo_audit: out of memory\n", 4, err),
     }
 }
 
@@ -74,7 +74,7 @@ pub fn report_fault<E: Sink>(alloc: Global, fault: &Fault, err: &mut E) -> u8
 /// returns the fault's status. A write on `out` that fails is a fault.
 pub(crate) fn end_run<O: Sink, E: Sink>(
     alloc: Global,
-    ended: Result<Printed, Fault>,
+    ended: Result<RunOutput, Fault>,
     out: &mut O,
     err: &mut E,
 ) -> u8

@@ -7,7 +7,7 @@ use crate::ending::end_run;
 use crate::fault::Fault;
 use crate::files::Files;
 use crate::loading::checked_policy;
-use crate::printed::Printed;
+use crate::printed::RunOutput;
 use audit_files::Sink;
 use std::alloc::{AllocError, Global};
 use sudo_grammar::{Kind, Signed};
@@ -50,20 +50,20 @@ fn alias_lines(alloc: Global, checked: &Checked, kind: Kind, name: &[u8]) -> Res
 }
 
 // Returns the text and the status of an expansion of an alias of the policy of a file.
-fn expanded<F: Files>(
+fn expand_output<F: Files>(
     alloc: Global,
     path: &[u8],
     files: &mut F,
     kind: Kind,
     name: &[u8],
-) -> Result<Printed, Fault>
+) -> Result<RunOutput, Fault>
     ensures printed { IfOk result (λ p. IsExpanded
         (F.held files.old) path.now kind name.now p.text.items p.status) }
     ensures fault { IfErr result (IsNotExpanded (F.held files.old) path.now kind name.now) }
 {
     let checked = checked_policy(alloc, path, files)?;
     match alias_lines(alloc, &checked, kind, name) {
-        Ok(text) => Ok(Printed { text, status: 0 }),
+        Ok(text) => Ok(RunOutput { text, status: 0 }),
         Err(fault) => Err(fault),
     }
 }
@@ -89,6 +89,6 @@ pub fn expand_run<F: Files, O: Sink, E: Sink>(
         (sent O.taken O.stalled_writes out.old out.new)
         (sent E.taken E.stalled_writes err.old err.new) }
 {
-    let ended = expanded(alloc, path, files, kind, name);
+    let ended = expand_output(alloc, path, files, kind, name);
     end_run(alloc, ended, out, err)
 }

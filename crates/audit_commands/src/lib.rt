@@ -26,4 +26,4 @@ pub use files::{Disk, Files, FilesFault};
 pub use opening::Opener;
 pub use program::run_program;
 pub use sender::sender_of;
-pub use sources::{Opened, open_all};
+pub use sources::{OpenedFiles, open_all};

@@ -234,11 +234,11 @@ pub(crate) fn checked_policy<F: Files>(
     ensures fault { IfErr result (IsNotChecked (F.held files.old) path.now) }
 {
     let policy = load_policy(alloc, path, files)?;
-    passed(alloc, policy)
+    checked_or_errors(alloc, policy)
 }
 
 // Returns a policy that passes the check, or `Errors` with the lines of its errors.
-fn passed(alloc: Global, policy: Policy) -> Result<Checked, Fault>
+fn checked_or_errors(alloc: Global, policy: Policy) -> Result<Checked, Fault>
     ensures same { IfOk result (λ checked. checked ≡ policy) }
     ensures passes { IfOk result (λ checked. Passes policy) }
     ensures fault { IfErr result (IsNotCheckedOf policy) }

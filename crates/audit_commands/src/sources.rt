@@ -88,7 +88,7 @@ fn open_sources<R: Drop, O: Opener<R>>(
 
 /// The files of users, of hosts and of requests, opened.
 #[derive(Drop)]
-pub struct Opened<R> {
+pub struct OpenedFiles<R> {
     pub users: R,
     pub hosts: R,
     pub sources: Vec<Source<R>>,
@@ -102,7 +102,7 @@ pub fn open_all<R: Drop, O: Opener<R>>(
     users: &str,
     hosts: &str,
     words: &[&str],
-) -> Result<Opened<R>, Fault>
+) -> Result<OpenedFiles<R>, Fault>
     ensures users { IfOk result (λ files. O.opens opener.now users.now files.users) }
     ensures hosts { IfOk result (λ files. O.opens opener.now hosts.now files.hosts) }
     ensures sources { let words = map (λ w. w.now) words.now in
@@ -119,7 +119,7 @@ pub fn open_all<R: Drop, O: Opener<R>>(
         Err(fault) => return Err(fault),
     };
     match open_sources(alloc, opener, &senders) {
-        Ok(sources) => Ok(Opened {
+        Ok(sources) => Ok(OpenedFiles {
             users,
             hosts,
             sources,
@@ -146,7 +146,7 @@ pub(crate) fn run_audit<T: Threads + Wait + Sync>(
     let mut err = Device::new(rt.stderr());
     match open_all(alloc, &Machine::new(rt), users, hosts, words) {
         Ok(files) => {
-            let Opened {
+            let OpenedFiles {
                 mut users,
                 mut hosts,
                 sources,

@@ -7,13 +7,13 @@ use Rattle.std.proofs.lemmas.Bool.{le-ltb, lt-ltb}
 use Rattle.std.proofs.lemmas.List.{length-replicate}
 use Rattle.audit_files.specs.Whole.{whole_of}
 use Rattle.audit_files.specs.declared.whole.ReadFault.TheVariants as why
-use Rattle.audit_files.specs.Faults.{IsOfFile}
+use Rattle.audit_files.specs.Faults.{IsNotOutOfMemory}
 use Rattle.audit_files.specs.Files.{IsRead, States, byte_limit, bytes_read, bytes_upto, itself, stated_in}
 use Rattle.audit_files.specs.declared.fault.FileFault.{FileFault}
 use Rattle.audit_files.specs.declared.fault.FileFault.TheVariants.{TooMany, Read}
 
 -- the bytes that a reader specifies, or any bytes
-known : (told : Option Ahead) (any : Ahead) (r : Result (List ℕ) FileFault) → ((a : Ahead) → told ≡ Some a → bytes_read a ≡ r) → bytes_read any ≡ r → IsRead itself told r
+known : (readable_bytes : Option Ahead) (any : Ahead) (r : Result (List ℕ) FileFault) → ((a : Ahead) → readable_bytes ≡ Some a → bytes_read a ≡ r) → bytes_read any ≡ r → IsRead itself readable_bytes r
 known None any r some e = record { ahead = any; gives = tt; states = rw e (same r) }
   where
     same : (r : Result (List ℕ) FileFault) → stated_in itself r ≡ r
@@ -64,46 +64,46 @@ many_are_many limit =
     let long : nat_lt limit (length (replicate {A = ℕ} (suc limit) 0)) ≡ true = rw (length-replicate {A = ℕ} (suc limit) 0) (lt-ltb limit (suc limit) (omega arith)) in
     rw long refl
 
-pub whole_is_read : (told : Option Ahead) (text : List ℕ) → IfSome told (λ a. whole_of byte_limit a ≡ Ok text) → length text ≤ byte_limit → IsRead itself told (Ok text)
-whole_is_read told text e within = known told (record { bytes = text; fails = false }) (Ok text) (given told e) (rw (short_bytes byte_limit text within) refl)
+pub whole_is_read : (readable_bytes : Option Ahead) (text : List ℕ) → IfSome readable_bytes (λ a. whole_of byte_limit a ≡ Ok text) → length text ≤ byte_limit → IsRead itself readable_bytes (Ok text)
+whole_is_read readable_bytes text e within = known readable_bytes (record { bytes = text; fails = false }) (Ok text) (given readable_bytes e) (rw (short_bytes byte_limit text within) refl)
   where
-    given : (told : Option Ahead) → IfSome told (λ a. whole_of byte_limit a ≡ Ok text) → (a : Ahead) → told ≡ Some a → bytes_read a ≡ Ok text
+    given : (readable_bytes : Option Ahead) → IfSome readable_bytes (λ a. whole_of byte_limit a ≡ Ok text) → (a : Ahead) → readable_bytes ≡ Some a → bytes_read a ≡ Ok text
     given None e a h = cc
     given (Some b) e a h = let same : b ≡ a = cc in rw (← same) (whole_text b text e)
 
-pub long_is_read : (told : Option Ahead) → IfSome told (λ a. whole_of byte_limit a ≡ Err why.TooLong) → IsRead itself told (Err TooMany)
-long_is_read told e = known told (many byte_limit) (Err TooMany) (given told e) (many_are_many byte_limit)
+pub long_is_read : (readable_bytes : Option Ahead) → IfSome readable_bytes (λ a. whole_of byte_limit a ≡ Err why.TooLong) → IsRead itself readable_bytes (Err TooMany)
+long_is_read readable_bytes e = known readable_bytes (many byte_limit) (Err TooMany) (given readable_bytes e) (many_are_many byte_limit)
   where
-    given : (told : Option Ahead) → IfSome told (λ a. whole_of byte_limit a ≡ Err why.TooLong) → (a : Ahead) → told ≡ Some a → bytes_read a ≡ Err TooMany
+    given : (readable_bytes : Option Ahead) → IfSome readable_bytes (λ a. whole_of byte_limit a ≡ Err why.TooLong) → (a : Ahead) → readable_bytes ≡ Some a → bytes_read a ≡ Err TooMany
     given None e a h = cc
     given (Some b) e a h = let same : b ≡ a = cc in rw (← same) (whole_long b e)
 
-pub failed_is_read : (told : Option Ahead) → IfSome told (λ a. whole_of byte_limit a ≡ Err why.Failed) → IsRead itself told (Err Read)
-failed_is_read told e = known told (record { bytes = []; fails = true }) (Err Read) (given told e) refl
+pub failed_is_read : (readable_bytes : Option Ahead) → IfSome readable_bytes (λ a. whole_of byte_limit a ≡ Err why.Failed) → IsRead itself readable_bytes (Err Read)
+failed_is_read readable_bytes e = known readable_bytes (record { bytes = []; fails = true }) (Err Read) (given readable_bytes e) refl
   where
-    given : (told : Option Ahead) → IfSome told (λ a. whole_of byte_limit a ≡ Err why.Failed) → (a : Ahead) → told ≡ Some a → bytes_read a ≡ Err Read
+    given : (readable_bytes : Option Ahead) → IfSome readable_bytes (λ a. whole_of byte_limit a ≡ Err why.Failed) → (a : Ahead) → readable_bytes ≡ Some a → bytes_read a ≡ Err Read
     given None e a h = cc
     given (Some b) e a h = let same : b ≡ a = cc in rw (← same) (whole_failed b e)
 
 -- what a text states is what is read, where the text is
-pub text_is_read : {T : Type 0} (meaning : List ℕ → Result T FileFault) (told : Option Ahead) (text : List ℕ) (r : Result T FileFault)
-    → IsRead itself told (Ok text) → meaning text ≡ r → IsRead meaning told r
-text_is_read {T} meaning told text r i e = record { ahead = i.ahead; gives = i.gives; states = by (bytes_read i.ahead) i.states }
+pub text_is_read : {T : Type 0} (meaning : List ℕ → Result T FileFault) (readable_bytes : Option Ahead) (text : List ℕ) (r : Result T FileFault)
+    → IsRead itself readable_bytes (Ok text) → meaning text ≡ r → IsRead meaning readable_bytes r
+text_is_read {T} meaning readable_bytes text r i e = record { ahead = i.ahead; gives = i.gives; states = by (bytes_read i.ahead) i.states }
   where
     by : (o : Result (List ℕ) FileFault) → stated_in itself o ≡ Ok text → stated_in meaning o ≡ r
     by (Ok bytes) h = let same : bytes ≡ text = cc in rw same e
     by (Err f) h = cc
 
 -- a fault of reading is what is read, whatever the bytes would state
-pub fault_is_read : {T : Type 0} (meaning : List ℕ → Result T FileFault) (told : Option Ahead) (fault : FileFault)
-    → IsRead itself told (Err fault) → IsRead meaning told (Err fault)
-fault_is_read {T} meaning told fault i = record { ahead = i.ahead; gives = i.gives; states = by (bytes_read i.ahead) i.states }
+pub fault_is_read : {T : Type 0} (meaning : List ℕ → Result T FileFault) (readable_bytes : Option Ahead) (fault : FileFault)
+    → IsRead itself readable_bytes (Err fault) → IsRead meaning readable_bytes (Err fault)
+fault_is_read {T} meaning readable_bytes fault i = record { ahead = i.ahead; gives = i.gives; states = by (bytes_read i.ahead) i.states }
   where
     by : (o : Result (List ℕ) FileFault) → stated_in itself o ≡ Err fault → stated_in meaning o ≡ Err fault
     by (Ok bytes) h = cc
     by (Err f) h = let same : f ≡ fault = cc in rw same refl
 
-pub text_states : {T : Type 0} (meaning : List ℕ → Result T FileFault) (told : Option Ahead) (text : List ℕ) (r : Result T FileFault)
-    → IsRead itself told (Ok text) → IfOk r (λ x. meaning text ≡ Ok x) → IfErr r (λ e. IsOfFile e → meaning text ≡ Err e) → States meaning told r
-text_states meaning told text (Ok x) i ok err = text_is_read meaning told text (Ok x) i ok
-text_states meaning told text (Err e) i ok err = λ no_memory. text_is_read meaning told text (Err e) i (err no_memory)
+pub text_states : {T : Type 0} (meaning : List ℕ → Result T FileFault) (readable_bytes : Option Ahead) (text : List ℕ) (r : Result T FileFault)
+    → IsRead itself readable_bytes (Ok text) → IfOk r (λ x. meaning text ≡ Ok x) → IfErr r (λ e. IsNotOutOfMemory e → meaning text ≡ Err e) → States meaning readable_bytes r
+text_states meaning readable_bytes text (Ok x) i ok err = text_is_read meaning readable_bytes text (Ok x) i ok
+text_states meaning readable_bytes text (Err e) i ok err = λ no_memory. text_is_read meaning readable_bytes text (Err e) i (err no_memory)

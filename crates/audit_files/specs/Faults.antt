@@ -4,14 +4,14 @@ use Rattle.audit_files.specs.declared.fault.FileFault.{FileFault}
 use Rattle.audit_files.specs.declared.fault.FileFault.TheVariants.{Header, BadRow, OutOfOrder, RowAfterClose, TooMany, Read, Memory}
 
 -- a fault of the file or of reading it: every fault but out of memory
-abbrev pub IsOfFile : FileFault → Type 0
-IsOfFile Header = ⊤
-IsOfFile (BadRow row) = ⊤
-IsOfFile (OutOfOrder row) = ⊤
-IsOfFile (RowAfterClose row) = ⊤
-IsOfFile TooMany = ⊤
-IsOfFile Read = ⊤
-IsOfFile Memory = ⊥
+abbrev pub IsNotOutOfMemory : FileFault → Type 0
+IsNotOutOfMemory Header = ⊤
+IsNotOutOfMemory (BadRow row) = ⊤
+IsNotOutOfMemory (OutOfOrder row) = ⊤
+IsNotOutOfMemory (RowAfterClose row) = ⊤
+IsNotOutOfMemory TooMany = ⊤
+IsNotOutOfMemory Read = ⊤
+IsNotOutOfMemory Memory = ⊥
 
 -- a fault, or else this value
 abbrev pub unless : {T : Type 0} → Option FileFault → T → Result T FileFault

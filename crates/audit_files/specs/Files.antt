@@ -3,7 +3,7 @@
 use Rattle.std.specs.Prelude.{◌≡◌, ⊤, ℕ, Bool, List, [], ◌∷◌, length, nat_eq, nat_lt, slice_index_or, Option, Some, None, Result, Ok, Err, if◌then◌else◌}
 use Rattle.std.specs.Cmp.Lexicographic.{pointwise}
 use Rattle.audit_files.specs.Feeding.{Ahead}
-use Rattle.audit_files.specs.Faults.{IsOfFile, unless}
+use Rattle.audit_files.specs.Faults.{IsNotOutOfMemory, unless}
 use Rattle.audit_files.specs.Rows.{Fields, first_fault}
 use Rattle.audit_files.specs.declared.fault.FileFault.{FileFault}
 use Rattle.audit_files.specs.declared.fault.FileFault.TheVariants.{Header, TooMany, Read}
@@ -17,9 +17,9 @@ abbrev pub field_in : Fields → ℕ → List ℕ
 field_in fields at = slice_index_or fields at []
 
 -- the records after the header, if the first record is the header
-abbrev pub headed : Fields → List Fields → Option (List Fields)
-headed header [] = None
-headed header (first ∷ rest) = if same_fields first header then Some rest else None
+abbrev pub after_header : Fields → List Fields → Option (List Fields)
+after_header header [] = None
+after_header header (first ∷ rest) = if same_fields first header then Some rest else None
 
 -- the first fault of the records after the header, or `Header` without a header
 abbrev pub fault_after : (List Fields → Fields → Option FileFault) → Option (List Fields) → Option FileFault
@@ -34,7 +34,7 @@ stated_by fault value (Some rest) = unless (first_fault fault [] rest) (value re
 -- the value that the records of a file state under this header; `Header` if the header is another
 -- or missing
 abbrev pub stated : {T : Type 0} → Fields → (List Fields → Fields → Option FileFault) → (List Fields → T) → List Fields → Result T FileFault
-stated header fault value all = stated_by fault value (headed header all)
+stated header fault value all = stated_by fault value (after_header header all)
 
 -- the most bytes that a file may have
 abbrev pub byte_limit : ℕ
@@ -61,20 +61,20 @@ abbrev pub read_as : {T : Type 0} → (List ℕ → Result T FileFault) → Ahea
 read_as meaning a = stated_in meaning (bytes_read a)
 
 -- the bytes that a reader may have ahead: those that it specifies, or any if it specifies none
-abbrev pub Tells : Option Ahead → Ahead → Type 0
-Tells None a = ⊤
-Tells (Some told) a = a ≡ told
+abbrev pub MayBeAhead : Option Ahead → Ahead → Type 0
+MayBeAhead None a = ⊤
+MayBeAhead (Some readable_bytes) a = a ≡ readable_bytes
 
 -- these may be the bytes ahead of the reader, and this result is read from them
-pub record IsRead {T : Type 0} (meaning : List ℕ → Result T FileFault) (told : Option Ahead) (result : Result T FileFault) : Type 0 where
+pub record IsRead {T : Type 0} (meaning : List ℕ → Result T FileFault) (readable_bytes : Option Ahead) (result : Result T FileFault) : Type 0 where
   pub ahead : Ahead
-  pub gives : Tells told ahead
+  pub gives : MayBeAhead readable_bytes ahead
   pub states : read_as meaning ahead ≡ result
 
 -- the result is what some possible bytes of the reader state; out of memory is unspecified
 abbrev pub States : {T : Type 0} → (List ℕ → Result T FileFault) → Option Ahead → Result T FileFault → Type 0
-States meaning told (Ok x) = IsRead meaning told (Ok x)
-States meaning told (Err e) = IsOfFile e → IsRead meaning told (Err e)
+States meaning readable_bytes (Ok x) = IsRead meaning readable_bytes (Ok x)
+States meaning readable_bytes (Err e) = IsNotOutOfMemory e → IsRead meaning readable_bytes (Err e)
 
 -- the bytes themselves, as a value
 abbrev pub itself : List ℕ → Result (List ℕ) FileFault

@@ -2,7 +2,7 @@
 use Rattle.std.specs.Prelude.{⊤, ◌≡◌, ℕ, Bool, true, false, not, List, [], ◌∷◌, ◌++◌, ◌+◌, ◌-◌, ◌==◌, ◌&&◌, ◌||◌, nat_le, length, codes, bytes_eq, filter_map, flat_map, fold, map, slice_get, is_some, Option, Some, None, Result, option_map, option_and_then, if◌then◌else◌}
 use Rattle.sudo_match.specs.declared.people.Group.{Group}
 use Rattle.sudo_match.specs.declared.people.Person.{Person}
-use Rattle.audit_files.specs.Files.{headed, stated}
+use Rattle.audit_files.specs.Files.{after_header, stated}
 use Rattle.audit_files.specs.Numerals.{is_empty, number_of}
 use Rattle.audit_files.specs.Parts.{cut_at, items_of}
 use Rattle.audit_files.specs.Rows.{Fields, records_of}
@@ -104,7 +104,7 @@ membership_fault before fields = row_fault before (row_behind (last_of (users_of
 abbrev pub people : List ℕ → Result (List Person) FileFault
 people text =
     let all = records_of text in
-    if is_some (headed memberships_header all)
+    if is_some (after_header memberships_header all)
     then stated memberships_header membership_fault users_of all
     else stated users_header person_fault (filter_map person_of) all
 

@@ -1,7 +1,7 @@
 //! Hosts files.
 ghost use Rattle.std.specs.Prelude.{◌≡◌, ◌+◌, ◌∷◌, ◌++◌, [], Ok, Err, IfOk, IfErr, OnOk, IfSome, filter_map, length};
 ghost use Rattle.csv.specs.Records.{fields_of};
-ghost use Rattle.audit_files.specs.Faults.{IsOfFile, failures_in, read_failures};
+ghost use Rattle.audit_files.specs.Faults.{IsNotOutOfMemory, failures_in, read_failures};
 ghost use Rattle.audit_files.specs.Files.{IsRead};
 ghost use Rattle.audit_files.specs.Hosts.{address_by, address_of, interface_of, interface_with, machine_of, machines, octet_of};
 
@@ -114,12 +114,12 @@ fn machine_by(alloc: Global, host: &[u8], interfaces: &[u8]) -> Result<Option<Ma
 
 // The hosts that were read so far.
 #[derive(Drop)]
-struct Machines {
+struct HostList {
     alloc: Global,
     list: Vec<Machine>,
 }
 
-impl Table for Machines {
+impl Table for HostList {
     ghost use Rattle.audit_files.specs.Hosts.{machine_fault, hosts_header};
 
     ghost header = { hosts_header };
@@ -154,7 +154,7 @@ impl Table for Machines {
     }
 }
 
-impl Machines {
+impl HostList {
     fn keep(&mut self, machine: Machine) -> Result<(), AllocError>
         ensures { OnOk result (self.new.list.items ≡ self.old.list.items ++ machine ∷ []) }
     {
@@ -164,12 +164,12 @@ impl Machines {
 }
 
 // Returns the hosts that the bytes of a hosts file state, in order, or its first fault.
-fn machines_in(alloc: Global, text: &[u8]) -> Result<Vec<Machine>, FileFault>
+fn hosts_of_text(alloc: Global, text: &[u8]) -> Result<Vec<Machine>, FileFault>
     ensures stated { IfOk result (λ list. machines text.now ≡ Ok list.items) }
-    ensures fault { IfErr result (λ e. IsOfFile e → machines text.now ≡ Err e) }
+    ensures fault { IfErr result (λ e. IsNotOutOfMemory e → machines text.now ≡ Err e) }
     ensures no_read { IfErr result (λ e. failures_in e ≡ 0) }
 {
-    let mut table = Machines {
+    let mut table = HostList {
         alloc,
         list: Vec::new(alloc),
     };
@@ -188,13 +188,13 @@ fn machines_in(alloc: Global, text: &[u8]) -> Result<Vec<Machine>, FileFault>
 /// read, `Read` if a read failed, and `Memory` if allocation failed.
 pub fn read_hosts<R: Feed>(alloc: Global, reader: &mut R) -> Result<Vec<Machine>, FileFault>
     ensures stated { IfOk result (λ list. IsRead machines (R.ahead reader.old) (Ok list.items)) }
-    ensures fault { IfErr result (λ e. IsOfFile e
+    ensures fault { IfErr result (λ e. IsNotOutOfMemory e
         → IsRead machines (R.ahead reader.old) (Err e)) }
     ensures failures { R.failed_reads reader.new
         ≡ R.failed_reads reader.old + read_failures result }
 {
     match read_text(alloc, reader) {
-        Ok(text) => machines_in(alloc, text.as_slice()),
+        Ok(text) => hosts_of_text(alloc, text.as_slice()),
         Err(fault) => Err(fault),
     }
 }

@@ -2,8 +2,8 @@
 ghost use Rattle.std.specs.Prelude.{◌≡◌, ◌∷◌, [], IfOk, IfErr, OnOk, is_some, length, option_map};
 ghost use Rattle.std.specs.Option.{option_copied};
 ghost use Rattle.csv.specs.Records.{fields_of};
-ghost use Rattle.audit_files.specs.Faults.{IsOfFile, failures_in};
-ghost use Rattle.audit_files.specs.Files.{headed, same_fields, stated};
+ghost use Rattle.audit_files.specs.Faults.{IsNotOutOfMemory, failures_in};
+ghost use Rattle.audit_files.specs.Files.{after_header, same_fields, stated};
 ghost use Rattle.audit_files.specs.Rows.{records_of};
 ghost use Rattle.audit_files.specs.Users.{goes_after, groups_of_row, has_groups as group_test, last_of, member_of, membership_fault, memberships_header, row_behind, users_of, with_row};
 
@@ -32,7 +32,7 @@ fn is_header(record: &ByteRecord) -> bool
 /// Whether a text has the header of a file with one row per membership.
 pub(crate) fn has_header(alloc: Global, text: &[u8]) -> Result<bool, AllocError>
     ensures { IfOk result (λ found. found ≡ is_some
-        (headed memberships_header (records_of text.now))) }
+        (after_header memberships_header (records_of text.now))) }
 {
     let mut rows = Rows::new(alloc, text);
     if !rows.next()? {
@@ -186,10 +186,10 @@ impl Memberships {
 
 /// Returns the users that the bytes of a file with one row per membership state, in order, or its
 /// first fault.
-pub(crate) fn people_by_membership(alloc: Global, text: &[u8]) -> Result<Vec<Person>, FileFault>
+pub(crate) fn users_by_membership(alloc: Global, text: &[u8]) -> Result<Vec<Person>, FileFault>
     ensures stated { IfOk result (λ list. stated memberships_header membership_fault users_of
         (records_of text.now) ≡ Ok list.items) }
-    ensures fault { IfErr result (λ e. IsOfFile e
+    ensures fault { IfErr result (λ e. IsNotOutOfMemory e
         → stated memberships_header membership_fault users_of (records_of text.now) ≡ Err e) }
     ensures no_read { IfErr result (λ e. failures_in e ≡ 0) }
 {

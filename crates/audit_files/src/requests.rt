@@ -1,7 +1,7 @@
 //! Requests files.
 ghost use Rattle.std.specs.Prelude.{◌≡◌, ◌≢◌, ◌+◌, ◌∷◌, ◌++◌, [], Some, Ok, Err, List, ℕ, IfOk, OnOk, IfErr, IfSome, IfNone, length, slice_get};
 ghost use Rattle.csv.specs.Records.{fields_of};
-ghost use Rattle.audit_files.specs.Faults.{IsOfFile, failures_in, read_failures};
+ghost use Rattle.audit_files.specs.Faults.{IsNotOutOfMemory, failures_in, read_failures};
 ghost use Rattle.audit_files.specs.Files.{States, same_fields};
 ghost use Rattle.audit_files.specs.Requests.{asked_for, asked_number as number_asked, close_of, fields_in, requests_header, sent, is_command as command_test, last_number as number_of_last, order_fault as fault_of_order, request_of};
 
@@ -158,13 +158,13 @@ fn order_fault(row: u32, before: &[Request], number: u32) -> Option<FileFault>
 
 // The requests and the close row that were read so far.
 #[derive(Drop)]
-struct Sent {
+struct RequestList {
     alloc: Global,
     list: Vec<Request>,
     close: Option<u32>,
 }
 
-impl Table for Sent {
+impl Table for RequestList {
     ghost use Rattle.audit_files.specs.Requests.{closes_in, request_fault, requests_header, requests_in};
 
     ghost header = { requests_header };
@@ -205,7 +205,7 @@ impl Table for Sent {
     }
 }
 
-impl Sent {
+impl RequestList {
     // Keeps the request of this row, whose number is `number`.
     fn keep(&mut self, fields: RequestRow<'_>, number: u32) -> Result<(), AllocError>
         requires { number_asked fields.number.now fields.user.now fields.host.now fields.command.now
@@ -225,10 +225,10 @@ impl Sent {
 /// with `Memory`.
 pub(crate) fn requests_of_text(alloc: Global, text: &[u8]) -> Result<Requests, FileFault>
     ensures stated { IfOk result (λ requests. sent text.now ≡ Ok requests) }
-    ensures fault { IfErr result (λ e. IsOfFile e → sent text.now ≡ Err e) }
+    ensures fault { IfErr result (λ e. IsNotOutOfMemory e → sent text.now ≡ Err e) }
     ensures no_read { IfErr result (λ e. failures_in e ≡ 0) }
 {
-    let mut table = Sent {
+    let mut table = RequestList {
         alloc,
         list: Vec::new(alloc),
         close: None,

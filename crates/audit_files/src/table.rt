@@ -1,8 +1,8 @@
 //! Reading a table record by record.
 ghost use Rattle.std.specs.Prelude.{◌≡◌, ◌+◌, ◌∷◌, ◌++◌, [], ℕ, List, Option, Some, None, length, OnOk, IfErr};
 ghost use Rattle.csv.specs.Records.{fields_of};
-ghost use Rattle.audit_files.specs.Faults.{IsOfFile, failures_in};
-ghost use Rattle.audit_files.specs.Files.{fault_after, headed, same_fields};
+ghost use Rattle.audit_files.specs.Faults.{IsNotOutOfMemory, failures_in};
+ghost use Rattle.audit_files.specs.Files.{fault_after, after_header, same_fields};
 ghost use Rattle.audit_files.specs.declared.fault.FileFault.{FileFault};
 ghost use Rattle.audit_files.specs.Rows.{Fields, IsReading, first_fault, records_of, rows_left};
 
@@ -31,7 +31,7 @@ pub(crate) trait Table {
             → row ≡ length before + 2
             → (fault before (fields_of record.now) ≡ None)
             × holds self.new (before ++ fields_of record.now ∷ [])) }
-        ensures err { IfErr result (λ e. IsOfFile e → (before : List Fields)
+        ensures err { IfErr result (λ e. IsNotOutOfMemory e → (before : List Fields)
             → holds self.old before → row ≡ length before + 2
             → fault before (fields_of record.now) ≡ Some e) }
         ensures no_read { IfErr result (λ e. failures_in e ≡ 0) };
@@ -43,7 +43,7 @@ fn fill<T: Table>(rows: &mut Rows<'_>, table: &mut T) -> Result<(), FileFault>
     requires empty { T.holds table.old [] }
     ensures ok { OnOk result ((first_fault T.fault [] (rows_left rows.old) ≡ None)
         × T.holds table.new (rows_left rows.old)) }
-    ensures err { IfErr result (λ e. IsOfFile e
+    ensures err { IfErr result (λ e. IsNotOutOfMemory e
         → first_fault T.fault [] (rows_left rows.old) ≡ Some e) }
     ensures no_read { IfErr result (λ e. failures_in e ≡ 0) }
 {
@@ -61,10 +61,10 @@ fn fill<T: Table>(rows: &mut Rows<'_>, table: &mut T) -> Result<(), FileFault>
 pub(crate) fn gather<T: Table>(alloc: Global, text: &[u8], table: &mut T) -> Result<(), FileFault>
     requires { T.holds table.old [] }
     ensures ok { OnOk result ((rest : List Fields)
-        × (headed T.header (records_of text.now) ≡ Some rest)
+        × (after_header T.header (records_of text.now) ≡ Some rest)
         × (first_fault T.fault [] rest ≡ None) × T.holds table.new rest) }
-    ensures err { IfErr result (λ e. IsOfFile e
-        → fault_after T.fault (headed T.header (records_of text.now)) ≡ Some e) }
+    ensures err { IfErr result (λ e. IsNotOutOfMemory e
+        → fault_after T.fault (after_header T.header (records_of text.now)) ≡ Some e) }
     ensures no_read { IfErr result (λ e. failures_in e ≡ 0) }
 {
     let mut rows = Rows::new(alloc, text);

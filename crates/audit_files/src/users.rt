@@ -1,13 +1,13 @@
 //! Users files.
 ghost use Rattle.std.specs.Prelude.{◌≡◌, ◌+◌, ◌∷◌, ◌++◌, [], Ok, Err, IfOk, IfErr, OnOk, IfSome, filter_map, length};
 ghost use Rattle.csv.specs.Records.{fields_of};
-ghost use Rattle.audit_files.specs.Faults.{IsOfFile, failures_in, read_failures};
+ghost use Rattle.audit_files.specs.Faults.{IsNotOutOfMemory, failures_in, read_failures};
 ghost use Rattle.audit_files.specs.Files.{IsRead, stated};
 ghost use Rattle.audit_files.specs.Rows.{records_of};
 ghost use Rattle.audit_files.specs.Users.{group_of, people, person_fault, person_of, users_header};
 
 use crate::fields::field;
-use crate::memberships::{self, people_by_membership};
+use crate::memberships::{self, users_by_membership};
 use crate::number::number;
 use crate::parts::{Item, cut, items};
 use crate::table::{Table, gather};
@@ -75,12 +75,12 @@ fn person_by(
 
 // The users that were read so far.
 #[derive(Drop)]
-struct People {
+struct UserList {
     alloc: Global,
     list: Vec<Person>,
 }
 
-impl Table for People {
+impl Table for UserList {
     ghost use Rattle.audit_files.specs.Users.{person_fault, users_header};
 
     ghost header = { users_header };
@@ -116,7 +116,7 @@ impl Table for People {
     }
 }
 
-impl People {
+impl UserList {
     fn keep(&mut self, person: Person) -> Result<(), AllocError>
         ensures { OnOk result (self.new.list.items ≡ self.old.list.items ++ person ∷ []) }
     {
@@ -127,14 +127,14 @@ impl People {
 
 // Returns the users that the bytes of a file with one row per user state, in order, or its first
 // fault.
-fn people_by_user(alloc: Global, text: &[u8]) -> Result<Vec<Person>, FileFault>
+fn users_by_user(alloc: Global, text: &[u8]) -> Result<Vec<Person>, FileFault>
     ensures stated { IfOk result (λ list. stated users_header person_fault (filter_map person_of)
         (records_of text.now) ≡ Ok list.items) }
-    ensures fault { IfErr result (λ e. IsOfFile e
+    ensures fault { IfErr result (λ e. IsNotOutOfMemory e
         → stated users_header person_fault (filter_map person_of) (records_of text.now) ≡ Err e) }
     ensures no_read { IfErr result (λ e. failures_in e ≡ 0) }
 {
-    let mut table = People {
+    let mut table = UserList {
         alloc,
         list: Vec::new(alloc),
     };
@@ -143,15 +143,15 @@ fn people_by_user(alloc: Global, text: &[u8]) -> Result<Vec<Person>, FileFault>
 }
 
 // Returns the users that the bytes of a users file state, in order, or its first fault.
-fn people_in(alloc: Global, text: &[u8]) -> Result<Vec<Person>, FileFault>
+fn users_of_text(alloc: Global, text: &[u8]) -> Result<Vec<Person>, FileFault>
     ensures stated { IfOk result (λ list. people text.now ≡ Ok list.items) }
-    ensures fault { IfErr result (λ e. IsOfFile e → people text.now ≡ Err e) }
+    ensures fault { IfErr result (λ e. IsNotOutOfMemory e → people text.now ≡ Err e) }
     ensures no_read { IfErr result (λ e. failures_in e ≡ 0) }
 {
     if memberships::has_header(alloc, text)? {
-        return people_by_membership(alloc, text);
+        return users_by_membership(alloc, text);
     }
-    people_by_user(alloc, text)
+    users_by_user(alloc, text)
 }
 
 /// Reads a users file to its end, and returns its users, in order.
@@ -174,12 +174,12 @@ fn people_in(alloc: Global, text: &[u8]) -> Result<Vec<Person>, FileFault>
 /// bytes, before any row is read, `Read` if a read failed, and `Memory` if allocation failed.
 pub fn read_users<R: Feed>(alloc: Global, reader: &mut R) -> Result<Vec<Person>, FileFault>
     ensures stated { IfOk result (λ list. IsRead people (R.ahead reader.old) (Ok list.items)) }
-    ensures fault { IfErr result (λ e. IsOfFile e → IsRead people (R.ahead reader.old) (Err e)) }
+    ensures fault { IfErr result (λ e. IsNotOutOfMemory e → IsRead people (R.ahead reader.old) (Err e)) }
     ensures failures { R.failed_reads reader.new
         ≡ R.failed_reads reader.old + read_failures result }
 {
     match read_text(alloc, reader) {
-        Ok(text) => people_in(alloc, text.as_slice()),
+        Ok(text) => users_of_text(alloc, text.as_slice()),
         Err(fault) => Err(fault),
     }
 }

@@ -4,7 +4,7 @@ use Rattle.std.proofs.lemmas.List.{length-map, map-append}
 use Rattle.std.proofs.lemmas.Slice.Eq.{bytes_eq-Decides}
 use Rattle.std.specs.List.{zip}
 use Rattle.audit_collect.proofs.Members.{Among, Contains-Among}
-use Rattle.audit_run.specs.Parts.{Stated, owned}
+use Rattle.audit_run.specs.Parts.{Stated, parts_by_owner}
 use Rattle.audit_run.specs.Roster.{owners, place_of, roster, without}
 use Rattle.audit_run.specs.Shards.{AreApart}
 use Rattle.audit_run.proofs.Owned.{among_roster}
@@ -105,9 +105,9 @@ zip_after senders (o ∷ os) (s ∷ states) = ap (λ l. (senders + o, s) ∷ l) 
 
 -- the sources of both lists by their owners
 pub owned_joined : (first second : List (List ℕ)) (states more : List Stated) → Parted first second → length states ≡ length first
-    → owned (first ++ second) (states ++ more) ≡ owned first states ++ map (part_after (length (roster first))) (owned second more)
+    → parts_by_owner (first ++ second) (states ++ more) ≡ parts_by_owner first states ++ map (part_after (length (roster first))) (parts_by_owner second more)
 owned_joined first second states more apart stated =
     let long : length states ≡ length (owners first) = stated ∙ sym (length-map first (λ name. place_of name (roster first))) in
     ap (λ os. zip os (states ++ more)) (owners_joined first second apart)
     ∙ zip_append (owners first) (map (λ k. length (roster first) + k) (owners second)) states more long
-    ∙ ap (λ l. owned first states ++ l) (zip_after (length (roster first)) (owners second) more)
+    ∙ ap (λ l. parts_by_owner first states ++ l) (zip_after (length (roster first)) (owners second) more)

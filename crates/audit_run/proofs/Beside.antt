@@ -4,7 +4,7 @@ use Rattle.std.proofs.lemmas.List.{append-nil}
 use Rattle.std.proofs.lemmas.List.Concat.{flat_map-append}
 use Rattle.std.proofs.lemmas.Option.{same_Some}
 use Rattle.audit_collect.proofs.HeldLaw.{self_tested, tested}
-use Rattle.audit_run.specs.Asked.{asked_of, counts_in, counts_of, has_number, if_of, requests_in}
+use Rattle.audit_run.specs.Asked.{asked_of, counts_in, counts_of, has_number, values_of_sender, requests_in}
 use Rattle.audit_run.specs.Outcome.{AreWhole, IsWholeSender}
 use Rattle.audit_run.specs.Parts.{Stated}
 use Rattle.audit_run.proofs.Apart.{part_after}
@@ -80,30 +80,30 @@ before_or_after senders sender = elim (within_or_past sender senders) [
 ]
 
 module _ {X : Type 0} (f : Stated → List X) (senders : ℕ) where
-  all_after : (sender : ℕ) (more : List (ℕ × Stated)) → flat_map (if_of (senders + sender) f) (map (part_after senders) more) ≡ flat_map (if_of sender f) more
+  all_after : (sender : ℕ) (more : List (ℕ × Stated)) → flat_map (values_of_sender (senders + sender) f) (map (part_after senders) more) ≡ flat_map (values_of_sender sender f) more
   all_after sender [] = refl
   all_after sender (part ∷ more) =
-      ap (λ b. cond b (f part.1) [] ++ flat_map (if_of (senders + sender) f) (map (part_after senders) more)) (test_after senders part.0 sender)
-      ∙ ap (λ l. if_of sender f part ++ l) (all_after sender more)
+      ap (λ b. cond b (f part.1) [] ++ flat_map (values_of_sender (senders + sender) f) (map (part_after senders) more)) (test_after senders part.0 sender)
+      ∙ ap (λ l. values_of_sender sender f part ++ l) (all_after sender more)
 
-  none_before : (sender : ℕ) (more : List (ℕ × Stated)) → sender < senders → flat_map (if_of sender f) (map (part_after senders) more) ≡ []
+  none_before : (sender : ℕ) (more : List (ℕ × Stated)) → sender < senders → flat_map (values_of_sender sender f) (map (part_after senders) more) ≡ []
   none_before sender [] before = refl
   none_before sender (part ∷ more) before =
-      ap (λ b. cond b (f part.1) [] ++ flat_map (if_of sender f) (map (part_after senders) more)) (untested (senders + part.0) sender (λ e. omega (arith, e, before)))
+      ap (λ b. cond b (f part.1) [] ++ flat_map (values_of_sender sender f) (map (part_after senders) more)) (untested (senders + part.0) sender (λ e. omega (arith, e, before)))
       ∙ none_before sender more before
 
   -- a sender of the first list has nothing in the second
-  pub of_front : (sender : ℕ) (parts more : List (ℕ × Stated)) → sender < senders → flat_map (if_of sender f) (both senders parts more) ≡ flat_map (if_of sender f) parts
+  pub of_front : (sender : ℕ) (parts more : List (ℕ × Stated)) → sender < senders → flat_map (values_of_sender sender f) (both senders parts more) ≡ flat_map (values_of_sender sender f) parts
   of_front sender parts more before =
-      flat_map-append (if_of sender f) parts (map (part_after senders) more)
-      ∙ ap (λ l. flat_map (if_of sender f) parts ++ l) (none_before sender more before)
-      ∙ append-nil (flat_map (if_of sender f) parts)
+      flat_map-append (values_of_sender sender f) parts (map (part_after senders) more)
+      ∙ ap (λ l. flat_map (values_of_sender sender f) parts ++ l) (none_before sender more before)
+      ∙ append-nil (flat_map (values_of_sender sender f) parts)
 
   -- and one of the second has nothing in the first
-  pub of_back : (sender : ℕ) (parts more : List (ℕ × Stated)) → All (IsOwned senders) parts → flat_map (if_of (senders + sender) f) (both senders parts more) ≡ flat_map (if_of sender f) more
-  of_back sender parts more owned =
-      flat_map-append (if_of (senders + sender) f) parts (map (part_after senders) more)
-      ∙ ap (λ l. l ++ flat_map (if_of (senders + sender) f) (map (part_after senders) more)) (none_past f senders (senders + sender) parts owned (omega arith))
+  pub of_back : (sender : ℕ) (parts more : List (ℕ × Stated)) → All (IsOwned senders) parts → flat_map (values_of_sender (senders + sender) f) (both senders parts more) ≡ flat_map (values_of_sender sender f) more
+  of_back sender parts more parts_by_owner =
+      flat_map-append (values_of_sender (senders + sender) f) parts (map (part_after senders) more)
+      ∙ ap (λ l. l ++ flat_map (values_of_sender (senders + sender) f) (map (part_after senders) more)) (none_past f senders (senders + sender) parts parts_by_owner (omega arith))
       ∙ all_after sender more
 
 -- a sender that asks the same is whole alike
@@ -116,7 +116,7 @@ whole_same s t parts more asked counts whole = record {
   none_past = λ number past. ap (count_by (has_number number)) asked ∙ whole.none_past number past;
 }
 
-module _ (senders others : ℕ) (parts more : List (ℕ × Stated)) (owned : All (IsOwned senders) parts) where
+module _ (senders others : ℕ) (parts more : List (ℕ × Stated)) (parts_by_owner : All (IsOwned senders) parts) where
   -- all senders of both lists are whole where those of each are
   pub whole_joined : AreWhole senders parts → AreWhole others more → AreWhole (senders + others) (both senders parts more)
   whole_joined whole also sender within = elim (before_or_after senders sender) [
@@ -124,7 +124,7 @@ module _ (senders others : ℕ) (parts more : List (ℕ × Stated)) (owned : All
     | inr after ↦
         let at = after.is in
         subst (λ s. IsWholeSender s (both senders parts more)) (sym at)
-        (whole_same (senders + after.place) after.place (both senders parts more) more (of_back requests_in senders after.place parts more owned) (of_back counts_in senders after.place parts more owned)
+        (whole_same (senders + after.place) after.place (both senders parts more) more (of_back requests_in senders after.place parts more parts_by_owner) (of_back counts_in senders after.place parts more parts_by_owner)
         (also after.place (omega (arith, at, within))))
   ]
 
@@ -135,5 +135,5 @@ module _ (senders others : ℕ) (parts more : List (ℕ × Stated)) (owned : All
 
   pub whole_second : AreWhole (senders + others) (both senders parts more) → AreWhole others more
   whole_second whole sender within =
-      whole_same sender (senders + sender) more (both senders parts more) (sym (of_back requests_in senders sender parts more owned)) (sym (of_back counts_in senders sender parts more owned))
+      whole_same sender (senders + sender) more (both senders parts more) (sym (of_back requests_in senders sender parts more parts_by_owner)) (sym (of_back counts_in senders sender parts more parts_by_owner))
       (whole (senders + sender) (omega (arith, within)))

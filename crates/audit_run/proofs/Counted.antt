@@ -14,8 +14,8 @@ use Rattle.audit_run.specs.declared.message.Outcome.TheVariants as outcome
 use Rattle.audit_run.specs.Names.{answer, answer_to}
 use Rattle.sudo_match.specs.declared.request.Request.{Request}
 use Rattle.audit_run.specs.Arrivals.{arrivals_of}
-use Rattle.audit_run.specs.Asked.{asked_of, count_listed, counts_in, counts_of, has_number, if_of, requests_in, times_asked}
-use Rattle.audit_run.specs.Parts.{Stated, close_jobs, put_by_sources, put_of, run_jobs}
+use Rattle.audit_run.specs.Asked.{asked_of, count_listed, counts_in, counts_of, has_number, values_of_sender, requests_in, times_asked}
+use Rattle.audit_run.specs.Parts.{Stated, close_jobs, put_by_sources, jobs_or_end, run_jobs}
 
 arrivals_append : (xs ys : List Outcome) → arrivals_of (xs ++ ys) ≡ arrivals_of xs ++ arrivals_of ys
 arrivals_append [] ys = refl
@@ -111,7 +111,7 @@ module _ (names : Names) where
   close_then s None = refl
   close_then s (Some c) = refl
 
-  put_arrivals : (s : ℕ) (state : Stated) → arrivals_of (map (answer names) (put_of s state)) ≡ state_arrivals s state
+  put_arrivals : (s : ℕ) (state : Stated) → arrivals_of (map (answer names) (jobs_or_end s state)) ≡ state_arrivals s state
   put_arrivals s (Ok requests) =
       asks_then s requests.list (close_jobs s requests.close ++ job.End s ∷ [])
       ∙ ap (λ l. map (λ r. Reply (answer_to names s r)) requests.list ++ l) (close_then s requests.close)
@@ -120,8 +120,8 @@ module _ (names : Names) where
   sources_arrivals : (parts : List (ℕ × Stated)) → arrivals_of (map (answer names) (put_by_sources parts)) ≡ flat_map part_arrivals parts
   sources_arrivals [] = refl
   sources_arrivals (part ∷ parts) =
-      ap arrivals_of (map-append (answer names) (put_of part.0 part.1) (put_by_sources parts))
-      ∙ arrivals_append (map (answer names) (put_of part.0 part.1)) (map (answer names) (put_by_sources parts))
+      ap arrivals_of (map-append (answer names) (jobs_or_end part.0 part.1) (put_by_sources parts))
+      ∙ arrivals_append (map (answer names) (jobs_or_end part.0 part.1)) (map (answer names) (put_by_sources parts))
       ∙ ap (λ l. l ++ arrivals_of (map (answer names) (put_by_sources parts))) (put_arrivals part.0 part.1)
       ∙ ap (λ l. part_arrivals part ++ l) (sources_arrivals parts)
 
@@ -156,7 +156,7 @@ module _ (names : Names) where
       let rest = others_replies s t n other requests in
       omega (arith, one, rest)
 
-  part_replies : (s n : ℕ) (part : ℕ × Stated) → count_by (is_reply s n) (part_arrivals part) ≡ count_by (has_number n) (if_of s requests_in part)
+  part_replies : (s n : ℕ) (part : ℕ × Stated) → count_by (is_reply s n) (part_arrivals part) ≡ count_by (has_number n) (values_of_sender s requests_in part)
   part_replies s n (t, Err fault) = by (t == s)
     where
       by : (b : Bool) → 0 ≡ count_by (has_number n) (cond b [] [])
@@ -174,7 +174,7 @@ module _ (names : Names) where
 
   -- how often a reply is among the arrivals of the sources is how often it is asked for
   pub replies_counted : (s n : ℕ) (parts : List (ℕ × Stated)) → count_by (is_reply s n) (flat_map part_arrivals parts) ≡ times_asked s n parts
-  replies_counted s n parts = count_flat (is_reply s n) part_arrivals (has_number n) (if_of s requests_in) (part_replies s n) parts
+  replies_counted s n parts = count_flat (is_reply s n) part_arrivals (has_number n) (values_of_sender s requests_in) (part_replies s n) parts
 
   -- a test of close marks: of a sender, and by the count
   module _ (p : Arrival → Bool) (s : ℕ) (q : ℕ → Bool) (reply : (t : ℕ) (r : Request) → p (Reply (answer_to names t r)) ≡ false) (close : (t c : ℕ) → p (Close t c) ≡ ((t == s) && q c)) where
@@ -198,7 +198,7 @@ module _ (names : Names) where
         let rest = closes_by t false other counts in
         omega (arith, one, rest)
 
-    part_closes : (part : ℕ × Stated) → count_by p (part_arrivals part) ≡ count_by q (if_of s counts_in part)
+    part_closes : (part : ℕ × Stated) → count_by p (part_arrivals part) ≡ count_by q (values_of_sender s counts_in part)
     part_closes (t, Err fault) = by (t == s)
       where
         by : (b : Bool) → 0 ≡ count_by q (cond b [] [])
@@ -211,7 +211,7 @@ module _ (names : Names) where
         omega (arith, sum, replies, closes)
 
     pub closes_tested : (parts : List (ℕ × Stated)) → count_by p (flat_map part_arrivals parts) ≡ count_by q (counts_of s parts)
-    closes_tested parts = count_flat p part_arrivals q (if_of s counts_in) part_closes parts
+    closes_tested parts = count_flat p part_arrivals q (values_of_sender s counts_in) part_closes parts
 
 and_true : (b : Bool) → b ≡ (b && true)
 and_true true = refl

@@ -15,19 +15,19 @@ use Rattle.audit_collect.proofs.HeldLaw.{self_tested}
 use Rattle.audit_collect.proofs.Members.{Among, Among-Contains, count_by-append, count_by-cons, count_by_member}
 use Rattle.audit_run.specs.declared.message.Names.{Names}
 use Rattle.audit_run.specs.Names.{answer_to}
-use Rattle.audit_run.specs.Asked.{asked_of, counts_in, counts_of, has_number, if_of, requests_in, times_asked}
+use Rattle.audit_run.specs.Asked.{asked_of, counts_in, counts_of, has_number, values_of_sender, requests_in, times_asked}
 use Rattle.audit_run.specs.Outcome.{AreWhole, AskInTwo, Asks, HaveRefused, IsPast, IsReport, IsRow, IsWholeSender, Lack}
 use Rattle.audit_run.specs.Parts.{Stated}
 use Rattle.audit_run.proofs.Refusing.{IsOwned}
 use Rattle.audit_run.proofs.Twice.{here_and_rest, untested}
 
 -- a sender past the roster has no source
-pub none_past : {X : Type 0} (f : Stated → List X) (senders s : ℕ) (parts : List (ℕ × Stated)) → All (IsOwned senders) parts → senders ≤ s → flat_map (if_of s f) parts ≡ []
+pub none_past : {X : Type 0} (f : Stated → List X) (senders s : ℕ) (parts : List (ℕ × Stated)) → All (IsOwned senders) parts → senders ≤ s → flat_map (values_of_sender s f) parts ≡ []
 none_past f senders s [] all past = refl
 none_past {X} f senders s (part ∷ parts) all past =
     let owner = All-head (IsOwned senders) part parts all in
     let other = untested part.0 s (λ e. omega (arith, e, owner, past)) in
-    ap (λ b. cond b (f part.1) [] ++ flat_map (if_of s f) parts) other ∙ none_past f senders s parts (All-tail (IsOwned senders) part parts all) past
+    ap (λ b. cond b (f part.1) [] ++ flat_map (values_of_sender s f) parts) other ∙ none_past f senders s parts (All-tail (IsOwned senders) part parts all) past
 
 pub within_or_past : (s n : ℕ) → (s < n) ⊎ (n ≤ s)
 within_or_past s zero = inr (omega arith)
@@ -35,14 +35,14 @@ within_or_past zero (suc n) = inl (omega arith)
 within_or_past (suc s) (suc n) = elim (within_or_past s n) [ inl less ↦ inl (omega (arith, less)) | inr past ↦ inr (omega (arith, past)) ]
 
 -- a source that asks is counted
-asks_counted : (s n : ℕ) (part : ℕ × Stated) → Asks s n part → 1 ≤ count_by (has_number n) (if_of s requests_in part)
+asks_counted : (s n : ℕ) (part : ℕ × Stated) → Asks s n part → 1 ≤ count_by (has_number n) (values_of_sender s requests_in part)
 asks_counted s n part asks = subst (λ b. 1 ≤ count_by (has_number n) (cond b (requests_in part.1) [])) (sym (ap (λ t. t == s) asks.of ∙ self_tested s)) asks.asks
 
 one_counted : (s n : ℕ) (parts : List (ℕ × Stated)) (i : ℕ) (part : ℕ × Stated) → slice_get parts i ≡ Some part → Asks s n part → 1 ≤ times_asked s n parts
 one_counted s n [] i part there asks = absurd (cc)
 one_counted s n (p ∷ parts) zero part there asks =
     let same = same_Some p part there in
-    let here = subst (λ q. 1 ≤ count_by (has_number n) (if_of s requests_in q)) (sym same) (asks_counted s n part asks) in
+    let here = subst (λ q. 1 ≤ count_by (has_number n) (values_of_sender s requests_in q)) (sym same) (asks_counted s n part asks) in
     let sum = here_and_rest s n p parts in
     omega (arith, here, sum)
 one_counted s n (p ∷ parts) (suc i) part there asks =
@@ -56,7 +56,7 @@ two_counted s n (p ∷ parts) zero zero a b less at bt asks bsks = absurd (omega
 two_counted s n (p ∷ parts) (suc i) zero a b less at bt asks bsks = absurd (omega (arith, less))
 two_counted s n (p ∷ parts) zero (suc j) a b less at bt asks bsks =
     let same = same_Some p a at in
-    let here = subst (λ q. 1 ≤ count_by (has_number n) (if_of s requests_in q)) (sym same) (asks_counted s n a asks) in
+    let here = subst (λ q. 1 ≤ count_by (has_number n) (values_of_sender s requests_in q)) (sym same) (asks_counted s n a asks) in
     let rest = one_counted s n parts j b bt bsks in
     let sum = here_and_rest s n p parts in
     omega (arith, here, rest, sum)

@@ -10,14 +10,14 @@ use Rattle.audit_run.specs.declared.message.Outcome.{Outcome}
 use Rattle.audit_run.specs.declared.message.Outcome.TheVariants.{Arrived, End, Stopped}
 use Rattle.audit_run.specs.Names.{answer}
 use Rattle.audit_run.specs.Passes.{PassView, with_job_taken, with_outcome_put, with_job_put}
-use Rattle.audit_run.specs.Body.FreshPasses.{gaining}
+use Rattle.audit_run.specs.Body.FreshPasses.{with_messages}
 use Rattle.audit_run.specs.Arrivals.{arrivals_of}
-use Rattle.audit_run.specs.Body.Gathered.{comes_of, is_end, is_stopped, IsOutOfMemory, Counts, Gathers, Conducts, HasGatheredAll, Drains}
+use Rattle.audit_run.specs.Body.Gathered.{state_after, is_end, is_stopped, IsOutOfMemory, Counts, Gathers, Conducts, HasGatheredAll, Drains}
 
-pub gaining_none : (p : PassView) → gaining p [] [] [] [] ≡ p
+pub gaining_none : (p : PassView) → with_messages p [] [] [] [] ≡ p
 gaining_none p = λ i. record p { jobs_put = append-nil p.jobs_put i; jobs_taken = append-nil p.jobs_taken i; outcomes_put = append-nil p.outcomes_put i; outcomes_taken = append-nil p.outcomes_taken i }
 
-pub gaining_more : (p : PassView) (a b : List Job) (c d : List Outcome) (a' b' : List Job) (c' d' : List Outcome) → gaining (gaining p a b c d) a' b' c' d' ≡ gaining p (a ++ a') (b ++ b') (c ++ c') (d ++ d')
+pub gaining_more : (p : PassView) (a b : List Job) (c d : List Outcome) (a' b' : List Job) (c' d' : List Outcome) → with_messages (with_messages p a b c d) a' b' c' d' ≡ with_messages p (a ++ a') (b ++ b') (c ++ c') (d ++ d')
 gaining_more p a b c d a' b' c' d' = λ i. record p { jobs_put = append_assoc p.jobs_put a a' i; jobs_taken = append_assoc p.jobs_taken b b' i; outcomes_put = append_assoc p.outcomes_put c c' i; outcomes_taken = append_assoc p.outcomes_taken d d' i }
 
 pub arrivals_of-append : (xs ys : List Outcome) → arrivals_of (xs ++ ys) ≡ arrivals_of xs ++ arrivals_of ys
@@ -33,11 +33,11 @@ pub gathers_more : (g h k : Gathering) (xs ys : List Outcome) → Gathers g xs h
 gathers_more g h k xs ys one two = record {
   stuck = λ m. two.stuck (one.stuck m);
   same = ⊎_elim (λ (m : IsOutOfMemory k). inl m)
-      (λ (t : (rest : List Arrival) → comes_of h.collector h.refused (arrivals_of ys ++ rest) ≡ comes_of k.collector k.refused rest).
+      (λ (t : (rest : List Arrival) → state_after h.collector h.refused (arrivals_of ys ++ rest) ≡ state_after k.collector k.refused rest).
       ⊎_elim (λ (m : IsOutOfMemory h). inl (two.stuck m))
-      (λ (o : (rest : List Arrival) → comes_of g.collector g.refused (arrivals_of xs ++ rest) ≡ comes_of h.collector h.refused rest).
-      inr (λ rest. ap (λ l. comes_of g.collector g.refused (l ++ rest)) (arrivals_of-append xs ys)
-      ∙ (ap (comes_of g.collector g.refused) (append_assoc (arrivals_of xs) (arrivals_of ys) rest) ∙ (o (arrivals_of ys ++ rest) ∙ t rest))))
+      (λ (o : (rest : List Arrival) → state_after g.collector g.refused (arrivals_of xs ++ rest) ≡ state_after h.collector h.refused rest).
+      inr (λ rest. ap (λ l. state_after g.collector g.refused (l ++ rest)) (arrivals_of-append xs ys)
+      ∙ (ap (state_after g.collector g.refused) (append_assoc (arrivals_of xs) (arrivals_of ys) rest) ∙ (o (arrivals_of ys ++ rest) ∙ t rest))))
       one.same)
       two.same;
 }
@@ -57,7 +57,7 @@ conducts_none p g = record { outcomes = []; pass = sym (gaining_none p); gathere
 pub conducts_more : (p q r : PassView) (g h k : Gathering) (js ks : List Job) → Conducts p g js q h → Conducts q h ks r k → Conducts p g (js ++ ks) r k
 conducts_more p q r g h k js ks one two = record {
   outcomes = one.outcomes ++ two.outcomes;
-  pass = two.pass ∙ (ap (λ x. gaining x ks [] [] two.outcomes) one.pass ∙ gaining_more p js [] [] one.outcomes ks [] [] two.outcomes);
+  pass = two.pass ∙ (ap (λ x. with_messages x ks [] [] two.outcomes) one.pass ∙ gaining_more p js [] [] one.outcomes ks [] [] two.outcomes);
   gathered = gathers_more g h k one.outcomes two.outcomes one.gathered two.gathered;
   counted = counts_more g h k one.outcomes two.outcomes one.counted two.counted;
 }
@@ -73,7 +73,7 @@ conducted p q g h js sources workers one = record {
 
 -- the pass was as it is now
 pub conducts_from : (p q r : PassView) (g h : Gathering) (js : List Job) → q ≡ p → Conducts q g js r h → Conducts p g js r h
-conducts_from p q r g h js same one = record { outcomes = one.outcomes; pass = one.pass ∙ ap (λ x. gaining x js [] [] one.outcomes) same; gathered = one.gathered; counted = one.counted }
+conducts_from p q r g h js same one = record { outcomes = one.outcomes; pass = one.pass ∙ ap (λ x. with_messages x js [] [] one.outcomes) same; gathered = one.gathered; counted = one.counted }
 
 pub conducts_put : (p q r : PassView) (g h : Gathering) (js : List Job) (job : Job) → Conducts p g js q h → r ≡ with_job_put q job → Conducts p g (js ++ job ∷ []) r h
 conducts_put p q r g h js job one put = record {
@@ -93,7 +93,7 @@ drains_gathering names p q r g h k one two =
     record {
       jobs = one.jobs;
       outcomes = one.outcomes ++ two.outcomes;
-      pass = two.pass ∙ (ap (λ x. gaining x [] [] [] two.outcomes) one.pass ∙ (more ∙ (λ i. gaining p [] (append-nil one.jobs i) (append-nil done i) (one.outcomes ++ two.outcomes))));
+      pass = two.pass ∙ (ap (λ x. with_messages x [] [] [] two.outcomes) one.pass ∙ (more ∙ (λ i. with_messages p [] (append-nil one.jobs i) (append-nil done i) (one.outcomes ++ two.outcomes))));
       gathered = gathers_more g h k one.outcomes two.outcomes one.gathered two.gathered;
     }
 

@@ -8,8 +8,8 @@ use Rattle.audit_collect.specs.declared.arrival.Arrival.TheVariants.{Reply, Clos
 use Rattle.audit_collect.specs.declared.fault.Unfinished.{Unfinished}
 use Rattle.audit_collect.specs.declared.fault.Unfinished.TheVariants.{Open, Gap}
 use Rattle.audit_collect.specs.Faults.{is_close, is_reply}
-use Rattle.audit_collect.specs.Finished.{AllFinished, IsFinished, IsFirstMissing, IsLeastMissing, Misses}
-use Rattle.audit_collect.specs.Held.{Held, after, start}
+use Rattle.audit_collect.specs.Finished.{AllFinished, IsFinished, IsFirstMissing, IsLeastMissing, IsMissing}
+use Rattle.audit_collect.specs.SenderState.{SenderState, after, start}
 use Rattle.audit_collect.proofs.HeldLaw.{close_arrived, close_counted, one_each, reply_counted, self_tested, tested}
 use Rattle.audit_collect.proofs.Members.{count_by-cons, count_by_member}
 use Rattle.audit_run.specs.declared.message.Names.{Names}
@@ -44,7 +44,7 @@ one_listed (c ∷ []) count e h = by (c == count) refl
 one_listed (c ∷ d ∷ rest) count e h = absurd (omega (arith, e))
 
 module _ (names : Names) (roster : List (List ℕ)) (workers : ℕ) (parts : List (ℕ × Stated)) (outcomes : List Outcome)
-    (all : IsPermutation (map (answer names) (run_jobs workers parts)) outcomes) (held : List Held) (ran : after (start roster) (arrivals_of outcomes) ≡ Ok held) where
+    (all : IsPermutation (map (answer names) (run_jobs workers parts)) outcomes) (held : List SenderState) (ran : after (start roster) (arrivals_of outcomes) ≡ Ok held) where
   long : length held ≡ length roster
   long = one_each roster (arrivals_of outcomes) held ran
 
@@ -54,7 +54,7 @@ module _ (names : Names) (roster : List (List ℕ)) (workers : ℕ) (parts : Lis
   replies : (s n : ℕ) → count_by (is_reply s n) (arrivals_of outcomes) ≡ times_asked s n parts
   replies s n = counted names workers parts outcomes all (is_reply s n) ∙ replies_counted names s n parts
 
-  module _ (s : ℕ) (h : Held) (there : slice_get held s ≡ Some h) where
+  module _ (s : ℕ) (h : SenderState) (there : slice_get held s ≡ Some h) where
     -- a sender that is not closed has no close mark
     open_has_none : h.close ≡ None → counts_of s parts ≡ []
     open_has_none unclosed = none_listed (counts_of s parts) (sym (closes s) ∙ close_counted roster (arrivals_of outcomes) held ran s h there None unclosed)
@@ -120,7 +120,7 @@ module _ (names : Names) (roster : List (List ℕ)) (workers : ℕ) (parts : Lis
       within : first.place < length roster
       within = let inside = slice_get_within held first.place first.sender first.there in omega (arith, inside, long)
 
-      by : (what : Unfinished) → Misses first.place first.sender what → Lack (length roster) parts what
+      by : (what : Unfinished) → IsMissing first.place first.sender what → Lack (length roster) parts what
       by (Open s) misses = (
         subst (λ n. n < length roster) (sym misses.0) within,
         subst (λ n. counts_of n parts ≡ []) (sym misses.0) (open_has_none first.place first.sender first.there misses.1),
@@ -136,11 +136,11 @@ module _ (names : Names) (roster : List (List ℕ)) (workers : ℕ) (parts : Lis
       let within : s < length held = omega (arith, inside, long) in
       at (slice_get held s) refl within
     where
-      missing : (held : List Held) (s : ℕ) → s < length held → slice_get held s ≡ None → ⊥
+      missing : (held : List SenderState) (s : ℕ) → s < length held → slice_get held s ≡ None → ⊥
       missing [] s less none = omega (arith, less)
       missing (h ∷ held) zero less none = let clash : Some h ≡ None = none in cc
       missing (h ∷ held) (suc s) less none = missing held s (omega (arith, less)) none
 
-      at : (o : Option Held) → slice_get held s ≡ o → s < length held → IsWholeSender s parts
+      at : (o : Option SenderState) → slice_get held s ≡ o → s < length held → IsWholeSender s parts
       at (Some h) there within = whole_of s h there (finished s h there)
       at None past within = absurd (missing held s within past)

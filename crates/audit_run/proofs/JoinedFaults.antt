@@ -11,8 +11,8 @@ use Rattle.audit_collect.specs.declared.fault.Unfinished.{Unfinished}
 use Rattle.audit_collect.specs.declared.fault.Unfinished.TheVariants.{Open, Gap}
 use Rattle.audit_collect.proofs.Members.{count_by-append}
 use Rattle.audit_files.specs.declared.fault.FileFault.{FileFault}
-use Rattle.audit_run.specs.Asked.{asked_of, counts_in, counts_of, has_number, if_of, requests_in}
-use Rattle.audit_run.specs.Audited.{NoneRefused}
+use Rattle.audit_run.specs.Asked.{asked_of, counts_in, counts_of, has_number, values_of_sender, requests_in}
+use Rattle.audit_run.specs.IsAuditResult.{NoneRefused}
 use Rattle.audit_run.specs.Outcome.{AskInTwo, Asks, HaveRefused, IsGap, IsPast, Lack}
 use Rattle.audit_run.specs.Parts.{Stated}
 use Rattle.audit_run.specs.Shards.{refused_after, unfinished_after}
@@ -71,15 +71,15 @@ refused_first parts more (refused.Double s n) h = record {
   second_asks = h.second_asks;
 }
 refused_first parts more (refused.ClosedTwice s) h =
-    let sum = ap length (flat_map-append (if_of s counts_in) parts more) ∙ length-append (counts_of s parts) (counts_of s more) in
+    let sum = ap length (flat_map-append (values_of_sender s counts_in) parts more) ∙ length-append (counts_of s parts) (counts_of s more) in
     omega (arith, sum, h)
 refused_first parts more (refused.PastClose s n) h = record {
   asked =
-      let sum = ap (count_by (has_number n)) (flat_map-append (if_of s requests_in) parts more) ∙ count_by-append (has_number n) (asked_of s parts) (asked_of s more) in
+      let sum = ap (count_by (has_number n)) (flat_map-append (values_of_sender s requests_in) parts more) ∙ count_by-append (has_number n) (asked_of s parts) (asked_of s more) in
       let some = h.asked in
       omega (arith, sum, some);
   count = h.count;
-  closed = subst (λ l. Contains l h.count) (sym (flat_map-append (if_of s counts_in) parts more)) (Contains-append_left (counts_of s parts) (counts_of s more) h.count h.closed);
+  closed = subst (λ l. Contains l h.count) (sym (flat_map-append (values_of_sender s counts_in) parts more)) (Contains-append_left (counts_of s parts) (counts_of s more) h.count h.closed);
   past = h.past;
 }
 refused_first parts more (refused.Stranger s) h = h
@@ -105,7 +105,7 @@ record PartAfter (senders : ℕ) (parts more : List (ℕ × Stated)) (i : ℕ) (
   pub there : slice_get more place ≡ Some own
   pub is : part_after senders own ≡ part
 
-module _ (senders : ℕ) (parts more : List (ℕ × Stated)) (owned : All (IsOwned senders) parts) where
+module _ (senders : ℕ) (parts more : List (ℕ × Stated)) (parts_by_owner : All (IsOwned senders) parts) where
   asks_after : (s n : ℕ) (part : ℕ × Stated) → Asks s n part → Asks (senders + s) n (part_after senders part)
   asks_after s n part asks = record { of = ap (λ t. senders + t) asks.of; asks = asks.asks }
 
@@ -127,8 +127,8 @@ module _ (senders : ℕ) (parts more : List (ℕ × Stated)) (owned : All (IsOwn
     first_asks = asks_after s n h.first_part h.first_asks;
     second_asks = asks_after s n h.second_part h.second_asks;
   }
-  refused_second (refused.ClosedTwice s) h = subst (λ l. 2 ≤ length l) (sym (of_back counts_in senders s parts more owned)) h
-  refused_second (refused.PastClose s n) h = past_same (senders + s) s n (both senders parts more) more (of_back requests_in senders s parts more owned) (of_back counts_in senders s parts more owned) h
+  refused_second (refused.ClosedTwice s) h = subst (λ l. 2 ≤ length l) (sym (of_back counts_in senders s parts more parts_by_owner)) h
+  refused_second (refused.PastClose s n) h = past_same (senders + s) s n (both senders parts more) more (of_back requests_in senders s parts more parts_by_owner) (of_back counts_in senders s parts more parts_by_owner) h
   refused_second (refused.Stranger s) h = h
   refused_second (refused.ZeroNumber s) h = h
   refused_second refused.Memory h = h
@@ -145,7 +145,7 @@ module _ (senders : ℕ) (parts more : List (ℕ × Stated)) (owned : All (IsOwn
 
   part_second : (s i : ℕ) (part : ℕ × Stated) → part.0 ≡ senders + s → slice_get (both senders parts more) i ≡ Some part → PartAfter senders parts more i part
   part_second s i part of there = elim (at_cases parts (map (part_after senders) more) i part there) [
-    | inl front ↦ let within = all_at (IsOwned senders) parts i part owned front in absurd (omega (arith, within, of))
+    | inl front ↦ let within = all_at (IsOwned senders) parts i part parts_by_owner front in absurd (omega (arith, within, of))
     | inr back ↦
         let made = made_of (part_after senders) more back.place part back.there in
         record { place = back.place; at = back.is; own = made.item; there = made.there; is = made.is }
@@ -191,7 +191,7 @@ module _ (senders : ℕ) (parts more : List (ℕ × Stated)) (owned : All (IsOwn
     | inl before ↦ inl (subst (λ l. 2 ≤ length l) (of_front counts_in senders s parts more before) h)
     | inr after ↦ inr (record {
       own = refused.ClosedTwice after.place;
-      have = subst (λ l. 2 ≤ length l) (of_back counts_in senders after.place parts more owned) (subst (λ t. 2 ≤ length (counts_of t (both senders parts more))) after.is h);
+      have = subst (λ l. 2 ≤ length l) (of_back counts_in senders after.place parts more parts_by_owner) (subst (λ t. 2 ≤ length (counts_of t (both senders parts more))) after.is h);
       is = ap (λ t. refused.ClosedTwice t) after.is;
     })
   ]
@@ -200,7 +200,7 @@ module _ (senders : ℕ) (parts more : List (ℕ × Stated)) (owned : All (IsOwn
     | inr after ↦ inr (record {
       own = refused.PastClose after.place n;
       have =
-          past_same after.place (senders + after.place) n more (both senders parts more) (sym (of_back requests_in senders after.place parts more owned)) (sym (of_back counts_in senders after.place parts more owned))
+          past_same after.place (senders + after.place) n more (both senders parts more) (sym (of_back requests_in senders after.place parts more parts_by_owner)) (sym (of_back counts_in senders after.place parts more parts_by_owner))
           (subst (λ t. IsPast t n (both senders parts more)) after.is h);
       is = ap (λ t. refused.PastClose t n) after.is;
     })
@@ -218,10 +218,10 @@ module _ (senders : ℕ) (parts more : List (ℕ × Stated)) (owned : All (IsOwn
     )
 
     pub lack_second : (what : Unfinished) → Lack others more what → Lack (senders + others) (both senders parts more) (unfinished_after senders what)
-    lack_second (Open s) h = (let within = h.0 in omega (arith, within), of_back counts_in senders s parts more owned ∙ h.1)
+    lack_second (Open s) h = (let within = h.0 in omega (arith, within), of_back counts_in senders s parts more parts_by_owner ∙ h.1)
     lack_second (Gap s n) h = (
       let within = h.0 in omega (arith, within),
-      gap_same (senders + s) s n (both senders parts more) more (of_back requests_in senders s parts more owned) (of_back counts_in senders s parts more owned) h.1,
+      gap_same (senders + s) s n (both senders parts more) more (of_back requests_in senders s parts more parts_by_owner) (of_back counts_in senders s parts more parts_by_owner) h.1,
     )
 
     pub lack_either : (what : Unfinished) → Lack (senders + others) (both senders parts more) what → Lack senders parts what ⊎ LackAfter senders others more what
@@ -231,7 +231,7 @@ module _ (senders : ℕ) (parts more : List (ℕ × Stated)) (owned : All (IsOwn
         own = Open after.place;
         lack = (
           let within = h.0 in let at = after.is in omega (arith, within, at),
-          sym (of_back counts_in senders after.place parts more owned) ∙ sym (ap (λ t. counts_of t (both senders parts more)) after.is) ∙ h.1,
+          sym (of_back counts_in senders after.place parts more parts_by_owner) ∙ sym (ap (λ t. counts_of t (both senders parts more)) after.is) ∙ h.1,
         );
         is = ap (λ t. Open t) after.is;
       })
@@ -242,7 +242,7 @@ module _ (senders : ℕ) (parts more : List (ℕ × Stated)) (owned : All (IsOwn
         own = Gap after.place n;
         lack = (
           let within = h.0 in let at = after.is in omega (arith, within, at),
-          gap_same after.place (senders + after.place) n more (both senders parts more) (sym (of_back requests_in senders after.place parts more owned)) (sym (of_back counts_in senders after.place parts more owned))
+          gap_same after.place (senders + after.place) n more (both senders parts more) (sym (of_back requests_in senders after.place parts more parts_by_owner)) (sym (of_back counts_in senders after.place parts more parts_by_owner))
               (subst (λ t. IsGap t n (both senders parts more)) after.is h.1),
         );
         is = ap (λ t. Gap t n) after.is;

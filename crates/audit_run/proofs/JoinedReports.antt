@@ -36,7 +36,7 @@ answer_before senders answer = record answer { sender = answer.sender - senders 
 abbrev pub row_before : ℕ → SenderReport → SenderReport
 row_before senders row = record row { answers = map (answer_before senders) row.answers }
 
-module _ (names : Names) (first second : List (List ℕ)) (parts more : List (ℕ × Stated)) (owned : All (IsOwned (length first)) parts) where
+module _ (names : Names) (first second : List (List ℕ)) (parts more : List (ℕ × Stated)) (parts_by_owner : All (IsOwned (length first)) parts) where
   row_front : (s : ℕ) (row : SenderReport) → s < length first → IsRow names first parts s row → IsRow names (first ++ second) (both (length first) parts more) s row
   row_front s row before is =
       row_same names first (first ++ second) parts (both (length first) parts more) s row (at_within first second s before)
@@ -50,12 +50,12 @@ module _ (names : Names) (first second : List (List ℕ)) (parts more : List (�
   row_back : (s : ℕ) (row : SenderReport) → IsRow names second more s row → IsRow names (first ++ second) (both (length first) parts more) (length first + s) (row_after (length first) row)
   row_back s row is = record {
     name = at_back first second s ∙ is.name;
-    closed = of_back counts_in (length first) s parts more owned ∙ is.closed ∙ ap (λ n. n ∷ []) (sym (length-map row.answers (answer_after (length first))));
+    closed = of_back counts_in (length first) s parts more parts_by_owner ∙ is.closed ∙ ap (λ n. n ∷ []) (sym (length-map row.answers (answer_after (length first))));
     answers = λ i answer there.
         let made = made_of (answer_after (length first)) row.answers i answer there in
         let (request, has, number, answers) = is.answers i made.item made.there in (
           request,
-          subst (λ l. Contains l request) (sym (of_back requests_in (length first) s parts more owned)) has,
+          subst (λ l. Contains l request) (sym (of_back requests_in (length first) s parts more parts_by_owner)) has,
           number,
           sym made.is ∙ ap (answer_after (length first)) answers,
         );
@@ -64,13 +64,13 @@ module _ (names : Names) (first second : List (List ℕ)) (parts more : List (�
   row_of_back : (s : ℕ) (row : SenderReport) → IsRow names (first ++ second) (both (length first) parts more) (length first + s) row → IsRow names second more s (row_before (length first) row)
   row_of_back s row is = record {
     name = sym (at_back first second s) ∙ is.name;
-    closed = sym (of_back counts_in (length first) s parts more owned) ∙ is.closed ∙ ap (λ n. n ∷ []) (sym (length-map row.answers (answer_before (length first))));
+    closed = sym (of_back counts_in (length first) s parts more parts_by_owner) ∙ is.closed ∙ ap (λ n. n ∷ []) (sym (length-map row.answers (answer_before (length first))));
     answers = λ i answer there.
         let made = made_of (answer_before (length first)) row.answers i answer there in
         let (request, has, number, answers) = is.answers i made.item made.there in
         let place : (length first + s) - length first ≡ s = omega arith in (
           request,
-          subst (λ l. Contains l request) (of_back requests_in (length first) s parts more owned) has,
+          subst (λ l. Contains l request) (of_back requests_in (length first) s parts more parts_by_owner) has,
           number,
           sym made.is ∙ ap (answer_before (length first)) answers ∙ ap (λ t. answer_to names t request) place,
         );

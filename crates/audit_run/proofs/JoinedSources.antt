@@ -5,7 +5,7 @@ use Rattle.std.proofs.lemmas.Option.{same_Some, slice_get_within}
 use Rattle.std.proofs.lemmas.Slice.Eq.{bytes_eq-Decides}
 use Rattle.audit_collect.proofs.Members.{Among, count_by-append, count_by-cons}
 use Rattle.audit_files.specs.declared.fault.FileFault.{FileFault}
-use Rattle.audit_run.specs.Audited.{IsRefusedSource, NoneRefused}
+use Rattle.audit_run.specs.IsAuditResult.{IsRefusedSource, NoneRefused}
 use Rattle.audit_run.specs.Roster.{part_at}
 use Rattle.audit_run.proofs.Apart.{Parted}
 use Rattle.audit_run.proofs.Beside.{at_back, at_front, at_within, before_or_after}

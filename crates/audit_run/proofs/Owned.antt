@@ -11,7 +11,7 @@ use Rattle.audit_files.specs.declared.fault.FileFault.{FileFault}
 use Rattle.audit_files.specs.declared.requests.Requests.{Requests}
 use Rattle.audit_files.proofs.Rising.{sent_rises}
 use Rattle.audit_run.specs.Asked.{requests_in}
-use Rattle.audit_run.specs.Parts.{AreRead, Stated, owned}
+use Rattle.audit_run.specs.Parts.{AreRead, Stated, parts_by_owner}
 use Rattle.audit_run.specs.Roster.{owners, place_of, roster, without}
 use Rattle.audit_run.proofs.Refusing.{IsOwned}
 use Rattle.audit_run.proofs.Twice.{Rises}
@@ -21,20 +21,20 @@ read_rises : (bytes : Result (List ℕ) FileFault) (requests : Requests) → sta
 read_rises (Ok text) requests e = sent_rises text requests e
 read_rises (Err fault) requests e = absurd (cc)
 
-state_rises : (told : Option Ahead) (state : Stated) → States sent told state → AreRising (requests_in state)
-state_rises told (Ok requests) states = read_rises (bytes_read states.ahead) requests states.states
-state_rises told (Err fault) states = tt
+state_rises : (readable_bytes : Option Ahead) (state : Stated) → States sent readable_bytes state → AreRising (requests_in state)
+state_rises readable_bytes (Ok requests) states = read_rises (bytes_read states.ahead) requests states.states
+state_rises readable_bytes (Err fault) states = tt
 
-rise_zip : (os : List ℕ) (told : List (Option Ahead)) (states : List Stated) → AreRead told states → All Rises (zip os states)
-rise_zip [] told states read = All-nil Rises
+rise_zip : (os : List ℕ) (readable_bytes : List (Option Ahead)) (states : List Stated) → AreRead readable_bytes states → All Rises (zip os states)
+rise_zip [] readable_bytes states read = All-nil Rises
 rise_zip (o ∷ os) [] [] read = All-nil Rises
 rise_zip (o ∷ os) [] (s ∷ states) read = absurd read
-rise_zip (o ∷ os) (t ∷ told) [] read = absurd read
-rise_zip (o ∷ os) (t ∷ told) (s ∷ states) read = All-cons Rises (o, s) (zip os states) (state_rises t s read.0) (rise_zip os told states read.1)
+rise_zip (o ∷ os) (t ∷ readable_bytes) [] read = absurd read
+rise_zip (o ∷ os) (t ∷ readable_bytes) (s ∷ states) read = All-cons Rises (o, s) (zip os states) (state_rises t s read.0) (rise_zip os readable_bytes states read.1)
 
 -- the numbers of each source rise
-pub all_rise : (sources : List (List ℕ)) (told : List (Option Ahead)) (states : List Stated) → AreRead told states → All Rises (owned sources states)
-all_rise sources told states read = rise_zip (owners sources) told states read
+pub all_rise : (sources : List (List ℕ)) (readable_bytes : List (Option Ahead)) (states : List Stated) → AreRead readable_bytes states → All Rises (parts_by_owner sources states)
+all_rise sources readable_bytes states read = rise_zip (owners sources) readable_bytes states read
 
 -- a name that stands is found before the end
 place_within : (name : List ℕ) (names : List (List ℕ)) → Among name names → place_of name names < length names
@@ -75,5 +75,5 @@ own_zip senders all (n ∷ names) (s ∷ states) within =
     All-cons (IsOwned senders) (place_of n all, s) (zip (map (λ name. place_of name all) names) states) (within n (inl refl)) (own_zip senders all names states (λ name m. within name (inr m)))
 
 -- each source's owner is in the roster
-pub all_owned : (sources : List (List ℕ)) (states : List Stated) → All (IsOwned (length (roster sources))) (owned sources states)
+pub all_owned : (sources : List (List ℕ)) (states : List Stated) → All (IsOwned (length (roster sources))) (parts_by_owner sources states)
 all_owned sources states = own_zip (length (roster sources)) (roster sources) sources states (λ name m. place_within name (roster sources) (among_roster name sources m))

@@ -7,7 +7,7 @@ use Rattle.audit_collect.specs.declared.arrival.Arrival.TheVariants.{Reply, Clos
 use Rattle.audit_collect.specs.declared.fault.Refused.{Refused}
 use Rattle.audit_collect.specs.declared.fault.Refused.TheVariants as refused
 use Rattle.audit_collect.specs.Faults.{HasFault, is_of, is_reply, is_close, is_close_below}
-use Rattle.audit_collect.specs.Held.{after, start}
+use Rattle.audit_collect.specs.SenderState.{after, start}
 use Rattle.audit_collect.proofs.FaultLaw.{refusal_names_fault}
 use Rattle.audit_collect.proofs.HeldLaw.{tested}
 use Rattle.audit_collect.proofs.Members.{Among, Among-append, Contains-Among, found_counted}
@@ -56,7 +56,7 @@ pub counted : (names : Names) (workers : ℕ) (parts : List (ℕ × Stated)) (ou
 counted names workers parts outcomes all p = count_same p (map (answer names) (run_jobs workers parts)) outcomes all ∙ ap (count_by p) (jobs_arrivals names workers parts)
 
 module _ (names : Names) (roster : List (List ℕ)) (workers : ℕ) (parts : List (ℕ × Stated)) (outcomes : List Outcome)
-    (rise : All Rises parts) (owned : All (IsOwned (length roster)) parts) (all : IsPermutation (map (answer names) (run_jobs workers parts)) outcomes) where
+    (rise : All Rises parts) (parts_by_owner : All (IsOwned (length roster)) parts) (all : IsPermutation (map (answer names) (run_jobs workers parts)) outcomes) where
   replies : (s n : ℕ) → count_by (is_reply s n) (arrivals_of outcomes) ≡ times_asked s n parts
   replies s n = counted names workers parts outcomes all (is_reply s n) ∙ replies_counted names s n parts
 
@@ -65,7 +65,7 @@ module _ (names : Names) (roster : List (List ℕ)) (workers : ℕ) (parts : Lis
       let found = found_counted (is_of s) (flat_map (part_arrivals names) parts) (subst (λ k. 1 ≤ k) (counted names workers parts outcomes all (is_of s)) h) in
       let from = among_flat (part_arrivals names) parts found.item found.member in
       let owner = owner_of names s found.item from.item from.of found.passes in
-      let within = among_all (IsOwned (length roster)) parts from.item owned from.there in
+      let within = among_all (IsOwned (length roster)) parts from.item parts_by_owner from.there in
       omega (arith, owner, within, past)
 
   by_fault : (why : Refused) → HasFault (length roster) (arrivals_of outcomes) why → HaveRefused parts why

@@ -10,7 +10,7 @@ use Rattle.audit_collect.specs.declared.report.Report.{Report}
 use Rattle.audit_collect.specs.declared.report.SenderReport.{SenderReport}
 use Rattle.audit_collect.specs.Complete.{IsReportOf, arrivals_from, report_rows}
 use Rattle.audit_collect.specs.Finished.{AllFinished, report_of}
-use Rattle.audit_collect.specs.Held.{Held, after, start}
+use Rattle.audit_collect.specs.SenderState.{SenderState, after, start}
 use Rattle.audit_collect.proofs.CompleteLaw.{finished_report}
 use Rattle.audit_collect.proofs.HeldLaw.{self_tested}
 use Rattle.audit_collect.proofs.Members.{Among, Among-append, Among-left, Among-right, Among-permutation, Contains-Among}
@@ -19,7 +19,7 @@ use Rattle.audit_run.specs.declared.message.Outcome.{Outcome}
 use Rattle.audit_run.specs.Names.{answer, answer_to}
 use Rattle.sudo_match.specs.declared.request.Request.{Request}
 use Rattle.audit_run.specs.Arrivals.{arrivals_of}
-use Rattle.audit_run.specs.Asked.{asked_of, count_listed, counts_in, counts_of, if_of, requests_in}
+use Rattle.audit_run.specs.Asked.{asked_of, count_listed, counts_in, counts_of, values_of_sender, requests_in}
 use Rattle.audit_run.specs.Outcome.{AreWhole, IsReport, IsRow}
 use Rattle.audit_run.specs.Parts.{Stated, run_jobs}
 use Rattle.audit_run.proofs.Counted.{AmongOf, among_flat, among_same, flat_among, jobs_arrivals, part_arrivals}
@@ -96,7 +96,7 @@ close_listed t s c [] m = absurd m
 close_listed t s c (n ∷ counts) (inl e) = (let owner : t ≡ s = cc in owner, inl (let count : n ≡ c = cc in count))
 close_listed t s c (n ∷ counts) (inr m) = let found = close_listed t s c counts m in (found.0, inr found.1)
 
-own : {X : Type 0} (s : ℕ) (f : Stated → List X) (part : ℕ × Stated) (x : X) → part.0 ≡ s → Among x (f part.1) → Among x (if_of s f part)
+own : {X : Type 0} (s : ℕ) (f : Stated → List X) (part : ℕ × Stated) (x : X) → part.0 ≡ s → Among x (f part.1) → Among x (values_of_sender s f part)
 own s f part x e m = subst (λ b. Among x (cond b (f part.1) [])) (sym (ap (λ t. t == s) e ∙ self_tested s)) m
 
 -- a reply that is of a source answers one of its requests
@@ -115,7 +115,7 @@ part_closed names (t, Ok requests) s c m = elim (Among-append (Close s c) (map (
 ]
 
 module _ (names : Names) (roster : List (List ℕ)) (workers : ℕ) (parts : List (ℕ × Stated)) (outcomes : List Outcome)
-    (all : IsPermutation (map (answer names) (run_jobs workers parts)) outcomes) (held : List Held) (ran : after (start roster) (arrivals_of outcomes) ≡ Ok held) where
+    (all : IsPermutation (map (answer names) (run_jobs workers parts)) outcomes) (held : List SenderState) (ran : after (start roster) (arrivals_of outcomes) ≡ Ok held) where
   -- an arrival of the run is one of a source
   arrived : (x : Arrival) → Among x (arrivals_of outcomes) → AmongOf (part_arrivals names) parts x
   arrived x m =
@@ -127,7 +127,7 @@ module _ (names : Names) (roster : List (List ℕ)) (workers : ℕ) (parts : Lis
   closed s c m =
       let found = arrived (Close s c) m in
       let close = part_closed names found.item s c found.of in
-      flat_among (if_of s counts_in) parts found.item c found.there (own s counts_in found.item c close.0 close.1)
+      flat_among (values_of_sender s counts_in) parts found.item c found.there (own s counts_in found.item c close.0 close.1)
 
   row_answer : (s i : ℕ) (a : Answer) → a.sender ≡ s → a.request.number ≡ i + 1 → Among (Reply a) (arrivals_of outcomes)
       → (request : Request) × Contains (asked_of s parts) request × (request.number ≡ i + 1) × (a ≡ answer_to names s request)
@@ -135,7 +135,7 @@ module _ (names : Names) (roster : List (List ℕ)) (workers : ℕ) (parts : Lis
       let found = arrived (Reply a) m in
       let reply = part_replied names found.item a found.of in
       let owner : found.item.0 ≡ s = sym (ap (λ (b : Answer). b.sender) reply.is) ∙ sender in
-      let listed = flat_among (if_of s requests_in) parts found.item reply.request found.there (own s requests_in found.item reply.request owner reply.listed) in (
+      let listed = flat_among (values_of_sender s requests_in) parts found.item reply.request found.there (own s requests_in found.item reply.request owner reply.listed) in (
         reply.request,
         Contains-Among reply.request (asked_of s parts) listed,
         sym (ap (λ (b : Answer). b.request.number) reply.is) ∙ number,

@@ -3,7 +3,7 @@ use Rattle.std.proofs.Common.{◌≡◌, ℕ, zero, suc, List, [], ◌∷◌, �
 use Rattle.std.proofs.lemmas.List.{map-append}
 use Rattle.audit_collect.specs.declared.fault.CollectFault.TheVariants as collect
 use Rattle.audit_collect.specs.declared.report.Report.{Report}
-use Rattle.audit_files.specs.Faults.{IsOfFile}
+use Rattle.audit_files.specs.Faults.{IsNotOutOfMemory}
 use Rattle.audit_files.specs.Feeding.{Ahead}
 use Rattle.audit_files.specs.Files.{IsRead, read_as}
 use Rattle.audit_files.specs.Requests.{sent}
@@ -11,8 +11,8 @@ use Rattle.audit_files.specs.declared.fault.FileFault.{FileFault}
 use Rattle.audit_run.specs.declared.fault.AuditFault.{AuditFault}
 use Rattle.audit_run.specs.declared.fault.AuditFault.TheVariants.{Sender, Collect, NoThread, Memory, TooManyParts}
 use Rattle.audit_run.specs.declared.message.Names.{Names}
-use Rattle.audit_run.specs.Audited.{IsOutcome, NoneRefused, Ran}
-use Rattle.audit_run.specs.Parts.{AreRead, Stated, faults_of, owned}
+use Rattle.audit_run.specs.IsAuditResult.{IsOutcome, NoneRefused, IsRunOutcome}
+use Rattle.audit_run.specs.Parts.{AreRead, Stated, faults_of, parts_by_owner}
 use Rattle.audit_run.specs.Passes.{PassView}
 use Rattle.audit_run.specs.Roster.{roster}
 use Rattle.audit_run.specs.Shards.{AreApart, AreShards, IsJoined, IsNoneOfSources, MayReturn, joined_report, names_of_sources, told_of}
@@ -40,7 +40,7 @@ same_states (source ∷ sources) (Ok x ∷ states) (Ok y ∷ more) read also non
 
 -- what states something is not refused
 not_refused : (sources : List (List ℕ × Ahead)) (states more : List Stated) → AreRead (told_of sources) states → AreRead (told_of sources) more → NoneRefused (faults_of more)
-    → (place : ℕ) (fault : FileFault) → IsOfFile fault → slice_get (faults_of states) place ≡ Some (Some fault) → ⊥
+    → (place : ℕ) (fault : FileFault) → IsNotOutOfMemory fault → slice_get (faults_of states) place ≡ Some (Some fault) → ⊥
 not_refused [] [] more read also none place fault of there = cc
 not_refused [] (s ∷ states) more read also none place fault of there = read
 not_refused (source ∷ sources) [] more read also none place fault of there = read
@@ -49,7 +49,7 @@ not_refused (source ∷ sources) (s ∷ states) (Err other ∷ more) read also n
 not_refused (source ∷ sources) (Ok x ∷ states) (Ok y ∷ more) read also none zero fault of there = cc
 not_refused (source ∷ sources) (Err why ∷ states) (Ok y ∷ more) read also none zero fault of there =
     let same : why ≡ fault = cc in
-    let clash : Err why ≡ Ok y = same_state source.1 (Err why) (Ok y) (read.0 (subst IsOfFile (sym same) of)) also.0 in
+    let clash : Err why ≡ Ok y = same_state source.1 (Err why) (Ok y) (read.0 (subst IsNotOutOfMemory (sym same) of)) also.0 in
     cc
 not_refused (source ∷ sources) (s ∷ states) (Ok y ∷ more) read also none (suc place) fault of there =
     not_refused sources states more read.1 also.1 (λ p f at. none (suc p) f at) place fault of there
@@ -88,12 +88,12 @@ module _ (names : Names) (sources : List (List ℕ × Ahead)) (states : List Sta
 
   one_returned : (whole : Report) → MayReturn names sources (Ok whole) → whole ≡ report
   one_returned whole returned =
-      let run : Ran names (names_of_sources sources) (told_of sources) returned.workers returned.old returned.new (Ok whole) = returned.audited in
+      let run : IsRunOutcome names (names_of_sources sources) (told_of sources) returned.workers returned.old returned.new (Ok whole) = returned.audited in
       let own = run.outcome in
       let made = outcome_of run.states run.read own.0 in
-      one_report names (roster (names_of_sources sources)) (owned (names_of_sources sources) run.states) own.1 whole report own.2 made.2
+      one_report names (roster (names_of_sources sources)) (parts_by_owner (names_of_sources sources) run.states) own.1 whole report own.2 made.2
 
-  no_fault_ran : (fault : AuditFault) (workers : ℕ) (old new : PassView) → Ran names (names_of_sources sources) (told_of sources) workers old new (Err fault) → IsNoneOfSources fault
+  no_fault_ran : (fault : AuditFault) (workers : ℕ) (old new : PassView) → IsRunOutcome names (names_of_sources sources) (told_of sources) workers old new (Err fault) → IsNoneOfSources fault
   no_fault_ran (Sender name part why) workers old new run =
       let (place, is_first, of_file, named, part_is) = run.outcome in
       not_refused sources run.states states run.read read outcome.0 place why of_file is_first.there
@@ -101,11 +101,11 @@ module _ (names : Names) (sources : List (List ℕ × Ahead)) (states : List Sta
   no_fault_ran (Collect (collect.Refused why)) workers old new run =
       let own = run.outcome in
       let made = outcome_of run.states run.read own.0 in
-      whole_not_refused (length (roster (names_of_sources sources))) (owned (names_of_sources sources) run.states) why (all_owned (names_of_sources sources) run.states) made.1 own.1
+      whole_not_refused (length (roster (names_of_sources sources))) (parts_by_owner (names_of_sources sources) run.states) why (all_owned (names_of_sources sources) run.states) made.1 own.1
   no_fault_ran (Collect (collect.Unfinished what)) workers old new run =
       let own = run.outcome in
       let made = outcome_of run.states run.read own.0 in
-      whole_not_lacking (length (roster (names_of_sources sources))) (owned (names_of_sources sources) run.states) what made.1 own.1
+      whole_not_lacking (length (roster (names_of_sources sources))) (parts_by_owner (names_of_sources sources) run.states) what made.1 own.1
   no_fault_ran NoThread workers old new run = tt
   no_fault_ran Memory workers old new run = tt
   no_fault_ran TooManyParts workers old new run = tt
@@ -128,10 +128,10 @@ module _ (names : Names) (first second : List (List ℕ × Ahead)) (apart : AreA
 
   -- two audits that return reports: what both lists state has the joined report
   module _ (report other : Report) (is : MayReturn names first (Ok report)) (also : MayReturn names second (Ok other)) where
-    ran : Ran names (names_of_sources first) (told_of first) is.workers is.old is.new (Ok report)
+    ran : IsRunOutcome names (names_of_sources first) (told_of first) is.workers is.old is.new (Ok report)
     ran = is.audited
 
-    ran_also : Ran names (names_of_sources second) (told_of second) also.workers also.old also.new (Ok other)
+    ran_also : IsRunOutcome names (names_of_sources second) (told_of second) also.workers also.old also.new (Ok other)
     ran_also = also.audited
 
     read : AreRead (told_of (first ++ second)) (ran.states ++ ran_also.states)
@@ -150,7 +150,7 @@ module _ (names : Names) (first second : List (List ℕ × Ahead)) (apart : AreA
 
   -- an audit of both that returns a report: what each list states has one
   module _ (whole : Report) (is : MayReturn names (first ++ second) (Ok whole)) where
-    ran_both : Ran names (names_of_sources (first ++ second)) (told_of (first ++ second)) is.workers is.old is.new (Ok whole)
+    ran_both : IsRunOutcome names (names_of_sources (first ++ second)) (told_of (first ++ second)) is.workers is.old is.new (Ok whole)
     ran_both = is.audited
 
     in_two : ReadInTwo first second ran_both.states

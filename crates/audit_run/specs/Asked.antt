@@ -18,16 +18,16 @@ counts_in (Ok requests) = count_listed requests.close
 counts_in (Err fault) = []
 
 -- the values of a source of this sender; none of another's
-abbrev pub if_of : {X : Type 0} → ℕ → (Stated → List X) → ℕ × Stated → List X
-if_of sender f part = if part.0 == sender then f part.1 else []
+abbrev pub values_of_sender : {X : Type 0} → ℕ → (Stated → List X) → ℕ × Stated → List X
+values_of_sender sender f part = if part.0 == sender then f part.1 else []
 
 -- the requests of a sender, source by source
 abbrev pub asked_of : ℕ → List (ℕ × Stated) → List Request
-asked_of sender parts = flat_map (if_of sender requests_in) parts
+asked_of sender parts = flat_map (values_of_sender sender requests_in) parts
 
 -- the counts of a sender's close marks
 abbrev pub counts_of : ℕ → List (ℕ × Stated) → List ℕ
-counts_of sender parts = flat_map (if_of sender counts_in) parts
+counts_of sender parts = flat_map (values_of_sender sender counts_in) parts
 
 abbrev pub has_number : ℕ → Request → Bool
 has_number number request = request.number == number

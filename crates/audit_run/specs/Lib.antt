@@ -5,6 +5,6 @@ pub mod Parts
 pub mod Arrivals
 pub mod Asked
 pub mod Outcome
-pub mod Audited
+pub mod IsAuditResult
 pub mod Shards
 pub mod Body

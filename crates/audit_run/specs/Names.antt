@@ -4,7 +4,7 @@ use Rattle.std.specs.Prelude.{◌≡◌, ℕ, ⊤, [], Option, Some, None, refl}
 use Rattle.audit_collect.specs.declared.arrival.Answer.{Answer}
 use Rattle.audit_collect.specs.declared.arrival.Arrival.{Arrival}
 use Rattle.audit_collect.specs.declared.arrival.Arrival.TheVariants.{Reply, Close}
-use Rattle.sudo_match.specs.Known.{Known}
+use Rattle.sudo_match.specs.KnownRows.{KnownRows}
 use Rattle.sudo_match.specs.declared.request.Request.{Request}
 use Rattle.sudo_grammar.specs.declared.policy.Policy.{Policy}
 use Rattle.sudo_verdict.specs.Verdicts.{verdict_of}
@@ -14,7 +14,7 @@ use Rattle.audit_run.specs.declared.message.Job.TheVariants as job
 use Rattle.audit_run.specs.declared.message.Outcome.{Outcome}
 use Rattle.audit_run.specs.declared.message.Outcome.TheVariants as outcome
 
-abbrev pub names_of : Policy → Known → Names
+abbrev pub names_of : Policy → KnownRows → Names
 names_of policy directory = record { policy = policy; directory = directory }
 
 -- the reply to a request of this sender

@@ -17,11 +17,11 @@ Stated = Result Requests FileFault
 -- the content of sources, from the bytes ahead of their readers; if a reader specifies none, the
 -- content of some bytes
 abbrev pub AreRead : List (Option Ahead) → List Stated → Type 0
-AreRead told states = AllZip (States sent) told states
+AreRead readable_bytes states = AllZip (States sent) readable_bytes states
 
 -- each source by its owner, the index of its sender in the roster, and by its content
-abbrev pub owned : List (List ℕ) → List Stated → List (ℕ × Stated)
-owned names states = zip (owners names) states
+abbrev pub parts_by_owner : List (List ℕ) → List Stated → List (ℕ × Stated)
+parts_by_owner names states = zip (owners names) states
 
 abbrev pub close_jobs : ℕ → Option ℕ → List Job
 close_jobs sender None = []
@@ -32,12 +32,12 @@ abbrev pub jobs_of : ℕ → Requests → List Job
 jobs_of sender requests = map (λ r. Ask sender r) requests.list ++ (close_jobs sender requests.close ++ End sender ∷ [])
 
 -- the jobs of a source, or its end alone if it is refused
-abbrev pub put_of : ℕ → Stated → List Job
-put_of sender (Ok requests) = jobs_of sender requests
-put_of sender (Err fault) = End sender ∷ []
+abbrev pub jobs_or_end : ℕ → Stated → List Job
+jobs_or_end sender (Ok requests) = jobs_of sender requests
+jobs_or_end sender (Err fault) = End sender ∷ []
 
 abbrev pub put_by_sources : List (ℕ × Stated) → List Job
-put_by_sources parts = flat_map (λ part. put_of part.0 part.1) parts
+put_by_sources parts = flat_map (λ part. jobs_or_end part.0 part.1) parts
 
 -- all jobs of a run: one `Stop` for each worker, and the jobs of the sources
 abbrev pub run_jobs : ℕ → List (ℕ × Stated) → List Job

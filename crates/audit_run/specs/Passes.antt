@@ -2,7 +2,7 @@
 -- messages with one pass.
 use Rattle.std.specs.Prelude.{◌≡◌, ℕ, ◌+◌, ◌-◌, ◌≤◌, List, [], ◌∷◌, ◌++◌, length, IsPermutation}
 use Rattle.atomic_table.specs.Seated.{TableId}
-use Rattle.sudo_match.specs.Known.{Known}
+use Rattle.sudo_match.specs.KnownRows.{KnownRows}
 use Rattle.sudo_grammar.specs.declared.policy.Policy.{Policy}
 use Rattle.audit_run.specs.declared.message.Names.{Names}
 use Rattle.audit_run.specs.declared.message.Job.{Job}
@@ -24,7 +24,7 @@ pub record PassView : Type 0 where
   pub outcomes_put : List Outcome
   pub outcomes_taken : List Outcome
 
-abbrev pub new_pass : HandoffId → Policy → Known → PassView
+abbrev pub new_pass : HandoffId → Policy → KnownRows → PassView
 new_pass handoff policy directory = record { handoff = handoff; names = names_of policy directory; weight = 1024; jobs_put = []; jobs_taken = []; outcomes_put = []; outcomes_taken = [] }
 
 abbrev pub with_job_put : PassView → Job → PassView

@@ -14,7 +14,7 @@ use Rattle.audit_files.specs.Feeding.{Ahead}
 use Rattle.audit_run.specs.declared.fault.AuditFault.{AuditFault}
 use Rattle.audit_run.specs.declared.fault.AuditFault.TheVariants.{Sender, Collect, NoThread, Memory, TooManyParts}
 use Rattle.audit_run.specs.declared.message.Names.{Names}
-use Rattle.audit_run.specs.Audited.{Audited, IsOutcome}
+use Rattle.audit_run.specs.IsAuditResult.{IsAuditResult, IsOutcome}
 use Rattle.audit_run.specs.Parts.{Stated}
 use Rattle.audit_run.specs.Passes.{PassView}
 use Rattle.audit_run.specs.Roster.{roster}
@@ -92,7 +92,7 @@ pub record MayReturn (names : Names) (sources : List (List ℕ × Ahead)) (resul
   pub workers : ℕ
   pub old : PassView
   pub new : PassView
-  pub audited : Audited names (names_of_sources sources) (told_of sources) workers old new result
+  pub audited : IsAuditResult names (names_of_sources sources) (told_of sources) workers old new result
 
 -- The fault is none of the sources: memory or a thread was refused, or there are too many sources or senders.
 abbrev pub IsNoneOfSources : AuditFault → Type 0

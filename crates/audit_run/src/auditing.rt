@@ -4,12 +4,12 @@ ghost use Rattle.std.specs.List.{zip};
 ghost use Rattle.audit_files.specs.declared.fault.FileFault.TheVariants.{Memory};
 ghost use Rattle.audit_run.specs.Names.{names_of};
 ghost use Rattle.audit_run.specs.Passes.{IsEmpty, IsWhole};
-ghost use Rattle.audit_run.specs.Audited.{Audited, IsFirstFault, NoneRefused, most_parts};
+ghost use Rattle.audit_run.specs.IsAuditResult.{IsAuditResult, IsFirstFault, NoneRefused, most_parts};
 ghost use Rattle.audit_run.specs.Body.Concluded.{Answers};
-ghost use Rattle.audit_run.specs.Body.Gathered.{comes_of};
+ghost use Rattle.audit_run.specs.Body.Gathered.{state_after};
 ghost use Rattle.audit_run.specs.Roster.{part_at};
 ghost use Rattle.audit_run.specs.Body.Run.{HasRun, IsReady};
-ghost use Rattle.audit_run.specs.Body.Work.{told_by};
+ghost use Rattle.audit_run.specs.Body.Work.{part_ahead};
 ghost use Rattle.audit_run.specs.declared.fault.AuditFault.TheVariants.{TooManyParts};
 ghost use Rattle.sudo_verdict.specs.Postings.{Indexes};
 
@@ -17,9 +17,9 @@ use crate::caller::{drain, gather_all};
 use crate::fault::AuditFault;
 use crate::gate::Gate;
 use crate::gather::Gathering;
-use crate::prepared::{Ended, Prepared, prepare};
+use crate::prepared::{EndedRun, PreparedRun, prepare};
 use crate::readers::{ReaderHandle, join_readers, start_readers};
-use crate::roster::{Registered, register};
+use crate::roster::{RegisteredSources, register};
 use crate::shared::Shared;
 use crate::source::{Part, Source};
 use crate::workers::{join_workers, start_workers};
@@ -45,20 +45,20 @@ fn run<'s, 'e: 's, R: Threads + Wait + Sync, F: Feed + Drop + Send + 'e, G: Gate
     scope: &Scope<'s, &'e ()>,
     shared: Shared<'e>,
     gate: &'e G,
-    prepared: Prepared,
+    prepared: PreparedRun,
     parts: Vec<Part<F>>,
     mut readers: Vec<ReaderHandle<F>>,
-) -> Ended
+) -> EndedRun
     requires ready { IsReady shared.handoff.now shared.policy.now shared.directory.now
         (vec_len parts) prepared }
     requires index { Indexes shared.policy.now shared.index.now }
     requires room { (vec_len readers ≡ 0) × (vec_len parts ≤ vec_capacity readers) }
     ensures { IsTrue result.all_started → HasRun
         (names_of shared.entry.policy.now shared.entry.directory.now)
-        (map (λ p. told_by p.owner (F.ahead p.reader)) parts.items)
+        (map (λ p. part_ahead p.owner (F.ahead p.reader)) parts.items)
         (vec_len parts) prepared result }
 {
-    let Prepared {
+    let PreparedRun {
         mut pass,
         mut gathering,
         source_passes,
@@ -88,7 +88,7 @@ fn run<'s, 'e: 's, R: Threads + Wait + Sync, F: Feed + Drop + Send + 'e, G: Gate
     );
     join_readers(rt, handoff, &mut pass, readers, &mut faults);
     join_workers(rt, shared, &mut pass, workers);
-    Ended {
+    EndedRun {
         pass,
         gathering,
         faults,
@@ -101,37 +101,37 @@ fn run_scoped<R: Threads + Wait + Sync, F: Feed + Drop + Send, G: Gate + Sync>(
     rt: &R,
     shared: Shared<'_>,
     gate: &G,
-    prepared: Prepared,
+    prepared: PreparedRun,
     parts: Vec<Part<F>>,
     readers: Vec<ReaderHandle<F>>,
-) -> Ended
+) -> EndedRun
     requires ready { IsReady shared.handoff.now shared.policy.now shared.directory.now
         (vec_len parts) prepared }
     requires index { Indexes shared.policy.now shared.index.now }
     requires room { (vec_len readers ≡ 0) × (vec_len parts ≤ vec_capacity readers) }
     ensures { IsTrue result.all_started → HasRun
         (names_of shared.entry.policy.now shared.entry.directory.now)
-        (map (λ p. told_by p.owner (F.ahead p.reader)) parts.items)
+        (map (λ p. part_ahead p.owner (F.ahead p.reader)) parts.items)
         (vec_len parts) prepared result }
 {
     thread::scope(
         thread::scope_env(),
         rt,
-        move |scope| -> Ended
+        move |scope| -> EndedRun
             requires ready { IsReady shared.handoff.now shared.policy.now shared.directory.now
                 (vec_len parts) prepared }
             requires index { Indexes shared.policy.now shared.index.now }
             requires room { (vec_len readers ≡ 0) × (vec_len parts ≤ vec_capacity readers) }
             ensures { IsTrue result.all_started
                 → HasRun (names_of shared.entry.policy.now shared.entry.directory.now)
-                (map (λ p. told_by p.owner (F.ahead p.reader)) parts.items)
+                (map (λ p. part_ahead p.owner (F.ahead p.reader)) parts.items)
                 (vec_len parts) prepared result }
         { run(rt, scope, shared, gate, prepared, parts, readers) },
     )
 }
 
 // Whether allocation failed for a source.
-fn wants_memory(faults: &[Option<FileFault>]) -> bool
+fn has_memory_fault(faults: &[Option<FileFault>]) -> bool
     ensures { (place : ℕ) → slice_get faults.now place ≡ Some (Some Memory) → IsTrue result }
 {
     for place in 0..faults.len() {
@@ -176,11 +176,11 @@ fn conclude(
     gathering: Gathering,
 ) -> Result<Report, AuditFault>
     requires { (length faults.now ≡ vec_len names) × (vec_len names ≤ 256) }
-    ensures { Answers names.items faults.now (comes_of gathering.collector gathering.refused [])
+    ensures { Answers names.items faults.now (state_after gathering.collector gathering.refused [])
         result }
 {
     let mut names = names;
-    if wants_memory(faults) || matches!(gathering.refused, Some(Refused::Memory)) {
+    if has_memory_fault(faults) || matches!(gathering.refused, Some(Refused::Memory)) {
         return Err(AuditFault::Memory);
     }
     if let Some((place, fault)) = first_fault(faults) {
@@ -231,13 +231,13 @@ pub fn audit<R: Threads + Wait + Sync, F: Feed + Drop + Send, G: Gate + Sync>(
         × (pass.old.names ≡ names_of policy.now directory.now) }
     requires workers { (1 ≤ workers) × (workers ≤ 16) }
     ensures parts { (result ≡ Err TooManyParts) ↔ (most_parts < vec_len sources) }
-    ensures outcome { Audited (names_of policy.now directory.now) (map (λ s. s.name) sources.items)
+    ensures outcome { IsAuditResult (names_of policy.now directory.now) (map (λ s. s.name) sources.items)
         (map (λ s. F.ahead s.reader) sources.items) workers pass.old pass.new result }
 {
     if sources.len() > MOST_PARTS {
         return Err(AuditFault::TooManyParts);
     }
-    let Registered {
+    let RegisteredSources {
         names,
         parts,
         collector,
@@ -255,7 +255,7 @@ pub fn audit<R: Threads + Wait + Sync, F: Feed + Drop + Send, G: Gate + Sync>(
         handoff,
     };
     let prepared = prepare(rt, shared, pass, collector, parts.len(), workers as usize)?;
-    let Ended {
+    let EndedRun {
         pass: mine,
         mut gathering,
         faults,

@@ -7,7 +7,7 @@ ghost use Rattle.audit_run.specs.declared.message.Outcome.{Outcome};
 
 use crate::message::{Job, Names, Outcome};
 use crate::rule;
-use crate::rule::{Line, Naming, Seat};
+use crate::rule::{RuledQueue, Naming, QueuePass};
 use std::alloc::{AllocError, Global};
 use std::marker::{Brand, Model};
 use std::sync::Wait;
@@ -21,8 +21,8 @@ use sudo_policy::Checked;
 /// again. No call but `new` allocates.
 #[derive(Drop)]
 pub struct Handoff {
-    jobs: Line<Job, Names>,
-    outcomes: Line<Outcome, Names>,
+    jobs: RuledQueue<Job, Names>,
+    outcomes: RuledQueue<Outcome, Names>,
 }
 
 impl Model for Handoff {
@@ -42,8 +42,8 @@ impl Model for Handoff {
 /// pass of weight 1,024 is whole: it is the only one of its handoff.
 #[derive(Drop)]
 pub struct Pass {
-    jobs: Seat<Job, Names>,
-    outcomes: Seat<Outcome, Names>,
+    jobs: QueuePass<Job, Names>,
+    outcomes: QueuePass<Outcome, Names>,
 }
 
 impl Model for Pass {

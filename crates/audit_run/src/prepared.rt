@@ -2,7 +2,7 @@
 ghost use Rattle.std.specs.Prelude.{◌≡◌, ◌+◌, ◌<◌, None, All, IfOk, vec_len};
 ghost use Rattle.audit_run.specs.Names.{names_of};
 ghost use Rattle.audit_run.specs.Passes.{split_off};
-ghost use Rattle.audit_run.specs.Body.FreshPasses.{lighter};
+ghost use Rattle.audit_run.specs.Body.FreshPasses.{after_splits};
 ghost use Rattle.audit_run.specs.Body.Run.{IsReady};
 
 use crate::gather::Gathering;
@@ -17,7 +17,7 @@ use std::sync::Wait;
 /// The state before a run: a pass for the caller and one for each thread, and capacity for the
 /// results of the threads.
 #[derive(Drop)]
-pub struct Prepared {
+pub struct PreparedRun {
     pub pass: Pass,
     pub gathering: Gathering,
     pub source_passes: Vec<Pass>,
@@ -28,7 +28,7 @@ pub struct Prepared {
 
 /// The state after a run. All threads that were started are joined.
 #[derive(Drop)]
-pub struct Ended {
+pub struct EndedRun {
     pub pass: Pass,
     pub gathering: Gathering,
     pub faults: Vec<Option<FileFault>>,
@@ -46,7 +46,7 @@ fn split_passes<R: Wait>(
     requires pass { pass.old.handoff ≡ handoff.now }
     requires weight { count < pass.old.weight }
     ensures { IfOk result (λ v. (vec_len v ≡ count) × All (λ p. p ≡ split_off pass.old) v.items
-        × (pass.new ≡ lighter pass.old count)) }
+        × (pass.new ≡ after_splits pass.old count)) }
 {
     let mut passes = Vec::with_capacity(alloc, count)?;
     for _place in 0..count {
@@ -64,7 +64,7 @@ pub fn prepare<R: Wait>(
     collector: Collector,
     sources: usize,
     workers: usize,
-) -> Result<Prepared, AllocError>
+) -> Result<PreparedRun, AllocError>
     requires pass { (pass.old.handoff ≡ shared.handoff.now)
         × (pass.old.names ≡ names_of shared.policy.now shared.directory.now) }
     requires weight { (sources + workers) + 1 < pass.old.weight }
@@ -76,14 +76,14 @@ pub fn prepare<R: Wait>(
     ensures gathering { IfOk result (λ prepared. (prepared.gathering.collector ≡ collector)
         × (prepared.gathering.refused ≡ None)) }
     ensures passes { IfOk result (λ prepared. (prepared.pass ≡ split_off pass.old)
-        × (pass.new ≡ lighter pass.old ((sources + workers) + 1))) }
+        × (pass.new ≡ after_splits pass.old ((sources + workers) + 1))) }
 {
     let Shared { alloc, handoff, .. } = shared;
     let source_passes = split_passes(alloc, rt, handoff, pass, sources)?;
     let worker_passes = split_passes(alloc, rt, handoff, pass, workers)?;
     let workers = Vec::with_capacity(alloc, workers)?;
     let faults = Vec::with_capacity(alloc, sources)?;
-    Ok(Prepared {
+    Ok(PreparedRun {
         pass: pass.split(rt, handoff),
         gathering: Gathering {
             collector,

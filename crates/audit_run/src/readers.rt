@@ -2,7 +2,7 @@
 ghost use Rattle.std.specs.Prelude.{◌≡◌, [], ℕ, ◌+◌, ◌≤◌, List, All, IfSome, map, vec_len, vec_capacity, IsTrue};
 ghost use Rattle.audit_run.specs.Parts.{Stated, fault_in, put_by_sources};
 ghost use Rattle.audit_run.specs.Body.FreshPasses.{IsFresh};
-ghost use Rattle.audit_run.specs.Body.Work.{AreParts, HasSent, joined_sources, told_by};
+ghost use Rattle.audit_run.specs.Body.Work.{AreParts, HasSent, joined_sources, part_ahead};
 
 use crate::sender::{put_job, send};
 use crate::source::Part;
@@ -73,8 +73,8 @@ fn start_reader<'s, 'e: 's, R: Threads + Wait + Sync, F: Feed + Drop + Send + 'e
 ) -> Option<ReaderHandle<F>>
     requires { pass.handoff ≡ handoff.now }
     ensures before { IfSome result (λ h. h.promise.before.value ≡ pass) }
-    ensures told { IfSome result (λ h. told_by h.promise.owner (F.ahead h.promise.reader.value)
-        ≡ told_by part.owner (F.ahead part.reader)) }
+    ensures readable_bytes { IfSome result (λ h. part_ahead h.promise.owner (F.ahead h.promise.reader.value)
+        ≡ part_ahead part.owner (F.ahead part.reader)) }
 {
     let promise = SourceRan {
         before: Snapshot::of(&pass),
@@ -104,9 +104,9 @@ pub fn start_readers<'s, 'e: 's, R: Threads + Wait + Sync, F: Feed + Drop + Send
     requires room { (vec_len parts ≤ vec_capacity handles.old) × (vec_len handles.old ≡ 0) }
     ensures fresh { All (λ h. IsFresh handoff.now h.promise.before.value) handles.new.items }
     ensures few { vec_len handles.new ≤ vec_len parts }
-    ensures all { IsTrue result → map (λ h. told_by h.promise.owner
+    ensures all { IsTrue result → map (λ h. part_ahead h.promise.owner
         (F.ahead h.promise.reader.value)) handles.new.items
-        ≡ map (λ p. told_by p.owner (F.ahead p.reader)) parts.items }
+        ≡ map (λ p. part_ahead p.owner (F.ahead p.reader)) parts.items }
 {
     for part in parts {
         let Some(pass) = passes.pop() else {
@@ -136,7 +136,7 @@ pub fn join_readers<R: Threads + Wait, F: Feed>(
     requires empty { faults.old.items ≡ [] }
     requires room { vec_len faults.old + vec_len handles ≤ vec_capacity faults.old }
     ensures { (parts : List (ℕ × Stated)) × AreParts
-        (map (λ h. told_by h.promise.owner (F.ahead h.promise.reader.value)) handles.items) parts
+        (map (λ h. part_ahead h.promise.owner (F.ahead h.promise.reader.value)) handles.items) parts
         × (pass.new ≡ joined_sources pass.old (vec_len handles) (put_by_sources parts))
         × (faults.new.items ≡ map (λ part. fault_in part.1) parts) }
 {

@@ -1,11 +1,11 @@
 //! The roster of an audit: the name of each sender once, in the order of first appearance.
 ghost use Rattle.std.specs.Prelude.{◌≡◌, ◌<◌, ◌≤◌, ◌^◌, IfOk, IfErr, length, map, vec_len};
 ghost use Rattle.std.specs.List.{zip};
-ghost use Rattle.audit_collect.specs.Held.{start};
+ghost use Rattle.audit_collect.specs.SenderState.{start};
 ghost use Rattle.audit_collect.specs.Roster.{AreDistinct, IsRoster};
 ghost use Rattle.audit_run.specs.Body.Concluded.{RefusesSenders};
 ghost use Rattle.audit_run.specs.Roster.{owners, place_of, places_in, roster};
-ghost use Rattle.audit_run.specs.Body.Work.{told_by};
+ghost use Rattle.audit_run.specs.Body.Work.{part_ahead};
 
 use crate::fault::AuditFault;
 use crate::source::{Part, Source};
@@ -75,7 +75,7 @@ fn parts_of<F: Feed + Drop>(
     readers: Vec<F>,
 ) -> Result<Vec<Part<F>>, AllocError>
     requires { (length names.now ≡ vec_len readers) × (length roster.now < 2 ^ 32) }
-    ensures parts { IfOk result (λ r. map (λ p. told_by p.owner (F.ahead p.reader)) r.items
+    ensures parts { IfOk result (λ r. map (λ p. part_ahead p.owner (F.ahead p.reader)) r.items
         ≡ zip (places_in roster.now names.now) (map F.ahead readers.items)) }
     ensures length { IfOk result (λ r. vec_len r ≡ vec_len readers) }
 {
@@ -111,7 +111,7 @@ fn collector_for(alloc: Global, names: Vec<Seq<u8>>) -> Result<Collector, AuditF
 /// The sources of an audit, registered: their names, each source with its owner, and a collector
 /// for their senders.
 #[derive(Drop)]
-pub struct Registered<F> {
+pub struct RegisteredSources<F> {
     pub names: Vec<Seq<u8>>,
     pub parts: Vec<Part<F>>,
     pub collector: Collector,
@@ -122,10 +122,10 @@ pub struct Registered<F> {
 pub fn register<F: Feed + Drop>(
     alloc: Global,
     sources: Vec<Source<F>>,
-) -> Result<Registered<F>, AuditFault>
+) -> Result<RegisteredSources<F>, AuditFault>
     requires { vec_len sources ≤ 256 }
     ensures names { IfOk result (λ e. e.names.items ≡ map (λ s. s.name) sources.items) }
-    ensures parts { IfOk result (λ e. map (λ p. told_by p.owner (F.ahead p.reader)) e.parts.items
+    ensures parts { IfOk result (λ e. map (λ p. part_ahead p.owner (F.ahead p.reader)) e.parts.items
         ≡ zip (owners (map (λ s. s.name) sources.items))
         (map (λ s. F.ahead s.reader) sources.items)) }
     ensures lengths { IfOk result (λ e. (vec_len e.names ≡ vec_len sources)
@@ -139,7 +139,7 @@ pub fn register<F: Feed + Drop>(
     let roster = roster_of(alloc, &names)?;
     let parts = parts_of(alloc, &roster, &names, readers)?;
     match collector_for(alloc, roster) {
-        Ok(collector) => Ok(Registered {
+        Ok(collector) => Ok(RegisteredSources {
             names,
             parts,
             collector,

@@ -6,7 +6,7 @@
 //! keeps it, whichever threads take the steps and in whatever order.
 ghost use Rattle.std.specs.Prelude.{◌≡◌, ◌<◌, ◌≤◌, List, Option, Some, None, Ok, Err, IfOk, MatchResult, MatchOption, length, [], ◌∷◌};
 ghost use Rattle.crossbeam_queue.specs.Passes.{view, IsPassOf, IsSamePass, ruled_capacity};
-ghost use Rattle.audit_run.specs.Body.Rule.{tally, putting, taking, kept_by_split, given_by_split, joined, Leaves, Suits, Put, Took};
+ghost use Rattle.audit_run.specs.Body.Rule.{tally, putting, taking, kept_by_split, given_by_split, joined, Leaves, Suits, PutsMessage, TakesMessage};
 
 use crossbeam_queue::protocol::{Join, Lesson, Outcome, Protocol, Split};
 use crossbeam_queue::{Pass, RuledArrayQueue};
@@ -36,18 +36,18 @@ pub struct Tally<T, N> {
 pub struct Counted;
 
 impl<T: Message<N>, N> Protocol<T, Tally<T, N>> for Counted {
-    ghost use Rattle.audit_run.specs.Body.Rule.{first, Kept};
+    ghost use Rattle.audit_run.specs.Body.Rule.{first, KeepsRule};
 
-    ghost holds = { Kept T.fits };
+    ghost holds = { KeepsRule T.fits };
 
     ghost first = { first };
 }
 
 /// A queue under the rule.
-pub type Line<T, N> = RuledArrayQueue<T, Tally<T, N>, Counted>;
+pub type RuledQueue<T, N> = RuledArrayQueue<T, Tally<T, N>, Counted>;
 
 /// A pass of such a queue.
-pub type Seat<T, N> = Pass<T, Tally<T, N>>;
+pub type QueuePass<T, N> = Pass<T, Tally<T, N>>;
 
 /// The names that a queue is opened for. The call that opens it chooses them.
 pub trait Naming<N> {
@@ -93,40 +93,40 @@ impl<T, N> Join<Tally<T, N>> for Together {
 struct Puts;
 
 impl<T, N> Outcome<T, Tally<T, N>> for Puts {
-    ghost use Rattle.audit_run.specs.Body.Rule.{Put};
+    ghost use Rattle.audit_run.specs.Body.Rule.{PutsMessage};
 
-    ghost then = { λ v x w. Put v x w };
+    ghost then = { λ v x w. PutsMessage v x w };
 }
 
 impl<T, N> Lesson<T, Tally<T, N>> for Puts {
-    ghost use Rattle.audit_run.specs.Body.Rule.{Seen};
+    ghost use Rattle.audit_run.specs.Body.Rule.{SeesQueue};
 
-    ghost fact = { λ v items. Seen v items };
+    ghost fact = { λ v items. SeesQueue v items };
 }
 
 struct Takes;
 
 impl<T: Message<N>, N> Outcome<T, Tally<T, N>> for Takes {
-    ghost use Rattle.audit_run.specs.Body.Rule.{Took};
+    ghost use Rattle.audit_run.specs.Body.Rule.{TakesMessage};
 
-    ghost then = { λ v x w. Took T.fits v x w };
+    ghost then = { λ v x w. TakesMessage T.fits v x w };
 }
 
 impl<T: Message<N>, N> Lesson<T, Tally<T, N>> for Takes {
-    ghost use Rattle.audit_run.specs.Body.Rule.{Seen};
+    ghost use Rattle.audit_run.specs.Body.Rule.{SeesQueue};
 
-    ghost fact = { λ v items. Seen v items };
+    ghost fact = { λ v items. SeesQueue v items };
 }
 
 /// Creates a queue of 256 places with its first pass, which is whole and has these names. Returns
 /// `AllocError` if allocation failed.
 pub fn open<T: Message<N>, N, J: Naming<N>>(
     alloc: Global,
-) -> Result<(Line<T, N>, Seat<T, N>), AllocError>
+) -> Result<(RuledQueue<T, N>, QueuePass<T, N>), AllocError>
     ensures { IfOk result (λ r. (ruled_capacity r.0 ≡ 256) × IsPassOf r.0 r.1
         × (view r.1 ≡ tally 1024 J.names [] [])) }
 {
-    let (line, mut seat) = Line::<T, N>::ruled(alloc, PLACES)?;
+    let (line, mut seat) = RuledQueue::<T, N>::ruled(alloc, PLACES)?;
     let _spent = line.another::<Named<J>>(&mut seat);
     Ok((line, seat))
 }
@@ -134,8 +134,8 @@ pub fn open<T: Message<N>, N, J: Naming<N>>(
 /// Puts a message. Returns it only if the queue was full at some moment of the call.
 pub fn put<T: Message<N>, N, R: Wait>(
     rt: &R,
-    line: &Line<T, N>,
-    seat: &mut Seat<T, N>,
+    line: &RuledQueue<T, N>,
+    seat: &mut QueuePass<T, N>,
     message: T,
 ) -> Result<(), T>
     requires line { IsPassOf line.now seat.old × (ruled_capacity line.now ≡ 256) }
@@ -154,8 +154,8 @@ pub fn put<T: Message<N>, N, R: Wait>(
 /// Takes a message. Returns `None` only if the queue was empty at some moment of the call.
 pub fn take<T: Message<N>, N, R: Wait>(
     rt: &R,
-    line: &Line<T, N>,
-    seat: &mut Seat<T, N>,
+    line: &RuledQueue<T, N>,
+    seat: &mut QueuePass<T, N>,
 ) -> Option<T>
     requires line { IsPassOf line.now seat.old × (ruled_capacity line.now ≡ 256) }
     requires weight { 0 < (view seat.old).weight }
@@ -170,7 +170,7 @@ pub fn take<T: Message<N>, N, R: Wait>(
 }
 
 /// Splits off another pass of the queue, with 1 of the weight.
-pub fn split<T: Message<N>, N>(line: &Line<T, N>, seat: &mut Seat<T, N>) -> Seat<T, N>
+pub fn split<T: Message<N>, N>(line: &RuledQueue<T, N>, seat: &mut QueuePass<T, N>) -> QueuePass<T, N>
     requires line { IsPassOf line.now seat.old }
     requires weight { 2 ≤ (view seat.old).weight }
     ensures line { IsSamePass seat.old seat.new × IsPassOf line.now result }
@@ -181,7 +181,7 @@ pub fn split<T: Message<N>, N>(line: &Line<T, N>, seat: &mut Seat<T, N>) -> Seat
 }
 
 /// Joins a pass of the queue to this one.
-pub fn join<T: Message<N>, N>(line: &Line<T, N>, seat: &mut Seat<T, N>, other: Seat<T, N>)
+pub fn join<T: Message<N>, N>(line: &RuledQueue<T, N>, seat: &mut QueuePass<T, N>, other: QueuePass<T, N>)
     requires line { IsPassOf line.now seat.old × IsPassOf line.now other }
     requires weight { (0 < (view seat.old).weight) × (0 < (view other).weight) }
     ensures line { IsSamePass seat.old seat.new }

@@ -3,7 +3,7 @@ ghost use Rattle.std.specs.Prelude.{◌≡◌, ◌∷◌, ◌++◌, [], List};
 ghost use Rattle.audit_run.specs.Names.{names_of, answer, IsRight};
 ghost use Rattle.audit_run.specs.Passes.{with_outcome_put};
 ghost use Rattle.audit_run.specs.declared.message.Job.{Job};
-ghost use Rattle.audit_run.specs.Body.Work.{worked};
+ghost use Rattle.audit_run.specs.Body.Work.{after_work};
 ghost use Rattle.sudo_verdict.specs.Postings.{Indexes};
 
 use crate::gate::Gate;
@@ -95,7 +95,7 @@ pub fn work<R: Wait, G: Gate>(rt: &R, shared: Shared<'_>, gate: &G, mut pass: Pa
     requires pass { pass.handoff ≡ shared.handoff.now }
     requires names { pass.names ≡ names_of shared.policy.now shared.directory.now }
     requires index { Indexes shared.policy.now shared.index.now }
-    ensures { (jobs : List Job) × (result ≡ worked
+    ensures { (jobs : List Job) × (result ≡ after_work
         (names_of shared.entry.policy.now shared.entry.directory.now) pass
         (jobs ++ Job.Stop ∷ [])) }
 {

@@ -22,20 +22,20 @@ kind_word kind.Host = codes "host"
 kind_word kind.Cmnd = codes "cmnd"
 
 -- a required positional word
-abbrev pub needed : Text → Rule
-needed id = record (new_rule id) { required = true }
+abbrev pub required_word : Text → Rule
+required_word id = record (new_rule id) { required = true }
 
 -- a required option `--id`
-abbrev pub needed_option : Text → Rule
-needed_option id = record (new_rule id) { long = Some id; required = true }
+abbrev pub required_option : Text → Rule
+required_option id = record (new_rule id) { long = Some id; required = true }
 
 -- check FILE
 abbrev pub check_app : App
-check_app = with_rule (new_app (codes "check")) (needed (codes "file"))
+check_app = with_rule (new_app (codes "check")) (required_word (codes "file"))
 
 -- expand FILE KIND NAME
 abbrev pub expand_app : App
-expand_app = with_rule (with_rule (with_rule (new_app (codes "expand")) (needed (codes "file"))) (needed (codes "kind"))) (needed (codes "name"))
+expand_app = with_rule (with_rule (with_rule (new_app (codes "expand")) (required_word (codes "file"))) (required_word (codes "kind"))) (required_word (codes "name"))
 
 -- --workers N, from 1 to 16 and by default 2
 abbrev pub workers_rule : Rule
@@ -47,7 +47,7 @@ senders_rule = record (new_rule (codes "senders")) { range = Some (record { star
 
 -- audit FILE --users F --hosts F
 abbrev pub audit_paths_app : App
-audit_paths_app = with_rule (with_rule (with_rule (new_app (codes "audit")) (needed (codes "file"))) (needed_option (codes "users"))) (needed_option (codes "hosts"))
+audit_paths_app = with_rule (with_rule (with_rule (new_app (codes "audit")) (required_word (codes "file"))) (required_option (codes "users"))) (required_option (codes "hosts"))
 
 -- audit FILE --users F --hosts F [--workers N] [NAME=PATH]...
 abbrev pub audit_app : App

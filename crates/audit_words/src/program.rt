@@ -2,7 +2,7 @@
 ghost use Rattle.std.specs.Prelude.{◌≡◌, IfOk, codes, false};
 ghost use Rattle.clap.specs.Words.{app_of, rule_of};
 ghost use Rattle.clap.specs.declared.builder.command.Command.TheViews.{out-Command as fields_of};
-ghost use Rattle.audit_words.specs.Words.{audit_app, audit_paths_app, check_app, expand_app, named_app, needed, needed_option, program_app, senders_rule, workers_rule};
+ghost use Rattle.audit_words.specs.Words.{audit_app, audit_paths_app, check_app, expand_app, named_app, required_word, required_option, program_app, senders_rule, workers_rule};
 
 use clap::builder::ValueParser;
 use clap::{Arg, Command};
@@ -10,7 +10,7 @@ use std::alloc::{AllocError, Global};
 
 // Returns a required positional word.
 fn word<'a>(alloc: Global, id: &'a str, help: &'a str) -> Arg<'a>
-    ensures rule { rule_of result ≡ needed id.entry.now }
+    ensures rule { rule_of result ≡ required_word id.entry.now }
     ensures local { result.global ≡ false }
 {
     Arg::new(alloc, id).required(true).help(help)
@@ -18,7 +18,7 @@ fn word<'a>(alloc: Global, id: &'a str, help: &'a str) -> Arg<'a>
 
 // Returns `FILE`.
 fn file<'a>(alloc: Global) -> Arg<'a>
-    ensures rule { rule_of result ≡ needed (codes "file") }
+    ensures rule { rule_of result ≡ required_word (codes "file") }
     ensures local { result.global ≡ false }
 {
     word(alloc, "file", "The main file of the policy")
@@ -67,7 +67,7 @@ fn senders<'a>(alloc: Global) -> Arg<'a>
 
 // Returns `--ID PATH`.
 fn path_option<'a>(alloc: Global, id: &'a str, help: &'a str) -> Arg<'a>
-    ensures rule { rule_of result ≡ needed_option id.entry.now }
+    ensures rule { rule_of result ≡ required_option id.entry.now }
     ensures local { result.global ≡ false }
 {
     Arg::new(alloc, id).long(id).required(true).help(help)

@@ -4,7 +4,7 @@ use Rattle.std.specs.Prelude.{slice_get, find, is_some, bytes_eq, option_and_the
 use Rattle.std.specs.List.{list_any}
 use Rattle.std.proofs.lemmas.Slice.Eq.{bytes_eq-Decides}
 use Rattle.sudo_base.specs.Indexes.{Indexes}
-use Rattle.sudo_base.specs.Places.{place_of}
+use Rattle.sudo_base.specs.NameIndices.{index_of}
 
 pub take-some : {A : Type 0} (n : ℕ) (xs : List A) (x : A) → slice_get xs n ≡ Some x → take (n + 1) xs ≡ take n xs ++ x ∷ []
 take-some zero [] x e = cc
@@ -39,8 +39,8 @@ list_any-append p (y ∷ xs) x = ap (λ b. p y || b) (list_any-append p xs x) �
     or_assoc false b c = refl
 
 pub indexes-none :
-    {A : Type 0} (key : A → List ℕ) (rows : List A) (places : List ℕ → Option ℕ) → ((name : List ℕ) → places name ≡ None) → Indexes key rows 0 places
-indexes-none key rows places e = record {
+    {A : Type 0} (key : A → List ℕ) (rows : List A) (indices : List ℕ → Option ℕ) → ((name : List ℕ) → indices name ≡ None) → Indexes key rows 0 indices
+indexes-none key rows indices e = record {
   found = λ name. ap (option_and_then (slice_get rows)) (e name);
   known = λ name. ap is_some (e name);
 }
@@ -58,13 +58,13 @@ bytes_eq-swap xs ys = go (bytes_eq xs ys) (bytes_eq ys xs) refl refl
     go false true e f = absurd (let h : bytes_eq xs ys ≡ true = (bytes_eq-Decides xs ys).1 (sym ((bytes_eq-Decides ys xs).0 f)) in cc)
 
 pub indexes-more :
-    {A : Type 0} (key : A → List ℕ) (rows : List A) (n : ℕ) (x : A) (places more : List ℕ → Option ℕ) → Indexes key rows n places →
-    slice_get rows n ≡ Some x → places (key x) ≡ None →
-    ((other : List ℕ) → more other ≡ cond (bytes_eq other (key x)) (Some n) (places other)) → Indexes key rows (n + 1) more
-indexes-more key rows n x places more i at new e = record {
+    {A : Type 0} (key : A → List ℕ) (rows : List A) (n : ℕ) (x : A) (indices more : List ℕ → Option ℕ) → Indexes key rows n indices →
+    slice_get rows n ≡ Some x → indices (key x) ≡ None →
+    ((other : List ℕ) → more other ≡ cond (bytes_eq other (key x)) (Some n) (indices other)) → Indexes key rows (n + 1) more
+indexes-more key rows n x indices more i at new e = record {
   found = λ name. found name (bytes_eq name (key x)) refl;
   known = λ name.
-      ap is_some (e name) ∙ is_some-cond (bytes_eq name (key x)) (places name)
+      ap is_some (e name) ∙ is_some-cond (bytes_eq name (key x)) (indices name)
       ∙ ap (λ b. b || bytes_eq name (key x)) (i.known name) ∙ ap (λ b. list_any (λ y. bytes_eq (key y) name) (take n rows) || b) (bytes_eq-swap name (key x))
       ∙ sym (list_any-append (λ y. bytes_eq (key y) name) (take n rows) x) ∙ ap (list_any (λ y. bytes_eq (key y) name)) (sym (take-some n rows x at));
 }
@@ -79,12 +79,12 @@ indexes-more key rows n x places more i at new e = record {
     found name true f =
         let same : name ≡ key x = bytes_eq-is name (key x) f in
         let none : find (λ y. bytes_eq (key y) name) (take n rows) ≡ None =
-        sym (i.found name) ∙ ap (option_and_then (slice_get rows)) (ap places same ∙ new) in
-        ap (option_and_then (slice_get rows)) (e name ∙ ap (λ b. cond b (Some n) (places name)) f) ∙ at
+        sym (i.found name) ∙ ap (option_and_then (slice_get rows)) (ap indices same ∙ new) in
+        ap (option_and_then (slice_get rows)) (e name ∙ ap (λ b. cond b (Some n) (indices name)) f) ∙ at
         ∙ sym (ap (find (λ y. bytes_eq (key y) name)) (take-some n rows x at) ∙ find-append (λ y. bytes_eq (key y) name) (take n rows) x none
         ∙ ap (λ b. cond b (Some x) None) (bytes_eq-swap (key x) name ∙ f))
     found name false f =
-        ap (option_and_then (slice_get rows)) (e name ∙ ap (λ b. cond b (Some n) (places name)) f) ∙ i.found name
+        ap (option_and_then (slice_get rows)) (e name ∙ ap (λ b. cond b (Some n) (indices name)) f) ∙ i.found name
         ∙ sym (ap (find (λ y. bytes_eq (key y) name)) (take-some n rows x at)
         ∙ find-append-fails (λ y. bytes_eq (key y) name) (take n rows) x (bytes_eq-swap (key x) name ∙ f))
 
@@ -98,27 +98,27 @@ apart-names x name other f g = go (bytes_eq other name) refl
         let yes : bytes_eq name x ≡ true = (bytes_eq-Decides name x).1 same in
         absurd (let h : true ≡ false = sym yes ∙ f in cc)
 
-pub place_of-append :
-    (es : List (List ℕ × ℕ)) (name : List ℕ) (place : ℕ) (other : List ℕ) → place_of es name ≡ None →
-    place_of (es ++ (name, place) ∷ []) other ≡ cond (bytes_eq other name) (Some place) (place_of es other)
-place_of-append [] name place other e = refl
-place_of-append (x ∷ es) name place other e = go (bytes_eq name x.0) (bytes_eq other x.0) refl refl e (λ f. place_of-append es name place other f)
+pub index_of-append :
+    (es : List (List ℕ × ℕ)) (name : List ℕ) (index : ℕ) (other : List ℕ) → index_of es name ≡ None →
+    index_of (es ++ (name, index) ∷ []) other ≡ cond (bytes_eq other name) (Some index) (index_of es other)
+index_of-append [] name index other e = refl
+index_of-append (x ∷ es) name index other e = go (bytes_eq name x.0) (bytes_eq other x.0) refl refl e (λ f. index_of-append es name index other f)
   where
     go :
-        (b c : Bool) → bytes_eq name x.0 ≡ b → bytes_eq other x.0 ≡ c → cond b (Some x.1) (place_of es name) ≡ None →
-        (place_of es name ≡ None → place_of (es ++ (name, place) ∷ []) other ≡ cond (bytes_eq other name) (Some place) (place_of es other)) →
-        place_of ((x ∷ es) ++ (name, place) ∷ []) other ≡ cond (bytes_eq other name) (Some place) (place_of (x ∷ es) other)
+        (b c : Bool) → bytes_eq name x.0 ≡ b → bytes_eq other x.0 ≡ c → cond b (Some x.1) (index_of es name) ≡ None →
+        (index_of es name ≡ None → index_of (es ++ (name, index) ∷ []) other ≡ cond (bytes_eq other name) (Some index) (index_of es other)) →
+        index_of ((x ∷ es) ++ (name, index) ∷ []) other ≡ cond (bytes_eq other name) (Some index) (index_of (x ∷ es) other)
     go true c f g h more = cc
     go false true f g h more =
         let apart : bytes_eq other name ≡ false = apart-names x.0 name other f g in
-        ap (λ b. cond b (Some x.1) (place_of (es ++ (name, place) ∷ []) other)) g
-        ∙ sym (ap (λ b. cond b (Some place) (place_of (x ∷ es) other)) apart ∙ ap (λ b. cond b (Some x.1) (place_of es other)) g)
+        ap (λ b. cond b (Some x.1) (index_of (es ++ (name, index) ∷ []) other)) g
+        ∙ sym (ap (λ b. cond b (Some index) (index_of (x ∷ es) other)) apart ∙ ap (λ b. cond b (Some x.1) (index_of es other)) g)
     go false false f g h more =
-        ap (λ b. cond b (Some x.1) (place_of (es ++ (name, place) ∷ []) other)) g ∙ more h
-        ∙ ap (λ o. cond (bytes_eq other name) (Some place) o) (sym (ap (λ b. cond b (Some x.1) (place_of es other)) g))
+        ap (λ b. cond b (Some x.1) (index_of (es ++ (name, index) ∷ []) other)) g ∙ more h
+        ∙ ap (λ o. cond (bytes_eq other name) (Some index) o) (sym (ap (λ b. cond b (Some x.1) (index_of es other)) g))
 
-pub place_of-empty : (name : List ℕ) → place_of [] name ≡ None
-place_of-empty name = refl
+pub index_of-empty : (name : List ℕ) → index_of [] name ≡ None
+index_of-empty name = refl
 
 pub none-is : (o : Option ℕ) → is_some o ≡ false → o ≡ None
 none-is None e = refl

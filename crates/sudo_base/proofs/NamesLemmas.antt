@@ -5,10 +5,10 @@ use Rattle.std.specs.Map.{lookup}
 use Rattle.std.specs.declared.alloc.Global.{Global}
 use Rattle.indexmap.specs.IndexMap.{insert_entry}
 use Rattle.sudo_base.specs.NameEntry.{bare}
-use Rattle.sudo_base.specs.Places.{place_of}
+use Rattle.sudo_base.specs.NameIndices.{index_of}
 
 -- a look-up among the entries is one among the names
-pub lookup_bare : (name : List ℕ) (es : List (Vec ℕ Global × ℕ)) → lookup (λ k. bytes_eq name k.items) es ≡ place_of (map bare es) name
+pub lookup_bare : (name : List ℕ) (es : List (Vec ℕ Global × ℕ)) → lookup (λ k. bytes_eq name k.items) es ≡ index_of (map bare es) name
 lookup_bare name [] = refl
 lookup_bare name (e ∷ es) = ap (λ r. cond (bytes_eq name e.0.items) (Some e.1) r) (lookup_bare name es)
 
@@ -20,7 +20,7 @@ insert_step true e es xs ys i v r none rest = cc
 insert_step false e es xs ys i v r none rest = ap (λ zs. bare e ∷ zs) (rest none)
 
 -- a new name goes last
-pub insert_bare : (key : Vec ℕ Global) (v : ℕ) (es : List (Vec ℕ Global × ℕ)) → place_of (map bare es) key.items ≡ None → map bare (insert_entry same_key es key v) ≡ map bare es ++ (key.items, v) ∷ []
+pub insert_bare : (key : Vec ℕ Global) (v : ℕ) (es : List (Vec ℕ Global × ℕ)) → index_of (map bare es) key.items ≡ None → map bare (insert_entry same_key es key v) ≡ map bare es ++ (key.items, v) ∷ []
 insert_bare key v [] none = refl
 insert_bare key v (e ∷ es) none =
-    insert_step (bytes_eq key.items e.0.items) e es (insert_entry same_key es key v) (map bare es ++ (key.items, v) ∷ []) e.1 v (place_of (map bare es) key.items) none (insert_bare key v es)
+    insert_step (bytes_eq key.items e.0.items) e es (insert_entry same_key es key v) (map bare es ++ (key.items, v) ∷ []) e.1 v (index_of (map bare es) key.items) none (insert_bare key v es)

@@ -1,6 +1,6 @@
 //! A map from names to numbers.
 ghost use Rattle.std.specs.Prelude.{◌≡◌, List, [], ◌∷◌, ◌++◌, None, OnOk, OnErr};
-ghost use Rattle.sudo_base.specs.Places.{place_of};
+ghost use Rattle.sudo_base.specs.NameIndices.{index_of};
 
 use indexmap::IndexMap;
 use std::alloc::{AllocError, Global};
@@ -9,7 +9,7 @@ use std::marker::Model;
 /// A map from names to the indices that they stand for, in order of insertion. Contracts see the list of pairs.
 #[derive(Drop)]
 pub struct Names {
-    places: IndexMap<Vec<u8>, usize>,
+    indices: IndexMap<Vec<u8>, usize>,
 }
 
 impl Model for Names {
@@ -18,7 +18,7 @@ impl Model for Names {
 
     ghost Value = { List (List ℕ × ℕ) };
 
-    ghost view = { λ n. map bare n.places.entries };
+    ghost view = { λ n. map bare n.indices.entries };
 }
 
 impl Names {
@@ -27,25 +27,25 @@ impl Names {
         ensures { result ≡ [] }
     {
         Names {
-            places: IndexMap::new(alloc),
+            indices: IndexMap::new(alloc),
         }
     }
 
     /// Returns the index of a name, or `None` if the map does not contain it. Does not allocate.
     pub fn get(&self, name: &[u8]) -> Option<usize>
-        ensures { result ≡ place_of self.now name.now }
+        ensures { result ≡ index_of self.now name.now }
     {
-        self.places.get(name).copied()
+        self.indices.get(name).copied()
     }
 
     /// Inserts a new name. Returns `AllocError` if allocation fails; the map is then unchanged.
-    pub fn insert(&mut self, alloc: Global, name: &[u8], place: usize) -> Result<(), AllocError>
-        requires { place_of self.old name.now ≡ None }
-        ensures ok { OnOk result (self.new ≡ self.old ++ (name.now, place) ∷ []) }
+    pub fn insert(&mut self, alloc: Global, name: &[u8], index: usize) -> Result<(), AllocError>
+        requires { index_of self.old name.now ≡ None }
+        ensures ok { OnOk result (self.new ≡ self.old ++ (name.now, index) ∷ []) }
         ensures err { OnErr result (self.new ≡ self.old) }
     {
         let key = Vec::from_slice(alloc, name)?;
-        self.places.insert(key, place)?;
+        self.indices.insert(key, index)?;
         Ok(())
     }
 }

@@ -31,7 +31,7 @@ use Rattle.sudo_grammar.specs.declared.policy.Parameter.TheVariants as parameter
 use Rattle.sudo_grammar.specs.declared.policy.Operator.{Operator}
 use Rattle.sudo_grammar.specs.Members.{atom_of}
 use Rattle.sudo_grammar.specs.Forms.{binding_mark, binding, the_word, parameter, more_parameters, parameter_list, defaults, rule, include, groups, runas, optional, spec, more_specs, specs, more_sections, sections, last_as_tag, tag, tags, ◌▸◌, one, mark, bangs, member, item, more_items, list, name, definition, more_definitions, definitions, keyword, Writes}
-use Rattle.sudo_grammar.specs.Places.{Binds, DefaultsStart, AtParameter, AfterSwitch, AtValue, AfterValue, at_parameter, at_value, at_operator, after_switch, after_value, at_binding, after_defaults, bound_to, Included, Users, Hosts, RunasUsers, RunasGroups, RunasStart, GroupsStart, after_runas, at_runas, at_groups, after_item, Granting, Command, AfterCommand, at_command, command_place, after_command, after_colon, Purpose, Defines, kind_for, Place, Start, AliasName, AfterName, Item, AfterItem, Room, at_item, member_place, after_member, at_alias_name, at_start, step}
+use Rattle.sudo_grammar.specs.States.{Binds, DefaultsStart, AtParameter, AfterSwitch, AtValue, AfterValue, at_parameter, at_value, at_operator, after_switch, after_value, at_binding, after_defaults, bound_to, Included, Users, Hosts, RunasUsers, RunasGroups, RunasStart, GroupsStart, after_runas, at_runas, at_groups, after_item, Granting, Command, AfterCommand, at_command, command_state, after_command, after_colon, Purpose, Defines, kind_for, State, Start, AliasName, AfterName, Item, AfterItem, Room, at_item, member_state, after_member, at_alias_name, at_start, step}
 use Rattle.sudo_grammar.specs.Reading.{reading}
 use Rattle.sudo_grammar.specs.Faults.{HasRoom}
 
@@ -45,21 +45,21 @@ at_item-member p n d t _ a h = refl
 pub at_item-takes : (p : Purpose) (n : ℕ) (d : List Member) (t : Token) (a : Atom)
     → atom_of (kind_for p) t.kind ≡ Ok a
     → at_item p n d t t.kind ≡ Some (AfterItem p (d ++ record { bangs = n; token = t; atom = a } ∷ []))
-at_item-takes p n d t a h = at_item-member p n d t t.kind a h ∙ ap (member_place p n d t) h
+at_item-takes p n d t a h = at_item-member p n d t t.kind a h ∙ ap (member_state p n d t) h
 
 -- one token is read by one step
-pub reading-step : (room : Room) (place next : Place) (t : Token) (ts : List Token) → step room place t ≡ Some next
+pub reading-step : (room : Room) (place next : State) (t : Token) (ts : List Token) → step room place t ≡ Some next
     → reading room place (t ∷ ts) ≡ reading room next ts
 reading-step room place next t ts h = rw (h, reading) refl
 
 -- a mark that is no exclamation mark stands for no member
 mark-none : (p : Purpose) (n : ℕ) (d : List Member) (t : Token) (m : Mark) → t.kind ≡ tokens.Mark m
     → after_member p n d t ≡ None
-mark-none p n d t m is = ap (λ k. member_place p n d t (atom_of (kind_for p) k)) is
+mark-none p n d t m is = ap (λ k. member_state p n d t (atom_of (kind_for p) k)) is
 
 -- what stands for an atom leads on from the start of an item
 member-first : (p : Purpose) (m : Member) (t : Token) (ts rest : List Token) → member (kind_for p) m (t ∷ ts) rest
-    → (next : Place) × (at_item p 0 [] t t.kind ≡ Some next)
+    → (next : State) × (at_item p 0 [] t t.kind ≡ Some next)
 member-first p m t ts rest h = (AfterItem p (record { bangs = 0; token = t; atom = m.atom } ∷ []), at_item-takes p 0 [] t m.atom h.0.1)
 
 -- the name of a tag is an alias among commands
@@ -88,7 +88,7 @@ tag-alias kind x h = go (plain_word kind) refl h
 
 -- a command is taken as that member
 at_command-member : (g : Granting) (r : Option Runas) (d : List Tag) (n : ℕ) (t : Token) (kind : TokenKind) (a : Atom)
-    → atom_of kinds.Cmnd kind ≡ Ok a → at_command g r d n t kind ≡ command_place g r d n t (atom_of kinds.Cmnd t.kind)
+    → atom_of kinds.Cmnd kind ≡ Ok a → at_command g r d n t kind ≡ command_state g r d n t (atom_of kinds.Cmnd t.kind)
 at_command-member g r d n t (tokens.Mark marks.Bang) a h = cc
 at_command-member g r d n t (tokens.Mark marks.LeftParen) a h = cc
 at_command-member g r d n t _ a h = refl
@@ -96,10 +96,10 @@ at_command-member g r d n t _ a h = refl
 pub at_command-takes : (g : Granting) (r : Option Runas) (d : List Tag) (n : ℕ) (t : Token) (a : Atom)
     → atom_of kinds.Cmnd t.kind ≡ Ok a
     → at_command g r d n t t.kind ≡ Some (AfterCommand g (record { runas = r; tags = d; command = record { bangs = n; token = t; atom = a } }))
-at_command-takes g r d n t a h = at_command-member g r d n t t.kind a h ∙ ap (command_place g r d n t) h
+at_command-takes g r d n t a h = at_command-member g r d n t t.kind a h ∙ ap (command_state g r d n t) h
 
 -- the place after a command and further ones
-abbrev last_place : Granting → CommandSpec → List CommandSpec → Place
+abbrev last_place : Granting → CommandSpec → List CommandSpec → State
 last_place g c [] = AfterCommand g c
 last_place g c (x ∷ xs) = last_place (record g { commands = g.commands ++ c ∷ [] }) x xs
 
@@ -120,15 +120,15 @@ operator-value b d name o (tokens.Mark marks.Comma) h = cc
 operator-value b d name o k h = ap (at_operator b d 0 name) h
 
 -- the place after a parameter
-abbrev parameter_place : Option Binding → List Parameter → Parameter → Place
-parameter_place b d (parameters.Switch n name) = AfterSwitch b d n name
-parameter_place b d (parameters.Assign name o v) = AfterValue b (d ++ parameters.Assign name o v ∷ [])
+abbrev parameter_state : Option Binding → List Parameter → Parameter → State
+parameter_state b d (parameters.Switch n name) = AfterSwitch b d n name
+parameter_state b d (parameters.Assign name o v) = AfterValue b (d ++ parameters.Assign name o v ∷ [])
 
 head-same : {t u : Token} {ts us : List Token} → t ∷ ts ≡ u ∷ us → t ≡ u
 head-same h = cc
 
 -- a comma is no parameter
-pub binds-first : (k : Kind) (ms : List Member) (t : Token) (next : Place) (kind : TokenKind)
+pub binds-first : (k : Kind) (ms : List Member) (t : Token) (next : State) (kind : TokenKind)
     → at_parameter (Some (bound_to k ms)) [] 0 t kind ≡ Some next → after_item (Binds k) ms t kind ≡ Some next
 binds-first k ms t next (tokens.Mark marks.Comma) h = cc
 binds-first k ms t next _ h = h
@@ -221,19 +221,19 @@ module _ (room : Room) where
 
   -- the first token of an item leads on
   item-first : (p : Purpose) (m : Member) (t : Token) (ts rest : List Token) (b : ℕ) (middle : List Token)
-      → bangs b (t ∷ ts) middle → member (kind_for p) m middle rest → (next : Place) × (at_item p 0 [] t t.kind ≡ Some next)
+      → bangs b (t ∷ ts) middle → member (kind_for p) m middle rest → (next : State) × (at_item p 0 [] t t.kind ≡ Some next)
   item-first p m t ts rest zero middle none stands =
       member-first p m t ts rest (subst (λ x. member (kind_for p) m x rest) (sym none) stands)
   item-first p m t ts rest (suc b) middle (rest', (bang, more)) stands = (Item p 1 [], rw bang.0 refl)
 
   -- a place whose steps are those of a list's first item leads to the end of the list
-  enter : (p : Purpose) (q : Place) (ms : List Member) (t : Token) (ts rest : List Token)
-      → ((next : Place) → at_item p 0 [] t t.kind ≡ Some next → step room q t ≡ Some next)
+  enter : (p : Purpose) (q : State) (ms : List Member) (t : Token) (ts rest : List Token)
+      → ((next : State) → at_item p 0 [] t t.kind ≡ Some next → step room q t ≡ Some next)
       → list (kind_for p) ms (t ∷ ts) rest → reading room q (t ∷ ts) ≡ reading room (AfterItem p ms) rest
   enter p q [] t ts rest same h = absurd h
   enter p q (m ∷ ms) t ts rest same h = go (item-first p m t ts h.0 m.bangs h.1.0.0 h.1.0.1.0 h.1.0.1.1)
     where
-      go : (next : Place) × (at_item p 0 [] t t.kind ≡ Some next) → reading room q (t ∷ ts) ≡ reading room (AfterItem p (m ∷ ms)) rest
+      go : (next : State) × (at_item p 0 [] t t.kind ≡ Some next) → reading room q (t ∷ ts) ≡ reading room (AfterItem p (m ∷ ms)) rest
       go (next, e) = reading-step room q next t ts (same next e)
           ∙ sym (reading-step room (Item p 0 []) next t ts e) ∙ list-read p (m ∷ ms) (t ∷ ts) rest h
 
@@ -281,7 +281,7 @@ module _ (room : Room) where
       tag-read g r d x ts h.0 h.1.0 ∙ tags-read g r (d ++ x ∷ []) xs h.0 rest h.1.1 ∙ rw append_assoc refl
 
   -- one mark
-  mark-read : (q next : Place) (m : Mark) (ts rest : List Token)
+  mark-read : (q next : State) (m : Mark) (ts rest : List Token)
       → ((t : Token) → t.kind ≡ tokens.Mark m → step room q t ≡ Some next) → mark m ts rest
       → reading room q ts ≡ reading room next rest
   mark-read q next m [] rest s h = absurd h
@@ -292,14 +292,14 @@ module _ (room : Room) where
   item-some k m rest zero middle none stands = subst (λ x. member k m x rest) (sym none) stands
   item-some k m rest (suc b) middle signs stands = signs.1.0
 
-  enter_list : (p : Purpose) (q : Place) (ms : List Member) (ts rest : List Token)
-      → ((t : Token) (next : Place) → at_item p 0 [] t t.kind ≡ Some next → step room q t ≡ Some next)
+  enter_list : (p : Purpose) (q : State) (ms : List Member) (ts rest : List Token)
+      → ((t : Token) (next : State) → at_item p 0 [] t t.kind ≡ Some next → step room q t ≡ Some next)
       → list (kind_for p) ms ts rest → reading room q ts ≡ reading room (AfterItem p ms) rest
   enter_list p q [] ts rest same h = absurd h
   enter_list p q (m ∷ ms) [] rest same h = absurd (item-some (kind_for p) m h.0 m.bangs h.1.0.0 h.1.0.1.0 h.1.0.1.1)
   enter_list p q (m ∷ ms) (t ∷ ts) rest same h = enter p q (m ∷ ms) t ts rest (same t) h
 
-  pub runas-first : (g : Granting) (t : Token) (next : Place) (k : TokenKind) → t.kind ≡ k
+  pub runas-first : (g : Granting) (t : Token) (next : State) (k : TokenKind) → t.kind ≡ k
       → at_item (RunasUsers g) 0 [] t k ≡ Some next → at_runas g t k ≡ Some next
   runas-first g t next (tokens.Mark marks.RightParen) is h =
       let none : after_member (RunasUsers g) 0 [] t ≡ None = mark-none (RunasUsers g) 0 [] t marks.RightParen is in cc
@@ -307,50 +307,50 @@ module _ (room : Room) where
       let none : after_member (RunasUsers g) 0 [] t ≡ None = mark-none (RunasUsers g) 0 [] t marks.Colon is in cc
   runas-first g t next _ is h = h
 
-  pub groups-first : (g : Granting) (us : Option (List Member)) (t : Token) (next : Place) (k : TokenKind) → t.kind ≡ k
+  pub groups-first : (g : Granting) (us : Option (List Member)) (t : Token) (next : State) (k : TokenKind) → t.kind ≡ k
       → at_item (RunasGroups g us) 0 [] t k ≡ Some next → at_groups g us t k ≡ Some next
   groups-first g us t next (tokens.Mark marks.RightParen) is h =
       let none : after_member (RunasGroups g us) 0 [] t ≡ None = mark-none (RunasGroups g us) 0 [] t marks.RightParen is in cc
   groups-first g us t next _ is h = h
 
-  pub hosts-first : (us : List Member) (t : Token) (next : Place) (k : TokenKind) → t.kind ≡ k
+  pub hosts-first : (us : List Member) (t : Token) (next : State) (k : TokenKind) → t.kind ≡ k
       → at_item (Hosts us []) 0 [] t k ≡ Some next → after_item Users us t k ≡ Some next
   hosts-first us t next (tokens.Mark marks.Comma) is h =
       let none : after_member (Hosts us []) 0 [] t ≡ None = mark-none (Hosts us []) 0 [] t marks.Comma is in cc
   hosts-first us t next _ is h = h
 
   -- the place after the users of a runas
-  abbrev users_place : Granting → Option (List Member) → Place
-  users_place g None = RunasStart g
-  users_place g (Some us) = AfterItem (RunasUsers g) us
+  abbrev users_state : Granting → Option (List Member) → State
+  users_state g None = RunasStart g
+  users_state g (Some us) = AfterItem (RunasUsers g) us
 
   users-read : (g : Granting) (us : Option (List Member)) (ts rest : List Token) → optional (list kinds.Runas) us ts rest
-      → reading room (RunasStart g) ts ≡ reading room (users_place g us) rest
+      → reading room (RunasStart g) ts ≡ reading room (users_state g us) rest
   users-read g None ts rest h = ap (reading room (RunasStart g)) h
   users-read g (Some us) ts rest h =
       enter_list (RunasUsers g) (RunasStart g) us ts rest (λ t next h. runas-first g t next t.kind refl h) h
 
   users-close : (g : Granting) (us : Option (List Member)) (t : Token) → t.kind ≡ tokens.Mark marks.RightParen
-      → step room (users_place g us) t ≡ Some (after_runas g us None)
+      → step room (users_state g us) t ≡ Some (after_runas g us None)
   users-close g None t is = ap (at_runas g t) is
   users-close g (Some us) t is = ap (after_item (RunasUsers g) us t) is
 
   users-colon : (g : Granting) (us : Option (List Member)) (t : Token) → t.kind ≡ tokens.Mark marks.Colon
-      → step room (users_place g us) t ≡ Some (GroupsStart g us)
+      → step room (users_state g us) t ≡ Some (GroupsStart g us)
   users-colon g None t is = ap (at_runas g t) is
   users-colon g (Some us) t is = ap (after_item (RunasUsers g) us t) is
 
   -- the groups, and the mark that closes
   groups-read : (g : Granting) (us gs : Option (List Member)) (ts middle rest : List Token) → groups gs ts middle
-      → mark marks.RightParen middle rest → reading room (users_place g us) ts ≡ reading room (after_runas g us gs) rest
+      → mark marks.RightParen middle rest → reading room (users_state g us) ts ≡ reading room (after_runas g us gs) rest
   groups-read g us None ts middle rest (inl none) close =
-      ap (reading room (users_place g us)) none
-      ∙ mark-read (users_place g us) (after_runas g us None) marks.RightParen middle rest (users-close g us) close
+      ap (reading room (users_state g us)) none
+      ∙ mark-read (users_state g us) (after_runas g us None) marks.RightParen middle rest (users-close g us) close
   groups-read g us None ts middle rest (inr colon) close =
-      mark-read (users_place g us) (GroupsStart g us) marks.Colon ts middle (users-colon g us) colon
+      mark-read (users_state g us) (GroupsStart g us) marks.Colon ts middle (users-colon g us) colon
       ∙ mark-read (GroupsStart g us) (after_runas g us None) marks.RightParen middle rest (λ t is. ap (at_groups g us t) is) close
   groups-read g us (Some gs) ts middle rest (after, (colon, listed)) close =
-      mark-read (users_place g us) (GroupsStart g us) marks.Colon ts after (users-colon g us) colon
+      mark-read (users_state g us) (GroupsStart g us) marks.Colon ts after (users-colon g us) colon
       ∙ enter_list (RunasGroups g us) (GroupsStart g us) gs after middle (λ t next h. groups-first g us t next t.kind refl h) listed
       ∙ mark-read (AfterItem (RunasGroups g us) gs) (after_runas g us (Some gs)) marks.RightParen middle rest (λ t is. ap (after_item (RunasGroups g us) gs t) is) close
 
@@ -481,7 +481,7 @@ module _ (room : Room) where
       reading-step room (AtValue b d w o) (AfterValue b (d ++ parameters.Assign w o t ∷ [])) t ts (word-value b d w o t t.kind h.0.1) ∙ rw (h.1, h.0.0) refl
 
   parameter-read : (b : Option Binding) (d : List Parameter) (x : Parameter) (ts rest : List Token) → parameter x ts rest
-      → reading room (AtParameter b d 0) ts ≡ reading room (parameter_place b d x) rest
+      → reading room (AtParameter b d 0) ts ≡ reading room (parameter_state b d x) rest
   parameter-read b d (parameters.Switch n w) ts rest h =
       let counted : 0 + n ≡ n = omega arith in
       parameter_bangs-read b d 0 n ts h.0 h.1.0 ∙ rw counted (switch-read b d n w h.0 rest h.1.1)
@@ -489,25 +489,25 @@ module _ (room : Room) where
       switch-read b d 0 w ts a named ∙ operator-read b d w o a c op ∙ value-read b d w o v c rest value
 
   parameter-comma : (b : Option Binding) (d : List Parameter) (x : Parameter) (t : Token) → t.kind ≡ tokens.Mark marks.Comma
-      → step room (parameter_place b d x) t ≡ Some (AtParameter b (d ++ x ∷ []) 0)
+      → step room (parameter_state b d x) t ≡ Some (AtParameter b (d ++ x ∷ []) 0)
   parameter-comma b d (parameters.Switch n w) t is = ap (after_switch b d n w) is
   parameter-comma b d (parameters.Assign w o v) t is = ap (after_value b (d ++ parameters.Assign w o v ∷ [])) is
 
   parameter-ends : (b : Option Binding) (d : List Parameter) (x : Parameter)
-      → reading room (parameter_place b d x) [] ≡ Ok (entries.Defaults b (d ++ x ∷ []))
+      → reading room (parameter_state b d x) [] ≡ Ok (entries.Defaults b (d ++ x ∷ []))
   parameter-ends b d (parameters.Switch n w) = refl
   parameter-ends b d (parameters.Assign w o v) = refl
 
   more_parameters-read : (b : Option Binding) (d : List Parameter) (x : Parameter) (xs : List Parameter) (ts : List Token)
-      → more_parameters xs ts [] → reading room (parameter_place b d x) ts ≡ Ok (entries.Defaults b (d ++ x ∷ xs))
-  more_parameters-read b d x [] ts h = ap (reading room (parameter_place b d x)) h ∙ parameter-ends b d x
+      → more_parameters xs ts [] → reading room (parameter_state b d x) ts ≡ Ok (entries.Defaults b (d ++ x ∷ xs))
+  more_parameters-read b d x [] ts h = ap (reading room (parameter_state b d x)) h ∙ parameter-ends b d x
   more_parameters-read b d x (y ∷ ys) ts (a, (comma, (c, (named, further)))) =
-      mark-read (parameter_place b d x) (AtParameter b (d ++ x ∷ []) 0) marks.Comma ts a (λ t is. parameter-comma b d x t is) comma
+      mark-read (parameter_state b d x) (AtParameter b (d ++ x ∷ []) 0) marks.Comma ts a (λ t is. parameter-comma b d x t is) comma
       ∙ parameter-read b (d ++ x ∷ []) y a c named ∙ more_parameters-read b (d ++ x ∷ []) y ys c further ∙ rw append_assoc refl
 
   -- the first token of a parameter leads on
   parameter-first : (b : Option Binding) (x : Parameter) (t : Token) (ts rest : List Token) → parameter x (t ∷ ts) rest
-      → (next : Place) × (at_parameter b [] 0 t t.kind ≡ Some next)
+      → (next : State) × (at_parameter b [] 0 t t.kind ≡ Some next)
   parameter-first b (parameters.Switch zero w) t ts rest (a, (none, named)) =
       (AfterSwitch b [] 0 t, word-parameter b [] 0 t t.kind (subst (λ x. the_word w x rest) (sym none) named).0.1)
   parameter-first b (parameters.Switch (suc n) w) t ts rest (a, ((c, (bang, more)), named)) = (AtParameter b [] 1, rw bang.0 refl)
@@ -520,14 +520,14 @@ module _ (room : Room) where
   parameter-some (parameters.Assign w o v) rest (a, (named, more)) = named
 
   -- the parameters, from a place whose steps are those of a parameter's first token
-  parameters-read : (b : Option Binding) (q : Place) (xs : List Parameter) (ts : List Token)
-      → ((t : Token) (us : List Token) (next : Place) → ts ≡ t ∷ us → at_parameter b [] 0 t t.kind ≡ Some next → step room q t ≡ Some next)
+  parameters-read : (b : Option Binding) (q : State) (xs : List Parameter) (ts : List Token)
+      → ((t : Token) (us : List Token) (next : State) → ts ≡ t ∷ us → at_parameter b [] 0 t t.kind ≡ Some next → step room q t ≡ Some next)
       → parameter_list xs ts [] → reading room q ts ≡ Ok (entries.Defaults b xs)
   parameters-read b q [] ts same h = absurd h
   parameters-read b q (x ∷ xs) [] same h = absurd (parameter-some x h.0 h.1.0)
   parameters-read b q (x ∷ xs) (t ∷ ts) same h = go (parameter-first b x t ts h.0 h.1.0)
     where
-      go : (next : Place) × (at_parameter b [] 0 t t.kind ≡ Some next) → reading room q (t ∷ ts) ≡ Ok (entries.Defaults b (x ∷ xs))
+      go : (next : State) × (at_parameter b [] 0 t t.kind ≡ Some next) → reading room q (t ∷ ts) ≡ Ok (entries.Defaults b (x ∷ xs))
       go (next, e) = reading-step room q next t ts (same t ts next refl e)
           ∙ sym (reading-step room (AtParameter b [] 0) next t ts e) ∙ parameter-read b [] x (t ∷ ts) h.0 h.1.0
           ∙ more_parameters-read b [] x xs h.0 h.1.1

@@ -6,13 +6,13 @@ use Rattle.sudo_grammar.specs.declared.policy.Definition.{Definition}
 use Rattle.sudo_grammar.specs.declared.policy.EntryBody.{EntryBody}
 use Rattle.sudo_grammar.specs.declared.policy.EntryBody.TheVariants as entries
 use Rattle.sudo_grammar.specs.Forms.{◌▸◌, name, definition, more_definitions, Writes}
-use Rattle.sudo_grammar.specs.Places.{Room, Place, Start, AliasName, AfterName, at_alias_name, step}
+use Rattle.sudo_grammar.specs.States.{Room, State, Start, AliasName, AfterName, at_alias_name, step}
 use Rattle.sudo_grammar.specs.Reading.{reading, stop_at, Stop}
 use Rattle.sudo_grammar.specs.Faults.{HasRoom}
 use Rattle.sudo_grammar.proofs.Complete.{definition-read, colon-read, keyword-read}
 
 -- where no step leads on, reading stops
-pub reading-stops : (room : Room) (place : Place) (t : Token) (ts : List Token) → step room place t ≡ None
+pub reading-stops : (room : Room) (place : State) (t : Token) (ts : List Token) → step room place t ≡ None
     → reading room place (t ∷ ts) ≡ Err (stop_at place (t ∷ ts))
 reading-stops room place t ts h = rw (h, reading) refl
 

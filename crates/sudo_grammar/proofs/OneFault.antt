@@ -3,32 +3,32 @@ use Rattle.std.proofs.Common.{cond, inl, inr, ◌⊎◌, ◌≡◌, List, [], �
 use Rattle.sudo_text.specs.declared.token.Token.{Token}
 use Rattle.sudo_grammar.specs.declared.policy.EntryBody.{EntryBody}
 use Rattle.sudo_grammar.specs.Forms.{Writes}
-use Rattle.sudo_grammar.specs.Places.{Place, Start, AliasName, AfterName, Room, at_alias_name, step, ended, place_after}
+use Rattle.sudo_grammar.specs.States.{State, Start, AliasName, AfterName, Room, at_alias_name, step, ended, state_after}
 use Rattle.sudo_grammar.specs.Reading.{entry_or_stop, reading, stop_at, Stop}
-use Rattle.sudo_grammar.specs.Remaining.{GoesOn}
+use Rattle.sudo_grammar.specs.Remaining.{Completes}
 use Rattle.sudo_grammar.specs.Faults.{Begins, IsOneTooMany, IsStuck, IsGrammarFault, WritesWithin}
 use Rattle.sudo_grammar.proofs.Complete.{entry-read}
 use Rattle.sudo_grammar.proofs.Limits.{reading-stops, room-kept}
 use Rattle.sudo_grammar.proofs.Sound.{sound, some-injective}
-use Rattle.sudo_grammar.proofs.Stops.{begins, reading-front, form-front, with_room, goes_on-back, leftmost, IsHalted, err-injective}
+use Rattle.sudo_grammar.proofs.Stops.{begins, reading-front, form-front, with_room, completes-back, leftmost, IsHalted, err-injective}
 
 -- one token more
-pub place_after-step : (room : Room) (place q next : Place) (front : List Token) (t : Token)
-    → place_after room place front ≡ Some q → step room q t ≡ Some next → place_after room place (front ++ t ∷ []) ≡ Some next
-place_after-step room place q next [] t reached is = rw (some-injective reached, is, place_after) refl
-place_after-step room place q next (u ∷ us) t reached is =
-    go (step room place u) refl reached (λ later. place_after-step room later q next us t)
+pub state_after-step : (room : Room) (place q next : State) (front : List Token) (t : Token)
+    → state_after room place front ≡ Some q → step room q t ≡ Some next → state_after room place (front ++ t ∷ []) ≡ Some next
+state_after-step room place q next [] t reached is = rw (some-injective reached, is, state_after) refl
+state_after-step room place q next (u ∷ us) t reached is =
+    go (step room place u) refl reached (λ later. state_after-step room later q next us t)
   where
-    go : (r : Option Place) → step room place u ≡ r
-        → elim r as (λ _. Option Place) [ Some later ↦ place_after room later us | None ↦ None ] ≡ Some q
-        → ((later : Place) → place_after room later us ≡ Some q → step room q t ≡ Some next
-        → place_after room later (us ++ t ∷ []) ≡ Some next)
-        → place_after room place (u ∷ us ++ t ∷ []) ≡ Some next
-    go (Some later) taken h hyp = rw (taken, place_after) (hyp later h is)
+    go : (r : Option State) → step room place u ≡ r
+        → elim r as (λ _. Option State) [ Some later ↦ state_after room later us | None ↦ None ] ≡ Some q
+        → ((later : State) → state_after room later us ≡ Some q → step room q t ≡ Some next
+        → state_after room later (us ++ t ∷ []) ≡ Some next)
+        → state_after room place (u ∷ us ++ t ∷ []) ≡ Some next
+    go (Some later) taken h hyp = rw (taken, state_after) (hyp later h is)
     go None taken h hyp = cc
 
 -- a name one too many is not taken
-full-stops : (room : Room) (place : Place) (front : List Token) (t : Token) → place_after room Start front ≡ Some place
+full-stops : (room : Room) (place : State) (front : List Token) (t : Token) → state_after room Start front ≡ Some place
     → IsOneTooMany room front t → step room place t ≡ None
 full-stops room place front t reached (k, (d, (w, (named, is, full)))) =
     let here : place ≡ AliasName k d = some-injective (sym reached ∙ named) in
@@ -36,7 +36,7 @@ full-stops room place front t reached (k, (d, (w, (named, is, full)))) =
     ap (λ p. step room p t) here ∙ ap (at_alias_name room k d) is ∙ ap (λ b. cond b (Some (AfterName k d w)) None) over
 
 -- where a line is stuck, no step leads on
-stuck-halted : (room : Room) (place : Place) (front rest : List Token) → place_after room Start front ≡ Some place
+stuck-halted : (room : Room) (place : State) (front rest : List Token) → state_after room Start front ≡ Some place
     → IsStuck room front rest → IsHalted room place rest
 stuck-halted room place front [] reached stuck = go (ended place) refl
   where
@@ -48,13 +48,13 @@ stuck-halted room place front [] reached stuck = go (ended place) refl
         absurd (stuck e (sound room Start front e (ap (reading room Start) (sym (append-nil front)) ∙ read)))
 stuck-halted room place front (t ∷ ts) reached stuck = go (step room place t) refl stuck
   where
-    go : (r : Option Place) → step room place t ≡ r → (Begins (front ++ t ∷ []) → ⊥) ⊎ IsOneTooMany room front t
+    go : (r : Option State) → step room place t ≡ r → (Begins (front ++ t ∷ []) → ⊥) ⊎ IsOneTooMany room front t
         → step room place t ≡ None
     go None is h = is
-    go (Some next) is (inl dead) = absurd (dead (begins room (front ++ t ∷ []) next (place_after-step room Start place next front t reached is)))
+    go (Some next) is (inl dead) = absurd (dead (begins room (front ++ t ∷ []) next (state_after-step room Start place next front t reached is)))
     go (Some next) is (inr full) = full-stops room place front t reached full
 
-halted-stops : (room : Room) (place : Place) (rest : List Token) → IsHalted room place rest
+halted-stops : (room : Room) (place : State) (rest : List Token) → IsHalted room place rest
     → reading room place rest ≡ Err (stop_at place rest)
 halted-stops room place [] h = ap (entry_or_stop place) h
 halted-stops room place (t ∷ ts) h = reading-stops room place t ts h
@@ -92,10 +92,10 @@ faulty-or-written room ts = go (reading room Start ts) refl
     go (Err stop) is = inr (stop, leftmost room ts stop is)
 
 -- the forms that are left at a place are those of the entries that begin so
-pub place-left : (room : Room) (front : List Token) (place : Place) (e : EntryBody) (ts : List Token)
-    → place_after room Start front ≡ Some place → Writes e (front ++ ts) → GoesOn place e ts
+pub place-left : (room : Room) (front : List Token) (place : State) (e : EntryBody) (ts : List Token)
+    → state_after room Start front ≡ Some place → Writes e (front ++ ts) → Completes place e ts
 place-left room front place e ts reached w = sound (with_room room e) place ts e (form-front room place front ts e reached w)
 
-pub place-whole : (room : Room) (front : List Token) (place : Place) (e : EntryBody) (ts : List Token)
-    → place_after room Start front ≡ Some place → GoesOn place e ts → Writes e (front ++ ts)
-place-whole room front place e ts reached g = goes_on-back room Start place front ts e reached g
+pub place-whole : (room : Room) (front : List Token) (place : State) (e : EntryBody) (ts : List Token)
+    → state_after room Start front ≡ Some place → Completes place e ts → Writes e (front ++ ts)
+place-whole room front place e ts reached g = completes-back room Start place front ts e reached g

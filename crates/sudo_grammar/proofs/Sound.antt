@@ -24,9 +24,9 @@ use Rattle.sudo_grammar.specs.Words.{name_of, tag_of}
 use Rattle.sudo_grammar.specs.Members.{atom_of}
 use Rattle.sudo_grammar.specs.Openings.{Opening, Keyword, DefaultsLine, Directive, BadDirective, Other, opening_of, is_direct, kind_of_mark, is_word, operator_of}
 use Rattle.sudo_grammar.specs.Forms.{mark, bangs, list, spec, binding, parameter, as_tag, last_as_tag, Writes}
-use Rattle.sudo_grammar.specs.Places.{Granting, Purpose, Defines, Users, Hosts, RunasUsers, RunasGroups, Binds, kind_for, bound_to, closed, Room, Place, Start, AliasName, AfterName, Item, AfterItem, Command, AfterCommand, RunasStart, GroupsStart, DefaultsStart, AtParameter, AfterSwitch, AtValue, AfterValue, Included, at_item, member_place, after_item, after_list, after_name, at_alias_name, at_command, command_place, at_paren, after_command, after_colon, at_runas, at_groups, at_binding, after_defaults, at_parameter, at_operator, after_switch, at_value, after_value, at_start, step, ended}
+use Rattle.sudo_grammar.specs.States.{Granting, Purpose, Defines, Users, Hosts, RunasUsers, RunasGroups, Binds, kind_for, bound_to, closed, Room, State, Start, AliasName, AfterName, Item, AfterItem, Command, AfterCommand, RunasStart, GroupsStart, DefaultsStart, AtParameter, AfterSwitch, AtValue, AfterValue, Included, at_item, member_state, after_item, after_list, after_name, at_alias_name, at_command, command_state, at_paren, after_command, after_colon, at_runas, at_groups, at_binding, after_defaults, at_parameter, at_operator, after_switch, at_value, after_value, at_start, step, ended}
 use Rattle.sudo_grammar.specs.Reading.{entry_or_stop, reading, stop_at, Stop}
-use Rattle.sudo_grammar.specs.Remaining.{AfterSpec, AtCommand, AtTags, AtSpec, AtGroups, AfterList, InList, AtItem, parameter_left, GoesOn}
+use Rattle.sudo_grammar.specs.Remaining.{AfterSpec, AtCommand, AtTags, AtSpec, AtGroups, AfterList, InList, AtItem, parameter_left, Completes}
 
 pub some-injective : {A : Type 0} {x y : A} → Some x ≡ Some y → x ≡ y
 some-injective h = cc
@@ -38,11 +38,11 @@ pub ok-injective : {A B : Type 0} {x y : A} → ◌≡◌ {A = Result A B} (Ok x
 ok-injective h = cc
 
 -- what goes on from the next place
-on : (place next : Place) (e : EntryBody) (ts : List Token) → Some place ≡ Some next → GoesOn next e ts → GoesOn place e ts
-on place next e ts h g = subst (λ x. GoesOn x e ts) (sym (some-injective h)) g
+on : (place next : State) (e : EntryBody) (ts : List Token) → Some place ≡ Some next → Completes next e ts → Completes place e ts
+on place next e ts h g = subst (λ x. Completes x e ts) (sym (some-injective h)) g
 
 -- where a line may end, it goes on with no token
-ends : (place : Place) (e : EntryBody) → ended place ≡ Some e → GoesOn place e []
+ends : (place : State) (e : EntryBody) → ended place ≡ Some e → Completes place e []
 ends (AfterItem (Defines k done w) d) e h = ([], ([], (refl, ([], (refl, rw append-nil (sym (some-injective h)))))))
 ends (AfterCommand g s) e h = inl ([], ([], (([], (refl, refl)), sym (some-injective h))))
 ends (AfterSwitch b d n name) e h = inl ([], (refl, sym (some-injective h)))
@@ -61,18 +61,18 @@ back-bang : (p : Purpose) (n : ℕ) (d : List Member) (t : Token) (ts : List Tok
 back-bang p n d t ts e is (m, (more, (after, (counted, ((middle, (signs, stands)), rest))))) =
     (m, (suc more, (after, (omega (arith, counted), ((middle, ((ts, ((is, refl), signs)), stands)), rest)))))
 
-back-member : (p : Purpose) (n : ℕ) (d : List Member) (t : Token) (ts : List Token) (e : EntryBody) (next : Place)
-    (r : Result Atom Refusal) → atom_of (kind_for p) t.kind ≡ r → member_place p n d t r ≡ Some next
-    → GoesOn next e ts → AtItem p n d e (t ∷ ts)
+back-member : (p : Purpose) (n : ℕ) (d : List Member) (t : Token) (ts : List Token) (e : EntryBody) (next : State)
+    (r : Result Atom Refusal) → atom_of (kind_for p) t.kind ≡ r → member_state p n d t r ≡ Some next
+    → Completes next e ts → AtItem p n d e (t ∷ ts)
 back-member p n d t ts e next (Err r) is h g = cc
 back-member p n d t ts e next (Ok a) is h g = (
   record { bangs = n; token = t; atom = a },
   (0, (ts, (sym (add-zero n), ((t ∷ ts, (refl, ((refl, is), refl))), on (AfterItem p (d ++ record { bangs = n; token = t; atom = a } ∷ [])) next e ts h g)))),
 )
 
-back-item : (p : Purpose) (n : ℕ) (d : List Member) (t : Token) (ts : List Token) (e : EntryBody) (next : Place)
+back-item : (p : Purpose) (n : ℕ) (d : List Member) (t : Token) (ts : List Token) (e : EntryBody) (next : State)
     (kind : TokenKind) → t.kind ≡ kind → at_item p n d t kind ≡ Some next
-    → GoesOn next e ts → AtItem p n d e (t ∷ ts)
+    → Completes next e ts → AtItem p n d e (t ∷ ts)
 back-item p n d t ts e next (tokens.Mark marks.Bang) is h g = back-bang p n d t ts e is (on (Item p (suc n) d) next e ts h g)
 back-item p n d t ts e next _ is h g = back-member p n d t ts e next (atom_of (kind_for p) t.kind) refl h g
 
@@ -111,20 +111,20 @@ whole_spec g e ts (r, (a, (granted, (xs, (b, (tagged, (m, (more, (after, (counte
 
 -- no tag, and no runas
 lift-tags : (g : Granting) (r : Option Runas) (d : List Tag) (e : EntryBody) (ts : List Token)
-    → AtTags g r d e ts → GoesOn (Command g r d 0) e ts
+    → AtTags g r d e ts → Completes (Command g r d 0) e ts
 lift-tags g (Some r) d e ts h = h
 lift-tags g None (x ∷ d) e ts h = h
 lift-tags g None [] e ts h = (None, (ts, (refl, h)))
 
 lift-command : (g : Granting) (r : Option Runas) (d : List Tag) (n : ℕ) (e : EntryBody) (ts : List Token)
-    → AtCommand g r d n e ts → GoesOn (Command g r d n) e ts
+    → AtCommand g r d n e ts → Completes (Command g r d n) e ts
 lift-command g r d (suc n) e ts h = h
 lift-command g r d zero e ts h =
     lift-tags g r d e ts ([], (ts, (refl, subst (λ x. AtCommand g r x 0 e ts) (sym (append-nil d)) h)))
 
 -- after a tag no runas may stand
 after-tag : (g : Granting) (r : Option Runas) (d : List Tag) (x : Tag) (e : EntryBody) (ts : List Token)
-    → GoesOn (Command g r (d ++ x ∷ []) 0) e ts → AtTags g r (d ++ x ∷ []) e ts
+    → Completes (Command g r (d ++ x ∷ []) 0) e ts → AtTags g r (d ++ x ∷ []) e ts
 after-tag g (Some r) d x e ts h = h
 after-tag g None [] x e ts h = h
 after-tag g None (y ∷ d) x e ts h = h
@@ -145,40 +145,40 @@ signed-no-tag n t a x h =
 back-tag : (g : Granting) (r : Option Runas) (d : List Tag) (n : ℕ) (t : Token) (a : Atom) (ts : List Token) (e : EntryBody)
     → (x : Tag) × ((as_tag (record { bangs = n; token = t; atom = a }) ≡ Some x) × ((after : List Token)
     × (mark marks.Colon ts after × AtTags g r (d ++ x ∷ []) e after)))
-    → GoesOn (Command g r d n) e (t ∷ ts)
+    → Completes (Command g r d n) e (t ∷ ts)
 back-tag g r d (suc n) t a ts e (x, (tagged, rest)) = absurd (signed-no-tag n t a x tagged)
 back-tag g r d zero t a ts e (x, (tagged, (after, (colon, (xs, (b, (further, rest))))))) =
     lift-tags g r d e (t ∷ ts)
     (x ∷ xs, (b, ((after, ((ts, ((tagged, refl), colon)), further)), rw append_assoc at rest)))
 
-back-named : (g : Granting) (r : Option Runas) (d : List Tag) (n : ℕ) (t : Token) (ts : List Token) (e : EntryBody) (next : Place)
-    (o : Result Atom Refusal) → atom_of kinds.Cmnd t.kind ≡ o → command_place g r d n t o ≡ Some next
-    → GoesOn next e ts → GoesOn (Command g r d n) e (t ∷ ts)
+back-named : (g : Granting) (r : Option Runas) (d : List Tag) (n : ℕ) (t : Token) (ts : List Token) (e : EntryBody) (next : State)
+    (o : Result Atom Refusal) → atom_of kinds.Cmnd t.kind ≡ o → command_state g r d n t o ≡ Some next
+    → Completes next e ts → Completes (Command g r d n) e (t ∷ ts)
 back-named g r d n t ts e next (Err refusal) is h g' = cc
 back-named g r d n t ts e next (Ok a) is h g' =
     go (on (AfterCommand g (record { runas = r; tags = d; command = record { bangs = n; token = t; atom = a } })) next e ts h g')
   where
-    go : GoesOn (AfterCommand g (record { runas = r; tags = d; command = record { bangs = n; token = t; atom = a } })) e ts
-        → GoesOn (Command g r d n) e (t ∷ ts)
+    go : Completes (AfterCommand g (record { runas = r; tags = d; command = record { bangs = n; token = t; atom = a } })) e ts
+        → Completes (Command g r d n) e (t ∷ ts)
     go (inl rest) = lift-command g r d n e (t ∷ ts)
         (record { bangs = n; token = t; atom = a }, (0, (ts, (sym (add-zero n), ((t ∷ ts, (refl, ((refl, is), refl))), rest)))))
     go (inr tagged) = back-tag g r d n t a ts e tagged
 
-back-paren : (g : Granting) (r : Option Runas) (d : List Tag) (n : ℕ) (t : Token) (ts : List Token) (e : EntryBody) (next : Place)
+back-paren : (g : Granting) (r : Option Runas) (d : List Tag) (n : ℕ) (t : Token) (ts : List Token) (e : EntryBody) (next : State)
     → t.kind ≡ tokens.Mark marks.LeftParen → at_paren g r d n ≡ Some next
-    → GoesOn next e ts → GoesOn (Command g r d n) e (t ∷ ts)
+    → Completes next e ts → Completes (Command g r d n) e (t ∷ ts)
 back-paren g None [] zero t ts e next is h g' = go (on (RunasStart g) next e ts h g')
   where
-    go : GoesOn (RunasStart g) e ts → AtSpec g e (t ∷ ts)
+    go : Completes (RunasStart g) e ts → AtSpec g e (t ∷ ts)
     go (us, (a, (users, (gs, (after, ((b, (grouped, close)), rest)))))) = (
       Some (record { users = us; groups = gs }),
       (after, ((ts, ((is, refl), (a, (users, (b, (grouped, close)))))), rest)),
     )
 back-paren g _ _ _ t ts e next is h g' = cc
 
-back-command : (g : Granting) (r : Option Runas) (d : List Tag) (n : ℕ) (t : Token) (ts : List Token) (e : EntryBody) (next : Place)
+back-command : (g : Granting) (r : Option Runas) (d : List Tag) (n : ℕ) (t : Token) (ts : List Token) (e : EntryBody) (next : State)
     (kind : TokenKind) → t.kind ≡ kind → at_command g r d n t kind ≡ Some next
-    → GoesOn next e ts → GoesOn (Command g r d n) e (t ∷ ts)
+    → Completes next e ts → Completes (Command g r d n) e (t ∷ ts)
 back-command g r d n t ts e next (tokens.Mark marks.Bang) is h g' =
     lift-command g r d n e (t ∷ ts) (back-command_bang g r d n t ts e is (on (Command g r d (suc n)) next e ts h g'))
 back-command g r d n t ts e next (tokens.Mark marks.LeftParen) is h g' = back-paren g r d n t ts e next is h g'
@@ -233,14 +233,14 @@ back-next_section g s t ts e is none h = go (whole_list (Hosts g.users (g.sectio
       ),
     )
 
-back-after_command : (g : Granting) (s : CommandSpec) (t : Token) (ts : List Token) (e : EntryBody) (next : Place)
+back-after_command : (g : Granting) (s : CommandSpec) (t : Token) (ts : List Token) (e : EntryBody) (next : State)
     (kind : TokenKind) → t.kind ≡ kind → after_command g s kind ≡ Some next
-    → GoesOn next e ts → GoesOn (AfterCommand g s) e (t ∷ ts)
+    → Completes next e ts → Completes (AfterCommand g s) e (t ∷ ts)
 back-after_command g s t ts e next (tokens.Mark marks.Comma) is h g' =
     inl (back-next_spec g s t ts e is (on (Command (record g { commands = g.commands ++ s ∷ [] }) None [] 0) next e ts h g'))
 back-after_command g s t ts e next (tokens.Mark marks.Colon) is h g' = go (as_tag s.command) refl h
   where
-    go : (o : Option Tag) → as_tag s.command ≡ o → Some (after_colon g s o) ≡ Some next → GoesOn (AfterCommand g s) e (t ∷ ts)
+    go : (o : Option Tag) → as_tag s.command ≡ o → Some (after_colon g s o) ≡ Some next → Completes (AfterCommand g s) e (t ∷ ts)
     go None none h = inl (back-next_section g s t ts e is none (on (after_colon g s None) next e ts h g'))
     go (Some x) tagged h =
         inr (x, (tagged, (ts, ((is, refl), after-tag g s.runas s.tags x e ts (on (after_colon g s (Some x)) next e ts h g')))))
@@ -254,15 +254,15 @@ back-close : (g : Granting) (us : Option (List Member)) (t : Token) (ts : List T
 back-close g us t ts e is rest = (None, (ts, ((t ∷ ts, (inl refl, (is, refl))), rest)))
 
 back-groups : (g : Granting) (us : Option (List Member)) (t : Token) (ts : List Token) (e : EntryBody)
-    → t.kind ≡ tokens.Mark marks.Colon → GoesOn (GroupsStart g us) e ts → AtGroups g us e (t ∷ ts)
+    → t.kind ≡ tokens.Mark marks.Colon → Completes (GroupsStart g us) e ts → AtGroups g us e (t ∷ ts)
 back-groups g us t ts e is (None, (after, ((middle, (none, close)), rest))) =
     (None, (after, ((middle, (inr (is, none), close)), rest)))
 back-groups g us t ts e is (Some gs, (after, ((middle, (listed, close)), rest))) =
     (Some gs, (after, ((middle, ((ts, ((is, refl), listed)), close)), rest)))
 
-back-runas : (g : Granting) (t : Token) (ts : List Token) (e : EntryBody) (next : Place)
+back-runas : (g : Granting) (t : Token) (ts : List Token) (e : EntryBody) (next : State)
     (kind : TokenKind) → t.kind ≡ kind → at_runas g t kind ≡ Some next
-    → GoesOn next e ts → GoesOn (RunasStart g) e (t ∷ ts)
+    → Completes next e ts → Completes (RunasStart g) e (t ∷ ts)
 back-runas g t ts e next (tokens.Mark marks.RightParen) is h g' =
     (None, (t ∷ ts, (refl, back-close g None t ts e is (on (Command g (Some (record { users = None; groups = None })) [] 0) next e ts h g'))))
 back-runas g t ts e next (tokens.Mark marks.Colon) is h g' =
@@ -270,12 +270,12 @@ back-runas g t ts e next (tokens.Mark marks.Colon) is h g' =
 back-runas g t ts e next kind is h g' = go (whole_list (RunasUsers g) e (t ∷ ts) (back-item (RunasUsers g) 0 [] t ts e next kind is h g'))
   where
     go : (us : List Member) × ((after : List Token) × (list kinds.Runas us (t ∷ ts) after × AtGroups g (Some us) e after))
-        → GoesOn (RunasStart g) e (t ∷ ts)
+        → Completes (RunasStart g) e (t ∷ ts)
     go (us, rest) = (Some us, rest)
 
-back-groups_start : (g : Granting) (us : Option (List Member)) (t : Token) (ts : List Token) (e : EntryBody) (next : Place)
+back-groups_start : (g : Granting) (us : Option (List Member)) (t : Token) (ts : List Token) (e : EntryBody) (next : State)
     (kind : TokenKind) → t.kind ≡ kind → at_groups g us t kind ≡ Some next
-    → GoesOn next e ts → GoesOn (GroupsStart g us) e (t ∷ ts)
+    → Completes next e ts → Completes (GroupsStart g us) e (t ∷ ts)
 back-groups_start g us t ts e next (tokens.Mark marks.RightParen) is h g' = (
   None,
   (ts, ((t ∷ ts, (refl, (is, refl))), on (Command g (Some (record { users = us; groups = None })) [] 0) next e ts h g')),
@@ -284,7 +284,7 @@ back-groups_start g us t ts e next kind is h g' =
     go (whole_list (RunasGroups g us) e (t ∷ ts) (back-item (RunasGroups g us) 0 [] t ts e next kind is h g'))
   where
     go : (gs : List Member) × ((after : List Token) × (list kinds.Runas gs (t ∷ ts) after × AfterList (RunasGroups g us) gs e after))
-        → GoesOn (GroupsStart g us) e (t ∷ ts)
+        → Completes (GroupsStart g us) e (t ∷ ts)
     go (gs, (after, (listed, (b, (close, rest))))) = (Some gs, (b, ((after, (listed, close)), rest)))
 
 -- Defaults.
@@ -303,7 +303,7 @@ back-parameter_bang (parameters.Assign name operator value) n t ts rest is h = a
 
 -- a word was the name of a switch, or of a parameter with a value
 back-word : (b : Option Binding) (d : List Parameter) (n : ℕ) (t : Token) (ts : List Token) (e : EntryBody)
-    → is_word t.kind ≡ true → GoesOn (AfterSwitch b d n t) e ts → GoesOn (AtParameter b d n) e (t ∷ ts)
+    → is_word t.kind ≡ true → Completes (AfterSwitch b d n t) e ts → Completes (AtParameter b d n) e (t ∷ ts)
 back-word b d n t ts e is (inl (xs, (further, is_e))) = (
   parameters.Switch n t,
   (xs, ((ts, ((0, (sym (add-zero n), (t ∷ ts, (refl, ((refl, is), refl))))), further)), is_e)),
@@ -314,51 +314,51 @@ back-word b d zero t ts e is (inr (none, (operator, (after, (assigned, (value, (
   (xs, ((middle, ((ts, (((refl, is), refl), (after, (assigned, valued)))), further)), is_e)),
 )
 
-back-parameter : (b : Option Binding) (d : List Parameter) (n : ℕ) (t : Token) (ts : List Token) (e : EntryBody) (next : Place)
+back-parameter : (b : Option Binding) (d : List Parameter) (n : ℕ) (t : Token) (ts : List Token) (e : EntryBody) (next : State)
     (kind : TokenKind) → t.kind ≡ kind → at_parameter b d n t kind ≡ Some next
-    → GoesOn next e ts → GoesOn (AtParameter b d n) e (t ∷ ts)
+    → Completes next e ts → Completes (AtParameter b d n) e (t ∷ ts)
 back-parameter b d n t ts e next (tokens.Mark marks.Bang) is h g = go (on (AtParameter b d (suc n)) next e ts h g)
   where
-    go : GoesOn (AtParameter b d (suc n)) e ts → GoesOn (AtParameter b d n) e (t ∷ ts)
+    go : Completes (AtParameter b d (suc n)) e ts → Completes (AtParameter b d n) e (t ∷ ts)
     go (x, (xs, ((middle, (left, further)), is_e))) =
         (x, (xs, ((middle, (back-parameter_bang x n t ts middle is left, further)), is_e)))
 back-parameter b d n t ts e next (tokens.Word quoted chars) is h g =
     back-word b d n t ts e (ap is_word is) (on (AfterSwitch b d n t) next e ts h g)
 back-parameter b d n t ts e next _ is h g = cc
 
-back-switch : (b : Option Binding) (d : List Parameter) (n : ℕ) (name t : Token) (ts : List Token) (e : EntryBody) (next : Place)
+back-switch : (b : Option Binding) (d : List Parameter) (n : ℕ) (name t : Token) (ts : List Token) (e : EntryBody) (next : State)
     (kind : TokenKind) → t.kind ≡ kind → after_switch b d n name kind ≡ Some next
-    → GoesOn next e ts → GoesOn (AfterSwitch b d n name) e (t ∷ ts)
+    → Completes next e ts → Completes (AfterSwitch b d n name) e (t ∷ ts)
 back-switch b d n name t ts e next (tokens.Mark marks.Comma) is h g =
     go (on (AtParameter b (d ++ parameters.Switch n name ∷ []) 0) next e ts h g)
   where
-    go : GoesOn (AtParameter b (d ++ parameters.Switch n name ∷ []) 0) e ts → GoesOn (AfterSwitch b d n name) e (t ∷ ts)
+    go : Completes (AtParameter b (d ++ parameters.Switch n name ∷ []) 0) e ts → Completes (AfterSwitch b d n name) e (t ∷ ts)
     go (x, (xs, ((middle, (left, further)), is_e))) =
         inl (x ∷ xs, ((ts, ((is, refl), (middle, (whole_parameter x ts middle left, further)))), rw append_assoc at is_e))
 back-switch b d n name t ts e next kind is h g = go n (operator_of kind) (ap operator_of is) h
   where
     go : (n : ℕ) (o : Option Operator) → operator_of t.kind ≡ o → at_operator b d n name o ≡ Some next
-        → GoesOn (AfterSwitch b d n name) e (t ∷ ts)
+        → Completes (AfterSwitch b d n name) e (t ∷ ts)
     go zero (Some operator) is h = inr (refl, (operator, (ts, ((is, refl), on (AtValue b d name operator) next e ts h g))))
     go zero None is h = cc
     go (suc n) o is h = cc
 
 back-value : (b : Option Binding) (d : List Parameter) (name : Token) (operator : Operator) (t : Token) (ts : List Token)
-    (e : EntryBody) (next : Place) (kind : TokenKind) → t.kind ≡ kind → at_value b d name operator t kind ≡ Some next
-    → GoesOn next e ts → GoesOn (AtValue b d name operator) e (t ∷ ts)
+    (e : EntryBody) (next : State) (kind : TokenKind) → t.kind ≡ kind → at_value b d name operator t kind ≡ Some next
+    → Completes next e ts → Completes (AtValue b d name operator) e (t ∷ ts)
 back-value b d name operator t ts e next (tokens.Word quoted chars) is h g =
     go (on (AfterValue b (d ++ parameters.Assign name operator t ∷ [])) next e ts h g)
   where
-    go : GoesOn (AfterValue b (d ++ parameters.Assign name operator t ∷ [])) e ts → GoesOn (AtValue b d name operator) e (t ∷ ts)
+    go : Completes (AfterValue b (d ++ parameters.Assign name operator t ∷ [])) e ts → Completes (AtValue b d name operator) e (t ∷ ts)
     go (xs, (further, is_e)) = (t, (xs, ((ts, (((refl, ap is_word is), refl), further)), rw append_assoc at is_e)))
 back-value b d name operator t ts e next _ is h g = cc
 
-back-after_value : (b : Option Binding) (d : List Parameter) (t : Token) (ts : List Token) (e : EntryBody) (next : Place)
+back-after_value : (b : Option Binding) (d : List Parameter) (t : Token) (ts : List Token) (e : EntryBody) (next : State)
     (kind : TokenKind) → t.kind ≡ kind → after_value b d kind ≡ Some next
-    → GoesOn next e ts → GoesOn (AfterValue b d) e (t ∷ ts)
+    → Completes next e ts → Completes (AfterValue b d) e (t ∷ ts)
 back-after_value b d t ts e next (tokens.Mark marks.Comma) is h g = go (on (AtParameter b d 0) next e ts h g)
   where
-    go : GoesOn (AtParameter b d 0) e ts → GoesOn (AfterValue b d) e (t ∷ ts)
+    go : Completes (AtParameter b d 0) e ts → Completes (AfterValue b d) e (t ∷ ts)
     go (x, (xs, ((middle, (left, further)), is_e))) =
         (x ∷ xs, ((ts, ((is, refl), (middle, (whole_parameter x ts middle left, further)))), is_e))
 back-after_value b d t ts e next _ is h g = cc
@@ -370,35 +370,35 @@ bound kinds.Runas ms t ts after direct is listed = (ts, (((direct, is), refl), l
 bound kinds.Host ms t ts after direct is listed = (ts, (((direct, is), refl), listed))
 bound kinds.Cmnd ms t ts after direct is listed = (ts, (((direct, is), refl), listed))
 
-back-binding : (t : Token) (ts : List Token) (e : EntryBody) (next : Place) (k : Option Kind)
+back-binding : (t : Token) (ts : List Token) (e : EntryBody) (next : State) (k : Option Kind)
     → is_direct t ≡ true → kind_of_mark t.kind ≡ k → at_binding k ≡ Some next
-    → GoesOn next e ts → GoesOn DefaultsStart e (t ∷ ts)
+    → Completes next e ts → Completes DefaultsStart e (t ∷ ts)
 back-binding t ts e next None direct is h g = cc
 back-binding t ts e next (Some k) direct is h g = go (whole_list (Binds k) e ts (on (Item (Binds k) 0 []) next e ts h g))
   where
     go : (ms : List Member) × ((after : List Token) × (list k ms ts after × AfterList (Binds k) ms e after))
-        → GoesOn DefaultsStart e (t ∷ ts)
+        → Completes DefaultsStart e (t ∷ ts)
     go (ms, (after, (listed, (xs, (further, is_e))))) =
         (Some (bound_to k ms), (xs, ((after, (bound k ms t ts after direct is listed, further)), is_e)))
 
-back-defaults : (t : Token) (ts : List Token) (e : EntryBody) (next : Place) (direct : Bool)
-    → is_direct t ≡ direct → after_defaults direct t ≡ Some next → GoesOn next e ts → GoesOn DefaultsStart e (t ∷ ts)
+back-defaults : (t : Token) (ts : List Token) (e : EntryBody) (next : State) (direct : Bool)
+    → is_direct t ≡ direct → after_defaults direct t ≡ Some next → Completes next e ts → Completes DefaultsStart e (t ∷ ts)
 back-defaults t ts e next true is h g = back-binding t ts e next (kind_of_mark t.kind) is refl h g
 back-defaults t ts e next false is h g = go (back-parameter None [] 0 t ts e next t.kind refl h g)
   where
-    go : GoesOn (AtParameter None [] 0) e (t ∷ ts) → GoesOn DefaultsStart e (t ∷ ts)
+    go : Completes (AtParameter None [] 0) e (t ∷ ts) → Completes DefaultsStart e (t ∷ ts)
     go (x, (xs, ((middle, (left, further)), is_e))) =
         (None, (x ∷ xs, ((t ∷ ts, ((is, refl), (middle, (whole_parameter x (t ∷ ts) middle left, further)))), is_e)))
 
 -- After a list.
 
-back-list : (p : Purpose) (d : List Member) (t : Token) (ts : List Token) (e : EntryBody) (next : Place)
+back-list : (p : Purpose) (d : List Member) (t : Token) (ts : List Token) (e : EntryBody) (next : State)
     (kind : TokenKind) → t.kind ≡ kind → after_list p d t kind ≡ Some next
-    → GoesOn next e ts → AfterList p d e (t ∷ ts)
+    → Completes next e ts → AfterList p d e (t ∷ ts)
 back-list (Defines k done w) d t ts e next (tokens.Mark marks.Colon) is h g =
     go (on (AliasName k (done ++ record { name = w; members = d } ∷ [])) next e ts h g)
   where
-    go : GoesOn (AliasName k (done ++ record { name = w; members = d } ∷ [])) e ts → AfterList (Defines k done w) d e (t ∷ ts)
+    go : Completes (AliasName k (done ++ record { name = w; members = d } ∷ [])) e ts → AfterList (Defines k done w) d e (t ∷ ts)
     go ([], (none, h)) = absurd none
     go (x ∷ xs, (forms, is_e)) = (x ∷ xs, ((ts, ((is, refl), forms)), rw append_assoc at is_e))
 back-list (Defines k done w) d t ts e next _ is h g = cc
@@ -431,57 +431,57 @@ back-list (RunasGroups g us) d t ts e next (tokens.Mark marks.RightParen) is h g
 back-list (RunasGroups g us) d t ts e next _ is h g' = cc
 back-list (Binds k) d t ts e next kind is h g = go (back-parameter (Some (bound_to k d)) [] 0 t ts e next kind is h g)
   where
-    go : GoesOn (AtParameter (Some (bound_to k d)) [] 0) e (t ∷ ts) → AfterList (Binds k) d e (t ∷ ts)
+    go : Completes (AtParameter (Some (bound_to k d)) [] 0) e (t ∷ ts) → AfterList (Binds k) d e (t ∷ ts)
     go (x, (xs, ((middle, (left, further)), is_e))) =
         (x ∷ xs, ((middle, (whole_parameter x (t ∷ ts) middle left, further)), is_e))
 
-back-after : (p : Purpose) (d : List Member) (t : Token) (ts : List Token) (e : EntryBody) (next : Place)
+back-after : (p : Purpose) (d : List Member) (t : Token) (ts : List Token) (e : EntryBody) (next : State)
     (kind : TokenKind) → t.kind ≡ kind → after_item p d t kind ≡ Some next
-    → GoesOn next e ts → InList p d e (t ∷ ts)
+    → Completes next e ts → InList p d e (t ∷ ts)
 back-after p d t ts e next (tokens.Mark marks.Comma) is h g = back-comma p d t ts e is (on (Item p 0 d) next e ts h g)
 back-after p d t ts e next kind is h g = leave p d e (t ∷ ts) (back-list p d t ts e next kind is h g)
 
 -- Aliases, and the first token.
 
-back-name : (room : Room) (k : Kind) (d : List Definition) (t : Token) (ts : List Token) (e : EntryBody) (next : Place)
+back-name : (room : Room) (k : Kind) (d : List Definition) (t : Token) (ts : List Token) (e : EntryBody) (next : State)
     (w : Option (List ℕ)) → name_of t.kind ≡ w → at_alias_name room k d w ≡ Some next
-    → GoesOn next e ts → GoesOn (AliasName k d) e (t ∷ ts)
+    → Completes next e ts → Completes (AliasName k d) e (t ∷ ts)
 back-name room k d t ts e next None is h g = cc
 back-name room k d t ts e next (Some w) is h g = go (ltb (length d) (room k)) h
   where
-    named : GoesOn (AfterName k d w) e ts → GoesOn (AliasName k d) e (t ∷ ts)
+    named : Completes (AfterName k d w) e ts → Completes (AliasName k d) e (t ∷ ts)
     named (ms, (ds, ((a, (equals, (b, (listed, further)))), is_e))) =
         (record { name = w; members = ms } ∷ ds, ((b, ((ts, ((is, refl), (a, (equals, listed)))), further)), is_e))
 
-    go : (b : Bool) → cond b (Some (AfterName k d w)) None ≡ Some next → GoesOn (AliasName k d) e (t ∷ ts)
+    go : (b : Bool) → cond b (Some (AfterName k d w)) None ≡ Some next → Completes (AliasName k d) e (t ∷ ts)
     go false h = cc
     go true h = named (on (AfterName k d w) next e ts h g)
 
-back-equals : (k : Kind) (d : List Definition) (w : List ℕ) (t : Token) (ts : List Token) (e : EntryBody) (next : Place)
+back-equals : (k : Kind) (d : List Definition) (w : List ℕ) (t : Token) (ts : List Token) (e : EntryBody) (next : State)
     (kind : TokenKind) → t.kind ≡ kind → after_name k d w kind ≡ Some next
-    → GoesOn next e ts → GoesOn (AfterName k d w) e (t ∷ ts)
+    → Completes next e ts → Completes (AfterName k d w) e (t ∷ ts)
 back-equals k d w t ts e next (tokens.Mark marks.Equals) is h g =
     go (whole_list (Defines k d w) e ts (on (Item (Defines k d w) 0 []) next e ts h g))
   where
     go : (ms : List Member) × ((after : List Token) × (list k ms ts after × AfterList (Defines k d w) ms e after))
-        → GoesOn (AfterName k d w) e (t ∷ ts)
+        → Completes (AfterName k d w) e (t ∷ ts)
     go (ms, (after, (listed, (ds, (further, is_e))))) = (ms, (ds, ((ts, ((is, refl), (after, (listed, further)))), is_e)))
 back-equals k d w t ts e next _ is h g = cc
 
-back-start : (t : Token) (ts : List Token) (e : EntryBody) (next : Place)
+back-start : (t : Token) (ts : List Token) (e : EntryBody) (next : State)
     (o : Opening) → opening_of t.kind ≡ o → at_start o t ≡ Some next
-    → GoesOn next e ts → Writes e (t ∷ ts)
+    → Completes next e ts → Writes e (t ∷ ts)
 back-start t ts e next (Keyword k) is h g = go (on (AliasName k []) next e ts h g)
   where
-    go : GoesOn (AliasName k []) e ts → Writes e (t ∷ ts)
+    go : Completes (AliasName k []) e ts → Writes e (t ∷ ts)
     go (xs, (forms, is_e)) = subst (λ x. Writes x (t ∷ ts)) (sym is_e) (ts, ((is, refl), forms))
 back-start t ts e next DefaultsLine is h g = go (on DefaultsStart next e ts h g)
   where
-    go : GoesOn DefaultsStart e ts → Writes e (t ∷ ts)
+    go : Completes DefaultsStart e ts → Writes e (t ∷ ts)
     go (b, (xs, (forms, is_e))) = subst (λ x. Writes x (t ∷ ts)) (sym is_e) (ts, ((is, refl), forms))
 back-start t ts e next (Directive folder hash path) is h g = go (on (Included folder hash path) next e ts h g)
   where
-    go : GoesOn (Included folder hash path) e ts → Writes e (t ∷ ts)
+    go : Completes (Included folder hash path) e ts → Writes e (t ∷ ts)
     go (none, is_e) = subst (λ x. Writes x (t ∷ ts)) (sym is_e) (is, none)
 back-start t ts e next (BadDirective path) is h g = cc
 back-start t ts e next Other is h g = go (whole_list Users e (t ∷ ts) (back-item Users 0 [] t ts e next t.kind refl h g))
@@ -491,8 +491,8 @@ back-start t ts e next Other is h g = go (whole_list Users e (t ∷ ts) (back-it
     go (us, (after, (listed, (ss, (sections, is_e))))) =
         subst (λ x. Writes x (t ∷ ts)) (sym is_e) (t ∷ ts, ((is, refl), (after, (listed, sections))))
 
-pub backward : (room : Room) (place next : Place) (t : Token) (ts : List Token) (e : EntryBody)
-    → step room place t ≡ Some next → GoesOn next e ts → GoesOn place e (t ∷ ts)
+pub backward : (room : Room) (place next : State) (t : Token) (ts : List Token) (e : EntryBody)
+    → step room place t ≡ Some next → Completes next e ts → Completes place e (t ∷ ts)
 backward room Start next t ts e h g = back-start t ts e next (opening_of t.kind) refl h g
 backward room (AliasName k d) next t ts e h g = back-name room k d t ts e next (name_of t.kind) refl h g
 backward room (AfterName k d w) next t ts e h g = back-equals k d w t ts e next t.kind refl h g
@@ -510,17 +510,17 @@ backward room (AfterValue b d) next t ts e h g = back-after_value b d t ts e nex
 backward room (Included folder hash path) next t ts e h g = cc
 
 -- from a place on, what is read goes on so
-pub sound : (room : Room) (place : Place) (ts : List Token) (e : EntryBody) → reading room place ts ≡ Ok e → GoesOn place e ts
+pub sound : (room : Room) (place : State) (ts : List Token) (e : EntryBody) → reading room place ts ≡ Ok e → Completes place e ts
 sound room place [] e h = go (ended place) refl h
   where
-    go : (r : Option EntryBody) → ended place ≡ r → entry_or_stop place r ≡ Ok e → GoesOn place e []
+    go : (r : Option EntryBody) → ended place ≡ r → entry_or_stop place r ≡ Ok e → Completes place e []
     go (Some x) is h = ends place e (is ∙ ap Some (ok-injective h))
     go None is h = cc
 sound room place (t ∷ ts) e h = go (step room place t) refl h (λ next. sound room next ts e)
   where
-    go : (r : Option Place) → step room place t ≡ r
+    go : (r : Option State) → step room place t ≡ r
         → elim r as (λ _. Result EntryBody Stop) [ Some next ↦ reading room next ts | None ↦ Err (stop_at place (t ∷ ts)) ] ≡ Ok e
-        → ((next : Place) → reading room next ts ≡ Ok e → GoesOn next e ts)
-        → GoesOn place e (t ∷ ts)
+        → ((next : State) → reading room next ts ≡ Ok e → Completes next e ts)
+        → Completes place e (t ∷ ts)
     go (Some next) is h hyp = backward room place next t ts e is (hyp next h)
     go None is h hyp = cc

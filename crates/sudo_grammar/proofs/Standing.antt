@@ -21,15 +21,15 @@ use Rattle.sudo_grammar.specs.declared.fault.Unsupported.TheVariants as forms
 use Rattle.sudo_grammar.specs.Words.{name_of, plain_word, kind_of_keyword, is_digest_name}
 use Rattle.sudo_grammar.specs.Members.{atom_of, expected_in}
 use Rattle.sudo_grammar.specs.Openings.{Opening, Keyword, DefaultsLine, Directive, BadDirective, Other, opening_of, plain_opening, is_direct, is_word, is_percent, spells}
-use Rattle.sudo_grammar.specs.Places.{Purpose, Defines, Users, Hosts, RunasUsers, RunasGroups, Binds, kind_for, bound_to, Room, Place, Start, AliasName, AfterName, Item, AfterItem, Command, AfterCommand, RunasStart, GroupsStart, DefaultsStart, AtParameter, AfterSwitch, AtValue, AfterValue, Included, at_start, after_item, after_name, after_defaults, at_alias_name, step, ended, place_after}
+use Rattle.sudo_grammar.specs.States.{Purpose, Defines, Users, Hosts, RunasUsers, RunasGroups, Binds, kind_for, bound_to, Room, State, Start, AliasName, AfterName, Item, AfterItem, Command, AfterCommand, RunasStart, GroupsStart, DefaultsStart, AtParameter, AfterSwitch, AtValue, AfterValue, Included, at_start, after_item, after_name, after_defaults, at_alias_name, step, ended, state_after}
 use Rattle.sudo_grammar.specs.Refusals.{is_next, is_next_at, with_next, refused_atom, refused_member, is_option, or_option, last_command, refused_name, refused_start, refused_after, refused_at}
 use Rattle.sudo_grammar.specs.Reading.{entry_or_stop, reading, Stop}
 use Rattle.sudo_grammar.specs.Faults.{Begins, IsGrammarFault}
 use Rattle.sudo_grammar.specs.Standing.{MembersStand, CanStand}
 use Rattle.sudo_grammar.proofs.Complete.{at_item-takes, at_command-takes, hosts-first, runas-first, groups-first, binds-first, word-parameter, word-value}
 use Rattle.sudo_grammar.proofs.Sound.{sound}
-use Rattle.sudo_grammar.proofs.Stops.{Covers, place_after-wide, begins, reading-front}
-use Rattle.sudo_grammar.proofs.OneFault.{place_after-step}
+use Rattle.sudo_grammar.proofs.Stops.{Covers, state_after-wide, begins, reading-front}
+use Rattle.sudo_grammar.proofs.OneFault.{state_after-step}
 use Rattle.sudo_grammar.proofs.SyntaxWords.{syntax-word}
 
 -- which word a refusal has
@@ -108,7 +108,7 @@ user-first (tokens.Word quoted cs) a bad h is = go (plain_word (tokens.Word quot
             last false is = cc
 
 start-takes : (t : Token) (a : Atom) (o : Opening) → opening_of t.kind ≡ o → atom_of kinds.User t.kind ≡ Ok a
-    → (next : Place) × (at_start o t ≡ Some next)
+    → (next : State) × (at_start o t ≡ Some next)
 start-takes t a (Keyword k) is h = (AliasName k [], refl)
 start-takes t a DefaultsLine is h = (DefaultsStart, refl)
 start-takes t a (Directive folder hash path) is h = (Included folder hash path, refl)
@@ -116,11 +116,11 @@ start-takes t a (BadDirective path) is h = absurd (user-first t.kind a path h is
 start-takes t a Other is h = (AfterItem Users (record { bangs = 0; token = t; atom = a } ∷ []), at_item-takes Users 0 [] t a h)
 
 module _ (room : Room) (front : List Token) where
-  step-begins : (place next : Place) (t : Token) → place_after room Start front ≡ Some place → step room place t ≡ Some next
+  step-begins : (place next : State) (t : Token) → state_after room Start front ≡ Some place → step room place t ≡ Some next
       → Begins (front ++ t ∷ [])
-  step-begins place next t reached is = begins room (front ++ t ∷ []) next (place_after-step room Start place next front t reached is)
+  step-begins place next t reached is = begins room (front ++ t ∷ []) next (state_after-step room Start place next front t reached is)
 
-  may-end : (place : Place) (e : EntryBody) → place_after room Start front ≡ Some place → ended place ≡ Some e
+  may-end : (place : State) (e : EntryBody) → state_after room Start front ≡ Some place → ended place ≡ Some e
       → CanStand wants.EndOfLine front
   may-end place e reached is = (
     e,
@@ -128,7 +128,7 @@ module _ (room : Room) (front : List Token) where
         (ap (reading room Start) (sym (append-nil front)) ∙ reading-front room Start place front [] reached ∙ ap (entry_or_stop place) is),
   )
 
-  name-stands : (k : Kind) (d : List Definition) → place_after room Start front ≡ Some (AliasName k d)
+  name-stands : (k : Kind) (d : List Definition) → state_after room Start front ≡ Some (AliasName k d)
       → CanStand wants.AliasName front
   name-stands k d reached t w named =
       let wide : Room = λ k. room k + suc (length d) in
@@ -137,16 +137,16 @@ module _ (room : Room) (front : List Token) where
       let taken : step wide (AliasName k d) t ≡ Some (AfterName k d w) =
       ap (at_alias_name wide k d) named ∙ ap (λ b. cond b (Some (AfterName k d w)) None) (lt-ltb (length d) (wide k) fits) in
       begins wide (front ++ t ∷ []) (AfterName k d w)
-      (place_after-step wide Start (AliasName k d) (AfterName k d w) front t (place_after-wide room wide covers Start (AliasName k d) front reached) taken)
+      (state_after-step wide Start (AliasName k d) (AfterName k d w) front t (state_after-wide room wide covers Start (AliasName k d) front reached) taken)
 
-  start-stands : (ts : List Token) (o : Opening) (x : Expected) → place_after room Start front ≡ Some Start
+  start-stands : (ts : List Token) (o : Opening) (x : Expected) → state_after room Start front ≡ Some Start
       → refused_start ts o ≡ refusals.Syntax x → CanStand x front
   start-stands ts o x reached h = go o h
     where
       users : MembersStand kinds.User front
       users t a is = taken (start-takes t a (opening_of t.kind) refl is)
         where
-          taken : (next : Place) × (at_start (opening_of t.kind) t ≡ Some next) → Begins (front ++ t ∷ [])
+          taken : (next : State) × (at_start (opening_of t.kind) t ≡ Some next) → Begins (front ++ t ∷ [])
           taken (next, e) = step-begins Start next t reached e
 
       member : refused_member kinds.User ts ≡ refusals.Syntax x → CanStand x front
@@ -170,7 +170,7 @@ module _ (room : Room) (front : List Token) where
   fixed w x h stands = subst (λ y. CanStand y front) (syntax-injective w x h) stands
 
   after-stands : (p : Purpose) (d : List Member) (ts : List Token) (x : Expected)
-      → place_after room Start front ≡ Some (AfterItem p d) → refused_after p ts ≡ refusals.Syntax x → CanStand x front
+      → state_after room Start front ≡ Some (AfterItem p d) → refused_after p ts ≡ refusals.Syntax x → CanStand x front
   after-stands (Defines k done w) d ts x reached h = fixed wants.EndOfLine x h (may-end (AfterItem (Defines k done w) d) _ reached refl)
   after-stands Users d ts x reached h = member-stands kinds.Host ts x h
       (λ t a is. step-begins (AfterItem Users d) _ t reached (hosts-first room d t _ t.kind refl (at_item-takes (Hosts d []) 0 [] t a is)))
@@ -184,7 +184,7 @@ module _ (room : Room) (front : List Token) where
       (λ t word apart. step-begins (AfterItem (Binds k) d) _ t reached
       (binds-first k d t _ t.kind (word-parameter (Some (bound_to k d)) [] 0 t t.kind word)))
 
-  place-stands : (place : Place) (ts : List Token) (x : Expected) → place_after room Start front ≡ Some place
+  place-stands : (place : State) (ts : List Token) (x : Expected) → state_after room Start front ≡ Some place
       → refused_at place ts ≡ refusals.Syntax x → CanStand x front
   place-stands Start [] x reached h = start-stands [] Other x reached h
   place-stands Start (t ∷ ts) x reached h = start-stands (t ∷ ts) (opening_of t.kind) x reached h

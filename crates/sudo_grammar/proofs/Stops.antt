@@ -14,10 +14,10 @@ use Rattle.sudo_grammar.specs.declared.policy.EntryBody.{EntryBody}
 use Rattle.sudo_grammar.specs.declared.policy.EntryBody.TheVariants as entries
 use Rattle.sudo_grammar.specs.Words.{name_of}
 use Rattle.sudo_grammar.specs.Forms.{Writes}
-use Rattle.sudo_grammar.specs.Places.{Purpose, Defines, Users, Hosts, RunasUsers, RunasGroups, Binds, Place, Start, AliasName, AfterName, Item, AfterItem, Command, AfterCommand, RunasStart, GroupsStart, DefaultsStart, AtParameter, AfterSwitch, AtValue, AfterValue, Included, Room, at_alias_name, step, ended, place_after}
+use Rattle.sudo_grammar.specs.States.{Purpose, Defines, Users, Hosts, RunasUsers, RunasGroups, Binds, State, Start, AliasName, AfterName, Item, AfterItem, Command, AfterCommand, RunasStart, GroupsStart, DefaultsStart, AtParameter, AfterSwitch, AtValue, AfterValue, Included, Room, at_alias_name, step, ended, state_after}
 use Rattle.sudo_grammar.specs.Refusals.{refused_at}
 use Rattle.sudo_grammar.specs.Reading.{entry_or_stop, reading, stop_at, Stop}
-use Rattle.sudo_grammar.specs.Remaining.{GoesOn}
+use Rattle.sudo_grammar.specs.Remaining.{Completes}
 use Rattle.sudo_grammar.specs.Faults.{HasRoom, Begins, IsStuck, IsGrammarFault}
 use Rattle.sudo_grammar.proofs.Complete.{entry-read, reading-step}
 use Rattle.sudo_grammar.proofs.Unique.{count}
@@ -44,7 +44,7 @@ finish_list (RunasUsers g) = the_mark marks.RightParen ∷ all ∷ []
 finish_list (RunasGroups g us) = the_mark marks.RightParen ∷ all ∷ []
 finish_list (Binds k) = all ∷ []
 
-abbrev finish : Place → List Token
+abbrev finish : State → List Token
 finish Start = all ∷ all ∷ the_mark marks.Equals ∷ all ∷ []
 finish (AliasName k d) = a ∷ the_mark marks.Equals ∷ all ∷ []
 finish (AfterName k d w) = the_mark marks.Equals ∷ all ∷ []
@@ -62,7 +62,7 @@ finish (AfterValue b d) = []
 finish (Included folder hash path) = []
 
 -- some entry goes on so
-abbrev IsLive : Place → List Token → Type 0
+abbrev IsLive : State → List Token → Type 0
 IsLive place ts = (room : Room) × ((e : EntryBody) × (reading room place ts ≡ Ok e))
 
 abbrev none : Room
@@ -85,7 +85,7 @@ live-after (RunasGroups g us) d = (none, (_, refl))
 live-after (Binds k) d = (none, (_, refl))
 
 -- from each place a line can go on
-live : (place : Place) → IsLive place (finish place)
+live : (place : State) → IsLive place (finish place)
 live Start = (none, (_, refl))
 live (AliasName k d) =
     let wide : Room = λ k. suc (length d) in
@@ -107,34 +107,34 @@ live (AfterValue b d) = (none, (_, refl))
 live (Included folder hash path) = (none, (_, refl))
 
 -- what goes on from a place that was reached goes on from the place before
-pub goes_on-back : (room : Room) (place q : Place) (front more : List Token) (e : EntryBody)
-    → place_after room place front ≡ Some q → GoesOn q e more → GoesOn place e (front ++ more)
-goes_on-back room place q [] more e h g = subst (λ x. GoesOn x e more) (sym (some-injective h)) g
-goes_on-back room place q (t ∷ ts) more e h g = go (step room place t) refl h (λ next h. goes_on-back room next q ts more e h g)
+pub completes-back : (room : Room) (place q : State) (front more : List Token) (e : EntryBody)
+    → state_after room place front ≡ Some q → Completes q e more → Completes place e (front ++ more)
+completes-back room place q [] more e h g = subst (λ x. Completes x e more) (sym (some-injective h)) g
+completes-back room place q (t ∷ ts) more e h g = go (step room place t) refl h (λ next h. completes-back room next q ts more e h g)
   where
-    go : (r : Option Place) → step room place t ≡ r
-        → elim r as (λ _. Option Place) [ Some next ↦ place_after room next ts | None ↦ None ] ≡ Some q
-        → ((next : Place) → place_after room next ts ≡ Some q → GoesOn next e (ts ++ more))
-        → GoesOn place e (t ∷ ts ++ more)
+    go : (r : Option State) → step room place t ≡ r
+        → elim r as (λ _. Option State) [ Some next ↦ state_after room next ts | None ↦ None ] ≡ Some q
+        → ((next : State) → state_after room next ts ≡ Some q → Completes next e (ts ++ more))
+        → Completes place e (t ∷ ts ++ more)
     go (Some next) is h hyp = backward room place next t (ts ++ more) e is (hyp next h)
     go None is h hyp = cc
 
 -- a form begins with the tokens that lead to a place
-pub begins : (room : Room) (front : List Token) (q : Place) → place_after room Start front ≡ Some q → Begins front
+pub begins : (room : Room) (front : List Token) (q : State) → state_after room Start front ≡ Some q → Begins front
 begins room front q h = go (live q)
   where
     go : IsLive q (finish q) → Begins front
-    go (wide, (e, read)) = (e, finish q, goes_on-back room Start q front (finish q) e h (sound wide q (finish q) e read))
+    go (wide, (e, read)) = (e, finish q, completes-back room Start q front (finish q) e h (sound wide q (finish q) e read))
 
 -- the reading of a front and more is that of what is left, from the place after the front
-pub reading-front : (room : Room) (place q : Place) (front more : List Token) → place_after room place front ≡ Some q
+pub reading-front : (room : Room) (place q : State) (front more : List Token) → state_after room place front ≡ Some q
     → reading room place (front ++ more) ≡ reading room q more
 reading-front room place q [] more h = rw (some-injective h) refl
 reading-front room place q (t ∷ ts) more h = go (step room place t) refl h (λ next. reading-front room next q ts more)
   where
-    go : (r : Option Place) → step room place t ≡ r
-        → elim r as (λ _. Option Place) [ Some next ↦ place_after room next ts | None ↦ None ] ≡ Some q
-        → ((next : Place) → place_after room next ts ≡ Some q → reading room next (ts ++ more) ≡ reading room q more)
+    go : (r : Option State) → step room place t ≡ r
+        → elim r as (λ _. Option State) [ Some next ↦ state_after room next ts | None ↦ None ] ≡ Some q
+        → ((next : State) → state_after room next ts ≡ Some q → reading room next (ts ++ more) ≡ reading room q more)
         → reading room place (t ∷ ts ++ more) ≡ reading room q more
     go (Some next) is h hyp = reading-step room place next t (ts ++ more) is ∙ hyp next h
     go None is h hyp = cc
@@ -143,7 +143,7 @@ reading-front room place q (t ∷ ts) more h = go (step room place t) refl h (λ
 abbrev pub Covers : Room → Room → Type 0
 Covers room wide = (k : Kind) → room k ≤ wide k
 
-name-wide : (room wide : Room) → Covers room wide → (k : Kind) (d : List Definition) (w : Option (List ℕ)) (next : Place)
+name-wide : (room wide : Room) → Covers room wide → (k : Kind) (d : List Definition) (w : Option (List ℕ)) (next : State)
     → at_alias_name room k d w ≡ Some next → at_alias_name wide k d w ≡ Some next
 name-wide room wide covers k d None next h = cc
 name-wide room wide covers k d (Some w) next h = go (ltb (length d) (room k)) refl h
@@ -157,26 +157,26 @@ name-wide room wide covers k d (Some w) next h = go (ltb (length d) (room k)) re
         let still : length d < wide k = omega arith in
         rw (lt-ltb (length d) (wide k) still) h
 
-step-wide : (room wide : Room) → Covers room wide → (place next : Place) (t : Token)
+step-wide : (room wide : Room) → Covers room wide → (place next : State) (t : Token)
     → step room place t ≡ Some next → step wide place t ≡ Some next
 step-wide room wide covers (AliasName k d) next t h = name-wide room wide covers k d (name_of t.kind) next h
 step-wide room wide covers _ next t h = h
 
-pub place_after-wide : (room wide : Room) → Covers room wide → (place q : Place) (ts : List Token)
-    → place_after room place ts ≡ Some q → place_after wide place ts ≡ Some q
-place_after-wide room wide covers place q [] h = h
-place_after-wide room wide covers place q (t ∷ ts) h =
-    go (step room place t) refl h (λ next. place_after-wide room wide covers next q ts)
+pub state_after-wide : (room wide : Room) → Covers room wide → (place q : State) (ts : List Token)
+    → state_after room place ts ≡ Some q → state_after wide place ts ≡ Some q
+state_after-wide room wide covers place q [] h = h
+state_after-wide room wide covers place q (t ∷ ts) h =
+    go (step room place t) refl h (λ next. state_after-wide room wide covers next q ts)
   where
-    go : (r : Option Place) → step room place t ≡ r
-        → elim r as (λ _. Option Place) [ Some next ↦ place_after room next ts | None ↦ None ] ≡ Some q
-        → ((next : Place) → place_after room next ts ≡ Some q → place_after wide next ts ≡ Some q)
-        → place_after wide place (t ∷ ts) ≡ Some q
-    go (Some next) is h hyp = rw (step-wide room wide covers place next t is, place_after) (hyp next h)
+    go : (r : Option State) → step room place t ≡ r
+        → elim r as (λ _. Option State) [ Some next ↦ state_after room next ts | None ↦ None ] ≡ Some q
+        → ((next : State) → state_after room next ts ≡ Some q → state_after wide next ts ≡ Some q)
+        → state_after wide place (t ∷ ts) ≡ Some q
+    go (Some next) is h hyp = rw (step-wide room wide covers place next t is, state_after) (hyp next h)
     go None is h hyp = cc
 
 -- no room makes the step
-abbrev NoStep : Room → Place → Token → Type 0
+abbrev NoStep : Room → State → Token → Type 0
 NoStep room place t = (wide : Room) → Covers room wide → step wide place t ≡ None
 
 name-none : (room : Room) (k : Kind) (d : List Definition) (w : Option (List ℕ))
@@ -201,16 +201,16 @@ has_room room (entries.Aliases k ds) = omega arith
 has_room room _ = tt
 
 -- a form that begins with tokens that lead to a place is read on from there
-pub form-front : (room : Room) (place : Place) (front more : List Token) (e : EntryBody)
-    → place_after room Start front ≡ Some place → Writes e (front ++ more) → reading (with_room room e) place more ≡ Ok e
+pub form-front : (room : Room) (place : State) (front more : List Token) (e : EntryBody)
+    → state_after room Start front ≡ Some place → Writes e (front ++ more) → reading (with_room room e) place more ≡ Ok e
 form-front room place front more e reached w =
     let wide : Room = with_room room e in
     let covers : Covers room wide = λ k. omega arith in
-    sym (reading-front wide Start place front more (place_after-wide room wide covers Start place front reached))
+    sym (reading-front wide Start place front more (state_after-wide room wide covers Start place front reached))
     ∙ entry-read wide e (front ++ more) w (has_room room e)
 
 -- no form begins with a front and a token that no step takes
-dead : (room : Room) (place : Place) (t : Token) (front : List Token) → place_after room Start front ≡ Some place
+dead : (room : Room) (place : State) (t : Token) (front : List Token) → state_after room Start front ≡ Some place
     → NoStep room place t → Begins (front ++ t ∷ []) → ⊥
 dead room place t front reached none (e, rest, w) =
     let covers : Covers room (with_room room e) = λ k. omega arith in
@@ -222,7 +222,7 @@ dead room place t front reached none (e, rest, w) =
     cc
 
 -- nor is a front a form where the line can't end
-dead-end : (room : Room) (place : Place) (front : List Token) → place_after room Start front ≡ Some place
+dead-end : (room : Room) (place : State) (front : List Token) → state_after room Start front ≡ Some place
     → ended place ≡ None → (e : EntryBody) → Writes e front → ⊥
 dead-end room place front reached none e w =
     let read : reading (with_room room e) place [] ≡ Ok e =
@@ -231,7 +231,7 @@ dead-end room place front reached none e w =
     let same : ◌≡◌ {A = Result EntryBody Stop} (Ok e) (Err (stop_at place [])) = sym read ∙ stops in
     cc
 
-stuck : (room : Room) (place : Place) (t : Token) (front ts : List Token) → place_after room Start front ≡ Some place
+stuck : (room : Room) (place : State) (t : Token) (front ts : List Token) → state_after room Start front ≡ Some place
     → step room place t ≡ None → IsStuck room front (t ∷ ts)
 stuck room (AliasName k d) t front ts reached none = go (name-none room k d (name_of t.kind) none)
   where
@@ -243,16 +243,16 @@ stuck room (AliasName k d) t front ts reached none = go (name-none room k d (nam
 stuck room place t front ts reached none = inl (dead room place t front reached (λ wide covers. none))
 
 -- no step leads on, or the line can't end
-abbrev pub IsHalted : Room → Place → List Token → Type 0
+abbrev pub IsHalted : Room → State → List Token → Type 0
 IsHalted room place [] = ended place ≡ None
 IsHalted room place (t ∷ ts) = step room place t ≡ None
 
 -- Reading stops at a place that the tokens before lead to, and from which no step leads on.
-record Halts (room : Room) (place : Place) (ts : List Token) (stop : Stop) : Type 0 where
+record Halts (room : Room) (place : State) (ts : List Token) (stop : Stop) : Type 0 where
   front : List Token
   whole : ts ≡ front ++ stop.rest
-  last : Place
-  reached : place_after room place front ≡ Some last
+  last : State
+  reached : state_after room place front ≡ Some last
   refusal : stop.refusal ≡ refused_at last stop.rest
   halted : IsHalted room last stop.rest
 
@@ -260,18 +260,18 @@ pub err-injective : {A B : Type 0} {x y : B} → ◌≡◌ {A = Result A B} (Err
 err-injective h = cc
 
 -- a halt one token on
-halts-back : (room : Room) (place next : Place) (t : Token) (ts : List Token) (stop : Stop)
+halts-back : (room : Room) (place next : State) (t : Token) (ts : List Token) (stop : Stop)
     → step room place t ≡ Some next → Halts room next ts stop → Halts room place (t ∷ ts) stop
 halts-back room place next t ts stop is h = record {
   front = t ∷ h.front;
   whole = ap (λ x. t ∷ x) h.whole;
   last = h.last;
-  reached = rw (is, place_after) h.reached;
+  reached = rw (is, state_after) h.reached;
   refusal = h.refusal;
   halted = h.halted;
 }
 
-halts : (room : Room) (place : Place) (ts : List Token) (stop : Stop) → reading room place ts ≡ Err stop
+halts : (room : Room) (place : State) (ts : List Token) (stop : Stop) → reading room place ts ≡ Err stop
     → Halts room place ts stop
 halts room place [] stop h = go (ended place) refl h
   where
@@ -281,15 +281,15 @@ halts room place [] stop h = go (ended place) refl h
         (record { front = []; whole = refl; last = place; reached = refl; refusal = refl; halted = is })
 halts room place (t ∷ ts) stop h = go (step room place t) refl h (λ next. halts room next ts stop)
   where
-    go : (r : Option Place) → step room place t ≡ r
+    go : (r : Option State) → step room place t ≡ r
         → elim r as (λ _. Result EntryBody Stop) [ Some next ↦ reading room next ts | None ↦ Err (stop_at place (t ∷ ts)) ] ≡ Err stop
-        → ((next : Place) → reading room next ts ≡ Err stop → Halts room next ts stop)
+        → ((next : State) → reading room next ts ≡ Err stop → Halts room next ts stop)
         → Halts room place (t ∷ ts) stop
     go (Some next) is h hyp = halts-back room place next t ts stop is (hyp next h)
     go None is h hyp = subst (λ x. Halts room place (t ∷ ts) x) (err-injective h)
         (record { front = []; whole = refl; last = place; reached = refl; refusal = refl; halted = is })
 
-halted-stuck : (room : Room) (front rest : List Token) (place : Place) → place_after room Start front ≡ Some place
+halted-stuck : (room : Room) (front rest : List Token) (place : State) → state_after room Start front ≡ Some place
     → IsHalted room place rest → IsStuck room front rest
 halted-stuck room front [] place reached none = dead-end room place front reached none
 halted-stuck room front (t ∷ ts) place reached none = stuck room place t front ts reached none

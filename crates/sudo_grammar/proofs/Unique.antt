@@ -4,7 +4,7 @@ use Rattle.sudo_text.specs.declared.token.Token.{Token}
 use Rattle.sudo_grammar.specs.declared.policy.EntryBody.{EntryBody}
 use Rattle.sudo_grammar.specs.declared.policy.EntryBody.TheVariants as entries
 use Rattle.sudo_grammar.specs.Forms.{Writes}
-use Rattle.sudo_grammar.specs.Places.{Start}
+use Rattle.sudo_grammar.specs.States.{Start}
 use Rattle.sudo_grammar.specs.Reading.{Stop, reading}
 use Rattle.sudo_grammar.specs.Faults.{HasRoom}
 use Rattle.sudo_grammar.proofs.Complete.{entry-read}

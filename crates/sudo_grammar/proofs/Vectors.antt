@@ -28,7 +28,7 @@ use Rattle.sudo_grammar.specs.declared.fault.Refusal.{Refusal}
 use Rattle.sudo_grammar.specs.declared.fault.Refusal.TheVariants as refusals
 use Rattle.sudo_grammar.specs.Tags.{tag_name}
 use Rattle.sudo_grammar.specs.Words.{tag_of_name}
-use Rattle.sudo_grammar.specs.Places.{Room, Start}
+use Rattle.sudo_grammar.specs.States.{Room, Start}
 use Rattle.sudo_grammar.specs.Reading.{reading, Stop}
 
 abbrev chars : String → List Ch

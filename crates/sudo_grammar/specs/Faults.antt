@@ -8,7 +8,7 @@ use Rattle.sudo_grammar.specs.declared.policy.EntryBody.{EntryBody}
 use Rattle.sudo_grammar.specs.declared.policy.EntryBody.TheVariants as entries
 use Rattle.sudo_grammar.specs.Words.{name_of}
 use Rattle.sudo_grammar.specs.Forms.{Writes}
-use Rattle.sudo_grammar.specs.Places.{Room, Place, Start, AliasName, place_after}
+use Rattle.sudo_grammar.specs.States.{Room, State, Start, AliasName, state_after}
 use Rattle.sudo_grammar.specs.Refusals.{refused_at}
 use Rattle.sudo_grammar.specs.Reading.{Stop}
 
@@ -28,7 +28,7 @@ WritesWithin room e ts = Writes e ts × HasRoom room e
 -- the name after these tokens would be the name of a definition over the limit
 abbrev pub IsOneTooMany : Room → List Token → Token → Type 0
 IsOneTooMany room front t = (kind : Kind) × ((done : List Definition) × ((w : List ℕ) ×
-    ((place_after room Start front ≡ Some (AliasName kind done)) × (name_of t.kind ≡ Some w) × (room kind ≤ length done))))
+    ((state_after room Start front ≡ Some (AliasName kind done)) × (name_of t.kind ≡ Some w) × (room kind ≤ length done))))
 
 -- the line cannot continue after the front with the next token, or end there
 abbrev pub IsStuck : Room → List Token → List Token → Type 0
@@ -43,6 +43,6 @@ pub record IsGrammarFault (room : Room) (ts : List Token) (stop : Stop) : Type 0
   pub whole : ts ≡ front ++ stop.rest
   pub begins : Begins front
   pub stuck : IsStuck room front stop.rest
-  pub place : Place
-  pub reached : place_after room Start front ≡ Some place
+  pub place : State
+  pub reached : state_after room Start front ≡ Some place
   pub refusal : stop.refusal ≡ refused_at place stop.rest

@@ -5,7 +5,7 @@ pub mod Words
 pub mod Members
 pub mod Openings
 pub mod Forms
-pub mod Places
+pub mod States
 pub mod Refusals
 pub mod Reading
 pub mod Remaining

@@ -4,7 +4,7 @@ use Rattle.std.specs.Prelude.{List, [], ◌∷◌, Option, None, Some, Result, O
 use Rattle.sudo_text.specs.declared.token.Token.{Token}
 use Rattle.sudo_grammar.specs.declared.policy.EntryBody.{EntryBody}
 use Rattle.sudo_grammar.specs.declared.fault.Refusal.{Refusal}
-use Rattle.sudo_grammar.specs.Places.{Place, Room, step, ended}
+use Rattle.sudo_grammar.specs.States.{State, Room, step, ended}
 use Rattle.sudo_grammar.specs.Refusals.{refused_at}
 
 -- a refusal, and the tokens from the refused one on
@@ -12,15 +12,15 @@ pub record Stop : Type 0 where
   pub rest : List Token
   pub refusal : Refusal
 
-abbrev pub stop_at : Place → List Token → Stop
+abbrev pub stop_at : State → List Token → Stop
 stop_at place ts = record { rest = ts; refusal = refused_at place ts }
 
-abbrev pub entry_or_stop : Place → Option EntryBody → Result EntryBody Stop
+abbrev pub entry_or_stop : State → Option EntryBody → Result EntryBody Stop
 entry_or_stop place (Some e) = Ok e
 entry_or_stop place None = Err (stop_at place [])
 
 -- the entry of the tokens from a state on, or the refusal of the first of them that cannot continue the line
-abbrev pub reading : Room → Place → List Token → Result EntryBody Stop
+abbrev pub reading : Room → State → List Token → Result EntryBody Stop
 reading room place [] = entry_or_stop place (ended place)
 reading room place (t ∷ ts) = elim (step room place t)
     [ Some next ↦ reading room next ts | None ↦ Err (stop_at place (t ∷ ts)) ]

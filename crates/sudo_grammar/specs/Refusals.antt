@@ -28,7 +28,7 @@ use Rattle.sudo_grammar.specs.declared.fault.Unsupported.TheVariants as forms
 use Rattle.sudo_grammar.specs.Words.{name_of, plain_word, is_option_name, is_digest_name}
 use Rattle.sudo_grammar.specs.Openings.{Opening, BadDirective, opening_of, is_percent, is_mark, spells}
 use Rattle.sudo_grammar.specs.Members.{atom_of, expected_in}
-use Rattle.sudo_grammar.specs.Places.{Purpose, Defines, Users, Hosts, RunasUsers, RunasGroups, Binds, kind_for, Place, Start, AliasName, AfterName, Item, AfterItem, Command, AfterCommand, RunasStart, GroupsStart, DefaultsStart, AtParameter, AfterSwitch, AtValue, AfterValue, Included}
+use Rattle.sudo_grammar.specs.States.{Purpose, Defines, Users, Hosts, RunasUsers, RunasGroups, Binds, kind_for, State, Start, AliasName, AfterName, Item, AfterItem, Command, AfterCommand, RunasStart, GroupsStart, DefaultsStart, AtParameter, AfterSwitch, AtValue, AfterValue, Included}
 
 -- the next token is this mark; `is_next_at`: and begins at an offset
 abbrev pub is_next : Mark → List Token → Bool
@@ -98,7 +98,7 @@ refused_after (RunasGroups granting users) ts = refusals.Syntax wants.RightParen
 refused_after (Binds kind) ts = refusals.Syntax wants.Parameter
 
 -- the refusal of tokens that cannot continue or end the line in this state
-abbrev pub refused_at : Place → List Token → Refusal
+abbrev pub refused_at : State → List Token → Refusal
 refused_at Start ts = refused_first ts
 refused_at (AliasName kind done) ts = refused_name ts
 refused_at (AfterName kind done name) ts = refusals.Syntax wants.Equals

@@ -1,5 +1,5 @@
 -- The meaning of a parser state: the forms that are left up to the end of the line, and the entry that they complete. A
--- reader checks the table of expected words against this file by eye; the law `places_mean_forms` states that tokens
+-- reader checks the table of expected words against this file by eye; the law `states_mean_forms` states that tokens
 -- lead to a state exactly if these forms are left of the entry's form.
 use Rattle.std.specs.Prelude.{◌≡◌, ℕ, zero, suc, ◌+◌, List, [], ◌∷◌, ◌++◌, Option, None, Some, ◌⊎◌}
 use Rattle.sudo_text.specs.declared.token.Mark.TheVariants as marks
@@ -19,7 +19,7 @@ use Rattle.sudo_grammar.specs.declared.policy.EntryBody.{EntryBody}
 use Rattle.sudo_grammar.specs.declared.policy.EntryBody.TheVariants as entries
 use Rattle.sudo_grammar.specs.Openings.{operator_of}
 use Rattle.sudo_grammar.specs.Forms.{◌▸◌, Form, never, one, mark, bangs, member, more_items, list, more_definitions, definitions, optional, runas, groups, tags, as_tag, more_specs, specs, more_sections, sections, binding, the_word, parameter, more_parameters, parameter_list, Writes}
-use Rattle.sudo_grammar.specs.Places.{Granting, Purpose, Defines, Users, Hosts, RunasUsers, RunasGroups, Binds, kind_for, bound_to, Place, Start, AliasName, AfterName, Item, AfterItem, Command, AfterCommand, RunasStart, GroupsStart, DefaultsStart, AtParameter, AfterSwitch, AtValue, AfterValue, Included}
+use Rattle.sudo_grammar.specs.States.{Granting, Purpose, Defines, Users, Hosts, RunasUsers, RunasGroups, Binds, kind_for, bound_to, State, Start, AliasName, AfterName, Item, AfterItem, Command, AfterCommand, RunasStart, GroupsStart, DefaultsStart, AtParameter, AfterSwitch, AtValue, AfterValue, Included}
 
 -- after a command: further commands, and further sections
 abbrev pub AfterSpec : Granting → CommandSpec → EntryBody → List Token → Type 0
@@ -88,37 +88,37 @@ AtAssigned b done name operator e ts = (value : Token) × ((xs : List Parameter)
     × (e ≡ entries.Defaults b (done ++ parameters.Assign name operator value ∷ xs))))
 
 -- the tokens complete the entry's line from a state on
-abbrev pub GoesOn : Place → EntryBody → List Token → Type 0
-GoesOn Start e ts = Writes e ts
-GoesOn (AliasName kind done) e ts =
+abbrev pub Completes : State → EntryBody → List Token → Type 0
+Completes Start e ts = Writes e ts
+Completes (AliasName kind done) e ts =
     (ds : List Definition) × (definitions kind ds ts [] × (e ≡ entries.Aliases kind (done ++ ds)))
-GoesOn (AfterName kind done name) e ts = (ms : List Member) × ((ds : List Definition)
+Completes (AfterName kind done name) e ts = (ms : List Member) × ((ds : List Definition)
     × ((mark marks.Equals ▸ list kind ms ▸ more_definitions kind ds) ts []
     × (e ≡ entries.Aliases kind (done ++ record { name = name; members = ms } ∷ ds))))
-GoesOn (Item p n done) e ts = AtItem p n done e ts
-GoesOn (AfterItem p done) e ts = InList p done e ts
-GoesOn (Command granting r done (suc n)) e ts = AtCommand granting r done (suc n) e ts
-GoesOn (Command granting (Some r) done zero) e ts = AtTags granting (Some r) done e ts
-GoesOn (Command granting None (x ∷ done) zero) e ts = AtTags granting None (x ∷ done) e ts
-GoesOn (Command granting None [] zero) e ts = AtSpec granting e ts
+Completes (Item p n done) e ts = AtItem p n done e ts
+Completes (AfterItem p done) e ts = InList p done e ts
+Completes (Command granting r done (suc n)) e ts = AtCommand granting r done (suc n) e ts
+Completes (Command granting (Some r) done zero) e ts = AtTags granting (Some r) done e ts
+Completes (Command granting None (x ∷ done) zero) e ts = AtTags granting None (x ∷ done) e ts
+Completes (Command granting None [] zero) e ts = AtSpec granting e ts
 -- a colon makes a tag of its name, which was read as a command
-GoesOn (AfterCommand granting spec) e ts = AfterSpec granting spec e ts
+Completes (AfterCommand granting spec) e ts = AfterSpec granting spec e ts
     ⊎ ((x : Tag) × ((as_tag spec.command ≡ Some x) × ((after : List Token)
     × (mark marks.Colon ts after × AtTags granting spec.runas (spec.tags ++ x ∷ []) e after))))
-GoesOn (RunasStart granting) e ts = (users : Option (List Member)) × ((after : List Token)
+Completes (RunasStart granting) e ts = (users : Option (List Member)) × ((after : List Token)
     × (optional (list kinds.Runas) users ts after × AtGroups granting users e after))
-GoesOn (GroupsStart granting users) e ts = (gs : Option (List Member)) × ((after : List Token)
+Completes (GroupsStart granting users) e ts = (gs : Option (List Member)) × ((after : List Token)
     × ((optional (list kinds.Runas) gs ▸ mark marks.RightParen) ts after
     × AtTags granting (Some (record { users = users; groups = gs })) [] e after))
-GoesOn DefaultsStart e ts = (b : Option Binding) × ((xs : List Parameter)
+Completes DefaultsStart e ts = (b : Option Binding) × ((xs : List Parameter)
     × ((binding b ▸ parameter_list xs) ts [] × (e ≡ entries.Defaults b xs)))
-GoesOn (AtParameter b done n) e ts = (x : Parameter) × ((xs : List Parameter)
+Completes (AtParameter b done n) e ts = (x : Parameter) × ((xs : List Parameter)
     × ((parameter_left x n ▸ more_parameters xs) ts [] × (e ≡ entries.Defaults b (done ++ x ∷ xs))))
-GoesOn (AfterSwitch b done n name) e ts = ((xs : List Parameter)
+Completes (AfterSwitch b done n name) e ts = ((xs : List Parameter)
     × (more_parameters xs ts [] × (e ≡ entries.Defaults b (done ++ parameters.Switch n name ∷ xs))))
     ⊎ ((n ≡ 0) × ((operator : Operator) × ((after : List Token)
     × (one (λ t. operator_of t.kind ≡ Some operator) ts after × AtAssigned b done name operator e after))))
-GoesOn (AtValue b done name operator) e ts = AtAssigned b done name operator e ts
-GoesOn (AfterValue b done) e ts =
+Completes (AtValue b done name operator) e ts = AtAssigned b done name operator e ts
+Completes (AfterValue b done) e ts =
     (xs : List Parameter) × (more_parameters xs ts [] × (e ≡ entries.Defaults b (done ++ xs)))
-GoesOn (Included folder hash path) e ts = (ts ≡ []) × (e ≡ entries.Include folder hash path)
+Completes (Included folder hash path) e ts = (ts ≡ []) × (e ≡ entries.Include folder hash path)

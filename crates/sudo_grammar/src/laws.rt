@@ -5,9 +5,9 @@ ghost use Rattle.sudo_grammar.specs.declared.policy.EntryBody.{EntryBody};
 ghost use Rattle.sudo_grammar.specs.declared.fault.Expected.{Expected};
 ghost use Rattle.sudo_grammar.specs.declared.fault.Refusal.TheVariants.{Syntax};
 ghost use Rattle.sudo_grammar.specs.Forms.{Writes};
-ghost use Rattle.sudo_grammar.specs.Places.{Room, Place, Start, place_after};
+ghost use Rattle.sudo_grammar.specs.States.{Room, State, Start, state_after};
 ghost use Rattle.sudo_grammar.specs.Reading.{Stop, reading};
-ghost use Rattle.sudo_grammar.specs.Remaining.{GoesOn};
+ghost use Rattle.sudo_grammar.specs.Remaining.{Completes};
 ghost use Rattle.sudo_grammar.specs.Faults.{HasRoom, WritesWithin, IsGrammarFault};
 ghost use Rattle.sudo_grammar.specs.Standing.{CanStand};
 
@@ -58,11 +58,11 @@ pub fn expected_could_stand()
 
 /// Each parser state accepts exactly the remaining forms: after the tokens that lead to it, further tokens complete an
 /// entry exactly if they have one of these forms.
-pub fn places_mean_forms()
-    ensures goes_on { (room : Room) (front : List Token) (place : Place) (e : EntryBody)
-        (ts : List Token) → place_after room Start front ≡ Some place → Writes e (front ++ ts)
-        → GoesOn place e ts }
-    ensures is_written { (room : Room) (front : List Token) (place : Place) (e : EntryBody)
-        (ts : List Token) → place_after room Start front ≡ Some place → GoesOn place e ts
+pub fn states_mean_forms()
+    ensures completes { (room : Room) (front : List Token) (place : State) (e : EntryBody)
+        (ts : List Token) → state_after room Start front ≡ Some place → Writes e (front ++ ts)
+        → Completes place e ts }
+    ensures is_written { (room : Room) (front : List Token) (place : State) (e : EntryBody)
+        (ts : List Token) → state_after room Start front ≡ Some place → Completes place e ts
         → Writes e (front ++ ts) }
 {}

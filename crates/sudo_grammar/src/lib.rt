@@ -14,7 +14,7 @@ pub use fault::{Expected, ParseFault, Refusal, Unsupported};
 pub use kind::{Atom, Kind, Member, Signed};
 pub use laws::{
     expected_could_stand, faults_are_leftmost, forms_are_read, forms_have_one_entry,
-    lines_are_written_or_faulty, lines_have_one_fault, places_mean_forms, what_is_read_is_written,
+    lines_are_written_or_faulty, lines_have_one_fault, states_mean_forms, what_is_read_is_written,
 };
 pub use policy::{
     Binding, CommandSpec, Definition, Entry, EntryBody, Operator, Parameter, Policy, Runas, Section,

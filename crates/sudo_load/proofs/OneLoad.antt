@@ -10,13 +10,13 @@ use Rattle.sudo_grammar.specs.declared.fault.ParseFault.{ParseFault}
 use Rattle.sudo_grammar.specs.declared.fault.ParseFault.TheVariants as parses
 use Rattle.sudo_parser.specs.Parsed.{AreEntries, IsFirstFault, over_limit}
 use Rattle.sudo_parser.proofs.OneReading.{one_entries, one_first_fault, entries_no_fault}
-use Rattle.sudo_load.specs.declared.loading.Loaded.{Loaded}
+use Rattle.sudo_load.specs.declared.loading.LoadState.{LoadState}
 use Rattle.sudo_load.specs.declared.supply.Supply.{Supply}
 use Rattle.sudo_load.specs.Files.{Reads}
 use Rattle.sudo_load.specs.Load.{IsLoad, Closes, ClosesBy, SameLoad}
 use Rattle.sudo_load.specs.Paths.{in_folder, is_kept}
 use Rattle.sudo_load.specs.Supplies.{supplied_file, supplied_folder}
-use Rattle.sudo_load.specs.Unfolding.{Refusal, Outcome, Inclusion, with_file, with_folder, with_entry, Then, IfElse, IsFolderOrder, FilesLoad, NamesLoad, FolderLoads, IncludeLoads, EntryLoadsBy, EntriesLoad, LinesLoad, TextLoads, SuppliedLoads, FileLoads, followed}
+use Rattle.sudo_load.specs.Unfolding.{Refusal, Outcome, Inclusion, with_file, with_folder, with_entry, Then, IfElse, IsFolderOrder, FilesLoad, NamesLoad, FolderLoads, IncludeLoads, EntryLoadsBy, EntriesLoad, LinesLoad, TextLoads, SuppliedLoads, FileLoads, include_of}
 use Rattle.sudo_load.proofs.Sorted.{one_sorted}
 
 ok_is : {A E : Type 0} (r : Result A E) (a b : A) → r ≡ Ok a → r ≡ Ok b → a ≡ b
@@ -52,17 +52,17 @@ one_read file text (Err a) (Err b) reads other = ap Err (one_fault_read file tex
 
 -- An inclusion has one outcome.
 abbrev pub IsOne : Inclusion → Type 0
-IsOne include = (loaded : Loaded) (place : Place) (path : List ℕ) (a b : Outcome) → include loaded place path a → include loaded place path b → a ≡ b
+IsOne include = (loaded : LoadState) (place : Place) (path : List ℕ) (a b : Outcome) → include loaded place path a → include loaded place path b → a ≡ b
 
 one_is : {A : Type 0} (c a b : A) → a ≡ c → b ≡ c → a ≡ b
 one_is c a b is other = is ∙ sym other
 
-then_one : (next : Loaded → Outcome → Type 0) (first second a b : Outcome) → first ≡ second → Then first next a → Then second next b
-    → ((after : Loaded) → next after a → next after b → a ≡ b) → a ≡ b
+then_one : (next : LoadState → Outcome → Type 0) (first second a b : Outcome) → first ≡ second → Then first next a → Then second next b
+    → ((after : LoadState) → next after a → next after b → a ≡ b) → a ≡ b
 then_one next (Ok after) second a b same onward other goes = goes after onward (subst (λ o. Then o next b) (sym same) other)
 then_one next (Err refusal) second a b same onward other goes = one_is (Err refusal) a b onward (subst (λ o. Then o next b) (sym same) other)
 
-files_one : (include : Inclusion) → IsOne include → (loaded : Loaded) (place : Place) (paths : List (List ℕ)) (a b : Outcome) → FilesLoad include loaded place paths a → FilesLoad include loaded place paths b → a ≡ b
+files_one : (include : Inclusion) → IsOne include → (loaded : LoadState) (place : Place) (paths : List (List ℕ)) (a b : Outcome) → FilesLoad include loaded place paths a → FilesLoad include loaded place paths b → a ≡ b
 files_one include one loaded place [] a b loads other = one_is (Ok loaded) a b loads other
 files_one include one loaded place (path ∷ paths) a b (first, loads, onward) (second, other, later) =
     then_one (λ after. FilesLoad include after place paths) first second a b (one loaded place path first second loads other) onward later
@@ -71,7 +71,7 @@ files_one include one loaded place (path ∷ paths) a b (first, loads, onward) (
 order_one : (names a b : List (List ℕ)) → IsFolderOrder names a → IsFolderOrder names b → a ≡ b
 order_one names a b is other = one_sorted (filter is_kept names) a b is.0 is.1 other.0 other.1
 
-names_one : (include : Inclusion) → IsOne include → (loaded : Loaded) (place : Place) (path : List ℕ) (names : Option (List (List ℕ))) (a b : Outcome)
+names_one : (include : Inclusion) → IsOne include → (loaded : LoadState) (place : Place) (path : List ℕ) (names : Option (List (List ℕ))) (a b : Outcome)
     → NamesLoad include loaded place path names a → NamesLoad include loaded place path names b → a ≡ b
 names_one include one loaded place path None a b loads other = one_is _ a b loads other
 names_one include one loaded place path (Some names) a b (ordered, order, loads) (ordered2, order2, other) =
@@ -82,42 +82,42 @@ if_one : (test : Bool) (A B C D : Type 0) (a b : Outcome) → IfElse test A C �
 if_one true A B C D a b is other f g = f is other
 if_one false A B C D a b is other f g = g is other
 
-folder_one : (include : Inclusion) → IsOne include → (supplies : List Supply) (loaded : Loaded) (place : Place) (path : List ℕ) (a b : Outcome)
+folder_one : (include : Inclusion) → IsOne include → (supplies : List Supply) (loaded : LoadState) (place : Place) (path : List ℕ) (a b : Outcome)
     → FolderLoads include supplies loaded place path a → FolderLoads include supplies loaded place path b → a ≡ b
 folder_one include one supplies loaded place path a b loads other =
     if_one (nat_lt loaded.folders 1024) (NamesLoad include loaded place path (supplied_folder supplies path) a) (NamesLoad include loaded place path (supplied_folder supplies path) b) _ _ a b loads other
     (λ x y. names_one include one loaded place path (supplied_folder supplies path) a b x y) (λ x y. one_is _ a b x y)
 
-include_one : (include : Inclusion) → IsOne include → (supplies : List Supply) (loaded : Loaded) (place : Place) (folder : Bool) (path : List ℕ) (a b : Outcome)
+include_one : (include : Inclusion) → IsOne include → (supplies : List Supply) (loaded : LoadState) (place : Place) (folder : Bool) (path : List ℕ) (a b : Outcome)
     → IncludeLoads include supplies loaded place folder path a → IncludeLoads include supplies loaded place folder path b → a ≡ b
 include_one include one supplies loaded place true path a b loads other = folder_one include one supplies loaded place path a b loads other
 include_one include one supplies loaded place false path a b loads other = one loaded place path a b loads other
 
-entry_one : (include : Inclusion) → IsOne include → (supplies : List Supply) (loaded : Loaded) (entry : Entry) (named : Option (Bool × List ℕ)) (a b : Outcome)
+entry_one : (include : Inclusion) → IsOne include → (supplies : List Supply) (loaded : LoadState) (entry : Entry) (named : Option (Bool × List ℕ)) (a b : Outcome)
     → EntryLoadsBy include supplies loaded entry named a → EntryLoadsBy include supplies loaded entry named b → a ≡ b
 entry_one include one supplies loaded entry None a b loads other = one_is (Ok (with_entry loaded entry)) a b loads other
 entry_one include one supplies loaded entry (Some named) a b loads other = include_one include one supplies loaded entry.place named.0 named.1 a b loads other
 
-entries_one : (include : Inclusion) → IsOne include → (supplies : List Supply) (file : List ℕ) (loaded : Loaded) (entries : List Entry) (a b : Outcome)
+entries_one : (include : Inclusion) → IsOne include → (supplies : List Supply) (file : List ℕ) (loaded : LoadState) (entries : List Entry) (a b : Outcome)
     → EntriesLoad include supplies file loaded entries a → EntriesLoad include supplies file loaded entries b → a ≡ b
 entries_one include one supplies file loaded [] a b loads other = one_is (Ok loaded) a b loads other
 entries_one include one supplies file loaded (entry ∷ entries) a b (first, loads, onward) (second, other, later) =
     then_one (λ after. EntriesLoad include supplies file after entries) first second a b
-    (entry_one include one supplies loaded entry (followed file entry.body) first second loads other) onward later
+    (entry_one include one supplies loaded entry (include_of file entry.body) first second loads other) onward later
     (λ after x y. entries_one include one supplies file after entries a b x y)
 
-lines_one : (include : Inclusion) → IsOne include → (supplies : List Supply) (file : List ℕ) (loaded : Loaded) (read : Result (List Entry) ParseFault) (a b : Outcome)
+lines_one : (include : Inclusion) → IsOne include → (supplies : List Supply) (file : List ℕ) (loaded : LoadState) (read : Result (List Entry) ParseFault) (a b : Outcome)
     → LinesLoad include supplies file loaded read a → LinesLoad include supplies file loaded read b → a ≡ b
 lines_one include one supplies file loaded (Ok entries) a b loads other = entries_one include one supplies file loaded entries a b loads other
 lines_one include one supplies file loaded (Err fault) a b loads other = one_is _ a b loads other
 
-text_one : (include : Inclusion) → IsOne include → (supplies : List Supply) (loaded : Loaded) (path text : List ℕ) (a b : Outcome)
+text_one : (include : Inclusion) → IsOne include → (supplies : List Supply) (loaded : LoadState) (path text : List ℕ) (a b : Outcome)
     → TextLoads include supplies loaded path text a → TextLoads include supplies loaded path text b → a ≡ b
 text_one include one supplies loaded path text a b (read, reads, loads) (read2, reads2, other) =
     lines_one include one supplies path (with_file loaded path) read a b loads
     (subst (λ r. LinesLoad include supplies path (with_file loaded path) r b) (sym (one_read (length loaded.files) text read read2 reads reads2)) other)
 
-supplied_one : (include : Inclusion) → IsOne include → (supplies : List Supply) (loaded : Loaded) (place : Place) (path : List ℕ) (found : Option (Option (List ℕ))) (a b : Outcome)
+supplied_one : (include : Inclusion) → IsOne include → (supplies : List Supply) (loaded : LoadState) (place : Place) (path : List ℕ) (found : Option (Option (List ℕ))) (a b : Outcome)
     → SuppliedLoads include supplies loaded place path found a → SuppliedLoads include supplies loaded place path found b → a ≡ b
 supplied_one include one supplies loaded place path None a b loads other = one_is _ a b loads other
 supplied_one include one supplies loaded place path (Some None) a b loads other = one_is _ a b loads other
@@ -138,7 +138,7 @@ refused_both refusal (Ok a) b is other = absurd cc
 refused_both refusal (Err a) (Ok b) is other = absurd cc
 refused_both refusal (Err a) (Err b) is other = cc
 
-closes_one : (loaded : Loaded) (over : Option Place) (a b : Result Policy Refusal) → Closes loaded over a → Closes loaded over b → SameLoad a b
+closes_one : (loaded : LoadState) (over : Option Place) (a b : Result Policy Refusal) → Closes loaded over a → Closes loaded over b → SameLoad a b
 closes_one loaded None (Ok a) (Ok b) is other = (is.0 ∙ sym other.0, is.1 ∙ sym other.1)
 closes_one loaded None (Ok a) (Err b) is other = absurd other
 closes_one loaded None (Err a) b is other = absurd is

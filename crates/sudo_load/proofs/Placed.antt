@@ -8,7 +8,7 @@ use Rattle.sudo_text.specs.declared.line.Line.{Line}
 use Rattle.sudo_text.specs.declared.line.Place.{Place}
 use Rattle.sudo_text.specs.declared.fault.TextFault.{TextFault}
 use Rattle.sudo_text.specs.declared.fault.TextFault.TheVariants as texts
-use Rattle.sudo_text.specs.Lines.{runs, is_cut_short, line_of, with_front, numbered, lines_of, physical_lines}
+use Rattle.sudo_text.specs.Lines.{runs, is_cut_short, line_of, with_front, lines_of_runs, lines_of, physical_lines}
 use Rattle.sudo_grammar.specs.declared.policy.Entry.{Entry}
 use Rattle.sudo_grammar.specs.declared.policy.EntryBody.{EntryBody}
 use Rattle.sudo_grammar.specs.declared.policy.EntryBody.TheVariants as bodies
@@ -24,14 +24,14 @@ use Rattle.sudo_parser.specs.Parsed.{AreEntriesAfter, entry_of, IsLineFault, IsF
 use Rattle.sudo_load.specs.FaultFiles.{text_file, parse_file, IsBelow, IsPlaced}
 use Rattle.sudo_load.specs.declared.fault.LoadFault.TheVariants as faults
 use Rattle.sudo_load.specs.declared.fault.LoadFault.{LoadFault}
-use Rattle.sudo_load.specs.declared.loading.Loaded.{Loaded}
+use Rattle.sudo_load.specs.declared.loading.LoadState.{LoadState}
 use Rattle.sudo_load.specs.declared.supply.Supply.{Supply}
 use Rattle.sudo_load.specs.Files.{Reads}
 use Rattle.sudo_load.specs.Load.{IsLoad}
-use Rattle.sudo_load.specs.Body.Fine.{placed_in, Fine}
+use Rattle.sudo_load.specs.Body.IsConsistent.{placed_in, IsConsistent}
 use Rattle.sudo_load.specs.Supplies.{supplied_file, supplied_folder}
 use Rattle.sudo_load.specs.Paths.{in_folder}
-use Rattle.sudo_load.specs.Unfolding.{Refusal, Outcome, Inclusion, with_file, with_folder, with_entry, Then, IfElse, FilesLoad, NamesLoad, FolderLoads, IncludeLoads, EntryLoadsBy, EntriesLoad, LinesLoad, TextLoads, SuppliedLoads, FileLoads, followed, nothing}
+use Rattle.sudo_load.specs.Unfolding.{Refusal, Outcome, Inclusion, with_file, with_folder, with_entry, Then, IfElse, FilesLoad, NamesLoad, FolderLoads, IncludeLoads, EntryLoadsBy, EntriesLoad, LinesLoad, TextLoads, SuppliedLoads, FileLoads, include_of, nothing}
 
 -- Each of the lines stands in the file.
 abbrev pub InFile : ℕ → List Line → Type 0
@@ -52,18 +52,18 @@ unfolding InResult
 in_front file line (Ok lines) at rest = (at, rest)
 in_front file line (Err fault) at rest = rest
 
-numbered_in : (file : ℕ) (short : Bool) (number : ℕ) (rs : List (List (List ℕ))) → InResult file (numbered file short number rs)
+numbered_in : (file : ℕ) (short : Bool) (number : ℕ) (rs : List (List (List ℕ))) → InResult file (lines_of_runs file short number rs)
 unfolding InResult
 numbered_in file short number [] = tt
 numbered_in file true number (run ∷ []) = refl
 numbered_in file false number (run ∷ []) = (refl, tt)
 numbered_in file short number (run ∷ next ∷ rest) =
-    in_front file (line_of file number run) (numbered file short (number + length run) (next ∷ rest)) refl (numbered_in file short (number + length run) (next ∷ rest))
+    in_front file (line_of file number run) (lines_of_runs file short (number + length run) (next ∷ rest)) refl (numbered_in file short (number + length run) (next ∷ rest))
 
 lines_are_in : (file : ℕ) (text : List ℕ) → InResult file (lines_of file text)
 unfolding InResult
 lines_are_in file text =
-    elim (nat_lt 16777216 (length text)) as (λ b. InResult file (if b then Err (texts.TooLong file) else numbered file (is_cut_short false (physical_lines text)) 1 (runs false (physical_lines text))))
+    elim (nat_lt 16777216 (length text)) as (λ b. InResult file (if b then Err (texts.TooLong file) else lines_of_runs file (is_cut_short false (physical_lines text)) 1 (runs false (physical_lines text))))
     [ true ↦ refl | false ↦ numbered_in file (is_cut_short false (physical_lines text)) 1 (runs false (physical_lines text)) ]
 
 lines_in : (file : ℕ) (text : List ℕ) (lines : List Line) → lines_of file text ≡ Ok lines → InFile file lines
@@ -152,16 +152,16 @@ all_push : (p : Entry → Bool) (entries : List Entry) (entry : Entry) → list_
 all_push p [] entry h k = and_both (p entry) true k refl
 all_push p (e ∷ es) entry h k = and_both (p e) (list_all p (es ++ entry ∷ [])) (and_first (p e) (list_all p es) h) (all_push p es entry (and_second (p e) (list_all p es) h) k)
 
-fine_file : (loaded : Loaded) (path : List ℕ) → Fine loaded → Fine (with_file loaded path)
+fine_file : (loaded : LoadState) (path : List ℕ) → IsConsistent loaded → IsConsistent (with_file loaded path)
 fine_file loaded path fine = record {
   placed = placed_more (length loaded.files) (length (loaded.files ++ path ∷ [])) loaded.entries (omega (arith, length-append loaded.files (path ∷ []))) fine.placed;
   unfolded = fine.unfolded;
 }
 
-fine_folder : (loaded : Loaded) → Fine loaded → Fine (with_folder loaded)
+fine_folder : (loaded : LoadState) → IsConsistent loaded → IsConsistent (with_folder loaded)
 fine_folder loaded fine = record { placed = fine.placed; unfolded = fine.unfolded }
 
-fine_entry : (loaded : Loaded) (entry : Entry) → Fine loaded → entry.place.file < length loaded.files → is_include entry.body ≡ false → Fine (with_entry loaded entry)
+fine_entry : (loaded : LoadState) (entry : Entry) → IsConsistent loaded → entry.place.file < length loaded.files → is_include entry.body ≡ false → IsConsistent (with_entry loaded entry)
 fine_entry loaded entry fine at no_include =
     let test : nat_lt entry.place.file (length loaded.files) ≡ true = grind (arith, nat_tests) in
     record {
@@ -171,7 +171,7 @@ fine_entry loaded entry fine at no_include =
 
 -- After this many files at the least, all is fine.
 abbrev pub FineAfter : ℕ → Outcome → Type 0
-FineAfter n (Ok loaded) = Fine loaded × (n ≤ length loaded.files)
+FineAfter n (Ok loaded) = IsConsistent loaded × (n ≤ length loaded.files)
 FineAfter n (Err refusal) = IsPlaced refusal
 
 fine_later : (n m : ℕ) (outcome : Outcome) → n ≤ m → FineAfter m outcome → FineAfter n outcome
@@ -180,27 +180,27 @@ fine_later n m (Err refusal) le fine = fine
 
 -- An inclusion from a file that is read keeps all fine.
 abbrev pub Keeps : Inclusion → Type 0
-Keeps include = (loaded : Loaded) (place : Place) (path : List ℕ) (outcome : Outcome) → Fine loaded → place.file < length loaded.files → include loaded place path outcome → FineAfter (length loaded.files) outcome
+Keeps include = (loaded : LoadState) (place : Place) (path : List ℕ) (outcome : Outcome) → IsConsistent loaded → place.file < length loaded.files → include loaded place path outcome → FineAfter (length loaded.files) outcome
 
-then_fine : (n : ℕ) (first : Outcome) (next : Loaded → Outcome → Type 0) (outcome : Outcome) → FineAfter n first → Then first next outcome
-    → ((after : Loaded) → Fine after → n ≤ length after.files → next after outcome → FineAfter (length after.files) outcome) → FineAfter n outcome
+then_fine : (n : ℕ) (first : Outcome) (next : LoadState → Outcome → Type 0) (outcome : Outcome) → FineAfter n first → Then first next outcome
+    → ((after : LoadState) → IsConsistent after → n ≤ length after.files → next after outcome → FineAfter (length after.files) outcome) → FineAfter n outcome
 then_fine n (Ok after) next outcome fine onward goes = fine_later n (length after.files) outcome fine.1 (goes after fine.0 fine.1 onward)
 then_fine n (Err refusal) next outcome fine onward goes = subst (FineAfter n) (sym onward) fine
 
-ends_fine : (loaded : Loaded) (outcome : Outcome) → Fine loaded → outcome ≡ Ok loaded → FineAfter (length loaded.files) outcome
+ends_fine : (loaded : LoadState) (outcome : Outcome) → IsConsistent loaded → outcome ≡ Ok loaded → FineAfter (length loaded.files) outcome
 ends_fine loaded outcome fine is = subst (FineAfter (length loaded.files)) (sym is) (fine, omega arith)
 
 refused_fine : (n : ℕ) (refusal : Refusal) (outcome : Outcome) → IsPlaced refusal → outcome ≡ Err refusal → FineAfter n outcome
 refused_fine n refusal outcome placed is = subst (FineAfter n) (sym is) placed
 
-files_keep : (include : Inclusion) → Keeps include → (loaded : Loaded) (place : Place) (paths : List (List ℕ)) (outcome : Outcome) → Fine loaded → place.file < length loaded.files
+files_keep : (include : Inclusion) → Keeps include → (loaded : LoadState) (place : Place) (paths : List (List ℕ)) (outcome : Outcome) → IsConsistent loaded → place.file < length loaded.files
     → FilesLoad include loaded place paths outcome → FineAfter (length loaded.files) outcome
 files_keep include keeps loaded place [] outcome fine at loads = ends_fine loaded outcome fine loads
 files_keep include keeps loaded place (path ∷ paths) outcome fine at (first, loads, onward) =
     then_fine (length loaded.files) first (λ after. FilesLoad include after place paths) outcome (keeps loaded place path first fine at loads) onward
     (λ after good more goes. files_keep include keeps after place paths outcome good (omega (arith, at, more)) goes)
 
-names_keep : (include : Inclusion) → Keeps include → (loaded : Loaded) (place : Place) (path : List ℕ) (names : Option (List (List ℕ))) (outcome : Outcome) → Fine loaded → place.file < length loaded.files
+names_keep : (include : Inclusion) → Keeps include → (loaded : LoadState) (place : Place) (path : List ℕ) (names : Option (List (List ℕ))) (outcome : Outcome) → IsConsistent loaded → place.file < length loaded.files
     → NamesLoad include loaded place path names outcome → FineAfter (length loaded.files) outcome
 names_keep include keeps loaded place path None outcome fine at loads = refused_fine (length loaded.files) _ outcome tt loads
 names_keep include keeps loaded place path (Some names) outcome fine at (ordered, order, loads) =
@@ -210,26 +210,26 @@ if_fine : (n : ℕ) (b : Bool) (A B : Type 0) (outcome : Outcome) → IfElse b A
 if_fine n true A B outcome h f g = f h
 if_fine n false A B outcome h f g = g h
 
-folder_keeps : (include : Inclusion) → Keeps include → (supplies : List Supply) (loaded : Loaded) (place : Place) (path : List ℕ) (outcome : Outcome) → Fine loaded → place.file < length loaded.files
+folder_keeps : (include : Inclusion) → Keeps include → (supplies : List Supply) (loaded : LoadState) (place : Place) (path : List ℕ) (outcome : Outcome) → IsConsistent loaded → place.file < length loaded.files
     → FolderLoads include supplies loaded place path outcome → FineAfter (length loaded.files) outcome
 folder_keeps include keeps supplies loaded place path outcome fine at loads =
     if_fine (length loaded.files) (nat_lt loaded.folders 1024) (NamesLoad include loaded place path (supplied_folder supplies path) outcome) _ outcome loads
     (λ h. names_keep include keeps loaded place path (supplied_folder supplies path) outcome fine at h) (λ h. refused_fine (length loaded.files) _ outcome at h)
 
-include_keeps : (include : Inclusion) → Keeps include → (supplies : List Supply) (loaded : Loaded) (place : Place) (folder : Bool) (path : List ℕ) (outcome : Outcome) → Fine loaded → place.file < length loaded.files
+include_keeps : (include : Inclusion) → Keeps include → (supplies : List Supply) (loaded : LoadState) (place : Place) (folder : Bool) (path : List ℕ) (outcome : Outcome) → IsConsistent loaded → place.file < length loaded.files
     → IncludeLoads include supplies loaded place folder path outcome → FineAfter (length loaded.files) outcome
 include_keeps include keeps supplies loaded place true path outcome fine at loads = folder_keeps include keeps supplies loaded place path outcome fine at loads
 include_keeps include keeps supplies loaded place false path outcome fine at loads = keeps loaded place path outcome fine at loads
 
-entry_keeps : (include : Inclusion) → Keeps include → (supplies : List Supply) (file : List ℕ) (loaded : Loaded) (place : Place) (body : EntryBody) (outcome : Outcome) → Fine loaded
-    → place.file < length loaded.files → EntryLoadsBy include supplies loaded (record { place = place; body = body }) (followed file body) outcome → FineAfter (length loaded.files) outcome
+entry_keeps : (include : Inclusion) → Keeps include → (supplies : List Supply) (file : List ℕ) (loaded : LoadState) (place : Place) (body : EntryBody) (outcome : Outcome) → IsConsistent loaded
+    → place.file < length loaded.files → EntryLoadsBy include supplies loaded (record { place = place; body = body }) (include_of file body) outcome → FineAfter (length loaded.files) outcome
 entry_keeps include keeps supplies file loaded place (bodies.Aliases kind ds) outcome fine at loads = ends_fine (with_entry loaded (record { place = place; body = bodies.Aliases kind ds })) outcome (fine_entry loaded _ fine at refl) loads
 entry_keeps include keeps supplies file loaded place (bodies.Defaults b ps) outcome fine at loads = ends_fine (with_entry loaded (record { place = place; body = bodies.Defaults b ps })) outcome (fine_entry loaded _ fine at refl) loads
 entry_keeps include keeps supplies file loaded place (bodies.Rule us ss) outcome fine at loads = ends_fine (with_entry loaded (record { place = place; body = bodies.Rule us ss })) outcome (fine_entry loaded _ fine at refl) loads
 entry_keeps include keeps supplies file loaded place (bodies.Include folder hash path) outcome fine at loads =
     include_keeps include keeps supplies loaded place folder _ outcome fine at loads
 
-entries_keep : (include : Inclusion) → Keeps include → (supplies : List Supply) (file : List ℕ) (number : ℕ) (loaded : Loaded) (entries : List Entry) (outcome : Outcome) → Fine loaded
+entries_keep : (include : Inclusion) → Keeps include → (supplies : List Supply) (file : List ℕ) (number : ℕ) (loaded : LoadState) (entries : List Entry) (outcome : Outcome) → IsConsistent loaded
     → number < length loaded.files → EntriesIn number entries → EntriesLoad include supplies file loaded entries outcome → FineAfter (length loaded.files) outcome
 entries_keep include keeps supplies file number loaded [] outcome fine at ins loads = ends_fine loaded outcome fine loads
 entries_keep include keeps supplies file number loaded (entry ∷ entries) outcome fine at ins (first, loads, onward) =
@@ -237,21 +237,21 @@ entries_keep include keeps supplies file number loaded (entry ∷ entries) outco
     (entry_keeps include keeps supplies file loaded entry.place entry.body first fine (omega (arith, ins.0, at)) loads) onward
     (λ after good more goes. entries_keep include keeps supplies file number after entries outcome good (omega (arith, at, more)) ins.1 goes)
 
-lines_keep : (include : Inclusion) → Keeps include → (supplies : List Supply) (file : List ℕ) (number : ℕ) (text : List ℕ) (loaded : Loaded) (read : Result (List Entry) ParseFault) (outcome : Outcome) → Fine loaded
+lines_keep : (include : Inclusion) → Keeps include → (supplies : List Supply) (file : List ℕ) (number : ℕ) (text : List ℕ) (loaded : LoadState) (read : Result (List Entry) ParseFault) (outcome : Outcome) → IsConsistent loaded
     → number < length loaded.files → Reads number text read → LinesLoad include supplies file loaded read outcome → FineAfter (length loaded.files) outcome
 lines_keep include keeps supplies file number text loaded (Ok entries) outcome fine at reads loads =
     entries_keep include keeps supplies file number loaded entries outcome fine at (read_in number text entries reads) loads
 lines_keep include keeps supplies file number text loaded (Err fault) outcome fine at reads loads =
     refused_fine (length loaded.files) _ outcome (stands_below number (length loaded.files) (parse_file fault) at (read_fault_in number text fault reads)) loads
 
-pub text_keeps : (include : Inclusion) → Keeps include → (supplies : List Supply) (loaded : Loaded) (path text : List ℕ) (outcome : Outcome) → Fine loaded
+pub text_keeps : (include : Inclusion) → Keeps include → (supplies : List Supply) (loaded : LoadState) (path text : List ℕ) (outcome : Outcome) → IsConsistent loaded
     → TextLoads include supplies loaded path text outcome → FineAfter (length loaded.files) outcome
 text_keeps include keeps supplies loaded path text outcome fine (read, reads, loads) =
     let more : length (loaded.files ++ path ∷ []) ≡ length loaded.files + 1 = omega (arith, length-append loaded.files (path ∷ [])) in
     fine_later (length loaded.files) (length (loaded.files ++ path ∷ [])) outcome (omega (arith, more))
     (lines_keep include keeps supplies path (length loaded.files) text (with_file loaded path) read outcome (fine_file loaded path fine) (omega (arith, more)) reads loads)
 
-supplied_keeps : (include : Inclusion) → Keeps include → (supplies : List Supply) (loaded : Loaded) (place : Place) (path : List ℕ) (found : Option (Option (List ℕ))) (outcome : Outcome) → Fine loaded → place.file < length loaded.files
+supplied_keeps : (include : Inclusion) → Keeps include → (supplies : List Supply) (loaded : LoadState) (place : Place) (path : List ℕ) (found : Option (Option (List ℕ))) (outcome : Outcome) → IsConsistent loaded → place.file < length loaded.files
     → SuppliedLoads include supplies loaded place path found outcome → FineAfter (length loaded.files) outcome
 supplied_keeps include keeps supplies loaded place path None outcome fine at loads = refused_fine (length loaded.files) _ outcome tt loads
 supplied_keeps include keeps supplies loaded place path (Some None) outcome fine at loads = refused_fine (length loaded.files) _ outcome at loads
@@ -266,17 +266,17 @@ file_keeps (suc levels) supplies = λ loaded place path outcome fine at loads.
     (λ h. refused_fine (length loaded.files) _ outcome at h)
 
 -- What the main file unfolds to is fine.
-pub unfolded_fine : (levels : ℕ) (path text : List ℕ) (supplies : List Supply) (loaded : Loaded)
-    → TextLoads (FileLoads levels supplies) supplies nothing path text (Ok loaded) → Fine loaded
+pub unfolded_fine : (levels : ℕ) (path text : List ℕ) (supplies : List Supply) (loaded : LoadState)
+    → TextLoads (FileLoads levels supplies) supplies nothing path text (Ok loaded) → IsConsistent loaded
 unfolded_fine levels path text supplies loaded loads =
     (text_keeps (FileLoads levels supplies) (file_keeps levels supplies) supplies nothing path text (Ok loaded) (record { placed = refl; unfolded = refl }) loads).0
 
-pub start_fine : (levels : ℕ) (path text : List ℕ) (supplies : List Supply) (start loaded : Loaded) → start ≡ nothing
-    → TextLoads (FileLoads levels supplies) supplies start path text (Ok loaded) → Fine loaded
+pub start_fine : (levels : ℕ) (path text : List ℕ) (supplies : List Supply) (start loaded : LoadState) → start ≡ nothing
+    → TextLoads (FileLoads levels supplies) supplies start path text (Ok loaded) → IsConsistent loaded
 start_fine levels path text supplies start loaded is loads =
     unfolded_fine levels path text supplies loaded (subst (λ s. TextLoads (FileLoads levels supplies) supplies s path text (Ok loaded)) is loads)
 
-pub start_refused : (path p text : List ℕ) (supplies : List Supply) (start : Loaded) (refusal : Refusal) → start ≡ nothing → p ≡ path
+pub start_refused : (path p text : List ℕ) (supplies : List Supply) (start : LoadState) (refusal : Refusal) → start ≡ nothing → p ≡ path
     → TextLoads (FileLoads 128 supplies) supplies start p text (Err refusal) → IsLoad path text supplies (Err refusal)
 start_refused path p text supplies start refusal is same loads = (
   Err refusal,
@@ -286,7 +286,7 @@ start_refused path p text supplies start refusal is same loads = (
 )
 
 -- So is a refusal's fault, where memory was not refused.
-pub refusal_placed : (path text : List ℕ) (supplies : List Supply) (start : Loaded) (refusal : Refusal) → start ≡ nothing
+pub refusal_placed : (path text : List ℕ) (supplies : List Supply) (start : LoadState) (refusal : Refusal) → start ≡ nothing
     → (refusal.1 ≢ faults.Memory → TextLoads (FileLoads 128 supplies) supplies start path text (Err refusal)) → IsPlaced refusal
 refusal_placed path text supplies start (files, fault) is loads = placed_unless files fault
     (λ no_memory. text_keeps (FileLoads 128 supplies) (file_keeps 128 supplies) supplies nothing path text (Err (files, fault)) (record { placed = refl; unfolded = refl })

@@ -1,3 +1,3 @@
 -- Definitions that only the proofs of bodies need: no contract of a public function cites them.
-pub mod Fine
+pub mod IsConsistent
 pub mod Outcomes

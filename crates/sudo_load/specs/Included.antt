@@ -7,7 +7,7 @@ use Rattle.sudo_grammar.specs.declared.fault.ParseFault.{ParseFault}
 use Rattle.sudo_load.specs.declared.fault.Want.{Want}
 use Rattle.sudo_load.specs.declared.fault.Want.TheVariants.{File, Folder}
 use Rattle.sudo_load.specs.Files.{Reads}
-use Rattle.sudo_load.specs.Unfolding.{followed}
+use Rattle.sudo_load.specs.Unfolding.{include_of}
 
 abbrev pub want_of : Bool × List ℕ → Want
 want_of (true, path) = Folder path
@@ -15,7 +15,7 @@ want_of (false, path) = File path
 
 -- the file or folder that a line of the file at a path names, if it is an include line
 abbrev pub named : List ℕ → Entry → Option Want
-named file entry = option_map want_of (followed file entry.body)
+named file entry = option_map want_of (include_of file entry.body)
 
 -- the files and folders that the include lines name, in order; none if the file has a fault
 abbrev pub named_by : List ℕ → Result (List Entry) ParseFault → List Want

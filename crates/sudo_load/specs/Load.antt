@@ -5,12 +5,12 @@ use Rattle.sudo_grammar.specs.declared.policy.Policy.{Policy}
 use Rattle.sudo_grammar.specs.declared.fault.ParseFault.TheVariants as parse_faults
 use Rattle.sudo_parser.specs.Parsed.{over_limit}
 use Rattle.sudo_load.specs.declared.fault.LoadFault.TheVariants as faults
-use Rattle.sudo_load.specs.declared.loading.Loaded.{Loaded}
+use Rattle.sudo_load.specs.declared.loading.LoadState.{LoadState}
 use Rattle.sudo_load.specs.declared.supply.Supply.{Supply}
 use Rattle.sudo_load.specs.Unfolding.{Refusal, Outcome, Unfolds}
 
 -- the loaded files and entries are the policy, unless a definition is past the limit for its kind in all files together
-abbrev pub Closes : Loaded → Option Place → Result Policy Refusal → Type 0
+abbrev pub Closes : LoadState → Option Place → Result Policy Refusal → Type 0
 Closes loaded None (Ok policy) = (policy.files ≡ loaded.files) × (policy.entries ≡ loaded.entries)
 Closes loaded None (Err refusal) = ⊥
 Closes loaded (Some place) result = result ≡ Err (loaded.files, faults.Parse (parse_faults.TooMany place))

@@ -1,7 +1,7 @@
 //! The files and folders that include lines name.
 ghost use Rattle.std.specs.Prelude.{◌≡◌, ℕ, List, map, filter, IfOk};
 ghost use Rattle.std.specs.List.{filter_map};
-ghost use Rattle.sudo_load.specs.Unfolding.{IsFolderOrder, followed as spec_followed};
+ghost use Rattle.sudo_load.specs.Unfolding.{IsFolderOrder, include_of as spec_followed};
 ghost use Rattle.sudo_load.specs.Paths.{is_kept as spec_is_kept, in_folder as spec_in_folder};
 ghost use Rattle.sudo_load.specs.Included.{IncludedBy, named as spec_named};
 
@@ -60,7 +60,7 @@ pub fn folder_files(
 }
 
 /// Returns, for an include line of a file, whether it names a folder, and the path; `None` for any other line.
-pub(crate) fn followed(
+pub(crate) fn include_of(
     alloc: Global,
     file: &[u8],
     body: &EntryBody,
@@ -81,7 +81,7 @@ pub(crate) fn followed(
 fn named(alloc: Global, file: &[u8], entry: &Entry) -> Result<Option<Want>, AllocError>
     ensures { IfOk result (λ want. want ≡ spec_named file.now entry.now) }
 {
-    match followed(alloc, file, &entry.body)? {
+    match include_of(alloc, file, &entry.body)? {
         Some((true, path)) => Ok(Some(Want::Folder(path))),
         Some((false, path)) => Ok(Some(Want::File(path))),
         None => Ok(None),

@@ -4,12 +4,12 @@ ghost use Rattle.sudo_load.specs.Unfolding.{FileLoads, FilesLoad, FolderLoads, E
 ghost use Rattle.sudo_parser.specs.Parsed.{over_limit};
 ghost use Rattle.sudo_load.specs.Body.Outcomes.{GivesBy};
 ghost use Rattle.sudo_load.specs.Load.{Closes, LoadGives};
-ghost use Rattle.sudo_load.specs.Body.Fine.{Fine};
+ghost use Rattle.sudo_load.specs.Body.IsConsistent.{IsConsistent};
 ghost use Rattle.sudo_load.specs.FaultFiles.{IsPlaced};
 
 use crate::fault::{LoadFault, Want};
 use crate::file::read;
-use crate::include::{folder_files, followed};
+use crate::include::{folder_files, include_of};
 use crate::supply::{Supply, find_file, find_folder};
 use std::alloc::{AllocError, Global};
 use sudo_grammar::{Entry, ParseFault, Policy};
@@ -24,7 +24,7 @@ const NESTING_LIMIT: u32 = 128;
 
 /// The state of loading.
 #[derive(Drop)]
-pub(crate) struct Loaded {
+pub(crate) struct LoadState {
     /// The paths of the files read, by file number.
     pub files: Seq<Seq<u8>>,
     /// The number of folders read.
@@ -44,10 +44,10 @@ fn out_of_memory(alloc: Global) -> Refusal
 }
 
 // Returns the initial state.
-fn nothing(alloc: Global) -> Loaded
+fn nothing(alloc: Global) -> LoadState
     ensures { result ≡ spec_nothing }
 {
-    Loaded {
+    LoadState {
         files: Seq::new(alloc),
         folders: 0,
         entries: Seq::new(alloc),
@@ -55,16 +55,16 @@ fn nothing(alloc: Global) -> Loaded
 }
 
 // Appends the path of a file.
-fn with_file(loaded: Loaded, path: &Seq<u8>) -> Result<Loaded, AllocError>
+fn with_file(loaded: LoadState, path: &Seq<u8>) -> Result<LoadState, AllocError>
     ensures { IfOk result (λ l. l ≡ spec_with_file loaded path.now) }
 {
-    let Loaded {
+    let LoadState {
         mut files,
         folders,
         entries,
     } = loaded;
     files.push(path.clone()?)?;
-    Ok(Loaded {
+    Ok(LoadState {
         files,
         folders,
         entries,
@@ -72,16 +72,16 @@ fn with_file(loaded: Loaded, path: &Seq<u8>) -> Result<Loaded, AllocError>
 }
 
 // Appends an entry.
-fn with_entry(loaded: Loaded, entry: Entry) -> Result<Loaded, AllocError>
+fn with_entry(loaded: LoadState, entry: Entry) -> Result<LoadState, AllocError>
     ensures { IfOk result (λ l. l ≡ spec_with_entry loaded entry) }
 {
-    let Loaded {
+    let LoadState {
         files,
         folders,
         mut entries,
     } = loaded;
     entries.push(entry)?;
-    Ok(Loaded {
+    Ok(LoadState {
         files,
         folders,
         entries,
@@ -94,10 +94,10 @@ fn load_files(
     alloc: Global,
     levels: u32,
     supplies: &[Supply],
-    loaded: Loaded,
+    loaded: LoadState,
     place: Place,
     paths: Vec<Seq<u8>>,
-) -> Result<Loaded, Refusal>
+) -> Result<LoadState, Refusal>
     ensures { GivesBy (FilesLoad (FileLoads levels supplies.now) loaded place paths.items) result }
 {
     let mut loaded = loaded;
@@ -116,10 +116,10 @@ fn load_file(
     alloc: Global,
     levels: u32,
     supplies: &[Supply],
-    loaded: Loaded,
+    loaded: LoadState,
     place: Place,
     path: Seq<u8>,
-) -> Result<Loaded, Refusal>
+) -> Result<LoadState, Refusal>
     ensures { GivesBy (FileLoads levels supplies.now loaded place path) result }
 {
     if levels == 0 {
@@ -141,10 +141,10 @@ fn load_folder(
     alloc: Global,
     levels: u32,
     supplies: &[Supply],
-    loaded: Loaded,
+    loaded: LoadState,
     place: Place,
     path: Seq<u8>,
-) -> Result<Loaded, Refusal>
+) -> Result<LoadState, Refusal>
     ensures { GivesBy (FolderLoads (FileLoads levels supplies.now) supplies.now loaded place path)
         result }
 {
@@ -157,7 +157,7 @@ fn load_folder(
     let Ok(paths) = folder_files(alloc, path.as_slice(), names.as_slice()) else {
         return Err(out_of_memory(alloc));
     };
-    let loaded = Loaded {
+    let loaded = LoadState {
         files: loaded.files,
         folders: loaded.folders + 1,
         entries: loaded.entries,
@@ -172,14 +172,14 @@ fn load_entry(
     levels: u32,
     supplies: &[Supply],
     file: &[u8],
-    loaded: Loaded,
+    loaded: LoadState,
     entry: Entry,
-) -> Result<Loaded, Refusal>
+) -> Result<LoadState, Refusal>
     ensures { GivesBy (EntryLoads (FileLoads levels supplies.now) supplies.now file.now loaded
         entry) result }
 {
     let place = entry.place;
-    match followed(alloc, file, &entry.body) {
+    match include_of(alloc, file, &entry.body) {
         Ok(None) => match with_entry(loaded, entry) {
             Ok(loaded) => Ok(loaded),
             Err(_) => Err(out_of_memory(alloc)),
@@ -197,9 +197,9 @@ fn load_entries(
     levels: u32,
     supplies: &[Supply],
     file: &[u8],
-    loaded: Loaded,
+    loaded: LoadState,
     entries: Vec<Entry>,
-) -> Result<Loaded, Refusal>
+) -> Result<LoadState, Refusal>
     ensures { GivesBy (EntriesLoad (FileLoads levels supplies.now) supplies.now file.now loaded
         entries.items) result }
 {
@@ -219,10 +219,10 @@ fn load_text(
     alloc: Global,
     levels: u32,
     supplies: &[Supply],
-    loaded: Loaded,
+    loaded: LoadState,
     path: Seq<u8>,
     text: &[u8],
-) -> Result<Loaded, Refusal>
+) -> Result<LoadState, Refusal>
     requires { length loaded.files < 1024 }
     ensures { GivesBy (TextLoads (FileLoads levels supplies.now) supplies.now loaded path text.now)
         result }
@@ -246,8 +246,8 @@ fn load_text(
 }
 
 // Returns the policy that was loaded. Returns `Parse(TooMany)` if there are too many definitions in all files together.
-fn closed(loaded: Loaded) -> Result<Policy, Refusal>
-    requires { Fine loaded }
+fn policy_of(loaded: LoadState) -> Result<Policy, Refusal>
+    requires { IsConsistent loaded }
     ensures closes { Closes loaded (over_limit loaded.entries) result }
     ensures placed { IfErr result (λ refusal. IsPlaced refusal) }
 {
@@ -289,7 +289,7 @@ pub fn load(
         return Err(out_of_memory(alloc));
     };
     match load_text(alloc, NESTING_LIMIT, supplies, nothing(alloc), path, text) {
-        Ok(loaded) => closed(loaded),
+        Ok(loaded) => policy_of(loaded),
         Err(refusal) => Err(refusal),
     }
 }

@@ -5,7 +5,7 @@ use Rattle.std.specs.List.{list_any, range_with_len}
 use Rattle.std.proofs.lemmas.Option.{slice_get_within}
 use Rattle.std.proofs.lemmas.Bool.{cases_lt, both_ways}
 use Rattle.sudo_base.specs.Indexes.{Indexes}
-use Rattle.sudo_match.specs.Known.{clashes_with, clashes_at, first_clash}
+use Rattle.sudo_match.specs.KnownRows.{clashes_with, clashes_at, first_clash}
 
 -- the first n elements clash with none before them
 abbrev pub NoneBefore : {A : Type 0} → (A → A → Bool) → List A → ℕ → Type 0

@@ -7,34 +7,34 @@ use Rattle.sudo_match.specs.declared.people.Group.{Group}
 use Rattle.sudo_match.specs.declared.people.Machine.{Machine}
 use Rattle.sudo_match.specs.Class.{lower_text}
 use Rattle.sudo_base.specs.Indexes.{Indexes}
-use Rattle.sudo_base.specs.Places.{place_of}
-use Rattle.sudo_match.specs.Known.{Known, user_named, host_named, group_named, groups_of}
+use Rattle.sudo_base.specs.NameIndices.{index_of}
+use Rattle.sudo_match.specs.KnownRows.{KnownRows, user_named, host_named, group_named, groups_of}
 
 pub user_named-is :
-    (d : Known) (people : List Person) (users : List (List ℕ × ℕ)) (name : List ℕ) → people ≡ d.people →
-    Indexes (λ u. u.name) people (length people) (place_of users) →
-    user_named d name ≡ option_and_then (slice_get people) (place_of users name)
+    (d : KnownRows) (people : List Person) (users : List (List ℕ × ℕ)) (name : List ℕ) → people ≡ d.people →
+    Indexes (λ u. u.name) people (length people) (index_of users) →
+    user_named d name ≡ option_and_then (slice_get people) (index_of users name)
 unfolding user_named
 user_named-is d people users name e i =
     ap (find (λ (u : Person). bytes_eq u.name name)) (sym e ∙ sym (take-length people)) ∙ sym (i.found name)
 
 pub host_named-is :
-    (d : Known) (machines : List Machine) (hosts : List (List ℕ × ℕ)) (name : List ℕ) → machines ≡ d.machines →
-    Indexes (λ m. lower_text m.name) machines (length machines) (place_of hosts) →
-    host_named d name ≡ option_and_then (slice_get machines) (place_of hosts (lower_text name))
+    (d : KnownRows) (machines : List Machine) (hosts : List (List ℕ × ℕ)) (name : List ℕ) → machines ≡ d.machines →
+    Indexes (λ m. lower_text m.name) machines (length machines) (index_of hosts) →
+    host_named d name ≡ option_and_then (slice_get machines) (index_of hosts (lower_text name))
 unfolding host_named
 host_named-is d machines hosts name e i =
     ap (find (λ (m : Machine). bytes_eq (lower_text m.name) (lower_text name))) (sym e ∙ sym (take-length machines)) ∙ sym (i.found (lower_text name))
 
 pub host_named-scanned :
-    (d : Known) (name : List ℕ) → find (λ (m : Machine). bytes_eq (lower_text m.name) (lower_text name)) d.machines ≡ host_named d name
+    (d : KnownRows) (name : List ℕ) → find (λ (m : Machine). bytes_eq (lower_text m.name) (lower_text name)) d.machines ≡ host_named d name
 unfolding host_named
 host_named-scanned d name = refl
 
 pub group_named-is :
-    (d : Known) (people : List Person) (groups : List (List ℕ × ℕ)) (name : List ℕ) → people ≡ d.people →
-    Indexes (λ g. g.name) (groups_of people) (length (groups_of people)) (place_of groups) →
-    group_named d name ≡ option_and_then (slice_get (groups_of people)) (place_of groups name)
+    (d : KnownRows) (people : List Person) (groups : List (List ℕ × ℕ)) (name : List ℕ) → people ≡ d.people →
+    Indexes (λ g. g.name) (groups_of people) (length (groups_of people)) (index_of groups) →
+    group_named d name ≡ option_and_then (slice_get (groups_of people)) (index_of groups name)
 unfolding group_named
 group_named-is d people groups name e i =
     ap (λ us. find (λ (g : Group). bytes_eq g.name name) (groups_of us)) (sym e)

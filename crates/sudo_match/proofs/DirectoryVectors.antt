@@ -5,7 +5,7 @@ use Rattle.sudo_match.specs.declared.people.Person.{Person}
 use Rattle.sudo_match.specs.declared.people.Group.{Group}
 use Rattle.sudo_match.specs.declared.people.Machine.{Machine}
 use Rattle.sudo_match.specs.declared.fault.DirFault.TheVariants.{UserTwice, HostTwice, GroupClash, NoGroup, NoRoot}
-use Rattle.sudo_match.specs.Known.{first_clash, directory_fault}
+use Rattle.sudo_match.specs.KnownRows.{first_clash, directory_fault}
 
 abbrev group : List ℕ → ℕ → Group
 group name gid = record { name = name; gid = gid }

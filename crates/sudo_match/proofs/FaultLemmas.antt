@@ -6,13 +6,13 @@ use Rattle.std.proofs.Math.Seq.{take-length}
 use Rattle.sudo_match.specs.declared.people.Person.{Person}
 use Rattle.sudo_match.specs.declared.people.Group.{Group}
 use Rattle.sudo_match.specs.declared.people.Machine.{Machine}
-use Rattle.sudo_base.specs.Places.{place_of}
-use Rattle.sudo_match.specs.declared.spots.Spot.{Spot}
+use Rattle.sudo_base.specs.NameIndices.{index_of}
+use Rattle.sudo_match.specs.declared.positions.GroupPosition.{GroupPosition}
 use Rattle.sudo_match.specs.declared.fault.DirFault.{DirFault}
 use Rattle.sudo_match.specs.declared.fault.DirFault.TheVariants.{UserTwice, HostTwice, GroupClash, NoGroup, NoRoot}
 use Rattle.sudo_match.specs.Class.{lower_text}
-use Rattle.sudo_match.specs.Indexing.{AreApart, AreSpots, IsKept}
-use Rattle.sudo_match.specs.Known.{same_user, same_host, groups_clash, groups_of, is_no_group, or_else, user_fault, host_fault, group_fault, ungrouped_fault, root_fault, directory_fault, IsRefusal}
+use Rattle.sudo_match.specs.Indexing.{AreApart, ArePositions, IsKept}
+use Rattle.sudo_match.specs.KnownRows.{same_user, same_host, groups_clash, groups_of, is_no_group, or_else, user_fault, host_fault, group_fault, ungrouped_fault, root_fault, directory_fault, IsRefusal}
 
 -- a fault that is passed on as it is
 pub passed-on : {A : Type 0} (r : Result A DirFault) (e : DirFault) (P : DirFault → Type 0) → IsErrAnd r (λ d. d ≡ e) → P e → IfErr r P
@@ -84,14 +84,14 @@ refused-ungrouped people machines users hosts groups u e i j k found h =
 
 -- ---- The user `root`
 
-root-known : (people : List Person) (users : List (List ℕ × ℕ)) → AreApart same_user (λ u. u.name) people users → list_any (λ u. bytes_eq u.name (codes "root")) people ≡ is_some (place_of users (codes "root"))
+root-known : (people : List Person) (users : List (List ℕ × ℕ)) → AreApart same_user (λ u. u.name) people users → list_any (λ u. bytes_eq u.name (codes "root")) people ≡ is_some (index_of users (codes "root"))
 root-known people users i =
     ap (list_any (λ (u : Person). bytes_eq u.name (codes "root"))) (sym (take-length people)) ∙ sym (i.indexed.known (codes "root"))
 
 pub refused-root :
     (people : List Person) (machines : List Machine) (users hosts groups : List (List ℕ × ℕ)) → AreApart same_user (λ u. u.name) people users →
     AreApart same_host (λ m. lower_text m.name) machines hosts → AreApart groups_clash (λ g. g.name) (groups_of people) groups →
-    find (λ u. is_no_group u.groups) people ≡ None → is_some (place_of users (codes "root")) ≡ false → IsRefusal (directory_fault people machines) NoRoot
+    find (λ u. is_no_group u.groups) people ≡ None → is_some (index_of users (codes "root")) ≡ false → IsRefusal (directory_fault people machines) NoRoot
 refused-root people machines users hosts groups i j k grouped missing =
     inr (last-faults people machines users hosts groups i j k
     ∙ none-later (ungrouped_fault people) (root_fault people) (ungrouped-none people grouped)
@@ -100,17 +100,17 @@ refused-root people machines users hosts groups i j k grouped missing =
 pub faultless :
     (people : List Person) (machines : List Machine) (users hosts groups : List (List ℕ × ℕ)) → AreApart same_user (λ u. u.name) people users →
     AreApart same_host (λ m. lower_text m.name) machines hosts → AreApart groups_clash (λ g. g.name) (groups_of people) groups →
-    find (λ u. is_no_group u.groups) people ≡ None → is_some (place_of users (codes "root")) ≡ true → directory_fault people machines ≡ None
+    find (λ u. is_no_group u.groups) people ≡ None → is_some (index_of users (codes "root")) ≡ true → directory_fault people machines ≡ None
 faultless people machines users hosts groups i j k grouped known =
     last-faults people machines users hosts groups i j k
     ∙ none-later (ungrouped_fault people) (root_fault people) (ungrouped-none people grouped)
     ∙ ap (λ b. cond b None (Some NoRoot)) (root-known people users i ∙ known)
 
 pub kept :
-    (people : List Person) (machines : List Machine) (users hosts groups : List (List ℕ × ℕ)) (spots : List Spot) → AreApart same_user (λ u. u.name) people users →
-    AreApart same_host (λ m. lower_text m.name) machines hosts → AreApart groups_clash (λ g. g.name) (groups_of people) groups → AreSpots people spots →
-    directory_fault people machines ≡ None → IsKept people machines users hosts groups spots
-kept people machines users hosts groups spots i j k s none = record {
+    (people : List Person) (machines : List Machine) (users hosts groups : List (List ℕ × ℕ)) (positions : List GroupPosition) → AreApart same_user (λ u. u.name) people users →
+    AreApart same_host (λ m. lower_text m.name) machines hosts → AreApart groups_clash (λ g. g.name) (groups_of people) groups → ArePositions people positions →
+    directory_fault people machines ≡ None → IsKept people machines users hosts groups positions
+kept people machines users hosts groups positions i j k s none = record {
   users_indexed = i.indexed;
   hosts_indexed = j.indexed;
   groups_indexed = k.indexed;

@@ -8,10 +8,10 @@ use Rattle.std.proofs.lemmas.List.{take_all}
 use Rattle.std.proofs.lemmas.List.Folds.{find-append}
 use Rattle.sudo_match.specs.declared.people.Group.{Group}
 use Rattle.sudo_base.specs.Indexes.{Indexes}
-use Rattle.sudo_base.specs.Places.{place_of}
-use Rattle.sudo_base.proofs.IndexLemmas.{take-some, list_any-append, bytes_eq-is, indexes-none, indexes-more, place_of-append, place_of-empty, none-is}
+use Rattle.sudo_base.specs.NameIndices.{index_of}
+use Rattle.sudo_base.proofs.IndexLemmas.{take-some, list_any-append, bytes_eq-is, indexes-none, indexes-more, index_of-append, index_of-empty, none-is}
 use Rattle.sudo_match.specs.Indexing.{AreApart, differs, noted}
-use Rattle.sudo_match.specs.Known.{groups_clash, clashes_at}
+use Rattle.sudo_match.specs.KnownRows.{groups_clash, clashes_at}
 use Rattle.sudo_match.proofs.ClashLemmas.{NoneBefore, none-first, none-more, clash-here, clash-none}
 
 -- ---- A name that has a place already
@@ -58,15 +58,15 @@ indexes-same key rows n x places i at old = record {
         sym (i.known name) ∙ ap (λ k. is_some (places k)) (sym same) ∙ old
 
 pub indexes-noted :
-    {A : Type 0} (key : A → List ℕ) (rows : List A) (n : ℕ) (x : A) (names : List (List ℕ × ℕ)) → Indexes key rows n (place_of names) →
-    slice_get rows n ≡ Some x → Indexes key rows (n + 1) (place_of (noted names (key x) n))
-indexes-noted key rows n x names i at = go (is_some (place_of names (key x))) refl
+    {A : Type 0} (key : A → List ℕ) (rows : List A) (n : ℕ) (x : A) (names : List (List ℕ × ℕ)) → Indexes key rows n (index_of names) →
+    slice_get rows n ≡ Some x → Indexes key rows (n + 1) (index_of (noted names (key x) n))
+indexes-noted key rows n x names i at = go (is_some (index_of names (key x))) refl
   where
-    go : (b : Bool) → is_some (place_of names (key x)) ≡ b → Indexes key rows (n + 1) (place_of (noted names (key x) n))
-    go true f = rw f (indexes-same key rows n x (place_of names) i at f)
+    go : (b : Bool) → is_some (index_of names (key x)) ≡ b → Indexes key rows (n + 1) (index_of (noted names (key x) n))
+    go true f = rw f (indexes-same key rows n x (index_of names) i at f)
     go false f =
-        let new : place_of names (key x) ≡ None = none-is (place_of names (key x)) f in
-        rw f (indexes-more key rows n x (place_of names) (place_of (names ++ (key x, n) ∷ [])) i at new (λ other. place_of-append names (key x) n other new))
+        let new : index_of names (key x) ≡ None = none-is (index_of names (key x)) f in
+        rw f (indexes-more key rows n x (index_of names) (index_of (names ++ (key x, n) ∷ [])) i at new (λ other. index_of-append names (key x) n other new))
 
 -- ---- The first that passes one test decides another
 
@@ -153,16 +153,16 @@ agree-by_id false false e f = cc
 
 -- the first n groups are indexed by name and by ID, and none of them clashes with one before it
 pub record GroupsRead (groups : List Group) (n : ℕ) (names ids : List (List ℕ × ℕ)) : Type 0 where
-  pub by_name : Indexes (λ g. g.name) groups n (place_of names)
-  pub by_id : Indexes (λ g. g.gid ∷ []) groups n (place_of ids)
+  pub by_name : Indexes (λ g. g.name) groups n (index_of names)
+  pub by_id : Indexes (λ g. g.gid ∷ []) groups n (index_of ids)
   pub name_decides : (name : List ℕ) (id : ℕ) → Decides (named name) (has_id id) (take n groups)
   pub id_decides : (id : ℕ) (name : List ℕ) → Decides (of_id id) (named name) (take n groups)
   pub none : NoneBefore groups_clash groups n
 
 pub groups-first : (groups : List Group) (names ids : List (List ℕ × ℕ)) → names ≡ [] → ids ≡ [] → GroupsRead groups 0 names ids
 groups-first groups names ids e f = record {
-  by_name = indexes-none (λ g. g.name) groups (place_of names) (λ name. ap (λ es. place_of es name) e ∙ place_of-empty name);
-  by_id = indexes-none (λ g. g.gid ∷ []) groups (place_of ids) (λ name. ap (λ es. place_of es name) f ∙ place_of-empty name);
+  by_name = indexes-none (λ g. g.name) groups (index_of names) (λ name. ap (λ es. index_of es name) e ∙ index_of-empty name);
+  by_id = indexes-none (λ g. g.gid ∷ []) groups (index_of ids) (λ name. ap (λ es. index_of es name) f ∙ index_of-empty name);
   name_decides = λ name id. refl;
   id_decides = λ id name. refl;
   none = none-first groups_clash groups;
@@ -183,8 +183,8 @@ any-either r a b (x ∷ xs) e =
 pub group-clash :
     (groups : List Group) (n : ℕ) (names ids : List (List ℕ × ℕ)) (x : Group) → GroupsRead groups n names ids → slice_get groups n ≡ Some x →
     clashes_at groups_clash groups n ≡
-    (differs (λ g. g.gid == x.gid) (option_and_then (slice_get groups) (place_of names x.name))
-    || differs (λ g. bytes_eq g.name x.name) (option_and_then (slice_get groups) (place_of ids (x.gid ∷ []))))
+    (differs (λ g. g.gid == x.gid) (option_and_then (slice_get groups) (index_of names x.name))
+    || differs (λ g. bytes_eq g.name x.name) (option_and_then (slice_get groups) (index_of ids (x.gid ∷ []))))
 group-clash groups n names ids x r at =
     clash-here groups_clash groups n x at
     ∙ any-either (λ y. groups_clash y x) (λ y. named x.name y && not (has_id x.gid y)) (λ y. of_id x.gid y && not (named x.name y)) (take n groups)
@@ -192,7 +192,7 @@ group-clash groups n names ids x r at =
     ∙ ap (λ b. b || list_any (λ y. of_id x.gid y && not (named x.name y)) (take n groups)) (r.name_decides x.name x.gid)
     ∙ ap (λ b. differs (has_id x.gid) (find (named x.name) (take n groups)) || b) (r.id_decides x.gid x.name)
     ∙ ap (λ o. differs (has_id x.gid) o || differs (named x.name) (find (of_id x.gid) (take n groups))) (sym (r.by_name.found x.name))
-    ∙ ap (λ o. differs (has_id x.gid) (option_and_then (slice_get groups) (place_of names x.name)) || differs (named x.name) o) (sym (r.by_id.found (x.gid ∷ [])))
+    ∙ ap (λ o. differs (has_id x.gid) (option_and_then (slice_get groups) (index_of names x.name)) || differs (named x.name) o) (sym (r.by_id.found (x.gid ∷ [])))
 
 pub groups-more :
     (groups : List Group) (n : ℕ) (names ids : List (List ℕ × ℕ)) (x : Group) → GroupsRead groups n names ids → slice_get groups n ≡ Some x →

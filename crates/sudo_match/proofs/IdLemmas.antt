@@ -3,7 +3,7 @@ use Rattle.std.proofs.Common.{◌≡◌, ℕ, List, [], ◌∷◌, ◌++◌, Opt
 use Rattle.std.specs.Prelude.{nat_eq}
 use Rattle.std.specs.Map.{lookup}
 use Rattle.indexmap.specs.IndexMap.{insert_entry}
-use Rattle.sudo_base.specs.Places.{place_of}
+use Rattle.sudo_base.specs.NameIndices.{index_of}
 use Rattle.sudo_match.specs.Body.IdEntry.{bare}
 
 and-true : (b : Bool) → (b && true) ≡ b
@@ -11,7 +11,7 @@ and-true true = refl
 and-true false = refl
 
 -- a look-up among the entries is one among the IDs
-pub lookup_bare : (id : ℕ) (es : List (ℕ × ℕ)) → lookup (nat_eq id) es ≡ place_of (map bare es) (id ∷ [])
+pub lookup_bare : (id : ℕ) (es : List (ℕ × ℕ)) → lookup (nat_eq id) es ≡ index_of (map bare es) (id ∷ [])
 lookup_bare id [] = refl
 lookup_bare id (e ∷ es) =
     ap (λ b. cond b (Some e.1) (lookup (nat_eq id) es)) (sym (and-true (nat_eq id e.0)))
@@ -25,8 +25,8 @@ insert_step false e es xs ys i v r none rest = ap (λ zs. bare e ∷ zs) (rest n
 
 -- a new ID goes last
 pub insert_bare :
-    (id v : ℕ) (es : List (ℕ × ℕ)) → place_of (map bare es) (id ∷ []) ≡ None →
+    (id v : ℕ) (es : List (ℕ × ℕ)) → index_of (map bare es) (id ∷ []) ≡ None →
     map bare (insert_entry nat_eq es id v) ≡ map bare es ++ (id ∷ [], v) ∷ []
 insert_bare id v [] none = refl
 insert_bare id v (e ∷ es) none =
-    insert_step (nat_eq id e.0) e es (insert_entry nat_eq es id v) (map bare es ++ (id ∷ [], v) ∷ []) e.1 v (place_of (map bare es) (id ∷ [])) none (insert_bare id v es)
+    insert_step (nat_eq id e.0) e es (insert_entry nat_eq es id v) (map bare es ++ (id ∷ [], v) ∷ []) e.1 v (index_of (map bare es) (id ∷ [])) none (insert_bare id v es)

@@ -5,7 +5,7 @@ pub mod CutLemmas
 pub mod ClosingLemmas
 pub mod GroupLemmas
 pub mod IdLemmas
-pub mod SpotLemmas
+pub mod PositionLemmas
 pub mod DirectoryLemmas
 pub mod DirectoryVectors
 pub mod FaultLemmas

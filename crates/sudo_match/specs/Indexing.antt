@@ -4,27 +4,27 @@ use Rattle.sudo_match.specs.declared.people.Person.{Person}
 use Rattle.sudo_match.specs.declared.people.Group.{Group}
 use Rattle.sudo_match.specs.declared.people.Machine.{Machine}
 use Rattle.sudo_base.specs.Indexes.{Indexes}
-use Rattle.sudo_base.specs.Places.{place_of}
-use Rattle.sudo_match.specs.declared.spots.Spot.{Spot}
+use Rattle.sudo_base.specs.NameIndices.{index_of}
+use Rattle.sudo_match.specs.declared.positions.GroupPosition.{GroupPosition}
 use Rattle.sudo_match.specs.Class.{lower_text}
-use Rattle.sudo_match.specs.Known.{first_clash, groups_of, directory_fault}
+use Rattle.sudo_match.specs.KnownRows.{first_clash, groups_of, directory_fault}
 
 -- no row clashes with an earlier one, and each name has the index of the first row that has it
 pub record AreApart {A : Type 0} (clashes : A → A → Bool) (key : A → List ℕ) (rows : List A) (names : List (List ℕ × ℕ)) : Type 0 where
   pub apart : first_clash clashes rows ≡ None
-  pub indexed : Indexes key rows (length rows) (place_of names)
+  pub indexed : Indexes key rows (length rows) (index_of names)
 
 -- the names with one more, unless it is already there
 abbrev pub noted : List (List ℕ × ℕ) → List ℕ → ℕ → List (List ℕ × ℕ)
-noted names name at = if is_some (place_of names name) then names else names ++ (name, at) ∷ []
+noted names name at = if is_some (index_of names name) then names else names ++ (name, at) ∷ []
 
 -- the group at a position
-abbrev pub group_there : List Person → Spot → Option Group
-group_there people spot = option_and_then (λ u. slice_get u.groups spot.at) (slice_get people spot.user)
+abbrev pub group_there : List Person → GroupPosition → Option Group
+group_there people position = option_and_then (λ u. slice_get u.groups position.at) (slice_get people position.user)
 
 -- the positions of all groups of all users, in order
-abbrev pub AreSpots : List Person → List Spot → Type 0
-AreSpots people spots = map (group_there people) spots ≡ map Some (groups_of people)
+abbrev pub ArePositions : List Person → List GroupPosition → Type 0
+ArePositions people positions = map (group_there people) positions ≡ map Some (groups_of people)
 
 -- there is an element, and it fails the test
 abbrev pub differs : {A : Type 0} → (A → Bool) → Option A → Bool
@@ -32,9 +32,9 @@ differs test None = false
 differs test (Some x) = not (test x)
 
 -- the invariant of a directory: its indexes are those of its rows, and the rows have no fault
-pub record IsKept (people : List Person) (machines : List Machine) (users hosts groups : List (List ℕ × ℕ)) (spots : List Spot) : Type 0 where
-  pub users_indexed : Indexes (λ u. u.name) people (length people) (place_of users)
-  pub hosts_indexed : Indexes (λ m. lower_text m.name) machines (length machines) (place_of hosts)
-  pub groups_indexed : Indexes (λ g. g.name) (groups_of people) (length (groups_of people)) (place_of groups)
-  pub spots_are : AreSpots people spots
+pub record IsKept (people : List Person) (machines : List Machine) (users hosts groups : List (List ℕ × ℕ)) (positions : List GroupPosition) : Type 0 where
+  pub users_indexed : Indexes (λ u. u.name) people (length people) (index_of users)
+  pub hosts_indexed : Indexes (λ m. lower_text m.name) machines (length machines) (index_of hosts)
+  pub groups_indexed : Indexes (λ g. g.name) (groups_of people) (length (groups_of people)) (index_of groups)
+  pub spots_are : ArePositions people positions
   pub faultless : directory_fault people machines ≡ None

@@ -3,7 +3,7 @@ pub mod Pattern
 pub mod HostNames
 pub mod Reading
 pub mod Matching
-pub mod Known
+pub mod KnownRows
 pub mod Indexing
 pub mod Written
 pub mod Body

@@ -2,10 +2,10 @@
 ghost use Rattle.std.specs.Prelude.{◌≡◌, find, bytes_eq, IfOk, IfErr, None};
 ghost use Rattle.std.specs.Option.{option_copied};
 ghost use Rattle.sudo_match.specs.Class.{lower_text};
-ghost use Rattle.sudo_match.specs.Known.{user_named, host_named, group_named, directory_fault, is_no_group, IsRefusal};
+ghost use Rattle.sudo_match.specs.KnownRows.{user_named, host_named, group_named, directory_fault, is_no_group, IsRefusal};
 
 use crate::indexing::{group_names, host_names, host_place, user_names};
-use crate::spots::{Spot, group_found, spots_of};
+use crate::positions::{GroupPosition, group_found, positions_of};
 use crate::{DirFault, Group, Machine, Person};
 use std::alloc::Global;
 use std::marker::Model;
@@ -20,19 +20,19 @@ pub struct Directory {
     users: Names,
     hosts: Names,
     groups: Names,
-    spots: Vec<Spot>,
+    positions: Vec<GroupPosition>,
 }
 
 impl Model for Directory {
-    ghost use Rattle.sudo_match.specs.Known.{Known};
+    ghost use Rattle.sudo_match.specs.KnownRows.{KnownRows};
     ghost use Rattle.sudo_match.specs.Indexing.{IsKept};
 
-    ghost Value = { Known };
+    ghost Value = { KnownRows };
 
     ghost view = { λ d. record { people = d.people; machines = d.machines } };
 
     ghost invariant = { λ d. IsKept d.people d.machines d.users d.hosts d.groups
-        d.spots.items };
+        d.positions.items };
 }
 
 impl Directory {
@@ -65,8 +65,8 @@ impl Directory {
     {
         let users = user_names(alloc, people.as_slice())?;
         let hosts = host_names(alloc, machines.as_slice())?;
-        let spots = spots_of(alloc, people.as_slice())?;
-        let groups = group_names(alloc, people.as_slice(), spots.as_slice())?;
+        let positions = positions_of(alloc, people.as_slice())?;
+        let groups = group_names(alloc, people.as_slice(), positions.as_slice())?;
         if let Some(person) = ungrouped(people.as_slice()) {
             return Err(DirFault::no_group(alloc, person.name.as_slice()));
         }
@@ -79,7 +79,7 @@ impl Directory {
             users,
             hosts,
             groups,
-            spots,
+            positions,
         })
     }
 
@@ -115,7 +115,7 @@ impl Directory {
     {
         group_found(
             self.people.as_slice(),
-            self.spots.as_slice(),
+            self.positions.as_slice(),
             self.groups.get(name),
         )
     }

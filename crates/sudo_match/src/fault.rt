@@ -1,6 +1,6 @@
 //! The faults of the rows of a directory.
 ghost use Rattle.std.specs.Prelude.{Some};
-ghost use Rattle.sudo_match.specs.Known.{IsRefusal};
+ghost use Rattle.sudo_match.specs.KnownRows.{IsRefusal};
 
 use std::alloc::{AllocError, Global};
 use sudo_text::Seq;

@@ -1,6 +1,6 @@
 //! A map from group IDs to indices.
 ghost use Rattle.std.specs.Prelude.{◌≡◌, [], ◌∷◌, OnOk};
-ghost use Rattle.sudo_base.specs.Places.{place_of};
+ghost use Rattle.sudo_base.specs.NameIndices.{index_of};
 ghost use Rattle.sudo_match.specs.Indexing.{noted};
 
 use indexmap::IndexMap;
@@ -10,7 +10,7 @@ use std::marker::Model;
 /// A map from group IDs to indices. Contracts see an ID as a name of one number.
 #[derive(Drop)]
 pub(crate) struct Ids {
-    places: IndexMap<u32, usize>,
+    indices: IndexMap<u32, usize>,
 }
 
 impl Model for Ids {
@@ -19,7 +19,7 @@ impl Model for Ids {
 
     ghost Value = { List (List ℕ × ℕ) };
 
-    ghost view = { λ n. map bare n.places.entries };
+    ghost view = { λ n. map bare n.indices.entries };
 }
 
 impl Ids {
@@ -28,25 +28,25 @@ impl Ids {
         ensures { result ≡ [] }
     {
         Ids {
-            places: IndexMap::new(alloc),
+            indices: IndexMap::new(alloc),
         }
     }
 
     /// Returns the index of an ID, or `None` if the map does not contain it. Does not allocate.
     pub(crate) fn get(&self, id: u32) -> Option<usize>
-        ensures { result ≡ place_of self.now (id ∷ []) }
+        ensures { result ≡ index_of self.now (id ∷ []) }
     {
-        self.places.get(&id).copied()
+        self.indices.get(&id).copied()
     }
 
     /// Inserts the index of an ID, unless the ID has one.
-    pub(crate) fn note(&mut self, id: u32, place: usize) -> Result<(), AllocError>
-        ensures { OnOk result (self.new ≡ noted self.old (id ∷ []) place) }
+    pub(crate) fn note(&mut self, id: u32, index: usize) -> Result<(), AllocError>
+        ensures { OnOk result (self.new ≡ noted self.old (id ∷ []) index) }
     {
         if self.get(id).is_some() {
             return Ok(());
         }
-        self.places.insert(id, place)?;
+        self.indices.insert(id, index)?;
         Ok(())
     }
 }

@@ -1,13 +1,13 @@
 //! Indexes of users, hosts and groups by their names.
 ghost use Rattle.std.specs.Prelude.{◌≡◌, ◌==◌, ◌||◌, ◌∷◌, [], ◌≤◌, IfOk, IfErr, OnOk, length, bytes_eq, option_and_then, slice_get};
 ghost use Rattle.std.specs.Option.{option_copied};
-ghost use Rattle.sudo_base.specs.Places.{place_of};
+ghost use Rattle.sudo_base.specs.NameIndices.{index_of};
 ghost use Rattle.sudo_match.specs.Class.{lower_text};
-ghost use Rattle.sudo_match.specs.Known.{same_user, same_host, groups_clash, groups_of, user_fault, host_fault, group_fault, IsRefusal};
-ghost use Rattle.sudo_match.specs.Indexing.{AreApart, AreSpots, noted, differs};
+ghost use Rattle.sudo_match.specs.KnownRows.{same_user, same_host, groups_clash, groups_of, user_fault, host_fault, group_fault, IsRefusal};
+ghost use Rattle.sudo_match.specs.Indexing.{AreApart, ArePositions, noted, differs};
 
 use crate::ids::Ids;
-use crate::spots::{Spot, group_at, group_found};
+use crate::positions::{GroupPosition, group_at, group_found};
 use crate::{DirFault, Group, Machine, Person};
 use std::alloc::{AllocError, Global};
 use sudo_base::Names;
@@ -60,7 +60,7 @@ const LONGEST: usize = 255;
 /// Returns the index of a host, ignoring ASCII case. Does not allocate: the name is put in lower case on the stack.
 pub(crate) fn host_place(names: &Names, name: &[u8]) -> Option<usize>
     requires { length name.now ≤ 255 }
-    ensures { result ≡ place_of names.now (lower_text name.now) }
+    ensures { result ≡ index_of names.now (lower_text name.now) }
 {
     let mut lower = [0u8; LONGEST];
     for (at, byte) in name.iter().enumerate() {
@@ -70,13 +70,13 @@ pub(crate) fn host_place(names: &Names, name: &[u8]) -> Option<usize>
 }
 
 // Inserts the index of a name, unless the name has one.
-fn note(names: &mut Names, alloc: Global, name: &[u8], place: usize) -> Result<(), AllocError>
-    ensures { OnOk result (names.new ≡ noted names.old name.now place) }
+fn note(names: &mut Names, alloc: Global, name: &[u8], index: usize) -> Result<(), AllocError>
+    ensures { OnOk result (names.new ≡ noted names.old name.now index) }
 {
     if names.get(name).is_some() {
         return Ok(());
     }
-    names.insert(alloc, name, place)
+    names.insert(alloc, name, index)
 }
 
 fn has_other_id(found: Option<&Group>, gid: u32) -> bool
@@ -100,19 +100,19 @@ fn has_other_name(found: Option<&Group>, name: &[u8]) -> bool
 // Whether the first group of the same name has another ID, or the first group of the same ID has another name.
 fn clashes(
     people: &[Person],
-    spots: &[Spot],
+    positions: &[GroupPosition],
     by_name: Option<usize>,
     by_id: Option<usize>,
     group: &Group,
 ) -> bool
-    requires { AreSpots people.now spots.now }
+    requires { ArePositions people.now positions.now }
     ensures { result ≡ (differs (λ g. g.gid == group.now.gid)
         (option_and_then (slice_get (groups_of people.now)) by_name)
         || differs (λ g. bytes_eq g.name group.now.name)
         (option_and_then (slice_get (groups_of people.now)) by_id)) }
 {
-    has_other_id(group_found(people, spots, by_name), group.gid)
-        | has_other_name(group_found(people, spots, by_id), group.name.as_slice())
+    has_other_id(group_found(people, positions, by_name), group.gid)
+        | has_other_name(group_found(people, positions, by_id), group.name.as_slice())
 }
 
 /// Returns the indices of groups, among all groups, by name. Returns `GroupClash` for the first group that clashes with
@@ -120,20 +120,20 @@ fn clashes(
 pub(crate) fn group_names(
     alloc: Global,
     people: &[Person],
-    spots: &[Spot],
+    positions: &[GroupPosition],
 ) -> Result<Names, DirFault>
-    requires { AreSpots people.now spots.now }
+    requires { ArePositions people.now positions.now }
     ensures names { IfOk result (AreApart groups_clash (λ g. g.name) (groups_of people.now)) }
     ensures fault { IfErr result (IsRefusal (group_fault people.now)) }
 {
     let mut names = Names::new(alloc);
     let mut ids = Ids::new(alloc);
-    for at in 0..spots.len() {
-        let Some(group) = group_at(people, spots, at) else {
+    for at in 0..positions.len() {
+        let Some(group) = group_at(people, positions, at) else {
             return Ok(names);
         };
         let name = group.name.as_slice();
-        if clashes(people, spots, names.get(name), ids.get(group.gid), group) {
+        if clashes(people, positions, names.get(name), ids.get(group.gid), group) {
             return Err(DirFault::group_clash(alloc, name));
         }
         note(&mut names, alloc, name, at)?;

@@ -11,7 +11,7 @@ mod matchers;
 mod patterns;
 mod people;
 mod request;
-mod spots;
+mod positions;
 mod unclosed;
 
 pub use directory::Directory;

@@ -9,14 +9,14 @@ use Rattle.sudo_grammar.specs.declared.policy.Parameter.{Parameter}
 use Rattle.sudo_grammar.specs.declared.policy.Parameter.TheVariants as parameters
 use Rattle.sudo_grammar.specs.declared.fault.Expected.TheVariants as wants
 use Rattle.sudo_grammar.specs.declared.fault.Refusal.TheVariants as refusals
-use Rattle.sudo_parser.specs.declared.stops.Stopped.{Stopped}
-use Rattle.sudo_parser.specs.declared.stops.Stopped.TheVariants as stops
+use Rattle.sudo_parser.specs.declared.stops.ParserStop.{ParserStop}
+use Rattle.sudo_parser.specs.declared.stops.ParserStop.TheVariants as stops
 use Rattle.sudo_parser.specs.Body.Stops.{Stops, IsNotNext}
 use Rattle.sudo_grammar.specs.Reading.{reading}
 use Rattle.sudo_parser.proofs.Steps.{reading-step, reading-stuck, stops-here, stops-same}
 use Rattle.sudo_grammar.specs.declared.policy.Operator.{Operator}
 use Rattle.sudo_grammar.specs.Openings.{is_word, operator_of}
-use Rattle.sudo_grammar.specs.Places.{AtParameter, AfterSwitch, AtValue, Room, at_parameter, after_switch, at_operator, at_value}
+use Rattle.sudo_grammar.specs.States.{AtParameter, AfterSwitch, AtValue, Room, at_parameter, after_switch, at_operator, at_value}
 use Rattle.sudo_parser.specs.Body.Lists.{ReadsBangs}
 use Rattle.sudo_parser.specs.Body.Defaults.{IsWordNext, IsNoWordNext, IsWordMissing, IsOperatorNext, IsPast, ReadsParameter, StopsInParameter}
 
@@ -37,7 +37,7 @@ missing-here room b d n (t ∷ ts) bang none = stops-here room (AtParameter b d 
     (reading-stuck room (AtParameter b d n) t ts (parameter-none b d n t t.kind bang none)) refl
 
 -- no word where the name of a parameter must stand
-pub name-missing : (ts : List Token) (n : ℕ) (named : List Token) (e : Stopped) → ReadsBangs ts n named
+pub name-missing : (ts : List Token) (n : ℕ) (named : List Token) (e : ParserStop) → ReadsBangs ts n named
     → IsNotNext marks.Bang named → IsWordMissing wants.Parameter named e → StopsInParameter ts e
 name-missing ts n named (stops.At refusal left) r bang (is, (count, none)) = λ room b d.
     subst (λ x. Stops (stops.At x left) (reading room (AtParameter b d 0) ts)) (sym is)
@@ -101,7 +101,7 @@ name-read room b d ts n named w after r none (is, word) = bangs-read ts n named 
 
 -- no word where the value of a parameter must stand
 pub value-missing : (ts : List Token) (n : ℕ) (named : List Token) (w : Token) (after : List Token) (o : Operator) (valued : List Token)
-    (e : Stopped) → ReadsBangs ts n named → n ≡ 0 → IsWordNext named w after → IsOperatorNext after o valued
+    (e : ParserStop) → ReadsBangs ts n named → n ≡ 0 → IsWordNext named w after → IsOperatorNext after o valued
     → IsWordMissing wants.Value valued e → StopsInParameter ts e
 value-missing ts n named w after o valued (stops.At refusal left) r bare word op (is, (count, none)) = λ room b d.
     subst (λ x. Stops (stops.At x left) (reading room (AtParameter b d 0) ts)) (sym is)

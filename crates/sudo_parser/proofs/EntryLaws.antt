@@ -3,9 +3,9 @@ use Rattle.std.proofs.Common.{List, subst, Result, Ok, Err}
 use Rattle.std.specs.Result.{IfOk, IfErr}
 use Rattle.sudo_text.specs.declared.token.Token.{Token}
 use Rattle.sudo_grammar.specs.declared.policy.EntryBody.{EntryBody}
-use Rattle.sudo_parser.specs.declared.stops.Stopped.{Stopped}
-use Rattle.sudo_parser.specs.declared.stops.Stopped.TheVariants as stops
-use Rattle.sudo_grammar.specs.Places.{Room, Start}
+use Rattle.sudo_parser.specs.declared.stops.ParserStop.{ParserStop}
+use Rattle.sudo_parser.specs.declared.stops.ParserStop.TheVariants as stops
+use Rattle.sudo_grammar.specs.States.{Room, Start}
 use Rattle.sudo_grammar.specs.Reading.{reading}
 use Rattle.sudo_grammar.specs.Faults.{WritesWithin}
 use Rattle.sudo_grammar.proofs.Complete.{entry-read}
@@ -14,16 +14,16 @@ use Rattle.sudo_grammar.proofs.Stops.{leftmost}
 use Rattle.sudo_parser.specs.Body.Stops.{GivesEntry}
 use Rattle.sudo_parser.specs.Body.Faults.{IsFaultOf}
 
-pub entry-written : (room : Room) (ts : List Token) (r : Result EntryBody Stopped)
+pub entry-written : (room : Room) (ts : List Token) (r : Result EntryBody ParserStop)
     → GivesEntry r (reading room Start ts) → IfOk r (λ e. WritesWithin room e ts)
 entry-written room ts (Ok e) h = read-within room ts e h
 entry-written room ts (Err s) h = tt
 
-pub entry-only : (room : Room) (ts : List Token) (r : Result EntryBody Stopped) (e : EntryBody)
+pub entry-only : (room : Room) (ts : List Token) (r : Result EntryBody ParserStop) (e : EntryBody)
     → GivesEntry r (reading room Start ts) → WritesWithin room e ts → GivesEntry r (Ok e)
 entry-only room ts r e h w = subst (λ x. GivesEntry r x) (entry-read room e ts w.0 w.1) h
 
-pub entry-fault : (room : Room) (ts : List Token) (r : Result EntryBody Stopped)
+pub entry-fault : (room : Room) (ts : List Token) (r : Result EntryBody ParserStop)
     → GivesEntry r (reading room Start ts) → IfErr r (IsFaultOf room ts)
 entry-fault room ts (Ok e) h = tt
 entry-fault room ts (Err (stops.At refusal left)) (stop, (is, (refused, count))) = (stop, (leftmost room ts stop is, (refused, count)))

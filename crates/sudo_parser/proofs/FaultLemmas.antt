@@ -6,11 +6,11 @@ use Rattle.sudo_text.specs.declared.line.Line.{Line}
 use Rattle.sudo_text.specs.Tokens.{spells}
 use Rattle.sudo_grammar.specs.declared.fault.Refusal.{Refusal}
 use Rattle.sudo_grammar.specs.declared.fault.ParseFault.{ParseFault}
-use Rattle.sudo_parser.specs.declared.stops.Stopped.TheVariants as stops
-use Rattle.sudo_grammar.specs.Places.{Room}
+use Rattle.sudo_parser.specs.declared.stops.ParserStop.TheVariants as stops
+use Rattle.sudo_grammar.specs.States.{Room}
 use Rattle.sudo_grammar.specs.Faults.{WritesWithin}
 use Rattle.sudo_parser.specs.Body.Faults.{IsFaultOf}
-use Rattle.sudo_parser.specs.Parsed.{column, fault_at, IsLineFault, Says}
+use Rattle.sudo_parser.specs.Parsed.{column, fault_at, IsLineFault, IsEntryOf}
 use Rattle.std.proofs.Common.{Some}
 use Rattle.sudo_grammar.specs.declared.policy.EntryBody.{EntryBody}
 
@@ -56,6 +56,6 @@ grammar_fault_of room line ts us vs refusal left fault u v spelled some stopped 
 
 -- What a line's tokens write is what it says.
 pub says_entry : (room : Room) (line : Line) (ts us : List Token) (body : EntryBody) → spells line ts ≡ true
-    → (ts ≡ [] → ⊥) → us ≡ ts → WritesWithin room body us → Says room line (Some body)
+    → (ts ≡ [] → ⊥) → us ≡ ts → WritesWithin room body us → IsEntryOf room line (Some body)
 says_entry room line [] us body spelled some same h = absurd (some refl)
 says_entry room line (t ∷ ts) us body spelled some same h = (t, ts, spelled, subst (WritesWithin room body) same h)

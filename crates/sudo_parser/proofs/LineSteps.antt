@@ -10,13 +10,13 @@ use Rattle.sudo_grammar.specs.declared.policy.EntryBody.{EntryBody}
 use Rattle.sudo_grammar.specs.declared.fault.Expected.TheVariants as wants
 use Rattle.sudo_grammar.specs.declared.fault.Refusal.TheVariants as refusals
 use Rattle.sudo_grammar.specs.declared.fault.Unsupported.TheVariants as forms
-use Rattle.sudo_parser.specs.declared.stops.Stopped.{Stopped}
-use Rattle.sudo_parser.specs.declared.stops.Stopped.TheVariants as stops
+use Rattle.sudo_parser.specs.declared.stops.ParserStop.{ParserStop}
+use Rattle.sudo_parser.specs.declared.stops.ParserStop.TheVariants as stops
 use Rattle.sudo_parser.specs.Body.Stops.{Stops, GivesEntry}
 use Rattle.sudo_grammar.specs.Reading.{reading}
 use Rattle.sudo_parser.proofs.Steps.{reading-step, reading-stuck, reading-same, stops-here, stops-same}
 use Rattle.sudo_grammar.specs.Openings.{Directive, BadDirective, Other, opening_of, has_host_escape}
-use Rattle.sudo_grammar.specs.Places.{Start, Users, Item, Included, Place, Room, at_start, step}
+use Rattle.sudo_grammar.specs.States.{Start, Users, Item, Included, State, Room, at_start, step}
 use Rattle.sudo_grammar.specs.Refusals.{refused_start}
 
 bad-opening : (folder hash : Bool) (path : List Ch) → has_host_escape path ≡ true
@@ -61,13 +61,13 @@ rule-read room whole t ts is other = subst (λ x. reading room Start x ≡ readi
     (reading-same room Start (Item Users 0 []) (t ∷ ts) refl (ap (refused_start (t ∷ ts)) other)
     (λ u us same. ap (λ x. at_start (opening_of x.kind) x) (sym (head-same same)) ∙ ap (λ o. at_start o t) other ∙ ap (first room) (head-same same)))
   where
-    first : Room → Token → Option Place
+    first : Room → Token → Option State
     first room x = step room (Item Users 0 []) x
 
     head-same : {a b : Token} {xs ys : List Token} → a ∷ xs ≡ b ∷ ys → a ≡ b
     head-same h = cc
 
-pub rule-gives : (room : Room) (whole : List Token) (t : Token) (ts : List Token) (r : Result EntryBody Stopped) → whole ≡ t ∷ ts
+pub rule-gives : (room : Room) (whole : List Token) (t : Token) (ts : List Token) (r : Result EntryBody ParserStop) → whole ≡ t ∷ ts
     → opening_of t.kind ≡ Other → GivesEntry r (reading room (Item Users 0 []) whole) → GivesEntry r (reading room Start whole)
 rule-gives room whole t ts r is other h = subst (GivesEntry r) (sym (rule-read room whole t ts is other)) h
 

@@ -15,36 +15,36 @@ use Rattle.sudo_grammar.specs.declared.kind.Member.{Member}
 use Rattle.sudo_grammar.specs.declared.fault.Refusal.{Refusal}
 use Rattle.sudo_grammar.specs.declared.fault.Refusal.TheVariants as refusals
 use Rattle.sudo_grammar.specs.declared.fault.Unsupported.TheVariants as forms
-use Rattle.sudo_parser.specs.declared.members.Declined.{Declined}
-use Rattle.sudo_parser.specs.declared.members.Declined.TheVariants as declines
-use Rattle.sudo_parser.specs.declared.stops.Stopped.{Stopped}
-use Rattle.sudo_parser.specs.declared.stops.Stopped.TheVariants as stops
+use Rattle.sudo_parser.specs.declared.members.MemberFault.{MemberFault}
+use Rattle.sudo_parser.specs.declared.members.MemberFault.TheVariants as declines
+use Rattle.sudo_parser.specs.declared.stops.ParserStop.{ParserStop}
+use Rattle.sudo_parser.specs.declared.stops.ParserStop.TheVariants as stops
 use Rattle.sudo_grammar.specs.Words.{plain_word, is_option_name}
 use Rattle.sudo_grammar.specs.Members.{atom_of}
 use Rattle.sudo_grammar.specs.Openings.{is_mark, is_equal_mark, spells}
-use Rattle.sudo_grammar.specs.Places.{Purpose, Defines, Users, Hosts, RunasUsers, RunasGroups, Binds, kind_for, Place, Item, AfterItem, Room, at_item, after_item, member_place, after_member}
+use Rattle.sudo_grammar.specs.States.{Purpose, Defines, Users, Hosts, RunasUsers, RunasGroups, Binds, kind_for, State, Item, AfterItem, Room, at_item, after_item, member_state, after_member}
 use Rattle.sudo_grammar.specs.Refusals.{is_option, or_option, last_command, refused_atom, refused_after}
 use Rattle.sudo_grammar.specs.Reading.{reading}
 use Rattle.sudo_parser.specs.Body.Gives.{Declines}
 use Rattle.sudo_parser.specs.Body.Stops.{IsMark, IsNext, IsNotNext}
-use Rattle.sudo_parser.specs.Body.Lists.{ReadsBangs, command_in, IsShut, Takes, declined_as, option_begins, StopsAtMember, StopsInItem, ReadsItem, ReadsToItem, ReadsItems, StopsInItems}
+use Rattle.sudo_parser.specs.Body.Lists.{ReadsBangs, command_in, IsShut, Takes, stop_of_member, option_begins, StopsAtMember, StopsInItem, ReadsItem, ReadsToItem, ReadsItems, StopsInItems}
 use Rattle.sudo_parser.proofs.Steps.{reading-step, reading-stuck, reading-mark, stops-here, stops-same, IsNext-less}
 
-declined-here : (kind : Kind) (bangs : ℕ) (t : Token) (ts : List Token) (e : Declined) → (IsMark marks.Bang t → ⊥)
-    → Declines e (atom_of kind t.kind) → StopsAtMember kind bangs (t ∷ ts) (declined_as kind t ts e (length (t ∷ ts)))
-declined-here kind bangs t ts (declines.Refused r) other h = λ room before after takes shut.
+member_stop-here : (kind : Kind) (bangs : ℕ) (t : Token) (ts : List Token) (e : MemberFault) → (IsMark marks.Bang t → ⊥)
+    → Declines e (atom_of kind t.kind) → StopsAtMember kind bangs (t ∷ ts) (stop_of_member kind t ts e (length (t ∷ ts)))
+member_stop-here kind bangs t ts (declines.Refused r) other h = λ room before after takes shut.
     stops-here room (before bangs) (t ∷ ts) _
     (reading-stuck room (before bangs) t ts (takes.refuses bangs t r other shut h))
     (takes.refusal bangs (t ∷ ts) ∙ ap (refused_atom kind t ts) h)
-declined-here kind bangs t ts declines.Memory other h = λ room before after takes shut. tt
+member_stop-here kind bangs t ts declines.Memory other h = λ room before after takes shut. tt
 
 -- a token that is refused as a member stops the reading
-pub member-declined : (kind : Kind) (bangs : ℕ) (whole : List Token) (t : Token) (ts : List Token) (e : Declined)
+pub member-member_stop : (kind : Kind) (bangs : ℕ) (whole : List Token) (t : Token) (ts : List Token) (e : MemberFault)
     → whole ≡ t ∷ ts → IsNotNext marks.Bang whole → Declines e (atom_of kind t.kind)
-    → StopsAtMember kind bangs whole (declined_as kind t ts e (length whole))
-member-declined kind bangs whole t ts e is other h =
-    subst (λ x. StopsAtMember kind bangs x (declined_as kind t ts e (length x))) (sym is)
-    (declined-here kind bangs t ts e (subst (IsNotNext marks.Bang) is other) h)
+    → StopsAtMember kind bangs whole (stop_of_member kind t ts e (length whole))
+member-member_stop kind bangs whole t ts e is other h =
+    subst (λ x. StopsAtMember kind bangs x (stop_of_member kind t ts e (length x))) (sym is)
+    (member_stop-here kind bangs t ts e (subst (IsNotNext marks.Bang) is other) h)
 
 option-same : (kind : Kind) (m : Member) (ts : List Token) → is_option (command_in kind m) ts ≡ option_begins kind m.token ts
 option-same kinds.User m ts = refl
@@ -73,7 +73,7 @@ member-option kind bangs whole t ts a is h begins =
     subst (λ x. StopsAtMember kind bangs x (stops.At (refusals.Unsupported forms.CommandOption) (length ts))) (sym is)
     (option-here kind bangs t ts a h begins)
 
-shut-after : (kind : Kind) (room : Room) (before : ℕ → Place) (after : Member → Place) (ts : List Token) (count : ℕ)
+shut-after : (kind : Kind) (room : Room) (before : ℕ → State) (after : Member → State) (ts : List Token) (count : ℕ)
     (rest : List Token) → Takes kind room before after → (count ≡ 0 → ts ≡ rest) → IsShut room (before 0) ts
     → IsShut room (before count) rest
 shut-after kind room before after ts zero rest takes none shut = subst (IsShut room (before 0)) (none refl) shut
@@ -81,7 +81,7 @@ shut-after kind room before after ts (suc n) [] takes none shut = tt
 shut-after kind room before after ts (suc n) (t ∷ rest) takes none shut = λ is. takes.shut n t is
 
 -- the stop at a member is the stop in its item
-pub item-stops : (kind : Kind) (ts : List Token) (count : ℕ) (rest : List Token) (e : Stopped)
+pub item-stops : (kind : Kind) (ts : List Token) (count : ℕ) (rest : List Token) (e : ParserStop)
     → ReadsBangs ts count rest → StopsAtMember kind count rest e → StopsInItem kind ts e
 item-stops kind ts count rest e r h = λ room before after takes shut.
     stops-same e _ _ (r.reads room before takes.counts)
@@ -91,7 +91,7 @@ item-stops kind ts count rest e r h = λ room before after takes shut.
 at_item-none : (p : Purpose) (n : ℕ) (d : List Member) (t : Token) (r : Refusal) (kind : TokenKind)
     → (kind ≡ tokens.Mark marks.Bang → ⊥) → atom_of (kind_for p) t.kind ≡ Err r → at_item p n d t kind ≡ None
 at_item-none p n d t r (tokens.Mark marks.Bang) other h = absurd (other refl)
-at_item-none p n d t r _ other h = ap (member_place p n d t) h
+at_item-none p n d t r _ other h = ap (member_state p n d t) h
 
 -- a token that stands for an atom is taken as that member
 at_item-member : (p : Purpose) (n : ℕ) (d : List Member) (t : Token) (kind : TokenKind) (a : Atom)
@@ -101,10 +101,10 @@ at_item-member p n d t _ a h = refl
 
 item-taken : (p : Purpose) (d : List Member) (m : Member) → atom_of (kind_for p) m.token.kind ≡ Ok m.atom
     → at_item p m.bangs d m.token m.token.kind ≡ Some (AfterItem p (d ++ m ∷ []))
-item-taken p d m h = at_item-member p m.bangs d m.token m.token.kind m.atom h ∙ ap (member_place p m.bangs d m.token) h
+item-taken p d m h = at_item-member p m.bangs d m.token m.token.kind m.atom h ∙ ap (member_state p m.bangs d m.token) h
 
 item-shut : (p : Purpose) (n : ℕ) (d : List Member) (t : Token) → IsMark marks.LeftParen t → at_item p n d t t.kind ≡ None
-item-shut p n d t is = ap (at_item p n d t) is ∙ ap (λ k. member_place p n d t (atom_of (kind_for p) k)) is
+item-shut p n d t is = ap (at_item p n d t) is ∙ ap (λ k. member_state p n d t (atom_of (kind_for p) k)) is
 
 -- the last item of a list
 pub last-snoc : (d : List Member) (m : Member) → slice_get (d ++ m ∷ []) (length (d ++ m ∷ []) - 1) ≡ Some m
@@ -221,7 +221,7 @@ items-end kind ts ms rest m after so_far r no_longer other = record {
   reads = λ room p same. so_far room p same ∙ item-reads kind rest m after r room p ms same;
 }
 
-pub items-stop : (kind : Kind) (ts : List Token) (ms : List Member) (rest : List Token) (e : Stopped)
+pub items-stop : (kind : Kind) (ts : List Token) (ms : List Member) (rest : List Token) (e : ParserStop)
     → ReadsToItem kind ts ms rest → StopsInItem kind rest e → StopsInItems kind ts e
 items-stop kind ts ms rest e so_far h = λ room p same.
     stops-same e _ _ (so_far room p same)

@@ -15,8 +15,8 @@ use Rattle.sudo_grammar.specs.declared.policy.EntryBody.TheVariants as bodies
 use Rattle.sudo_grammar.specs.declared.fault.ParseFault.{ParseFault}
 use Rattle.sudo_grammar.specs.Kinds.{same_kind}
 use Rattle.sudo_parser.specs.Limits.{defined, less}
-use Rattle.sudo_grammar.specs.Places.{Room}
-use Rattle.sudo_parser.specs.Parsed.{room_after, Says, entry_of, AreEntriesAfter, AreEntries, IsLineFault, IsFirstFaultAfter, IsFirstFault, Adds, fits, over_limit_from}
+use Rattle.sudo_grammar.specs.States.{Room}
+use Rattle.sudo_parser.specs.Parsed.{room_after, IsEntryOf, entry_of, AreEntriesAfter, AreEntries, IsLineFault, IsFirstFaultAfter, IsFirstFault, Adds, fits, over_limit_from}
 
 defined_more : (kind : Kind) (entries : List Entry) (e : Entry)
     → sum_by (λ (x : Entry). defined kind x.body) (entries ++ e ∷ []) ≡ sum_by (λ (x : Entry). defined kind x.body) entries + defined kind e.body
@@ -57,13 +57,13 @@ along_start lines = record { entries = λ rest h. h; only = λ all h. (all, h, r
 
 -- One line more.
 pub along_next : (lines : List Line) (before now : List Entry) (line : Line) (left : List Line) → Along lines before (line ∷ left) → Adds before line now
-    → ((body : Option EntryBody) → Says (room_after before) line body → now ≡ before ++ entry_of line body) → Along lines now left
-along_next lines before now line left along (said, says, is) only = record {
+    → ((body : Option EntryBody) → IsEntryOf (room_after before) line body → now ≡ before ++ entry_of line body) → Along lines now left
+along_next lines before now line left along (line_entry, says, is) only = record {
   entries = λ rest h.
-      subst (AreEntries lines) (sym (append_assoc before (entry_of line said) rest) ∙ ap (λ es. es ++ rest) (sym is))
-      (along.entries (entry_of line said ++ rest) (said, rest, says, subst (λ es. AreEntriesAfter es left rest) is h, refl));
+      subst (AreEntries lines) (sym (append_assoc before (entry_of line line_entry) rest) ∙ ap (λ es. es ++ rest) (sym is))
+      (along.entries (entry_of line line_entry ++ rest) (line_entry, rest, says, subst (λ es. AreEntriesAfter es left rest) is h, refl));
   only = λ all h. onward all (along.only all h);
-  fault = λ fault h. along.fault fault (inr (said, says, subst (λ es. IsFirstFaultAfter es left fault) is h));
+  fault = λ fault h. along.fault fault (inr (line_entry, says, subst (λ es. IsFirstFaultAfter es left fault) is h));
 }
   where
     onward : (all : List Entry) → (rest : List Entry) × AreEntriesAfter before (line ∷ left) rest × (all ≡ before ++ rest)
@@ -87,7 +87,7 @@ along_only lines before all along h = at (along.only all h)
 
 -- The same for what the loop has.
 pub along_more : (lines : List Line) (before now : List Entry) (line : Line) (left rest : List Line) → Along lines before left → left ≡ line ∷ rest → Adds before line now
-    → ((body : Option EntryBody) → Says (room_after before) line body → now ≡ before ++ entry_of line body) → Along lines now rest
+    → ((body : Option EntryBody) → IsEntryOf (room_after before) line body → now ≡ before ++ entry_of line body) → Along lines now rest
 along_more lines before now line left rest along cut adds only =
     along_next lines before now line rest (subst (Along lines before) cut along) adds only
 

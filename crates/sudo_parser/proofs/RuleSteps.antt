@@ -18,14 +18,14 @@ use Rattle.sudo_grammar.specs.declared.fault.Expected.TheVariants as wants
 use Rattle.sudo_grammar.specs.declared.fault.Refusal.{Refusal}
 use Rattle.sudo_grammar.specs.declared.fault.Refusal.TheVariants as refusals
 use Rattle.sudo_grammar.specs.declared.fault.Unsupported.TheVariants as forms
-use Rattle.sudo_parser.specs.declared.stops.Stopped.{Stopped}
+use Rattle.sudo_parser.specs.declared.stops.ParserStop.{ParserStop}
 use Rattle.sudo_parser.specs.Body.Stops.{Stops, IsNext, IsNotNext}
 use Rattle.sudo_grammar.specs.Reading.{reading}
 use Rattle.sudo_parser.proofs.Steps.{reading-stuck, reading-same, stops-same, not-head}
 use Rattle.sudo_grammar.specs.Words.{tag_of}
 use Rattle.sudo_grammar.specs.Members.{atom_of}
 use Rattle.sudo_grammar.specs.Forms.{as_tag}
-use Rattle.sudo_grammar.specs.Places.{Granting, Users, Hosts, Item, AfterItem, Command, AfterCommand, Room, at_item, after_item, at_command, command_place, at_paren, after_command}
+use Rattle.sudo_grammar.specs.States.{Granting, Users, Hosts, Item, AfterItem, Command, AfterCommand, Room, at_item, after_item, at_command, command_state, at_paren, after_command}
 use Rattle.sudo_grammar.specs.Refusals.{is_option}
 use Rattle.sudo_parser.specs.Body.Lists.{Takes, IsShut, ReadsItem, StopsInItem, ReadsItems}
 use Rattle.sudo_parser.specs.Body.Runas.{ReadsRunas}
@@ -34,7 +34,7 @@ use Rattle.sudo_parser.proofs.ListSteps.{option-equals, option-some}
 
 -- a token that stands for an atom is taken as that command
 command-member : (g : Granting) (r : Option Runas) (d : List Tag) (n : ℕ) (t : Token) (kind : TokenKind) (a : Atom)
-    → atom_of kinds.Cmnd kind ≡ Ok a → at_command g r d n t kind ≡ command_place g r d n t (atom_of kinds.Cmnd t.kind)
+    → atom_of kinds.Cmnd kind ≡ Ok a → at_command g r d n t kind ≡ command_state g r d n t (atom_of kinds.Cmnd t.kind)
 command-member g r d n t (tokens.Mark marks.Bang) a h = cc
 command-member g r d n t (tokens.Mark marks.LeftParen) a h = cc
 command-member g r d n t _ a h = refl
@@ -44,7 +44,7 @@ command-none : (g : Granting) (r : Option Runas) (d : List Tag) (n : ℕ) (t : T
     → atom_of kinds.Cmnd t.kind ≡ Err e → at_command g r d n t kind ≡ None
 command-none g r d n t e (tokens.Mark marks.Bang) other shut h = absurd (other refl)
 command-none g r d n t e (tokens.Mark marks.LeftParen) other shut h = shut refl
-command-none g r d n t e _ other shut h = ap (command_place g r d n t) h
+command-none g r d n t e _ other shut h = ap (command_state g r d n t) h
 
 paren-none : (g : Granting) (r : Option Runas) (d : List Tag) (n : ℕ) → at_paren g r d (suc n) ≡ None
 paren-none g None [] n = refl
@@ -63,7 +63,7 @@ pub command-takes : (room : Room) (g : Granting) (r : Option Runas) (d : List Ta
     → Takes kinds.Cmnd room (λ n. Command g r d n) (λ m. AfterCommand g (record { runas = r; tags = d; command = m }))
 command-takes room g r d = record {
   counts = λ n t is. ap (at_command g r d n t) is;
-  takes = λ m h. command-member g r d m.bangs m.token m.token.kind m.atom h ∙ ap (command_place g r d m.bangs m.token) h;
+  takes = λ m h. command-member g r d m.bangs m.token m.token.kind m.atom h ∙ ap (command_state g r d m.bangs m.token) h;
   refuses = λ n t e other shut h. command-none g r d n t e t.kind other shut h;
   shut = λ n t is. ap (at_command g r d (suc n) t) is ∙ paren-none g r d n;
   unfinished = λ n. refl;
@@ -111,7 +111,7 @@ spec-reads ts tagged listed rest r d m ran tags item = record {
       ∙ item.reads room (λ n. Command g r d n) (λ x. AfterCommand g (record { runas = r; tags = d; command = x })) (command-takes room g r d);
 }
 
-pub spec-stops : (ts tagged listed : List Token) (r : Option Runas) (d : List Tag) (e : Stopped) → ReadsRunas ts r tagged
+pub spec-stops : (ts tagged listed : List Token) (r : Option Runas) (d : List Tag) (e : ParserStop) → ReadsRunas ts r tagged
     → ReadsTags tagged d listed → StopsInItem kinds.Cmnd listed e → StopsInSpec ts e
 spec-stops ts tagged listed r d e ran tags h = λ room g.
     stops-same e _ _ (ran.reads room g ∙ tags.read.reads room g r)
@@ -133,6 +133,6 @@ pub rule-reads : (ts : List Token) (us : List Member) (rest : List Token) (ss : 
     → ReadsSections rest ss → (room : Room) → reading room (Item Users 0 []) ts ≡ Ok (entries.Rule us ss)
 rule-reads ts us rest ss r h room = users-read ts us rest r room ∙ h room us
 
-pub rule-stops : (ts : List Token) (us : List Member) (rest : List Token) (e : Stopped) → ReadsItems kinds.User ts us rest
+pub rule-stops : (ts : List Token) (us : List Member) (rest : List Token) (e : ParserStop) → ReadsItems kinds.User ts us rest
     → StopsInSections rest e → (room : Room) → Stops e (reading room (Item Users 0 []) ts)
 rule-stops ts us rest e r h room = stops-same e _ _ (users-read ts us rest r room) (h room us)

@@ -8,14 +8,14 @@ use Rattle.sudo_grammar.specs.declared.kind.Kind.TheVariants as kinds
 use Rattle.sudo_grammar.specs.declared.kind.Member.{Member}
 use Rattle.sudo_grammar.specs.declared.fault.Expected.TheVariants as wants
 use Rattle.sudo_grammar.specs.declared.fault.Refusal.TheVariants as refusals
-use Rattle.sudo_parser.specs.declared.stops.Stopped.{Stopped}
-use Rattle.sudo_parser.specs.declared.stops.Stopped.TheVariants as stops
+use Rattle.sudo_parser.specs.declared.stops.ParserStop.{ParserStop}
+use Rattle.sudo_parser.specs.declared.stops.ParserStop.TheVariants as stops
 use Rattle.sudo_parser.specs.Body.Stops.{Stops, IsMark, IsNext, IsNotNext}
 use Rattle.sudo_grammar.specs.Reading.{reading}
 use Rattle.sudo_parser.proofs.Steps.{reading-mark, reading-same, stops-same, stops-always, not-head, IsNext-less}
-use Rattle.sudo_grammar.specs.Places.{Granting, RunasUsers, RunasGroups, RunasStart, GroupsStart, Item, AfterItem, Room, after_runas, at_runas, at_groups, at_item, after_item, step}
+use Rattle.sudo_grammar.specs.States.{Granting, RunasUsers, RunasGroups, RunasStart, GroupsStart, Item, AfterItem, Room, after_runas, at_runas, at_groups, at_item, after_item, step}
 use Rattle.sudo_parser.specs.Body.Lists.{StopsInItems}
-use Rattle.sudo_parser.specs.Body.Runas.{users_place, EndsUsers, ReadsUsers, StopsInUsers, groups_place, EndsGroups, ReadsGroups, StopsInGroups, ReadsLists}
+use Rattle.sudo_parser.specs.Body.Runas.{users_state, EndsUsers, ReadsUsers, StopsInUsers, groups_state, EndsGroups, ReadsGroups, StopsInGroups, ReadsLists}
 
 users-first : (g : Granting) (t : Token) (k : TokenKind) → (k ≡ tokens.Mark marks.Colon → ⊥)
     → (k ≡ tokens.Mark marks.RightParen → ⊥) → at_runas g t k ≡ at_item (RunasUsers g) 0 [] t k
@@ -23,7 +23,7 @@ users-first g t (tokens.Mark marks.Colon) colon paren = absurd (colon refl)
 users-first g t (tokens.Mark marks.RightParen) colon paren = absurd (paren refl)
 users-first g t _ colon paren = refl
 
-pub users-stop : (ts : List Token) (e : Stopped) → IsNotNext marks.Colon ts → IsNotNext marks.RightParen ts
+pub users-stop : (ts : List Token) (e : ParserStop) → IsNotNext marks.Colon ts → IsNotNext marks.RightParen ts
     → StopsInItems kinds.Runas ts e → StopsInUsers ts e
 users-stop ts e colon paren h = λ room g.
     stops-same e _ _ (reading-same room (RunasStart g) (Item (RunasUsers g) 0 []) ts refl refl
@@ -35,7 +35,7 @@ groups-first : (g : Granting) (us : Option (List Member)) (t : Token) (k : Token
 groups-first g us t (tokens.Mark marks.RightParen) paren = absurd (paren refl)
 groups-first g us t _ paren = refl
 
-pub groups-stop : (ts : List Token) (e : Stopped) → IsNotNext marks.RightParen ts → StopsInItems kinds.Runas ts e
+pub groups-stop : (ts : List Token) (e : ParserStop) → IsNotNext marks.RightParen ts → StopsInItems kinds.Runas ts e
     → StopsInGroups ts e
 groups-stop ts e paren h = λ room g us.
     stops-same e _ _ (reading-same room (GroupsStart g us) (Item (RunasGroups g us) 0 []) ts refl refl
@@ -43,12 +43,12 @@ groups-stop ts e paren h = λ room g us.
     (h room (RunasGroups g us) refl)
 
 users-close : (room : Room) (g : Granting) (us : Option (List Member)) (t : Token) → IsMark marks.RightParen t
-    → step room (users_place g us) t ≡ Some (after_runas g us None)
+    → step room (users_state g us) t ≡ Some (after_runas g us None)
 users-close room g None t is = ap (at_runas g t) is
 users-close room g (Some ms) t is = ap (after_item (RunasUsers g) ms t) is
 
 users-colon : (room : Room) (g : Granting) (us : Option (List Member)) (t : Token) → IsMark marks.Colon t
-    → step room (users_place g us) t ≡ Some (GroupsStart g us)
+    → step room (users_state g us) t ≡ Some (GroupsStart g us)
 users-colon room g None t is = ap (at_runas g t) is
 users-colon room g (Some ms) t is = ap (after_item (RunasUsers g) ms t) is
 
@@ -61,7 +61,7 @@ users-stuck g ms t _ comma colon paren = refl
 
 users-unclosed : (room : Room) (g : Granting) (us : Option (List Member)) (rest : List Token) → EndsUsers us rest
     → IsNotNext marks.Colon rest → IsNotNext marks.RightParen rest
-    → Stops (stops.At (refusals.Syntax wants.RightParen) (length rest)) (reading room (users_place g us) rest)
+    → Stops (stops.At (refusals.Syntax wants.RightParen) (length rest)) (reading room (users_state g us) rest)
 users-unclosed room g None rest ends colon paren = absurd (ends colon paren)
 users-unclosed room g (Some ms) rest ends colon paren = stops-always room (AfterItem (RunasUsers g) ms) rest _ refl
     (λ t us is. users-stuck g ms t t.kind (not-head marks.Comma rest t us is ends) (not-head marks.Colon rest t us is colon)
@@ -73,13 +73,13 @@ pub lists-users : (ts : List Token) (us : Option (List Member)) (rest : List Tok
 lists-users ts us rest r colon = record {
   no_longer = r.no_longer;
   closes = λ after h room g. r.reads room g
-      ∙ reading-mark room (users_place g us) (after_runas g us None) marks.RightParen rest after (λ t is. users-close room g us t is) h;
+      ∙ reading-mark room (users_state g us) (after_runas g us None) marks.RightParen rest after (λ t is. users-close room g us t is) h;
   unclosed = λ paren room g. stops-same (stops.At (refusals.Syntax wants.RightParen) (length rest)) _ _ (r.reads room g)
       (users-unclosed room g us rest r.ends colon paren);
 }
 
 groups-close : (room : Room) (g : Granting) (us gs : Option (List Member)) (t : Token) → IsMark marks.RightParen t
-    → step room (groups_place g us gs) t ≡ Some (after_runas g us gs)
+    → step room (groups_state g us gs) t ≡ Some (after_runas g us gs)
 groups-close room g us None t is = ap (at_groups g us t) is
 groups-close room g us (Some ms) t is = ap (after_item (RunasGroups g us) ms t) is
 
@@ -91,7 +91,7 @@ groups-stuck g us ms t _ comma paren = refl
 
 groups-unclosed : (room : Room) (g : Granting) (us gs : Option (List Member)) (rest : List Token) → EndsGroups gs rest
     → IsNotNext marks.RightParen rest
-    → Stops (stops.At (refusals.Syntax wants.RightParen) (length rest)) (reading room (groups_place g us gs) rest)
+    → Stops (stops.At (refusals.Syntax wants.RightParen) (length rest)) (reading room (groups_state g us gs) rest)
 groups-unclosed room g us None rest ends paren = absurd (ends paren)
 groups-unclosed room g us (Some ms) rest ends paren = stops-always room (AfterItem (RunasGroups g us) ms) rest _ refl
     (λ t more is. groups-stuck g us ms t t.kind (not-head marks.Comma rest t more is ends)
@@ -102,7 +102,7 @@ users-read : (ts : List Token) (us : Option (List Member)) (rest listed : List T
     → IsNext marks.Colon rest listed → (room : Room) (g : Granting)
     → reading room (RunasStart g) ts ≡ reading room (GroupsStart g us) listed
 users-read ts us rest listed r colon room g = r.reads room g
-    ∙ reading-mark room (users_place g us) (GroupsStart g us) marks.Colon rest listed (λ t is. users-colon room g us t is) colon
+    ∙ reading-mark room (users_state g us) (GroupsStart g us) marks.Colon rest listed (λ t is. users-colon room g us t is) colon
 
 -- users, a colon and groups
 pub lists-groups : (ts : List Token) (us gs : Option (List Member)) (rest listed after : List Token) → ReadsUsers ts us rest
@@ -110,12 +110,12 @@ pub lists-groups : (ts : List Token) (us gs : Option (List Member)) (rest listed
 lists-groups ts us gs rest listed after r colon s = record {
   no_longer = omega (arith, r.no_longer, IsNext-less marks.Colon rest listed colon, s.no_longer);
   closes = λ end h room g. users-read ts us rest listed r colon room g ∙ s.reads room g us
-      ∙ reading-mark room (groups_place g us gs) (after_runas g us gs) marks.RightParen after end (λ t is. groups-close room g us gs t is) h;
+      ∙ reading-mark room (groups_state g us gs) (after_runas g us gs) marks.RightParen after end (λ t is. groups-close room g us gs t is) h;
   unclosed = λ paren room g. stops-same (stops.At (refusals.Syntax wants.RightParen) (length after)) _ _
       (users-read ts us rest listed r colon room g ∙ s.reads room g us) (groups-unclosed room g us gs after s.ends paren);
 }
 
-pub lists-stop : (ts : List Token) (us : Option (List Member)) (rest listed : List Token) (e : Stopped) → ReadsUsers ts us rest
+pub lists-stop : (ts : List Token) (us : Option (List Member)) (rest listed : List Token) (e : ParserStop) → ReadsUsers ts us rest
     → IsNext marks.Colon rest listed → StopsInGroups listed e → StopsInUsers ts e
 lists-stop ts us rest listed e r colon h = λ room g.
     stops-same e _ _ (users-read ts us rest listed r colon room g) (h room g us)

@@ -5,44 +5,44 @@ use Rattle.sudo_text.specs.declared.token.Mark.{Mark}
 use Rattle.sudo_text.specs.declared.token.Token.{Token}
 use Rattle.sudo_grammar.specs.declared.policy.EntryBody.{EntryBody}
 use Rattle.sudo_grammar.specs.declared.fault.Refusal.{Refusal}
-use Rattle.sudo_parser.specs.declared.stops.Stopped.{Stopped}
-use Rattle.sudo_parser.specs.declared.stops.Stopped.TheVariants as stops
-use Rattle.sudo_grammar.specs.Places.{Place, Room, step, ended}
+use Rattle.sudo_parser.specs.declared.stops.ParserStop.{ParserStop}
+use Rattle.sudo_parser.specs.declared.stops.ParserStop.TheVariants as stops
+use Rattle.sudo_grammar.specs.States.{State, Room, step, ended}
 use Rattle.sudo_grammar.specs.Refusals.{refused_at}
 use Rattle.sudo_grammar.specs.Reading.{Stop, stop_at, entry_or_stop, reading}
 use Rattle.sudo_parser.specs.Body.Stops.{Stops, IsMark, IsNext, IsNotNext}
 
 -- one token is read by one step
-pub reading-step : (room : Room) (place next : Place) (t : Token) (ts : List Token) → step room place t ≡ Some next
+pub reading-step : (room : Room) (place next : State) (t : Token) (ts : List Token) → step room place t ≡ Some next
     → reading room place (t ∷ ts) ≡ reading room next ts
 reading-step room place next t ts h = rw (h, reading) refl
 
 -- where no step leads on, the reading stops
-pub reading-stuck : (room : Room) (place : Place) (t : Token) (ts : List Token) → step room place t ≡ None
+pub reading-stuck : (room : Room) (place : State) (t : Token) (ts : List Token) → step room place t ≡ None
     → reading room place (t ∷ ts) ≡ Err (stop_at place (t ∷ ts))
 reading-stuck room place t ts h = rw (h, reading) refl
 
-pub reading-missing : (room : Room) (place : Place) → ended place ≡ None → reading room place [] ≡ Err (stop_at place [])
+pub reading-missing : (room : Room) (place : State) → ended place ≡ None → reading room place [] ≡ Err (stop_at place [])
 reading-missing room place h = ap (entry_or_stop place) h
 
 -- the mark that comes next is read by one step
-pub reading-mark : (room : Room) (place next : Place) (m : Mark) (ts rest : List Token)
+pub reading-mark : (room : Room) (place next : State) (m : Mark) (ts rest : List Token)
     → ((t : Token) → IsMark m t → step room place t ≡ Some next) → IsNext m ts rest
     → reading room place ts ≡ reading room next rest
 reading-mark room place next m [] rest h is = absurd is
 reading-mark room place next m (t ∷ ts) rest h is = reading-step room place next t ts (h t is.0) ∙ ap (reading room next) is.1
 
 -- the stop at a place
-pub stops-here : (room : Room) (place : Place) (ts : List Token) (r : Refusal) → reading room place ts ≡ Err (stop_at place ts)
+pub stops-here : (room : Room) (place : State) (ts : List Token) (r : Refusal) → reading room place ts ≡ Err (stop_at place ts)
     → refused_at place ts ≡ r → Stops (stops.At r (length ts)) (reading room place ts)
 stops-here room place ts r h is = (stop_at place ts, (h, (is, refl)))
 
 -- a stop is the same where the reading is
-pub stops-same : (e : Stopped) (a b : Result EntryBody Stop) → a ≡ b → Stops e b → Stops e a
+pub stops-same : (e : ParserStop) (a b : Result EntryBody Stop) → a ≡ b → Stops e b → Stops e a
 stops-same e a b same h = subst (λ x. Stops e x) (sym same) h
 
 -- where no token leads on and none may be missing, the reading stops
-pub stops-always : (room : Room) (place : Place) (ts : List Token) (r : Refusal) → ended place ≡ None
+pub stops-always : (room : Room) (place : State) (ts : List Token) (r : Refusal) → ended place ≡ None
     → ((t : Token) (us : List Token) → ts ≡ t ∷ us → step room place t ≡ None) → refused_at place ts ≡ r
     → Stops (stops.At r (length ts)) (reading room place ts)
 stops-always room place [] r last none is = stops-here room place [] r (reading-missing room place last) is
@@ -50,7 +50,7 @@ stops-always room place (t ∷ ts) r last none is =
     stops-here room place (t ∷ ts) r (reading-stuck room place t ts (none t ts refl)) is
 
 -- a place whose steps are another's reads as that one
-pub reading-same : (room : Room) (p q : Place) (ts : List Token) → ended p ≡ ended q → refused_at p ts ≡ refused_at q ts
+pub reading-same : (room : Room) (p q : State) (ts : List Token) → ended p ≡ ended q → refused_at p ts ≡ refused_at q ts
     → ((t : Token) (us : List Token) → ts ≡ t ∷ us → step room p t ≡ step room q t) → reading room p ts ≡ reading room q ts
 reading-same room p q [] last refused same = go (ended q) last
   where
@@ -59,7 +59,7 @@ reading-same room p q [] last refused same = go (ended q) last
     go (Some e) h = ap (entry_or_stop p) h
 reading-same room p q (t ∷ ts) last refused same = go (step room q t) refl (same t ts refl)
   where
-    go : (next : Option Place) → step room q t ≡ next → step room p t ≡ step room q t
+    go : (next : Option State) → step room q t ≡ next → step room p t ≡ step room q t
         → reading room p (t ∷ ts) ≡ reading room q (t ∷ ts)
     go None is h = reading-stuck room p t ts (h ∙ is) ∙ ap (λ r. Err (record { rest = t ∷ ts; refusal = r })) refused
         ∙ sym (reading-stuck room q t ts is)
@@ -74,6 +74,6 @@ IsNext-less m [] rest h = absurd h
 IsNext-less m (t ∷ ts) rest h = omega (arith, ap length h.1)
 
 -- a stop that is passed on is the stop of the whole reading
-pub passed-on : {X : Type 0} (r : Result X Stopped) (e : Stopped) (P : Stopped → Type 0) → IsErrAnd r (λ y. y ≡ e) → P e → IfErr r P
+pub passed-on : {X : Type 0} (r : Result X ParserStop) (e : ParserStop) (P : ParserStop → Type 0) → IsErrAnd r (λ y. y ≡ e) → P e → IfErr r P
 passed-on (Ok x) e P h p = tt
 passed-on (Err y) e P h p = subst P (sym h) p

@@ -18,7 +18,7 @@ use Rattle.sudo_grammar.specs.declared.fault.Refusal.TheVariants as refusals
 use Rattle.sudo_grammar.specs.declared.fault.ParseFault.{ParseFault}
 use Rattle.sudo_grammar.specs.declared.fault.ParseFault.TheVariants as faults
 use Rattle.sudo_parser.specs.Limits.{defined, less}
-use Rattle.sudo_grammar.specs.Places.{Room}
+use Rattle.sudo_grammar.specs.States.{Room}
 use Rattle.sudo_grammar.specs.Reading.{Stop}
 use Rattle.sudo_grammar.specs.Faults.{WritesWithin, IsGrammarFault}
 
@@ -32,9 +32,9 @@ room_after entries kind = alias_limit - sum_by (λ e. defined kind e.body) entri
 
 -- a line without tokens has no entry, and any other has the entry that its tokens write, within the room for
 -- definitions
-abbrev pub Says : Room → Line → Option EntryBody → Type 0
-Says room line None = spells line [] ≡ true
-Says room line (Some body) =
+abbrev pub IsEntryOf : Room → Line → Option EntryBody → Type 0
+IsEntryOf room line None = spells line [] ≡ true
+IsEntryOf room line (Some body) =
     (t : Token) × (ts : List Token) × (spells line (t ∷ ts) ≡ true) × WritesWithin room body (t ∷ ts)
 
 -- the entry of a line, if it has one
@@ -46,8 +46,8 @@ entry_of line (Some body) = record { place = line.first; body = body } ∷ []
 abbrev pub AreEntriesAfter : List Entry → List Line → List Entry → Type 0
 AreEntriesAfter before [] entries = entries ≡ []
 AreEntriesAfter before (line ∷ lines) entries =
-    (said : Option EntryBody) × (rest : List Entry) × Says (room_after before) line said
-    × AreEntriesAfter (before ++ entry_of line said) lines rest × (entries ≡ entry_of line said ++ rest)
+    (line_entry : Option EntryBody) × (rest : List Entry) × IsEntryOf (room_after before) line line_entry
+    × AreEntriesAfter (before ++ entry_of line line_entry) lines rest × (entries ≡ entry_of line line_entry ++ rest)
 
 -- the entries of a file's lines
 abbrev pub AreEntries : List Line → List Entry → Type 0
@@ -94,7 +94,7 @@ abbrev pub IsFirstFaultAfter : List Entry → List Line → ParseFault → Type 
 IsFirstFaultAfter before [] fault = ⊥
 IsFirstFaultAfter before (line ∷ lines) fault =
     IsLineFault (room_after before) line fault
-    ⊎ ((said : Option EntryBody) × Says (room_after before) line said × IsFirstFaultAfter (before ++ entry_of line said) lines fault)
+    ⊎ ((line_entry : Option EntryBody) × IsEntryOf (room_after before) line line_entry × IsFirstFaultAfter (before ++ entry_of line line_entry) lines fault)
 
 -- the fault of a file's lines
 abbrev pub IsFirstFault : List Line → ParseFault → Type 0
@@ -107,7 +107,7 @@ GivesOr x (Err fault) = fault ≡ faults.Memory
 
 -- a line's entry, if any, is appended to those before
 abbrev pub Adds : List Entry → Line → List Entry → Type 0
-Adds before line entries = (said : Option EntryBody) × Says (room_after before) line said × (entries ≡ before ++ entry_of line said)
+Adds before line entries = (line_entry : Option EntryBody) × IsEntryOf (room_after before) line line_entry × (entries ≡ before ++ entry_of line line_entry)
 
 -- there is room for the definitions of an entry
 abbrev pub fits : Room → EntryBody → Bool

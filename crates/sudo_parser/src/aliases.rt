@@ -1,12 +1,12 @@
 //! Definitions of aliases.
 ghost use Rattle.std.specs.Prelude.{◌≡◌, ◌^◌, ◌<◌, [], length, IfOk, IfErr};
-ghost use Rattle.sudo_grammar.specs.Places.{Room, AliasName};
+ghost use Rattle.sudo_grammar.specs.States.{Room, AliasName};
 ghost use Rattle.sudo_grammar.specs.Reading.{reading};
 ghost use Rattle.sudo_parser.specs.Body.Stops.{GivesEntry};
 ghost use Rattle.sudo_parser.specs.Body.Aliases.{ReadsName, StopsInName, ReadsDefinition, StopsInDefinition};
 
 use crate::lists::members;
-use crate::stops::{Stopped, wants};
+use crate::stops::{ParserStop, wants};
 use crate::tokens::{after_mark, first_token};
 use crate::words::name;
 use std::alloc::Global;
@@ -19,7 +19,7 @@ fn definition_name(
     alloc: Global,
     is_full: bool,
     tokens: &[Token],
-) -> Result<(Seq<u8>, &[Token]), Stopped>
+) -> Result<(Seq<u8>, &[Token]), ParserStop>
     ensures reads { IfOk result (λ r. ReadsName is_full tokens.now r.0 r.1.now) }
     ensures stops { IfErr result (StopsInName is_full tokens.now) }
 {
@@ -29,7 +29,7 @@ fn definition_name(
             None => Err(wants(Expected::AliasName, tokens.len())),
             Some(name) => {
                 if is_full {
-                    return Err(Stopped::At {
+                    return Err(ParserStop::At {
                         refusal: Refusal::TooMany,
                         left: tokens.len(),
                     });
@@ -46,7 +46,7 @@ fn definition(
     kind: Kind,
     is_full: bool,
     tokens: &[Token],
-) -> Result<(Definition, &[Token]), Stopped>
+) -> Result<(Definition, &[Token]), ParserStop>
     requires { length tokens.now < 2 ^ 32 }
     ensures reads { IfOk result (λ r. ReadsDefinition kind is_full tokens.now r.0 r.1.now) }
     ensures stops { IfErr result (StopsInDefinition kind is_full tokens.now) }
@@ -66,7 +66,7 @@ pub(crate) fn aliases(
     kind: Kind,
     limit: u32,
     tokens: &[Token],
-) -> Result<EntryBody, Stopped>
+) -> Result<EntryBody, ParserStop>
     requires { length tokens.now < 2 ^ 32 }
     ensures { (room : Room) → room kind ≡ limit
         → GivesEntry result (reading room (AliasName kind []) tokens.now) }

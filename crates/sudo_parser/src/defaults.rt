@@ -1,13 +1,13 @@
 //! Defaults lines: their bindings and their parameters.
 ghost use Rattle.std.specs.Prelude.{◌≡◌, ◌^◌, ◌<◌, ◌==◌, length, IfOk, IfErr, MatchOption};
 ghost use Rattle.sudo_grammar.specs.Openings.{is_direct, kind_of_mark, operator_of};
-ghost use Rattle.sudo_grammar.specs.Places.{Room, DefaultsStart, bound_to};
+ghost use Rattle.sudo_grammar.specs.States.{Room, DefaultsStart, bound_to};
 ghost use Rattle.sudo_grammar.specs.Reading.{reading};
 ghost use Rattle.sudo_parser.specs.Body.Stops.{GivesEntry};
 ghost use Rattle.sudo_parser.specs.Body.Defaults.{ReadsBinding, StopsInBinding, IsWordNext, IsWordMissing, IsOperatorNext, IsNoOperatorNext, ReadsParameter, StopsInParameter, ReadsParameters, StopsInParameters};
 
 use crate::lists::members;
-use crate::stops::{Stopped, wants};
+use crate::stops::{ParserStop, wants};
 use crate::tokens::{after_mark, bangs, copy_of, first_token};
 use std::alloc::Global;
 use sudo_grammar::{Binding, EntryBody, Expected, Kind, Member, Operator, Parameter};
@@ -42,7 +42,7 @@ fn bound(kind: Kind, members: Seq<Member>) -> Binding
 }
 
 // Reads the binding of a line, if any, and returns the tokens after it.
-fn binding(alloc: Global, tokens: &[Token]) -> Result<(Option<Binding>, &[Token]), Stopped>
+fn binding(alloc: Global, tokens: &[Token]) -> Result<(Option<Binding>, &[Token]), ParserStop>
     requires { length tokens.now < 2 ^ 32 }
     ensures reads { IfOk result (λ r. ReadsBinding tokens.now r.0 r.1.now) }
     ensures stops { IfErr result (StopsInBinding tokens.now) }
@@ -63,7 +63,7 @@ fn binding(alloc: Global, tokens: &[Token]) -> Result<(Option<Binding>, &[Token]
 }
 
 // Reads a word, and returns the tokens after it.
-fn word(expected: Expected, tokens: &[Token]) -> Result<(Token, &[Token]), Stopped>
+fn word(expected: Expected, tokens: &[Token]) -> Result<(Token, &[Token]), ParserStop>
     ensures reads { IfOk result (λ r. IsWordNext tokens.now r.0 r.1.now) }
     ensures stops { IfErr result (IsWordMissing expected tokens.now) }
 {
@@ -103,7 +103,7 @@ fn next_operator(tokens: &[Token]) -> Option<(Operator, &[Token])>
 }
 
 // Reads a parameter, and returns the tokens after it.
-fn parameter(tokens: &[Token]) -> Result<(Parameter, &[Token]), Stopped>
+fn parameter(tokens: &[Token]) -> Result<(Parameter, &[Token]), ParserStop>
     requires { length tokens.now < 2 ^ 32 }
     ensures reads { IfOk result (λ r. ReadsParameter tokens.now r.0 r.1.now) }
     ensures stops { IfErr result (StopsInParameter tokens.now) }
@@ -130,7 +130,7 @@ fn parameter(tokens: &[Token]) -> Result<(Parameter, &[Token]), Stopped>
 }
 
 // Reads the parameters of a line, up to its end.
-fn parameters(alloc: Global, tokens: &[Token]) -> Result<Seq<Parameter>, Stopped>
+fn parameters(alloc: Global, tokens: &[Token]) -> Result<Seq<Parameter>, ParserStop>
     requires { length tokens.now < 2 ^ 32 }
     ensures reads { IfOk result (ReadsParameters tokens.now) }
     ensures stops { IfErr result (StopsInParameters tokens.now) }
@@ -154,7 +154,7 @@ fn parameters(alloc: Global, tokens: &[Token]) -> Result<Seq<Parameter>, Stopped
 }
 
 /// Reads a Defaults line, after its first word.
-pub(crate) fn defaults(alloc: Global, tokens: &[Token]) -> Result<EntryBody, Stopped>
+pub(crate) fn defaults(alloc: Global, tokens: &[Token]) -> Result<EntryBody, ParserStop>
     requires { length tokens.now < 2 ^ 32 }
     ensures { (room : Room) → GivesEntry result (reading room DefaultsStart tokens.now) }
 {

@@ -5,13 +5,13 @@ ghost use Rattle.sudo_grammar.specs.Members.{is_bare};
 ghost use Rattle.sudo_text.specs.declared.token.Token.{Token};
 ghost use Rattle.sudo_text.specs.declared.token.TokenKind.TheVariants as tokens;
 ghost use Rattle.sudo_grammar.specs.Openings as grammar;
-ghost use Rattle.sudo_grammar.specs.Places as places;
-ghost use Rattle.sudo_grammar.specs.Places.{Start};
+ghost use Rattle.sudo_grammar.specs.States as places;
+ghost use Rattle.sudo_grammar.specs.States.{Start};
 ghost use Rattle.sudo_grammar.specs.Reading.{reading};
 ghost use Rattle.sudo_grammar.specs.Faults.{WritesWithin};
 ghost use Rattle.sudo_grammar.specs.declared.policy.EntryBody.{EntryBody};
 ghost use Rattle.sudo_parser.specs.Body.Stops.{GivesEntry};
-ghost use Rattle.sudo_parser.specs.Body.Openings.{opened, IsInclude};
+ghost use Rattle.sudo_parser.specs.Body.Openings.{opening_view, IsInclude};
 ghost use Rattle.sudo_parser.specs.Limits.{room_of};
 ghost use Rattle.sudo_parser.specs.Body.Faults.{IsFaultOf};
 
@@ -19,7 +19,7 @@ use crate::aliases::aliases;
 use crate::defaults::defaults;
 use crate::room::Room;
 use crate::rules::rule;
-use crate::stops::{Stopped, wants};
+use crate::stops::{ParserStop, wants};
 use crate::tokens::first_token;
 use crate::words::{is_unescaped, spells};
 use std::alloc::Global;
@@ -36,7 +36,7 @@ enum Opening {
 
 // Returns the kind of line that a word of unescaped characters opens.
 fn word_opening(chars: &[Ch]) -> Opening
-    ensures { opened result ≡ grammar.plain_opening (Some (bytes_of chars.now)) }
+    ensures { opening_view result ≡ grammar.plain_opening (Some (bytes_of chars.now)) }
 {
     if spells(chars, b"User_Alias") {
         Opening::Aliases(Kind::User)
@@ -55,7 +55,7 @@ fn word_opening(chars: &[Ch]) -> Opening
 
 // Returns the kind of line that a token opens.
 fn first_opening(token: &TokenKind) -> Opening
-    ensures { (IsInclude token.now → ⊥) → opened result ≡ grammar.opening_of token.now }
+    ensures { (IsInclude token.now → ⊥) → opening_view result ≡ grammar.opening_of token.now }
 {
     match token {
         TokenKind::Word { quoted, chars } if !*quoted && is_unescaped(chars) => word_opening(chars),
@@ -104,7 +104,7 @@ fn include(
     path: &[Ch],
     left: usize,
     rest: &[Token],
-) -> Result<EntryBody, Stopped>
+) -> Result<EntryBody, ParserStop>
     requires { left ≡ length rest.now + 1 }
     ensures { (room : places.Room) (t : Token) → t.kind ≡ tokens.Include folder hash path.now
         → GivesEntry result (reading room Start (t ∷ rest.now)) }
@@ -113,7 +113,7 @@ fn include(
         return Err(wants(Expected::Path, left));
     }
     if has_host_escape(path) {
-        return Err(Stopped::At {
+        return Err(ParserStop::At {
             refusal: Refusal::Unsupported(Unsupported::HostEscape),
             left,
         });
@@ -126,7 +126,7 @@ fn include(
 }
 
 // Reads a line's tokens as an entry, or stops at the first of them that cannot continue the line.
-fn read(alloc: Global, room: &Room, tokens: &[Token]) -> Result<EntryBody, Stopped>
+fn read(alloc: Global, room: &Room, tokens: &[Token]) -> Result<EntryBody, ParserStop>
     requires { length tokens.now < 2 ^ 32 }
     ensures { GivesEntry result (reading (room_of room.now) Start tokens.now) }
 {
@@ -148,7 +148,7 @@ fn read(alloc: Global, room: &Room, tokens: &[Token]) -> Result<EntryBody, Stopp
 
 /// Returns the entry of which the tokens are a written form, within the room for definitions; otherwise the line's
 /// grammar fault.
-pub(crate) fn entry(alloc: Global, room: &Room, tokens: &[Token]) -> Result<EntryBody, Stopped>
+pub(crate) fn entry(alloc: Global, room: &Room, tokens: &[Token]) -> Result<EntryBody, ParserStop>
     requires { length tokens.now < 2 ^ 32 }
     ensures written { IfOk result (λ e. WritesWithin (room_of room.now) e tokens.now) }
     ensures only { (e : EntryBody) → WritesWithin (room_of room.now) e tokens.now

@@ -2,10 +2,10 @@
 ghost use Rattle.std.specs.Prelude.{◌≡◌, ◌^◌, ◌<◌, length, IfOk, IfErr};
 ghost use Rattle.sudo_grammar.specs.Refusals as refusals;
 ghost use Rattle.sudo_parser.specs.Body.Stops.{IsNotNext};
-ghost use Rattle.sudo_parser.specs.Body.Lists.{option_begins, IsTaken, StopsAtMember, ReadsItem, StopsInItem, ReadsItems, StopsInItems, declined_as};
+ghost use Rattle.sudo_parser.specs.Body.Lists.{option_begins, IsTaken, StopsAtMember, ReadsItem, StopsInItem, ReadsItems, StopsInItems, stop_of_member};
 
-use crate::members::{Declined, atom, expected};
-use crate::stops::{Stopped, wants};
+use crate::members::{MemberFault, atom, expected};
+use crate::stops::{ParserStop, wants};
 use crate::tokens::{
     after_mark, bangs, colon_comes, colon_comes_at, copy_of, equals_comes, first_token,
 };
@@ -39,15 +39,15 @@ fn renamed(kind: Kind, token: &Token, rest: &[Token], refusal: Refusal) -> Refus
 }
 
 // Returns the stop at a token that is no member, with `left` tokens from it on.
-fn declined(kind: Kind, token: &Token, rest: &[Token], why: Declined, left: usize) -> Stopped
-    ensures { result ≡ declined_as kind token.now rest.now why left }
+fn member_stop(kind: Kind, token: &Token, rest: &[Token], why: MemberFault, left: usize) -> ParserStop
+    ensures { result ≡ stop_of_member kind token.now rest.now why left }
 {
     match why {
-        Declined::Refused(refusal) => Stopped::At {
+        MemberFault::Refused(refusal) => ParserStop::At {
             refusal: renamed(kind, token, rest, refusal),
             left,
         },
-        Declined::Memory => Stopped::Memory,
+        MemberFault::Memory => ParserStop::Memory,
     }
 }
 
@@ -67,7 +67,7 @@ fn member(
     kind: Kind,
     bangs: u32,
     tokens: &[Token],
-) -> Result<(Member, &[Token]), Stopped>
+) -> Result<(Member, &[Token]), ParserStop>
     requires { IsNotNext Mark.Bang tokens.now }
     ensures reads { IfOk result (λ r. IsTaken kind bangs tokens.now r.0 r.1.now) }
     ensures stops { IfErr result (StopsAtMember kind bangs tokens.now) }
@@ -77,10 +77,10 @@ fn member(
         Some((first, rest)) => {
             let atom = match atom(alloc, kind, &first.kind) {
                 Ok(atom) => atom,
-                Err(e) => return Err(declined(kind, first, rest, e, tokens.len())),
+                Err(e) => return Err(member_stop(kind, first, rest, e, tokens.len())),
             };
             if begins_option(kind, first, rest) {
-                return Err(Stopped::At {
+                return Err(ParserStop::At {
                     refusal: Refusal::Unsupported(Unsupported::CommandOption),
                     left: rest.len(),
                 });
@@ -96,7 +96,7 @@ pub(crate) fn item(
     alloc: Global,
     kind: Kind,
     tokens: &[Token],
-) -> Result<(Member, &[Token]), Stopped>
+) -> Result<(Member, &[Token]), ParserStop>
     requires { length tokens.now < 2 ^ 32 }
     ensures reads { IfOk result (λ r. ReadsItem kind tokens.now r.0 r.1.now) }
     ensures stops { IfErr result (StopsInItem kind tokens.now) }
@@ -110,7 +110,7 @@ pub(crate) fn members(
     alloc: Global,
     kind: Kind,
     tokens: &[Token],
-) -> Result<(Seq<Member>, &[Token]), Stopped>
+) -> Result<(Seq<Member>, &[Token]), ParserStop>
     requires { length tokens.now < 2 ^ 32 }
     ensures reads { IfOk result (λ r. ReadsItems kind tokens.now r.0 r.1.now) }
     ensures stops { IfErr result (StopsInItems kind tokens.now) }

@@ -16,32 +16,32 @@ const LIST: &[u8] = b"list";
 
 /// A refusal of a token as a member, or out of memory.
 #[derive(Clone, Copy)]
-pub(crate) enum Declined {
+pub(crate) enum MemberFault {
     Refused(Refusal),
     Memory,
 }
 
-impl From<AllocError> for Declined {
+impl From<AllocError> for MemberFault {
     ghost use Rattle.std.specs.Prelude.{◌≡◌};
-    ghost use Rattle.sudo_parser.specs.declared.members.Declined.TheVariants.{Memory};
+    ghost use Rattle.sudo_parser.specs.declared.members.MemberFault.TheVariants.{Memory};
 
     ghost from_gives = { λ _ e. e ≡ Memory };
 
-    fn from(_: AllocError) -> Declined {
-        Declined::Memory
+    fn from(_: AllocError) -> MemberFault {
+        MemberFault::Memory
     }
 }
 
 // Reads a network: an address and a mask.
-fn network(front: &[u8], back: &[u8]) -> Result<Atom, Declined>
+fn network(front: &[u8], back: &[u8]) -> Result<Atom, MemberFault>
     ensures { Gives result (network_of (address_of front.now) back.now) }
 {
     match address(front) {
-        None => Err(Declined::Refused(Refusal::BadNumber)),
-        Some(Err(refusal)) => Err(Declined::Refused(refusal)),
+        None => Err(MemberFault::Refused(Refusal::BadNumber)),
+        Some(Err(refusal)) => Err(MemberFault::Refused(refusal)),
         Some(Ok(addr)) => match mask(back) {
             Ok(mask) => Ok(Atom::Net { addr, mask }),
-            Err(refusal) => Err(Declined::Refused(refusal)),
+            Err(refusal) => Err(MemberFault::Refused(refusal)),
         },
     }
 }
@@ -54,7 +54,7 @@ fn copied(alloc: Global, chars: &[Ch]) -> Result<Seq<Ch>, AllocError>
 }
 
 // Returns a host's name.
-fn host_name(alloc: Global, chars: &[Ch], quoted: bool) -> Result<Atom, Declined>
+fn host_name(alloc: Global, chars: &[Ch], quoted: bool) -> Result<Atom, MemberFault>
     ensures { Gives result (Ok (Atom.Host chars.now quoted)) }
 {
     let chars = copied(alloc, chars)?;
@@ -62,7 +62,7 @@ fn host_name(alloc: Global, chars: &[Ch], quoted: bool) -> Result<Atom, Declined
 }
 
 // Reads an unquoted host word without escapes: an address, a network or a name.
-fn plain_host(alloc: Global, chars: &[Ch]) -> Result<Atom, Declined>
+fn plain_host(alloc: Global, chars: &[Ch]) -> Result<Atom, MemberFault>
     ensures { Gives result (plain_host_of chars.now (bytes_of chars.now)
         (cut_at 47 (bytes_of chars.now))) }
 {
@@ -72,7 +72,7 @@ fn plain_host(alloc: Global, chars: &[Ch]) -> Result<Atom, Declined>
         None => match address(&bytes) {
             None => host_name(alloc, chars, false),
             Some(Ok(addr)) => Ok(Atom::Address(addr)),
-            Some(Err(refusal)) => Err(Declined::Refused(refusal)),
+            Some(Err(refusal)) => Err(MemberFault::Refused(refusal)),
         },
     }
 }
@@ -83,28 +83,28 @@ fn has_slash(chars: &[Ch]) -> bool
     chars.iter().any(|c| !c.escaped && c.byte == b'/')
 }
 
-fn unquoted_host(alloc: Global, chars: &[Ch]) -> Result<Atom, Declined>
+fn unquoted_host(alloc: Global, chars: &[Ch]) -> Result<Atom, MemberFault>
     ensures { Gives result (unquoted_host_of chars.now) }
 {
     if is_unescaped(chars) {
         plain_host(alloc, chars)
     } else if has_slash(chars) {
-        Err(Declined::Refused(Refusal::BadNumber))
+        Err(MemberFault::Refused(Refusal::BadNumber))
     } else {
         host_name(alloc, chars, false)
     }
 }
 
-fn unsupported(what: Unsupported) -> Declined
-    ensures { result ≡ Declined.Refused (Refusal.Unsupported what) }
+fn unsupported(what: Unsupported) -> MemberFault
+    ensures { result ≡ MemberFault.Refused (Refusal.Unsupported what) }
 {
-    Declined::Refused(Refusal::Unsupported(what))
+    MemberFault::Refused(Refusal::Unsupported(what))
 }
 
-fn no_member() -> Declined
-    ensures { result ≡ Declined.Refused Members.no_member }
+fn no_member() -> MemberFault
+    ensures { result ≡ MemberFault.Refused Members.no_member }
 {
-    Declined::Refused(Refusal::Syntax(Expected::Member))
+    MemberFault::Refused(Refusal::Syntax(Expected::Member))
 }
 
 /// Returns the expected token in a list of a kind.
@@ -118,7 +118,7 @@ pub(crate) fn expected(kind: Kind) -> Expected
 }
 
 // Reads a host.
-fn host(alloc: Global, quoted: bool, chars: &[Ch]) -> Result<Atom, Declined>
+fn host(alloc: Global, quoted: bool, chars: &[Ch]) -> Result<Atom, MemberFault>
     ensures { Gives result (host_of quoted chars.now) }
 {
     match chars {
@@ -136,7 +136,7 @@ fn host(alloc: Global, quoted: bool, chars: &[Ch]) -> Result<Atom, Declined>
 }
 
 // Reads a group, by the characters after `%`.
-fn group(alloc: Global, chars: &[Ch]) -> Result<Atom, Declined>
+fn group(alloc: Global, chars: &[Ch]) -> Result<Atom, MemberFault>
     ensures { Gives result (group_of (bytes_of chars.now)) }
 {
     match chars {
@@ -147,7 +147,7 @@ fn group(alloc: Global, chars: &[Ch]) -> Result<Atom, Declined>
                 let digits = bytes(alloc, rest)?;
                 match number(&digits) {
                     Some(id) => Ok(Atom::Gid(id)),
-                    None => Err(Declined::Refused(Refusal::BadNumber)),
+                    None => Err(MemberFault::Refused(Refusal::BadNumber)),
                 }
             }
             _ => Ok(Atom::Group(bytes(alloc, chars)?)),
@@ -156,7 +156,7 @@ fn group(alloc: Global, chars: &[Ch]) -> Result<Atom, Declined>
 }
 
 // Reads a user, a group or one of their refused forms, by the first byte if it is unescaped.
-fn user(alloc: Global, chars: &[Ch]) -> Result<Atom, Declined>
+fn user(alloc: Global, chars: &[Ch]) -> Result<Atom, MemberFault>
     ensures { Gives result (user_of chars.now) }
 {
     match chars {
@@ -172,7 +172,7 @@ fn user(alloc: Global, chars: &[Ch]) -> Result<Atom, Declined>
                     let digits = bytes(alloc, rest)?;
                     match number(&digits) {
                         Some(id) => Ok(Atom::Uid(id)),
-                        None => Err(Declined::Refused(Refusal::BadNumber)),
+                        None => Err(MemberFault::Refused(Refusal::BadNumber)),
                     }
                 }
                 _ => Ok(Atom::Name(bytes(alloc, chars)?)),
@@ -202,7 +202,7 @@ fn has_dollar(chars: &[Ch]) -> bool
 }
 
 // Reads a command: its path, and its arguments. Refuses arguments that are a regular expression.
-fn command(alloc: Global, path: &[Ch], args: &Option<Seq<Ch>>) -> Result<Atom, Declined>
+fn command(alloc: Global, path: &[Ch], args: &Option<Seq<Ch>>) -> Result<Atom, MemberFault>
     ensures { Gives result (command_of path.now args.now) }
 {
     match args {
@@ -238,25 +238,25 @@ fn not_command(quoted: bool, chars: &[Ch]) -> Refusal
 }
 
 // Reads a token that is neither `ALL` nor the name of an alias.
-fn other(alloc: Global, kind: Kind, token: &TokenKind) -> Result<Atom, Declined>
+fn other(alloc: Global, kind: Kind, token: &TokenKind) -> Result<Atom, MemberFault>
     ensures { Gives result (other_atom kind token.now) }
 {
     match token {
         TokenKind::Word { quoted, chars } => match kind {
             Kind::User | Kind::Runas => user(alloc, chars),
             Kind::Host => host(alloc, *quoted, chars),
-            Kind::Cmnd => Err(Declined::Refused(not_command(*quoted, chars))),
+            Kind::Cmnd => Err(MemberFault::Refused(not_command(*quoted, chars))),
         },
         TokenKind::Command { path, args } => match kind {
             Kind::Cmnd => command(alloc, path, args),
             _ => Err(no_member()),
         },
-        _ => Err(Declined::Refused(Refusal::Syntax(expected(kind)))),
+        _ => Err(MemberFault::Refused(Refusal::Syntax(expected(kind)))),
     }
 }
 
 /// Returns the meaning of a token in a list of a kind, or its refusal: see sudoers(5), "SUDOERS FILE FORMAT".
-pub(crate) fn atom(alloc: Global, kind: Kind, token: &TokenKind) -> Result<Atom, Declined>
+pub(crate) fn atom(alloc: Global, kind: Kind, token: &TokenKind) -> Result<Atom, MemberFault>
     ensures { Gives result (atom_of kind token.now) }
 {
     match plain(alloc, token)? {

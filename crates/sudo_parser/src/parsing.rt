@@ -5,11 +5,11 @@ ghost use Rattle.sudo_grammar.specs.declared.policy.Entry.{Entry as AnEntry};
 ghost use Rattle.sudo_grammar.specs.declared.policy.EntryBody.{EntryBody as ABody};
 ghost use Rattle.sudo_parser.specs.Limits.{room_of};
 ghost use Rattle.sudo_parser.specs.Parsed as spec;
-ghost use Rattle.sudo_parser.specs.Parsed.{room_after, Says, entry_of, AreEntries, IsLineFault, IsFirstFault, GivesOr, Adds, over_limit};
+ghost use Rattle.sudo_parser.specs.Parsed.{room_after, IsEntryOf, entry_of, AreEntries, IsLineFault, IsFirstFault, GivesOr, Adds, over_limit};
 
 use crate::line::entry;
 use crate::room::Room;
-use crate::stops::Stopped;
+use crate::stops::ParserStop;
 use std::alloc::Global;
 use sudo_grammar::{Entry, EntryBody, ParseFault, Refusal};
 use sudo_text::{Line, Place, Seq, TEXT_LIMIT, TextFault, Token, tokens};
@@ -60,10 +60,10 @@ fn refused(line: &Line, tokens: &[Token], refusal: Refusal, left: usize) -> Pars
 }
 
 // Reads a line: returns no entry if it has no tokens, and otherwise its entry.
-fn said(alloc: Global, room: &Room, line: &Line) -> Result<Option<EntryBody>, ParseFault>
+fn line_entry(alloc: Global, room: &Room, line: &Line) -> Result<Option<EntryBody>, ParseFault>
     requires { length line.now.text ≤ TEXT_LIMIT }
-    ensures says { IfOk result (λ body. Says (room_of room.now) line.now body) }
-    ensures only { (body : Option ABody) → Says (room_of room.now) line.now body
+    ensures says { IfOk result (λ body. IsEntryOf (room_of room.now) line.now body) }
+    ensures only { (body : Option ABody) → IsEntryOf (room_of room.now) line.now body
         → GivesOr body result }
     ensures fault { IfErr result (λ fault. fault ≢ ParseFault.Memory
         → IsLineFault (room_of room.now) line.now fault) }
@@ -77,8 +77,8 @@ fn said(alloc: Global, room: &Room, line: &Line) -> Result<Option<EntryBody>, Pa
     }
     match entry(alloc, room, &tokens) {
         Ok(body) => Ok(Some(body)),
-        Err(Stopped::At { refusal, left }) => Err(refused(line, &tokens, refusal, left)),
-        Err(Stopped::Memory) => Err(ParseFault::Memory),
+        Err(ParserStop::At { refusal, left }) => Err(refused(line, &tokens, refusal, left)),
+        Err(ParserStop::Memory) => Err(ParseFault::Memory),
     }
 }
 
@@ -93,14 +93,14 @@ fn add_line(
     requires room { room_of room.old ≡ room_after entries.old }
     ensures room { OnOk result (room_of room.new ≡ room_after entries.new) }
     ensures added { OnOk result (Adds entries.old line.now entries.new) }
-    ensures only { (body : Option ABody) → Says (room_after entries.old) line.now body
+    ensures only { (body : Option ABody) → IsEntryOf (room_after entries.old) line.now body
         → MatchResult result
         (λ _. entries.new ≡ entries.old ++ entry_of line.now body)
         (λ fault. fault ≡ ParseFault.Memory) }
     ensures fault { IfErr result (λ fault. fault ≢ ParseFault.Memory
         → IsLineFault (room_after entries.old) line.now fault) }
 {
-    match said(alloc, room, line) {
+    match line_entry(alloc, room, line) {
         Ok(None) => Ok(()),
         Ok(Some(body)) => {
             *room = room.after(&body);

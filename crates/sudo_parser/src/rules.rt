@@ -1,13 +1,13 @@
 //! Rules: who may run which commands on which hosts.
 ghost use Rattle.std.specs.Prelude.{◌≡◌, ◌^◌, ◌<◌, [], length, IfOk, IfErr, MatchOption};
-ghost use Rattle.sudo_grammar.specs.Places.{Room, Users, Item};
+ghost use Rattle.sudo_grammar.specs.States.{Room, Users, Item};
 ghost use Rattle.sudo_grammar.specs.Reading.{reading};
 ghost use Rattle.sudo_parser.specs.Body.Stops.{GivesEntry};
 ghost use Rattle.sudo_parser.specs.Body.Rules.{IsTagNext, IsNoTagNext, ReadsTags, ReadsSpec, StopsInSpec, ReadsSpecs, StopsInSpecs, ReadsSection, StopsInSection, ReadsSections, StopsInSections};
 
 use crate::lists::{item, members};
 use crate::runas::runas;
-use crate::stops::{Stopped, wants};
+use crate::stops::{ParserStop, wants};
 use crate::tokens::{after_mark, first_token};
 use crate::words::tag;
 use std::alloc::{AllocError, Global};
@@ -51,7 +51,7 @@ fn tags(alloc: Global, tokens: &[Token]) -> Result<(Seq<Tag>, &[Token]), AllocEr
 }
 
 // Reads a command with its runas and tags, and returns the tokens after it.
-fn spec(alloc: Global, tokens: &[Token]) -> Result<(CommandSpec, &[Token]), Stopped>
+fn spec(alloc: Global, tokens: &[Token]) -> Result<(CommandSpec, &[Token]), ParserStop>
     requires { length tokens.now < 2 ^ 32 }
     ensures reads { IfOk result (λ r. ReadsSpec tokens.now r.0 r.1.now) }
     ensures stops { IfErr result (StopsInSpec tokens.now) }
@@ -70,7 +70,7 @@ fn spec(alloc: Global, tokens: &[Token]) -> Result<(CommandSpec, &[Token]), Stop
 }
 
 // Reads the commands of a section, and returns the tokens after them.
-fn specs(alloc: Global, tokens: &[Token]) -> Result<(Seq<CommandSpec>, &[Token]), Stopped>
+fn specs(alloc: Global, tokens: &[Token]) -> Result<(Seq<CommandSpec>, &[Token]), ParserStop>
     requires { length tokens.now < 2 ^ 32 }
     ensures reads { IfOk result (λ r. ReadsSpecs tokens.now r.0 r.1.now) }
     ensures stops { IfErr result (StopsInSpecs tokens.now) }
@@ -88,7 +88,7 @@ fn specs(alloc: Global, tokens: &[Token]) -> Result<(Seq<CommandSpec>, &[Token])
 }
 
 // Reads a section: a list of hosts and the commands granted there. Returns the tokens after it.
-fn section(alloc: Global, tokens: &[Token]) -> Result<(Section, &[Token]), Stopped>
+fn section(alloc: Global, tokens: &[Token]) -> Result<(Section, &[Token]), ParserStop>
     requires { length tokens.now < 2 ^ 32 }
     ensures reads { IfOk result (λ r. ReadsSection tokens.now r.0 r.1.now) }
     ensures stops { IfErr result (StopsInSection tokens.now) }
@@ -103,7 +103,7 @@ fn section(alloc: Global, tokens: &[Token]) -> Result<(Section, &[Token]), Stopp
 }
 
 // Reads the sections of a rule, up to the end of its line.
-fn sections(alloc: Global, tokens: &[Token]) -> Result<Seq<Section>, Stopped>
+fn sections(alloc: Global, tokens: &[Token]) -> Result<Seq<Section>, ParserStop>
     requires { length tokens.now < 2 ^ 32 }
     ensures reads { IfOk result (ReadsSections tokens.now) }
     ensures stops { IfErr result (StopsInSections tokens.now) }
@@ -127,7 +127,7 @@ fn sections(alloc: Global, tokens: &[Token]) -> Result<Seq<Section>, Stopped>
 }
 
 /// Reads a rule: its users and its sections.
-pub(crate) fn rule(alloc: Global, tokens: &[Token]) -> Result<EntryBody, Stopped>
+pub(crate) fn rule(alloc: Global, tokens: &[Token]) -> Result<EntryBody, ParserStop>
     requires { length tokens.now < 2 ^ 32 }
     ensures { (room : Room) → GivesEntry result (reading room (Item Users 0 []) tokens.now) }
 {

@@ -3,14 +3,14 @@ ghost use Rattle.std.specs.Prelude.{◌≡◌, ◌^◌, ◌<◌, length, IfOk, I
 ghost use Rattle.sudo_parser.specs.Body.Runas.{ReadsUsers, StopsInUsers, ReadsGroups, StopsInGroups, ReadsLists, ReadsRunas, StopsInRunas};
 
 use crate::lists::members;
-use crate::stops::{Stopped, wants};
+use crate::stops::{ParserStop, wants};
 use crate::tokens::{after_mark, is_next};
 use std::alloc::Global;
 use sudo_grammar::{Expected, Kind, Member, Runas};
 use sudo_text::{Mark, Seq, Token};
 
 // Reads the users, if any, and returns the tokens after them.
-fn runas_users(alloc: Global, tokens: &[Token]) -> Result<(Option<Seq<Member>>, &[Token]), Stopped>
+fn runas_users(alloc: Global, tokens: &[Token]) -> Result<(Option<Seq<Member>>, &[Token]), ParserStop>
     requires { length tokens.now < 2 ^ 32 }
     ensures reads { IfOk result (λ r. ReadsUsers tokens.now r.0 r.1.now) }
     ensures stops { IfErr result (StopsInUsers tokens.now) }
@@ -23,7 +23,7 @@ fn runas_users(alloc: Global, tokens: &[Token]) -> Result<(Option<Seq<Member>>, 
 }
 
 // Reads the groups after the colon, if any, and returns the tokens after them.
-fn runas_groups(alloc: Global, tokens: &[Token]) -> Result<(Option<Seq<Member>>, &[Token]), Stopped>
+fn runas_groups(alloc: Global, tokens: &[Token]) -> Result<(Option<Seq<Member>>, &[Token]), ParserStop>
     requires { length tokens.now < 2 ^ 32 }
     ensures reads { IfOk result (λ r. ReadsGroups tokens.now r.0 r.1.now) }
     ensures stops { IfErr result (StopsInGroups tokens.now) }
@@ -36,7 +36,7 @@ fn runas_groups(alloc: Global, tokens: &[Token]) -> Result<(Option<Seq<Member>>,
 }
 
 // Reads the lists between the parentheses, and returns the tokens from the closing one on.
-fn runas_lists(alloc: Global, tokens: &[Token]) -> Result<(Runas, &[Token]), Stopped>
+fn runas_lists(alloc: Global, tokens: &[Token]) -> Result<(Runas, &[Token]), ParserStop>
     requires { length tokens.now < 2 ^ 32 }
     ensures reads { IfOk result (λ r. ReadsLists tokens.now r.0 r.1.now) }
     ensures stops { IfErr result (StopsInUsers tokens.now) }
@@ -59,7 +59,7 @@ fn runas_lists(alloc: Global, tokens: &[Token]) -> Result<(Runas, &[Token]), Sto
 }
 
 /// Reads the parentheses, if they come next, and returns the tokens after them.
-pub(crate) fn runas(alloc: Global, tokens: &[Token]) -> Result<(Option<Runas>, &[Token]), Stopped>
+pub(crate) fn runas(alloc: Global, tokens: &[Token]) -> Result<(Option<Runas>, &[Token]), ParserStop>
     requires { length tokens.now < 2 ^ 32 }
     ensures reads { IfOk result (λ r. ReadsRunas tokens.now r.0 r.1.now) }
     ensures stops { IfErr result (StopsInRunas tokens.now) }

@@ -8,7 +8,7 @@ use Rattle.sudo_policy.specs.declared.graph.Measure.{Measure}
 use Rattle.sudo_policy.specs.declared.graph.State.{State}
 use Rattle.sudo_policy.specs.declared.graph.State.TheVariants.{New, Open, Done, Looped}
 use Rattle.sudo_policy.specs.Body.Graph.{Links, Edge, Path, step, more, ReachesCycle, beside, deeper, link_measure, row_measure, measure_within, MarksOf, StateHolds, StatesHold, IsSettled, is_looped}
-use Rattle.sudo_policy.specs.Body.Marking.{IsMarked, IsUnmarked, AreSet, PathPast, TurnedTo, IsWhole, Decided}
+use Rattle.sudo_policy.specs.Body.Marking.{IsMarked, IsUnmarked, AreSet, PathPast, ReversesUpTo, IsWhole, DecidesCycles}
 use Rattle.sudo_policy.proofs.FollowingLemmas.{joined_parts, option_map_some}
 use Rattle.sudo_policy.proofs.GraphLemmas.{Path-edge, Path-path}
 use Rattle.sudo_policy.proofs.MarkingLemmas.{one_in, none_in, marked_or_not, marked_more, AreSet-kept, AreSet-cases}
@@ -113,12 +113,12 @@ Path-turned : (g back : Links) → ((i j : ℕ) → Edge back j i → Edge g i j
 Path-turned g back only i j (step e) = step (only i j e)
 Path-turned g back only i j (more e path) = Path-edge g i _ j (Path-turned g back only i _ path) (only _ j e)
 
-path_back : (g back : Links) → TurnedTo g (length g) back → (i j : ℕ) → Path g i j → Path back j i
+path_back : (g back : Links) → ReversesUpTo g (length g) back → (i j : ℕ) → Path g i j → Path back j i
 path_back g back t i j (step e) = step (t.all i j (edge_inside g i j e) e)
 path_back g back t i j (more e path) = Path-edge back j _ i (path_back g back t _ j path) (t.all i _ (edge_inside g i _ e) e)
 
 -- behind an alias that is not done are, past those that are done, all that it leads to and is reached from
-in_behind : (g back : Links) (node : ℕ) (done : List Bool) (behind : List ℕ) → TurnedTo g (length g) back → length done ≡ length g → IsWhole g done → IsUnmarked done node → ((i : ℕ) → PathPast back done node i → Contains behind i) → (i : ℕ) → Path g node i → Path g i node → Contains behind i
+in_behind : (g back : Links) (node : ℕ) (done : List Bool) (behind : List ℕ) → ReversesUpTo g (length g) back → length done ≡ length g → IsWhole g done → IsUnmarked done node → ((i : ℕ) → PathPast back done node i → Contains behind i) → (i : ℕ) → Path g node i → Path g i node → Contains behind i
 in_behind g back node done behind t long whole new found i there back_path = found i (path_past back done node i (path_back g back t i node back_path) free)
   where
     free : (k : ℕ) → Path back node k → (k ≡ i) ⊎ Path back k i → IsUnmarked done k
@@ -137,7 +137,7 @@ in_behind g back node done behind t long whole new found i there back_path = fou
 
 -- of those behind an alias, those that it leads to past the others are the ones on a cycle with it
 pub round_is : (g back : Links) (node : ℕ) (done aside mid : List Bool) (behind round : List ℕ)
-    → TurnedTo g (length g) back → length done ≡ length g → IsWhole g done → IsUnmarked done node
+    → ReversesUpTo g (length g) back → length done ≡ length g → IsWhole g done → IsUnmarked done node
     → ((i : ℕ) (m : Bool) → slice_get aside i ≡ Some m → m ≡ true) → AreSet false behind aside mid
     → ((i : ℕ) → (Contains behind i → PathPast back done node i) × (PathPast back done node i → Contains behind i))
     → ((i : ℕ) → (Contains round i → PathPast g mid node i) × (PathPast g mid node i → Contains round i))
@@ -160,8 +160,8 @@ round_is g back node done aside mid behind round t long whole new full s behind_
 -- ---- What is decided
 
 -- the aliases that reach no cycle are done
-pub Decided-begin : (g : Links) (states : List State) (done cyclic : List Bool) → StatesHold g states → ((i : ℕ) (s : State) → slice_get states i ≡ Some s → IsSettled s) → length states ≡ length g → done ≡ map (λ s. not (is_looped s)) states → length cyclic ≡ length g → ((i : ℕ) (m : Bool) → slice_get cyclic i ≡ Some m → m ≡ false) → Decided g done cyclic
-Decided-begin g states done cyclic held settled long is cyclic_long blank = record {
+pub DecidesCycles-begin : (g : Links) (states : List State) (done cyclic : List Bool) → StatesHold g states → ((i : ℕ) (s : State) → slice_get states i ≡ Some s → IsSettled s) → length states ≡ length g → done ≡ map (λ s. not (is_looped s)) states → length cyclic ≡ length g → ((i : ℕ) (m : Bool) → slice_get cyclic i ≡ Some m → m ≡ false) → DecidesCycles g done cyclic
+DecidesCycles-begin g states done cyclic held settled long is cyclic_long blank = record {
   done_length = ap length is ∙ length-map states (λ s. not (is_looped s)) ∙ long;
   cyclic_length = cyclic_long;
   whole = λ i j h there back. absurd (free i h (Path-path g i j i there back));
@@ -180,8 +180,8 @@ Decided-begin g states done cyclic held settled long is cyclic_long blank = reco
         not_looped g i s.0 (held i s.0 s.1) (settled i s.0 s.1) s.2 path
 
 -- an alias and those round it are done
-pub Decided-next : (g : Links) (node : ℕ) (done cyclic : List Bool) (round : List ℕ) (new_cyclic mid : List Bool) → node < length g → Decided g done cyclic → ((i : ℕ) → (Contains round i → Path g node i × Path g i node) × (Path g node i × Path g i node → Contains round i)) → AreSet true round cyclic new_cyclic → AreSet true round done mid → Decided g (set mid node true) new_cyclic
-Decided-next g node done cyclic round new_cyclic mid inside d round_are c s = record {
+pub DecidesCycles-next : (g : Links) (node : ℕ) (done cyclic : List Bool) (round : List ℕ) (new_cyclic mid : List Bool) → node < length g → DecidesCycles g done cyclic → ((i : ℕ) → (Contains round i → Path g node i × Path g i node) × (Path g node i × Path g i node → Contains round i)) → AreSet true round cyclic new_cyclic → AreSet true round done mid → DecidesCycles g (set mid node true) new_cyclic
+DecidesCycles-next g node done cyclic round new_cyclic mid inside d round_are c s = record {
   done_length = length_set mid node true ∙ s.same_length ∙ d.done_length;
   cyclic_length = c.same_length ∙ d.cyclic_length;
   whole = λ i j h there back. elim (cases i h) [
@@ -216,8 +216,8 @@ Decided-next g node done cyclic round new_cyclic mid inside d round_are c s = re
     returns i j (inl same) path = subst (Path g j) same path
     returns i j (inr here) path = Path-path g j i node path ((round_are i).0 here).1
 
-pub Decided-end : (g : Links) (done cyclic : List Bool) → Decided g done cyclic → ((i : ℕ) → i < length g → IsMarked done i) → MarksOf (length g) (λ i. Path g i i) cyclic
-Decided-end g done cyclic d all = record {
+pub DecidesCycles-end : (g : Links) (done cyclic : List Bool) → DecidesCycles g done cyclic → ((i : ℕ) → i < length g → IsMarked done i) → MarksOf (length g) (λ i. Path g i i) cyclic
+DecidesCycles-end g done cyclic d all = record {
   same_length = d.cyclic_length;
   exact = λ i mark at. (
     (λ h. d.sound i (at ∙ ap Some h)),

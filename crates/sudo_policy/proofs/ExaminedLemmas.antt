@@ -2,21 +2,21 @@
 use Rattle.std.proofs.Common.{◌≡◌, ℕ, suc, ◌<◌, Bool, true, false, not, cond, List, [], ◌∷◌, ◌++◌, map, length, Option, None, Some, refl, sym, ◌∙◌, ap, subst, arith}
 use Rattle.std.specs.Prelude.{slice_get, option_map, option_and_then, option_to_list, is_none, find, filter, flat_map, Contains, if◌then◌else◌}
 use Rattle.std.specs.List.{items_where_true}
-use Rattle.sudo_base.specs.Places.{place_of}
+use Rattle.sudo_base.specs.NameIndices.{index_of}
 use Rattle.sudo_grammar.specs.declared.kind.Kind.{Kind}
 use Rattle.sudo_grammar.specs.declared.kind.Member.{Member}
 use Rattle.sudo_grammar.specs.declared.policy.Policy.{Policy}
-use Rattle.sudo_policy.specs.declared.examination.Judged.{Judged}
+use Rattle.sudo_policy.specs.declared.examination.AliasMarks.{AliasMarks}
 use Rattle.sudo_policy.specs.declared.finding.Class.TheVariants.{Redefined, Undefined, Cycle, TooDeep, TooWide, Unused}
 use Rattle.sudo_policy.specs.declared.finding.Finding.{Finding}
 use Rattle.sudo_policy.specs.declared.graph.State.{State}
 use Rattle.sudo_policy.specs.declared.index.Index.{Index}
 use Rattle.sudo_policy.specs.declared.survey.Survey.{Survey}
-use Rattle.sudo_policy.specs.Definitions.{Defined, Listed, aliases, redefinitions, definitions, lists, alias_named, names_used, in_force, defines}
+use Rattle.sudo_policy.specs.Definitions.{AliasDefinition, MemberList, aliases, redefinitions, definitions, lists, alias_named, names_used, in_force, defines}
 use Rattle.sudo_policy.specs.Found.{Marks, AreFindings, has_error, found_by, finding_on, undefined_in, IsCyclic, IsTooDeep, IsTooWide, IsUnused}
 use Rattle.sudo_policy.specs.Body.Graph.{Links, Path, IsClosed, IsInside, IsReached, MarksOf, StatesHold, IsSettled}
-use Rattle.sudo_policy.specs.Body.Judgement.{is_deep, is_wide, IsJudged, found_in, missing_in, atom_missing}
-use Rattle.sudo_policy.specs.Body.Named.{named_view, row_of, row_of_alias, granting_row, link_of, IsSurvey, LeadsInside}
+use Rattle.sudo_policy.specs.Body.Judgement.{is_deep, is_wide, AreAliasMarks, found_in, missing_in, atom_missing}
+use Rattle.sudo_policy.specs.Body.DefinitionRef.{alias_view, row_of, row_of_alias, granting_row, link_of, IsSurvey, LeadsInside}
 use Rattle.sudo_policy.specs.Positions.{names_of}
 use Rattle.std.proofs.lemmas.Option.{slice_get-map}
 use Rattle.sudo_policy.proofs.FollowingLemmas.{option_map_some}
@@ -35,53 +35,53 @@ length_mapped f (x ∷ xs) = ap suc (length_mapped f xs)
 
 -- ---- Links lead to aliases
 
-row_leads : (index : Index) (n : ℕ) (kind : Kind) (ms : List Member) → ((kind : Kind) (name : List ℕ) (i : ℕ) → place_of (names_of index kind) name ≡ Some i → i < n) → IsInside (row_of index kind ms) n
+row_leads : (index : Index) (n : ℕ) (kind : Kind) (ms : List Member) → ((kind : Kind) (name : List ℕ) (i : ℕ) → index_of (names_of index kind) name ≡ Some i → i < n) → IsInside (row_of index kind ms) n
 row_leads index n kind ms inside j h =
     let k = in_map (link_of index kind) ms (Some j) h in
     by (alias_named k.0.atom) k.2
   where
-    by : (o : Option (List ℕ)) → option_and_then (λ name. place_of (names_of index kind) name) o ≡ Some j → j < n
+    by : (o : Option (List ℕ)) → option_and_then (λ name. index_of (names_of index kind) name) o ≡ Some j → j < n
     by None e = cc
     by (Some name) e = inside kind name j e
 
-pub links_closed : (index : Index) (ds : List Defined) → ((kind : Kind) (name : List ℕ) (i : ℕ) → place_of (names_of index kind) name ≡ Some i → i < length ds) → IsClosed (map (row_of_alias index) ds)
+pub links_closed : (index : Index) (ds : List AliasDefinition) → ((kind : Kind) (name : List ℕ) (i : ℕ) → index_of (names_of index kind) name ≡ Some i → i < length ds) → IsClosed (map (row_of_alias index) ds)
 links_closed index ds inside i j e =
     let k = option_map_some (row_of_alias index) (slice_get ds i) e.row (sym (slice_get-map (row_of_alias index) ds i) ∙ e.row_is) in
     let less = row_leads index (length ds) k.0.kind k.0.members inside j (subst (λ (r : List (Option ℕ)). Contains r (Some j)) k.2 e.has) in
     let long = length_mapped (row_of_alias index) ds in
     omega (arith, less, long)
 
-pub roots_inside : (index : Index) (n : ℕ) (ls : List Listed) → ((kind : Kind) (name : List ℕ) (i : ℕ) → place_of (names_of index kind) name ≡ Some i → i < n) → IsInside (flat_map (granting_row index) ls) n
+pub roots_inside : (index : Index) (n : ℕ) (ls : List MemberList) → ((kind : Kind) (name : List ℕ) (i : ℕ) → index_of (names_of index kind) name ≡ Some i → i < n) → IsInside (flat_map (granting_row index) ls) n
 roots_inside index n ls inside j h =
     let k = in_flat (granting_row index) ls (Some j) h in
     by k.0 k.0.granting k.2
   where
-    by : (l : Listed) (b : Bool) → Contains (if b then row_of index l.kind l.members else []) (Some j) → j < n
+    by : (l : MemberList) (b : Bool) → Contains (if b then row_of index l.kind l.members else []) (Some j) → j < n
     by l true h = row_leads index n l.kind l.members inside j h
     by l false h = absurd (none_in (Some j) h)
 
 pub leads_inside : (p : Policy) (survey : Survey) → IsSurvey p (definitions p) survey → LeadsInside survey
 leads_inside p survey s kind name i is =
     let less = s.indexed.inside kind name i is in
-    let long = length_mapped named_view survey.aliases.items in
+    let long = length_mapped alias_view survey.aliases.items in
     omega (arith, less, long)
 
-pub views_inside : (survey : Survey) → LeadsInside survey → (kind : Kind) (name : List ℕ) (i : ℕ) → place_of (names_of survey.index kind) name ≡ Some i → i < length (map named_view survey.aliases.items)
+pub views_inside : (survey : Survey) → LeadsInside survey → (kind : Kind) (name : List ℕ) (i : ℕ) → index_of (names_of survey.index kind) name ≡ Some i → i < length (map alias_view survey.aliases.items)
 views_inside survey leads kind name i is =
     let less = leads kind name i is in
-    let long = length_mapped named_view survey.aliases.items in
+    let long = length_mapped alias_view survey.aliases.items in
     omega (arith, less, long)
 
 -- ---- What was found of each alias
 
-module _ (p : Policy) (survey : Survey) (s : IsSurvey p (definitions p) survey) (ls : List Listed) (lists_are : ls ≡ lists p)
-    (links : Links) (links_are : links ≡ map (row_of_alias survey.index) (map named_view survey.aliases.items))
+module _ (p : Policy) (survey : Survey) (s : IsSurvey p (definitions p) survey) (ls : List MemberList) (lists_are : ls ≡ lists p)
+    (links : Links) (links_are : links ≡ map (row_of_alias survey.index) (map alias_view survey.aliases.items))
     (states : List State) (sizes : length states ≡ length links) (held : StatesHold links states) (settled : (i : ℕ) (t : State) → slice_get states i ≡ Some t → IsSettled t)
     (roots : List (Option ℕ)) (roots_are : roots ≡ flat_map (granting_row survey.index) ls) (used : List Bool) (used_marks : MarksOf (length links) (IsReached links roots) used)
-    (judged : Judged) (cyclic_marks : MarksOf (length links) (λ i. Path links i i) judged.cyclic.items)
+    (judged : AliasMarks) (cyclic_marks : MarksOf (length links) (λ i. Path links i i) judged.cyclic.items)
     (deep : judged.deep.items ≡ map is_deep states) (wide : judged.wide.items ≡ map is_wide states) (unused : judged.unused.items ≡ map not used) where
-  abbrev ds : List Defined
-  ds = map named_view survey.aliases.items
+  abbrev ds : List AliasDefinition
+  ds = map alias_view survey.aliases.items
 
   abbrev links_of : Links
   links_of = map (row_of_alias survey.index) ds
@@ -104,36 +104,36 @@ module _ (p : Policy) (survey : Survey) (s : IsSurvey p (definitions p) survey) 
   held_of : StatesHold links_of states
   held_of = subst (λ (g : Links). StatesHold g states) links_are held
 
-  pub judged_is : IsJudged p judged
+  pub judged_is : AreAliasMarks p judged
   judged_is = record {
-    cyclic_are = subst (λ (xs : List Defined). Marks (IsCyclic p) xs judged.cyclic.items) s.aliases_are
+    cyclic_are = subst (λ (xs : List AliasDefinition). Marks (IsCyclic p) xs judged.cyclic.items) s.aliases_are
         (cyclic_are p ds (names_of survey.index) survey.index.positions.items s.indexed states states_long long held_of settled judged.cyclic.items used cyclic_of used_of);
-    deep_are = subst (λ (xs : List Defined). Marks (IsTooDeep p) xs judged.deep.items) s.aliases_are (subst (λ (marks : List Bool). Marks (IsTooDeep p) ds marks) (sym deep)
+    deep_are = subst (λ (xs : List AliasDefinition). Marks (IsTooDeep p) xs judged.deep.items) s.aliases_are (subst (λ (marks : List Bool). Marks (IsTooDeep p) ds marks) (sym deep)
         (deep_are p ds (names_of survey.index) survey.index.positions.items s.indexed states states_long long held_of settled judged.cyclic.items used cyclic_of used_of));
-    wide_are = subst (λ (xs : List Defined). Marks (IsTooWide p) xs judged.wide.items) s.aliases_are (subst (λ (marks : List Bool). Marks (IsTooWide p) ds marks) (sym wide)
+    wide_are = subst (λ (xs : List AliasDefinition). Marks (IsTooWide p) xs judged.wide.items) s.aliases_are (subst (λ (marks : List Bool). Marks (IsTooWide p) ds marks) (sym wide)
         (wide_are p ds (names_of survey.index) survey.index.positions.items s.indexed states states_long long held_of settled judged.cyclic.items used cyclic_of used_of));
-    unused_are = subst (λ (xs : List Defined). Marks (IsUnused p) xs judged.unused.items) s.aliases_are (subst (λ (marks : List Bool). Marks (IsUnused p) ds marks) (sym unused)
+    unused_are = subst (λ (xs : List AliasDefinition). Marks (IsUnused p) xs judged.unused.items) s.aliases_are (subst (λ (marks : List Bool). Marks (IsUnused p) ds marks) (sym unused)
         (unused_are p ds (names_of survey.index) survey.index.positions.items s.indexed states states_long long held_of settled judged.cyclic.items used cyclic_of used_of));
     have_depths = λ none i d at.
         have_depths p ds (names_of survey.index) survey.index.positions.items s.indexed states states_long long held_of settled judged.cyclic.items used cyclic_of used_of none i d
-        (ap (λ (xs : List Defined). slice_get xs i) s.aliases_are ∙ at);
+        (ap (λ (xs : List AliasDefinition). slice_get xs i) s.aliases_are ∙ at);
   }
 
 -- ---- The list of findings
 
 module _ (p : Policy) (survey : Survey) (s : IsSurvey p (definitions p) survey) where
   -- a name has a number exactly where it has a definition
-  missing_name : (kind : Kind) (name : List ℕ) → is_none (place_of (names_of survey.index kind) name) ≡ is_none (in_force kind p name)
-  missing_name kind name = by (place_of (names_of survey.index kind) name) refl
+  missing_name : (kind : Kind) (name : List ℕ) → is_none (index_of (names_of survey.index kind) name) ≡ is_none (in_force kind p name)
+  missing_name kind name = by (index_of (names_of survey.index kind) name) refl
     where
-      by : (o : Option ℕ) → place_of (names_of survey.index kind) name ≡ o → is_none (place_of (names_of survey.index kind) name) ≡ is_none (in_force kind p name)
+      by : (o : Option ℕ) → index_of (names_of survey.index kind) name ≡ o → is_none (index_of (names_of survey.index kind) name) ≡ is_none (in_force kind p name)
       by None e =
-          ap is_none e ∙ ap (λ (o : Option Defined). is_none (option_map (λ (d : Defined). d.members) o)) (sym (sym (s.indexed.lookup kind name) ∙ ap (option_and_then (slice_get (map named_view survey.aliases.items))) e))
+          ap is_none e ∙ ap (λ (o : Option AliasDefinition). is_none (option_map (λ (d : AliasDefinition). d.members) o)) (sym (sym (s.indexed.lookup kind name) ∙ ap (option_and_then (slice_get (map alias_view survey.aliases.items))) e))
       by (Some i) e =
-          let d = get_within (map named_view survey.aliases.items) i (s.indexed.inside kind name i e) in
-          ap is_none e ∙ ap (λ (o : Option Defined). is_none (option_map (λ (d : Defined). d.members) o)) (sym (sym (s.indexed.lookup kind name) ∙ ap (option_and_then (slice_get (map named_view survey.aliases.items))) e ∙ d.1))
+          let d = get_within (map alias_view survey.aliases.items) i (s.indexed.inside kind name i e) in
+          ap is_none e ∙ ap (λ (o : Option AliasDefinition). is_none (option_map (λ (d : AliasDefinition). d.members) o)) (sym (sym (s.indexed.lookup kind name) ∙ ap (option_and_then (slice_get (map alias_view survey.aliases.items))) e ∙ d.1))
 
-  missing_is : (l : Listed) → missing_in survey.index l ≡ undefined_in p l
+  missing_is : (l : MemberList) → missing_in survey.index l ≡ undefined_in p l
   missing_is l = go l.members
     where
       finding : List ℕ → Finding
@@ -147,24 +147,24 @@ module _ (p : Policy) (survey : Survey) (s : IsSurvey p (definitions p) survey) 
 
       atom : (o : Option (List ℕ)) (ns : List (List ℕ)) → atom_missing survey.index l.kind l.place o ++ map finding (filter (λ name. is_none (in_force l.kind p name)) ns) ≡ map finding (filter (λ name. is_none (in_force l.kind p name)) (option_to_list o ++ ns))
       atom None ns = refl
-      atom (Some name) ns = one name ns (is_none (place_of (names_of survey.index l.kind) name)) (is_none (in_force l.kind p name)) (missing_name l.kind name)
+      atom (Some name) ns = one name ns (is_none (index_of (names_of survey.index l.kind) name)) (is_none (in_force l.kind p name)) (missing_name l.kind name)
 
       go : (ms : List Member) → flat_map (λ (m : Member). atom_missing survey.index l.kind l.place (alias_named m.atom)) ms ≡ map finding (filter (λ name. is_none (in_force l.kind p name)) (names_used ms))
       go [] = refl
       go (m ∷ ms) = ap (λ fs. atom_missing survey.index l.kind l.place (alias_named m.atom) ++ fs) (go ms) ∙ atom (alias_named m.atom) (names_used ms)
 
-  all_missing : (ls : List Listed) → flat_map (missing_in survey.index) ls ≡ flat_map (undefined_in p) ls
+  all_missing : (ls : List MemberList) → flat_map (missing_in survey.index) ls ≡ flat_map (undefined_in p) ls
   all_missing [] = refl
   all_missing (l ∷ ls) = ap (λ fs. fs ++ flat_map (missing_in survey.index) ls) (missing_is l) ∙ ap (λ fs. undefined_in p l ++ fs) (all_missing ls)
 
-  pub found_is : (ls : List Listed) (judged : Judged) → ls ≡ lists p → found_in survey.index (map named_view survey.aliases.items) (map named_view survey.redefinitions.items) ls judged ≡ found_by p judged.cyclic.items judged.deep.items judged.wide.items judged.unused.items
+  pub found_is : (ls : List MemberList) (judged : AliasMarks) → ls ≡ lists p → found_in survey.index (map alias_view survey.aliases.items) (map alias_view survey.redefinitions.items) ls judged ≡ found_by p judged.cyclic.items judged.deep.items judged.wide.items judged.unused.items
   found_is ls judged lists_are =
-      ap (λ (xs : List Defined). found_in survey.index xs (map named_view survey.redefinitions.items) ls judged) s.aliases_are
-      ∙ ap (λ (rs : List Defined). found_in survey.index (aliases p) rs ls judged) s.repeats_are
-      ∙ ap (λ (xs : List Listed). found_in survey.index (aliases p) (redefinitions [] (definitions p)) xs judged) lists_are
+      ap (λ (xs : List AliasDefinition). found_in survey.index xs (map alias_view survey.redefinitions.items) ls judged) s.aliases_are
+      ∙ ap (λ (rs : List AliasDefinition). found_in survey.index (aliases p) rs ls judged) s.repeats_are
+      ∙ ap (λ (xs : List MemberList). found_in survey.index (aliases p) (redefinitions [] (definitions p)) xs judged) lists_are
       ∙ ap (λ (fs : List Finding). map (finding_on Redefined) (redefinitions [] (definitions p)) ++ (fs ++ (map (finding_on Cycle) (items_where_true judged.cyclic.items (aliases p)) ++ (map (finding_on TooDeep) (items_where_true judged.deep.items (aliases p)) ++ (map (finding_on TooWide) (items_where_true judged.wide.items (aliases p)) ++ map (finding_on Unused) (items_where_true judged.unused.items (aliases p))))))) (all_missing (lists p))
 
-  pub are_findings : (found : List Finding) (ls : List Listed) (judged : Judged) → ls ≡ lists p → IsJudged p judged → found ≡ found_in survey.index (map named_view survey.aliases.items) (map named_view survey.redefinitions.items) ls judged → AreFindings p found
+  pub are_findings : (found : List Finding) (ls : List MemberList) (judged : AliasMarks) → ls ≡ lists p → AreAliasMarks p judged → found ≡ found_in survey.index (map alias_view survey.aliases.items) (map alias_view survey.redefinitions.items) ls judged → AreFindings p found
   are_findings found ls judged lists_are j is = record {
     cyclic = judged.cyclic.items;
     deep = judged.deep.items;
@@ -178,21 +178,21 @@ module _ (p : Policy) (survey : Survey) (s : IsSurvey p (definitions p) survey) 
   }
 
   -- a definition in force is that of an alias
-  pub among_aliases : (kind : Kind) (name : List ℕ) (ms : List Member) → in_force kind p name ≡ Some ms → (i : ℕ) × (d : Defined) × (slice_get (aliases p) i ≡ Some d) × (d.kind ≡ kind) × (d.members ≡ ms)
-  among_aliases kind name ms is = by (place_of (names_of survey.index kind) name) refl
+  pub among_aliases : (kind : Kind) (name : List ℕ) (ms : List Member) → in_force kind p name ≡ Some ms → (i : ℕ) × (d : AliasDefinition) × (slice_get (aliases p) i ≡ Some d) × (d.kind ≡ kind) × (d.members ≡ ms)
+  among_aliases kind name ms is = by (index_of (names_of survey.index kind) name) refl
     where
-      by : (o : Option ℕ) → place_of (names_of survey.index kind) name ≡ o → (i : ℕ) × (d : Defined) × (slice_get (aliases p) i ≡ Some d) × (d.kind ≡ kind) × (d.members ≡ ms)
+      by : (o : Option ℕ) → index_of (names_of survey.index kind) name ≡ o → (i : ℕ) × (d : AliasDefinition) × (slice_get (aliases p) i ≡ Some d) × (d.kind ≡ kind) × (d.members ≡ ms)
       by None e =
-          let none : in_force kind p name ≡ None = ap (option_map (λ (d : Defined). d.members)) (sym (s.indexed.lookup kind name) ∙ ap (option_and_then (slice_get (map named_view survey.aliases.items))) e) in
+          let none : in_force kind p name ≡ None = ap (option_map (λ (d : AliasDefinition). d.members)) (sym (s.indexed.lookup kind name) ∙ ap (option_and_then (slice_get (map alias_view survey.aliases.items))) e) in
           absurd (let both : None ≡ Some ms = sym none ∙ is in cc)
       by (Some i) e =
-          let d = get_within (map named_view survey.aliases.items) i (s.indexed.inside kind name i e) in
-          let found : find (defines kind name) (definitions p) ≡ Some d.0 = sym (s.indexed.lookup kind name) ∙ ap (option_and_then (slice_get (map named_view survey.aliases.items))) e ∙ d.1 in
+          let d = get_within (map alias_view survey.aliases.items) i (s.indexed.inside kind name i e) in
+          let found : find (defines kind name) (definitions p) ≡ Some d.0 = sym (s.indexed.lookup kind name) ∙ ap (option_and_then (slice_get (map alias_view survey.aliases.items))) e ∙ d.1 in
           let same = defines-same kind name d.0 (find_passes (defines kind name) (definitions p) d.0 found) in
-          let both : Some d.0.members ≡ Some ms = sym (ap (option_map (λ (d : Defined). d.members)) found) ∙ is in
-          (i, d.0, sym (ap (λ (xs : List Defined). slice_get xs i) s.aliases_are) ∙ d.1, sym same.0, (let e : d.0.members ≡ ms = cc in e))
+          let both : Some d.0.members ≡ Some ms = sym (ap (option_map (λ (d : AliasDefinition). d.members)) found) ∙ is in
+          (i, d.0, sym (ap (λ (xs : List AliasDefinition). slice_get xs i) s.aliases_are) ∙ d.1, sym same.0, (let e : d.0.members ≡ ms = cc in e))
 
   -- where no finding is an error, every list resolves
-  pub sound_is : (found : List Finding) (ls : List Listed) (judged : Judged) → ls ≡ lists p → IsJudged p judged → found ≡ found_in survey.index (map named_view survey.aliases.items) (map named_view survey.redefinitions.items) ls judged → has_error found ≡ false → IsSound p
+  pub sound_is : (found : List Finding) (ls : List MemberList) (judged : AliasMarks) → ls ≡ lists p → AreAliasMarks p judged → found ≡ found_in survey.index (map alias_view survey.aliases.items) (map alias_view survey.redefinitions.items) ls judged → has_error found ≡ false → IsSound p
   unfolding are_findings
   sound_is found ls judged lists_are j is none = sound_from p found (are_findings found ls judged lists_are j is) none j.have_depths among_aliases

@@ -4,7 +4,7 @@ use Rattle.std.specs.Prelude.{slice_get, IsTrue}
 use Rattle.std.specs.List.{items_where_true}
 use Rattle.sudo_policy.specs.declared.finding.Finding.{Finding}
 use Rattle.sudo_grammar.specs.declared.policy.Policy.{Policy}
-use Rattle.sudo_policy.specs.Definitions.{Defined, aliases}
+use Rattle.sudo_policy.specs.Definitions.{AliasDefinition, aliases}
 use Rattle.sudo_policy.specs.Found.{Marks, AreFindings, found_by}
 use Rattle.sudo_policy.proofs.StateLemmas.{get_within, within_get}
 
@@ -23,7 +23,7 @@ same_bools false true f g = let e = g refl in cc
 same_bools false false f g = refl
 
 -- one fact has one list of marks
-pub Marks-same : (T : Defined → Type 0) (ds : List Defined) (a b : List Bool) → Marks T ds a → Marks T ds b → a ≡ b
+pub Marks-same : (T : AliasDefinition → Type 0) (ds : List AliasDefinition) (a b : List Bool) → Marks T ds a → Marks T ds b → a ≡ b
 Marks-same T ds a b m n = same_lists a b (m.same_length ∙ sym n.same_length) each
   where
     each : (i : ℕ) (x y : Bool) → slice_get a i ≡ Some x → slice_get b i ≡ Some y → x ≡ y

@@ -9,12 +9,12 @@ use Rattle.sudo_policy.specs.declared.graph.Measure.{Measure}
 use Rattle.sudo_policy.specs.declared.graph.State.{State}
 use Rattle.sudo_policy.specs.declared.graph.State.TheVariants.{New, Open, Done, Looped}
 use Rattle.sudo_policy.specs.declared.index.Position.{Position}
-use Rattle.sudo_policy.specs.Definitions.{Defined, definitions}
+use Rattle.sudo_policy.specs.Definitions.{AliasDefinition, definitions}
 use Rattle.sudo_policy.specs.Following.{ReadsAs, depth, width}
 use Rattle.sudo_policy.specs.Found.{Marks, IsCyclic, IsTooDeep, IsTooWide, IsUnused}
 use Rattle.sudo_policy.specs.Body.Graph.{Links, Path, ReachesCycle, Measures, StateHolds, StatesHold, IsSettled, MarksOf, IsReached}
 use Rattle.sudo_policy.specs.Body.Judgement.{is_deep, is_wide}
-use Rattle.sudo_policy.specs.Body.Named.{IsIndexed}
+use Rattle.sudo_policy.specs.Body.DefinitionRef.{IsIndexed}
 use Rattle.sudo_policy.proofs.CycleLemmas.{no_measure, on_cycle_inside}
 use Rattle.sudo_policy.proofs.FollowingLemmas.{reading_same, option_map_some}
 use Rattle.sudo_policy.proofs.LinkLemmas.{graph, roots, cyclic_is, reached_used, used_reached}
@@ -23,7 +23,7 @@ use Rattle.sudo_policy.proofs.ReadingMaps.{depth_measured, width_measured, measu
 use Rattle.sudo_policy.proofs.StateLemmas.{get_within, within_get}
 
 -- marks that say of each number what T says of the definition there
-pub Marks-from : (T : Defined → Type 0) (U : ℕ → Type 0) (ds : List Defined) (marks : List Bool) → MarksOf (length ds) U marks → ((i : ℕ) (d : Defined) → slice_get ds i ≡ Some d → (U i → T d) × (T d → U i)) → Marks T ds marks
+pub Marks-from : (T : AliasDefinition → Type 0) (U : ℕ → Type 0) (ds : List AliasDefinition) (marks : List Bool) → MarksOf (length ds) U marks → ((i : ℕ) (d : AliasDefinition) → slice_get ds i ≡ Some d → (U i → T d) × (T d → U i)) → Marks T ds marks
 Marks-from T U ds marks m agree = record {
   same_length = m.same_length;
   exact = λ i d mark at_d at. (
@@ -33,7 +33,7 @@ Marks-from T U ds marks m agree = record {
 }
 
 -- marks by a test of each item
-pub Marks-tested : {X : Type 0} (T : Defined → Type 0) (ds : List Defined) (xs : List X) (test : X → Bool) → length xs ≡ length ds → ((i : ℕ) (d : Defined) (x : X) → slice_get ds i ≡ Some d → slice_get xs i ≡ Some x → (test x ≡ true → T d) × (T d → test x ≡ true)) → Marks T ds (map test xs)
+pub Marks-tested : {X : Type 0} (T : AliasDefinition → Type 0) (ds : List AliasDefinition) (xs : List X) (test : X → Bool) → length xs ≡ length ds → ((i : ℕ) (d : AliasDefinition) (x : X) → slice_get ds i ≡ Some d → slice_get xs i ≡ Some x → (test x ≡ true → T d) × (T d → test x ≡ true)) → Marks T ds (map test xs)
 Marks-tested T ds xs test long agree = record {
   same_length = length_mapped test xs ∙ long;
   exact = λ i d mark at_d at. (
@@ -47,32 +47,32 @@ Marks-tested T ds xs test long agree = record {
     length_mapped f [] = refl
     length_mapped f (x ∷ xs) = ap suc (length_mapped f xs)
 
-module _ (p : Policy) (aliases : List Defined) (names : Kind → List (List ℕ × ℕ)) (positions : List Position) (x : IsIndexed p (definitions p) aliases names positions) where
+module _ (p : Policy) (aliases : List AliasDefinition) (names : Kind → List (List ℕ × ℕ)) (positions : List Position) (x : IsIndexed p (definitions p) aliases names positions) where
   abbrev g : Links
   g = graph p aliases names positions x
 
   -- an alias with a measure has a depth and a width
-  done_depth : (i : ℕ) (d : Defined) (a : Measure) → slice_get aliases i ≡ Some d → Measures g i a → (n : ℕ) × ReadsAs depth d.kind p d.members n × (a.depth ≡ min n 65)
+  done_depth : (i : ℕ) (d : AliasDefinition) (a : Measure) → slice_get aliases i ≡ Some d → Measures g i a → (n : ℕ) × ReadsAs depth d.kind p d.members n × (a.depth ≡ min n 65)
   done_depth i d a at m =
       let k = depth_measured d.kind p m.steps d.members a (measure_is p aliases names positions x m.steps i d at ∙ m.reads) in
       (k.0, record { steps = m.steps; reads = k.1 }, k.2)
 
-  done_width : (i : ℕ) (d : Defined) (a : Measure) → slice_get aliases i ≡ Some d → Measures g i a → (n : ℕ) × ReadsAs width d.kind p d.members n × (a.width ≡ min n 65537)
+  done_width : (i : ℕ) (d : AliasDefinition) (a : Measure) → slice_get aliases i ≡ Some d → Measures g i a → (n : ℕ) × ReadsAs width d.kind p d.members n × (a.width ≡ min n 65537)
   done_width i d a at m =
       let k = width_measured d.kind p m.steps d.members a (measure_is p aliases names positions x m.steps i d at ∙ m.reads) in
       (k.0, record { steps = m.steps; reads = k.1 }, k.2)
 
-  looped_depth : (i : ℕ) (d : Defined) (n : ℕ) → slice_get aliases i ≡ Some d → ReachesCycle g i → ReadsAs depth d.kind p d.members n → ⊥
+  looped_depth : (i : ℕ) (d : AliasDefinition) (n : ℕ) → slice_get aliases i ≡ Some d → ReachesCycle g i → ReadsAs depth d.kind p d.members n → ⊥
   looped_depth i d n at r reads =
       let a = measured_deep d.kind p reads.steps d.members n reads.reads in
       no_measure g reads.steps i a.0 r (sym (measure_is p aliases names positions x reads.steps i d at) ∙ a.1)
 
-  looped_width : (i : ℕ) (d : Defined) (n : ℕ) → slice_get aliases i ≡ Some d → ReachesCycle g i → ReadsAs width d.kind p d.members n → ⊥
+  looped_width : (i : ℕ) (d : AliasDefinition) (n : ℕ) → slice_get aliases i ≡ Some d → ReachesCycle g i → ReadsAs width d.kind p d.members n → ⊥
   looped_width i d n at r reads =
       let a = measured_wide d.kind p reads.steps d.members n reads.reads in
       no_measure g reads.steps i a.0 r (sym (measure_is p aliases names positions x reads.steps i d at) ∙ a.1)
 
-  pub deep_is : (i : ℕ) (d : Defined) (s : State) → slice_get aliases i ≡ Some d → StateHolds g i s → IsSettled s → (is_deep s ≡ true → IsTooDeep p d) × (IsTooDeep p d → is_deep s ≡ true)
+  pub deep_is : (i : ℕ) (d : AliasDefinition) (s : State) → slice_get aliases i ≡ Some d → StateHolds g i s → IsSettled s → (is_deep s ≡ true → IsTooDeep p d) × (IsTooDeep p d → is_deep s ≡ true)
   deep_is i d New at held settled = absurd settled
   deep_is i d Open at held settled = absurd settled
   deep_is i d Looped at held settled = ((λ h. cc), (λ t. absurd (looped_depth i d t.inner at held t.inner_is)))
@@ -85,7 +85,7 @@ module _ (p : Policy) (aliases : List Defined) (names : Kind → List (List ℕ 
             lt-ltb 63 a.depth (omega (arith, over, same, capped)))),
       )
 
-  pub wide_is : (i : ℕ) (d : Defined) (s : State) → slice_get aliases i ≡ Some d → StateHolds g i s → IsSettled s → (is_wide s ≡ true → IsTooWide p d) × (IsTooWide p d → is_wide s ≡ true)
+  pub wide_is : (i : ℕ) (d : AliasDefinition) (s : State) → slice_get aliases i ≡ Some d → StateHolds g i s → IsSettled s → (is_wide s ≡ true → IsTooWide p d) × (IsTooWide p d → is_wide s ≡ true)
   wide_is i d New at held settled = absurd settled
   wide_is i d Open at held settled = absurd settled
   wide_is i d Looped at held settled = ((λ h. cc), (λ t. absurd (looped_width i d t.members at held t.members_are)))
@@ -98,7 +98,7 @@ module _ (p : Policy) (aliases : List Defined) (names : Kind → List (List ℕ 
             lt-ltb 65536 a.width (omega (arith, over, same, capped)))),
       )
 
-  known_depth : (i : ℕ) (d : Defined) (s : State) → slice_get aliases i ≡ Some d → StateHolds g i s → IsSettled s → ((j : ℕ) → Path g j j → ⊥) → (n : ℕ) × ReadsAs depth d.kind p d.members n
+  known_depth : (i : ℕ) (d : AliasDefinition) (s : State) → slice_get aliases i ≡ Some d → StateHolds g i s → IsSettled s → ((j : ℕ) → Path g j j → ⊥) → (n : ℕ) × ReadsAs depth d.kind p d.members n
   known_depth i d New at held settled free = absurd settled
   known_depth i d Open at held settled free = absurd settled
   known_depth i d Looped at held settled free = absurd (free held.on held.cycle)
@@ -128,7 +128,7 @@ module _ (p : Policy) (aliases : List Defined) (names : Kind → List (List ℕ 
         unmarked true h = absurd (h refl)
         unmarked false h = refl
 
-    pub have_depths : ((i : ℕ) → slice_get cyclic i ≡ Some true → ⊥) → (i : ℕ) (d : Defined) → slice_get aliases i ≡ Some d → (n : ℕ) × ReadsAs depth d.kind p d.members n
+    pub have_depths : ((i : ℕ) → slice_get cyclic i ≡ Some true → ⊥) → (i : ℕ) (d : AliasDefinition) → slice_get aliases i ≡ Some d → (n : ℕ) × ReadsAs depth d.kind p d.members n
     have_depths none i d at =
         let inside = within_get aliases i d at in
         let s = get_within states i (omega (arith, inside, long)) in

@@ -4,7 +4,7 @@ use Rattle.std.specs.Prelude.{slice_get, Contains}
 use Rattle.std.proofs.lemmas.Option.{slice_get-get_or}
 use Rattle.std.proofs.lemmas.List.Elements.{Contains-get_or, Contains-append_left, Contains-append_right, Contains-append_cases, Contains-push, Contains-push_cases}
 use Rattle.sudo_policy.specs.Body.Graph.{Links, Edge, IsInside, IsClosed}
-use Rattle.sudo_policy.specs.Body.Marking.{IsMarked, IsUnmarked, unmarked, Marked, AreSet, RowTurned, TurnedTo}
+use Rattle.sudo_policy.specs.Body.Marking.{IsMarked, IsUnmarked, unmarked, MarksRow, AreSet, ReversesRow, ReversesUpTo}
 use Rattle.sudo_policy.proofs.StateLemmas.{get_set_same, get_set_other, get_set_cases, get_within, within_get, length_set, same_or_not}
 
 -- ---- Elements
@@ -34,8 +34,8 @@ unmarked_set [] i h = cc
 unmarked_set (m ∷ ms) zero h = let e : m ≡ false = cc in rw e (omega arith)
 unmarked_set (m ∷ ms) (suc i) h = let k = unmarked_set ms i h in omega (arith, k)
 
-pub Marked-same : (row : List (Option ℕ)) (marks : List Bool) (work : List ℕ) → ((i : ℕ) → Contains row (Some i) → IsMarked marks i) → Marked row marks work marks work
-Marked-same row marks work known = record {
+pub MarksRow-same : (row : List (Option ℕ)) (marks : List Bool) (work : List ℕ) → ((i : ℕ) → Contains row (Some i) → IsMarked marks i) → MarksRow row marks work marks work
+MarksRow-same row marks work known = record {
   same_length = refl;
   kept = λ i h. h;
   all = known;
@@ -45,14 +45,14 @@ Marked-same row marks work known = record {
   falls = omega arith;
 }
 
-pub Marked-none : (marks : List Bool) (work : List ℕ) (link : Option ℕ) → link ≡ None → Marked (link ∷ []) marks work marks work
-Marked-none marks work link none = Marked-same (link ∷ []) marks work (λ i h. (let e : link ≡ Some i = one_in link (Some i) h in cc))
+pub MarksRow-none : (marks : List Bool) (work : List ℕ) (link : Option ℕ) → link ≡ None → MarksRow (link ∷ []) marks work marks work
+MarksRow-none marks work link none = MarksRow-same (link ∷ []) marks work (λ i h. (let e : link ≡ Some i = one_in link (Some i) h in cc))
 
-pub Marked-old : (marks : List Bool) (work : List ℕ) (link : Option ℕ) (alias : ℕ) → link ≡ Some alias → IsMarked marks alias → Marked (link ∷ []) marks work marks work
-Marked-old marks work link alias is old = Marked-same (link ∷ []) marks work (λ i h. (let e : Some alias ≡ Some i = sym is ∙ one_in link (Some i) h in let same : alias ≡ i = cc in subst (IsMarked marks) same old))
+pub MarksRow-old : (marks : List Bool) (work : List ℕ) (link : Option ℕ) (alias : ℕ) → link ≡ Some alias → IsMarked marks alias → MarksRow (link ∷ []) marks work marks work
+MarksRow-old marks work link alias is old = MarksRow-same (link ∷ []) marks work (λ i h. (let e : Some alias ≡ Some i = sym is ∙ one_in link (Some i) h in let same : alias ≡ i = cc in subst (IsMarked marks) same old))
 
-pub Marked-new : (marks : List Bool) (work : List ℕ) (link : Option ℕ) (alias : ℕ) → link ≡ Some alias → slice_get marks alias ≡ Some false → Marked (link ∷ []) marks work (set marks alias true) (work ++ alias ∷ [])
-Marked-new marks work link alias is new =
+pub MarksRow-new : (marks : List Bool) (work : List ℕ) (link : Option ℕ) (alias : ℕ) → link ≡ Some alias → slice_get marks alias ≡ Some false → MarksRow (link ∷ []) marks work (set marks alias true) (work ++ alias ∷ [])
+MarksRow-new marks work link alias is new =
     let inside = within_get marks alias false new in
     let here : IsMarked (set marks alias true) alias = get_set_same marks alias true inside in
     let fewer = unmarked_set marks alias new in
@@ -90,8 +90,8 @@ unmarked_before old new i long kept free =
     ]
 
 -- one row and then another
-pub Marked-append : (xs ys : List (Option ℕ)) (a b c : List Bool) (u v w : List ℕ) → Marked xs a u b v → Marked ys b v c w → Marked (xs ++ ys) a u c w
-Marked-append xs ys a b c u v w f g =
+pub MarksRow-append : (xs ys : List (Option ℕ)) (a b c : List Bool) (u v w : List ℕ) → MarksRow xs a u b v → MarksRow ys b v c w → MarksRow (xs ++ ys) a u c w
+MarksRow-append xs ys a b c u v w f g =
     let first = f.falls in
     let second = g.falls in
     record {
@@ -226,8 +226,8 @@ Edge-set back to j i old new at e = elim (same_or_not j to) [
   | inr apart ↦ inr (record { row = e.row; row_is = sym (get_set_other back to j new apart) ∙ e.row_is; has = e.has })
 ]
 
-pub RowTurned-link : (back : Links) (from to : ℕ) (link : Option ℕ) (old new : List (Option ℕ)) → link ≡ Some to → slice_get back to ≡ Some old → new ≡ old ++ Some from ∷ [] → RowTurned from (link ∷ []) back (set back to new)
-RowTurned-link back from to link old new is at grown =
+pub ReversesRow-link : (back : Links) (from to : ℕ) (link : Option ℕ) (old new : List (Option ℕ)) → link ≡ Some to → slice_get back to ≡ Some old → new ≡ old ++ Some from ∷ [] → ReversesRow from (link ∷ []) back (set back to new)
+ReversesRow-link back from to link old new is at grown =
     let inside = within_get back to old at in
     let here : slice_get (set back to new) to ≡ Some new = get_set_same back to new inside in
     record {
@@ -254,14 +254,14 @@ RowTurned-link back from to link old new is at grown =
       ];
     }
 
-pub RowTurned-same : (back : Links) (from : ℕ) (row : List (Option ℕ)) → ((j : ℕ) → Contains row (Some j) → ⊥) → RowTurned from row back back
-RowTurned-same back from row none = record { same_length = refl; kept = λ i j e. e; all = λ j h. absurd (none j h); only = λ i j e. inl e }
+pub ReversesRow-same : (back : Links) (from : ℕ) (row : List (Option ℕ)) → ((j : ℕ) → Contains row (Some j) → ⊥) → ReversesRow from row back back
+ReversesRow-same back from row none = record { same_length = refl; kept = λ i j e. e; all = λ j h. absurd (none j h); only = λ i j e. inl e }
 
-pub RowTurned-none : (back : Links) (from : ℕ) (link : Option ℕ) → link ≡ None → RowTurned from (link ∷ []) back back
-RowTurned-none back from link none = RowTurned-same back from (link ∷ []) (λ j h. (let e : link ≡ Some j = one_in link (Some j) h in cc))
+pub ReversesRow-none : (back : Links) (from : ℕ) (link : Option ℕ) → link ≡ None → ReversesRow from (link ∷ []) back back
+ReversesRow-none back from link none = ReversesRow-same back from (link ∷ []) (λ j h. (let e : link ≡ Some j = one_in link (Some j) h in cc))
 
-pub RowTurned-append : (xs ys : List (Option ℕ)) (from : ℕ) (a b c : Links) → RowTurned from xs a b → RowTurned from ys b c → RowTurned from (xs ++ ys) a c
-RowTurned-append xs ys from a b c f g = record {
+pub ReversesRow-append : (xs ys : List (Option ℕ)) (from : ℕ) (a b c : Links) → ReversesRow from xs a b → ReversesRow from ys b c → ReversesRow from (xs ++ ys) a c
+ReversesRow-append xs ys from a b c f g = record {
   same_length = g.same_length ∙ f.same_length;
   kept = λ i j e. g.kept i j (f.kept i j e);
   all = λ j h. elim (Contains-append_cases xs ys (Some j) h) [
@@ -275,15 +275,15 @@ RowTurned-append xs ys from a b c f g = record {
 }
 
 -- no row has a link
-pub TurnedTo-none : (g back : Links) → length back ≡ length g → ((j : ℕ) (r : List (Option ℕ)) → slice_get back j ≡ Some r → r ≡ []) → TurnedTo g 0 back
-TurnedTo-none g back long empty = record {
+pub ReversesUpTo-none : (g back : Links) → length back ≡ length g → ((j : ℕ) (r : List (Option ℕ)) → slice_get back j ≡ Some r → r ≡ []) → ReversesUpTo g 0 back
+ReversesUpTo-none g back long empty = record {
   same_length = long;
   all = λ i j less e. absurd (omega (arith, less));
   only = λ i j e. absurd (none_in (Some i) (subst (λ (r : List (Option ℕ)). Contains r (Some i)) (empty j e.row e.row_is) e.has));
 }
 
-pub TurnedTo-next : (g old new : Links) (at : ℕ) (row : List (Option ℕ)) → slice_get g at ≡ Some row → TurnedTo g at old → RowTurned at row old new → TurnedTo g (at + 1) new
-TurnedTo-next g old new at row is t r = record {
+pub ReversesUpTo-next : (g old new : Links) (at : ℕ) (row : List (Option ℕ)) → slice_get g at ≡ Some row → ReversesUpTo g at old → ReversesRow at row old new → ReversesUpTo g (at + 1) new
+ReversesUpTo-next g old new at row is t r = record {
   same_length = r.same_length ∙ t.same_length;
   all = λ i j less e. elim (same_or_not i at) [
     | inl same ↦ subst (λ (k : ℕ). Edge new j k) (sym same) (r.all j (row_of g at j row is (subst (λ (k : ℕ). Edge g k j) same e)))
@@ -295,7 +295,7 @@ TurnedTo-next g old new at row is t r = record {
   ];
 }
 
-pub IsClosed-turned : (g back : Links) → TurnedTo g (length g) back → IsClosed back
+pub IsClosed-turned : (g back : Links) → ReversesUpTo g (length g) back → IsClosed back
 IsClosed-turned g back t i j e =
     let forward = t.only j i e in
     let less = within_get g j forward.row forward.row_is in

@@ -3,7 +3,7 @@ use Rattle.std.proofs.Common.{◌≡◌, ℕ, ◌<◌, Bool, true, false, List, 
 use Rattle.std.specs.Prelude.{slice_get, Contains}
 use Rattle.std.proofs.lemmas.List.Elements.{Contains-append_left, Contains-push, Contains-push_cases}
 use Rattle.sudo_policy.specs.Body.Graph.{Links, Edge, Path, step, more, IsReached, IsInside, IsClosed, MarksOf}
-use Rattle.sudo_policy.specs.Body.Marking.{IsMarked, IsUnmarked, Marked, AreSet, PathPast, last, next, ReachedPast}
+use Rattle.sudo_policy.specs.Body.Marking.{IsMarked, IsUnmarked, MarksRow, AreSet, PathPast, last, next, ReachedPast}
 use Rattle.sudo_policy.proofs.StateLemmas.{get_within, within_get}
 use Rattle.sudo_policy.proofs.MarkingLemmas.{none_in, row_of, unmarked_before}
 
@@ -72,7 +72,7 @@ pub record Spreads (g : Links) (roots : List (Option ℕ)) (old : List Bool) (fo
   pub spread : (i j : ℕ) → Contains found i → Edge g i j → IsMarked marks j
 
 -- the roots are marked
-pub Spreads-begin : (g : Links) (roots : List (Option ℕ)) (old marks : List Bool) (work : List ℕ) → Marked roots old [] marks work → Spreads g roots old [] marks work
+pub Spreads-begin : (g : Links) (roots : List (Option ℕ)) (old marks : List Bool) (work : List ℕ) → MarksRow roots old [] marks work → Spreads g roots old [] marks work
 Spreads-begin g roots old marks work m = record {
   same_length = m.same_length;
   sound = λ i h. (let here = waiting i h in record { root = i; among = here.1; free = here.0; way = inl refl });
@@ -90,7 +90,7 @@ Spreads-begin g roots old marks work m = record {
     ]
 
 -- one alias that waited is found
-pub Spreads-next : (g : Links) (roots row : List (Option ℕ)) (alias : ℕ) (old : List Bool) (found : List ℕ) (a b : List Bool) (all u w : List ℕ) → all ≡ u ++ alias ∷ [] → slice_get g alias ≡ Some row → Spreads g roots old found a all → Marked row a u b w → Spreads g roots old (found ++ alias ∷ []) b w
+pub Spreads-next : (g : Links) (roots row : List (Option ℕ)) (alias : ℕ) (old : List Bool) (found : List ℕ) (a b : List Bool) (all u w : List ℕ) → all ≡ u ++ alias ∷ [] → slice_get g alias ≡ Some row → Spreads g roots old found a all → MarksRow row a u b w → Spreads g roots old (found ++ alias ∷ []) b w
 Spreads-next g roots row alias old found a b all u w split at s m = record {
   same_length = m.same_length ∙ s.same_length;
   sound = λ i h. elim (parts i h) [

@@ -15,7 +15,7 @@ use Rattle.sudo_grammar.specs.declared.policy.Policy.{Policy}
 use Rattle.sudo_grammar.specs.declared.policy.Runas.{Runas as RunasPart}
 use Rattle.sudo_grammar.specs.declared.policy.Section.{Section}
 use Rattle.sudo_text.specs.declared.line.Place.{Place}
-use Rattle.sudo_policy.specs.Definitions.{Defined, Listed, definitions, definitions_of, definitions_of_body, definitions_of_list, defines, in_force, lists, lists_of, lists_of_body, lists_of_list, option_lists, runas_lists, command_lists, section_lists}
+use Rattle.sudo_policy.specs.Definitions.{AliasDefinition, MemberList, definitions, definitions_of, definitions_of_body, definitions_of_list, defines, in_force, lists, lists_of, lists_of_body, lists_of_list, option_lists, runas_lists, command_lists, section_lists}
 use Rattle.sudo_policy.specs.Resolving.{resolves, IsSound, AreWritten, list_resolves, runas_resolves, command_resolves, section_resolves, rule_resolves}
 use Rattle.std.proofs.lemmas.List.Elements.{Contains-append_cases}
 use Rattle.sudo_policy.proofs.Laws.{is_written}
@@ -23,7 +23,7 @@ use Rattle.sudo_policy.proofs.MarkingLemmas.{none_in, one_in}
 use Rattle.sudo_policy.proofs.MeasureLemmas.{find_passes}
 use Rattle.sudo_policy.proofs.SurveyLemmas.{defines-same}
 
-abbrev pub holds : Policy → Listed → Bool
+abbrev pub holds : Policy → MemberList → Bool
 holds p l = resolves l.kind p l.members
 
 all_append : {X : Type 0} (f : X → Bool) (xs ys : List X) → list_all f (xs ++ ys) ≡ (list_all f xs && list_all f ys)
@@ -54,30 +54,30 @@ found_holds f test (y ∷ ys) x h is = let k = and_parts (f y) (list_all f ys) h
 -- ---- What holds of all lists holds of the definition in force of each name
 
 module _ (p : Policy) (test : Kind → List Member → Bool) where
-  definitions_pass : (kind : Kind) (place : Place) (ds : List Definition) → list_all (λ (l : Listed). test l.kind l.members) (lists_of_list kind place ds) ≡ list_all (λ (d : Defined). test d.kind d.members) (definitions_of_list kind place ds)
+  definitions_pass : (kind : Kind) (place : Place) (ds : List Definition) → list_all (λ (l : MemberList). test l.kind l.members) (lists_of_list kind place ds) ≡ list_all (λ (d : AliasDefinition). test d.kind d.members) (definitions_of_list kind place ds)
   definitions_pass kind place [] = refl
   definitions_pass kind place (d ∷ ds) = ap (λ b. test kind d.members && b) (definitions_pass kind place ds)
 
-  body_passes : (place : Place) (body : EntryBody) → list_all (λ (l : Listed). test l.kind l.members) (lists_of_body place body) ≡ true → list_all (λ (d : Defined). test d.kind d.members) (definitions_of_body place body) ≡ true
+  body_passes : (place : Place) (body : EntryBody) → list_all (λ (l : MemberList). test l.kind l.members) (lists_of_body place body) ≡ true → list_all (λ (d : AliasDefinition). test d.kind d.members) (definitions_of_body place body) ≡ true
   body_passes place (Aliases kind ds) h = sym (definitions_pass kind place ds) ∙ h
   body_passes place (Defaults binding parameters) h = refl
   body_passes place (Rule users sections) h = refl
   body_passes place (Include folder hash path) h = refl
 
-  all_definitions : (es : List Entry) → list_all (λ (l : Listed). test l.kind l.members) (flat_map lists_of es) ≡ true → list_all (λ (d : Defined). test d.kind d.members) (flat_map definitions_of es) ≡ true
+  all_definitions : (es : List Entry) → list_all (λ (l : MemberList). test l.kind l.members) (flat_map lists_of es) ≡ true → list_all (λ (d : AliasDefinition). test d.kind d.members) (flat_map definitions_of es) ≡ true
   all_definitions [] h = refl
   all_definitions (e ∷ es) h =
-      let k = and_parts _ _ (sym (all_append (λ (l : Listed). test l.kind l.members) (lists_of e) (flat_map lists_of es)) ∙ h) in
-      all_append (λ (d : Defined). test d.kind d.members) (definitions_of e) (flat_map definitions_of es)
+      let k = and_parts _ _ (sym (all_append (λ (l : MemberList). test l.kind l.members) (lists_of e) (flat_map lists_of es)) ∙ h) in
+      all_append (λ (d : AliasDefinition). test d.kind d.members) (definitions_of e) (flat_map definitions_of es)
       ∙ and_from _ _ (body_passes e.place e.body k.0) (all_definitions es k.1)
 
-  pub in_force_passes : (kind : Kind) (name : List ℕ) (ms : List Member) → list_all (λ (l : Listed). test l.kind l.members) (lists p) ≡ true → in_force kind p name ≡ Some ms → test kind ms ≡ true
+  pub in_force_passes : (kind : Kind) (name : List ℕ) (ms : List Member) → list_all (λ (l : MemberList). test l.kind l.members) (lists p) ≡ true → in_force kind p name ≡ Some ms → test kind ms ≡ true
   in_force_passes kind name ms all is = by (find (defines kind name) (definitions p)) refl is
     where
-      by : (o : Option Defined) → find (defines kind name) (definitions p) ≡ o → option_map (λ (d : Defined). d.members) o ≡ Some ms → test kind ms ≡ true
+      by : (o : Option AliasDefinition) → find (defines kind name) (definitions p) ≡ o → option_map (λ (d : AliasDefinition). d.members) o ≡ Some ms → test kind ms ≡ true
       by None e h = cc
       by (Some d) e h =
-          let holds_d = found_holds (λ (d : Defined). test d.kind d.members) (defines kind name) (definitions p) d (all_definitions p.entries all) e in
+          let holds_d = found_holds (λ (d : AliasDefinition). test d.kind d.members) (defines kind name) (definitions p) d (all_definitions p.entries all) e in
           let same = defines-same kind name d (find_passes (defines kind name) (definitions p) d e) in
           let members : d.members ≡ ms = cc in
           subst (λ (k : Kind). test k ms ≡ true) (sym same.0) (subst (λ (xs : List Member). test d.kind xs ≡ true) members holds_d)
@@ -97,16 +97,16 @@ option_holds : (p : Policy) (place : Place) (o : Option (List Member)) → list_
 option_holds p place None h = refl
 option_holds p place (Some members) h = (and_parts (resolves Runas p members) true h).0
 
-runas_holds : (p : Policy) (place : Place) (o : Option RunasPart) → list_all (holds p) (runas_lists place o) ≡ true → runas_resolves p o ≡ true
-runas_holds p place None h = refl
-runas_holds p place (Some part) h =
+runas_allows : (p : Policy) (place : Place) (o : Option RunasPart) → list_all (holds p) (runas_lists place o) ≡ true → runas_resolves p o ≡ true
+runas_allows p place None h = refl
+runas_allows p place (Some part) h =
     let k = and_parts _ _ (sym (all_append (holds p) (option_lists Runas place part.users) (option_lists Runas place part.groups)) ∙ h) in
     and_from _ _ (option_holds p place part.users k.0) (option_holds p place part.groups k.1)
 
 command_holds : (p : Policy) (place : Place) (spec : CommandSpec) → list_all (holds p) (command_lists place spec) ≡ true → command_resolves p spec ≡ true
 command_holds p place spec h =
     let k = and_parts (list_all (holds p) (runas_lists place spec.runas)) _ (sym (all_append (holds p) (runas_lists place spec.runas) _) ∙ h) in
-    and_from _ _ (and_parts (resolves Cmnd p (spec.command ∷ [])) true k.1).0 (runas_holds p place spec.runas k.0)
+    and_from _ _ (and_parts (resolves Cmnd p (spec.command ∷ [])) true k.1).0 (runas_allows p place spec.runas k.0)
 
 pub all_weaker : {X : Type 0} (f g : X → Bool) → ((x : X) → f x ≡ true → g x ≡ true) → (xs : List X) → list_all f xs ≡ true → list_all g xs ≡ true
 all_weaker f g w [] h = refl
@@ -135,7 +135,7 @@ all_at f (y ∷ ys) x h among =
     ]
 
 -- each list of the policy resolves
-pub list_holds : (p : Policy) (l : Listed) → IsSound p → Contains (lists p) l → resolves l.kind p l.members ≡ true
+pub list_holds : (p : Policy) (l : MemberList) → IsSound p → Contains (lists p) l → resolves l.kind p l.members ≡ true
 unfolding IsSound
 list_holds p l sound among = all_at (holds p) (lists p) l sound among
 

@@ -10,7 +10,7 @@ use Rattle.sudo_grammar.specs.declared.policy.Policy.{Policy}
 use Rattle.sudo_policy.specs.declared.finding.Class.{Class}
 use Rattle.sudo_policy.specs.declared.finding.Class.TheVariants.{Redefined, Undefined, Cycle, TooDeep, TooWide, Unused}
 use Rattle.sudo_policy.specs.declared.finding.Finding.{Finding}
-use Rattle.sudo_policy.specs.Definitions.{Defined, Listed, aliases, redefinitions, definitions, in_force, lists, alias_named, names_used}
+use Rattle.sudo_policy.specs.Definitions.{AliasDefinition, MemberList, aliases, redefinitions, definitions, in_force, lists, alias_named, names_used}
 use Rattle.sudo_policy.specs.Following.{ReadsAs, reading_within, list_reading, member_reading, definition_of_member, depth}
 use Rattle.sudo_policy.specs.Found.{AreFindings, found_by, finding_on, undefined_in, has_error, is_error, IsTooDeep}
 use Rattle.sudo_policy.specs.Resolving.{resolves, IsSound}
@@ -34,12 +34,12 @@ abbrev error_finding : Finding → Bool
 error_finding f = is_error f.class
 
 -- findings of a class of errors: there are none
-none_of_class : (class : Class) (ds : List Defined) → is_error class ≡ true → has_error (map (finding_on class) ds) ≡ false → ds ≡ []
+none_of_class : (class : Class) (ds : List AliasDefinition) → is_error class ≡ true → has_error (map (finding_on class) ds) ≡ false → ds ≡ []
 none_of_class class [] e h = refl
 none_of_class class (d ∷ ds) e h = (let one : (is_error class || has_error (map (finding_on class) ds)) ≡ false = h in let all : (true || has_error (map (finding_on class) ds)) ≡ false = subst (λ b. (b || has_error (map (finding_on class) ds)) ≡ false) e one in cc)
 
 -- no mark is true where nothing is picked
-no_pick : (marks : List Bool) (ds : List Defined) → length marks ≡ length ds → items_where_true marks ds ≡ [] → (i : ℕ) → slice_get marks i ≡ Some true → ⊥
+no_pick : (marks : List Bool) (ds : List AliasDefinition) → length marks ≡ length ds → items_where_true marks ds ≡ [] → (i : ℕ) → slice_get marks i ≡ Some true → ⊥
 no_pick [] ds long none i h = cc
 no_pick (m ∷ ms) [] long none i h = absurd (omega (arith, long))
 no_pick (true ∷ ms) (d ∷ ds) long none i h = cc
@@ -47,7 +47,7 @@ no_pick (false ∷ ms) (d ∷ ds) long none zero h = cc
 no_pick (false ∷ ms) (d ∷ ds) long none (suc i) h = no_pick ms ds (omega (arith, long)) none i h
 
 -- the uses of a list are of defined names
-list_defined : (p : Policy) (l : Listed) → has_error (undefined_in p l) ≡ false → list_all (λ name. is_some (in_force l.kind p name)) (names_used l.members) ≡ true
+list_defined : (p : Policy) (l : MemberList) → has_error (undefined_in p l) ≡ false → list_all (λ name. is_some (in_force l.kind p name)) (names_used l.members) ≡ true
 list_defined p l h = go (names_used l.members) h
   where
     go : (names : List (List ℕ)) → has_error (map (λ name. record { class = Undefined; place = l.place; kind = l.kind; name = name }) (filter (λ name. is_none (in_force l.kind p name)) names)) ≡ false → list_all (λ name. is_some (in_force l.kind p name)) names ≡ true
@@ -63,7 +63,7 @@ list_defined p l h = go (names_used l.members) h
 abbrev names_defined : Policy → Kind → List Member → Bool
 names_defined p kind ms = list_all (λ name. is_some (in_force kind p name)) (names_used ms)
 
-lists_defined : (p : Policy) (ls : List Listed) → has_error (flat_map (undefined_in p) ls) ≡ false → list_all (λ (l : Listed). names_defined p l.kind l.members) ls ≡ true
+lists_defined : (p : Policy) (ls : List MemberList) → has_error (flat_map (undefined_in p) ls) ≡ false → list_all (λ (l : MemberList). names_defined p l.kind l.members) ls ≡ true
 lists_defined p [] h = refl
 lists_defined p (l ∷ ls) h =
     let k = any_append error_finding (undefined_in p l) (flat_map (undefined_in p) ls) h in
@@ -174,8 +174,8 @@ module _ (kind : Kind) (p : Policy) (known : (name : List ℕ) (ms : List Member
 -- ---- A policy without errors
 
 module _ (p : Policy) (found : List Finding) (a : AreFindings p found) (none : has_error found ≡ false)
-    (depths : ((i : ℕ) → slice_get a.cyclic i ≡ Some true → ⊥) → (i : ℕ) (d : Defined) → slice_get (aliases p) i ≡ Some d → (n : ℕ) × ReadsAs depth d.kind p d.members n)
-    (among : (kind : Kind) (name : List ℕ) (ms : List Member) → in_force kind p name ≡ Some ms → (i : ℕ) × (d : Defined) × (slice_get (aliases p) i ≡ Some d) × (d.kind ≡ kind) × (d.members ≡ ms)) where
+    (depths : ((i : ℕ) → slice_get a.cyclic i ≡ Some true → ⊥) → (i : ℕ) (d : AliasDefinition) → slice_get (aliases p) i ≡ Some d → (n : ℕ) × ReadsAs depth d.kind p d.members n)
+    (among : (kind : Kind) (name : List ℕ) (ms : List Member) → in_force kind p name ≡ Some ms → (i : ℕ) × (d : AliasDefinition) × (slice_get (aliases p) i ≡ Some d) × (d.kind ≡ kind) × (d.members ≡ ms)) where
   parts : has_error (found_by p a.cyclic a.deep a.wide a.unused) ≡ false
   parts = ap has_error (sym a.list) ∙ none
 
@@ -188,7 +188,7 @@ module _ (p : Policy) (found : List Finding) (a : AreFindings p found) (none : h
   after_cycles : has_error (map (finding_on TooDeep) (items_where_true a.deep (aliases p)) ++ (map (finding_on TooWide) (items_where_true a.wide (aliases p)) ++ map (finding_on Unused) (items_where_true a.unused (aliases p)))) ≡ false
   after_cycles = (any_append error_finding (map (finding_on Cycle) (items_where_true a.cyclic (aliases p))) _ after_uses).1
 
-  names_are_defined : list_all (λ (l : Listed). names_defined p l.kind l.members) (lists p) ≡ true
+  names_are_defined : list_all (λ (l : MemberList). names_defined p l.kind l.members) (lists p) ≡ true
   names_are_defined = lists_defined p (lists p) (any_append error_finding (flat_map (undefined_in p) (lists p)) _ after_repeats).0
 
   no_cycle : (i : ℕ) → slice_get a.cyclic i ≡ Some true → ⊥
@@ -199,7 +199,7 @@ module _ (p : Policy) (found : List Finding) (a : AreFindings p found) (none : h
   none_deep = no_pick a.deep (aliases p) a.deep_are.same_length
       (none_of_class TooDeep (items_where_true a.deep (aliases p)) refl (any_append error_finding (map (finding_on TooDeep) (items_where_true a.deep (aliases p))) _ after_cycles).0)
 
-  not_deep : (i : ℕ) (d : Defined) → slice_get (aliases p) i ≡ Some d → IsTooDeep p d → ⊥
+  not_deep : (i : ℕ) (d : AliasDefinition) → slice_get (aliases p) i ≡ Some d → IsTooDeep p d → ⊥
   not_deep i d at t =
       let inside = within_get (aliases p) i d at in
       let long = a.deep_are.same_length in
@@ -230,6 +230,6 @@ module _ (p : Policy) (found : List Finding) (a : AreFindings p found) (none : h
   pub sound_from : IsSound p
   unfolding IsSound
   sound_from =
-      all_weaker (λ (l : Listed). names_defined p l.kind l.members) (λ (l : Listed). resolves l.kind p l.members)
+      all_weaker (λ (l : MemberList). names_defined p l.kind l.members) (λ (l : MemberList). resolves l.kind p l.members)
       (λ l named. list_resolves l.kind p (λ name ms is. in_force_passes p (names_defined p) l.kind name ms names_are_defined is) (definition_deep l.kind) l.members named)
       (lists p) names_are_defined

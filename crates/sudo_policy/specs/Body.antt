@@ -2,4 +2,4 @@
 pub mod Graph
 pub mod Judgement
 pub mod Marking
-pub mod Named
+pub mod DefinitionRef

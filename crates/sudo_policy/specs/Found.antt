@@ -5,32 +5,32 @@ use Rattle.sudo_policy.specs.declared.finding.Class.{Class}
 use Rattle.sudo_policy.specs.declared.finding.Class.TheVariants.{Redefined, Undefined, Cycle, TooDeep, TooWide, Unused}
 use Rattle.sudo_policy.specs.declared.finding.Finding.{Finding}
 use Rattle.sudo_grammar.specs.declared.policy.Policy.{Policy}
-use Rattle.sudo_policy.specs.Definitions.{Defined, Listed, aliases, redefinitions, definitions, lists, names_used, in_force, Reaches}
+use Rattle.sudo_policy.specs.Definitions.{AliasDefinition, MemberList, aliases, redefinitions, definitions, lists, names_used, in_force, Reaches}
 use Rattle.sudo_policy.specs.Following.{ReadsAs, depth, width}
 
 -- a finding on a definition
-abbrev pub finding_on : Class → Defined → Finding
+abbrev pub finding_on : Class → AliasDefinition → Finding
 finding_on class d = record { class = class; place = d.place; kind = d.kind; name = d.name }
 
 -- the alias is reached from itself
-abbrev pub IsCyclic : Policy → Defined → Type 0
+abbrev pub IsCyclic : Policy → AliasDefinition → Type 0
 IsCyclic p d = Reaches p d.kind d.name d.name
 
 -- the alias reaches no cycle, and begins a chain of more than 64 aliases
-pub record IsTooDeep (p : Policy) (d : Defined) : Type 0 where
+pub record IsTooDeep (p : Policy) (d : AliasDefinition) : Type 0 where
   pub inner : ℕ
   pub inner_is : ReadsAs depth d.kind p d.members inner
   pub over : 64 < suc inner
 
 -- the alias reaches no cycle, and has more than 65,536 members when it is written out
-pub record IsTooWide (p : Policy) (d : Defined) : Type 0 where
+pub record IsTooWide (p : Policy) (d : AliasDefinition) : Type 0 where
   pub members : ℕ
   pub members_are : ReadsAs width d.kind p d.members members
   pub over : 65536 < members
 
 -- a rule or a bound `Defaults` line reaches the alias, directly or through aliases
-pub record IsUsed (p : Policy) (d : Defined) : Type 0 where
-  pub list : Listed
+pub record IsUsed (p : Policy) (d : AliasDefinition) : Type 0 where
+  pub list : MemberList
   pub among : Contains (lists p) list
   pub grants : list.granting ≡ true
   pub same_kind : list.kind ≡ d.kind
@@ -38,16 +38,16 @@ pub record IsUsed (p : Policy) (d : Defined) : Type 0 where
   pub named : Contains (names_used list.members) name
   pub way : (name ≡ d.name) ⊎ Reaches p d.kind name d.name
 
-abbrev pub IsUnused : Policy → Defined → Type 0
+abbrev pub IsUnused : Policy → AliasDefinition → Type 0
 IsUnused p d = IsUsed p d → ⊥
 
 -- one mark for each definition of the list, true exactly if T holds of it
-pub record Marks (T : Defined → Type 0) (ds : List Defined) (marks : List Bool) : Type 0 where
+pub record Marks (T : AliasDefinition → Type 0) (ds : List AliasDefinition) (marks : List Bool) : Type 0 where
   pub same_length : length marks ≡ length ds
-  pub exact : (i : ℕ) (d : Defined) (mark : Bool) → slice_get ds i ≡ Some d → slice_get marks i ≡ Some mark → IsTrue mark ↔ T d
+  pub exact : (i : ℕ) (d : AliasDefinition) (mark : Bool) → slice_get ds i ≡ Some d → slice_get marks i ≡ Some mark → IsTrue mark ↔ T d
 
 -- the uses in a list of names without a definition of that kind
-abbrev pub undefined_in : Policy → Listed → List Finding
+abbrev pub undefined_in : Policy → MemberList → List Finding
 undefined_in p list =
     map (λ name. record { class = Undefined; place = list.place; kind = list.kind; name = name })
     (filter (λ name. is_none (in_force list.kind p name)) (names_used list.members))

@@ -1,6 +1,6 @@
 -- The position of the definition in force of each name: definitions that only the proofs of the index need.
 use Rattle.std.specs.Prelude.{◌≡◌, ℕ, List, Option, None, option_and_then, option_map, slice_get}
-use Rattle.sudo_base.specs.Places.{place_of}
+use Rattle.sudo_base.specs.NameIndices.{index_of}
 use Rattle.sudo_grammar.specs.declared.kind.Kind.{Kind}
 use Rattle.sudo_grammar.specs.declared.kind.Kind.TheVariants.{User, Runas, Host, Cmnd}
 use Rattle.sudo_grammar.specs.declared.kind.Member.{Member}
@@ -22,7 +22,7 @@ names_of index Cmnd = index.commands
 
 -- the position of a name's definition, by the index
 abbrev pub position_in : Index → Kind → List ℕ → Option Position
-position_in index kind name = option_and_then (slice_get index.positions.items) (place_of (names_of index kind) name)
+position_in index kind name = option_and_then (slice_get index.positions.items) (index_of (names_of index kind) name)
 
 abbrev pub definition_at_body : EntryBody → ℕ → Option (List Member)
 definition_at_body (Aliases kind definitions) at = option_map (λ (d : Definition). d.members) (slice_get definitions at)

@@ -8,7 +8,7 @@ use Rattle.sudo_grammar.specs.declared.policy.CommandSpec.{CommandSpec}
 use Rattle.sudo_grammar.specs.declared.policy.Policy.{Policy}
 use Rattle.sudo_grammar.specs.declared.policy.Runas.{Runas as RunasPart}
 use Rattle.sudo_grammar.specs.declared.policy.Section.{Section}
-use Rattle.sudo_policy.specs.Definitions.{lists, Listed}
+use Rattle.sudo_policy.specs.Definitions.{lists, MemberList}
 use Rattle.sudo_policy.specs.Following.{depth, reading_within}
 use Rattle.sudo_policy.specs.Written.{writing, Written, written}
 
@@ -18,11 +18,11 @@ resolves kind p ms = is_some (reading_within writing kind p 64 ms)
 
 -- every list of the policy resolves: those of rules, runas, bound `Defaults` lines and alias definitions
 unfoldable pub IsSound : Policy → Type 0
-IsSound p = IsTrue (list_all (λ (l : Listed). resolves l.kind p l.members) (lists p))
+IsSound p = IsTrue (list_all (λ (l : MemberList). resolves l.kind p l.members) (lists p))
 
 -- the written form of each list of the policy is `written`
 abbrev pub AreWritten : Policy → Type 0
-AreWritten p = (l : Listed) → Contains (lists p) l → Written l.kind p l.members (written l.kind p l.members)
+AreWritten p = (l : MemberList) → Contains (lists p) l → Written l.kind p l.members (written l.kind p l.members)
 
 -- the greatest value of f on the items, or 0
 abbrev pub greatest : {X : Type 0} → (X → ℕ) → List X → ℕ

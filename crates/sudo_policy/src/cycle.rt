@@ -4,7 +4,7 @@ ghost use Rattle.sudo_policy.specs.Body.Graph.{IsClosed, IsInside, MarksOf, Path
 ghost use Rattle.sudo_policy.specs.declared.graph.State.{State};
 ghost use Rattle.std.specs.Prelude.{Some, slice_get};
 ghost use Rattle.std.specs.List.{list_any};
-ghost use Rattle.sudo_policy.specs.Body.Marking.{AreSet, Decided, IsMarked, IsUnmarked, IsWhole, PathPast, RowTurned, TurnedTo};
+ghost use Rattle.sudo_policy.specs.Body.Marking.{AreSet, DecidesCycles, IsMarked, IsUnmarked, IsWhole, PathPast, ReversesRow, ReversesUpTo};
 
 use crate::graph::State;
 use crate::reach::spread;
@@ -75,8 +75,8 @@ fn decide_all(
     cyclic: &mut [bool],
 ) -> Result<(), AllocError>
     requires closed { IsClosed links.now }
-    requires turned { TurnedTo links.now (length links.now) back.now }
-    requires decided { Decided links.now done.old cyclic.old }
+    requires turned { ReversesUpTo links.now (length links.now) back.now }
+    requires decided { DecidesCycles links.now done.old cyclic.old }
     requires aside { aside.old ≡ replicate (length links.now) true }
     ensures { OnOk result (MarksOf (length links.now) (λ i. Path links.now i i) cyclic.new) }
 {
@@ -100,10 +100,10 @@ fn decide(
     cyclic: &mut [bool],
 ) -> Result<(), AllocError>
     requires closed { IsClosed links.now }
-    requires turned { TurnedTo links.now (length links.now) back.now }
-    requires decided { Decided links.now done.old cyclic.old }
+    requires turned { ReversesUpTo links.now (length links.now) back.now }
+    requires decided { DecidesCycles links.now done.old cyclic.old }
     requires aside { aside.old ≡ replicate (length links.now) true }
-    ensures decided { OnOk result (Decided links.now done.new cyclic.new) }
+    ensures decided { OnOk result (DecidesCycles links.now done.new cyclic.new) }
     ensures aside { OnOk result (aside.new ≡ aside.old) }
     ensures kept { OnOk result ((i : ℕ) → IsMarked done.old i → IsMarked done.new i) }
     ensures here { OnOk result (node < length links.now → IsMarked done.new node) }
@@ -131,7 +131,7 @@ fn round(
     aside: &mut [bool],
 ) -> Result<Vec<usize>, AllocError>
     requires closed { IsClosed links.now }
-    requires turned { TurnedTo links.now (length links.now) back.now }
+    requires turned { ReversesUpTo links.now (length links.now) back.now }
     requires sizes { length done.old ≡ length links.now }
     requires whole { IsWhole links.now done.old }
     requires new { IsUnmarked done.old node }
@@ -183,7 +183,7 @@ fn reversed(
     links: &[Seq<Option<usize>>],
 ) -> Result<Vec<Seq<Option<usize>>>, AllocError>
     requires closed { IsClosed links.now }
-    ensures { IfOk result (λ back. TurnedTo links.now (length links.now) back.items) }
+    ensures { IfOk result (λ back. ReversesUpTo links.now (length links.now) back.items) }
 {
     let mut back = Vec::new(alloc);
     for _ in 0..links.len() {
@@ -202,7 +202,7 @@ fn turn_row(
     back: &mut [Seq<Option<usize>>],
 ) -> Result<(), AllocError>
     requires inside { IsInside row.now (length back.old) }
-    ensures { OnOk result (RowTurned from row.now back.old back.new) }
+    ensures { OnOk result (ReversesRow from row.now back.old back.new) }
 {
     for link in row {
         turn_link(from, *link, back)?;
@@ -217,7 +217,7 @@ fn turn_link(
     back: &mut [Seq<Option<usize>>],
 ) -> Result<(), AllocError>
     requires inside { IsInside (link ∷ []) (length back.old) }
-    ensures { OnOk result (RowTurned from (link ∷ []) back.old back.new) }
+    ensures { OnOk result (ReversesRow from (link ∷ []) back.old back.new) }
 {
     if let Some(to) = link {
         back[to].push(Some(from))?;

@@ -6,9 +6,9 @@ ghost use Rattle.sudo_policy.specs.Definitions as policies;
 ghost use Rattle.std.specs.Prelude.{◌∷◌, []};
 ghost use Rattle.sudo_policy.specs.Found.{AreFindings, has_error};
 ghost use Rattle.sudo_policy.specs.Found as found;
-ghost use Rattle.sudo_policy.specs.Body.Judgement.{IsJudged, found_in, atom_missing, missing_in};
+ghost use Rattle.sudo_policy.specs.Body.Judgement.{AreAliasMarks, found_in, atom_missing, missing_in};
 ghost use Rattle.sudo_policy.specs.Body.Judgement as judgement;
-ghost use Rattle.sudo_policy.specs.Body.Named.{named_view, listed_view, IsSurvey, LeadsInside};
+ghost use Rattle.sudo_policy.specs.Body.DefinitionRef.{alias_view, list_view, IsSurvey, LeadsInside};
 ghost use Rattle.sudo_policy.specs.Positions.{IsIndex};
 ghost use Rattle.sudo_policy.specs.Resolving.{IsSound};
 
@@ -17,7 +17,7 @@ use crate::graph::{State, Visited, all_visited};
 use crate::index::Index;
 use crate::member::alias_name;
 use crate::reach::reached;
-use crate::survey::{Listed, Named, Survey, definitions, links, lists, roots, surveyed};
+use crate::survey::{MemberList, DefinitionRef, Survey, definitions, links, lists, roots, take_survey};
 use crate::{Class, Finding};
 use std::alloc::{AllocError, Global};
 use sudo_grammar::{Kind, Policy};
@@ -25,14 +25,14 @@ use sudo_text::{Place, Seq};
 
 /// The findings on a policy, with the index of its definitions.
 #[derive(Drop)]
-pub(crate) struct Examined {
+pub(crate) struct Examination {
     pub(crate) findings: Vec<Finding>,
     pub(crate) index: Index,
 }
 
 // For each alias in force, whether it is on a cycle, begins too long a chain, has too many members, or is unused.
 #[derive(Drop)]
-struct Judged {
+struct AliasMarks {
     cyclic: Vec<bool>,
     deep: Vec<bool>,
     wide: Vec<bool>,
@@ -46,12 +46,12 @@ struct Judged {
 pub fn findings(alloc: Global, policy: &Policy) -> Result<Vec<Finding>, AllocError>
     ensures { IfOk result (λ found. AreFindings policy.now found.items) }
 {
-    let Examined { findings, index: _ } = examine(alloc, policy)?;
+    let Examination { findings, index: _ } = examine(alloc, policy)?;
     Ok(findings)
 }
 
 /// Returns the findings on a policy, with the index of its definitions.
-pub(crate) fn examine(alloc: Global, policy: &Policy) -> Result<Examined, AllocError>
+pub(crate) fn examine(alloc: Global, policy: &Policy) -> Result<Examination, AllocError>
     ensures findings { IfOk result (λ examined. AreFindings policy.now examined.findings.items) }
     ensures index { IfOk result (λ examined. IsIndex policy.now examined.index) }
     ensures sound { IfOk result (λ examined. has_error examined.findings.items ≡ false
@@ -59,22 +59,22 @@ pub(crate) fn examine(alloc: Global, policy: &Policy) -> Result<Examined, AllocE
 {
     let all = definitions(alloc, policy)?;
     let lists = lists(alloc, policy)?;
-    let survey = surveyed(alloc, all.as_slice())?;
+    let survey = take_survey(alloc, all.as_slice())?;
     let judged = judge(alloc, &survey, lists.as_slice())?;
-    let findings = collected(alloc, &survey, lists.as_slice(), &judged)?;
+    let findings = collect_findings(alloc, &survey, lists.as_slice(), &judged)?;
     let Survey {
         aliases: _,
         redefinitions: _,
         index,
     } = survey;
-    Ok(Examined { findings, index })
+    Ok(Examination { findings, index })
 }
 
 // Judges each alias in force.
-fn judge(alloc: Global, survey: &Survey<'_>, lists: &[Listed<'_>]) -> Result<Judged, AllocError>
+fn judge(alloc: Global, survey: &Survey<'_>, lists: &[MemberList<'_>]) -> Result<AliasMarks, AllocError>
     requires inside { LeadsInside survey.now }
     ensures { IfOk result (λ judged. (p : Policy) → IsSurvey p (policies.definitions p) survey.now
-        → map listed_view lists.now ≡ policies.lists p → IsJudged p judged) }
+        → map list_view lists.now ≡ policies.lists p → AreAliasMarks p judged) }
 {
     let links = links(alloc, &survey.index, survey.aliases.as_slice())?;
     let Visited { states, looped } = all_visited(alloc, links.as_slice())?;
@@ -89,7 +89,7 @@ fn judge(alloc: Global, survey: &Survey<'_>, lists: &[Listed<'_>]) -> Result<Jud
     let roots = roots(alloc, &survey.index, lists)?;
     let used = reached(alloc, links.as_slice(), roots.as_slice())?;
     let unused = negated(alloc, used.as_slice())?;
-    Ok(Judged {
+    Ok(AliasMarks {
         cyclic,
         deep,
         wide,
@@ -138,15 +138,15 @@ fn negated(alloc: Global, marks: &[bool]) -> Result<Vec<bool>, AllocError>
 }
 
 // Returns the findings, class by class.
-fn collected(
+fn collect_findings(
     alloc: Global,
     survey: &Survey<'_>,
-    lists: &[Listed<'_>],
-    judged: &Judged,
+    lists: &[MemberList<'_>],
+    judged: &AliasMarks,
 ) -> Result<Vec<Finding>, AllocError>
     ensures { IfOk result (λ all. all.items ≡ found_in survey.now.index
-        (map named_view survey.now.aliases.items) (map named_view survey.now.redefinitions.items)
-        (map listed_view lists.now) judged.now) }
+        (map alias_view survey.now.aliases.items) (map alias_view survey.now.redefinitions.items)
+        (map list_view lists.now) judged.now) }
 {
     let aliases = survey.aliases.as_slice();
     let mut found = Vec::new(alloc);
@@ -184,8 +184,8 @@ fn collected(
 }
 
 // Returns a finding on a definition.
-fn finding_on(alloc: Global, class: Class, alias: &Named<'_>) -> Result<Finding, AllocError>
-    ensures { IfOk result (λ made. made ≡ found.finding_on class (named_view alias.now)) }
+fn finding_on(alloc: Global, class: Class, alias: &DefinitionRef<'_>) -> Result<Finding, AllocError>
+    ensures { IfOk result (λ made. made ≡ found.finding_on class (alias_view alias.now)) }
 {
     Ok(Finding {
         class,
@@ -198,12 +198,12 @@ fn finding_on(alloc: Global, class: Class, alias: &Named<'_>) -> Result<Finding,
 // Appends a finding for each further definition of a name.
 fn push_repeats(
     alloc: Global,
-    redefinitions: &[Named<'_>],
+    redefinitions: &[DefinitionRef<'_>],
     findings: &mut Vec<Finding>,
 ) -> Result<(), AllocError>
     ensures { OnOk result (findings.new.items
         ≡ findings.old.items ++ map (found.finding_on Class.Redefined)
-        (map named_view redefinitions.now)) }
+        (map alias_view redefinitions.now)) }
 {
     for alias in redefinitions {
         findings.push(finding_on(alloc, Class::Redefined, alias)?)?;
@@ -215,13 +215,13 @@ fn push_repeats(
 fn push_marked(
     alloc: Global,
     class: Class,
-    aliases: &[Named<'_>],
+    aliases: &[DefinitionRef<'_>],
     marks: &[bool],
     findings: &mut Vec<Finding>,
 ) -> Result<(), AllocError>
     ensures { OnOk result (findings.new.items
         ≡ findings.old.items ++ map (found.finding_on class)
-        (items_where_true marks.now (map named_view aliases.now))) }
+        (items_where_true marks.now (map alias_view aliases.now))) }
 {
     for (alias, mark) in aliases.iter().zip(marks) {
         push_if(alloc, class, alias, *mark, findings)?;
@@ -233,13 +233,13 @@ fn push_marked(
 fn push_if(
     alloc: Global,
     class: Class,
-    alias: &Named<'_>,
+    alias: &DefinitionRef<'_>,
     mark: bool,
     findings: &mut Vec<Finding>,
 ) -> Result<(), AllocError>
     ensures { OnOk result (findings.new.items
         ≡ findings.old.items ++ map (found.finding_on class)
-        (items_where_true (mark ∷ []) (named_view alias.now ∷ []))) }
+        (items_where_true (mark ∷ []) (alias_view alias.now ∷ []))) }
 {
     if mark {
         findings.push(finding_on(alloc, class, alias)?)?;
@@ -251,11 +251,11 @@ fn push_if(
 fn push_undefined(
     alloc: Global,
     index: &Index,
-    lists: &[Listed<'_>],
+    lists: &[MemberList<'_>],
     findings: &mut Vec<Finding>,
 ) -> Result<(), AllocError>
     ensures { OnOk result (findings.new.items
-        ≡ findings.old.items ++ flat_map (missing_in index.now) (map listed_view lists.now)) }
+        ≡ findings.old.items ++ flat_map (missing_in index.now) (map list_view lists.now)) }
 {
     for list in lists {
         push_uses(alloc, index, list, findings)?;
@@ -267,11 +267,11 @@ fn push_undefined(
 fn push_uses(
     alloc: Global,
     index: &Index,
-    list: &Listed<'_>,
+    list: &MemberList<'_>,
     findings: &mut Vec<Finding>,
 ) -> Result<(), AllocError>
     ensures { OnOk result (findings.new.items
-        ≡ findings.old.items ++ missing_in index.now (listed_view list.now)) }
+        ≡ findings.old.items ++ missing_in index.now (list_view list.now)) }
 {
     for member in list.members {
         push_use(

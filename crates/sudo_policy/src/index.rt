@@ -1,6 +1,6 @@
 //! An index of the definitions in force.
 ghost use Rattle.std.specs.Prelude.{◌≡◌, None, [], ◌∷◌, ◌++◌, false, OnOk, length, option_copied};
-ghost use Rattle.sudo_base.specs.Places.{place_of};
+ghost use Rattle.sudo_base.specs.NameIndices.{index_of};
 ghost use Rattle.sudo_grammar.specs.declared.kind.Kind.{Kind};
 ghost use Rattle.sudo_grammar.specs.Kinds.{same_kind};
 ghost use Rattle.sudo_policy.specs.Positions.{position_in, members_at, names_of};
@@ -49,7 +49,7 @@ impl Index {
         name: &[u8],
         position: Position,
     ) -> Result<(), AllocError>
-        requires { place_of (names_of self.old kind) name.now ≡ None }
+        requires { index_of (names_of self.old kind) name.now ≡ None }
         ensures names { OnOk result (names_of self.new kind
             ≡ names_of self.old kind ++ (name.now, length self.old.positions.items) ∷ []) }
         ensures others { OnOk result ((other : Kind) → same_kind other kind ≡ false
@@ -69,7 +69,7 @@ impl Index {
 
     /// Returns the number of the name's definition in force.
     pub(crate) fn number(&self, kind: Kind, name: &[u8]) -> Option<usize>
-        ensures { result ≡ place_of (names_of self.now kind) name.now }
+        ensures { result ≡ index_of (names_of self.now kind) name.now }
     {
         match kind {
             Kind::User => self.users.get(name),

@@ -1,7 +1,7 @@
 //! The aliases that links reach.
 ghost use Rattle.std.specs.Prelude.{◌≡◌, ◌↔◌, ◌∷◌, [], ℕ, true, Some, Contains, IfOk, OnOk, length};
 ghost use Rattle.sudo_policy.specs.Body.Graph.{IsClosed, IsInside, IsReached, MarksOf};
-ghost use Rattle.sudo_policy.specs.Body.Marking.{AreSet, Marked, ReachedPast};
+ghost use Rattle.sudo_policy.specs.Body.Marking.{AreSet, MarksRow, ReachedPast};
 
 use std::alloc::{AllocError, Global};
 use sudo_text::Seq;
@@ -53,7 +53,7 @@ fn mark_row(
     work: &mut Vec<usize>,
 ) -> Result<(), AllocError>
     requires inside { IsInside row.now (length marks.old) }
-    ensures { OnOk result (Marked row.now marks.old work.old.items marks.new work.new.items) }
+    ensures { OnOk result (MarksRow row.now marks.old work.old.items marks.new work.new.items) }
 {
     for link in row {
         mark_link(*link, marks, work)?;
@@ -68,7 +68,7 @@ fn mark_link(
     work: &mut Vec<usize>,
 ) -> Result<(), AllocError>
     requires inside { IsInside (link ∷ []) (length marks.old) }
-    ensures { OnOk result (Marked (link ∷ []) marks.old work.old.items marks.new work.new.items) }
+    ensures { OnOk result (MarksRow (link ∷ []) marks.old work.old.items marks.new work.new.items) }
 {
     let Some(alias) = link else {
         return Ok(());

@@ -1,8 +1,8 @@
 //! The definitions and the lists of a policy, in the order of the file.
 ghost use Rattle.std.specs.Prelude.{◌≡◌, ◌++◌, [], ◌∷◌, List, All, map, flat_map, IfOk, OnOk, Some, slice_get};
 ghost use Rattle.sudo_grammar.specs.declared.policy.Policy.{Policy};
-ghost use Rattle.sudo_policy.specs.Definitions.{Defined, definitions, definitions_of, definitions_of_list, lists, lists_of_body, lists_of_list, binding_lists_of, section_lists, command_lists, runas_lists, option_lists, granting_list};
-ghost use Rattle.sudo_policy.specs.Body.Named.{named_view, listed_view, row_of, row_of_alias, granting_row, IsSurvey, IsPlaced, StandAt};
+ghost use Rattle.sudo_policy.specs.Definitions.{AliasDefinition, definitions, definitions_of, definitions_of_list, lists, lists_of_body, lists_of_list, binding_lists_of, section_lists, command_lists, runas_lists, option_lists, granting_list};
+ghost use Rattle.sudo_policy.specs.Body.DefinitionRef.{alias_view, list_view, row_of, row_of_alias, granting_row, IsSurvey, IsPlaced, StandAt};
 
 use crate::index::{Index, Position};
 use crate::member::alias_name;
@@ -14,7 +14,7 @@ use sudo_text::{Place, Seq};
 
 /// A definition of an alias, and its position.
 #[derive(Clone, Copy)]
-pub(crate) struct Named<'a> {
+pub(crate) struct DefinitionRef<'a> {
     pub(crate) kind: Kind,
     pub(crate) place: Place,
     pub(crate) name: &'a [u8],
@@ -25,7 +25,7 @@ pub(crate) struct Named<'a> {
 /// A list of members: the kind of its members, the place of its line, and whether it belongs to a rule or to a bound
 /// `Defaults` line.
 #[derive(Clone, Copy)]
-pub(crate) struct Listed<'a> {
+pub(crate) struct MemberList<'a> {
     pub(crate) kind: Kind,
     pub(crate) place: Place,
     pub(crate) granting: bool,
@@ -33,8 +33,8 @@ pub(crate) struct Listed<'a> {
 }
 
 /// Returns every definition of the policy, in order.
-pub(crate) fn definitions(alloc: Global, policy: &Policy) -> Result<Vec<Named<'_>>, AllocError>
-    ensures all { IfOk result (λ all. map named_view all.items ≡ definitions policy.now) }
+pub(crate) fn definitions(alloc: Global, policy: &Policy) -> Result<Vec<DefinitionRef<'_>>, AllocError>
+    ensures all { IfOk result (λ all. map alias_view all.items ≡ definitions policy.now) }
     ensures placed { IfOk result (λ all. All (IsPlaced policy.now) all.items) }
 {
     let mut all = Vec::new(alloc);
@@ -45,11 +45,11 @@ pub(crate) fn definitions(alloc: Global, policy: &Policy) -> Result<Vec<Named<'_
 }
 
 // Appends the definitions of an entry.
-fn push_entry<'a>(entry: &'a Entry, at: usize, all: &mut Vec<Named<'a>>) -> Result<(), AllocError>
+fn push_entry<'a>(entry: &'a Entry, at: usize, all: &mut Vec<DefinitionRef<'a>>) -> Result<(), AllocError>
     ensures placed { OnOk result ((p : Policy) → slice_get p.entries at ≡ Some entry.now
         → All (IsPlaced p) all.old.items → All (IsPlaced p) all.new.items) }
-    ensures all { OnOk result (map named_view all.new.items
-        ≡ map named_view all.old.items ++ definitions_of entry.now) }
+    ensures all { OnOk result (map alias_view all.new.items
+        ≡ map alias_view all.old.items ++ definitions_of entry.now) }
 {
     match &entry.body {
         EntryBody::Aliases { kind, definitions } => {
@@ -68,15 +68,15 @@ fn push_definitions<'a>(
     place: Place,
     entry: usize,
     definitions: &'a [Definition],
-    all: &mut Vec<Named<'a>>,
+    all: &mut Vec<DefinitionRef<'a>>,
 ) -> Result<(), AllocError>
     ensures placed { OnOk result ((p : Policy) → StandAt p entry definitions.now
         → All (IsPlaced p) all.old.items → All (IsPlaced p) all.new.items) }
-    ensures all { OnOk result (map named_view all.new.items
-        ≡ map named_view all.old.items ++ definitions_of_list kind place definitions.now) }
+    ensures all { OnOk result (map alias_view all.new.items
+        ≡ map alias_view all.old.items ++ definitions_of_list kind place definitions.now) }
 {
     for (at, definition) in definitions.iter().enumerate() {
-        all.push(Named {
+        all.push(DefinitionRef {
             kind,
             place,
             name: definition.name.as_slice(),
@@ -91,8 +91,8 @@ fn push_definitions<'a>(
 }
 
 /// Returns every list of the policy, in order.
-pub(crate) fn lists(alloc: Global, policy: &Policy) -> Result<Vec<Listed<'_>>, AllocError>
-    ensures { IfOk result (λ all. map listed_view all.items ≡ lists policy.now) }
+pub(crate) fn lists(alloc: Global, policy: &Policy) -> Result<Vec<MemberList<'_>>, AllocError>
+    ensures { IfOk result (λ all. map list_view all.items ≡ lists policy.now) }
 {
     let mut all = Vec::new(alloc);
     for entry in policy.entries.as_slice() {
@@ -105,10 +105,10 @@ pub(crate) fn lists(alloc: Global, policy: &Policy) -> Result<Vec<Listed<'_>>, A
 fn push_lists<'a>(
     place: Place,
     body: &'a EntryBody,
-    all: &mut Vec<Listed<'a>>,
+    all: &mut Vec<MemberList<'a>>,
 ) -> Result<(), AllocError>
-    ensures { OnOk result (map listed_view all.new.items
-        ≡ map listed_view all.old.items ++ lists_of_body place body.now) }
+    ensures { OnOk result (map list_view all.new.items
+        ≡ map list_view all.old.items ++ lists_of_body place body.now) }
 {
     match body {
         EntryBody::Aliases { kind, definitions } => {
@@ -132,13 +132,13 @@ fn push_defined<'a>(
     kind: Kind,
     place: Place,
     definitions: &'a [Definition],
-    all: &mut Vec<Listed<'a>>,
+    all: &mut Vec<MemberList<'a>>,
 ) -> Result<(), AllocError>
-    ensures { OnOk result (map listed_view all.new.items
-        ≡ map listed_view all.old.items ++ lists_of_list kind place definitions.now) }
+    ensures { OnOk result (map list_view all.new.items
+        ≡ map list_view all.old.items ++ lists_of_list kind place definitions.now) }
 {
     for definition in definitions {
-        all.push(Listed {
+        all.push(MemberList {
             kind,
             place,
             granting: false,
@@ -153,12 +153,12 @@ fn push_granting<'a>(
     kind: Kind,
     place: Place,
     members: &'a [Member],
-    all: &mut Vec<Listed<'a>>,
+    all: &mut Vec<MemberList<'a>>,
 ) -> Result<(), AllocError>
-    ensures { OnOk result (map listed_view all.new.items
-        ≡ map listed_view all.old.items ++ granting_list kind place members.now ∷ []) }
+    ensures { OnOk result (map list_view all.new.items
+        ≡ map list_view all.old.items ++ granting_list kind place members.now ∷ []) }
 {
-    all.push(Listed {
+    all.push(MemberList {
         kind,
         place,
         granting: true,
@@ -171,10 +171,10 @@ fn push_granting<'a>(
 fn push_binding<'a>(
     place: Place,
     binding: &'a Binding,
-    all: &mut Vec<Listed<'a>>,
+    all: &mut Vec<MemberList<'a>>,
 ) -> Result<(), AllocError>
-    ensures { OnOk result (map listed_view all.new.items
-        ≡ map listed_view all.old.items ++ binding_lists_of place binding.now) }
+    ensures { OnOk result (map list_view all.new.items
+        ≡ map list_view all.old.items ++ binding_lists_of place binding.now) }
 {
     match binding {
         Binding::Hosts(members) => push_granting(Kind::Host, place, members.as_slice(), all),
@@ -188,10 +188,10 @@ fn push_binding<'a>(
 fn push_sections<'a>(
     place: Place,
     sections: &'a [Section],
-    all: &mut Vec<Listed<'a>>,
+    all: &mut Vec<MemberList<'a>>,
 ) -> Result<(), AllocError>
-    ensures { OnOk result (map listed_view all.new.items
-        ≡ map listed_view all.old.items ++ flat_map (section_lists place) sections.now) }
+    ensures { OnOk result (map list_view all.new.items
+        ≡ map list_view all.old.items ++ flat_map (section_lists place) sections.now) }
 {
     for section in sections {
         push_granting(Kind::Host, place, section.hosts.as_slice(), all)?;
@@ -204,10 +204,10 @@ fn push_sections<'a>(
 fn push_commands<'a>(
     place: Place,
     commands: &'a [CommandSpec],
-    all: &mut Vec<Listed<'a>>,
+    all: &mut Vec<MemberList<'a>>,
 ) -> Result<(), AllocError>
-    ensures { OnOk result (map listed_view all.new.items
-        ≡ map listed_view all.old.items ++ flat_map (command_lists place) commands.now) }
+    ensures { OnOk result (map list_view all.new.items
+        ≡ map list_view all.old.items ++ flat_map (command_lists place) commands.now) }
 {
     for command in commands {
         push_command(place, command, all)?;
@@ -219,10 +219,10 @@ fn push_commands<'a>(
 fn push_command<'a>(
     place: Place,
     command: &'a CommandSpec,
-    all: &mut Vec<Listed<'a>>,
+    all: &mut Vec<MemberList<'a>>,
 ) -> Result<(), AllocError>
-    ensures { OnOk result (map listed_view all.new.items
-        ≡ map listed_view all.old.items ++ command_lists place command.now) }
+    ensures { OnOk result (map list_view all.new.items
+        ≡ map list_view all.old.items ++ command_lists place command.now) }
 {
     push_runas(place, &command.runas, all)?;
     push_granting(
@@ -237,10 +237,10 @@ fn push_command<'a>(
 fn push_runas<'a>(
     place: Place,
     runas: &'a Option<Runas>,
-    all: &mut Vec<Listed<'a>>,
+    all: &mut Vec<MemberList<'a>>,
 ) -> Result<(), AllocError>
-    ensures { OnOk result (map listed_view all.new.items
-        ≡ map listed_view all.old.items ++ runas_lists place runas.now) }
+    ensures { OnOk result (map list_view all.new.items
+        ≡ map list_view all.old.items ++ runas_lists place runas.now) }
 {
     match runas {
         Some(runas) => {
@@ -255,10 +255,10 @@ fn push_runas<'a>(
 fn push_option<'a>(
     place: Place,
     members: &'a Option<Seq<Member>>,
-    all: &mut Vec<Listed<'a>>,
+    all: &mut Vec<MemberList<'a>>,
 ) -> Result<(), AllocError>
-    ensures { OnOk result (map listed_view all.new.items
-        ≡ map listed_view all.old.items ++ option_lists Kind.Runas place members.now) }
+    ensures { OnOk result (map list_view all.new.items
+        ≡ map list_view all.old.items ++ option_lists Kind.Runas place members.now) }
 {
     match members {
         Some(members) => push_granting(Kind::Runas, place, members.as_slice(), all),
@@ -270,17 +270,17 @@ fn push_option<'a>(
 /// names.
 #[derive(Drop)]
 pub(crate) struct Survey<'a> {
-    pub(crate) aliases: Vec<Named<'a>>,
-    pub(crate) redefinitions: Vec<Named<'a>>,
+    pub(crate) aliases: Vec<DefinitionRef<'a>>,
+    pub(crate) redefinitions: Vec<DefinitionRef<'a>>,
     pub(crate) index: Index,
 }
 
 impl<'a> Survey<'a> {
     // Adds a definition: to those in force if its name is new, otherwise to the redefinitions.
-    fn add(&mut self, alloc: Global, definition: Named<'a>) -> Result<(), AllocError>
-        ensures kept { OnOk result ((p : Policy) (done : List Defined)
+    fn add(&mut self, alloc: Global, definition: DefinitionRef<'a>) -> Result<(), AllocError>
+        ensures kept { OnOk result ((p : Policy) (done : List AliasDefinition)
             → IsPlaced p definition.entry → IsSurvey p done self.old → IsSurvey p
-            (done ++ named_view definition.entry ∷ []) self.new) }
+            (done ++ alias_view definition.entry ∷ []) self.new) }
     {
         match self.index.number(definition.kind, definition.name) {
             Some(_) => self.redefinitions.push(definition)?,
@@ -294,12 +294,12 @@ impl<'a> Survey<'a> {
 }
 
 /// Divides the definitions into those in force and the redefinitions.
-pub(crate) fn surveyed<'a>(
+pub(crate) fn take_survey<'a>(
     alloc: Global,
-    definitions: &[Named<'a>],
+    definitions: &[DefinitionRef<'a>],
 ) -> Result<Survey<'a>, AllocError>
     ensures { IfOk result (λ survey. (p : Policy) → All (IsPlaced p) definitions.now
-        → IsSurvey p (map named_view definitions.now) survey) }
+        → IsSurvey p (map alias_view definitions.now) survey) }
 {
     let mut survey = Survey {
         aliases: Vec::new(alloc),
@@ -316,10 +316,10 @@ pub(crate) fn surveyed<'a>(
 pub(crate) fn links(
     alloc: Global,
     index: &Index,
-    aliases: &[Named<'_>],
+    aliases: &[DefinitionRef<'_>],
 ) -> Result<Vec<Seq<Option<usize>>>, AllocError>
     ensures { IfOk result (λ rows. rows.items
-        ≡ map (row_of_alias index.now) (map named_view aliases.now)) }
+        ≡ map (row_of_alias index.now) (map alias_view aliases.now)) }
 {
     let mut rows = Vec::new(alloc);
     for alias in aliases {
@@ -352,10 +352,10 @@ pub(crate) fn row(
 pub(crate) fn roots(
     alloc: Global,
     index: &Index,
-    lists: &[Listed<'_>],
+    lists: &[MemberList<'_>],
 ) -> Result<Vec<Option<usize>>, AllocError>
     ensures { IfOk result (λ roots. roots.items
-        ≡ flat_map (granting_row index.now) (map listed_view lists.now)) }
+        ≡ flat_map (granting_row index.now) (map list_view lists.now)) }
 {
     let mut roots = Vec::new(alloc);
     for list in lists {
@@ -368,11 +368,11 @@ pub(crate) fn roots(
 fn push_roots(
     alloc: Global,
     index: &Index,
-    list: &Listed<'_>,
+    list: &MemberList<'_>,
     roots: &mut Vec<Option<usize>>,
 ) -> Result<(), AllocError>
     ensures { OnOk result (roots.new.items ≡ roots.old.items
-        ++ granting_row index.now (listed_view list.now)) }
+        ++ granting_row index.now (list_view list.now)) }
 {
     if list.granting {
         let row = row(alloc, index, list.kind, list.members)?;

@@ -6,7 +6,7 @@ use Rattle.std.proofs.lemmas.List.{append-nil}
 use Rattle.sudo_text.specs.declared.line.Line.{Line}
 use Rattle.sudo_text.specs.declared.fault.TextFault.{TextFault}
 use Rattle.sudo_text.specs.declared.fault.TextFault.TheVariants.{BadEscape}
-use Rattle.sudo_text.specs.Lines.{runs, is_cut_short, is_continued, ends_in_escape, without_escape, joined, joins_from, place, line_of, with_front, numbered, folded_from, physical_lines}
+use Rattle.sudo_text.specs.Lines.{runs, is_cut_short, is_continued, ends_in_escape, without_escape, joined, joins_from, place, line_of, with_front, lines_of_runs, logical_lines_from, physical_lines}
 
 -- The logical line that began at line `first` and has this text and these joins, gone on with by a run.
 abbrev pub line_onto : ℕ → ℕ → List ℕ → List ℕ → List (List ℕ) → Line
@@ -19,7 +19,7 @@ onto file short first at text joins [] = Ok []
 onto file short first at text joins (run ∷ []) =
     if short then Err (BadEscape (place file first) (length text + length (joined run))) else Ok (line_onto file first text joins run ∷ [])
 onto file short first at text joins (run ∷ next ∷ rest) =
-    with_front (line_onto file first text joins run ∷ []) (numbered file short (at + length run) (next ∷ rest))
+    with_front (line_onto file first text joins run ∷ []) (lines_of_runs file short (at + length run) (next ∷ rest))
 
 -- The same, from the physical line `line` at number `at`, which is continued or not, and those after it.
 unfoldable pub progress : ℕ → ℕ → ℕ → List ℕ → List ℕ → Bool → List ℕ → List (List ℕ) → Result (List Line) TextFault
@@ -37,26 +37,26 @@ first_run continuing line rest =
       | false ↦ ([], runs false rest, refl)
     ]
 
-from_start : (file : ℕ) (short : Bool) (first : ℕ) (rs : List (List (List ℕ))) → onto file short first first [] [] rs ≡ numbered file short first rs
+from_start : (file : ℕ) (short : Bool) (first : ℕ) (rs : List (List (List ℕ))) → onto file short first first [] [] rs ≡ lines_of_runs file short first rs
 from_start file short first [] = refl
 from_start file short first (r ∷ []) = ap (λ (n : ℕ). if short then Err (BadEscape (place file first) n) else Ok (line_of file first r ∷ [])) (zero-add (length (joined r)))
 from_start file short first (r ∷ s ∷ rs) = refl
 
 -- The loop begins with the first physical line.
-pub begins : (file first : ℕ) (line : List ℕ) (rest : List (List ℕ)) → progress file first first [] [] (is_continued false line) line rest ≡ folded_from file first (line ∷ rest)
+pub begins : (file first : ℕ) (line : List ℕ) (rest : List (List ℕ)) → progress file first first [] [] (is_continued false line) line rest ≡ logical_lines_from file first (line ∷ rest)
 unfolding progress
 begins file first line rest = from_start file (is_cut_short (is_continued false line) rest) first (runs false (line ∷ rest))
 
 -- A last line that is not continued ends the logical line.
 pub stops : (file first at : ℕ) (text joins line : List ℕ) (rest : List (List ℕ))
-    → progress file first at text joins false line rest ≡ with_front (record { first = place file first; text = text ++ line; joins = joins } ∷ []) (folded_from file (at + 1) rest)
+    → progress file first at text joins false line rest ≡ with_front (record { first = place file first; text = text ++ line; joins = joins } ∷ []) (logical_lines_from file (at + 1) rest)
 unfolding progress
 stops file first at text joins line [] = ap (λ (js : List ℕ). Ok (record { first = place file first; text = text ++ line; joins = js } ∷ [])) (append-nil joins)
 stops file first at text joins line (next ∷ rest) =
     let run = first_run false next rest in
     let short = is_cut_short false (next ∷ rest) in
-    subst (λ rs. onto file short first at text joins ((line ∷ []) ∷ rs) ≡ with_front (record { first = place file first; text = text ++ line; joins = joins } ∷ []) (numbered file short (at + 1) rs)) (sym run.2)
-    (ap (λ (js : List ℕ). with_front (record { first = place file first; text = text ++ line; joins = js } ∷ []) (numbered file short (at + 1) ((next ∷ run.0) ∷ run.1))) (append-nil joins))
+    subst (λ rs. onto file short first at text joins ((line ∷ []) ∷ rs) ≡ with_front (record { first = place file first; text = text ++ line; joins = joins } ∷ []) (lines_of_runs file short (at + 1) rs)) (sym run.2)
+    (ap (λ (js : List ℕ). with_front (record { first = place file first; text = text ++ line; joins = js } ∷ []) (lines_of_runs file short (at + 1) ((next ∷ run.0) ∷ run.1))) (append-nil joins))
 
 -- A continued line with nothing after it.
 pub cut_short : (file first at : ℕ) (text joins line : List ℕ) → progress file first at text joins true line [] ≡ Err (BadEscape (place file first) (length text + length line))
@@ -86,7 +86,7 @@ one_more file short first at text joins line next more [] =
 one_more file short first at text joins line next more (other ∷ others) =
     let l = line_more file first text joins line next more in
     let n : at + suc (suc (length more)) ≡ at + 1 + suc (length more) = omega arith in
-    λ i. with_front (l i ∷ []) (numbered file short (n i) (other ∷ others))
+    λ i. with_front (l i ∷ []) (lines_of_runs file short (n i) (other ∷ others))
 
 -- A continued line goes on with the next one.
 pub goes_on : (file first at : ℕ) (text joins line next : List ℕ) (rest : List (List ℕ))
@@ -126,7 +126,7 @@ turn file first at text text' joins joins' line next front after continued ends 
 -- What a last physical line gives.
 pub ending : (file first at : ℕ) (text text' joins line front : List ℕ) (continued : Bool) (total : Result (List Line) TextFault)
     → progress file first at text joins continued line (physical_lines front) ≡ total → continued ≡ false → text' ≡ text ++ line
-    → total ≡ with_front (record { first = place file first; text = text'; joins = joins } ∷ []) (folded_from file (at + 1) (physical_lines front))
+    → total ≡ with_front (record { first = place file first; text = text'; joins = joins } ∷ []) (logical_lines_from file (at + 1) (physical_lines front))
 ending file first at text text' joins line front continued total so_far off longer =
     let e = stops file first at text joins line (physical_lines front) in
     let a : progress file first at text joins false line (physical_lines front) ≡ total = subst (λ t. progress file first at text joins t line (physical_lines front) ≡ total) off so_far in

@@ -85,19 +85,19 @@ with_front front (Err fault) = Err fault
 
 -- the logical lines of the runs of a file, each with the number of its first physical line; if the last run is cut
 -- short, a fault at its last backslash, the last byte of its joined text
-abbrev pub numbered : ℕ → Bool → ℕ → List (List (List ℕ)) → Result (List Line) TextFault
-numbered file short number [] = Ok []
-numbered file short number (run ∷ []) =
+abbrev pub lines_of_runs : ℕ → Bool → ℕ → List (List (List ℕ)) → Result (List Line) TextFault
+lines_of_runs file short number [] = Ok []
+lines_of_runs file short number (run ∷ []) =
     if short then Err (BadEscape (place file number) (length (joined run))) else Ok (line_of file number run ∷ [])
-numbered file short number (run ∷ next ∷ rest) =
-    with_front (line_of file number run ∷ []) (numbered file short (number + length run) (next ∷ rest))
+lines_of_runs file short number (run ∷ next ∷ rest) =
+    with_front (line_of file number run ∷ []) (lines_of_runs file short (number + length run) (next ∷ rest))
 
 -- the logical lines of physical lines of a file, of which the first has this number
-abbrev pub folded_from : ℕ → ℕ → List (List ℕ) → Result (List Line) TextFault
-folded_from file number lines = numbered file (is_cut_short false lines) number (runs false lines)
+abbrev pub logical_lines_from : ℕ → ℕ → List (List ℕ) → Result (List Line) TextFault
+logical_lines_from file number lines = lines_of_runs file (is_cut_short false lines) number (runs false lines)
 
-abbrev pub folded : ℕ → List ℕ → Result (List Line) TextFault
-folded file text = folded_from file 1 (physical_lines text)
+abbrev pub logical_lines : ℕ → List ℕ → Result (List Line) TextFault
+logical_lines file text = logical_lines_from file 1 (physical_lines text)
 
 -- the greatest length of a text, in bytes
 abbrev pub text_limit : ℕ
@@ -105,4 +105,4 @@ text_limit = 16777216
 
 -- the logical lines of a file's text, or its fault
 abbrev pub lines_of : ℕ → List ℕ → Result (List Line) TextFault
-lines_of file text = if nat_lt text_limit (length text) then Err (TooLong file) else folded file text
+lines_of file text = if nat_lt text_limit (length text) then Err (TooLong file) else logical_lines file text

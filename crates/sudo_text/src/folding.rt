@@ -3,7 +3,7 @@ ghost use Rattle.std.specs.Prelude.{◌≡◌, ◌+◌, ◌^◌, ◌<◌, ◌≤
 ghost use Rattle.std.specs.List.{take_while};
 ghost use Rattle.sudo_text.specs.Faults.{Fails, Gives};
 ghost use Rattle.sudo_text.specs.Lines as spec;
-ghost use Rattle.sudo_text.specs.Lines.{cut, is_continued, physical_lines, folded_from, with_front, lines_of};
+ghost use Rattle.sudo_text.specs.Lines.{cut, is_continued, physical_lines, logical_lines_from, with_front, lines_of};
 
 use crate::bytes::{blank_count, is_digit, is_include, peek};
 use crate::{Line, Place, TextFault};
@@ -100,10 +100,10 @@ fn logical_line(
 ) -> Result<(Line, &[u8], u32), TextFault>
     requires some { 0 < length text.now }
     requires fits { first + length text.now < 2 ^ 32 }
-    ensures folded { MatchResult result
-        (λ x. folded_from file first (physical_lines text.now)
-        ≡ with_front (x.0 ∷ []) (folded_from file x.2 (physical_lines x.1.now)))
-        (λ fault. Fails fault (folded_from file first (physical_lines text.now))) }
+    ensures logical_lines { MatchResult result
+        (λ x. logical_lines_from file first (physical_lines text.now)
+        ≡ with_front (x.0 ∷ []) (logical_lines_from file x.2 (physical_lines x.1.now)))
+        (λ fault. Fails fault (logical_lines_from file first (physical_lines text.now))) }
     ensures shorter { IfOk result (λ x. length x.1.now < length text.now) }
     ensures short { IfOk result (λ x. length x.0.text ≤ length text.now) }
     ensures numbers { IfOk result (λ x. x.2 + length x.1.now ≤ first + length text.now) }

@@ -19,7 +19,7 @@ use Rattle.sudo_match.specs.declared.request.Verdict.{Verdict}
 use Rattle.sudo_match.specs.declared.request.Verdict.TheVariants.{NoMatch, Unknown}
 use Rattle.sudo_match.specs.declared.request.Request.{Request}
 use Rattle.sudo_match.specs.declared.request.What.{What}
-use Rattle.sudo_match.specs.Known.{Known}
+use Rattle.sudo_match.specs.KnownRows.{KnownRows}
 use Rattle.sudo_grammar.specs.declared.policy.Runas.{Runas}
 use Rattle.std.proofs.Common.{Ok, Err, length-append, add-one}
 use Rattle.std.proofs.lemmas.Bool.{and_parts}
@@ -33,7 +33,7 @@ use Rattle.sudo_verdict.specs.Tagged.{tags_at, runas_at, tags_before, runas_befo
 use Rattle.sudo_verdict.specs.Decided.{decided, decided_in, decision_of}
 use Rattle.sudo_verdict.specs.Questions.{Question}
 use Rattle.sudo_verdict.specs.Grants.{Grant, applies, grant_of, place_grants, section_grants, body_grants, entry_grants, grants}
-use Rattle.sudo_verdict.specs.RunasForms.{runas_holds}
+use Rattle.sudo_verdict.specs.RunasForms.{runas_allows}
 use Rattle.sudo_verdict.specs.Values.{user_listed, host_listed}
 use Rattle.sudo_verdict.specs.Verdicts.{verdict_by, verdict_on, verdict_if_any, verdict_if_known, verdict_of}
 use Rattle.sudo_verdict.specs.Questions.{question_of}
@@ -60,20 +60,20 @@ module _ (p : Policy) (q : Question) where
 
   module _ (place : Place) (users : List Member) (s : Section) where
     -- a grant of a place applies where the lists and the runas do, and its atom matches
-    place_applies : (i : ℕ) (w : Signed) → applies p q (grant_of place users s i w) ≡ (((user_listed p users q && host_listed p s.hosts q) && runas_holds p q (runas_at s.commands i)) && command_fits w.atom q.command q.arguments)
+    place_applies : (i : ℕ) (w : Signed) → applies p q (grant_of place users s i w) ≡ (((user_listed p users q && host_listed p s.hosts q) && runas_allows p q (runas_at s.commands i)) && command_fits w.atom q.command q.arguments)
     unfolding applies
     place_applies i w = refl
 
     found_at : (i : ℕ) (c : CommandSpec) → found p q (place_grants p place users s (i, c))
-        ≡ cond ((user_listed p users q && host_listed p s.hosts q) && runas_holds p q (runas_at s.commands i))
+        ≡ cond ((user_listed p users q && host_listed p s.hosts q) && runas_allows p q (runas_at s.commands i))
         (option_map (verdict_from place (tags_at s.commands i)) (decided kind.Cmnd p (c.command ∷ []) (λ a. command_fits a q.command q.arguments)))
         None
     unfolding found place_grants decided decided_in
     found_at i c =
         ap (option_map verdict_by)
-        (last_that_map ((user_listed p users q && host_listed p s.hosts q) && runas_holds p q (runas_at s.commands i)) (λ w. command_fits w.atom q.command q.arguments) (applies p q) (grant_of place users s i) (place_applies i) (written kind.Cmnd p (c.command ∷ [])))
-        ∙ option_map_cond ((user_listed p users q && host_listed p s.hosts q) && runas_holds p q (runas_at s.commands i)) verdict_by _
-        ∙ ap (λ o. cond ((user_listed p users q && host_listed p s.hosts q) && runas_holds p q (runas_at s.commands i)) o None)
+        (last_that_map ((user_listed p users q && host_listed p s.hosts q) && runas_allows p q (runas_at s.commands i)) (λ w. command_fits w.atom q.command q.arguments) (applies p q) (grant_of place users s i) (place_applies i) (written kind.Cmnd p (c.command ∷ [])))
+        ∙ option_map_cond ((user_listed p users q && host_listed p s.hosts q) && runas_allows p q (runas_at s.commands i)) verdict_by _
+        ∙ ap (λ o. cond ((user_listed p users q && host_listed p s.hosts q) && runas_allows p q (runas_at s.commands i)) o None)
         (option_map_map (grant_of place users s i) verdict_by _ ∙ sym (option_map_map decision_of (verdict_from place (tags_at s.commands i)) _))
 
 or_cond : {X : Type 0} (b : Bool) (x y : Option X) → option_or (cond b x None) (cond b y None) ≡ cond b (option_or x y) None
@@ -111,7 +111,7 @@ module _ (p : Policy) (q : Question) (place : Place) (users : List Member) where
   found_place s n (Some c) =
       ap (found p q) (append-nil (place_grants p place users s (n, c)))
       ∙ found_at p q place users s n c
-      ∙ and_cond (user_listed p users q && host_listed p s.hosts q) (runas_holds p q (runas_at s.commands n)) _
+      ∙ and_cond (user_listed p users q && host_listed p s.hosts q) (runas_allows p q (runas_at s.commands n)) _
 
   -- the grants of the commands before command n
   abbrev grants_before : Section → ℕ → List Grant
@@ -215,11 +215,11 @@ module _ (p : Policy) (q : Question) (place : Place) (cs left rest : List Comman
 -- the commands before the last share its runas where it has none of its own
 pub refused_rest : (p : Policy) (q : Question) (left rest : List CommandSpec) (c : CommandSpec) → left ≡ rest ++ c ∷ []
     → (refused shared : Bool) → is_some c.runas ≡ not shared → (refused && shared) ≡ true
-    → (refused ≡ true → runas_holds p q (runas_before left) ≡ false) → runas_holds p q (runas_before rest) ≡ false
+    → (refused ≡ true → runas_allows p q (runas_before left) ≡ false) → runas_allows p q (runas_before rest) ≡ false
 unfolding runas_before
 refused_rest p q left rest c is refused shared own h known =
     let parts = and_parts refused shared h in
-    ap (runas_holds p q)
+    ap (runas_allows p q)
     (sym (ap (λ l. last_set (map (λ (s : CommandSpec). s.runas) l)) is
     ∙ last_set_map_push (λ (s : CommandSpec). s.runas) rest c
     ∙ ap (λ o. option_or o (last_set (map (λ (s : CommandSpec). s.runas) rest))) (none_there c.runas shared own parts.1)))
@@ -237,8 +237,8 @@ pub place_silent : (p : Policy) (q : Question) (place : Place) (cs : List Comman
     → None ≡ decided kind.Cmnd p (c.command ∷ []) (λ a. command_fits a q.command q.arguments) → None ≡ command_found p q place cs c
 unfolding command_found
 place_silent p q place cs c e =
-    nothing (runas_holds p q (runas_before cs))
-    ∙ ap (λ o. cond (runas_holds p q (runas_before cs)) (option_map (verdict_from place (tags_before cs)) o) None) e
+    nothing (runas_allows p q (runas_before cs))
+    ∙ ap (λ o. cond (runas_allows p q (runas_before cs)) (option_map (verdict_from place (tags_before cs)) o) None) e
 
 either_resolves : (p : Policy) (a b : Option Runas) → runas_resolves p a ≡ true → runas_resolves p b ≡ true → runas_resolves p (option_or a b) ≡ true
 either_resolves p None b h k = k
@@ -252,11 +252,11 @@ runas_before_resolves p (c ∷ cs) h =
     in either_resolves p _ c.runas (runas_before_resolves p cs t.1) (and_parts (resolves kind.Cmnd p (c.command ∷ [])) (runas_resolves p c.runas) t.0).1
 
 -- The verdict by the search, where the names are known, and where one is not.
-pub verdict_of_found : (p : Policy) (d : Known) (r : Request) (q : Question) (o : Option Verdict) → question_of d r ≡ Ok q → o ≡ last_set (map (entry_found p q) p.entries) → unwrap_or o NoMatch ≡ verdict_of p d r
+pub verdict_of_found : (p : Policy) (d : KnownRows) (r : Request) (q : Question) (o : Option Verdict) → question_of d r ≡ Ok q → o ≡ last_set (map (entry_found p q) p.entries) → unwrap_or o NoMatch ≡ verdict_of p d r
 unfolding verdict_of
 verdict_of_found p d r q o known e =
     ap (λ x. unwrap_or x NoMatch) e ∙ sym (verdict_found p q) ∙ ap (verdict_if_known p) (sym known)
 
-pub verdict_of_unknown : (p : Policy) (d : Known) (r : Request) (w : What) → question_of d r ≡ Err w → Unknown w ≡ verdict_of p d r
+pub verdict_of_unknown : (p : Policy) (d : KnownRows) (r : Request) (w : What) → question_of d r ≡ Err w → Unknown w ≡ verdict_of p d r
 unfolding verdict_of
 verdict_of_unknown p d r w unknown = ap (verdict_if_known p) (sym unknown)

@@ -17,14 +17,14 @@ use Rattle.std.proofs.lemmas.Bool.{cases_lt}
 use Rattle.sudo_verdict.specs.Questions.{Question}
 use Rattle.sudo_verdict.specs.Decided.{decided}
 use Rattle.sudo_verdict.specs.Values.{allows, user_listed, host_listed}
-use Rattle.sudo_verdict.specs.RunasForms.{runas_holds}
+use Rattle.sudo_verdict.specs.RunasForms.{runas_allows}
 use Rattle.sudo_verdict.specs.Tagged.{tags_before, runas_before}
 use Rattle.sudo_verdict.specs.Found.{verdict_from, command_found, found_if_any, commands_found, section_found, rule_found, body_found, entry_found}
 use Rattle.sudo_verdict.specs.Last.{last_set}
 use Rattle.sudo_verdict.specs.Postings.{Rows, posted, atom_number, Grows, Covers, misses_user, misses_command}
 use Rattle.sudo_verdict.specs.Body.Silence.{IsSilent, CommandsSilent, SectionsSilent, EntrySilent}
 use Rattle.sudo_verdict.proofs.Deciding.{value_decided}
-use Rattle.sudo_verdict.proofs.Misses.{misses-atom, misses-never, misses-old}
+use Rattle.sudo_verdict.proofs.IsMissing.{misses-atom, misses-never, misses-old}
 use Rattle.sudo_verdict.proofs.Paths.{misses-command_atom, misses-everyone, misses-command_old}
 
 never : (a b : Bool) → (a ≡ true → b ≡ true) → b ≡ false → a ≡ false
@@ -97,8 +97,8 @@ module _ (p : Policy) (q : Question) (place : Place) where
       command_found p q place before c ≡ None
   unfolding command_found
   command-silent before c none =
-      ap (λ o. cond (runas_holds p q (runas_before before)) (option_map (verdict_from place (tags_before before)) o) None) none
-      ∙ cond-none (runas_holds p q (runas_before before))
+      ap (λ o. cond (runas_allows p q (runas_before before)) (option_map (verdict_from place (tags_before before)) o) None) none
+      ∙ cond-none (runas_allows p q (runas_before before))
 
   commands-silent : (commands : List CommandSpec) → CommandsSilent p (λ a. command_fits a q.command q.arguments) commands → (n : ℕ) →
       commands_found p q place commands n ≡ None

@@ -19,7 +19,7 @@ use Rattle.sudo_verdict.specs.Tagged.{tags_before, runas_before}
 use Rattle.sudo_verdict.specs.Decided.{decided}
 use Rattle.sudo_verdict.specs.Questions.{Question}
 use Rattle.sudo_verdict.specs.Values.{user_listed, host_listed}
-use Rattle.sudo_verdict.specs.RunasForms.{runas_holds}
+use Rattle.sudo_verdict.specs.RunasForms.{runas_allows}
 use Rattle.sudo_verdict.specs.Grants.{Grant, applies}
 use Rattle.sudo_verdict.specs.Verdicts.{decided_by, verdict_by}
 
@@ -33,7 +33,7 @@ verdict_from place tags d = decided_by place tags d.negated d.all
 -- at the last of these commands, which is c
 unfoldable pub command_found : Policy → Question → Place → List CommandSpec → CommandSpec → Option Verdict
 command_found p q place before c =
-    cond (runas_holds p q (runas_before before))
+    cond (runas_allows p q (runas_before before))
     (option_map (verdict_from place (tags_before before)) (decided kind.Cmnd p (c.command ∷ []) (λ a. command_fits a q.command q.arguments)))
     None
 

@@ -19,7 +19,7 @@ use Rattle.sudo_match.specs.Matching.{command_fits}
 use Rattle.sudo_verdict.specs.Tagged.{tags_at, runas_at}
 use Rattle.sudo_verdict.specs.Questions.{Question}
 use Rattle.sudo_verdict.specs.Values.{user_listed, host_listed}
-use Rattle.sudo_verdict.specs.RunasForms.{runas_holds}
+use Rattle.sudo_verdict.specs.RunasForms.{runas_allows}
 
 -- one written-out command, with its users, hosts, runas and tags
 pub record Grant : Type 0 where
@@ -65,5 +65,5 @@ grants p = flat_map (entry_grants p) p.entries
 -- a grant applies: the user list and the host list allow, the runas allows, and the atom matches
 unfoldable pub applies : Policy → Question → Grant → Bool
 applies p q g =
-    ((user_listed p g.users q && host_listed p g.hosts q) && runas_holds p q g.runas)
+    ((user_listed p g.users q && host_listed p g.hosts q) && runas_allows p q g.runas)
     && command_fits g.atom q.command q.arguments

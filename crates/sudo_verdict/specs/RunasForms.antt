@@ -37,39 +37,39 @@ abbrev pub target_value : Policy → List Member → Person → Option Bool
 target_value p users t = value kind.Runas p users (λ a. user_fits a t)
 
 -- (users): the list allows the target, who has the group asked for
-abbrev pub users_hold : Policy → Question → List Member → Option Person → Bool
-users_hold p q users None = false
-users_hold p q users (Some t) = allows (target_value p users t) && has_asked t q.group
+abbrev pub users_allow : Policy → Question → List Member → Option Person → Bool
+users_allow p q users None = false
+users_allow p q users (Some t) = allows (target_value p users t) && has_asked t q.group
 
 -- (users:groups): the list allows the target, or has no value for the target if that is the invoking user and a group
 -- is asked for; and the group list allows the group, or has no value for it and the target has it
-abbrev pub users_and_groups_hold : Policy → Question → List Member → List Member → Option Person → Bool
-users_and_groups_hold p q users groups None = false
-users_and_groups_hold p q users groups (Some t) =
+abbrev pub users_and_groups_allow : Policy → Question → List Member → List Member → Option Person → Bool
+users_and_groups_allow p q users groups None = false
+users_and_groups_allow p q users groups (Some t) =
     unwrap_or (target_value p users t) (is_some q.group && is_same_user t q.user) && group_allowed p groups t q.group
 
 -- (:groups): the command runs as the invoking user; the group list allows the group, or has no value for it and the
 -- user has it
-abbrev pub groups_hold : Policy → Question → List Member → Bool
-groups_hold p q groups = is_own q.user q.asked && group_allowed p groups q.user q.group
+abbrev pub groups_allow : Policy → Question → List Member → Bool
+groups_allow p q groups = is_own q.user q.asked && group_allowed p groups q.user q.group
 
 -- (): the command runs as the invoking user, with a group of that user
-abbrev pub own_holds : Question → Bool
-own_holds q = is_own q.user q.asked && has_asked q.user q.group
+abbrev pub self_allowed : Question → Bool
+self_allowed q = is_own q.user q.asked && has_asked q.user q.group
 
 -- without parentheses: as root, with a group of root
-abbrev pub root_holds : Question → Option Person → Bool
-root_holds q None = false
-root_holds q (Some t) = bytes_eq t.name (codes "root") && has_asked t q.group
+abbrev pub root_allowed : Question → Option Person → Bool
+root_allowed q None = false
+root_allowed q (Some t) = bytes_eq t.name (codes "root") && has_asked t q.group
 
 -- the four forms in parentheses
-unfoldable pub form_holds : Policy → Question → Option (List Member) → Option (List Member) → Bool
-form_holds p q (Some users) (Some groups) = users_and_groups_hold p q users groups q.target
-form_holds p q (Some users) None = users_hold p q users q.target
-form_holds p q None (Some groups) = groups_hold p q groups
-form_holds p q None None = own_holds q
+unfoldable pub form_allows : Policy → Question → Option (List Member) → Option (List Member) → Bool
+form_allows p q (Some users) (Some groups) = users_and_groups_allow p q users groups q.target
+form_allows p q (Some users) None = users_allow p q users q.target
+form_allows p q None (Some groups) = groups_allow p q groups
+form_allows p q None None = self_allowed q
 
 -- a runas, or its absence, allows the command to run as the user and the group asked for
-unfoldable pub runas_holds : Policy → Question → Option Runas → Bool
-runas_holds p q None = root_holds q q.target
-runas_holds p q (Some r) = form_holds p q r.users r.groups
+unfoldable pub runas_allows : Policy → Question → Option Runas → Bool
+runas_allows p q None = root_allowed q q.target
+runas_allows p q (Some r) = form_allows p q r.users r.groups

@@ -7,7 +7,7 @@ use Rattle.sudo_match.specs.declared.request.Tags.{Tags}
 use Rattle.sudo_match.specs.declared.request.What.{What}
 use Rattle.sudo_match.specs.declared.request.Verdict.{Verdict}
 use Rattle.sudo_match.specs.declared.request.Verdict.TheVariants.{Allow, Deny, NoMatch, Unknown}
-use Rattle.sudo_match.specs.Known.{Known}
+use Rattle.sudo_match.specs.KnownRows.{KnownRows}
 use Rattle.sudo_verdict.specs.Last.{last_that}
 use Rattle.sudo_verdict.specs.Tagged.{tags_given}
 use Rattle.sudo_verdict.specs.Questions.{Question, question_of}
@@ -36,5 +36,5 @@ verdict_if_known p (Ok q) = verdict_on p q
 
 -- the verdict on a request: the first unknown name, of the user, the host, the target and the group; otherwise the
 -- verdict of the last grant that applies
-unfoldable pub verdict_of : Policy → Known → Request → Verdict
+unfoldable pub verdict_of : Policy → KnownRows → Request → Verdict
 verdict_of p d r = verdict_if_known p (question_of d r)

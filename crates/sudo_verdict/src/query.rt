@@ -3,7 +3,7 @@
 ghost use Rattle.std.specs.Prelude.{◌≡◌, ◌∷◌, [], IsTrue, Option, Some, None, MatchResult, Ok, Err, option_copied, is_some, unwrap_or, bytes_eq, codes};
 ghost use Rattle.sudo_grammar.specs.declared.kind.Kind.TheVariants as kind;
 ghost use Rattle.sudo_policy.specs.Resolving.{resolves, list_resolves, runas_resolves};
-ghost use Rattle.sudo_match.specs.Known.{user_named};
+ghost use Rattle.sudo_match.specs.KnownRows.{user_named};
 ghost use Rattle.sudo_verdict.specs.Values as values;
 ghost use Rattle.sudo_verdict.specs.RunasForms as form;
 ghost use Rattle.sudo_verdict.specs.Questions.{question_of, target_of};
@@ -107,20 +107,20 @@ impl Query<'_> {
     }
 
     /// Whether a runas, or its absence, allows the command to run as the target and the group asked for.
-    #[tactic(auto, unfolding(crate::specs::RunasForms::runas_holds))]
-    pub(crate) fn runas_holds(&self, checked: &Checked, runas: Option<&Runas>) -> bool
+    #[tactic(auto, unfolding(crate::specs::RunasForms::runas_allows))]
+    pub(crate) fn runas_allows(&self, checked: &Checked, runas: Option<&Runas>) -> bool
         requires { IsTrue (runas_resolves checked.now (option_copied runas)) }
-        ensures { result ≡ form.runas_holds checked.now (question self.now)
+        ensures { result ≡ form.runas_allows checked.now (question self.now)
             (option_copied runas.entry) }
     {
         match runas {
-            None => self.root_holds(),
-            Some(runas) => self.form_holds(checked, &runas.users, &runas.groups),
+            None => self.root_allowed(),
+            Some(runas) => self.form_allows(checked, &runas.users, &runas.groups),
         }
     }
 
-    #[tactic(auto, unfolding(crate::specs::RunasForms::form_holds))]
-    fn form_holds(
+    #[tactic(auto, unfolding(crate::specs::RunasForms::form_allows))]
+    fn form_allows(
         &self,
         checked: &Checked,
         users: &Option<Seq<Member>>,
@@ -128,25 +128,25 @@ impl Query<'_> {
     ) -> bool
         requires users { IsTrue (list_resolves checked.now users.now) }
         requires groups { IsTrue (list_resolves checked.now groups.now) }
-        ensures { result ≡ form.form_holds checked.now (question self.now) users.now groups.now }
+        ensures { result ≡ form.form_allows checked.now (question self.now) users.now groups.now }
     {
         match (users, groups) {
-            (Some(users), Some(groups)) => self.users_and_groups_hold(
+            (Some(users), Some(groups)) => self.users_and_groups_allow(
                 checked,
                 users.as_slice(),
                 groups.as_slice(),
             ),
-            (Some(users), None) => self.users_hold(checked, users.as_slice()),
-            (None, Some(groups)) => self.groups_hold(checked, groups.as_slice()),
-            (None, None) => self.own_holds(),
+            (Some(users), None) => self.users_allow(checked, users.as_slice()),
+            (None, Some(groups)) => self.groups_allow(checked, groups.as_slice()),
+            (None, None) => self.self_allowed(),
         }
     }
 
     // Whether the form `(users:groups)` allows it.
-    fn users_and_groups_hold(&self, checked: &Checked, users: &[Member], groups: &[Member]) -> bool
+    fn users_and_groups_allow(&self, checked: &Checked, users: &[Member], groups: &[Member]) -> bool
         requires users { IsTrue (resolves kind.Runas checked.now users.now) }
         requires groups { IsTrue (resolves kind.Runas checked.now groups.now) }
-        ensures { result ≡ form.users_and_groups_hold checked.now
+        ensures { result ≡ form.users_and_groups_allow checked.now
             (question self.now) users.now groups.now (question self.now).target }
     {
         let Some(target) = self.target else {
@@ -160,9 +160,9 @@ impl Query<'_> {
     }
 
     // Whether the form `(users)` allows it.
-    fn users_hold(&self, checked: &Checked, users: &[Member]) -> bool
+    fn users_allow(&self, checked: &Checked, users: &[Member]) -> bool
         requires { IsTrue (resolves kind.Runas checked.now users.now) }
-        ensures { result ≡ form.users_hold checked.now (question self.now) users.now
+        ensures { result ≡ form.users_allow checked.now (question self.now) users.now
             (question self.now).target }
     {
         let Some(target) = self.target else {
@@ -172,23 +172,23 @@ impl Query<'_> {
     }
 
     // Whether the form `(:groups)` allows it.
-    fn groups_hold(&self, checked: &Checked, groups: &[Member]) -> bool
+    fn groups_allow(&self, checked: &Checked, groups: &[Member]) -> bool
         requires { IsTrue (resolves kind.Runas checked.now groups.now) }
-        ensures { result ≡ form.groups_hold checked.now (question self.now) groups.now }
+        ensures { result ≡ form.groups_allow checked.now (question self.now) groups.now }
     {
         is_own(self.user, self.asked) && group_allowed(checked, self.user, groups, self.group)
     }
 
     /// Whether the form `()` allows it.
-    pub(crate) fn own_holds(&self) -> bool
-        ensures { result ≡ form.own_holds (question self.now) }
+    pub(crate) fn self_allowed(&self) -> bool
+        ensures { result ≡ form.self_allowed (question self.now) }
     {
         is_own(self.user, self.asked) && has_asked(self.user, self.group)
     }
 
     /// Whether the absence of a runas allows it.
-    pub(crate) fn root_holds(&self) -> bool
-        ensures { result ≡ form.root_holds (question self.now) (question self.now).target }
+    pub(crate) fn root_allowed(&self) -> bool
+        ensures { result ≡ form.root_allowed (question self.now) (question self.now).target }
     {
         let Some(target) = self.target else {
             return false;

@@ -5,7 +5,7 @@ ghost use Rattle.std.specs.List.{list_all};
 ghost use Rattle.sudo_policy.specs.Resolving.{section_resolves, command_resolves};
 ghost use Rattle.sudo_verdict.specs.Last.{last_set};
 ghost use Rattle.sudo_verdict.specs.Tagged.{runas_before, tags_before};
-ghost use Rattle.sudo_verdict.specs.RunasForms.{runas_holds};
+ghost use Rattle.sudo_verdict.specs.RunasForms.{runas_allows};
 ghost use Rattle.sudo_verdict.specs.Body.Queries.{question};
 ghost use Rattle.sudo_verdict.specs.Verdicts.{verdict_of};
 ghost use Rattle.sudo_verdict.specs.Body.Resolved.{body_resolves};
@@ -147,11 +147,11 @@ fn search_command(
 ) -> Examined
     requires all { IsTrue (list_all (command_resolves checked.now) commands.now) }
     requires last { IsTrue (command_resolves checked.now spec.now) }
-    requires refused { refused ≡ true → runas_holds checked.now (question query.now)
+    requires refused { refused ≡ true → runas_allows checked.now (question query.now)
         (runas_before commands.now) ≡ false }
     ensures verdict { result.verdict ≡ command_found checked.now
         (question query.now) place commands.now spec.now }
-    ensures refused { result.refused ≡ true → runas_holds checked.now (question query.now)
+    ensures refused { result.refused ≡ true → runas_allows checked.now (question query.now)
         (runas_before commands.now) ≡ false }
 {
     if refused {
@@ -170,7 +170,7 @@ fn search_command(
             refused,
         };
     };
-    if query.runas_holds(checked, runas_before_end(commands)) {
+    if query.runas_allows(checked, runas_before_end(commands)) {
         Examined {
             verdict: Some(verdict_at(place, commands, decision)),
             refused,

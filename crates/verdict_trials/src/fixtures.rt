@@ -52,7 +52,7 @@ pub(crate) fn requests(alloc: Global, lines: &str) -> Result<Seq<Request>, Fail>
 }
 
 /// Returns the verdict of the three bodies, by the index, by the search and by listing. Fails if they differ.
-pub(crate) fn said(
+pub(crate) fn verdict_of_bodies(
     alloc: Global,
     checked: &Checked,
     directory: &Directory,
@@ -151,7 +151,7 @@ fn verdicts(
     let requests = requests(alloc, lines)?;
     let mut text = String::new(alloc);
     for request in requests.as_slice() {
-        append(alloc, &mut text, said(alloc, &checked, directory, request)?)?;
+        append(alloc, &mut text, verdict_of_bodies(alloc, &checked, directory, request)?)?;
     }
     Ok(text)
 }

@@ -164,7 +164,7 @@ fn group_holds(
 }
 
 // Whether a runas allows the request: the four forms of sudoers(5), "Runas_Spec", and root without a runas.
-fn runas_holds(
+fn runas_allows(
     alloc: Global,
     checked: &Checked,
     asked: &Asked<'_>,
@@ -210,7 +210,7 @@ fn command_said(
     tags: Tags,
     runas: Option<&Runas>,
 ) -> Result<Option<Verdict>, AllocError> {
-    if !runas_holds(alloc, checked, asked, runas)? {
+    if !runas_allows(alloc, checked, asked, runas)? {
         return Ok(None);
     }
     let subject = Subject::Command(asked.command, asked.arguments);

@@ -1,6 +1,6 @@
 //! Tests of verdicts. The expected verdicts come from sudoers(5).
 
-use crate::fixtures::{checked, directory, holds, requests, rows_hold, said};
+use crate::fixtures::{checked, directory, holds, requests, rows_hold, verdict_of_bodies};
 use std::alloc::Global;
 use std::test::Fail;
 use sudo_match::Directory;
@@ -183,7 +183,7 @@ fn allowed(alloc: Global, directory: &Directory, first: &str, second: &str) -> R
     let requests = requests(alloc, ASKS)?;
     let mut count = 0u32;
     for request in requests.as_slice() {
-        if let Verdict::Allow { .. } = said(alloc, &checked, directory, request)? {
+        if let Verdict::Allow { .. } = verdict_of_bodies(alloc, &checked, directory, request)? {
             count = count.saturating_add(1);
         }
     }

@@ -2,7 +2,7 @@
 -- definitions.
 use Rattle.std.specs.Prelude.{◌≡◌, ◌<◌, ℕ, ⊤, List, length, slice_get, Option, Some, Result, Ok, Err}
 use Rattle.audit_collect.specs.Finished.{AllFinished, IsFirstMissing, report_of}
-use Rattle.audit_collect.specs.Held.{Held}
+use Rattle.audit_collect.specs.SenderState.{SenderState}
 use Rattle.audit_collect.specs.Roster.{most_senders}
 use Rattle.audit_collect.specs.declared.fault.CollectFault.TheVariants as collect
 use Rattle.audit_collect.specs.declared.fault.Refused.{Refused}
@@ -13,7 +13,7 @@ use Rattle.audit_files.specs.declared.fault.FileFault.{FileFault}
 use Rattle.audit_run.specs.Roster.{part_at}
 use Rattle.audit_run.specs.declared.fault.AuditFault.{AuditFault}
 use Rattle.audit_run.specs.declared.fault.AuditFault.TheVariants.{Sender, Collect, NoThread, Memory, TooManyParts}
-use Rattle.audit_run.specs.Audited.{IsRefusedSource, NoneRefused}
+use Rattle.audit_run.specs.IsAuditResult.{IsRefusedSource, NoneRefused}
 
 -- the fault of a roster of these senders
 abbrev pub RefusesSenders : List (List ℕ) → AuditFault → Type 0
@@ -30,8 +30,8 @@ RefusesSenders senders TooManyParts = ⊥
 -- the result after the threads ran; `faults` has the fault of each source that is refused, and
 -- `comes` the state of a collector after all arrivals, or the refusal of the first that it refuses;
 -- `Memory` comes before all else, then a refused source
-abbrev pub Answers : List (List ℕ) → List (Option FileFault) → Result (List Held) Refused → Result Report AuditFault → Type 0
-Answers names faults comes (Ok report) = NoneRefused faults × ((held : List Held) × (comes ≡ Ok held) × AllFinished held × (report ≡ report_of held))
+abbrev pub Answers : List (List ℕ) → List (Option FileFault) → Result (List SenderState) Refused → Result Report AuditFault → Type 0
+Answers names faults comes (Ok report) = NoneRefused faults × ((held : List SenderState) × (comes ≡ Ok held) × AllFinished held × (report ≡ report_of held))
 Answers names faults comes (Err (Sender name part fault)) =
     IsRefusedSource names faults name part fault × (comes ≡ Err refused.Memory → ⊥)
 Answers names faults comes (Err (Collect (collect.Roster why))) = ⊥
@@ -41,7 +41,7 @@ Answers names faults comes (Err (Collect (collect.Refused (refused.ZeroNumber se
 Answers names faults comes (Err (Collect (collect.Refused (refused.Double sender number)))) = NoneRefused faults × (comes ≡ Err (refused.Double sender number))
 Answers names faults comes (Err (Collect (collect.Refused (refused.ClosedTwice sender)))) = NoneRefused faults × (comes ≡ Err (refused.ClosedTwice sender))
 Answers names faults comes (Err (Collect (collect.Refused (refused.PastClose sender number)))) = NoneRefused faults × (comes ≡ Err (refused.PastClose sender number))
-Answers names faults comes (Err (Collect (collect.Unfinished what))) = NoneRefused faults × ((held : List Held) × (comes ≡ Ok held) × IsFirstMissing held what)
+Answers names faults comes (Err (Collect (collect.Unfinished what))) = NoneRefused faults × ((held : List SenderState) × (comes ≡ Ok held) × IsFirstMissing held what)
 Answers names faults comes (Err NoThread) = ⊤
 Answers names faults comes (Err Memory) = ⊤
 Answers names faults comes (Err TooManyParts) = ⊥

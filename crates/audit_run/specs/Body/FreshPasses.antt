@@ -5,26 +5,26 @@ use Rattle.audit_run.specs.declared.message.Names.{Names}
 use Rattle.audit_run.specs.declared.message.Outcome.{Outcome}
 use Rattle.audit_run.specs.Names.{names_of}
 use Rattle.audit_run.specs.Passes.{HandoffId, PassView}
-use Rattle.sudo_match.specs.Known.{Known}
+use Rattle.sudo_match.specs.KnownRows.{KnownRows}
 use Rattle.sudo_grammar.specs.declared.policy.Policy.{Policy}
 
 -- a pass that was just split off
 abbrev pub fresh_with : HandoffId → Names → PassView
 fresh_with handoff names = record { handoff = handoff; names = names; weight = 1; jobs_put = []; jobs_taken = []; outcomes_put = []; outcomes_taken = [] }
 
-abbrev pub fresh : HandoffId → Policy → Known → PassView
+abbrev pub fresh : HandoffId → Policy → KnownRows → PassView
 fresh handoff policy directory = fresh_with handoff (names_of policy directory)
 
 abbrev pub IsFresh : HandoffId → PassView → Type 0
 IsFresh handoff p = p ≡ fresh_with handoff p.names
 
 -- the pass after this many others were split off
-abbrev pub lighter : PassView → ℕ → PassView
-lighter p n = record p { weight = p.weight - n }
+abbrev pub after_splits : PassView → ℕ → PassView
+after_splits p n = record p { weight = p.weight - n }
 
 -- the same pass with more put and taken
-abbrev pub gaining : PassView → List Job → List Job → List Outcome → List Outcome → PassView
-gaining p jobs_put jobs_taken outcomes_put outcomes_taken = record p {
+abbrev pub with_messages : PassView → List Job → List Job → List Outcome → List Outcome → PassView
+with_messages p jobs_put jobs_taken outcomes_put outcomes_taken = record p {
   jobs_put = p.jobs_put ++ jobs_put;
   jobs_taken = p.jobs_taken ++ jobs_taken;
   outcomes_put = p.outcomes_put ++ outcomes_put;

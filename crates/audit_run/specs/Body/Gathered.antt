@@ -1,7 +1,7 @@
 -- The part of the caller's thread: it takes outcomes and offers each arrival to one collector, up
 -- to the first refusal. Only the proofs of bodies use these definitions.
 use Rattle.std.specs.Prelude.{◌≡◌, ◌⊎◌, ℕ, ◌-◌, Bool, true, false, List, [], ◌++◌, map, count_by, Option, Some, None, Result, Err}
-use Rattle.audit_collect.specs.Held.{Held, after}
+use Rattle.audit_collect.specs.SenderState.{SenderState, after}
 use Rattle.audit_collect.specs.declared.arrival.Arrival.{Arrival}
 use Rattle.audit_collect.specs.declared.fault.Refused.{Refused}
 use Rattle.audit_collect.specs.declared.fault.Refused.TheVariants.{Memory}
@@ -15,12 +15,12 @@ use Rattle.audit_run.specs.declared.gather.Awaited.{Awaited}
 use Rattle.audit_run.specs.declared.gather.Awaited.TheVariants.{Sources, Workers}
 use Rattle.audit_run.specs.declared.gather.Gathering.{Gathering}
 use Rattle.audit_run.specs.Arrivals.{arrivals_of}
-use Rattle.audit_run.specs.Body.FreshPasses.{gaining}
+use Rattle.audit_run.specs.Body.FreshPasses.{with_messages}
 
 -- the state of a collector after these arrivals, from this state or this refusal
-abbrev pub comes_of : List Held → Option Refused → List Arrival → Result (List Held) Refused
-comes_of held None rest = after held rest
-comes_of held (Some why) rest = Err why
+abbrev pub state_after : List SenderState → Option Refused → List Arrival → Result (List SenderState) Refused
+state_after held None rest = after held rest
+state_after held (Some why) rest = Err why
 
 abbrev pub IsOutOfMemory : Gathering → Type 0
 IsOutOfMemory g = g.refused ≡ Some Memory
@@ -28,7 +28,7 @@ IsOutOfMemory g = g.refused ≡ Some Memory
 -- `h` is `g` after these outcomes were taken, or memory ran out
 pub record Gathers (g : Gathering) (outcomes : List Outcome) (h : Gathering) : Type 0 where
   pub stuck : IsOutOfMemory g → IsOutOfMemory h
-  pub same : IsOutOfMemory h ⊎ ((rest : List Arrival) → comes_of g.collector g.refused (arrivals_of outcomes ++ rest) ≡ comes_of h.collector h.refused rest)
+  pub same : IsOutOfMemory h ⊎ ((rest : List Arrival) → state_after g.collector g.refused (arrivals_of outcomes ++ rest) ≡ state_after h.collector h.refused rest)
 
 -- whether an outcome is the last of a source
 abbrev pub is_end : Outcome → Bool
@@ -59,19 +59,19 @@ pub record HasSameCounts (g h : Gathering) : Type 0 where
 -- the pass has put these jobs and taken outcomes, and these were gathered
 pub record Conducts (p : PassView) (g : Gathering) (jobs : List Job) (q : PassView) (h : Gathering) : Type 0 where
   pub outcomes : List Outcome
-  pub pass : q ≡ gaining p jobs [] [] outcomes
+  pub pass : q ≡ with_messages p jobs [] [] outcomes
   pub gathered : Gathers g outcomes h
   pub counted : Counts g outcomes h
 
 -- the same, without the counts of running threads
 pub record HasGatheredAll (p : PassView) (g : Gathering) (jobs : List Job) (q : PassView) (h : Gathering) : Type 0 where
   pub outcomes : List Outcome
-  pub pass : q ≡ gaining p jobs [] [] outcomes
+  pub pass : q ≡ with_messages p jobs [] [] outcomes
   pub gathered : Gathers g outcomes h
 
 -- the pass has taken jobs, put their answers, and taken outcomes, and these were gathered
 pub record Drains (names : Names) (p : PassView) (g : Gathering) (q : PassView) (h : Gathering) : Type 0 where
   pub jobs : List Job
   pub outcomes : List Outcome
-  pub pass : q ≡ gaining p [] jobs (map (answer names) jobs) outcomes
+  pub pass : q ≡ with_messages p [] jobs (map (answer names) jobs) outcomes
   pub gathered : Gathers g outcomes h

@@ -5,18 +5,18 @@ use Rattle.audit_run.specs.declared.message.Job.{Job}
 use Rattle.audit_run.specs.declared.message.Names.{Names}
 use Rattle.audit_run.specs.declared.message.Outcome.{Outcome}
 use Rattle.audit_run.specs.Passes.{HandoffId}
-use Rattle.audit_run.specs.declared.prepared.Prepared.{Prepared}
-use Rattle.audit_run.specs.declared.prepared.Ended.{Ended}
+use Rattle.audit_run.specs.declared.prepared.PreparedRun.{PreparedRun}
+use Rattle.audit_run.specs.declared.prepared.EndedRun.{EndedRun}
 use Rattle.audit_run.specs.Body.Gathered.{Gathers}
 use Rattle.audit_run.specs.Parts.{Stated, fault_in, run_jobs}
 use Rattle.audit_run.specs.Body.FreshPasses.{IsFresh, fresh}
 use Rattle.audit_run.specs.Body.Work.{AreParts, after_run}
-use Rattle.sudo_match.specs.Known.{Known}
+use Rattle.sudo_match.specs.KnownRows.{KnownRows}
 use Rattle.sudo_grammar.specs.declared.policy.Policy.{Policy}
 
 -- each thread of this many sources and of the workers has a pass of the handoff, and there is
 -- capacity for their results
-pub record IsReady (handoff : HandoffId) (policy : Policy) (directory : Known) (sources : ℕ) (prepared : Prepared) : Type 0 where
+pub record IsReady (handoff : HandoffId) (policy : Policy) (directory : KnownRows) (sources : ℕ) (prepared : PreparedRun) : Type 0 where
   pub pass : prepared.pass.handoff ≡ handoff
   pub source_passes : All (λ p. IsFresh handoff p) prepared.source_passes.items
   pub one_each : vec_len prepared.source_passes ≡ sources
@@ -28,9 +28,9 @@ pub record IsReady (handoff : HandoffId) (policy : Policy) (directory : Known) (
 
 -- all threads ran: the sources put their jobs, the workers put the answer of each job that they
 -- took, and the caller gathered the outcomes that it took
-pub record HasRun (names : Names) (told : List (ℕ × Option Ahead)) (sources : ℕ) (prepared : Prepared) (ended : Ended) : Type 0 where
+pub record HasRun (names : Names) (readable_bytes : List (ℕ × Option Ahead)) (sources : ℕ) (prepared : PreparedRun) (ended : EndedRun) : Type 0 where
   pub parts : List (ℕ × Stated)
-  pub read : AreParts told parts
+  pub read : AreParts readable_bytes parts
   pub taken : List Job
   pub gathered : List Outcome
   pub pass : ended.pass ≡ after_run names prepared.pass sources (vec_len prepared.worker_passes) (run_jobs (vec_len prepared.worker_passes) parts) taken gathered

@@ -11,15 +11,15 @@ use Rattle.audit_run.specs.declared.message.Outcome.{Outcome}
 use Rattle.audit_run.specs.Names.{answer}
 use Rattle.audit_run.specs.Passes.{PassView}
 use Rattle.audit_run.specs.declared.readers.Sent.{Sent}
-use Rattle.audit_run.specs.Parts.{Stated, fault_in, put_of}
+use Rattle.audit_run.specs.Parts.{Stated, fault_in, jobs_or_end}
 
 -- the pass after these jobs were taken and their answers put
-abbrev pub worked : Names → PassView → List Job → PassView
-worked names p jobs = record p { jobs_taken = p.jobs_taken ++ jobs; outcomes_put = p.outcomes_put ++ map (answer names) jobs }
+abbrev pub after_work : Names → PassView → List Job → PassView
+after_work names p jobs = record p { jobs_taken = p.jobs_taken ++ jobs; outcomes_put = p.outcomes_put ++ map (answer names) jobs }
 
 -- a worker's pass after its thread: it has put the answer of each job that it took, once
 abbrev pub HasWorked : PassView → PassView → Type 0
-HasWorked p q = (jobs : List Job) × (q ≡ worked p.names p jobs)
+HasWorked p q = (jobs : List Job) × (q ≡ after_work p.names p jobs)
 
 -- the pass after these jobs were put
 abbrev pub putting_jobs : PassView → List Job → PassView
@@ -28,18 +28,18 @@ putting_jobs p jobs = record p { jobs_put = p.jobs_put ++ jobs }
 -- the result of a source's thread: the jobs of what the source states were put, and its fault is
 -- returned
 abbrev pub HasSent : Option Ahead → PassView → ℕ → Sent → Type 0
-HasSent told before owner r = (state : Stated) × States sent_by told state × (r.pass ≡ putting_jobs before (put_of owner state)) × (r.fault ≡ fault_in state)
+HasSent readable_bytes before owner r = (state : Stated) × States sent_by readable_bytes state × (r.pass ≡ putting_jobs before (jobs_or_end owner state)) × (r.fault ≡ fault_in state)
 
 -- a source by its owner and by the bytes ahead of its reader
-abbrev pub told_by : ℕ → Option Ahead → ℕ × Option Ahead
-told_by owner told = (owner, told)
+abbrev pub part_ahead : ℕ → Option Ahead → ℕ × Option Ahead
+part_ahead owner readable_bytes = (owner, readable_bytes)
 
 -- the same source, by what it states
 abbrev pub IsPart : (ℕ × Option Ahead) → (ℕ × Stated) → Type 0
-IsPart told part = (part.0 ≡ told.0) × States sent_by told.1 part.1
+IsPart readable_bytes part = (part.0 ≡ readable_bytes.0) × States sent_by readable_bytes.1 part.1
 
 abbrev pub AreParts : List (ℕ × Option Ahead) → List (ℕ × Stated) → Type 0
-AreParts told parts = AllZip IsPart told parts
+AreParts readable_bytes parts = AllZip IsPart readable_bytes parts
 
 -- the pass after the passes of workers that took these jobs were joined
 abbrev pub joined_workers : Names → PassView → ℕ → List Job → PassView

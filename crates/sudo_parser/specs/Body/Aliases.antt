@@ -4,8 +4,8 @@ use Rattle.sudo_text.specs.declared.token.Mark.TheVariants as marks
 use Rattle.sudo_text.specs.declared.token.Token.{Token}
 use Rattle.sudo_grammar.specs.declared.kind.Kind.{Kind}
 use Rattle.sudo_grammar.specs.declared.policy.Definition.{Definition}
-use Rattle.sudo_parser.specs.declared.stops.Stopped.{Stopped}
-use Rattle.sudo_grammar.specs.Places.{Defines, AliasName, AfterName, AfterItem, Room}
+use Rattle.sudo_parser.specs.declared.stops.ParserStop.{ParserStop}
+use Rattle.sudo_grammar.specs.States.{Defines, AliasName, AfterName, AfterItem, Room}
 use Rattle.sudo_grammar.specs.Refusals.{is_option, last_command}
 use Rattle.sudo_grammar.specs.Reading.{reading}
 use Rattle.sudo_parser.specs.Body.Stops.{Stops, IsNotNext}
@@ -20,7 +20,7 @@ pub record ReadsName (full : Bool) (ts : List Token) (w : List ℕ) (rest : List
   pub reads : (room : Room) (kind : Kind) (done : List Definition) → IsFull room kind done full
       → reading room (AliasName kind done) ts ≡ reading room (AfterName kind done w) rest
 
-abbrev pub StopsInName : Bool → List Token → Stopped → Type 0
+abbrev pub StopsInName : Bool → List Token → ParserStop → Type 0
 StopsInName full ts e = (room : Room) (kind : Kind) (done : List Definition) → IsFull room kind done full
     → Stops e (reading room (AliasName kind done) ts)
 
@@ -33,7 +33,7 @@ pub record ReadsDefinition (kind : Kind) (full : Bool) (ts : List Token) (d : De
   pub reads : (room : Room) (done : List Definition) → IsFull room kind done full
       → reading room (AliasName kind done) ts ≡ reading room (AfterItem (Defines kind done d.name) d.members) rest
 
-abbrev pub StopsInDefinition : Kind → Bool → List Token → Stopped → Type 0
+abbrev pub StopsInDefinition : Kind → Bool → List Token → ParserStop → Type 0
 StopsInDefinition kind full ts e = (room : Room) (done : List Definition) → IsFull room kind done full
     → Stops e (reading room (AliasName kind done) ts)
 

@@ -10,10 +10,10 @@ use Rattle.sudo_grammar.specs.declared.policy.Operator.{Operator}
 use Rattle.sudo_grammar.specs.declared.policy.EntryBody.TheVariants as entries
 use Rattle.sudo_grammar.specs.declared.fault.Expected.{Expected}
 use Rattle.sudo_grammar.specs.declared.fault.Refusal.TheVariants as refusals
-use Rattle.sudo_parser.specs.declared.stops.Stopped.{Stopped}
-use Rattle.sudo_parser.specs.declared.stops.Stopped.TheVariants as stops
+use Rattle.sudo_parser.specs.declared.stops.ParserStop.{ParserStop}
+use Rattle.sudo_parser.specs.declared.stops.ParserStop.TheVariants as stops
 use Rattle.sudo_grammar.specs.Openings.{is_word, operator_of}
-use Rattle.sudo_grammar.specs.Places.{DefaultsStart, AtParameter, AfterSwitch, AfterValue, Place, Room, step}
+use Rattle.sudo_grammar.specs.States.{DefaultsStart, AtParameter, AfterSwitch, AfterValue, State, Room, step}
 use Rattle.sudo_grammar.specs.Reading.{reading}
 use Rattle.sudo_parser.specs.Body.Stops.{Stops, IsMark}
 
@@ -22,7 +22,7 @@ pub record ReadsBinding (ts : List Token) (b : Option Binding) (rest : List Toke
   pub no_longer : length rest ≤ length ts
   pub reads : (room : Room) → reading room DefaultsStart ts ≡ reading room (AtParameter b [] 0) rest
 
-abbrev pub StopsInBinding : List Token → Stopped → Type 0
+abbrev pub StopsInBinding : List Token → ParserStop → Type 0
 StopsInBinding ts e = (room : Room) → Stops e (reading room DefaultsStart ts)
 
 -- the next token is this word, and these are the tokens after it
@@ -34,7 +34,7 @@ IsNoWordNext [] = Unit {0}
 IsNoWordNext (t ∷ ts) = is_word t.kind ≡ false
 
 -- the next token is no word, and the refusal says which token is expected, or allocation failed
-abbrev pub IsWordMissing : Expected → List Token → Stopped → Type 0
+abbrev pub IsWordMissing : Expected → List Token → ParserStop → Type 0
 IsWordMissing wanted ts stops.Memory = Unit {0}
 IsWordMissing wanted ts (stops.At refusal left) =
     (refusal ≡ refusals.Syntax wanted) × ((left ≡ length ts) × IsNoWordNext ts)
@@ -49,24 +49,24 @@ IsNoOperatorNext [] = Unit {0}
 IsNoOperatorNext (t ∷ ts) = operator_of t.kind ≡ None
 
 -- the state after a parameter
-abbrev pub parameter_place : Option Binding → List Parameter → Parameter → Place
-parameter_place b done (parameters.Switch n name) = AfterSwitch b done n name
-parameter_place b done (parameters.Assign name o v) = AfterValue b (done ++ parameters.Assign name o v ∷ [])
+abbrev pub parameter_state : Option Binding → List Parameter → Parameter → State
+parameter_state b done (parameters.Switch n name) = AfterSwitch b done n name
+parameter_state b done (parameters.Assign name o v) = AfterValue b (done ++ parameters.Assign name o v ∷ [])
 
 -- after a parameter only a comma continues the line
 abbrev pub IsPast : Parameter → List Token → Type 0
 IsPast x [] = Unit {0}
 IsPast x (t ∷ ts) = (room : Room) (b : Option Binding) (done : List Parameter) → (IsMark marks.Comma t → ⊥)
-    → step room (parameter_place b done x) t ≡ None
+    → step room (parameter_state b done x) t ≡ None
 
 -- the reading of a parameter leads to the rest, which is shorter
 pub record ReadsParameter (ts : List Token) (x : Parameter) (rest : List Token) : Type 0 where
   pub less : length rest < length ts
   pub past : IsPast x rest
   pub reads : (room : Room) (b : Option Binding) (done : List Parameter)
-      → reading room (AtParameter b done 0) ts ≡ reading room (parameter_place b done x) rest
+      → reading room (AtParameter b done 0) ts ≡ reading room (parameter_state b done x) rest
 
-abbrev pub StopsInParameter : List Token → Stopped → Type 0
+abbrev pub StopsInParameter : List Token → ParserStop → Type 0
 StopsInParameter ts e = (room : Room) (b : Option Binding) (done : List Parameter)
     → Stops e (reading room (AtParameter b done 0) ts)
 
@@ -79,5 +79,5 @@ ReadsToParameter ts xs rest = (room : Room) (b : Option Binding)
 abbrev pub ReadsParameters : List Token → List Parameter → Type 0
 ReadsParameters ts xs = (room : Room) (b : Option Binding) → reading room (AtParameter b [] 0) ts ≡ Ok (entries.Defaults b xs)
 
-abbrev pub StopsInParameters : List Token → Stopped → Type 0
+abbrev pub StopsInParameters : List Token → ParserStop → Type 0
 StopsInParameters ts e = (room : Room) (b : Option Binding) → Stops e (reading room (AtParameter b [] 0) ts)

@@ -8,27 +8,27 @@ use Rattle.sudo_grammar.specs.declared.kind.Member.{Member}
 use Rattle.sudo_grammar.specs.declared.fault.Refusal.{Refusal}
 use Rattle.sudo_grammar.specs.declared.fault.Refusal.TheVariants as refusals
 use Rattle.sudo_grammar.specs.declared.fault.Unsupported.TheVariants as forms
-use Rattle.sudo_parser.specs.declared.members.Declined.{Declined}
-use Rattle.sudo_parser.specs.declared.members.Declined.TheVariants as declines
-use Rattle.sudo_parser.specs.declared.stops.Stopped.{Stopped}
-use Rattle.sudo_parser.specs.declared.stops.Stopped.TheVariants as stops
+use Rattle.sudo_parser.specs.declared.members.MemberFault.{MemberFault}
+use Rattle.sudo_parser.specs.declared.members.MemberFault.TheVariants as declines
+use Rattle.sudo_parser.specs.declared.stops.ParserStop.{ParserStop}
+use Rattle.sudo_parser.specs.declared.stops.ParserStop.TheVariants as stops
 use Rattle.sudo_grammar.specs.Words.{plain_word, is_option_name}
 use Rattle.sudo_grammar.specs.Openings.{spells}
 use Rattle.sudo_grammar.specs.Members.{atom_of}
-use Rattle.sudo_grammar.specs.Places.{Purpose, kind_for, Place, Item, AfterItem, Room, step, ended}
+use Rattle.sudo_grammar.specs.States.{Purpose, kind_for, State, Item, AfterItem, Room, step, ended}
 use Rattle.sudo_grammar.specs.Refusals.{is_option, is_next, with_next, last_command, refused_at, refused_member}
 use Rattle.sudo_grammar.specs.Reading.{reading}
 use Rattle.sudo_parser.specs.Body.Stops.{Stops, IsMark, IsNotNext}
 
 -- these states count exclamation marks
-abbrev pub Counts : Room → (ℕ → Place) → Type 0
+abbrev pub Counts : Room → (ℕ → State) → Type 0
 Counts room place = (n : ℕ) (t : Token) → IsMark marks.Bang t → step room (place n) t ≡ Some (place (suc n))
 
 -- wherever exclamation marks are counted, reading `count` of them leads to the rest
 pub record ReadsBangs (ts : List Token) (count : ℕ) (rest : List Token) : Type 0 where
   pub no_longer : length rest ≤ length ts
   pub none : count ≡ 0 → ts ≡ rest
-  pub reads : (room : Room) (place : ℕ → Place) → Counts room place
+  pub reads : (room : Room) (place : ℕ → State) → Counts room place
       → reading room (place 0) ts ≡ reading room (place count) rest
 
 -- the member, if it is a command
@@ -37,12 +37,12 @@ command_in kinds.Cmnd m = Some m
 command_in _ m = None
 
 -- the next token is no parenthesis that would continue the line in this state
-abbrev pub IsShut : Room → Place → List Token → Type 0
+abbrev pub IsShut : Room → State → List Token → Type 0
 IsShut room place [] = Unit {0}
 IsShut room place (t ∷ ts) = IsMark marks.LeftParen t → step room place t ≡ None
 
 -- the states `before`, by the number of exclamation marks, accept members of the kind, and lead to the states `after`
-pub record Takes (kind : Kind) (room : Room) (before : ℕ → Place) (after : Member → Place) : Type 0 where
+pub record Takes (kind : Kind) (room : Room) (before : ℕ → State) (after : Member → State) : Type 0 where
   pub counts : Counts room before
   pub takes : (m : Member) → atom_of kind m.token.kind ≡ Ok m.atom → step room (before m.bangs) m.token ≡ Some (after m)
   pub refuses : (n : ℕ) (t : Token) (r : Refusal) → (IsMark marks.Bang t → ⊥)
@@ -55,9 +55,9 @@ pub record Takes (kind : Kind) (room : Room) (before : ℕ → Place) (after : M
       → reading room (after m) ts ≡ Err (record { rest = ts; refusal = refusals.Unsupported forms.CommandOption })
 
 -- the stop of the parser for a refusal of a token, with `left` tokens from it on
-abbrev pub declined_as : Kind → Token → List Token → Declined → ℕ → Stopped
-declined_as kind t ts (declines.Refused r) left = stops.At (with_next kind t ts r) left
-declined_as kind t ts declines.Memory left = stops.Memory
+abbrev pub stop_of_member : Kind → Token → List Token → MemberFault → ℕ → ParserStop
+stop_of_member kind t ts (declines.Refused r) left = stops.At (with_next kind t ts r) left
+stop_of_member kind t ts declines.Memory left = stops.Memory
 
 -- an option of a command: its name, with an equals sign after it
 abbrev pub option_begins : Kind → Token → List Token → Bool
@@ -72,8 +72,8 @@ pub record IsTaken (kind : Kind) (bangs : ℕ) (ts : List Token) (m : Member) (r
   pub no_option : is_option (command_in kind m) rest ≡ false
 
 -- after `bangs` exclamation marks the reading stops at a member of the kind, or after it
-abbrev pub StopsAtMember : Kind → ℕ → List Token → Stopped → Type 0
-StopsAtMember kind bangs ts e = (room : Room) (before : ℕ → Place) (after : Member → Place) → Takes kind room before after
+abbrev pub StopsAtMember : Kind → ℕ → List Token → ParserStop → Type 0
+StopsAtMember kind bangs ts e = (room : Room) (before : ℕ → State) (after : Member → State) → Takes kind room before after
     → IsShut room (before bangs) ts → Stops e (reading room (before bangs) ts)
 
 -- wherever members of the kind are accepted, the reading of one leads to the rest, which is shorter
@@ -81,12 +81,12 @@ pub record ReadsItem (kind : Kind) (ts : List Token) (m : Member) (rest : List T
   pub less : length rest < length ts
   pub bare : m.bangs ≡ 0 → ts ≡ m.token ∷ rest
   pub no_option : is_option (command_in kind m) rest ≡ false
-  pub reads : (room : Room) (before : ℕ → Place) (after : Member → Place) → Takes kind room before after
+  pub reads : (room : Room) (before : ℕ → State) (after : Member → State) → Takes kind room before after
       → reading room (before 0) ts ≡ reading room (after m) rest
 
 -- wherever members of the kind are accepted, and no parenthesis is next, the reading stops in one
-abbrev pub StopsInItem : Kind → List Token → Stopped → Type 0
-StopsInItem kind ts e = (room : Room) (before : ℕ → Place) (after : Member → Place) → Takes kind room before after
+abbrev pub StopsInItem : Kind → List Token → ParserStop → Type 0
+StopsInItem kind ts e = (room : Room) (before : ℕ → State) (after : Member → State) → Takes kind room before after
     → IsShut room (before 0) ts → Stops e (reading room (before 0) ts)
 
 -- in any list of the kind, the reading of items, each with the comma after it, leads to the rest
@@ -103,5 +103,5 @@ pub record ReadsItems (kind : Kind) (ts : List Token) (ms : List Member) (rest :
       → reading room (Item p 0 []) ts ≡ reading room (AfterItem p ms) rest
 
 -- in any list of the kind, the reading stops within it
-abbrev pub StopsInItems : Kind → List Token → Stopped → Type 0
+abbrev pub StopsInItems : Kind → List Token → ParserStop → Type 0
 StopsInItems kind ts e = (room : Room) (p : Purpose) → kind_for p ≡ kind → Stops e (reading room (Item p 0 []) ts)

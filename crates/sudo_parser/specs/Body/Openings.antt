@@ -5,10 +5,10 @@ use Rattle.sudo_grammar.specs.Openings as grammar
 use Rattle.sudo_parser.specs.declared.line.Opening.{Opening}
 use Rattle.sudo_parser.specs.declared.line.Opening.TheVariants as openings
 
-abbrev pub opened : Opening → grammar.Opening
-opened (openings.Aliases kind) = grammar.Keyword kind
-opened openings.Defaults = grammar.DefaultsLine
-opened openings.Rule = grammar.Other
+abbrev pub opening_view : Opening → grammar.Opening
+opening_view (openings.Aliases kind) = grammar.Keyword kind
+opening_view openings.Defaults = grammar.DefaultsLine
+opening_view openings.Rule = grammar.Other
 
 abbrev pub IsInclude : TokenKind → Type 0
 IsInclude (tokens.Include folder hash path) = Unit {0}

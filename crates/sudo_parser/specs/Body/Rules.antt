@@ -8,10 +8,10 @@ use Rattle.sudo_grammar.specs.declared.tag.Tag.{Tag}
 use Rattle.sudo_grammar.specs.declared.policy.CommandSpec.{CommandSpec}
 use Rattle.sudo_grammar.specs.declared.policy.Section.{Section}
 use Rattle.sudo_grammar.specs.declared.policy.EntryBody.TheVariants as entries
-use Rattle.sudo_parser.specs.declared.stops.Stopped.{Stopped}
+use Rattle.sudo_parser.specs.declared.stops.ParserStop.{ParserStop}
 use Rattle.sudo_grammar.specs.Words.{tag_of}
 use Rattle.sudo_grammar.specs.Forms.{as_tag}
-use Rattle.sudo_grammar.specs.Places.{Granting, Hosts, Command, Item, AfterCommand, Room}
+use Rattle.sudo_grammar.specs.States.{Granting, Hosts, Command, Item, AfterCommand, Room}
 use Rattle.sudo_grammar.specs.Refusals.{is_option}
 use Rattle.sudo_grammar.specs.Reading.{reading}
 use Rattle.sudo_parser.specs.Body.Stops.{Stops, IsNext, IsNotNext}
@@ -46,7 +46,7 @@ pub record ReadsSpec (ts : List Token) (s : CommandSpec) (rest : List Token) : T
   pub no_tag : (after : List Token) → IsNext marks.Colon rest after → as_tag s.command ≡ None
   pub reads : (room : Room) (g : Granting) → reading room (Command g None [] 0) ts ≡ reading room (AfterCommand g s) rest
 
-abbrev pub StopsInSpec : List Token → Stopped → Type 0
+abbrev pub StopsInSpec : List Token → ParserStop → Type 0
 StopsInSpec ts e = (room : Room) (g : Granting) → Stops e (reading room (Command g None [] 0) ts)
 
 -- a section up to a command
@@ -71,7 +71,7 @@ pub record ReadsSpecs (ts : List Token) (cs : List CommandSpec) (rest : List Tok
       → reading room (Command (granted us done hs []) None [] 0) ts
       ≡ reading room (AfterCommand (granted us done hs before) last) rest
 
-abbrev pub StopsInSpecs : List Token → Stopped → Type 0
+abbrev pub StopsInSpecs : List Token → ParserStop → Type 0
 StopsInSpecs ts e = (room : Room) (us : List Member) (done : List Section) (hs : List Member)
     → Stops e (reading room (Command (granted us done hs []) None [] 0) ts)
 
@@ -87,7 +87,7 @@ pub record ReadsSection (ts : List Token) (s : Section) (rest : List Token) : Ty
   pub reads : (room : Room) (us : List Member) (done : List Section)
       → reading room (Item (Hosts us done) 0 []) ts ≡ reading room (AfterCommand (granted us done s.hosts before) last) rest
 
-abbrev pub StopsInSection : List Token → Stopped → Type 0
+abbrev pub StopsInSection : List Token → ParserStop → Type 0
 StopsInSection ts e = (room : Room) (us : List Member) (done : List Section)
     → Stops e (reading room (Item (Hosts us done) 0 []) ts)
 
@@ -100,5 +100,5 @@ ReadsToSection ts ss rest = (room : Room) (us : List Member)
 abbrev pub ReadsSections : List Token → List Section → Type 0
 ReadsSections ts ss = (room : Room) (us : List Member) → reading room (Item (Hosts us []) 0 []) ts ≡ Ok (entries.Rule us ss)
 
-abbrev pub StopsInSections : List Token → Stopped → Type 0
+abbrev pub StopsInSections : List Token → ParserStop → Type 0
 StopsInSections ts e = (room : Room) (us : List Member) → Stops e (reading room (Item (Hosts us []) 0 []) ts)

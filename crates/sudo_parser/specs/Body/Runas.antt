@@ -6,16 +6,16 @@ use Rattle.sudo_grammar.specs.declared.kind.Member.{Member}
 use Rattle.sudo_grammar.specs.declared.policy.Runas.{Runas}
 use Rattle.sudo_grammar.specs.declared.fault.Expected.TheVariants as wants
 use Rattle.sudo_grammar.specs.declared.fault.Refusal.TheVariants as refusals
-use Rattle.sudo_parser.specs.declared.stops.Stopped.{Stopped}
-use Rattle.sudo_parser.specs.declared.stops.Stopped.TheVariants as stops
-use Rattle.sudo_grammar.specs.Places.{Granting, RunasUsers, RunasGroups, Place, Command, AfterItem, RunasStart, GroupsStart, Room}
+use Rattle.sudo_parser.specs.declared.stops.ParserStop.{ParserStop}
+use Rattle.sudo_parser.specs.declared.stops.ParserStop.TheVariants as stops
+use Rattle.sudo_grammar.specs.States.{Granting, RunasUsers, RunasGroups, State, Command, AfterItem, RunasStart, GroupsStart, Room}
 use Rattle.sudo_grammar.specs.Reading.{reading}
 use Rattle.sudo_parser.specs.Body.Stops.{Stops, IsNext, IsNotNext}
 
 -- the state after the users between parentheses, if any
-abbrev pub users_place : Granting → Option (List Member) → Place
-users_place g None = RunasStart g
-users_place g (Some ms) = AfterItem (RunasUsers g) ms
+abbrev pub users_state : Granting → Option (List Member) → State
+users_state g None = RunasStart g
+users_state g (Some ms) = AfterItem (RunasUsers g) ms
 
 -- without users a colon or the closing parenthesis is next, and after users no comma is
 abbrev pub EndsUsers : Option (List Member) → List Token → Type 0
@@ -26,15 +26,15 @@ EndsUsers (Some ms) rest = IsNotNext marks.Comma rest
 pub record ReadsUsers (ts : List Token) (us : Option (List Member)) (rest : List Token) : Type 0 where
   pub no_longer : length rest ≤ length ts
   pub ends : EndsUsers us rest
-  pub reads : (room : Room) (g : Granting) → reading room (RunasStart g) ts ≡ reading room (users_place g us) rest
+  pub reads : (room : Room) (g : Granting) → reading room (RunasStart g) ts ≡ reading room (users_state g us) rest
 
-abbrev pub StopsInUsers : List Token → Stopped → Type 0
+abbrev pub StopsInUsers : List Token → ParserStop → Type 0
 StopsInUsers ts e = (room : Room) (g : Granting) → Stops e (reading room (RunasStart g) ts)
 
 -- the state after the groups between parentheses, if any
-abbrev pub groups_place : Granting → Option (List Member) → Option (List Member) → Place
-groups_place g us None = GroupsStart g us
-groups_place g us (Some ms) = AfterItem (RunasGroups g us) ms
+abbrev pub groups_state : Granting → Option (List Member) → Option (List Member) → State
+groups_state g us None = GroupsStart g us
+groups_state g us (Some ms) = AfterItem (RunasGroups g us) ms
 
 -- without groups the closing parenthesis is next, and after groups no comma is
 abbrev pub EndsGroups : Option (List Member) → List Token → Type 0
@@ -46,9 +46,9 @@ pub record ReadsGroups (ts : List Token) (gs : Option (List Member)) (rest : Lis
   pub no_longer : length rest ≤ length ts
   pub ends : EndsGroups gs rest
   pub reads : (room : Room) (g : Granting) (us : Option (List Member))
-      → reading room (GroupsStart g us) ts ≡ reading room (groups_place g us gs) rest
+      → reading room (GroupsStart g us) ts ≡ reading room (groups_state g us gs) rest
 
-abbrev pub StopsInGroups : List Token → Stopped → Type 0
+abbrev pub StopsInGroups : List Token → ParserStop → Type 0
 StopsInGroups ts e = (room : Room) (g : Granting) (us : Option (List Member)) → Stops e (reading room (GroupsStart g us) ts)
 
 -- the lists were read before the closing parenthesis, which alone continues the line
@@ -65,5 +65,5 @@ pub record ReadsRunas (ts : List Token) (r : Option Runas) (rest : List Token) :
   pub closed : r ≡ None → IsNotNext marks.LeftParen rest
   pub reads : (room : Room) (g : Granting) → reading room (Command g None [] 0) ts ≡ reading room (Command g r [] 0) rest
 
-abbrev pub StopsInRunas : List Token → Stopped → Type 0
+abbrev pub StopsInRunas : List Token → ParserStop → Type 0
 StopsInRunas ts e = (room : Room) (g : Granting) → Stops e (reading room (Command g None [] 0) ts)

@@ -4,18 +4,18 @@ use Rattle.sudo_text.specs.declared.token.Mark.{Mark}
 use Rattle.sudo_text.specs.declared.token.Token.{Token}
 use Rattle.sudo_text.specs.declared.token.TokenKind.TheVariants as tokens
 use Rattle.sudo_grammar.specs.declared.policy.EntryBody.{EntryBody}
-use Rattle.sudo_parser.specs.declared.stops.Stopped.{Stopped}
-use Rattle.sudo_parser.specs.declared.stops.Stopped.TheVariants as stops
+use Rattle.sudo_parser.specs.declared.stops.ParserStop.{ParserStop}
+use Rattle.sudo_parser.specs.declared.stops.ParserStop.TheVariants as stops
 use Rattle.sudo_grammar.specs.Reading.{Stop}
 
 -- the reading stops with this refusal and as many tokens left, or allocation failed
-abbrev pub Stops : Stopped → Result EntryBody Stop → Type 0
+abbrev pub Stops : ParserStop → Result EntryBody Stop → Type 0
 Stops (stops.At refusal left) given =
     (stop : Stop) × ((given ≡ Err stop) × ((stop.refusal ≡ refusal) × (length stop.rest ≡ left)))
 Stops stops.Memory given = Unit {0}
 
 -- the reading yields this entry or this stop, or allocation failed
-abbrev pub GivesEntry : Result EntryBody Stopped → Result EntryBody Stop → Type 0
+abbrev pub GivesEntry : Result EntryBody ParserStop → Result EntryBody Stop → Type 0
 GivesEntry (Ok e) given = given ≡ Ok e
 GivesEntry (Err e) given = Stops e given
 

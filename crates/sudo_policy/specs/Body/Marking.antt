@@ -14,7 +14,7 @@ unmarked [] = 0
 unmarked (m ∷ ms) = (if m then 0 else 1) + unmarked ms
 
 -- the aliases to which a row leads are marked in addition, and the new ones are waiting
-pub record Marked (row : List (Option ℕ)) (old : List Bool) (before : List ℕ) (new : List Bool) (waiting : List ℕ) : Type 0 where
+pub record MarksRow (row : List (Option ℕ)) (old : List Bool) (before : List ℕ) (new : List Bool) (waiting : List ℕ) : Type 0 where
   pub same_length : length new ≡ length old
   pub kept : (i : ℕ) → IsMarked old i → IsMarked new i
   pub all : (i : ℕ) → Contains row (Some i) → IsMarked new i
@@ -42,14 +42,14 @@ pub record ReachedPast (g : Links) (roots : List (Option ℕ)) (marks : List Boo
   pub way : (root ≡ i) ⊎ PathPast g marks root i
 
 -- the reversed links of a row are added
-pub record RowTurned (from : ℕ) (row : List (Option ℕ)) (old new : Links) : Type 0 where
+pub record ReversesRow (from : ℕ) (row : List (Option ℕ)) (old new : Links) : Type 0 where
   pub same_length : length new ≡ length old
   pub kept : (i j : ℕ) → Edge old j i → Edge new j i
   pub all : (j : ℕ) → Contains row (Some j) → Edge new j from
   pub only : (i j : ℕ) → Edge new j i → Edge old j i ⊎ ((i ≡ from) × Contains row (Some j))
 
 -- the reversed links of the rows before `upto` have been added
-pub record TurnedTo (g : Links) (upto : ℕ) (back : Links) : Type 0 where
+pub record ReversesUpTo (g : Links) (upto : ℕ) (back : Links) : Type 0 where
   pub same_length : length back ≡ length g
   pub all : (i j : ℕ) → i < upto → Edge g i j → Edge back j i
   pub only : (i j : ℕ) → Edge back j i → Edge g i j
@@ -59,7 +59,7 @@ abbrev pub IsWhole : Links → List Bool → Type 0
 IsWhole g done = (i j : ℕ) → IsMarked done i → Path g i j → Path g j i → IsMarked done j
 
 -- among the aliases that are done, exactly those on cycles are marked
-pub record Decided (g : Links) (done cyclic : List Bool) : Type 0 where
+pub record DecidesCycles (g : Links) (done cyclic : List Bool) : Type 0 where
   pub done_length : length done ≡ length g
   pub cyclic_length : length cyclic ≡ length g
   pub whole : IsWhole g done

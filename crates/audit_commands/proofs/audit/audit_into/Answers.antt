@@ -13,7 +13,7 @@ returns-in-Err-clause-ends g c =
       users = g.U.Feed.ahead c.args.users.now;
       hosts = g.H.Feed.ahead c.args.hosts.now;
       sources = map (λ s. s.name) c.args.sources.items;
-      told = map (λ s. g.R.Feed.ahead s.reader) c.args.sources.items;
+      readable_bytes = map (λ s. g.R.Feed.ahead s.reader) c.args.sources.items;
       workers = c.args.workers;
     } in
     let out = sent g.O.Sink.taken g.O.Sink.stalled_writes c.args.out.now c.end_run.new.out in
@@ -29,7 +29,7 @@ returns-clause-ends g c =
       users = g.U.Feed.ahead c.args.users.now;
       hosts = g.H.Feed.ahead c.args.hosts.now;
       sources = map (λ s. s.name) c.args.sources.items;
-      told = map (λ s. g.R.Feed.ahead s.reader) c.args.sources.items;
+      readable_bytes = map (λ s. g.R.Feed.ahead s.reader) c.args.sources.items;
       workers = c.args.workers;
     } in
     let out = sent g.O.Sink.taken g.O.Sink.stalled_writes c.args.out.now c.end_run-2.new.out in

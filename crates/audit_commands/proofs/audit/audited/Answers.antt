@@ -11,7 +11,7 @@ returns-in-Ok-clause-report g c = λ held path is.
       users = g.U.Feed.ahead c.args.users.now;
       hosts = g.H.Feed.ahead c.args.hosts.now;
       sources = map (λ s. s.name) c.args.sources.items;
-      told = map (λ s. g.R.Feed.ahead s.reader) c.args.sources.items;
+      readable_bytes = map (λ s. g.R.Feed.ahead s.reader) c.args.sources.items;
       workers = c.args.workers;
     } in
     reported_of given c.args.policy.now c.in-Ok.directory c.report_under.result is c.in-Ok.ensures.directory c.report_under.ensures.report
@@ -24,7 +24,7 @@ returns-in-Ok-clause-fault g c = λ held path is.
       users = g.U.Feed.ahead c.args.users.now;
       hosts = g.H.Feed.ahead c.args.hosts.now;
       sources = map (λ s. s.name) c.args.sources.items;
-      told = map (λ s. g.R.Feed.ahead s.reader) c.args.sources.items;
+      readable_bytes = map (λ s. g.R.Feed.ahead s.reader) c.args.sources.items;
       workers = c.args.workers;
     } in
     unreported_of given c.args.policy.now c.in-Ok.directory c.report_under.result is c.in-Ok.ensures.directory c.report_under.ensures.fault
@@ -37,7 +37,7 @@ returns-in-Err-clause-fault g c = λ held path is.
       users = g.U.Feed.ahead c.args.users.now;
       hosts = g.H.Feed.ahead c.args.hosts.now;
       sources = map (λ s. s.name) c.args.sources.items;
-      told = map (λ s. g.R.Feed.ahead s.reader) c.args.sources.items;
+      readable_bytes = map (λ s. g.R.Feed.ahead s.reader) c.args.sources.items;
       workers = c.args.workers;
     } in
     no_directory given c.args.policy.now c.in-Err.fault is c.in-Err.ensures.fault

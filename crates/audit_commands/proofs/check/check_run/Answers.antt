@@ -10,8 +10,8 @@ returns-clause-ends g c =
     let held = g.F.Files.held c.args.files.now in
     let out = sent g.O.Sink.taken g.O.Sink.stalled_writes c.args.out.now c.end_run.new.out in
     let err = sent g.E.Sink.taken g.E.Sink.stalled_writes c.args.err.now c.end_run.new.err in
-    run_ends (IsExamined held c.args.path.now) (IsNoPolicy held c.args.path.now) c.examined-ended.result c.end_run.result out err
-    c.examined-ended.ensures.printed c.examined-ended.ensures.fault c.end_run.ensures
+    run_ends (IsExamined held c.args.path.now) (IsNoPolicy held c.args.path.now) c.check_output-ended.result c.end_run.result out err
+    c.check_output-ended.ensures.printed c.check_output-ended.ensures.fault c.end_run.ensures
 
 pub returns-clause-fine : goal.returns-clause-fine
 returns-clause-fine g c = λ e.
@@ -19,8 +19,8 @@ returns-clause-fine g c = λ e.
     let out = sent g.O.Sink.taken g.O.Sink.stalled_writes c.args.out.now c.end_run.new.out in
     let err = sent g.E.Sink.taken g.E.Sink.stalled_writes c.args.err.now c.end_run.new.err in
     let ends =
-    run_ends (IsExamined held c.args.path.now) (IsNoPolicy held c.args.path.now) c.examined-ended.result c.end_run.result out err
-    c.examined-ended.ensures.printed c.examined-ended.ensures.fault c.end_run.ensures in
+    run_ends (IsExamined held c.args.path.now) (IsNoPolicy held c.args.path.now) c.check_output-ended.result c.end_run.result out err
+    c.check_output-ended.ensures.printed c.check_output-ended.ensures.fault c.end_run.ensures in
     fine_of held c.args.path.now c.end_run.result out err (zero_prints (IsExamined held c.args.path.now) (IsNoPolicy held c.args.path.now) c.end_run.result out err ends e) e
 
 pub returns-clause-most : goal.returns-clause-most
@@ -29,6 +29,6 @@ returns-clause-most g c =
     let out = sent g.O.Sink.taken g.O.Sink.stalled_writes c.args.out.now c.end_run.new.out in
     let err = sent g.E.Sink.taken g.E.Sink.stalled_writes c.args.err.now c.end_run.new.err in
     let ends =
-    run_ends (IsExamined held c.args.path.now) (IsNoPolicy held c.args.path.now) c.examined-ended.result c.end_run.result out err
-    c.examined-ended.ensures.printed c.examined-ended.ensures.fault c.end_run.ensures in
+    run_ends (IsExamined held c.args.path.now) (IsNoPolicy held c.args.path.now) c.check_output-ended.result c.end_run.result out err
+    c.check_output-ended.ensures.printed c.check_output-ended.ensures.fault c.end_run.ensures in
     ends_most (IsExamined held c.args.path.now) (IsNoPolicy held c.args.path.now) c.end_run.result out err (examined_most held c.args.path.now) ends

@@ -8,11 +8,11 @@ use Rattle.audit_commands.proofs.ending.report_fault.Goals as goal
 pub returns-in-Ok : goal.returns-in-Ok
 returns-in-Ok g c =
     let fault = c.args.fault.now in
-    let err = sent g.E.Sink.taken g.E.Sink.stalled_writes c.args.err.now c.say-in-Ok.new.err in
+    let err = sent g.E.Sink.taken g.E.Sink.stalled_writes c.args.err.now c.write_line-in-Ok.new.err in
     inl (
-    says_same c.status.result (status_of fault) c.say-in-Ok.result c.deref-in-Ok.result.now (printed_of fault) err c.status.ensures
-    (c.deref-in-Ok.ensures.value ∙ c.in-Ok.ensures ∙ sym (plain_line fault c.in_default.not-Errors)) c.say-in-Ok.ensures
+    says_same c.status.result (status_of fault) c.write_line-in-Ok.result c.deref-in-Ok.result.now (printed_of fault) err c.status.ensures
+    (c.deref-in-Ok.ensures.value ∙ c.in-Ok.ensures ∙ sym (plain_line fault c.in_default.not-Errors)) c.write_line-in-Ok.ensures
     )
 
 pub returns-in-Err : goal.returns-in-Err
-returns-in-Err g c = inr c.say-in-Err.ensures
+returns-in-Err g c = inr c.write_line-in-Err.ensures

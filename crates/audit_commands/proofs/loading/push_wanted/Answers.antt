@@ -1,6 +1,6 @@
 use Rattle.std.proofs.Common.{sym, subst}
 use Rattle.audit_commands.specs.Holding.{AreHeld}
-use Rattle.audit_commands.proofs.Held.{held_push}
+use Rattle.audit_commands.proofs.HeldSupplies.{held_push}
 use Rattle.audit_commands.proofs.loading.push_wanted.Goals as goal
 
 pub returns-in_ok-push-in-Ok-clause-held : goal.returns-in_ok-push-in-Ok-clause-held

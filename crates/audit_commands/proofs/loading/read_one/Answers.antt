@@ -1,6 +1,6 @@
 use Rattle.std.proofs.Common.{sym, subst}
 use Rattle.audit_commands.specs.Holding.{AreHeld}
-use Rattle.audit_commands.proofs.Held.{held_push}
+use Rattle.audit_commands.proofs.HeldSupplies.{held_push}
 use Rattle.audit_commands.proofs.loading.read_one.Goals as goal
 
 pub returns-in-Ok-clause-held : goal.returns-in-Ok-clause-held

@@ -1,7 +1,7 @@
 use Rattle.std.proofs.Common.{All, Some, length, sym, ap, subst, arith}
 use Rattle.std.proofs.lemmas.List.Elements.{All-pop, All-push}
 use Rattle.audit_run.specs.Body.FreshPasses.{IsFresh}
-use Rattle.audit_run.specs.Body.Work.{told_by}
+use Rattle.audit_run.specs.Body.Work.{part_ahead}
 use Rattle.audit_run.proofs.Joins.{one_started}
 use Rattle.audit_run.proofs.readers.start_readers.Goals as goal
 
@@ -22,5 +22,5 @@ loop-part-preserved g c =
           (All-push (λ h. IsFresh handoff h.promise.before.value) _ _ inv.fresh (subst (IsFresh handoff) (sym started.before) free.1));
       room = omega (arith, inv.room, pushed.len, pushed.capacity, shorter);
       started = omega (arith, inv.started, pushed.len, shorter);
-      told = one_started (λ h. told_by h.promise.owner (g.F.Feed.ahead h.promise.reader.value)) (λ p. told_by p.owner (g.F.Feed.ahead p.reader)) _ _ c.in-Some-start_reader.handle c.in-Some.part _ _ _ pushed.items started.told step.0 inv.told;
+      readable_bytes = one_started (λ h. part_ahead h.promise.owner (g.F.Feed.ahead h.promise.reader.value)) (λ p. part_ahead p.owner (g.F.Feed.ahead p.reader)) _ _ c.in-Some-start_reader.handle c.in-Some.part _ _ _ pushed.items started.readable_bytes step.0 inv.readable_bytes;
     }

@@ -3,7 +3,7 @@ use Rattle.std.proofs.lemmas.List.Elements.{All-head, All-tail}
 use Rattle.audit_run.specs.Names.{names_of}
 use Rattle.audit_run.specs.Passes.{PassView, with_joined}
 use Rattle.audit_run.specs.Body.FreshPasses.{fresh}
-use Rattle.audit_run.specs.Body.Work.{worked}
+use Rattle.audit_run.specs.Body.Work.{after_work}
 use Rattle.audit_run.proofs.Joins.{one_worker}
 use Rattle.audit_run.proofs.workers.join_workers.Goals as goal
 
@@ -16,7 +16,7 @@ loop-handle-preserved g c =
     let all = subst (All (λ h. h.promise.before.value ≡ new_pass)) c.in-Some.ensures.steps.0 inv.0 in
     let before = All-head (λ h. h.promise.before.value ≡ new_pass) _ _ all in
     let done = c.join-other.ensures in
-    let result = done.1 ∙ ap (λ (p : PassView). worked p.names p done.0) before in
+    let result = done.1 ∙ ap (λ (p : PassView). after_work p.names p done.0) before in
     let len = c.in-Some.ensures.steps.1 in (
       All-tail (λ h. h.promise.before.value ≡ new_pass) _ _ all,
       (

@@ -1,8 +1,8 @@
 use Rattle.sudo_load.proofs.Placed.{start_fine, start_refused, refusal_placed}
 use Rattle.sudo_load.proofs.loading.load.Goals as goal
 
-pub closed-requires : goal.closed-requires
-closed-requires c = start_fine 128 c.in-Ok.path c.args.text.now c.args.supplies.now c.nothing.result c.in-Ok-load_text.loaded c.nothing.ensures c.in-Ok-load_text.ensures
+pub policy_of-requires : goal.policy_of-requires
+policy_of-requires c = start_fine 128 c.in-Ok.path c.args.text.now c.args.supplies.now c.nothing.result c.in-Ok-load_text.loaded c.nothing.ensures c.in-Ok-load_text.ensures
 
 pub returns-in-Err-clause-load : goal.returns-in-Err-clause-load
 returns-in-Err-clause-load c = λ no_memory.

@@ -3,14 +3,14 @@ use Rattle.std.specs.Prelude.{Some, None, Option, option_map, option_and_then, s
 use Rattle.std.specs.Option.{option_copied}
 use Rattle.std.proofs.lemmas.Option.{slice_get_past}
 use Rattle.sudo_match.specs.declared.people.Group.{Group}
-use Rattle.sudo_base.specs.Places.{place_of}
+use Rattle.sudo_base.specs.NameIndices.{index_of}
 use Rattle.sudo_match.specs.declared.fault.DirFault.{DirFault}
 use Rattle.sudo_match.specs.declared.fault.DirFault.TheVariants.{GroupClash}
-use Rattle.sudo_match.specs.Known.{first_clash, clashes_at, groups_clash, groups_of, IsRefusal}
+use Rattle.sudo_match.specs.KnownRows.{first_clash, clashes_at, groups_clash, groups_of, IsRefusal}
 use Rattle.sudo_match.specs.Indexing.{differs, noted}
 use Rattle.sudo_match.proofs.ClashLemmas.{clash-is}
 use Rattle.sudo_match.proofs.GroupLemmas.{GroupsRead, group-clash, groups-more, groups-end}
-use Rattle.sudo_match.proofs.SpotLemmas.{spot-past, groups-past}
+use Rattle.sudo_match.proofs.PositionLemmas.{position-past, groups-past}
 use Rattle.sudo_match.proofs.indexing.group_names.Goals as goal
 
 -- what the test of a group finds, from the places by name and by ID
@@ -19,12 +19,12 @@ found gs x p q = differs (λ g. g.gid == x.gid) (option_and_then (slice_get gs) 
 
 tested :
     (gs : List Group) (n : ℕ) (names ids : List (List ℕ × ℕ)) (x : Group) (p q : Option ℕ) (name : List ℕ) (b : Bool) → GroupsRead gs n names ids →
-    slice_get gs n ≡ Some x → p ≡ place_of names name → name ≡ x.name → q ≡ place_of ids (x.gid ∷ []) → b ≡ found gs x p q →
+    slice_get gs n ≡ Some x → p ≡ index_of names name → name ≡ x.name → q ≡ index_of ids (x.gid ∷ []) → b ≡ found gs x p q →
     clashes_at groups_clash gs n ≡ b
 unfolding found
 tested gs n names ids x p q name b r row e f g h =
     group-clash gs n names ids x r row
-    ∙ ap (λ o. found gs x o (place_of ids (x.gid ∷ []))) (sym (e ∙ ap (place_of names) f))
+    ∙ ap (λ o. found gs x o (index_of ids (x.gid ∷ []))) (sym (e ∙ ap (index_of names) f))
     ∙ ap (found gs x p) (sym g)
     ∙ sym h
 
@@ -68,6 +68,6 @@ loop-at-preserved c =
 pub returns-clause-names : goal.returns-clause-names
 returns-clause-names c =
     let none : slice_get (groups_of c.args.people.now) c.loop-at.at ≡ None =
-    spot-past c.args.people.now c.args.spots.now c.loop-at.at c.requires (slice_get_past c.args.spots.now c.loop-at.at c.loop-at-test.false) in
+    position-past c.args.people.now c.args.positions.now c.loop-at.at c.requires (slice_get_past c.args.positions.now c.loop-at.at c.loop-at-test.false) in
     groups-end (groups_of c.args.people.now) c.loop-at.at c.loop-at.names c.loop-at.ids c.loop-at.invariant
     (groups-past (groups_of c.args.people.now) c.loop-at.at none)

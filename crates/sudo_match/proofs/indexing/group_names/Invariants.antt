@@ -1,4 +1,4 @@
-use Rattle.sudo_match.specs.Known.{groups_of}
+use Rattle.sudo_match.specs.KnownRows.{groups_of}
 use Rattle.sudo_match.proofs.GroupLemmas.{GroupsRead}
 use Rattle.sudo_match.proofs.indexing.group_names.Given as goal
 

@@ -3,18 +3,18 @@ use Rattle.std.specs.Prelude.{is_some, slice_get, Some, Option, option_map}
 use Rattle.std.proofs.lemmas.Option.{slice_get_read}
 use Rattle.sudo_match.specs.declared.people.Person.{Person}
 use Rattle.sudo_base.specs.Indexes.{Indexes}
-use Rattle.sudo_base.specs.Places.{place_of}
-use Rattle.sudo_base.proofs.IndexLemmas.{indexes-none, indexes-more, place_of-empty, place_of-append, none-is}
+use Rattle.sudo_base.specs.NameIndices.{index_of}
+use Rattle.sudo_base.proofs.IndexLemmas.{indexes-none, indexes-more, index_of-empty, index_of-append, none-is}
 use Rattle.sudo_match.specs.declared.fault.DirFault.{DirFault}
 use Rattle.sudo_match.specs.declared.fault.DirFault.TheVariants.{UserTwice}
-use Rattle.sudo_match.specs.Known.{same_user, first_clash, clashes_at, IsRefusal}
+use Rattle.sudo_match.specs.KnownRows.{same_user, first_clash, clashes_at, IsRefusal}
 use Rattle.sudo_match.proofs.ClashLemmas.{none-first, none-more, key-clash, clash-is, clash-none}
 use Rattle.sudo_match.proofs.indexing.user_names.Goals as goal
 
 pub loop-at-init : goal.loop-at-init
 loop-at-init c = record {
-  indexed = indexes-none (λ u. u.name) c.args.people.now (place_of c.new-names.result)
-      (λ name. ap (λ es. place_of es name) c.new-names.ensures ∙ place_of-empty name);
+  indexed = indexes-none (λ u. u.name) c.args.people.now (index_of c.new-names.result)
+      (λ name. ap (λ es. index_of es name) c.new-names.ensures ∙ index_of-empty name);
   none = none-first same_user c.args.people.now;
 }
 
@@ -22,10 +22,10 @@ pub returns-then-is_some-clause-fault : goal.returns-then-is_some-clause-fault
 returns-then-is_some-clause-fault c =
     let row : slice_get c.args.people.now c.loop-at.at ≡ Some c.index-people-at.result =
     slice_get_read c.args.people.now (length c.args.people.now) c.loop-at.at c.index-people-at.result refl c.loop-at-test.true c.index-people-at.is in
-    let there : is_some (place_of c.loop-at.names c.index-people-at.result.name) ≡ true =
-    ap (λ n. is_some (place_of c.loop-at.names n)) (sym c.as_slice-name.ensures) ∙ ap is_some (sym c.get.ensures) ∙ sym c.is_some.ensures ∙ c.if-is_some.true in
+    let there : is_some (index_of c.loop-at.names c.index-people-at.result.name) ≡ true =
+    ap (λ n. is_some (index_of c.loop-at.names n)) (sym c.as_slice-name.ensures) ∙ ap is_some (sym c.get.ensures) ∙ sym c.is_some.ensures ∙ c.if-is_some.true in
     let clashes : clashes_at same_user c.args.people.now c.loop-at.at ≡ true =
-    key-clash (λ u. u.name) c.args.people.now c.loop-at.at c.index-people-at.result (place_of c.loop-at.names) c.loop-at.invariant.indexed row ∙ there in
+    key-clash (λ u. u.name) c.args.people.now c.loop-at.at c.index-people-at.result (index_of c.loop-at.names) c.loop-at.invariant.indexed row ∙ there in
     let fault : option_map (λ (u : Person). UserTwice u.name) (first_clash same_user c.args.people.now) ≡ Some (UserTwice c.as_slice-name.result.now) =
     ap (option_map (λ (u : Person). UserTwice u.name)) (clash-is same_user c.args.people.now c.loop-at.at c.index-people-at.result c.loop-at.invariant.none row clashes)
     ∙ ap (λ n. Some (UserTwice n)) (sym c.as_slice-name.ensures) in
@@ -36,22 +36,22 @@ pub loop-at-preserved : goal.loop-at-preserved
 loop-at-preserved c =
     let row : slice_get c.args.people.now c.loop-at.at ≡ Some c.index-people-at.result =
     slice_get_read c.args.people.now (length c.args.people.now) c.loop-at.at c.index-people-at.result refl c.loop-at-test.true c.index-people-at.is in
-    let fresh : is_some (place_of c.loop-at.names c.index-people-at.result.name) ≡ false =
-    ap (λ n. is_some (place_of c.loop-at.names n)) (sym c.as_slice-name.ensures) ∙ ap is_some (sym c.get.ensures) ∙ sym c.is_some.ensures ∙ c.if-is_some.false in
+    let fresh : is_some (index_of c.loop-at.names c.index-people-at.result.name) ≡ false =
+    ap (λ n. is_some (index_of c.loop-at.names n)) (sym c.as_slice-name.ensures) ∙ ap is_some (sym c.get.ensures) ∙ sym c.is_some.ensures ∙ c.if-is_some.false in
     let added : c.insert.new.self ≡ c.loop-at.names ++ (c.index-people-at.result.name, c.loop-at.at) ∷ [] =
     c.in_ok-insert.ensures.ok ∙ ap (λ n. c.loop-at.names ++ (n, c.loop-at.at) ∷ []) c.as_slice-name.ensures in
     record {
-      indexed = indexes-more (λ u. u.name) c.args.people.now c.loop-at.at c.index-people-at.result (place_of c.loop-at.names) (place_of c.insert.new.self)
+      indexed = indexes-more (λ u. u.name) c.args.people.now c.loop-at.at c.index-people-at.result (index_of c.loop-at.names) (index_of c.insert.new.self)
           c.loop-at.invariant.indexed row (none-is _ fresh)
-          (λ other. ap (λ es. place_of es other) added ∙ place_of-append c.loop-at.names c.index-people-at.result.name c.loop-at.at other (none-is _ fresh));
+          (λ other. ap (λ es. index_of es other) added ∙ index_of-append c.loop-at.names c.index-people-at.result.name c.loop-at.at other (none-is _ fresh));
       none = none-more same_user c.args.people.now c.loop-at.at c.loop-at.invariant.none
-          (key-clash (λ u. u.name) c.args.people.now c.loop-at.at c.index-people-at.result (place_of c.loop-at.names) c.loop-at.invariant.indexed row ∙ fresh);
+          (key-clash (λ u. u.name) c.args.people.now c.loop-at.at c.index-people-at.result (index_of c.loop-at.names) c.loop-at.invariant.indexed row ∙ fresh);
     }
 
 pub returns-clause-names : goal.returns-clause-names
 returns-clause-names c =
     let end : c.loop-at.at ≡ length c.args.people.now = omega (arith, c.loop-at-test.false, c.loop-at.auto.at-end) in
-    let P : ℕ → Type 0 = λ n. Indexes (λ (u : Person). u.name) c.args.people.now n (place_of c.loop-at.names) in
+    let P : ℕ → Type 0 = λ n. Indexes (λ (u : Person). u.name) c.args.people.now n (index_of c.loop-at.names) in
     record {
       apart = clash-none same_user c.args.people.now c.loop-at.at c.loop-at.invariant.none c.loop-at-test.false;
       indexed = subst P end c.loop-at.invariant.indexed;

@@ -2,12 +2,12 @@ use Rattle.std.proofs.Common.{List, Result, Ok, Err, ℕ}
 use Rattle.std.specs.Result.{IfErr}
 use Rattle.sudo_text.specs.declared.token.Token.{Token}
 use Rattle.sudo_grammar.specs.declared.kind.Kind.{Kind}
-use Rattle.sudo_parser.specs.declared.stops.Stopped.{Stopped}
+use Rattle.sudo_parser.specs.declared.stops.ParserStop.{ParserStop}
 use Rattle.sudo_parser.specs.Body.Lists.{ReadsBangs, StopsAtMember, StopsInItem}
 use Rattle.sudo_parser.proofs.ListSteps.{item-stops}
 use Rattle.sudo_parser.proofs.lists.item.Goals as goal
 
-go : {X : Type 0} (kind : Kind) (ts : List Token) (count : ℕ) (rest : List Token) (r : Result X Stopped) → ReadsBangs ts count rest
+go : {X : Type 0} (kind : Kind) (ts : List Token) (count : ℕ) (rest : List Token) (r : Result X ParserStop) → ReadsBangs ts count rest
     → IfErr r (StopsAtMember kind count rest) → IfErr r (StopsInItem kind ts)
 go kind ts count rest (Ok x) b h = h
 go kind ts count rest (Err e) b h = item-stops kind ts count rest e b h

@@ -1,7 +1,7 @@
 use Rattle.std.proofs.Common.{Result, Ok, Err, ◌≡◌, subst, sym}
 use Rattle.std.specs.Result.{IsErrAnd}
 use Rattle.sudo_grammar.specs.declared.policy.EntryBody.{EntryBody}
-use Rattle.sudo_parser.specs.declared.stops.Stopped.{Stopped}
+use Rattle.sudo_parser.specs.declared.stops.ParserStop.{ParserStop}
 use Rattle.sudo_grammar.specs.Reading.{Stop}
 use Rattle.sudo_parser.specs.Body.Stops.{Stops, GivesEntry}
 use Rattle.sudo_parser.proofs.RuleSteps.{rule-reads, rule-stops}
@@ -12,7 +12,7 @@ returns c = λ room.
     rule-reads c.args.tokens.now c.in_ok-users.users c.in_ok-users.granted.now c.in_ok-sections.sections c.in_ok-users.ensures.reads
     c.in_ok-sections.ensures.reads room
 
-stopped : (r : Result EntryBody Stopped) (e : Stopped) (given : Result EntryBody Stop) → IsErrAnd r (λ y. y ≡ e) → Stops e given
+stopped : (r : Result EntryBody ParserStop) (e : ParserStop) (given : Result EntryBody Stop) → IsErrAnd r (λ y. y ≡ e) → Stops e given
     → GivesEntry r given
 stopped (Ok x) e given h p = absurd h
 stopped (Err y) e given h p = subst (λ x. Stops x given) (sym h) p

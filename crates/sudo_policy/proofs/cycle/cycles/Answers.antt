@@ -1,7 +1,7 @@
 use Rattle.std.proofs.Common.{◌≡◌, false, replicate, length, sym, ◌∙◌, arith}
 use Rattle.std.specs.List.{list_any}
 use Rattle.sudo_policy.specs.Body.Graph.{is_looped}
-use Rattle.sudo_policy.proofs.CycleLemmas.{no_marks, cycle_free, Decided-begin}
+use Rattle.sudo_policy.proofs.CycleLemmas.{no_marks, cycle_free, DecidesCycles-begin}
 use Rattle.sudo_policy.proofs.MarkingLemmas.{same_marks}
 use Rattle.sudo_policy.proofs.cycle.cycles.Goals as goal
 
@@ -22,5 +22,5 @@ decide_all-requires-clause-decided c =
     let blank : cyclic ≡ replicate (length g) false = c.as_mut_slice-3.ensures.value ∙ c.in_ok-cyclic.ensures.items_if_clones_equal (λ y e. e) in
     let long = c.in_ok-cyclic.ensures.len in
     let same = c.as_mut_slice-3.ensures.len in
-    Decided-begin g c.args.states.now c.as_mut_slice.result.now cyclic c.requires.holds c.requires.settled c.requires.sizes
+    DecidesCycles-begin g c.args.states.now c.as_mut_slice.result.now cyclic c.requires.holds c.requires.settled c.requires.sizes
     (c.as_mut_slice.ensures.value ∙ c.in_ok-done.ensures) (omega (arith, long, same)) (same_marks (length g) false cyclic blank)

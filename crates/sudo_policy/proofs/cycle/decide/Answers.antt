@@ -1,7 +1,7 @@
 use Rattle.std.proofs.Common.{ℕ, List, Bool, true, length, ap, subst, arith}
 use Rattle.std.specs.Prelude.{Contains}
 use Rattle.sudo_policy.specs.Body.Marking.{AreSet}
-use Rattle.sudo_policy.proofs.CycleLemmas.{Decided-next, path_inside}
+use Rattle.sudo_policy.proofs.CycleLemmas.{DecidesCycles-next, path_inside}
 use Rattle.sudo_policy.proofs.MarkingLemmas.{AreSet-kept, marked_more}
 use Rattle.sudo_policy.proofs.StateLemmas.{get_set_same}
 use Rattle.sudo_policy.proofs.cycle.decide.Goals as goal
@@ -34,7 +34,7 @@ returns-clause-decided c =
     let cyclic : AreSet true round c.args.cyclic.now c.set_marks.new.marks = subst (λ (xs : List ℕ). AreSet true xs c.args.cyclic.now c.set_marks.new.marks) c.as_slice.ensures.value c.set_marks.ensures in
     let put : AreSet true round c.round.new.done c.set_marks-2.new.marks = subst (λ (xs : List ℕ). AreSet true xs c.round.new.done c.set_marks-2.new.marks) c.as_slice-2.ensures.value c.set_marks-2.ensures in
     let set : AreSet true round done c.set_marks-2.new.marks = subst (λ (ms : List Bool). AreSet true round ms c.set_marks-2.new.marks) c.in_ok-round.ensures.same put in
-    Decided-next c.args.links.now c.args.node done c.args.cyclic.now round c.set_marks.new.marks c.set_marks-2.new.marks (omega (arith, inside, long)) c.requires.decided c.in_ok-round.ensures.found cyclic set
+    DecidesCycles-next c.args.links.now c.args.node done c.args.cyclic.now round c.set_marks.new.marks c.set_marks-2.new.marks (omega (arith, inside, long)) c.requires.decided c.in_ok-round.ensures.found cyclic set
 
 pub returns-clause-kept : goal.returns-clause-kept
 returns-clause-kept c i h =

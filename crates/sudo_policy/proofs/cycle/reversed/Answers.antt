@@ -1,8 +1,8 @@
 use Rattle.std.proofs.Common.{◌≡◌, ◌+◌, ℕ, List, Option, Some, drop, length, refl, sym, ap, ◌∙◌, subst, arith}
 use Rattle.std.specs.Prelude.{slice_get}
 use Rattle.std.proofs.lemmas.Option.{slice_get_read}
-use Rattle.sudo_policy.specs.Body.Marking.{TurnedTo, RowTurned}
-use Rattle.sudo_policy.proofs.MarkingLemmas.{row_inside, written_back, TurnedTo-next}
+use Rattle.sudo_policy.specs.Body.Marking.{ReversesUpTo, ReversesRow}
+use Rattle.sudo_policy.proofs.MarkingLemmas.{row_inside, written_back, ReversesUpTo-next}
 use Rattle.sudo_policy.proofs.cycle.reversed.Goals as goal
 
 pub turn_row-requires : goal.turn_row-requires
@@ -19,10 +19,10 @@ loop-from-preserved c =
     let g = c.args.links.now in
     let at : slice_get g c.loop-from.from ≡ Some c.as_slice.result.now = slice_get_read g (length g) c.loop-from.from c.index-links-from.result refl c.loop-from-test.true c.index-links-from.is ∙ ap Some (sym c.as_slice.ensures) in
     let new = c.turn_row.new.back in
-    let row : RowTurned c.loop-from.from c.as_slice.result.now c.loop-from.back.items new =
-    subst (λ (xs : List (List (Option ℕ))). RowTurned c.loop-from.from c.as_slice.result.now xs new) c.as_mut_slice.ensures.value c.in_ok-turn_row.ensures in
+    let row : ReversesRow c.loop-from.from c.as_slice.result.now c.loop-from.back.items new =
+    subst (λ (xs : List (List (Option ℕ))). ReversesRow c.loop-from.from c.as_slice.result.now xs new) c.as_mut_slice.ensures.value c.in_ok-turn_row.ensures in
     let same = row.same_length in
     let held = c.loop-from.back.ok.0 in
-    subst (λ (back : List (List (Option ℕ))). TurnedTo g (c.loop-from.from + 1) back)
+    subst (λ (back : List (List (Option ℕ))). ReversesUpTo g (c.loop-from.from + 1) back)
     (sym (written_back c.loop-from.back.len new (drop (length new) c.loop-from.back.items) (omega (arith, same, held))))
-    (TurnedTo-next g c.loop-from.back.items new c.loop-from.from c.as_slice.result.now at c.loop-from.invariant row)
+    (ReversesUpTo-next g c.loop-from.back.items new c.loop-from.from c.as_slice.result.now at c.loop-from.invariant row)

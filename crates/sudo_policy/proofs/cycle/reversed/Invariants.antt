@@ -1,6 +1,6 @@
 use Rattle.std.proofs.Common.{◌≡◌, ℕ, List, [], length, Some, Option}
 use Rattle.std.specs.Prelude.{slice_get}
-use Rattle.sudo_policy.specs.Body.Marking.{TurnedTo}
+use Rattle.sudo_policy.specs.Body.Marking.{ReversesUpTo}
 use Rattle.sudo_policy.proofs.cycle.reversed.Given as goal
 
 abbrev pub invariant-loop : goal.invariant-loop
@@ -10,4 +10,4 @@ invariant-loop l = record {
 }
 
 abbrev pub invariant-loop-from : goal.invariant-loop-from
-invariant-loop-from l = TurnedTo l.links l.from l.back.items
+invariant-loop-from l = ReversesUpTo l.links l.from l.back.items

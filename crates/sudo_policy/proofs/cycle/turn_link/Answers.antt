@@ -1,6 +1,6 @@
 use Rattle.std.proofs.Common.{rules, ◌<◌, ◌++◌, ◌∷◌, [], Some, length, refl, sym, ap, ◌∙◌}
 use Rattle.std.proofs.lemmas.Option.{slice_get_read}
-use Rattle.sudo_policy.proofs.MarkingLemmas.{inside_link, RowTurned-link}
+use Rattle.sudo_policy.proofs.MarkingLemmas.{inside_link, ReversesRow-link}
 use Rattle.sudo_policy.proofs.cycle.turn_link.Goals as goal
 
 pub offset_bounds-back-to : goal.offset_bounds-back-to
@@ -14,6 +14,6 @@ bounds-back-to c = inside_link c.args.link (length c.args.back.now) c.in-Some.to
 pub returns-in_ok-push : goal.returns-in_ok-push
 returns-in_ok-push c =
     let inside = inside_link c.args.link (length c.args.back.now) c.in-Some.to c.requires.inside c.in-Some.is in
-    RowTurned-link c.args.back.now c.args.from c.in-Some.to c.args.link c.index-back-to.result c.push.new.self c.in-Some.is
+    ReversesRow-link c.args.back.now c.args.from c.in-Some.to c.args.link c.index-back-to.result c.push.new.self c.in-Some.is
     (slice_get_read c.args.back.now (length c.args.back.now) c.in-Some.to c.index-back-to.result refl inside c.index-back-to.is)
     (c.in_ok-push.ensures.ok ∙ ap (λ r. r ++ Some c.args.from ∷ []) (sym c.index-back-to.is))

@@ -1,18 +1,18 @@
 use Rattle.std.proofs.Common.{◌≡◌, List, map, sym, ap, ◌∙◌, subst}
 use Rattle.std.specs.Prelude.{All}
 use Rattle.sudo_grammar.specs.declared.policy.Policy.{Policy}
-use Rattle.sudo_policy.specs.declared.survey.Named.{Named}
+use Rattle.sudo_policy.specs.declared.survey.DefinitionRef.{DefinitionRef}
 use Rattle.sudo_policy.specs.declared.survey.Survey.{Survey}
-use Rattle.sudo_policy.specs.Definitions.{Defined, definitions}
-use Rattle.sudo_policy.specs.Body.Named.{named_view, listed_view, IsSurvey, IsPlaced}
+use Rattle.sudo_policy.specs.Definitions.{AliasDefinition, definitions}
+use Rattle.sudo_policy.specs.Body.DefinitionRef.{alias_view, list_view, IsSurvey, IsPlaced}
 use Rattle.sudo_policy.proofs.ExaminedLemmas.{leads_inside, are_findings, sound_is}
 use Rattle.sudo_policy.proofs.IndexLemmas.{IsIndex-survey}
 use Rattle.sudo_policy.proofs.examination.examine.Goals as goal
 
 -- the survey is one of the policy's definitions
-survey_of : (p : Policy) (slice all : List Named) (survey : Survey) → slice ≡ all → map named_view all ≡ definitions p → All (IsPlaced p) all → ((q : Policy) → All (IsPlaced q) slice → IsSurvey q (map named_view slice) survey) → IsSurvey p (definitions p) survey
+survey_of : (p : Policy) (slice all : List DefinitionRef) (survey : Survey) → slice ≡ all → map alias_view all ≡ definitions p → All (IsPlaced p) all → ((q : Policy) → All (IsPlaced q) slice → IsSurvey q (map alias_view slice) survey) → IsSurvey p (definitions p) survey
 survey_of p slice all survey same are placed gives =
-    subst (λ (ds : List Defined). IsSurvey p ds survey) (ap (map named_view) same ∙ are) (gives p (subst (λ (ns : List Named). All (IsPlaced p) ns) (sym same) placed))
+    subst (λ (ds : List AliasDefinition). IsSurvey p ds survey) (ap (map alias_view) same ∙ are) (gives p (subst (λ (ns : List DefinitionRef). All (IsPlaced p) ns) (sym same) placed))
 
 pub judge-requires : goal.judge-requires
 judge-requires c = record {
@@ -25,9 +25,9 @@ returns-clause-findings c =
     let p = c.args.policy.now in
     let survey = c.in_ok-survey.survey in
     let s = survey_of p c.as_slice.result.now c.in_ok-all.all.items survey c.as_slice.ensures.value c.in_ok-all.ensures.all c.in_ok-all.ensures.placed c.in_ok-survey.ensures in
-    let ls = map listed_view c.in_ok-lists.lists.items in
-    let j = c.in_ok-judged.ensures p s (ap (map listed_view) c.as_slice-2.ensures.value ∙ c.in_ok-lists.ensures) in
-    are_findings p survey s c.in_ok-findings.findings.items (map listed_view c.as_slice-3.result.now) c.in_ok-judged.judged (ap (map listed_view) c.as_slice-3.ensures.value ∙ c.in_ok-lists.ensures) j c.in_ok-findings.ensures
+    let ls = map list_view c.in_ok-lists.lists.items in
+    let j = c.in_ok-judged.ensures p s (ap (map list_view) c.as_slice-2.ensures.value ∙ c.in_ok-lists.ensures) in
+    are_findings p survey s c.in_ok-findings.findings.items (map list_view c.as_slice-3.result.now) c.in_ok-judged.judged (ap (map list_view) c.as_slice-3.ensures.value ∙ c.in_ok-lists.ensures) j c.in_ok-findings.ensures
 
 pub returns-clause-index : goal.returns-clause-index
 returns-clause-index c =
@@ -40,5 +40,5 @@ returns-clause-sound c none =
     let p = c.args.policy.now in
     let survey = c.in_ok-survey.survey in
     let s = survey_of p c.as_slice.result.now c.in_ok-all.all.items survey c.as_slice.ensures.value c.in_ok-all.ensures.all c.in_ok-all.ensures.placed c.in_ok-survey.ensures in
-    let j = c.in_ok-judged.ensures p s (ap (map listed_view) c.as_slice-2.ensures.value ∙ c.in_ok-lists.ensures) in
-    sound_is p survey s c.in_ok-findings.findings.items (map listed_view c.as_slice-3.result.now) c.in_ok-judged.judged (ap (map listed_view) c.as_slice-3.ensures.value ∙ c.in_ok-lists.ensures) j c.in_ok-findings.ensures none
+    let j = c.in_ok-judged.ensures p s (ap (map list_view) c.as_slice-2.ensures.value ∙ c.in_ok-lists.ensures) in
+    sound_is p survey s c.in_ok-findings.findings.items (map list_view c.as_slice-3.result.now) c.in_ok-judged.judged (ap (map list_view) c.as_slice-3.ensures.value ∙ c.in_ok-lists.ensures) j c.in_ok-findings.ensures none

@@ -2,7 +2,7 @@ use Rattle.std.proofs.Common.{rules, ◌<◌, ◌≡◌, ℕ, [], List, Some, le
 use Rattle.std.specs.Prelude.{slice_get}
 use Rattle.std.proofs.lemmas.Option.{slice_get_read}
 use Rattle.sudo_policy.specs.Body.Graph.{Links}
-use Rattle.sudo_policy.specs.Body.Marking.{Marked}
+use Rattle.sudo_policy.specs.Body.Marking.{MarksRow}
 use Rattle.sudo_policy.proofs.MarkingLemmas.{row_inside}
 use Rattle.sudo_policy.proofs.PastLemmas.{Spreads, Spreads-begin, Spreads-next, Spreads-found, Spreads-set, waiting_inside}
 use Rattle.sudo_policy.proofs.reach.spread.Goals as goal
@@ -18,8 +18,8 @@ pub loop-alias-init : goal.loop-alias-init
 loop-alias-init c =
     let marks = c.mark_row.new.marks in
     let work = c.mark_row.new.work.items in
-    let begun : Marked c.args.roots.now c.args.marks.now [] marks work =
-    subst (λ (xs : List ℕ). Marked c.args.roots.now c.args.marks.now xs marks work) c.new-work.ensures.items c.in_ok-mark_row.ensures in
+    let begun : MarksRow c.args.roots.now c.args.marks.now [] marks work =
+    subst (λ (xs : List ℕ). MarksRow c.args.roots.now c.args.marks.now xs marks work) c.new-work.ensures.items c.in_ok-mark_row.ensures in
     subst (λ (xs : List ℕ). Spreads c.args.links.now c.args.roots.now c.args.marks.now xs marks work) (sym c.new-found.ensures.items)
     (Spreads-begin c.args.links.now c.args.roots.now c.args.marks.now marks work begun)
 

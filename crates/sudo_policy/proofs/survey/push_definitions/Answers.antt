@@ -4,13 +4,13 @@ use Rattle.std.proofs.lemmas.Option.{slice_get_read}
 use Rattle.sudo_grammar.specs.declared.policy.Definition.{Definition}
 use Rattle.sudo_policy.proofs.SurveyLemmas.{placed_push, push_step, same_defined}
 use Rattle.sudo_policy.specs.Definitions.{definition_in}
-use Rattle.sudo_policy.specs.Body.Named.{named_view}
+use Rattle.sudo_policy.specs.Body.DefinitionRef.{alias_view}
 use Rattle.sudo_policy.proofs.survey.push_definitions.Goals as goal
 
 pub loop-at-preserved : goal.loop-at-preserved
 loop-at-preserved c =
     record {
-      all = push_step named_view (definition_in c.args.kind c.args.place) c.loop-at.all.items c.push.new.self.items _ c.args.definitions.now c.loop-at.at c.index-definitions-at.result _
+      all = push_step alias_view (definition_in c.args.kind c.args.place) c.loop-at.all.items c.push.new.self.items _ c.args.definitions.now c.loop-at.at c.index-definitions-at.result _
           c.in_ok-push.ensures.items c.loop-at-test.true c.index-definitions-at.is
           (same_defined c.args.kind c.args.place _ _ _ _ c.as_slice.ensures c.as_slice-in-loop-at.ensures)
           c.loop-at.invariant.all;

@@ -1,5 +1,5 @@
 use Rattle.std.proofs.Common.{◌≡◌, ◌++◌, drop}
-use Rattle.sudo_policy.specs.Body.Named.{row_of}
+use Rattle.sudo_policy.specs.Body.DefinitionRef.{row_of}
 use Rattle.sudo_policy.proofs.survey.row.Given as goal
 
 abbrev pub invariant-loop-member : goal.invariant-loop-member

@@ -17,8 +17,8 @@ loop-continued-init c =
       numbers = omega arith;
     }
 
-pub returns-then-is_empty-clause-folded : goal.returns-then-is_empty-clause-folded
-returns-then-is_empty-clause-folded c =
+pub returns-then-is_empty-clause-logical_lines : goal.returns-then-is_empty-clause-logical_lines
+returns-then-is_empty-clause-logical_lines c =
     let i = c.loop-continued.invariant in
     end_of_text c.args.file c.args.first c.loop-continued.number c.len.result c.loop-continued.joined.items c.loop-continued.joins.items c.loop-continued.line.now c.loop-continued.rest.now
     c.loop-continued.continued _ i.progress c.loop-continued-test.true (search rules) (search rules)
@@ -38,8 +38,8 @@ loop-continued-preserved c =
       numbers = omega arith;
     }
 
-pub returns-clause-folded : goal.returns-clause-folded
-returns-clause-folded c =
+pub returns-clause-logical_lines : goal.returns-clause-logical_lines
+returns-clause-logical_lines c =
     let i = c.loop-continued.invariant in
     rw (c.into.ensures, c.into-2.ensures)
     (ending c.args.file c.args.first c.loop-continued.number c.loop-continued.joined.items _ c.loop-continued.joins.items c.loop-continued.line.now c.loop-continued.rest.now

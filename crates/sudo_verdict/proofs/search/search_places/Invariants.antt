@@ -2,7 +2,7 @@ use Rattle.std.proofs.Common.{◌≡◌, true, false, IsTrue, take, length}
 use Rattle.std.specs.List.{list_all}
 use Rattle.sudo_policy.specs.Resolving.{command_resolves}
 use Rattle.sudo_verdict.specs.Body.Queries.{question}
-use Rattle.sudo_verdict.specs.RunasForms.{runas_holds}
+use Rattle.sudo_verdict.specs.RunasForms.{runas_allows}
 use Rattle.sudo_verdict.specs.Tagged.{runas_before}
 use Rattle.sudo_verdict.specs.Found.{commands_found}
 use Rattle.sudo_verdict.proofs.search.search_places.Given as goal
@@ -10,7 +10,7 @@ use Rattle.sudo_verdict.proofs.search.search_places.Given as goal
 -- the places passed decide nothing
 abbrev pub invariant-loop-spec : goal.invariant-loop-spec
 invariant-loop-spec l = record {
-  refused : l.refused ≡ true → runas_holds l.checked (question l.query) (runas_before l.left) ≡ false;
+  refused : l.refused ≡ true → runas_allows l.checked (question l.query) (runas_before l.left) ≡ false;
   front : l.left ≡ take (length l.left) l.commands;
   resolve : IsTrue (list_all (command_resolves l.checked) l.left);
   same : commands_found l.checked (question l.query) l.place l.commands (length l.commands) ≡ commands_found l.checked (question l.query) l.place l.commands (length l.left);

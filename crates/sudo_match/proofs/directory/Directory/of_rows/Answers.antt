@@ -2,8 +2,8 @@ use Rattle.std.proofs.Common.{◌≡◌, true, false, not, ap, sym, ◌∙◌}
 use Rattle.std.specs.Prelude.{Some, None, find, is_some, codes}
 use Rattle.std.specs.Option.{option_copied}
 use Rattle.sudo_match.specs.declared.people.Person.{Person}
-use Rattle.sudo_base.specs.Places.{place_of}
-use Rattle.sudo_match.specs.Known.{directory_fault, is_no_group, IsRefusal}
+use Rattle.sudo_base.specs.NameIndices.{index_of}
+use Rattle.sudo_match.specs.KnownRows.{directory_fault, is_no_group, IsRefusal}
 use Rattle.sudo_match.proofs.FaultLemmas.{passed-on, refused-user, refused-host, refused-group, refused-ungrouped, refused-root, faultless, kept}
 use Rattle.sudo_match.proofs.directory.Directory.of_rows.Goals as goal
 
@@ -36,7 +36,7 @@ pub returns-then-is_none-clause-fault : goal.returns-then-is_none-clause-fault
 returns-then-is_none-clause-fault c =
     let grouped : find (λ u. is_no_group u.groups) c.args.people ≡ None =
     ap (find (λ (u : Person). is_no_group u.groups)) (sym c.as_slice-6.ensures) ∙ sym c.ungrouped.ensures ∙ ap option_copied c.in_default.is in
-    let missing : is_some (place_of c.in_ok-users.users (codes "root")) ≡ false = ap is_some (sym c.get.ensures) ∙ c.is_none.ensures ∙ ap not c.if-is_none.true in
+    let missing : is_some (index_of c.in_ok-users.users (codes "root")) ≡ false = ap is_some (sym c.get.ensures) ∙ c.is_none.ensures ∙ ap not c.if-is_none.true in
     refused-root c.args.people c.args.machines c.in_ok-users.users c.in_ok-hosts.hosts c.in_ok-groups.groups
     (rw (sym c.as_slice.ensures) c.in_ok-users.ensures.names) (rw (sym c.as_slice-2.ensures) c.in_ok-hosts.ensures.names)
     (rw (sym c.as_slice-4.ensures) c.in_ok-groups.ensures.names) grouped missing
@@ -45,13 +45,13 @@ pub returns-clause-faultless : goal.returns-clause-faultless
 returns-clause-faultless c =
     let grouped : find (λ u. is_no_group u.groups) c.args.people ≡ None =
     ap (find (λ (u : Person). is_no_group u.groups)) (sym c.as_slice-6.ensures) ∙ sym c.ungrouped.ensures ∙ ap option_copied c.in_default.is in
-    let known : is_some (place_of c.in_ok-users.users (codes "root")) ≡ true = ap is_some (sym c.get.ensures) ∙ c.is_none.ensures ∙ ap not c.if-is_none.false in
+    let known : is_some (index_of c.in_ok-users.users (codes "root")) ≡ true = ap is_some (sym c.get.ensures) ∙ c.is_none.ensures ∙ ap not c.if-is_none.false in
     faultless c.args.people c.args.machines c.in_ok-users.users c.in_ok-hosts.hosts c.in_ok-groups.groups
     (rw (sym c.as_slice.ensures) c.in_ok-users.ensures.names) (rw (sym c.as_slice-2.ensures) c.in_ok-hosts.ensures.names)
     (rw (sym c.as_slice-4.ensures) c.in_ok-groups.ensures.names) grouped known
 
 pub invariant_of-result : goal.invariant_of-result
 invariant_of-result c =
-    kept c.args.people c.args.machines c.in_ok-users.users c.in_ok-hosts.hosts c.in_ok-groups.groups c.in_ok-spots.spots.items
+    kept c.args.people c.args.machines c.in_ok-users.users c.in_ok-hosts.hosts c.in_ok-groups.groups c.in_ok-positions.positions.items
     (rw (sym c.as_slice.ensures) c.in_ok-users.ensures.names) (rw (sym c.as_slice-2.ensures) c.in_ok-hosts.ensures.names)
-    (rw (sym c.as_slice-4.ensures) c.in_ok-groups.ensures.names) (rw (sym c.as_slice-3.ensures) c.in_ok-spots.ensures) (returns-clause-faultless c)
+    (rw (sym c.as_slice-4.ensures) c.in_ok-groups.ensures.names) (rw (sym c.as_slice-3.ensures) c.in_ok-positions.ensures) (returns-clause-faultless c)

@@ -1,6 +1,0 @@
-use Rattle.std.specs.Prelude.{◌≡◌, ◌<◌, ℕ, Some, slice_get}
-use Rattle.audit_files.specs.declared.fault.FileFault.TheVariants.{Memory}
-use Rattle.audit_run.proofs.auditing.wants_memory.Given as goal
-
-abbrev pub invariant-loop-place : goal.invariant-loop-place
-invariant-loop-place l = (i : ℕ) → i < l.place → slice_get l.faults i ≡ Some (Some Memory) → ⊥

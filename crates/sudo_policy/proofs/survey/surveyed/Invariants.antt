@@ -1,8 +1,0 @@
-use Rattle.std.proofs.Common.{take, map}
-use Rattle.std.specs.Prelude.{All}
-use Rattle.sudo_grammar.specs.declared.policy.Policy.{Policy}
-use Rattle.sudo_policy.specs.Body.Named.{named_view, IsSurvey, IsPlaced}
-use Rattle.sudo_policy.proofs.survey.surveyed.Given as goal
-
-abbrev pub invariant-loop-definition : goal.invariant-loop-definition
-invariant-loop-definition l = (p : Policy) → All (IsPlaced p) l.definitions → IsSurvey p (map named_view (take l.definition-index l.definitions)) l.survey
