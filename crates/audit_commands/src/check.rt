@@ -16,11 +16,7 @@ use sudo_policy::{Finding, findings, has_error};
 use sudo_text::Seq;
 
 // Returns a line for each finding, and `ok` if none is an error.
-fn check_lines(
-    alloc: Global,
-    files: &[Seq<u8>],
-    found: &[Finding],
-) -> Result<RunOutput, AllocError>
+fn check_lines(alloc: Global, files: &[Seq<u8>], found: &[Finding]) -> Result<RunOutput, AllocError>
     ensures text { IfOk result (λ printed. printed.text.items ≡ check_text files.now found.now) }
     ensures status { IfOk result (λ printed. printed.status ≡ check_status found.now) }
 {

@@ -7,7 +7,7 @@ ghost use Rattle.audit_run.specs.declared.message.Outcome.{Outcome};
 
 use crate::message::{Job, Names, Outcome};
 use crate::rule;
-use crate::rule::{RuledQueue, Naming, QueuePass};
+use crate::rule::{Naming, QueuePass, RuledQueue};
 use std::alloc::{AllocError, Global};
 use std::marker::{Brand, Model};
 use std::sync::Wait;

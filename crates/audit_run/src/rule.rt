@@ -170,7 +170,10 @@ pub fn take<T: Message<N>, N, R: Wait>(
 }
 
 /// Splits off another pass of the queue, with 1 of the weight.
-pub fn split<T: Message<N>, N>(line: &RuledQueue<T, N>, seat: &mut QueuePass<T, N>) -> QueuePass<T, N>
+pub fn split<T: Message<N>, N>(
+    line: &RuledQueue<T, N>,
+    seat: &mut QueuePass<T, N>,
+) -> QueuePass<T, N>
     requires line { IsPassOf line.now seat.old }
     requires weight { 2 ≤ (view seat.old).weight }
     ensures line { IsSamePass seat.old seat.new × IsPassOf line.now result }
@@ -181,7 +184,11 @@ pub fn split<T: Message<N>, N>(line: &RuledQueue<T, N>, seat: &mut QueuePass<T, 
 }
 
 /// Joins a pass of the queue to this one.
-pub fn join<T: Message<N>, N>(line: &RuledQueue<T, N>, seat: &mut QueuePass<T, N>, other: QueuePass<T, N>)
+pub fn join<T: Message<N>, N>(
+    line: &RuledQueue<T, N>,
+    seat: &mut QueuePass<T, N>,
+    other: QueuePass<T, N>,
+)
     requires line { IsPassOf line.now seat.old × IsPassOf line.now other }
     requires weight { (0 < (view seat.old).weight) × (0 < (view other).weight) }
     ensures line { IsSamePass seat.old seat.new }

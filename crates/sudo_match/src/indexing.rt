@@ -133,7 +133,13 @@ pub(crate) fn group_names(
             return Ok(names);
         };
         let name = group.name.as_slice();
-        if clashes(people, positions, names.get(name), ids.get(group.gid), group) {
+        if clashes(
+            people,
+            positions,
+            names.get(name),
+            ids.get(group.gid),
+            group,
+        ) {
             return Err(DirFault::group_clash(alloc, name));
         }
         note(&mut names, alloc, name, at)?;

@@ -10,8 +10,8 @@ mod laws;
 mod matchers;
 mod patterns;
 mod people;
-mod request;
 mod positions;
+mod request;
 mod unclosed;
 
 pub use directory::Directory;

@@ -15,7 +15,10 @@ pub(crate) struct GroupPosition {
 }
 
 /// Returns the positions of all groups of all users, in order.
-pub(crate) fn positions_of(alloc: Global, people: &[Person]) -> Result<Vec<GroupPosition>, AllocError>
+pub(crate) fn positions_of(
+    alloc: Global,
+    people: &[Person],
+) -> Result<Vec<GroupPosition>, AllocError>
     ensures { IfOk result (λ positions. ArePositions people.now positions.items) }
 {
     let mut positions = Vec::new(alloc);
@@ -28,7 +31,11 @@ pub(crate) fn positions_of(alloc: Global, people: &[Person]) -> Result<Vec<Group
 }
 
 /// Returns the group at an index among all groups, or `None` if the index is past the last one.
-pub(crate) fn group_at<'a>(people: &'a [Person], positions: &[GroupPosition], index: usize) -> Option<&'a Group>
+pub(crate) fn group_at<'a>(
+    people: &'a [Person],
+    positions: &[GroupPosition],
+    index: usize,
+) -> Option<&'a Group>
     requires { ArePositions people.now positions.now }
     ensures { option_copied result ≡ slice_get (groups_of people.now) index }
 {

@@ -39,7 +39,13 @@ fn renamed(kind: Kind, token: &Token, rest: &[Token], refusal: Refusal) -> Refus
 }
 
 // Returns the stop at a token that is no member, with `left` tokens from it on.
-fn member_stop(kind: Kind, token: &Token, rest: &[Token], why: MemberFault, left: usize) -> ParserStop
+fn member_stop(
+    kind: Kind,
+    token: &Token,
+    rest: &[Token],
+    why: MemberFault,
+    left: usize,
+) -> ParserStop
     ensures { result ≡ stop_of_member kind token.now rest.now why left }
 {
     match why {

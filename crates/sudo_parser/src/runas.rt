@@ -10,7 +10,10 @@ use sudo_grammar::{Expected, Kind, Member, Runas};
 use sudo_text::{Mark, Seq, Token};
 
 // Reads the users, if any, and returns the tokens after them.
-fn runas_users(alloc: Global, tokens: &[Token]) -> Result<(Option<Seq<Member>>, &[Token]), ParserStop>
+fn runas_users(
+    alloc: Global,
+    tokens: &[Token],
+) -> Result<(Option<Seq<Member>>, &[Token]), ParserStop>
     requires { length tokens.now < 2 ^ 32 }
     ensures reads { IfOk result (λ r. ReadsUsers tokens.now r.0 r.1.now) }
     ensures stops { IfErr result (StopsInUsers tokens.now) }
@@ -23,7 +26,10 @@ fn runas_users(alloc: Global, tokens: &[Token]) -> Result<(Option<Seq<Member>>, 
 }
 
 // Reads the groups after the colon, if any, and returns the tokens after them.
-fn runas_groups(alloc: Global, tokens: &[Token]) -> Result<(Option<Seq<Member>>, &[Token]), ParserStop>
+fn runas_groups(
+    alloc: Global,
+    tokens: &[Token],
+) -> Result<(Option<Seq<Member>>, &[Token]), ParserStop>
     requires { length tokens.now < 2 ^ 32 }
     ensures reads { IfOk result (λ r. ReadsGroups tokens.now r.0 r.1.now) }
     ensures stops { IfErr result (StopsInGroups tokens.now) }
@@ -59,7 +65,10 @@ fn runas_lists(alloc: Global, tokens: &[Token]) -> Result<(Runas, &[Token]), Par
 }
 
 /// Reads the parentheses, if they come next, and returns the tokens after them.
-pub(crate) fn runas(alloc: Global, tokens: &[Token]) -> Result<(Option<Runas>, &[Token]), ParserStop>
+pub(crate) fn runas(
+    alloc: Global,
+    tokens: &[Token],
+) -> Result<(Option<Runas>, &[Token]), ParserStop>
     requires { length tokens.now < 2 ^ 32 }
     ensures reads { IfOk result (λ r. ReadsRunas tokens.now r.0 r.1.now) }
     ensures stops { IfErr result (StopsInRunas tokens.now) }

@@ -17,7 +17,9 @@ use crate::graph::{State, Visited, all_visited};
 use crate::index::Index;
 use crate::member::alias_name;
 use crate::reach::reached;
-use crate::survey::{MemberList, DefinitionRef, Survey, definitions, links, lists, roots, take_survey};
+use crate::survey::{
+    DefinitionRef, MemberList, Survey, definitions, links, lists, roots, take_survey,
+};
 use crate::{Class, Finding};
 use std::alloc::{AllocError, Global};
 use sudo_grammar::{Kind, Policy};
@@ -71,7 +73,11 @@ pub(crate) fn examine(alloc: Global, policy: &Policy) -> Result<Examination, All
 }
 
 // Judges each alias in force.
-fn judge(alloc: Global, survey: &Survey<'_>, lists: &[MemberList<'_>]) -> Result<AliasMarks, AllocError>
+fn judge(
+    alloc: Global,
+    survey: &Survey<'_>,
+    lists: &[MemberList<'_>],
+) -> Result<AliasMarks, AllocError>
     requires inside { LeadsInside survey.now }
     ensures { IfOk result (λ judged. (p : Policy) → IsSurvey p (policies.definitions p) survey.now
         → map list_view lists.now ≡ policies.lists p → AreAliasMarks p judged) }

@@ -33,7 +33,10 @@ pub(crate) struct MemberList<'a> {
 }
 
 /// Returns every definition of the policy, in order.
-pub(crate) fn definitions(alloc: Global, policy: &Policy) -> Result<Vec<DefinitionRef<'_>>, AllocError>
+pub(crate) fn definitions(
+    alloc: Global,
+    policy: &Policy,
+) -> Result<Vec<DefinitionRef<'_>>, AllocError>
     ensures all { IfOk result (λ all. map alias_view all.items ≡ definitions policy.now) }
     ensures placed { IfOk result (λ all. All (IsPlaced policy.now) all.items) }
 {
@@ -45,7 +48,11 @@ pub(crate) fn definitions(alloc: Global, policy: &Policy) -> Result<Vec<Definiti
 }
 
 // Appends the definitions of an entry.
-fn push_entry<'a>(entry: &'a Entry, at: usize, all: &mut Vec<DefinitionRef<'a>>) -> Result<(), AllocError>
+fn push_entry<'a>(
+    entry: &'a Entry,
+    at: usize,
+    all: &mut Vec<DefinitionRef<'a>>,
+) -> Result<(), AllocError>
     ensures placed { OnOk result ((p : Policy) → slice_get p.entries at ≡ Some entry.now
         → All (IsPlaced p) all.old.items → All (IsPlaced p) all.new.items) }
     ensures all { OnOk result (map alias_view all.new.items

@@ -151,7 +151,11 @@ fn verdicts(
     let requests = requests(alloc, lines)?;
     let mut text = String::new(alloc);
     for request in requests.as_slice() {
-        append(alloc, &mut text, verdict_of_bodies(alloc, &checked, directory, request)?)?;
+        append(
+            alloc,
+            &mut text,
+            verdict_of_bodies(alloc, &checked, directory, request)?,
+        )?;
     }
     Ok(text)
 }
