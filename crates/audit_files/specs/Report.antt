@@ -1,10 +1,13 @@
 -- The text of a report.
-use Rattle.std.specs.Prelude.{ℕ, Bool, true, false, List, [], ◌∷◌, ◌++◌, codes, decimal, flat_map, Option, Some, None}
+use Rattle.std.specs.Prelude.{ℕ, Bool, List, [], ◌∷◌, ◌++◌, codes, decimal, flat_map, fold, zip, Option, Some, None}
 use Rattle.csv.specs.Writing.{default_writer, row_text}
 use Rattle.audit_files.specs.Places.{place_text}
 use Rattle.audit_collect.specs.declared.arrival.Answer.{Answer}
 use Rattle.audit_collect.specs.declared.report.Report.{Report}
 use Rattle.audit_collect.specs.declared.report.SenderReport.{SenderReport}
+use Rattle.sudo_grammar.specs.declared.tag.Tag.{Tag}
+use Rattle.sudo_grammar.specs.declared.tag.TagPair.{TagPair}
+use Rattle.sudo_grammar.specs.Tags.{pairs, tag_name}
 use Rattle.sudo_match.specs.declared.request.Tags.{Tags}
 use Rattle.sudo_match.specs.declared.request.Verdict.{Verdict}
 use Rattle.sudo_match.specs.declared.request.Verdict.TheVariants.{Allow, Deny, NoMatch, Unknown}
@@ -40,28 +43,19 @@ verdict_place files (Deny place) = place_text files place
 verdict_place files NoMatch = []
 verdict_place files (Unknown w) = []
 
--- a choice's tag at the end of the tags so far, after a space unless it is the first
-abbrev pub with_name : List ℕ → List ℕ → List ℕ
-with_name [] name = name
-with_name (b ∷ before) name = (b ∷ before) ++ 32 ∷ name
+-- a tag's name at the end of those so far, after a space unless it is the first
+abbrev pub with_name : List ℕ → Tag → List ℕ
+with_name [] tag = tag_name tag
+with_name (b ∷ before) tag = (b ∷ before) ++ 32 ∷ tag_name tag
 
--- with the tag of a choice, if it is made: the first name for the tag itself, the second for its opposite
-abbrev pub with_tag : Option Bool → List ℕ → List ℕ → List ℕ → List ℕ
-with_tag None first second before = before
-with_tag (Some true) first second before = with_name before first
-with_tag (Some false) first second before = with_name before second
+-- with the tag of a pair, if a choice is made
+abbrev pub with_tag : List ℕ → TagPair × Option Bool → List ℕ
+with_tag before (p, Some on) = with_name before (record { pair = p; on = on })
+with_tag before (p, None) = before
 
--- the tags that are set, in their order, one space apart
+-- the tags that are set, in the order of the pairs, one space apart
 abbrev pub tags_text : Tags → List ℕ
-tags_text t =
-    with_tag t.setenv (codes "SETENV") (codes "NOSETENV") (
-    with_tag t.passwd (codes "PASSWD") (codes "NOPASSWD") (
-    with_tag t.mail (codes "MAIL") (codes "NOMAIL") (
-    with_tag t.log_output (codes "LOG_OUTPUT") (codes "NOLOG_OUTPUT") (
-    with_tag t.log_input (codes "LOG_INPUT") (codes "NOLOG_INPUT") (
-    with_tag t.intercept (codes "INTERCEPT") (codes "NOINTERCEPT") (
-    with_tag t.follow (codes "FOLLOW") (codes "NOFOLLOW") (
-    with_tag t.exec (codes "EXEC") (codes "NOEXEC") [])))))))
+tags_text t = fold with_tag [] (zip pairs t.choices)
 
 -- the tags of a grant, for `allow` alone
 abbrev pub verdict_tags : Verdict → List ℕ

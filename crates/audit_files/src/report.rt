@@ -8,6 +8,7 @@ use crate::records::Text;
 use audit_collect::{Answer, Report, SenderReport};
 use itoa::Buffer;
 use std::alloc::{AllocError, Global};
+use sudo_grammar::{TAG_PAIRS, Tag, TagPair};
 use sudo_match::{Tags, Verdict, What};
 use sudo_text::Seq;
 
@@ -38,28 +39,25 @@ fn set_place(text: &mut Vec<u8>, files: &[Seq<u8>], verdict: &Verdict) -> Result
 }
 
 // Puts a tag's name at the end, after a space unless it is the first.
-fn put_name(text: &mut Vec<u8>, name: &[u8]) -> Result<(), AllocError>
-    ensures { OnOk result (text.new.items ≡ with_name text.old.items name.now) }
+fn put_name(text: &mut Vec<u8>, tag: Tag) -> Result<(), AllocError>
+    ensures { OnOk result (text.new.items ≡ with_name text.old.items tag) }
 {
     if !text.is_empty() {
         text.push(b' ')?;
     }
-    text.extend_from_slice(name)?;
+    if !tag.on {
+        text.extend_from_slice(b"NO")?;
+    }
+    text.extend_from_slice(tag.pair.name())?;
     Ok(())
 }
 
 // Puts the tag of a choice, if it is made.
-fn put_tag(
-    text: &mut Vec<u8>,
-    choice: Option<bool>,
-    first: &[u8],
-    second: &[u8],
-) -> Result<(), AllocError>
-    ensures { OnOk result (text.new.items ≡ with_tag choice first.now second.now text.old.items) }
+fn put_tag(text: &mut Vec<u8>, pair: TagPair, choice: Option<bool>) -> Result<(), AllocError>
+    ensures { OnOk result (text.new.items ≡ with_tag text.old.items (pair, choice)) }
 {
     match choice {
-        Some(true) => put_name(text, first),
-        Some(false) => put_name(text, second),
+        Some(on) => put_name(text, Tag { pair, on }),
         None => Ok(()),
     }
 }
@@ -69,14 +67,9 @@ fn put_tags(text: &mut Vec<u8>, tags: &Tags) -> Result<(), AllocError>
     requires { text.old.items ≡ [] }
     ensures { OnOk result (text.new.items ≡ tags_text tags.now) }
 {
-    put_tag(text, tags.exec, b"EXEC", b"NOEXEC")?;
-    put_tag(text, tags.follow, b"FOLLOW", b"NOFOLLOW")?;
-    put_tag(text, tags.intercept, b"INTERCEPT", b"NOINTERCEPT")?;
-    put_tag(text, tags.log_input, b"LOG_INPUT", b"NOLOG_INPUT")?;
-    put_tag(text, tags.log_output, b"LOG_OUTPUT", b"NOLOG_OUTPUT")?;
-    put_tag(text, tags.mail, b"MAIL", b"NOMAIL")?;
-    put_tag(text, tags.passwd, b"PASSWD", b"NOPASSWD")?;
-    put_tag(text, tags.setenv, b"SETENV", b"NOSETENV")?;
+    for (pair, choice) in TAG_PAIRS.iter().zip(tags.choices.iter()) {
+        put_tag(text, *pair, *choice)?;
+    }
     Ok(())
 }
 

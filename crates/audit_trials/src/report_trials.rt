@@ -5,6 +5,7 @@ use audit_files::report_text;
 use std::alloc::{AllocError, Global};
 use std::test::Fail;
 use sudo_match::{Request, Tags, Verdict, What};
+use sudo_policy::{TAG_PAIRS, TagPair};
 use sudo_text::{Place, Seq};
 
 fn text(alloc: Global, text: &[u8]) -> Result<Seq<u8>, AllocError> {
@@ -28,16 +29,10 @@ fn answer(alloc: Global, number: u32, verdict: Verdict) -> Result<Answer, AllocE
 }
 
 fn nopasswd() -> Tags {
-    Tags {
-        exec: None,
-        follow: None,
-        intercept: None,
-        log_input: None,
-        log_output: None,
-        mail: None,
-        passwd: Some(false),
-        setenv: Some(true),
-    }
+    let mut choices = [None; TAG_PAIRS.len()];
+    choices[TagPair::Passwd as usize] = Some(false);
+    choices[TagPair::SetEnv as usize] = Some(true);
+    Tags { choices }
 }
 
 #[test]

@@ -17,7 +17,7 @@ use Rattle.std.specs.Str.{bytes_eq}
 use Rattle.sudo_grammar.specs.declared.kind.Kind.TheVariants as kinds
 use Rattle.sudo_grammar.specs.declared.kind.Atom.TheVariants as atoms
 use Rattle.sudo_grammar.specs.declared.policy.Runas.{Runas}
-use Rattle.sudo_grammar.specs.declared.policy.Tag.{Tag}
+use Rattle.sudo_grammar.specs.declared.tag.Tag.{Tag}
 use Rattle.sudo_grammar.specs.declared.policy.CommandSpec.{CommandSpec}
 use Rattle.sudo_grammar.specs.declared.policy.Section.{Section}
 use Rattle.sudo_text.specs.declared.token.Ch.{Ch}

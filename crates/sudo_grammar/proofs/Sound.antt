@@ -12,7 +12,7 @@ use Rattle.sudo_grammar.specs.declared.kind.Atom.{Atom}
 use Rattle.sudo_grammar.specs.declared.kind.Member.{Member}
 use Rattle.sudo_grammar.specs.declared.policy.Definition.{Definition}
 use Rattle.sudo_grammar.specs.declared.policy.Runas.{Runas}
-use Rattle.sudo_grammar.specs.declared.policy.Tag.{Tag}
+use Rattle.sudo_grammar.specs.declared.tag.Tag.{Tag}
 use Rattle.sudo_grammar.specs.declared.policy.CommandSpec.{CommandSpec}
 use Rattle.sudo_grammar.specs.declared.policy.Binding.{Binding}
 use Rattle.sudo_grammar.specs.declared.policy.Operator.{Operator}

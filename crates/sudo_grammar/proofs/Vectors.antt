@@ -18,12 +18,16 @@ use Rattle.sudo_grammar.specs.declared.policy.EntryBody.TheVariants as entries
 use Rattle.sudo_grammar.specs.declared.policy.Operator.TheVariants as operators
 use Rattle.sudo_grammar.specs.declared.policy.Parameter.TheVariants as parameters
 use Rattle.sudo_grammar.specs.declared.policy.Binding.TheVariants as bindings
-use Rattle.sudo_grammar.specs.declared.policy.Tag.TheVariants as tags
+use Rattle.sudo_grammar.specs.declared.tag.Tag.{Tag}
+use Rattle.sudo_grammar.specs.declared.tag.TagPair.{TagPair}
+use Rattle.sudo_grammar.specs.declared.tag.TagPair.TheVariants as pairs
 use Rattle.sudo_grammar.specs.declared.fault.Expected.{Expected}
 use Rattle.sudo_grammar.specs.declared.fault.Expected.TheVariants as wants
 use Rattle.sudo_grammar.specs.declared.fault.Unsupported.TheVariants as forms
 use Rattle.sudo_grammar.specs.declared.fault.Refusal.{Refusal}
 use Rattle.sudo_grammar.specs.declared.fault.Refusal.TheVariants as refusals
+use Rattle.sudo_grammar.specs.Tags.{tag_name}
+use Rattle.sudo_grammar.specs.Words.{tag_of_name}
 use Rattle.sudo_grammar.specs.States.{Room, Start}
 use Rattle.sudo_grammar.specs.Reading.{reading, Stop}
 
@@ -362,7 +366,7 @@ granted : Reads (w 0 "root" ∷ w 5 "ALL" ∷ m 8 marks.Equals ∷ m 9 marks.Lef
       hosts = the (w 5 "ALL") atoms.All ∷ [];
       commands = record {
         runas = Some (record { users = Some (the (w 10 "ALL") atoms.All ∷ []); groups = None });
-        tags = tags.NoPasswd ∷ [];
+        tags = record { pair = pairs.Passwd; on = false } ∷ [];
         command = the (c 25 "/bin/ls") (atoms.Command (chars "/bin/ls") None);
       } ∷ [];
     } ∷ []))
@@ -438,3 +442,11 @@ bound_runas = refl
 included : Reads (include 10 "a" ∷ [])
     (entries.Include false false (chars "a"))
 included = refl
+
+abbrev IsRead : Tag → Type 0
+IsRead tag = tag_of_name (tag_name tag) ≡ Some tag
+
+-- Each tag is read by its name; so no two names are the same.
+tags_are_read : (p : TagPair) → IsRead (record { pair = p; on = true }) × IsRead (record { pair = p; on = false })
+tags_are_read pairs.Exec = (refl, refl)
+tags_are_read _ = (refl, refl)

@@ -1,5 +1,6 @@
 pub mod Includes
 pub mod Kinds
+pub mod Tags
 pub mod Words
 pub mod Members
 pub mod Openings

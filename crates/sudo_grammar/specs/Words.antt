@@ -1,7 +1,8 @@
 -- What a word spells: names of aliases, keywords, tags, options of a command and names of digests, as sudoers(5) lists
 -- them. All of these are unquoted words without escapes.
-use Rattle.std.specs.Prelude.{ℕ, Bool, false, not, ◌&&◌, ◌||◌, ◌==◌, nat_le, List, [], ◌∷◌, map, Option, None, Some, if◌then◌else◌, codes}
+use Rattle.std.specs.Prelude.{ℕ, Bool, true, false, not, ◌&&◌, ◌||◌, ◌==◌, nat_le, List, [], ◌∷◌, map, find, Option, None, Some, if◌then◌else◌, codes}
 use Rattle.std.specs.List.{list_all, list_any}
+use Rattle.std.specs.Option.{option_or}
 use Rattle.std.specs.Str.{bytes_eq}
 use Rattle.sudo_text.specs.Bytes.{is_digit}
 use Rattle.sudo_text.specs.declared.token.Ch.{Ch}
@@ -9,8 +10,8 @@ use Rattle.sudo_text.specs.declared.token.TokenKind.{TokenKind}
 use Rattle.sudo_text.specs.declared.token.TokenKind.TheVariants as tokens
 use Rattle.sudo_grammar.specs.declared.kind.Kind.{Kind}
 use Rattle.sudo_grammar.specs.declared.kind.Kind.TheVariants as kinds
-use Rattle.sudo_grammar.specs.declared.policy.Tag.{Tag}
-use Rattle.sudo_grammar.specs.declared.policy.Tag.TheVariants as tags
+use Rattle.sudo_grammar.specs.declared.tag.Tag.{Tag}
+use Rattle.sudo_grammar.specs.Tags.{pairs, tag_name}
 
 -- the bytes of characters, escaped or not
 abbrev pub bytes_of : List Ch → List ℕ
@@ -53,26 +54,13 @@ kind_of_keyword w =
     else if bytes_eq w (codes "Cmnd_Alias") || bytes_eq w (codes "Cmd_Alias") then Some kinds.Cmnd
     else None
 
+-- the tag that a name spells, among the pairs' tags if on, and else among their opposites
+abbrev pub tag_switched : List ℕ → Bool → Option Tag
+tag_switched w on = find (λ tag. bytes_eq w (tag_name tag)) (map (λ p. record { pair = p; on = on }) pairs)
+
 -- the tag that a name spells
 abbrev pub tag_of_name : List ℕ → Option Tag
-tag_of_name w =
-    if bytes_eq w (codes "EXEC") then Some tags.Exec
-    else if bytes_eq w (codes "NOEXEC") then Some tags.NoExec
-    else if bytes_eq w (codes "FOLLOW") then Some tags.Follow
-    else if bytes_eq w (codes "NOFOLLOW") then Some tags.NoFollow
-    else if bytes_eq w (codes "INTERCEPT") then Some tags.Intercept
-    else if bytes_eq w (codes "NOINTERCEPT") then Some tags.NoIntercept
-    else if bytes_eq w (codes "LOG_INPUT") then Some tags.LogInput
-    else if bytes_eq w (codes "NOLOG_INPUT") then Some tags.NoLogInput
-    else if bytes_eq w (codes "LOG_OUTPUT") then Some tags.LogOutput
-    else if bytes_eq w (codes "NOLOG_OUTPUT") then Some tags.NoLogOutput
-    else if bytes_eq w (codes "MAIL") then Some tags.Mail
-    else if bytes_eq w (codes "NOMAIL") then Some tags.NoMail
-    else if bytes_eq w (codes "PASSWD") then Some tags.Passwd
-    else if bytes_eq w (codes "NOPASSWD") then Some tags.NoPasswd
-    else if bytes_eq w (codes "SETENV") then Some tags.SetEnv
-    else if bytes_eq w (codes "NOSETENV") then Some tags.NoSetEnv
-    else None
+tag_of_name w = option_or (tag_switched w true) (tag_switched w false)
 
 -- the tag that a token spells
 abbrev pub tag_in : Option (List ℕ) → Option Tag

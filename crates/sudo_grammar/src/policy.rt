@@ -3,7 +3,7 @@ ghost use Rattle.std.specs.Prelude.{IsTrue, nat_lt, length, not};
 ghost use Rattle.std.specs.List.{list_all};
 ghost use Rattle.sudo_grammar.specs.Includes.{is_include};
 
-use crate::{Kind, Member};
+use crate::{Kind, Member, Tag};
 use sudo_text::{Ch, Place, Seq, Token};
 
 /// A policy of sudoers(5): the entries of its files, in the order in which they are read.
@@ -84,27 +84,6 @@ pub struct CommandSpec {
 pub struct Runas {
     pub users: Option<Seq<Member>>,
     pub groups: Option<Seq<Member>>,
-}
-
-/// A tag of a command; each stands beside its opposite.
-#[derive(Clone, Copy, Debug, PartialEq, Eq, PartialOrd, Ord, Hash)]
-pub enum Tag {
-    Exec,
-    NoExec,
-    Follow,
-    NoFollow,
-    Intercept,
-    NoIntercept,
-    LogInput,
-    NoLogInput,
-    LogOutput,
-    NoLogOutput,
-    Mail,
-    NoMail,
-    Passwd,
-    NoPasswd,
-    SetEnv,
-    NoSetEnv,
 }
 
 /// The list to which a `Defaults` line is bound: `@hosts`, `:users`, `!commands` or `>runas`.

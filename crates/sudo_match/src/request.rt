@@ -1,5 +1,6 @@
 //! Requests and verdicts.
 
+use sudo_grammar::TAG_PAIRS;
 use sudo_text::{Place, Seq};
 
 /// A request to run a command: who asks, where, and as whom.
@@ -24,14 +25,8 @@ pub struct Request {
 /// A choice for each pair of tags, or none: `Some(true)` is the tag (`EXEC`), `Some(false)` its opposite (`NOEXEC`).
 #[derive(Clone, Copy, Debug, PartialEq, Eq)]
 pub struct Tags {
-    pub exec: Option<bool>,
-    pub follow: Option<bool>,
-    pub intercept: Option<bool>,
-    pub log_input: Option<bool>,
-    pub log_output: Option<bool>,
-    pub mail: Option<bool>,
-    pub passwd: Option<bool>,
-    pub setenv: Option<bool>,
+    /// In the order of `TAG_PAIRS`.
+    pub choices: [Option<bool>; TAG_PAIRS.len()],
 }
 
 /// Which name of a request is unknown.

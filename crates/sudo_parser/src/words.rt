@@ -3,10 +3,12 @@ ghost use Rattle.std.specs.Prelude.{◌≡◌, ◌&&◌, IfOk};
 ghost use Rattle.std.specs.Str.{bytes_eq};
 ghost use Rattle.std.specs.List.{list_all};
 ghost use Rattle.sudo_grammar.specs.Words.{bytes_of, is_plain, plain_word, is_name, is_name_byte, begins_upper, name_of, tag_of, tag_of_name, is_option_name, is_digest_name};
+ghost use Rattle.sudo_grammar.specs.Tags.{tag_name};
+ghost use Rattle.sudo_grammar.specs.Words as words;
 ghost use Rattle.sudo_grammar.specs.Openings as openings;
 
 use std::alloc::{AllocError, Global};
-use sudo_grammar::Tag;
+use sudo_grammar::{TAG_PAIRS, Tag};
 use sudo_text::{Ch, Seq, TokenKind};
 
 pub(crate) const ALL: &[u8] = b"ALL";
@@ -95,51 +97,34 @@ pub(crate) fn name(alloc: Global, token: &TokenKind) -> Result<Option<Seq<u8>>, 
     }
 }
 
-fn is_text_of(word: &[u8], text: &[u8]) -> bool
-    ensures { result ≡ bytes_eq word.now text.now }
+/// Whether a name is that of a tag.
+fn is_name_of(name: &[u8], tag: Tag) -> bool
+    ensures { result ≡ bytes_eq name.now (tag_name tag) }
 {
-    word == text
+    if tag.on {
+        return name == tag.pair.name();
+    }
+    match name {
+        [first, second, rest @ ..] => *first == b'N' && *second == b'O' && rest == tag.pair.name(),
+        _ => false,
+    }
+}
+
+/// The tag that a name spells, among the pairs' tags if on, and else among their opposites.
+fn tag_switched(name: &[u8], on: bool) -> Option<Tag>
+    ensures { result ≡ words.tag_switched name.now on }
+{
+    TAG_PAIRS
+        .iter()
+        .map(|pair| Tag { pair: *pair, on })
+        .find(|tag| is_name_of(name, *tag))
 }
 
 /// The tag that a name spells.
 fn tag_named(name: &[u8]) -> Option<Tag>
     ensures { result ≡ tag_of_name name.now }
 {
-    if is_text_of(name, b"EXEC") {
-        Some(Tag::Exec)
-    } else if is_text_of(name, b"NOEXEC") {
-        Some(Tag::NoExec)
-    } else if is_text_of(name, b"FOLLOW") {
-        Some(Tag::Follow)
-    } else if is_text_of(name, b"NOFOLLOW") {
-        Some(Tag::NoFollow)
-    } else if is_text_of(name, b"INTERCEPT") {
-        Some(Tag::Intercept)
-    } else if is_text_of(name, b"NOINTERCEPT") {
-        Some(Tag::NoIntercept)
-    } else if is_text_of(name, b"LOG_INPUT") {
-        Some(Tag::LogInput)
-    } else if is_text_of(name, b"NOLOG_INPUT") {
-        Some(Tag::NoLogInput)
-    } else if is_text_of(name, b"LOG_OUTPUT") {
-        Some(Tag::LogOutput)
-    } else if is_text_of(name, b"NOLOG_OUTPUT") {
-        Some(Tag::NoLogOutput)
-    } else if is_text_of(name, b"MAIL") {
-        Some(Tag::Mail)
-    } else if is_text_of(name, b"NOMAIL") {
-        Some(Tag::NoMail)
-    } else if is_text_of(name, b"PASSWD") {
-        Some(Tag::Passwd)
-    } else if is_text_of(name, b"NOPASSWD") {
-        Some(Tag::NoPasswd)
-    } else if is_text_of(name, b"SETENV") {
-        Some(Tag::SetEnv)
-    } else if is_text_of(name, b"NOSETENV") {
-        Some(Tag::NoSetEnv)
-    } else {
-        None
-    }
+    tag_switched(name, true).or(tag_switched(name, false))
 }
 
 /// The tag that a token spells.

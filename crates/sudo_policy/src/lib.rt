@@ -25,6 +25,6 @@ pub use law::{findings_are_one_list, lists_are_written, written_form_is_one};
 pub use member::{alias_name, is_negated};
 pub use sudo_grammar::{
     Atom, Binding, CommandSpec, Definition, Entry, EntryBody, Expected, Kind, Member, Operator,
-    Parameter, ParseFault, Policy, Runas, Section, Signed, Tag, Unsupported,
+    Parameter, ParseFault, Policy, Runas, Section, Signed, TAG_PAIRS, Tag, TagPair, Unsupported,
 };
 pub use sudo_parser::{member_text, parse};

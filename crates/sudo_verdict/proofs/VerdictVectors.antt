@@ -1,6 +1,6 @@
 -- Worked examples of verdicts, each by computation. The comment of each has its rules and requests as sudoers(5) writes
 -- them.
-use Rattle.std.proofs.Common.{◌≡◌, ℕ, true, false, List, [], ◌∷◌, map, Option, Some, None, refl, IsTrue}
+use Rattle.std.proofs.Common.{◌≡◌, ℕ, Bool, true, false, List, [], ◌∷◌, map, Option, Some, None, refl, IsTrue}
 use Rattle.std.specs.Prelude.{codes, nat_lt, not}
 use Rattle.std.specs.List.{list_all}
 use Rattle.sudo_text.specs.declared.line.Place.{Place}
@@ -13,8 +13,10 @@ use Rattle.sudo_grammar.specs.declared.kind.Kind.TheVariants as kind
 use Rattle.sudo_grammar.specs.declared.kind.Atom.{Atom}
 use Rattle.sudo_grammar.specs.declared.kind.Atom.TheVariants as atom
 use Rattle.sudo_grammar.specs.declared.kind.Member.{Member}
-use Rattle.sudo_grammar.specs.declared.policy.Tag.{Tag}
-use Rattle.sudo_grammar.specs.declared.policy.Tag.TheVariants as tag
+use Rattle.sudo_grammar.specs.Tags.{pairs}
+use Rattle.sudo_grammar.specs.declared.tag.Tag.{Tag}
+use Rattle.sudo_grammar.specs.declared.tag.TagPair.{TagPair}
+use Rattle.sudo_grammar.specs.declared.tag.TagPair.TheVariants as pair
 use Rattle.sudo_grammar.specs.declared.policy.Runas.{Runas}
 use Rattle.sudo_grammar.specs.declared.policy.CommandSpec.{CommandSpec}
 use Rattle.sudo_grammar.specs.declared.policy.Section.{Section}
@@ -94,6 +96,12 @@ host name = with_bangs 0 (atom.Host (spelled name) false)
 
 -- ---- Commands, sections, rules, policies
 
+abbrev own : TagPair → Tag
+own p = record { pair = p; on = true }
+
+abbrev opposite : TagPair → Tag
+opposite p = record { pair = p; on = false }
+
 abbrev spec : Option Runas → List Tag → Member → CommandSpec
 spec r tags c = record { runas = r; tags = tags; command = c }
 
@@ -141,14 +149,24 @@ asks c = asks_on (codes "web1") c None None
 abbrev asks_as : Option (List ℕ) → Option (List ℕ) → Request
 asks_as target group = asks_on (codes "web1") (codes "/bin/id") target group
 
+abbrev choice_made : Option Bool → Option Bool → Option Bool → TagPair → Option Bool
+choice_made exec passwd setenv pair.Exec = exec
+choice_made exec passwd setenv pair.Passwd = passwd
+choice_made exec passwd setenv pair.SetEnv = setenv
+choice_made exec passwd setenv _ = None
+
+-- choices for the pairs of EXEC, PASSWD and SETENV alone
+abbrev chosen : Option Bool → Option Bool → Option Bool → Tags
+chosen exec passwd setenv = record { choices = map (choice_made exec passwd setenv) pairs }
+
 abbrev no_tags : Tags
-no_tags = record { exec = None; follow = None; intercept = None; log_input = None; log_output = None; mail = None; passwd = None; setenv = None }
+no_tags = chosen None None None
 
 abbrev allowed : ℕ → Verdict
 allowed n = Allow (line n) no_tags
 
 abbrev allowed_setenv : ℕ → Verdict
-allowed_setenv n = Allow (line n) (record no_tags { setenv = Some true })
+allowed_setenv n = Allow (line n) (chosen None None (Some true))
 
 -- ---- Policies and verdicts
 
@@ -170,13 +188,13 @@ abbrev all_then_ls : Policy
 all_then_ls = policy (alice_all 1 (plain everything ∷ plain (command (codes "/bin/ls")) ∷ []) ∷ []) refl refl
 
 abbrev no_setenv_all : Policy
-no_setenv_all = policy (alice_all 1 (spec None (tag.NoSetEnv ∷ []) everything ∷ []) ∷ []) refl refl
+no_setenv_all = policy (alice_all 1 (spec None (opposite pair.SetEnv ∷ []) everything ∷ []) ∷ []) refl refl
 
 -- `alice ALL = ALL, /bin/ls`: the deciding command is not ALL; `alice ALL = NOSETENV: ALL`: the pair is set
 pub setenv_is_for_all_alone :
     (verdict_of all_then_ls known (asks (codes "/bin/ls")) ≡ allowed 1)
     × (verdict_of all_then_ls known (asks (codes "/bin/su")) ≡ allowed_setenv 1)
-    × (verdict_of no_setenv_all known (asks (codes "/bin/ls")) ≡ Allow (line 1) (record no_tags { setenv = Some false }))
+    × (verdict_of no_setenv_all known (asks (codes "/bin/ls")) ≡ Allow (line 1) (chosen None None (Some false)))
 unfolding reading_within written user_named host_named group_named user_fits group_fits host_fits command_fits host_chars free_bangs parts_after part_at bracket_after items_after range_at begins fits cuts tags_named tags_before tags_at runas_before runas_at value form_allows runas_allows place_grants section_grants grants applies question_of verdict_on verdict_of
 setenv_is_for_all_alone = (refl, refl, refl)
 
@@ -262,24 +280,24 @@ unfolding reading_within written user_named host_named group_named user_fits gro
 runas_holds_for_later_commands = (refl, refl, refl, refl, refl)
 
 abbrev two_sections : Policy
-two_sections = policy (rule 1 (named (codes "alice") ∷ []) (on (host (codes "web1") ∷ []) (spec None (tag.NoPasswd ∷ []) (command (codes "/bin/kill")) ∷ plain (command (codes "/usr/bin/lprm")) ∷ spec None (tag.Passwd ∷ []) (command (codes "/bin/ls")) ∷ []) ∷ on (host (codes "web2") ∷ []) (plain (command (codes "/bin/kill")) ∷ []) ∷ []) ∷ []) refl refl
+two_sections = policy (rule 1 (named (codes "alice") ∷ []) (on (host (codes "web1") ∷ []) (spec None (opposite pair.Passwd ∷ []) (command (codes "/bin/kill")) ∷ plain (command (codes "/usr/bin/lprm")) ∷ spec None (own pair.Passwd ∷ []) (command (codes "/bin/ls")) ∷ []) ∷ on (host (codes "web2") ∷ []) (plain (command (codes "/bin/kill")) ∷ []) ∷ []) ∷ []) refl refl
 
 -- `web1 = NOPASSWD: /bin/kill, /usr/bin/lprm, PASSWD: /bin/ls : web2 = /bin/kill`: a tag holds for the later commands of its section until its opposite, and not in the next section
 pub tags_stay_in_their_section :
-    (verdict_of two_sections known (asks (codes "/bin/kill")) ≡ Allow (line 1) (record no_tags { passwd = Some false }))
-    × (verdict_of two_sections known (asks (codes "/usr/bin/lprm")) ≡ Allow (line 1) (record no_tags { passwd = Some false }))
-    × (verdict_of two_sections known (asks (codes "/bin/ls")) ≡ Allow (line 1) (record no_tags { passwd = Some true }))
+    (verdict_of two_sections known (asks (codes "/bin/kill")) ≡ Allow (line 1) (chosen None (Some false) None))
+    × (verdict_of two_sections known (asks (codes "/usr/bin/lprm")) ≡ Allow (line 1) (chosen None (Some false) None))
+    × (verdict_of two_sections known (asks (codes "/bin/ls")) ≡ Allow (line 1) (chosen None (Some true) None))
     × (verdict_of two_sections known (asks_on (codes "web2") (codes "/bin/kill") None None) ≡ allowed 1)
     × (verdict_of two_sections known (asks_on (codes "web2") (codes "/bin/ls") None None) ≡ NoMatch)
 unfolding reading_within written user_named host_named group_named user_fits group_fits host_fits command_fits host_chars free_bangs parts_after part_at bracket_after items_after range_at begins fits cuts tags_named tags_before tags_at runas_before runas_at value form_allows runas_allows place_grants section_grants grants applies question_of verdict_on verdict_of
 tags_stay_in_their_section = (refl, refl, refl, refl, refl)
 
 abbrev pair_twice : Policy
-pair_twice = policy (alice_all 1 (spec None (tag.NoPasswd ∷ tag.Passwd ∷ tag.NoExec ∷ []) (command (codes "/bin/ls")) ∷ []) ∷ []) refl refl
+pair_twice = policy (alice_all 1 (spec None (opposite pair.Passwd ∷ own pair.Passwd ∷ opposite pair.Exec ∷ []) (command (codes "/bin/ls")) ∷ []) ∷ []) refl refl
 
 -- `NOPASSWD: PASSWD: NOEXEC: /bin/ls`: of two tags of one pair the last counts
 pub the_last_tag_of_a_pair :
-    (verdict_of pair_twice known (asks (codes "/bin/ls")) ≡ Allow (line 1) (record no_tags { passwd = Some true; exec = Some false }))
+    (verdict_of pair_twice known (asks (codes "/bin/ls")) ≡ Allow (line 1) (chosen (Some false) (Some true) None))
 unfolding reading_within written user_named host_named group_named user_fits group_fits host_fits command_fits host_chars free_bangs parts_after part_at bracket_after items_after range_at begins fits cuts tags_named tags_before tags_at runas_before runas_at value form_allows runas_allows place_grants section_grants grants applies question_of verdict_on verdict_of
 the_last_tag_of_a_pair = refl
 

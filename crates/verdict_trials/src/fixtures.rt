@@ -89,6 +89,18 @@ fn line_of(verdict: Verdict) -> Option<u32> {
     }
 }
 
+// The names of the pairs' tags, in the order of a report.
+const TAG_NAMES: [&str; 8] = [
+    "EXEC",
+    "FOLLOW",
+    "INTERCEPT",
+    "LOG_INPUT",
+    "LOG_OUTPUT",
+    "MAIL",
+    "PASSWD",
+    "SETENV",
+];
+
 // Appends a tag that is set, by its name or the name of its opposite.
 fn append_tag(text: &mut String, choice: Option<bool>, name: &str) -> Result<(), AllocError> {
     if let Some(is_set) = choice {
@@ -100,14 +112,9 @@ fn append_tag(text: &mut String, choice: Option<bool>, name: &str) -> Result<(),
 
 fn append_tags(text: &mut String, verdict: Verdict) -> Result<(), AllocError> {
     if let Verdict::Allow { tags, .. } = verdict {
-        append_tag(text, tags.exec, "EXEC")?;
-        append_tag(text, tags.follow, "FOLLOW")?;
-        append_tag(text, tags.intercept, "INTERCEPT")?;
-        append_tag(text, tags.log_input, "LOG_INPUT")?;
-        append_tag(text, tags.log_output, "LOG_OUTPUT")?;
-        append_tag(text, tags.mail, "MAIL")?;
-        append_tag(text, tags.passwd, "PASSWD")?;
-        append_tag(text, tags.setenv, "SETENV")?;
+        for (name, choice) in TAG_NAMES.iter().zip(tags.choices.iter()) {
+            append_tag(text, *choice, name)?;
+        }
     }
     Ok(())
 }

@@ -8,8 +8,8 @@ use sudo_match::{
     Directory, Group, Machine, Person, command_matches, group_matches, host_matches, user_matches,
 };
 use sudo_policy::{
-    Atom, Checked, CommandSpec, Entry, EntryBody, ExpandFault, Kind, Member, Runas, Section, Tag,
-    expand, is_negated,
+    Atom, Checked, CommandSpec, Entry, EntryBody, ExpandFault, Kind, Member, Runas, Section,
+    TAG_PAIRS, Tag, TagPair, expand, is_negated,
 };
 use sudo_text::{Place, Seq};
 use sudo_verdict::{Request, Tags, Verdict, What};
@@ -52,14 +52,12 @@ struct Match {
 }
 
 const NO_TAGS: Tags = Tags {
-    exec: None,
-    follow: None,
-    intercept: None,
-    log_input: None,
-    log_output: None,
-    mail: None,
-    passwd: None,
-    setenv: None,
+    choices: [None; TAG_PAIRS.len()],
+};
+
+const SETENV: Tag = Tag {
+    pair: TagPair::SetEnv,
+    on: true,
 };
 
 fn is_all(atom: &Atom) -> bool {
@@ -123,72 +121,9 @@ fn value(
 }
 
 fn with_tag(tags: Tags, tag: Tag) -> Tags {
-    match tag {
-        Tag::Exec => Tags {
-            exec: Some(true),
-            ..tags
-        },
-        Tag::NoExec => Tags {
-            exec: Some(false),
-            ..tags
-        },
-        Tag::Follow => Tags {
-            follow: Some(true),
-            ..tags
-        },
-        Tag::NoFollow => Tags {
-            follow: Some(false),
-            ..tags
-        },
-        Tag::Intercept => Tags {
-            intercept: Some(true),
-            ..tags
-        },
-        Tag::NoIntercept => Tags {
-            intercept: Some(false),
-            ..tags
-        },
-        Tag::LogInput => Tags {
-            log_input: Some(true),
-            ..tags
-        },
-        Tag::NoLogInput => Tags {
-            log_input: Some(false),
-            ..tags
-        },
-        Tag::LogOutput => Tags {
-            log_output: Some(true),
-            ..tags
-        },
-        Tag::NoLogOutput => Tags {
-            log_output: Some(false),
-            ..tags
-        },
-        Tag::Mail => Tags {
-            mail: Some(true),
-            ..tags
-        },
-        Tag::NoMail => Tags {
-            mail: Some(false),
-            ..tags
-        },
-        Tag::Passwd => Tags {
-            passwd: Some(true),
-            ..tags
-        },
-        Tag::NoPasswd => Tags {
-            passwd: Some(false),
-            ..tags
-        },
-        Tag::SetEnv => Tags {
-            setenv: Some(true),
-            ..tags
-        },
-        Tag::NoSetEnv => Tags {
-            setenv: Some(false),
-            ..tags
-        },
-    }
+    let mut tags = tags;
+    tags.choices[tag.pair as usize] = Some(tag.on);
+    tags
 }
 
 fn is_same(person: &Person, other: &Person) -> bool {
@@ -285,10 +220,10 @@ fn command_said(
             None => None,
             Some(found) => Some(if !found.allows {
                 Verdict::Deny { place }
-            } else if found.all && tags.setenv.is_none() {
+            } else if found.all && tags.choices[TagPair::SetEnv as usize].is_none() {
                 Verdict::Allow {
                     place,
-                    tags: with_tag(tags, Tag::SetEnv),
+                    tags: with_tag(tags, SETENV),
                 }
             } else {
                 Verdict::Allow { place, tags }
