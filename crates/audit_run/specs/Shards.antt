@@ -1,4 +1,5 @@
--- Sources in two lists that have no name in common, as those of two shards of a fleet: the outcome of both, by that of each.
+-- Two lists of sources with no name in common, as those of two shards of a fleet: the outcome of both from those of
+-- each.
 use Rattle.std.specs.Prelude.{◌≡◌, ◌⊎◌, ℕ, ◌+◌, List, ◌++◌, length, map, ⊤, Option, Some, Result, Ok, Err}
 use Rattle.std.specs.List.{Contains}
 use Rattle.audit_collect.specs.declared.arrival.Answer.{Answer}
@@ -23,13 +24,13 @@ use Rattle.audit_run.specs.Roster.{roster}
 abbrev pub AreApart : List (List ℕ) → List (List ℕ) → Type 0
 AreApart first second = (name : List ℕ) → Contains first name → Contains second name → ⊥
 
--- Two lists of sources, by their names, that have none in common. The first list has one state for each source.
+-- two lists of sources, by their names, with none in common; the first list has one state for each source
 pub record AreShards (first second : List (List ℕ)) (states : List Stated) : Type 0 where
   pub apart : AreApart first second
   pub stated : length states ≡ length first
 
--- In the roster of both, the senders of the second list follow those of the first. So an answer, a row and a fault of the second
--- list name a sender by a place that is greater by the number of senders of the first.
+-- in the roster of both, the senders of the second list follow those of the first: so in an answer, a row and a fault
+-- of the second list, the index of a sender is greater by the number of senders of the first
 abbrev pub answer_after : ℕ → Answer → Answer
 answer_after senders answer = record answer { sender = senders + answer.sender }
 
@@ -53,7 +54,8 @@ collected_after senders (collect.Roster why) = collect.Roster why
 collected_after senders (collect.Refused why) = collect.Refused (refused_after senders why)
 collected_after senders (collect.Unfinished what) = collect.Unfinished (unfinished_after senders what)
 
--- A refused source is named by its sender's name and by its number among the sources of that name. Both stay the same.
+-- a refused source is identified by its sender's name and its number among the sources of that name: both stay as they
+-- are
 abbrev pub fault_after : ℕ → AuditFault → AuditFault
 fault_after senders (Sender name part fault) = Sender name part fault
 fault_after senders (Collect why) = Collect (collected_after senders why)
@@ -61,11 +63,11 @@ fault_after senders NoThread = NoThread
 fault_after senders Memory = Memory
 fault_after senders TooManyParts = TooManyParts
 
--- the rows of the first report, and then those of the second
+-- the rows of the first report, followed by those of the second
 abbrev pub joined_report : Report → Report → Report
 joined_report first second = record { senders = first.senders ++ map (row_after (length first.senders)) second.senders }
 
--- the report of both is the joined one of a report of each
+-- the report of both is joined from a report of each
 pub record IsJoined (names : Names) (first second : List (List ℕ)) (states more : List Stated) (whole : Report) : Type 0 where
   pub report : Report
   pub other : Report
@@ -79,22 +81,23 @@ IsOfEither names first second states more fault =
     IsOutcome names first states (Err fault)
     ⊎ ((own : AuditFault) × IsOutcome names second more (Err own) × (fault ≡ fault_after (length (roster first)) own))
 
--- the names of sources, each a name and the bytes ahead of its reader
+-- the names of sources, each given as a name and the bytes ahead of its reader
 abbrev pub names_of_sources : List (List ℕ × Ahead) → List (List ℕ)
 names_of_sources sources = map (λ source. source.0) sources
 
--- their readers report these bytes
+-- the bytes that the readers of the sources report
 abbrev pub told_of : List (List ℕ × Ahead) → List (Option Ahead)
 told_of sources = map (λ source. Some source.1) sources
 
--- What an audit of sources, each a name and the bytes ahead of its reader, may return, whatever its threads do.
+-- an audit of these sources, each given as a name and the bytes ahead of its reader, may return this result in some run
+-- of its threads
 pub record MayReturn (names : Names) (sources : List (List ℕ × Ahead)) (result : Result Report AuditFault) : Type 0 where
   pub workers : ℕ
   pub old : PassView
   pub new : PassView
   pub audited : IsAuditResult names (names_of_sources sources) (told_of sources) workers old new result
 
--- The fault is none of the sources: memory or a thread was refused, or there are too many sources or senders.
+-- the fault is of no source: an allocation or a thread was refused, or there are too many sources or senders
 abbrev pub IsNoneOfSources : AuditFault → Type 0
 IsNoneOfSources (Sender name part fault) = ⊥
 IsNoneOfSources (Collect (collect.Roster why)) = ⊤

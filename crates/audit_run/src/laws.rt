@@ -1,4 +1,4 @@
-//! Laws of what an audit of sources comes to. The functions do nothing: each contract is a law.
+//! Laws of the outcome of an audit of sources. The functions have empty bodies: each contract is a law.
 ghost use Rattle.std.specs.Prelude.{◌≡◌, ◌++◌, ℕ, List, Option, Ok, Err, length, map};
 ghost use Rattle.std.specs.List.Sorted.{IsPermutation};
 ghost use Rattle.audit_collect.specs.Finished.{AllFinished, IsFirstMissing, report_of};
@@ -22,8 +22,8 @@ ghost use Rattle.audit_run.specs.Parts.{AreRead, Stated, faults_of, parts_by_own
 ghost use Rattle.audit_run.specs.Roster.{roster};
 ghost use Rattle.audit_run.specs.Shards.{AreApart, AreShards, IsJoined, IsNoneOfSources, IsOfEither, MayReturn, fault_after, joined_report, names_of_sources};
 
-/// Whatever the order in which the answers of all jobs come, and whatever the number of workers: where a collector refuses
-/// an arrival, the sources have the fault that it names.
+/// If a collector refuses an arrival, the sources have the fault that it names, whatever the order of the answers to
+/// all jobs and the number of workers.
 pub fn refusals_are_of_sources()
     ensures { (names : Names) (sources : List (List ℕ)) (readable_bytes : List (Option Ahead))
         (states : List Stated) (workers : ℕ) (outcomes : List Outcome) (why : Refused)
@@ -33,7 +33,8 @@ pub fn refusals_are_of_sources()
         → HaveRefused (parts_by_owner sources states) why }
 {}
 
-/// Likewise, what is missing first when all has arrived is what the sources lack.
+/// The sources lack the first thing that is missing after all arrivals, whatever the order of the answers to all jobs
+/// and the number of workers.
 pub fn lacks_are_of_sources()
     ensures { (names : Names) (sources : List (List ℕ)) (states : List Stated) (workers : ℕ)
         (outcomes : List Outcome) (held : List SenderState) (what : Unfinished)
@@ -42,7 +43,8 @@ pub fn lacks_are_of_sources()
         → Lack (length (roster sources)) (parts_by_owner sources states) what }
 {}
 
-/// Likewise, where nothing is missing, the sources are whole, and what is reported is their report.
+/// If nothing is missing after all arrivals, the sources are whole and the report is theirs, whatever the order of the
+/// answers to all jobs and the number of workers.
 pub fn reports_are_of_sources()
     ensures whole { (names : Names) (sources : List (List ℕ)) (states : List Stated) (workers : ℕ)
         (outcomes : List Outcome) (held : List SenderState)
@@ -56,7 +58,7 @@ pub fn reports_are_of_sources()
         → IsReport names (roster sources) (parts_by_owner sources states) (report_of held) }
 {}
 
-/// Sources that are whole have nothing that a collector refuses, and lack nothing; and they have one report.
+/// Whole sources have no fault that a collector refuses, lack nothing, and have only one report.
 pub fn whole_sources_have_one_report()
     ensures not_refused { (sources : List (List ℕ)) (states : List Stated) (why : Refused)
         → AreWhole (length (roster sources)) (parts_by_owner sources states)
@@ -75,9 +77,9 @@ pub fn rosters_are_distinct()
     ensures { (sources : List (List ℕ)) → AreDistinct (roster sources) }
 {}
 
-/// Two lists of sources that have no name in common: the roster of both lists is the first's and then the second's. If each list
-/// has a report, the report of both is the first's rows and then the second's; and both have a report only if each list has one.
-/// The text of the joined report is the first's and then the second's without its header.
+/// For two lists of sources with no name in common, the roster of both lists is the first's followed by the second's.
+/// If each list has a report, the report of both is the first's rows followed by the second's; both have a report only
+/// if each list has one. The text of the joined report is the first's followed by the second's without its header.
 pub fn shards_have_joined_reports()
     ensures roster { (first : List (List ℕ)) (second : List (List ℕ)) → AreApart first second
         → roster (first ++ second) ≡ roster first ++ roster second }
@@ -96,8 +98,8 @@ pub fn shards_have_joined_reports()
         → report_text files (joined_report report other) ≡ report_text files report ++ records }
 {}
 
-/// Likewise, what one list is refused for, both are, unless a source of the other is refused; a refused source of the first list
-/// comes before those of the second. Both are refused for nothing else.
+/// For two lists of sources with no name in common, a fault of one list is a fault of both, unless a source of the
+/// other list is refused; a refused source of the first list precedes those of the second. Both have no other fault.
 pub fn shards_have_their_refusals()
     ensures source { (names : Names) (first : List (List ℕ)) (second : List (List ℕ))
         (states : List Stated) (more : List Stated) (name : List ℕ) (part : ℕ) (why : FileFault)
@@ -120,8 +122,9 @@ pub fn shards_have_their_refusals()
         → IsOfEither names first second states more fault }
 {}
 
-/// Likewise, for audits by readers that report their bytes: if each list may return a report, both may return no other than the
-/// joined one, and no fault of the sources. If either may return a fault of its sources, both may return no report.
+/// For audits of two lists of sources with no name in common, by readers that report their bytes: if each list may
+/// return a report, both may return no report but the joined one, and no fault of the sources. If either list may
+/// return a fault of its sources, both may return no report.
 pub fn audits_of_shards_join()
     ensures report { (names : Names) (first : List (List ℕ × Ahead))
         (second : List (List ℕ × Ahead)) (report : Report) (other : Report) (whole : Report)

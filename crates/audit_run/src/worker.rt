@@ -1,4 +1,4 @@
-//! A worker: takes jobs and puts what answers them.
+//! A worker, which takes jobs and puts their outcomes.
 ghost use Rattle.std.specs.Prelude.{◌≡◌, ◌∷◌, ◌++◌, [], List};
 ghost use Rattle.audit_run.specs.Names.{names_of, answer, IsRight};
 ghost use Rattle.audit_run.specs.Passes.{with_outcome_put};
@@ -14,7 +14,7 @@ use std::sync::Wait;
 use std::thread;
 use sudo_match::Request;
 
-/// Puts an outcome, and tries again while the queue is full.
+/// Puts an outcome, retrying while the queue is full.
 pub fn put_outcome_waiting<R: Wait>(rt: &R, handoff: &Handoff, pass: &mut Pass, outcome: Outcome)
     requires pass { pass.old.handoff ≡ handoff.now }
     requires verdict { IsRight pass.old.names outcome }
@@ -33,6 +33,7 @@ pub fn put_outcome_waiting<R: Wait>(rt: &R, handoff: &Handoff, pass: &mut Pass, 
     unreachable!()
 }
 
+// Judges a request and puts the answer, between the two calls of the gate.
 fn answer_request<R: Wait, G: Gate>(
     rt: &R,
     shared: Shared<'_>,
@@ -71,7 +72,7 @@ fn answer_request<R: Wait, G: Gate>(
     gate.after(sender, number);
 }
 
-/// Puts what answers a job.
+/// Puts the outcome of a job.
 pub fn answer_job<R: Wait, G: Gate>(rt: &R, shared: Shared<'_>, gate: &G, pass: &mut Pass, job: Job)
     requires pass { pass.old.handoff ≡ shared.handoff.now }
     requires names { pass.old.names ≡ names_of shared.policy.now shared.directory.now }
@@ -90,7 +91,7 @@ pub fn answer_job<R: Wait, G: Gate>(rt: &R, shared: Shared<'_>, gate: &G, pass: 
     put_outcome_waiting(rt, shared.handoff, pass, outcome);
 }
 
-/// Answers each job that it takes, until it has answered `Stop`.
+/// Takes jobs and puts their outcomes, up to and including `Stop`.
 pub fn work<R: Wait, G: Gate>(rt: &R, shared: Shared<'_>, gate: &G, mut pass: Pass) -> Pass
     requires pass { pass.handoff ≡ shared.handoff.now }
     requires names { pass.names ≡ names_of shared.policy.now shared.directory.now }

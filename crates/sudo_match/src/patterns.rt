@@ -14,9 +14,9 @@ use sudo_text::Ch;
 /// Whether `*`, `?` and brackets fit the byte `/`.
 #[derive(Clone, Copy, PartialEq, Eq, Debug)]
 pub enum Slash {
-    /// They fit it as any other byte.
+    /// They fit it like any other byte.
     Any,
-    /// They do not fit it: only a written `/` does.
+    /// They do not fit it; only a written `/` does.
     Not,
 }
 
@@ -31,7 +31,7 @@ impl Slash {
     }
 }
 
-/// A POSIX character class, over ASCII.
+// A POSIX character class, over ASCII.
 #[derive(Clone, Copy, PartialEq, Eq, Debug)]
 enum Class {
     Alnum,
@@ -114,21 +114,21 @@ impl Class {
     }
 }
 
-/// How the characters of a pattern are read.
+// A way to read the characters of a pattern.
 #[derive(Clone, Copy, PartialEq, Eq, Debug)]
 enum Reading {
-    /// As they stand.
+    // Unchanged.
     Exact,
-    /// As a host name: in lower case, and an escaped `!` directly after an unescaped `[` counts as unescaped.
+    // As a host name: in lower case, and an escaped `!` directly after an unescaped `[` counts as unescaped.
     Host,
-    /// As a quoted host name: in lower case and with no special bytes.
+    // As a quoted host name: in lower case, with no special character.
     Quoted,
 }
 
 impl Reading {
     ghost use Rattle.sudo_match.specs.Reading.{read_one};
 
-    /// A character as it is read; `is_after` says that it stands directly after an unescaped `[`.
+    // Returns a character as it is read. `is_after`: it directly follows an unescaped `[`.
     fn read(self, ch: Ch, is_after: bool) -> Ch
         ensures { result ≡ read_one self is_after ch }
     {
@@ -147,7 +147,7 @@ impl Reading {
     }
 }
 
-/// A text as it is read: as it stands, or in lower case.
+// A text as it is read: unchanged, or in lower case.
 #[derive(Clone, Copy)]
 struct Text<'a> {
     bytes: &'a [u8],
@@ -158,7 +158,7 @@ struct Text<'a> {
 impl Text<'_> {
     ghost use Rattle.sudo_match.specs.Reading.{text_of, is_free_byte};
 
-    /// Whether a star may take the byte at a place.
+    // Whether there is a byte at this index and a star may fit it.
     fn is_free_at(&self, place: usize, slash: Slash) -> bool
         ensures { result ≡ is_free_byte slash (slice_get (text_of self.now) place) }
     {
@@ -180,29 +180,29 @@ impl Text<'_> {
     }
 }
 
-/// The characters of a pattern as they are read.
+// The characters of a pattern as they are read.
 #[derive(Clone, Copy)]
 struct Chars<'a> {
     chars: &'a [Ch],
     reading: Reading,
-    /// Whether `?*` follows the characters.
+    // Whether `?*` follows the characters.
     is_folder: bool,
     ghost short: { length chars.now < 2 ^ 62 },
 }
 
-/// What the part at a place does with the byte at a place of the text.
+// One step of a match: the part at an index of the pattern, compared with the byte at an index of the text.
 enum Step {
-    /// The part is a star.
+    // The part is a star.
     Starred,
-    /// It fits the byte, and takes this many characters after its first.
+    // The part fits the byte, and has this many characters after its first.
     Taken(usize),
-    /// The pattern and the text both end.
+    // The pattern and the text both end.
     Finished,
-    /// It does not fit.
+    // The part does not fit the byte, or only one of the pattern and the text ends.
     Stuck,
 }
 
-/// The known classes, in the order in which they are tried.
+// The known classes, in the order in which they are tried.
 const CLASSES: [Class; 12] = [
     Class::Alnum,
     Class::Alpha,
@@ -243,7 +243,7 @@ fn is_plain(ch: Ch, byte: u8) -> bool
     !ch.escaped && ch.byte == byte
 }
 
-/// Whether the character may stand for another byte than its own: an unescaped `*`, `?` or `[`.
+/// Whether the character may fit a byte other than its own: an unescaped `*`, `?` or `[`.
 pub fn is_special(ch: Ch) -> bool
     ensures { result ≡ (is_plain 42 ch || (is_plain 63 ch || is_plain 91 ch)) }
 {
@@ -265,7 +265,7 @@ impl<'a> Chars<'a> {
         }
     }
 
-    /// Whether the character at a place stands directly after an unescaped `[`.
+    // Whether the character at this index directly follows an unescaped `[`.
     fn follows_bracket(&self, at: usize) -> bool
         ensures { result ≡ follows_bracket self.now.chars.now at }
     {
@@ -278,7 +278,7 @@ impl<'a> Chars<'a> {
         }
     }
 
-    /// The character at a place of the slice, as it is read.
+    // Returns the character at this index of the slice, as it is read.
     fn read_at(&self, at: usize) -> Option<Ch>
         ensures { result ≡ slice_get (read self.now.reading self.now.chars.now) at }
     {
@@ -317,7 +317,7 @@ impl<'a> Chars<'a> {
         }
     }
 
-    /// Whether the characters from a place on begin with these bytes, none of them escaped.
+    // Whether the characters from this index on begin with these bytes, all unescaped.
     fn spells_at(&self, at: usize, name: &[u8]) -> bool
         requires { at + length name.now < 2 ^ 64 }
         ensures { result ≡ begins (map is_plain name.now) (drop at (seen self.now)) }
@@ -330,7 +330,7 @@ impl<'a> Chars<'a> {
         true
     }
 
-    /// Whether a class may end at a place: a `:`, escaped or not, and an unescaped `]`.
+    // Whether a class may end at this index: with a `:`, escaped or not, and an unescaped `]`.
     fn closes_class(&self, at: usize) -> bool
         requires { at + 1 < 2 ^ 64 }
         ensures { result ≡ begins class_end (drop at (seen self.now)) }
@@ -338,7 +338,7 @@ impl<'a> Chars<'a> {
         self.is_at(at, b':') && self.is_plain_at(at + 1, b']')
     }
 
-    /// Whether the characters from a place on begin with `[:name:]`.
+    // Whether the characters from this index on begin with `[:name:]`.
     fn opens_class(&self, at: usize, class: Class) -> bool
         requires { at ≤ length (seen self.now) }
         ensures { result ≡ begins (class_form (class_of class)) (drop at (seen self.now)) }
@@ -369,8 +369,8 @@ impl<'a> Chars<'a> {
             .find(|class| self.opens_class(at, *class))
     }
 
-    /// Whether a range or one byte, whose first character is at a place, holds the byte, and how many characters it takes
-    /// after that.
+    // Whether the range or single byte that begins at this index holds the byte, and the number of its characters after
+    // the first. `first` is the character at this index.
     fn range_at(&self, at: usize, first: Ch, byte: u8) -> (bool, usize)
         requires { at < length (seen self.now) }
         ensures value { result ≡ held_by byte (range_at first (drop (at + 1) (seen self.now))) }
@@ -388,7 +388,7 @@ impl<'a> Chars<'a> {
         }
     }
 
-    /// Whether the item of a bracket at a place holds the byte, and how many characters it takes after its first.
+    // Whether the bracket item at this index holds the byte, and the number of its characters after the first.
     fn item_at(&self, at: usize, byte: u8) -> Option<(bool, usize)>
         requires { at ≤ length (seen self.now) }
         ensures value { result ≡ option_map (held_by byte) (item_of (drop at (seen self.now))) }
@@ -401,14 +401,14 @@ impl<'a> Chars<'a> {
         }
     }
 
-    /// Whether the character at a place closes a bracket: an unescaped `]` that is not the first item.
+    // Whether the character at this index closes a bracket: an unescaped `]` that is not the first item.
     fn closes_at(&self, at: usize, is_first: bool) -> bool
         ensures { result ≡ (not is_first && has (is_plain 93) (slice_get (seen self.now) at)) }
     {
         !is_first && self.is_plain_at(at, b']')
     }
 
-    /// The same of the next three places, or, after a class that begins at the first, of those after it.
+    // Moves the window one position forward, or past a class that begins at its first position, if that is flagged.
     fn moved_on(&self, known: Unclosed) -> Unclosed
         requires within { known.at < length (seen self.now) }
         requires knows { Knows (seen self.now) known }
@@ -424,7 +424,7 @@ impl<'a> Chars<'a> {
         if !known.first {
             return next;
         }
-        // How many characters an item takes is the same for each byte.
+        // An item has the same number of characters whichever byte is tested.
         match self.item_at(known.at, 0) {
             Some((_, 0)) => next.with_first(),
             Some((_, 2)) => Unclosed {
@@ -436,7 +436,7 @@ impl<'a> Chars<'a> {
         }
     }
 
-    /// The same of the three places from this one on, or of later ones.
+    // Moves the window forward, to this index or past it.
     fn moved_to(&self, known: Unclosed, to: usize) -> Unclosed
         requires within { to ≤ length (seen self.now) }
         requires knows { Knows (seen self.now) known }
@@ -452,7 +452,7 @@ impl<'a> Chars<'a> {
         known
     }
 
-    /// What is known once it has shown that the bracket whose `[` stands before a place is not closed.
+    // Flags the first item of the unclosed bracket whose `[` directly precedes this index, unless `]` begins that item.
     fn noted(&self, known: Unclosed, at: usize) -> Unclosed
         requires within { at ≤ length (seen self.now) }
         requires open { bracket_after (drop at (seen self.now)) ≡ None }
@@ -471,7 +471,7 @@ impl<'a> Chars<'a> {
         }
     }
 
-    /// Where the items of the bracket begin whose `[` stands before a place.
+    // Returns the index of the first item of the bracket whose `[` directly precedes this index.
     fn items_start(&self, at: usize) -> usize
         requires { at ≤ length (seen self.now) }
         ensures within { result ≤ length (seen self.now) }
@@ -485,8 +485,8 @@ impl<'a> Chars<'a> {
         }
     }
 
-    /// Whether one of the items from a place on holds the byte, and how many characters the items and the closing `]`
-    /// take.
+    // Whether one of the items from this index on holds the byte, and the number of characters up to and including the
+    // closing `]`, or `None` if the bracket is unclosed.
     fn items_hold(&self, start: usize, byte: u8, known: Unclosed) -> Option<(bool, usize)>
         requires within { start ≤ length (seen self.now) }
         requires knows { Knows (seen self.now) known }
@@ -513,7 +513,7 @@ impl<'a> Chars<'a> {
         }
     }
 
-    /// Whether the bracket whose `[` stands before a place holds the byte, and how many characters it takes.
+    // Whether the bracket whose `[` directly precedes this index holds the byte, and how many more characters it has.
     fn bracket_holds(
         &self,
         at: usize,
@@ -537,8 +537,8 @@ impl<'a> Chars<'a> {
         }
     }
 
-    /// Whether the bracket at a place holds the byte, and how many characters it takes after its `[`; none, where no
-    /// bracket stands there. `first` is the character at the place.
+    // Whether the bracket at this index holds the byte, and the number of its characters after the `[`, or `None` if no
+    // bracket begins there. `first` is the character at this index.
     fn bracket_at(
         &self,
         at: usize,
@@ -566,7 +566,7 @@ impl<'a> Chars<'a> {
         bracket
     }
 
-    /// Whether the part at a place fits this byte alone, and how many characters it takes after its first.
+    // Whether the part at this index fits this byte alone, and the number of its characters after the first.
     fn part_holds(
         &self,
         at: usize,
@@ -594,7 +594,7 @@ impl<'a> Chars<'a> {
         }
     }
 
-    /// How the match goes on from a place of the characters and one of the text.
+    // Compares the part at an index of the characters with the byte at an index of the text.
     fn step(
         &self,
         text: &Text<'_>,
@@ -632,8 +632,8 @@ impl<'a> Chars<'a> {
         }
     }
 
-    // Compares the characters before the first special one with the first bytes of the text. Returns how many they are,
-    // or `None` if one differs, so that nothing fits: most patterns are known here not to fit.
+    // Returns the number of characters before the first special one, or `None` if they differ from the first bytes of
+    // the text, so that the pattern does not fit: most patterns are rejected here.
     fn literal_start(&self, text: &Text<'_>, slash: Slash) -> Option<usize>
         ensures within { IfSome result (λ n. n ≤ length (seen self.now)) }
         ensures rest { IfSome result (λ n. fits (parts (seen self.now)) (text_of text.now) slash
@@ -655,8 +655,8 @@ impl<'a> Chars<'a> {
         Some(at)
     }
 
-    /// Whether the whole pattern fits the whole text. Where a part does not fit, the last star takes one byte more: a
-    /// star before it could only move the parts between the two to a later place, from where no other text is reached.
+    // Whether the whole pattern fits the whole text. If a part does not fit, the last star fits one more byte: an
+    // earlier star could only move the parts between the two to a later position, from which no other text is reached.
     fn fits(&self, text: &Text<'_>, slash: Slash) -> bool
         ensures { result ≡ fits (parts (seen self.now)) (text_of text.now) slash }
     {
@@ -694,7 +694,7 @@ impl<'a> Chars<'a> {
     }
 }
 
-/// A pattern, which borrows its characters.
+/// A pattern that borrows its characters. Contracts see its parts.
 #[derive(Drop)]
 pub struct Pattern<'a> {
     chars: Chars<'a>,
@@ -714,7 +714,7 @@ impl<'a> Model for Pattern<'a> {
 impl<'a> Pattern<'a> {
     ghost use Rattle.sudo_match.specs.Matching.{host_pattern};
 
-    /// The pattern that these characters spell: `*`, `?` and brackets as in glob(7), where they are not escaped.
+    /// Creates the pattern that these characters spell: unescaped `*`, `?` and brackets are as in glob(7).
     pub fn of(chars: &'a [Ch]) -> Self
         ensures { result ≡ parts chars.now }
     {
@@ -727,7 +727,7 @@ impl<'a> Pattern<'a> {
         }
     }
 
-    /// The pattern of a command's path. One that ends in `/` stands for each file of that folder.
+    /// Creates the pattern of a command's path. A path that ends in `/` stands for each file of that folder.
     pub(crate) fn of_path(chars: &'a [Ch]) -> Self
         ensures { result ≡ parts (path_chars chars.now) }
     {
@@ -744,7 +744,7 @@ impl<'a> Pattern<'a> {
         }
     }
 
-    /// The pattern of a host, for names in lower case.
+    /// Creates the pattern of a host, for names in lower case. If `quoted`, no character is special.
     pub(crate) fn of_host(chars: &'a [Ch], quoted: bool) -> Self
         ensures { result ≡ parts (host_pattern chars.now quoted) }
     {
@@ -773,7 +773,7 @@ impl<'a> Pattern<'a> {
         self.chars.fits(&text, slash)
     }
 
-    /// Whether the pattern fits the whole text in lower case.
+    /// Whether the pattern fits the whole text, read in lower case.
     pub(crate) fn matches_lower(&self, text: &[u8]) -> bool
         ensures { result ≡ fits self.now (lower_text text.now) Slash.Any }
     {
@@ -785,7 +785,7 @@ impl<'a> Pattern<'a> {
     }
 }
 
-/// Whether the characters begin with these bytes, none of them escaped.
+/// Whether the characters begin with these bytes, all unescaped.
 pub(crate) fn begins_with(chars: &[Ch], name: &[u8]) -> bool
     ensures { result ≡ begins (map is_plain name.now) chars.now }
 {

@@ -1,5 +1,5 @@
--- Bits of words: of a row that grows, of a row with one bit more, of a block with the bits of other words, and the last bit
--- before a place.
+-- Bits of words: of a row that grows, of a row with one more bit, of a block with the bits of other words, and the last
+-- bit before a position.
 use Rattle.std.proofs.Common.{◌≡◌, ℕ, zero, suc, ◌+◌, ◌-◌, ◌*◌, ◌/◌, ◌%◌, ◌^◌, ◌<◌, ◌≤◌, ◌⊎◌, inl, inr, List, [], ◌∷◌, ◌++◌, length, get_or, set, refl, sym, ap, subst, ◌∙◌, arith, w64, bit_or, bit_and, min, max, ⊎_elim, get_or-set_same, get_or-set_other}
 use Rattle.std.specs.Int.{bit_at}
 use Rattle.std.specs.Int.Count.{count_leading_zeros, leading_of_zero}
@@ -12,7 +12,7 @@ use Rattle.std.proofs.Common.{Bool, true, false, ◌&&◌}
 use Rattle.std.specs.Prelude.{◌==◌}
 use Rattle.sudo_verdict.specs.Body.Blocks.{AddsWords, both_have}
 
--- ---- One bit more
+-- ---- One more bit
 
 pub bit-set_same : (words : List ℕ) (i : ℕ) → i < 64 * length words →
     bit (set words (i / 64) (bit_or (get_or words (i / 64) 0) (1 * 2 ^ (i % 64) % 2 ^ 64))) i ≡ 1
@@ -69,7 +69,7 @@ adds-words words old new n within end before after i none = go (cases_lt (i / 64
         past (inl o) h = absurd (omega (arith, o, h, a))
         past (inr w) h = omega (arith, w, a)
 
--- ---- The last bit before a place
+-- ---- The last bit before a position
 
 pub low-bit : (word k i : ℕ) → i < k → bit_at word i ≡ bit_at (word % 2 ^ k) i
 low-bit word k i h = ap (λ w. bit_at w i) (sym (div-add-mod' word (2 ^ k))) ∙ bit_at_cat_low (word / 2 ^ k) k (word % 2 ^ k) i h
@@ -95,7 +95,7 @@ last-none (suc n) i h from =
     let top = leading_top 64 (suc n) (omega arith) h in
     bit_at_above (suc n) (suc top.0) i top.3 (let is = top.1 in omega (arith, is, from))
 
--- ---- Bits that two blocks have
+-- ---- Bits of both blocks
 
 pub both-none : (users commands : List ℕ) (index i : ℕ) → (64 * index ≤ i) × (i < 64 * index + 64) →
     bit_at (bit_and (get_or users index 0) (get_or commands index 0)) (i - 64 * index) ≡ 0 → both_have users commands i ≡ false
@@ -118,7 +118,7 @@ both-none users commands index i within none =
         no false = refl
     both (suc a) (suc b) e = absurd (omega (arith, e))
 
--- the bits of a word below a place, where the word is cut there
+-- the bits of a word below a position, if the word is cut there
 module _ (word end low : ℕ) (fits : word < 2 ^ 64) where
   pub cut-within : end < 64 → low ≡ word % (1 * 2 ^ end % 2 ^ 64) → 64 - count_leading_zeros 64 low ≤ end
   cut-within less is =

@@ -1,5 +1,5 @@
--- Rows of rules: what a rule more leaves as it was, what a block with a number's rules has, and which atoms a user or a command
--- cannot match.
+-- Rows of rules: rows with one more rule, blocks with the rules of a number, and rules in no row of a user or of a
+-- command, whose atoms the user cannot match.
 use Rattle.std.proofs.Common.{◌≡◌, ℕ, zero, suc, ◌+◌, ◌-◌, ◌*◌, ◌/◌, ◌%◌, ◌<◌, ◌≤◌, Bool, true, false, not, ◌&&◌, ◌||◌, List, [], ◌∷◌, length, get_or, drop, take, Some, refl, sym, ◌∙◌, ap, subst, arith, ◌⊎◌, inl, inr, Vec, Global}
 use Rattle.std.specs.Prelude.{slice_get, ◌==◌, bytes_eq}
 use Rattle.std.specs.List.{list_any, list_all}
@@ -28,7 +28,7 @@ pub row-there : (rows : Rows) (number n : ℕ) (row : Vec ℕ Global) → n ≡ 
     slice_get rows (number % length rows) ≡ Some row
 row-there rows number n row same e = ap (λ k. slice_get rows (number % k)) (sym same) ∙ e
 
--- ---- A rule more
+-- ---- One more rule
 
 posted-is : (rows : Rows) (number rule at : ℕ) → number % length rows ≡ at → posted rows number rule ≡ (bit (row_words (slice_get rows at)) rule == 1)
 unfolding posted
@@ -108,7 +108,7 @@ posted-none rows number rule row e none =
     ∙ ap (λ o. bit (row_words o) rule == 1) e
     ∙ ne_eqb (bit row.items rule) 1 (λ h. let no : ◌≡◌ {A = ℕ} 0 1 = sym none ∙ h in omega (arith, no))
 
--- ---- Rules that stand in none of a user's rows
+-- ---- Rules in no row of a user
 
 both : (a b : Bool) → a ≡ true → b ≡ true → (a && b) ≡ true
 both true b e f = f
@@ -243,7 +243,7 @@ pub no-groups : (rows : Rows) (rule : ℕ) (left : List Group) → length left �
 no-groups rows rule [] e = refl
 no-groups rows rule (g ∷ gs) e = cc
 
--- ---- Rules that stand in none of a command's rows
+-- ---- Rules in no row of a command
 
 pub begins-more : (rows : Rows) (rule number b : ℕ) (bs : List ℕ) → posted rows number rule ≡ false →
     misses_beginnings rows rule (next_number number b) bs ≡ true → misses_beginnings rows rule number (b ∷ bs) ≡ true

@@ -1,4 +1,4 @@
--- Numbers of names, of commands and of what they begin with, by one byte more.
+-- Numbers of names, of commands and of their beginnings, extended by one more byte.
 use Rattle.std.proofs.Common.{◌≡◌, ℕ, ◌+◌, ◌%◌, Bool, true, false, cond, ◌||◌, List, [], ◌∷◌, length, refl, ap}
 use Rattle.std.specs.Prelude.{◌*◌}
 use Rattle.sudo_text.specs.declared.token.Ch.{Ch}

@@ -1,4 +1,4 @@
--- The number of a command's path: a path that fits a command has one of the command's numbers.
+-- The number of a command's path: it is one of the command's numbers if the path fits the command.
 use Rattle.std.proofs.Common.{◌≡◌, ℕ, Bool, true, false, not, ◌&&◌, ◌||◌, List, [], ◌∷◌, ◌++◌, refl, sym, ◌∙◌, ap}
 use Rattle.std.specs.Prelude.{◌==◌}
 use Rattle.std.proofs.lemmas.Bool.{and_parts, eqb-true}

@@ -1,4 +1,4 @@
--- The entries that a search passes over, and what a rule decides under which no atom passes a test.
+-- The entries that a search passes over: items without a value leave the last value of a list as it is.
 use Rattle.std.proofs.Common.{◌≡◌, ℕ, zero, suc, ◌+◌, ◌-◌, ◌<◌, ◌≤◌, Bool, true, false, List, [], ◌∷◌, ◌++◌, map, take, Option, Some, None, refl, sym, ◌∙◌, ap, arith, option_to_list, add-zero, add-one}
 use Rattle.std.specs.Prelude.{is_some, Result, Ok, Err, OnOk, slice_get}
 use Rattle.std.specs.Option.{option_or}
@@ -54,7 +54,7 @@ pub or-none : {X : Type 0} (o x : Option X) → is_some o ≡ false → option_o
 or-none (Some y) x e = cc
 or-none None x e = refl
 
--- what decides nothing from one place up to another
+-- items without a value, from one index up to another
 pub skipped :
     {X Y : Type 0} (f : X → Option Y) (xs : List X) (from to : ℕ) → from ≤ to → ((k : ℕ) (x : X) → from ≤ k → k < to → slice_get xs k ≡ Some x → f x ≡ None) →
     last_set (map f (take to xs)) ≡ last_set (map f (take from xs))

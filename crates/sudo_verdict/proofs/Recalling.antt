@@ -1,4 +1,4 @@
--- Numbers of names, and what is remembered of aliases.
+-- Numbers of names, and remembered decisions of aliases.
 use Rattle.std.proofs.Common.{◌≡◌, ℕ, zero, suc, ◌+◌, ◌<◌, Bool, true, false, cond, List, [], ◌∷◌, ◌++◌, Option, Some, None, refl, sym, ◌∙◌, ap, arith, ◌⊎◌, inl, inr}
 use Rattle.std.specs.Prelude.{slice_get, bytes_eq, IfSome, replicate}
 use Rattle.std.proofs.lemmas.Slice.Eq.{bytes_eq-Decides}
@@ -49,7 +49,7 @@ numbering-more names more count next name is none same up = record {
     one a b n (inr e) (inl f) = absurd (let l = is.below a n e in omega (arith, l, f.1))
     one a b n (inr e) (inr f) = is.apart a b n e f
 
--- ---- What is remembered
+-- ---- Remembered decisions
 
 pub recalls-nothing : (k : Kind) (p : Policy) (names : Option (List (List ℕ × ℕ))) (test : Atom → Bool) (slots : List (Option (Option Decision))) →
     ((n : ℕ) (o : Option Decision) → slice_get slots n ≡ Some (Some o) → ⊥) → Recalls k p names test slots

@@ -1,4 +1,4 @@
--- Words that only the proofs of bodies need: no contract of a public function cites them.
+-- Definitions that only proofs of bodies need: no contract of a public function cites them.
 pub mod Blocks
 pub mod Queries
 pub mod Recalling

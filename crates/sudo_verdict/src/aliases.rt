@@ -1,7 +1,7 @@
-//! Numbers of aliases, and what is remembered of them while a list is decided.
+//! Numbers of aliases, and the decisions of aliases that are remembered while a list is decided.
 //!
-//! Aliases that name others twice write out to very many members. So where some do, the decision of each alias is remembered
-//! while a list is decided.
+//! Aliases that name several others may write out to very many members. So if some alias does, the decision of each
+//! alias that others name is remembered while a list is decided.
 
 ghost use Rattle.std.specs.Prelude.{ℕ, ◌≡◌, ◌⊎◌, Option, Some, None, IfSome, slice_get, option_copied};
 ghost use Rattle.sudo_base.specs.NameIndices.{index_of};
@@ -14,7 +14,7 @@ use std::marker::Model;
 use sudo_base::Names;
 use sudo_policy::{Atom, Checked, Definition, EntryBody, Kind, Member};
 
-/// How many aliases of a kind are remembered: as many as a policy may define.
+/// The most aliases of a kind that are remembered: as many as a policy may define.
 pub(crate) const REMEMBERED: usize = 4096;
 
 /// The decision of an alias, if it is remembered.
@@ -38,7 +38,7 @@ impl Model for Numbers {
 }
 
 impl Numbers {
-    // Returns the names with their numbers.
+    // Wraps names that have numbers of their own.
     fn new(names: Names) -> Numbers
         requires { IsOneToOne names }
         ensures { result ≡ names }
@@ -46,7 +46,7 @@ impl Numbers {
         Numbers { names }
     }
 
-    /// Returns the number of a name, if it has one.
+    /// Returns the number of a name, or `None` if it has none.
     pub(crate) fn get(&self, name: &[u8]) -> Option<usize>
         ensures value { result ≡ index_of self.now name.now }
         ensures apart { IsOneToOne self.now }
@@ -55,7 +55,7 @@ impl Numbers {
     }
 }
 
-/// The aliases of each kind that other aliases name.
+/// The aliases of each kind that other aliases name, with their numbers.
 #[derive(Drop)]
 pub(crate) struct Aliases {
     users: Numbers,
@@ -64,7 +64,7 @@ pub(crate) struct Aliases {
     commands: Numbers,
 }
 
-// Gives a name the next number, if it has none. Returns `AllocError` if memory is refused.
+// Assigns the next number to a name that has none. Returns `AllocError` if allocation fails.
 fn add_name(
     alloc: Global,
     names: &mut Names,
@@ -84,7 +84,7 @@ fn add_name(
     }
 }
 
-// Numbers the aliases that a list names.
+// Numbers the aliases that a list names. Returns `AllocError` if allocation fails.
 fn add_members(
     alloc: Global,
     names: &mut Names,
@@ -102,7 +102,7 @@ fn add_members(
     Ok(())
 }
 
-// Numbers the aliases that definitions name.
+// Numbers the aliases that definitions name. Returns `AllocError` if allocation fails.
 fn add_definitions(
     alloc: Global,
     names: &mut Names,
@@ -118,7 +118,7 @@ fn add_definitions(
     Ok(())
 }
 
-// Returns the names of a kind that definitions of the kind name.
+// Numbers the aliases that definitions of a kind name. Returns `AllocError` if allocation fails.
 fn named(alloc: Global, checked: &Checked, wanted: Kind) -> Result<Numbers, AllocError> {
     let mut names = Names::new(alloc);
     let mut count = 0;
@@ -146,7 +146,8 @@ fn names_several(members: &[Member]) -> bool {
     false
 }
 
-// Whether some alias names more than one other: only then can a list write out to more than all aliases have together.
+// Whether some alias names more than one other: only then can an alias write out to more members than all aliases have
+// together.
 fn branches(checked: &Checked) -> bool {
     checked
         .policy()
@@ -163,7 +164,8 @@ fn branches(checked: &Checked) -> bool {
 }
 
 impl Aliases {
-    /// Returns the aliases that others name, if some alias names more than one. Returns `AllocError` if memory is refused.
+    /// Returns the aliases that others name, or `None` if no alias names more than one. Returns `AllocError` if
+    /// allocation fails.
     pub(crate) fn of(alloc: Global, checked: &Checked) -> Result<Option<Aliases>, AllocError> {
         if !branches(checked) {
             return Ok(None);
@@ -187,7 +189,7 @@ impl Aliases {
     }
 }
 
-/// Remembers the decision of the alias of a number.
+/// Remembers the decision of the alias with this number, if it has a slot.
 pub(crate) fn remember(slots: &mut [Slot], number: Option<usize>, found: Option<Decision>)
     ensures { (n : ℕ) (o : Option TheDecision) → slice_get slots.new n ≡ Some (Some o)
         → (slice_get slots.old n ≡ Some (Some o)) ⊎ ((number ≡ Some n) × (o ≡ found)) }
@@ -200,7 +202,7 @@ pub(crate) fn remember(slots: &mut [Slot], number: Option<usize>, found: Option<
     }
 }
 
-/// Returns the decision of the alias of a number, if it is remembered.
+/// Returns the decision of the alias with this number, or `None` if it is not remembered.
 pub(crate) fn recall(slots: &[Slot], number: Option<usize>) -> Option<Option<Decision>>
     ensures there { IfSome result (λ o. IfSome number (λ n. slice_get slots.now n ≡ Some (Some o))) }
     ensures numbered { number ≡ None → result ≡ None }
@@ -208,7 +210,7 @@ pub(crate) fn recall(slots: &[Slot], number: Option<usize>) -> Option<Option<Dec
     *slots.get(number?)?
 }
 
-/// Returns the number of an alias, where aliases have numbers and it has one.
+/// Returns the number of an alias, or `None` if aliases have no numbers or it has none.
 pub(crate) fn number_of(numbers: Option<&Numbers>, name: &[u8]) -> Option<usize>
     ensures value { result ≡ number_in (option_copied numbers.entry) name.now }
     ensures apart { AreApart (option_copied numbers.entry) }

@@ -12,7 +12,7 @@ use crate::numbers::{
 use crate::rows::Rows;
 use sudo_match::Person;
 
-/// Adds the rules that may decide for a user to an empty block, which begins at the word `first`.
+/// Adds the rules that may decide for a user to an empty block, which begins at word `first`.
 pub(crate) fn add_user(rows: &Rows, user: &Person, first: usize, block: &mut [u64])
     requires { 0 < length rows.now.rows.items }
     ensures count { length block.new ≡ length block.old }
@@ -29,7 +29,7 @@ pub(crate) fn add_user(rows: &Rows, user: &Person, first: usize, block: &mut [u6
     }
 }
 
-/// Adds the rules that may decide for a command to an empty block, which begins at the word `first`.
+/// Adds the rules that may decide for a command to an empty block, which begins at word `first`.
 pub(crate) fn add_command(rows: &Rows, command: &[u8], first: usize, block: &mut [u64])
     requires { 0 < length rows.now.rows.items }
     ensures count { length block.new ≡ length block.old }
@@ -47,7 +47,7 @@ pub(crate) fn add_command(rows: &Rows, command: &[u8], first: usize, block: &mut
     }
 }
 
-// Returns the place after the last set bit before `end`, or 0.
+// Returns the position after the last set bit before `end`, or 0 if there is none.
 fn last_bit_before(word: u64, end: usize) -> usize
     requires { end ≤ 64 }
     ensures within { result ≤ end }
@@ -57,7 +57,7 @@ fn last_bit_before(word: u64, end: usize) -> usize
     64 - low.leading_zeros() as usize
 }
 
-/// Returns the place after the last rule before `end` that stands in both blocks, or 0.
+/// Returns the position after the last rule before `end` that is in both blocks, or 0 if there is none.
 pub(crate) fn last_in_both_before(users: &[u64], commands: &[u64], end: usize) -> usize
     requires users { end ≤ 64 * length users.now }
     requires commands { end ≤ 64 * length commands.now }

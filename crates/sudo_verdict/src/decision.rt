@@ -1,4 +1,4 @@
-//! How a list decides about a user, a group, a host or a command.
+//! The decision of a list on a user, a group, a host or a command.
 
 ghost use Rattle.std.specs.Prelude.{◌≡◌, ◌∷◌, [], Bool, IsTrue, option_copied, option_map};
 ghost use Rattle.sudo_grammar.specs.declared.kind.Atom.{Atom};
@@ -14,16 +14,16 @@ use sudo_match::{
 };
 use sudo_policy::{Atom, Checked, Kind, Member, is_negated};
 
-/// What the members of a list are matched with.
+/// A user, a group, a host or a command, with which the members of a list are matched.
 pub(crate) trait Subject {
     ghost fits: { Self → Atom → Bool };
 
-    /// Whether the atom matches.
+    /// Whether the atom matches the subject.
     fn matches(&self, atom: &Atom) -> bool
         ensures { result ≡ fits self.now atom.now };
 }
 
-/// A user, as a member of a user list or a runas user list.
+/// A user, matched with the members of a user list or of a runas user list.
 #[derive(Clone, Copy)]
 pub(crate) struct AsUser<'a> {
     pub(crate) user: &'a Person,
@@ -37,7 +37,7 @@ impl Subject for AsUser<'_> {
     }
 }
 
-/// A group, as a member of a runas group list.
+/// A group, matched with the members of a runas group list.
 #[derive(Clone, Copy)]
 pub(crate) struct AsGroup<'a> {
     pub(crate) group: &'a Group,
@@ -51,7 +51,7 @@ impl Subject for AsGroup<'_> {
     }
 }
 
-/// A host, as a member of a host list.
+/// A host, matched with the members of a host list.
 #[derive(Clone, Copy)]
 pub(crate) struct AsHost<'a> {
     pub(crate) host: &'a Machine,
@@ -65,7 +65,7 @@ impl Subject for AsHost<'_> {
     }
 }
 
-/// A command with its arguments, as a member of a command list.
+/// A command with its arguments, matched with the members of a command list.
 #[derive(Clone, Copy)]
 pub(crate) struct AsCommand<'a> {
     pub(crate) command: &'a [u8],
@@ -80,14 +80,14 @@ impl Subject for AsCommand<'_> {
     }
 }
 
-/// The last member of a written-out list that matches: its sign, and whether it is `ALL`.
+/// The decision of a list: the sign of the last member of the written-out list that matches, and whether it is `ALL`.
 #[derive(Clone, Copy)]
 pub(crate) struct Decision {
     pub(crate) negated: bool,
     pub(crate) all: bool,
 }
 
-// Returns how a member decides whose alias decides so.
+// Returns the decision of a member from that of its alias: with the opposite sign if the member is negated.
 fn with_sign(found: Option<Decision>, negated: bool) -> Option<Decision>
     ensures { result ≡ option_map (negated_once negated) found }
 {
@@ -112,7 +112,8 @@ pub(crate) fn is_all(atom: &Atom) -> bool
     }
 }
 
-/// Returns the sign of the last member of the written-out list that matches (true for allow), or `None`.
+/// Returns the sign of the last member of the written-out list that matches (true for allow), or `None` if none
+/// matches.
 pub(crate) fn value<S: Subject>(
     checked: &Checked,
     kind: Kind,
@@ -129,7 +130,7 @@ pub(crate) fn value<S: Subject>(
     }
 }
 
-/// Returns how a list decides. Where there are `aliases`, each is decided once.
+/// Returns the decision of a list, or `None` if no member matches. Decides each of `aliases` at most once.
 pub(crate) fn decide_list<S: Subject>(
     checked: &Checked,
     kind: Kind,
@@ -156,7 +157,8 @@ pub(crate) fn decide_list<S: Subject>(
     }
 }
 
-/// Returns how a list of one member decides. Where there are `aliases`, each is decided once.
+/// Returns the decision of a list of one member, or `None` if it does not match. Decides each of `aliases` at most
+/// once.
 pub(crate) fn decide_one<S: Subject>(
     checked: &Checked,
     kind: Kind,
@@ -183,8 +185,8 @@ pub(crate) fn decide_one<S: Subject>(
     }
 }
 
-/// Returns how the list decides, from its last member to its first; it stops at the first that matches. What is known of
-/// aliases stands in the slots of their numbers.
+// Returns the decision of the list: tries its members from the last to the first and stops at the first that matches.
+// `slots` holds the known decisions of aliases, by the numbers of the aliases.
 #[cycle(deciding)]
 fn decide<S: Subject>(
     checked: &Checked,
@@ -212,7 +214,7 @@ fn decide<S: Subject>(
     None
 }
 
-/// Returns how one member decides: itself, or by the list of its alias.
+// Returns the decision of one member: its own, or that of its alias with the sign of the member.
 #[cycle(deciding)]
 fn decide_member<S: Subject>(
     checked: &Checked,

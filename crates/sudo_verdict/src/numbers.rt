@@ -1,6 +1,7 @@
 //! Numbers under which rules are found: those of users, of their groups, and of commands.
 //!
-//! Each user and each command has a few numbers, each atom has one, and an atom that matches has one of those numbers.
+//! Each user and each command has a few numbers, and each atom has one. If an atom matches a user or a command, its
+//! number is one of theirs.
 
 ghost use Rattle.std.specs.Prelude.{ℕ, ◌≡◌, ◌+◌, ◌*◌, ◌%◌, ◌<◌};
 ghost use Rattle.sudo_match.specs.Pattern.{ends_in_slash};
@@ -10,19 +11,19 @@ use sudo_match::is_special;
 use sudo_policy::Atom;
 use sudo_text::Ch;
 
-/// How many numbers there are.
+/// The upper bound of numbers, all of which are below it.
 pub(crate) const NUMBERS: usize = 16_384;
 
-/// The number of the atoms that match each user, or each command.
+/// The number under which rules are found for every user, or for every command.
 pub(crate) const EVERYONE: usize = 0;
 
-/// The number of no bytes, from which the number of a command's beginning is made.
+/// The number of the empty beginning of a command, from which those of longer beginnings are computed.
 pub(crate) const BEGINNING: usize = 3;
 
-/// The number of no bytes, from which the number of a whole command is made.
+// The number of an empty command, from which those of other whole commands are computed.
 const WHOLE: usize = 4;
 
-/// Returns the number after one more byte.
+/// Extends the number of some bytes by one more byte.
 pub(crate) fn next_number(number: usize, byte: u8) -> usize
     requires { number < 16384 }
     ensures value { result ≡ postings.next_number number byte }
@@ -31,7 +32,7 @@ pub(crate) fn next_number(number: usize, byte: u8) -> usize
     (number * 31 + byte as usize) % NUMBERS
 }
 
-// Returns the number of a name.
+// Returns the number of a name or a whole command, computed from `seed`.
 fn bucket_of(seed: usize, name: &[u8]) -> usize
     requires { seed < 16384 }
     ensures value { result ≡ postings.bucket_of seed name.now }
@@ -81,8 +82,8 @@ pub(crate) fn command_number(command: &[u8]) -> usize
     bucket_of(WHOLE, command)
 }
 
-// Returns the number under which a path is found: that of its bytes before the first special character, or, of a path
-// without such characters, that of the whole.
+// Returns the number under which a path is found: that of its bytes before the first special character; for a path
+// without special characters, that of all its bytes, as a beginning for a folder and otherwise as a whole command.
 fn path_number(path: &[Ch]) -> usize
     ensures { result ≡ postings.path_number path.now }
 {
@@ -100,7 +101,7 @@ fn path_number(path: &[Ch]) -> usize
     if is_folder(path) { beginning } else { whole }
 }
 
-// Whether the path ends in `/`, and so stands for the files of a folder.
+// Whether the path ends in `/`, so that it stands for the files of a folder.
 fn is_folder(path: &[Ch]) -> bool
     ensures { result ≡ ends_in_slash path.now }
 {
@@ -110,7 +111,7 @@ fn is_folder(path: &[Ch]) -> bool
     }
 }
 
-/// Returns the number under which an atom of a user list or of a command is found.
+/// Returns the number under which an atom of a user list or of a command list is found.
 #[tactic(auto, unfolding(crate::specs::Postings::atom_number))]
 pub(crate) fn atom_number(atom: &Atom) -> usize
     ensures { result ≡ postings.atom_number atom.now }

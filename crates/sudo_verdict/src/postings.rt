@@ -1,7 +1,7 @@
-//! The rows in which the rules of a policy are found by users and by commands.
+//! The rows of the rules of a policy, by user and by command.
 //!
-//! A list decides nothing for a user, or for a command, that has none of the numbers of its atoms. So a rule decides nothing
-//! unless it stands in a row of one of the user's numbers and in a row of one of the command's.
+//! A list decides nothing for a user, or for a command, that has none of the numbers of its atoms. So a rule decides
+//! nothing unless it is in a row of one of the user's numbers and in a row of one of the command's.
 
 ghost use Rattle.std.specs.Prelude.{ℕ, ◌≡◌, ◌+◌, ◌<◌, true, false, Bool, None, [], ◌∷◌, IsTrue, IfOk, OnOk, length};
 ghost use Rattle.std.specs.List.{list_all};
@@ -18,20 +18,20 @@ use crate::rows::Rows;
 use std::alloc::{AllocError, Global};
 use sudo_policy::{Atom, Checked, CommandSpec, Entry, EntryBody, Kind, Member, Section};
 
-/// How many members are posted one by one; a rule that needs more is found by everyone. So the time stays small also where
-/// aliases write out to many members.
+// The most members that are posted one by one. A rule with further members is posted for everyone, so the time stays
+// small even if aliases write out to many members.
 const MEMBERS: usize = 1 << 22;
 
-/// Rows that rules are posted to.
+/// Rows to which rules are posted.
 #[derive(Drop)]
 pub(crate) struct Posting {
     pub(crate) rows: Rows,
-    /// How many members may still be posted one by one.
+    // The number of members that may still be posted one by one.
     left: usize,
 }
 
 impl Posting {
-    /// Returns empty rows for so many rules. Returns `AllocError` if memory is refused.
+    // Creates empty rows for this many rules. Returns `AllocError` if allocation fails.
     fn new(alloc: Global, rules: usize) -> Result<Posting, AllocError>
         ensures { IfOk result (λ r. 0 < length r.rows.rows.items) }
     {
@@ -41,7 +41,7 @@ impl Posting {
         })
     }
 
-    /// Posts a rule under each atom of a list.
+    // Posts a rule under each atom of a list. Returns `AllocError` if allocation fails.
     #[cycle(posting)]
     fn post_members(
         &mut self,
@@ -66,7 +66,8 @@ impl Posting {
         Ok(())
     }
 
-    /// Posts a rule under a member of a list: under its atom, or under those of its alias.
+    // Posts a rule under a member of a list: under its atom, or under those of its alias. Returns `AllocError` if
+    // allocation fails.
     #[cycle(posting)]
     fn post_member(
         &mut self,
@@ -96,7 +97,7 @@ impl Posting {
         }
     }
 
-    /// Posts a rule under each command of a section.
+    // Posts a rule under each command of a section. Returns `AllocError` if allocation fails.
     fn post_commands(
         &mut self,
         checked: &Checked,
@@ -119,7 +120,7 @@ impl Posting {
         Ok(())
     }
 
-    /// Posts a rule under each command of its sections.
+    // Posts a rule under each command of its sections. Returns `AllocError` if allocation fails.
     fn post_sections(
         &mut self,
         checked: &Checked,
@@ -143,7 +144,7 @@ impl Posting {
     }
 }
 
-/// The rows of the users, and those of the commands.
+/// The rows by user, and those by command.
 #[derive(Drop)]
 pub(crate) struct Postings {
     pub(crate) users: Posting,
@@ -151,7 +152,7 @@ pub(crate) struct Postings {
 }
 
 impl Postings {
-    /// Posts an entry that is a rule.
+    // Posts an entry if it is a rule. Returns `AllocError` if allocation fails.
     fn post_entry(
         &mut self,
         checked: &Checked,
@@ -182,7 +183,7 @@ impl Postings {
         }
     }
 
-    /// Returns the rows of a policy. Returns `AllocError` if memory is refused.
+    /// Creates the rows of a policy. Returns `AllocError` if allocation fails.
     pub(crate) fn of(alloc: Global, checked: &Checked) -> Result<Postings, AllocError>
         ensures users { IfOk result (λ all. 0 < length all.users.rows.rows.items) }
         ensures commands { IfOk result (λ all. 0 < length all.commands.rows.rows.items) }

@@ -7,16 +7,16 @@ ghost use Rattle.sudo_verdict.specs.Body.Blocks.{Adds, AddsWords};
 use crate::numbers::NUMBERS;
 use std::alloc::{AllocError, Global};
 
-/// How many words all rows take at most: 32 MiB. Where they would take more, several numbers share a row.
+// The most words of all rows: 32 MiB. If the rows would need more, several numbers share a row.
 const WORDS: usize = 1 << 22;
 
-/// For each number the rules that stand under it, a bit for each rule.
+/// The rules that are posted under each number, a bit for each rule.
 #[derive(Drop)]
 pub(crate) struct Rows {
     pub(crate) rows: Vec<Vec<u64>>,
 }
 
-// Sets a bit of words that hold it.
+// Sets the bit of a rule, which is within the words.
 fn set_bit(words: &mut [u64], rule: usize)
     requires { rule < 64 * length words.old }
     ensures count { length words.new ≡ length words.old }
@@ -26,7 +26,7 @@ fn set_bit(words: &mut [u64], rule: usize)
     words[rule / 64] |= 1 << (rule % 64);
 }
 
-// Sets the bit of a rule in a row, which grows up to it.
+// Sets the bit of a rule in a row, extending the row up to it. Returns `AllocError` if allocation fails.
 fn post_in(row: &mut Vec<u64>, rule: usize) -> Result<(), AllocError>
     ensures sets { OnOk result (bit row.new.items rule ≡ 1) }
     ensures keeps { (other : ℕ) → bit row.old.items other ≡ 1 → bit row.new.items other ≡ 1 }
@@ -38,7 +38,7 @@ fn post_in(row: &mut Vec<u64>, rule: usize) -> Result<(), AllocError>
     Ok(())
 }
 
-// Adds the bits of words to those of a block.
+// Adds the bits of words to those of a block, up to its end.
 fn or_words(block: &mut [u64], words: &[u64])
     ensures count { length block.new ≡ length block.old }
     ensures adds { AddsWords words.now block.old block.new }
@@ -50,7 +50,7 @@ fn or_words(block: &mut [u64], words: &[u64])
 }
 
 impl Rows {
-    /// Returns empty rows for so many rules. Returns `AllocError` if memory is refused.
+    /// Creates empty rows for this many rules. Returns `AllocError` if allocation fails.
     pub(crate) fn new(alloc: Global, rules: usize) -> Result<Rows, AllocError>
         ensures { IfOk result (λ r. 0 < length r.rows.items) }
     {
@@ -62,7 +62,7 @@ impl Rows {
         Ok(Rows { rows })
     }
 
-    /// Puts a rule into the row of a number. Returns `AllocError` if memory is refused.
+    /// Posts a rule to the row of a number. Returns `AllocError` if allocation fails.
     pub(crate) fn post(&mut self, number: usize, rule: usize) -> Result<(), AllocError>
         requires { 0 < length self.old.rows.items }
         ensures count { length self.new.rows.items ≡ length self.old.rows.items }
@@ -73,7 +73,7 @@ impl Rows {
         post_in(&mut self.rows[index], rule)
     }
 
-    /// Adds the rules of a number to those of a block, which begins at the word `first`.
+    /// Adds the rules of a number to those of a block, which begins at word `first`.
     pub(crate) fn add_to(&self, number: usize, first: usize, block: &mut [u64])
         requires { 0 < length self.now.rows.items }
         ensures count { length block.new ≡ length block.old }

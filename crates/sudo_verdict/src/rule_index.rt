@@ -1,4 +1,4 @@
-//! Which rules of a policy may decide for which user and which command, for many requests.
+//! An index of the rules of a policy by user and by command, for many requests.
 
 ghost use Rattle.std.specs.Prelude.{ℕ, ◌≡◌, ◌+◌, ◌-◌, ◌*◌, ◌<◌, ◌≤◌, false, Option, None, Some, IfOk, map, take, length, slice_get};
 ghost use Rattle.std.specs.Option.{option_or};
@@ -21,10 +21,11 @@ use std::marker::Model;
 use sudo_match::{Directory, Request, Verdict};
 use sudo_policy::Checked;
 
-/// How many words of 64 rules are looked at at a time.
+// The number of words, of 64 rules each, that are searched at a time.
 const BLOCK: usize = 256;
 
-/// Which rules of a policy may decide for which user and which command. It holds numbers alone and no part of the policy.
+/// An index of the rules of a policy that may decide for a user and for a command. Holds numbers and names of aliases,
+/// but borrows nothing from the policy. Contracts see its rows.
 #[derive(Drop)]
 pub struct RuleIndex {
     users: Rows,
@@ -41,8 +42,10 @@ impl Model for RuleIndex {
 }
 
 impl RuleIndex {
-    /// Returns the index of a policy, in time about linear in the lists of users and of commands of its rules as written
-    /// out, and in at most 64 MiB besides the rows' own. Returns `AllocError` if memory is refused.
+    /// Returns the index of a policy, in time about linear in the user and command lists of its rules as written out,
+    /// and in at most 64 MiB besides the rows' own.
+    ///
+    /// Returns `AllocError` if allocation fails.
     pub fn of(alloc: Global, checked: &Checked) -> Result<RuleIndex, AllocError>
         ensures { IfOk result (Indexes checked.now) }
     {
@@ -54,8 +57,8 @@ impl RuleIndex {
         })
     }
 
-    /// Returns the verdict on the request, as [`crate::verdict`] does, under the policy that this is the index of. Looks
-    /// only at the rules that may decide for the user and the command. Does not allocate.
+    /// Returns the verdict on the request, as [`crate::verdict`] does, under the policy of this index. Searches only
+    /// the rules that may decide for the user and the command. Does not allocate.
     pub fn verdict(&self, checked: &Checked, directory: &Directory, request: &Request) -> Verdict
         requires { Indexes checked.now self.now }
         ensures { result ≡ verdict_of checked.now directory.now request.now }
@@ -70,7 +73,7 @@ impl RuleIndex {
     }
 }
 
-/// What the last entry that decides says, block by block from the end back.
+// Returns the verdict of the last entry that decides, searching block by block from the end back.
 fn search_indexed(checked: &Checked, index: &RuleIndex, query: &Query<'_>) -> Option<Verdict>
     requires { Indexes checked.now index.now }
     ensures { result ≡ last_set (map (entry_found checked.now (question query.now))
@@ -88,7 +91,7 @@ fn search_indexed(checked: &Checked, index: &RuleIndex, query: &Query<'_>) -> Op
     None
 }
 
-/// What the last entry that decides says, of those before `end` in the block that begins at the word `first`.
+// Returns the verdict of the last entry that decides, of those before `end` in the block that begins at word `first`.
 fn search_block(
     checked: &Checked,
     index: &RuleIndex,
@@ -125,7 +128,7 @@ fn search_block(
     )
 }
 
-/// What the last entry that decides says, of those from `start` up to `end` that stand in both blocks.
+// Returns the verdict of the last entry that decides, of those from `start` to before `end` that are in both blocks.
 fn search_candidates(
     checked: &Checked,
     query: &Query<'_>,

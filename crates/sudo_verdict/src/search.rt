@@ -1,4 +1,4 @@
-//! The verdict by a search from the last grant back, which stops at the first that applies and takes no memory.
+//! The verdict by a search back from the last grant, which stops at the first that applies and does not allocate.
 
 ghost use Rattle.std.specs.Prelude.{◌≡◌, true, false, ◌++◌, ◌∷◌, [], IsTrue, Option, map, length, option_copied};
 ghost use Rattle.std.specs.List.{list_all};
@@ -18,11 +18,11 @@ use sudo_match::{Directory, Request, Verdict};
 use sudo_policy::{Checked, CommandSpec, Entry, EntryBody, Kind, Runas, Section};
 use sudo_text::Place;
 
-/// The verdict on the request: the first unknown name of the user, the host, the target and the group; else what the last
-/// grant of the policy decides that applies; else `NoMatch`. Takes no memory.
+/// Returns the verdict on the request: the first unknown name of the user, the host, the target and the group;
+/// otherwise the verdict of the last grant of the policy that applies; otherwise `NoMatch`. Does not allocate.
 ///
-/// sudoers(5): "Where there are multiple matches, the last match is used". The definition speaks of lists as written out;
-/// that each list of a checked policy has a written form is the law [`sudo_policy::lists_are_written`].
+/// sudoers(5): "Where there are multiple matches, the last match is used". The definition is about written-out lists;
+/// the law [`sudo_policy::lists_are_written`] states that each list of a checked policy has a written form.
 pub fn verdict<'a>(checked: &Checked, directory: &'a Directory, request: &'a Request) -> Verdict
     ensures { result ≡ verdict_of checked.now directory.now request.now }
 {
@@ -50,6 +50,7 @@ fn search(checked: &Checked, query: &Query<'_>) -> Option<Verdict>
     None
 }
 
+/// Returns the verdict of the last grant of the entry that applies, or `None`.
 #[tactic(auto, unfolding(crate::specs::Found::rule_found))]
 pub(crate) fn search_entry(checked: &Checked, query: &Query<'_>, entry: &Entry) -> Option<Verdict>
     requires { IsTrue (body_resolves checked.now entry.now.body) }
@@ -127,15 +128,16 @@ fn search_places(
     None
 }
 
-/// What the search finds at a command.
+// The result of the search at a command.
 #[derive(Clone, Copy)]
 struct Examined {
     verdict: Option<Verdict>,
-    /// Whether the command's runas is known not to hold. The commands before it that share the runas are then passed over.
+    // Whether the command's runas is known not to allow the request. The commands before it that share the runas are
+    // then skipped.
     refused: bool,
 }
 
-/// What the last of these commands says, which is `spec`; `refused` where its runas is known not to hold.
+// Judges `spec`, the last of `commands`. `refused`: its runas is known not to allow the request.
 #[tactic(auto, unfolding(crate::specs::Found::command_found))]
 fn search_command(
     checked: &Checked,
@@ -184,7 +186,8 @@ fn search_command(
     }
 }
 
-/// What a grant of the last of these commands decides.
+/// Returns the verdict at the last of these commands: deny if the decision is negated, otherwise allow with the tags
+/// that are in force there.
 pub(crate) fn verdict_at(place: Place, commands: &[CommandSpec], decision: Decision) -> Verdict
     ensures { result ≡ verdict_from place (tags_before commands.now) decision }
 {
@@ -198,7 +201,7 @@ pub(crate) fn verdict_at(place: Place, commands: &[CommandSpec], decision: Decis
     }
 }
 
-/// The runas that is named last among these commands, found from the last command back.
+/// Returns the runas named last among these commands, or `None`. Searches from the last command back.
 pub(crate) fn runas_before_end(commands: &[CommandSpec]) -> Option<&Runas>
     ensures { option_copied result ≡ runas_before commands.now }
 {

@@ -1,23 +1,23 @@
--- Blocks of rules as bits, from which the rules are taken that may decide. Only bodies' proofs need them.
+-- Blocks of rules as bits, with the rules that may decide; only proofs of bodies need these definitions.
 use Rattle.std.specs.Prelude.{◌≡◌, ℕ, ◌+◌, ◌*◌, ◌<◌, Bool, false, true, ◌==◌, ◌&&◌, List, length}
 use Rattle.sudo_match.specs.declared.people.Person.{Person}
 use Rattle.sudo_verdict.specs.Postings.{Rows, bit, posted, misses_user, misses_command}
 
--- what has no bit afterwards had none, and has none in the words
+-- the new words have each set bit of the old ones and, within their length, of `words`
 abbrev pub AddsWords : List ℕ → List ℕ → List ℕ → Type 0
 AddsWords words old new = (i : ℕ) → bit new i ≡ 0 → (bit old i ≡ 0) × (i < 64 * length old → bit words i ≡ 0)
 
--- the same, where the words are those of a number from the word `first` on
+-- the new words have each set bit of the old ones and, within their length, of a number's row from the word `first` on
 abbrev pub Adds : Rows → ℕ → ℕ → List ℕ → List ℕ → Type 0
 Adds rows number first old new =
     (i : ℕ) → bit new i ≡ 0 → (bit old i ≡ 0) × (i < 64 * length old → posted rows number (64 * first + i) ≡ false)
 
--- what has no bit in the block stands in no row of the user
+-- each rule without a bit in the block, which begins at the word `first`, is in no row of the user
 abbrev pub HasUser : Rows → ℕ → Person → List ℕ → Type 0
 HasUser rows first u block =
     (i : ℕ) → i < 64 * length block → bit block i ≡ 0 → misses_user rows (64 * first + i) u ≡ true
 
--- what has no bit in the block stands in no row of the command
+-- each rule without a bit in the block, which begins at the word `first`, is in no row of the command
 abbrev pub HasCommand : Rows → ℕ → List ℕ → List ℕ → Type 0
 HasCommand rows first command block =
     (i : ℕ) → i < 64 * length block → bit block i ≡ 0 → misses_command rows (64 * first + i) command ≡ true

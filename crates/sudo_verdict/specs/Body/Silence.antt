@@ -1,4 +1,5 @@
--- Tests that no atom of a list passes under which a rule stands, and what then decides nothing. Only bodies' proofs need it.
+-- Tests that no atom passes under which a rule is posted, and the parts of the rule that then decide nothing; only
+-- proofs of bodies need these definitions.
 use Rattle.std.specs.Prelude.{◌≡◌, ℕ, Bool, true, false, ◌||◌, List, [], ◌∷◌, None, slice_get, Some}
 use Rattle.sudo_grammar.specs.declared.kind.Atom.{Atom}
 use Rattle.sudo_grammar.specs.declared.kind.Kind.TheVariants as kind
@@ -11,22 +12,22 @@ use Rattle.sudo_verdict.specs.Found.{entry_found}
 use Rattle.sudo_verdict.specs.Questions.{Question}
 use Rattle.sudo_verdict.specs.Postings.{Rows, posted, atom_number, misses_user, misses_command}
 
--- the rule is not found by everyone, and no atom under which it is found passes the test
+-- the rule is not posted for everyone, and no atom under which it is posted passes the test
 pub record IsSilent (rows : Rows) (rule : ℕ) (test : Atom → Bool) : Type 0 where
   pub everyone : posted rows 0 rule ≡ false
   pub atoms : (a : Atom) → posted rows (atom_number a) rule ≡ true → test a ≡ false
 
--- no command decides
+-- none of these commands decides
 abbrev pub CommandsSilent : Policy → (Atom → Bool) → List CommandSpec → Type 0
 CommandsSilent p test commands =
     (k : ℕ) (c : CommandSpec) → slice_get commands k ≡ Some c → decided kind.Cmnd p (c.command ∷ []) test ≡ None
 
--- no command of a section decides
+-- no command of these sections decides
 abbrev pub SectionsSilent : Policy → (Atom → Bool) → List Section → Type 0
 SectionsSilent p test sections =
     (k : ℕ) (s : Section) → slice_get sections k ≡ Some s → CommandsSilent p test s.commands
 
--- the entry decides nothing for users, or for commands, in none of whose rows it stands
+-- the entry decides nothing if it is in no row of the user, or in none of the command
 abbrev pub EntrySilent : Policy → Rows → Rows → ℕ → Entry → Type 0
 EntrySilent p users commands rule e =
     (q : Question) → (misses_user users rule q.user || misses_command commands rule q.command) ≡ true → entry_found p q e ≡ None
