@@ -7,7 +7,7 @@ pub mod Resolving
 pub mod VerdictVectors
 pub mod Numbering
 pub mod Bits
-pub mod IsMissing
+pub mod Misses
 pub mod Paths
 pub mod Silent
 pub mod Posting

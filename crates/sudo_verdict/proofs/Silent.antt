@@ -24,7 +24,7 @@ use Rattle.sudo_verdict.specs.Last.{last_set}
 use Rattle.sudo_verdict.specs.Postings.{Rows, posted, atom_number, Grows, Covers, misses_user, misses_command}
 use Rattle.sudo_verdict.specs.Body.Silence.{IsSilent, CommandsSilent, SectionsSilent, EntrySilent}
 use Rattle.sudo_verdict.proofs.Deciding.{value_decided}
-use Rattle.sudo_verdict.proofs.IsMissing.{misses-atom, misses-never, misses-old}
+use Rattle.sudo_verdict.proofs.Misses.{misses-atom, misses-never, misses-old}
 use Rattle.sudo_verdict.proofs.Paths.{misses-command_atom, misses-everyone, misses-command_old}
 
 never : (a b : Bool) → (a ≡ true → b ≡ true) → b ≡ false → a ≡ false

@@ -1,6 +1,6 @@
 use Rattle.std.proofs.Common.{ap, sym, ◌∙◌, ◌+◌, ◌*◌, arith}
 use Rattle.sudo_verdict.specs.Postings.{posted, misses_beginnings}
-use Rattle.sudo_verdict.proofs.IsMissing.{command-missed, begins-more, begins-end}
+use Rattle.sudo_verdict.proofs.Misses.{command-missed, begins-more, begins-end}
 use Rattle.sudo_verdict.proofs.candidates.add_command.Goals as goal
 
 pub loop-byte-init : goal.loop-byte-init

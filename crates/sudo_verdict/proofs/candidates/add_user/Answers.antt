@@ -1,7 +1,7 @@
 use Rattle.std.proofs.Common.{not, ap, sym, ◌∙◌, ◌+◌, ◌*◌, arith}
 use Rattle.std.specs.List.{list_all}
 use Rattle.sudo_verdict.specs.Postings.{user_bucket, posted, misses_group}
-use Rattle.sudo_verdict.proofs.IsMissing.{misses-all}
+use Rattle.sudo_verdict.proofs.Misses.{misses-all}
 use Rattle.sudo_verdict.proofs.candidates.add_user.Goals as goal
 
 pub loop-group-init : goal.loop-group-init

@@ -2,7 +2,7 @@ use Rattle.std.proofs.Common.{true, arith, sym, ◌∙◌, ap, refl}
 use Rattle.sudo_verdict.specs.Postings.{posted}
 use Rattle.sudo_verdict.proofs.Deciding.{last_silent, rest_resolves, last_resolves, rest_shallow, last_shallow, none_silent, undefined_never, alias_silent, alias_falls, alias_stands, atom_silent}
 use Rattle.sudo_verdict.proofs.Posting.{on-ok}
-use Rattle.sudo_verdict.proofs.IsMissing.{grows-on}
+use Rattle.sudo_verdict.proofs.Misses.{grows-on}
 use Rattle.sudo_verdict.proofs.Silent.{silent-old, silent-never}
 use Rattle.sudo_verdict.proofs.postings.Posting.+posting.Goals as goal
 

@@ -5,7 +5,7 @@ use Rattle.sudo_grammar.specs.declared.policy.CommandSpec.{CommandSpec}
 use Rattle.sudo_policy.specs.Resolving.{command_resolves}
 use Rattle.sudo_verdict.specs.Decided.{decided}
 use Rattle.sudo_verdict.proofs.Lasts.{back_rest}
-use Rattle.sudo_verdict.proofs.IsMissing.{grows-on}
+use Rattle.sudo_verdict.proofs.Misses.{grows-on}
 use Rattle.sudo_verdict.proofs.Silent.{silent-old, each-more}
 use Rattle.sudo_verdict.proofs.postings.Posting.post_commands.Goals as goal
 

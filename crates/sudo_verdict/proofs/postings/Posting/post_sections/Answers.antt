@@ -3,7 +3,7 @@ use Rattle.sudo_grammar.specs.declared.policy.Section.{Section}
 use Rattle.sudo_policy.specs.Resolving.{section_resolves}
 use Rattle.sudo_verdict.specs.Body.Silence.{CommandsSilent}
 use Rattle.sudo_verdict.proofs.Lasts.{back_rest}
-use Rattle.sudo_verdict.proofs.IsMissing.{grows-on}
+use Rattle.sudo_verdict.proofs.Misses.{grows-on}
 use Rattle.sudo_verdict.proofs.Silent.{silent-old, each-more}
 use Rattle.sudo_verdict.proofs.postings.Posting.post_sections.Goals as goal
 

@@ -2,7 +2,7 @@ use Rattle.std.proofs.Common.{◌≡◌, ◌<◌, ◌%◌, ◌*◌, ◌+◌, ◌
 use Rattle.std.specs.Prelude.{slice_get, Some}
 use Rattle.std.proofs.lemmas.Option.{slice_get_read}
 use Rattle.sudo_verdict.specs.Postings.{bit}
-use Rattle.sudo_verdict.proofs.IsMissing.{row-there, row-within, posted-none, bit-drop, bit-past}
+use Rattle.sudo_verdict.proofs.Misses.{row-there, row-within, posted-none, bit-drop, bit-past}
 use Rattle.sudo_verdict.proofs.rows.Rows.add_to.Goals as goal
 
 pub returns-then-first-row-clause-adds : goal.returns-then-first-row-clause-adds

@@ -1,6 +1,6 @@
 use Rattle.std.proofs.Common.{◌≡◌, ◌<◌, ◌%◌, length, refl, sym, ap, arith}
 use Rattle.std.proofs.lemmas.Option.{slice_get_read}
-use Rattle.sudo_verdict.proofs.IsMissing.{row-within, posted-set, grows-set}
+use Rattle.sudo_verdict.proofs.Misses.{row-within, posted-set, grows-set}
 use Rattle.sudo_verdict.proofs.Posting.{on-ok}
 use Rattle.sudo_verdict.proofs.rows.Rows.post.Goals as goal
 
