@@ -10,7 +10,7 @@ use Rattle.sudo_match.specs.declared.patterns.Reading.{Reading}
 use Rattle.sudo_match.specs.declared.patterns.Reading.TheVariants.{Exact, Host, Quoted}
 use Rattle.sudo_match.specs.declared.patterns.Chars.{Chars}
 use Rattle.sudo_match.specs.declared.patterns.Text.{Text}
-use Rattle.sudo_match.specs.Class.{class_name, lower}
+use Rattle.sudo_match.specs.Class.{class_name, lower, lower_text}
 use Rattle.sudo_match.specs.Pattern.{is_byte, is_plain, has, begins, class_form, class_end, range_at, any_name}
 use Rattle.sudo_match.specs.HostNames.{lower_char, literal_char, free_bang, free_bangs, host_chars, quoted_chars}
 use Rattle.sudo_match.specs.Reading.{follows_bracket, read_one, read, seen, text_of}
@@ -281,3 +281,11 @@ pub text-short : (t : Text) → length (text_of t) < 2 ^ 63
 text-short t =
     let e : length (text_of t) ≡ length t.bytes.now = length-text t.lower t.bytes.now in
     let h : length t.bytes.now < 2 ^ 63 = t.short in omega (arith, e, h)
+
+-- ---- Characters and texts that are read as they stand
+
+pub exact-char : (c : Chars) (n : ℕ) → c.reading ≡ Exact → n < length c.chars.now → slice_get (seen c) n ≡ slice_get c.chars.now n
+exact-char c n e h = seen-left c n h ∙ ap (λ r. slice_get (read r c.chars.now) n) e
+
+pub plain-byte : (t : Text) (n : ℕ) → t.lower ≡ false → slice_get (text_of t) n ≡ slice_get t.bytes.now n
+plain-byte t n e = ap (λ b. slice_get (cond b (lower_text t.bytes.now) t.bytes.now) n) e

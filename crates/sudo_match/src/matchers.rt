@@ -141,7 +141,7 @@ pub fn host_matches(atom: &Atom, host: &Machine) -> bool
 fn spells(name: &[u8], chars: &[Ch]) -> bool
     ensures { result ≡ spells name.now chars.now }
 {
-    chars.len() == name.len() && crate::patterns::begins_with(chars, name)
+    chars.len() == name.len() && crate::pattern::begins_with(chars, name)
 }
 
 // Whether arguments are allowed: a command without arguments allows any, `""` allows none, and any other text is a

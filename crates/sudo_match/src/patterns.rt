@@ -116,7 +116,7 @@ impl Class {
 
 // A way to read the characters of a pattern.
 #[derive(Clone, Copy, PartialEq, Eq, Debug)]
-enum Reading {
+pub(crate) enum Reading {
     // Unchanged.
     Exact,
     // As a host name: in lower case, and an escaped `!` directly after an unescaped `[` counts as unescaped.
@@ -149,9 +149,9 @@ impl Reading {
 
 // A text as it is read: unchanged, or in lower case.
 #[derive(Clone, Copy)]
-struct Text<'a> {
-    bytes: &'a [u8],
-    lower: bool,
+pub(crate) struct Text<'a> {
+    pub(crate) bytes: &'a [u8],
+    pub(crate) lower: bool,
     ghost short: { length bytes.now < 2 ^ 63 },
 }
 
@@ -182,11 +182,11 @@ impl Text<'_> {
 
 // The characters of a pattern as they are read.
 #[derive(Clone, Copy)]
-struct Chars<'a> {
-    chars: &'a [Ch],
-    reading: Reading,
+pub(crate) struct Chars<'a> {
+    pub(crate) chars: &'a [Ch],
+    pub(crate) reading: Reading,
     // Whether `?*` follows the characters.
-    is_folder: bool,
+    pub(crate) is_folder: bool,
     ghost short: { length chars.now < 2 ^ 62 },
 }
 
@@ -254,6 +254,7 @@ impl<'a> Chars<'a> {
     ghost use Rattle.sudo_match.specs.Reading.{seen, read, text_of, follows_bracket};
     ghost use Rattle.sudo_match.specs.Body.Shown.{class_of, opened, held_by};
     ghost use Rattle.sudo_match.specs.Body.Step.{StepIs};
+    ghost use Rattle.sudo_match.specs.declared.patterns.Reading.TheVariants.{Exact};
 
     fn len(&self) -> usize
         ensures { result ≡ length (seen self.now) }
@@ -318,7 +319,7 @@ impl<'a> Chars<'a> {
     }
 
     // Whether the characters from this index on begin with these bytes, all unescaped.
-    fn spells_at(&self, at: usize, name: &[u8]) -> bool
+    pub(crate) fn spells_at(&self, at: usize, name: &[u8]) -> bool
         requires { at + length name.now < 2 ^ 64 }
         ensures { result ≡ begins (map is_plain name.now) (drop at (seen self.now)) }
     {
@@ -632,6 +633,29 @@ impl<'a> Chars<'a> {
         }
     }
 
+    // Returns the same as `literal_start`, or less, for characters and a text that are read as they stand.
+    fn exact_start(&self, text: &Text<'_>, slash: Slash) -> Option<usize>
+        requires exact { self.now.reading ≡ Exact }
+        requires plain { text.now.lower ≡ false }
+        ensures within { IfSome result (λ n. n ≤ length (seen self.now)) }
+        ensures rest { IfSome result (λ n. fits (parts (seen self.now)) (text_of text.now) slash
+            ≡ fits (parts (drop n (seen self.now))) (drop n (text_of text.now)) slash) }
+        ensures differs { result ≡ None
+            → fits (parts (seen self.now)) (text_of text.now) slash ≡ false }
+    {
+        let count = self.chars.len().min(text.bytes.len());
+        for at in 0..count {
+            let ch = self.chars[at];
+            if is_special(ch) {
+                return Some(at);
+            }
+            if text.bytes[at] != ch.byte {
+                return None;
+            }
+        }
+        Some(count)
+    }
+
     // Returns the number of characters before the first special one, or `None` if they differ from the first bytes of
     // the text, so that the pattern does not fit: most patterns are rejected here.
     fn literal_start(&self, text: &Text<'_>, slash: Slash) -> Option<usize>
@@ -641,7 +665,10 @@ impl<'a> Chars<'a> {
         ensures differs { result ≡ None
             → fits (parts (seen self.now)) (text_of text.now) slash ≡ false }
     {
-        let mut at = 0;
+        let mut at = match self.reading {
+            Reading::Exact if !text.lower => self.exact_start(text, slash)?,
+            _ => 0,
+        };
         while let Some(ch) = self.get(at) {
             if is_special(ch) {
                 return Some(at);
@@ -657,7 +684,7 @@ impl<'a> Chars<'a> {
 
     // Whether the whole pattern fits the whole text. If a part does not fit, the last star fits one more byte: an
     // earlier star could only move the parts between the two to a later position, from which no other text is reached.
-    fn fits(&self, text: &Text<'_>, slash: Slash) -> bool
+    pub(crate) fn fits(&self, text: &Text<'_>, slash: Slash) -> bool
         ensures { result ≡ fits (parts (seen self.now)) (text_of text.now) slash }
     {
         let Some(literal) = self.literal_start(text, slash) else {
@@ -692,107 +719,4 @@ impl<'a> Chars<'a> {
             }
         }
     }
-}
-
-/// A pattern that borrows its characters. Contracts see its parts.
-#[derive(Drop)]
-pub struct Pattern<'a> {
-    chars: Chars<'a>,
-}
-
-impl<'a> Model for Pattern<'a> {
-    ghost use Rattle.std.specs.Prelude.{List};
-    ghost use Rattle.sudo_match.specs.Pattern.{Part, parts};
-
-    ghost Value = { List Part };
-
-    ghost use Rattle.sudo_match.specs.Reading.{seen};
-
-    ghost view = { λ p. parts (seen p.chars) };
-}
-
-impl<'a> Pattern<'a> {
-    ghost use Rattle.sudo_match.specs.Matching.{host_pattern};
-
-    /// Creates the pattern that these characters spell: unescaped `*`, `?` and brackets are as in glob(7).
-    pub fn of(chars: &'a [Ch]) -> Self
-        ensures { result ≡ parts chars.now }
-    {
-        Pattern {
-            chars: Chars {
-                chars,
-                reading: Reading::Exact,
-                is_folder: false,
-            },
-        }
-    }
-
-    /// Creates the pattern of a command's path. A path that ends in `/` stands for each file of that folder.
-    pub(crate) fn of_path(chars: &'a [Ch]) -> Self
-        ensures { result ≡ parts (path_chars chars.now) }
-    {
-        let is_folder = match chars.last() {
-            Some(ch) => ch.byte == b'/',
-            None => false,
-        };
-        Pattern {
-            chars: Chars {
-                chars,
-                reading: Reading::Exact,
-                is_folder,
-            },
-        }
-    }
-
-    /// Creates the pattern of a host, for names in lower case. If `quoted`, no character is special.
-    pub(crate) fn of_host(chars: &'a [Ch], quoted: bool) -> Self
-        ensures { result ≡ parts (host_pattern chars.now quoted) }
-    {
-        let reading = if quoted {
-            Reading::Quoted
-        } else {
-            Reading::Host
-        };
-        Pattern {
-            chars: Chars {
-                chars,
-                reading,
-                is_folder: false,
-            },
-        }
-    }
-
-    /// Whether the pattern fits the whole text.
-    pub fn matches(&self, text: &[u8], slash: Slash) -> bool
-        ensures { result ≡ fits self.now text.now slash }
-    {
-        let text = Text {
-            bytes: text,
-            lower: false,
-        };
-        self.chars.fits(&text, slash)
-    }
-
-    /// Whether the pattern fits the whole text, read in lower case.
-    pub(crate) fn matches_lower(&self, text: &[u8]) -> bool
-        ensures { result ≡ fits self.now (lower_text text.now) Slash.Any }
-    {
-        let text = Text {
-            bytes: text,
-            lower: true,
-        };
-        self.chars.fits(&text, Slash::Any)
-    }
-}
-
-/// Whether the characters begin with these bytes, all unescaped.
-pub(crate) fn begins_with(chars: &[Ch], name: &[u8]) -> bool
-    ensures { result ≡ begins (map is_plain name.now) chars.now }
-{
-    let chars = Chars {
-        chars,
-        reading: Reading::Exact,
-        is_folder: false,
-    };
-    chars.spells_at(0, name)
 }
