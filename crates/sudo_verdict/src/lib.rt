@@ -14,6 +14,7 @@ mod rule_index;
 mod search;
 mod tags;
 
+pub use postings::Budget;
 pub use rule_index::RuleIndex;
 pub use search::verdict;
 pub use sudo_match::{Request, Tags, Verdict, What};

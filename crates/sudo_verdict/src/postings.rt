@@ -18,9 +18,28 @@ use crate::rows::Rows;
 use std::alloc::{AllocError, Global};
 use sudo_policy::{Atom, Checked, CommandSpec, Entry, EntryBody, Kind, Member, Section};
 
-// The most members that are posted one by one. A rule with further members is posted for everyone, so the time stays
-// small even if aliases write out to many members.
-const MEMBERS: usize = 1 << 22;
+/// How large an index may become. A smaller one finds more rules for a request; the verdicts are the same.
+#[derive(Clone, Copy, Debug)]
+pub struct Budget {
+    /// The words, of 64 rules each, of the rows of users, and as many of those of commands. If a row for each number would
+    /// need more, several numbers share a row.
+    pub words: usize,
+    /// The members of users' lists that are posted one by one, and as many of commands. A rule with further members is found
+    /// by everyone.
+    pub members: usize,
+}
+
+impl Budget {
+    /// Returns the budget of an audit: 32 MiB of rows each, and 4,194,304 members each.
+    pub fn standard() -> Budget
+        ensures { result ≡ record { words = 4194304; members = 4194304 } }
+    {
+        Budget {
+            words: 1 << 22,
+            members: 1 << 22,
+        }
+    }
+}
 
 /// Rows to which rules are posted.
 #[derive(Drop)]
@@ -32,12 +51,12 @@ pub(crate) struct Posting {
 
 impl Posting {
     // Creates empty rows for this many rules. Returns `AllocError` if allocation fails.
-    fn new(alloc: Global, rules: usize) -> Result<Posting, AllocError>
+    fn new(alloc: Global, rules: usize, budget: Budget) -> Result<Posting, AllocError>
         ensures { IfOk result (λ r. 0 < length r.rows.rows.items) }
     {
         Ok(Posting {
-            rows: Rows::new(alloc, rules)?,
-            left: MEMBERS,
+            rows: Rows::new(alloc, rules, budget.words)?,
+            left: budget.members,
         })
     }
 
@@ -184,7 +203,11 @@ impl Postings {
     }
 
     /// Creates the rows of a policy. Returns `AllocError` if allocation fails.
-    pub(crate) fn of(alloc: Global, checked: &Checked) -> Result<Postings, AllocError>
+    pub(crate) fn of(
+        alloc: Global,
+        checked: &Checked,
+        budget: Budget,
+    ) -> Result<Postings, AllocError>
         ensures users { IfOk result (λ all. 0 < length all.users.rows.rows.items) }
         ensures commands { IfOk result (λ all. 0 < length all.commands.rows.rows.items) }
         ensures covers { IfOk result (λ all. Covers checked.now (length checked.now.entries)
@@ -192,8 +215,8 @@ impl Postings {
     {
         let entries = checked.policy().entries.as_slice();
         let mut all = Postings {
-            users: Posting::new(alloc, entries.len())?,
-            commands: Posting::new(alloc, entries.len())?,
+            users: Posting::new(alloc, entries.len(), budget)?,
+            commands: Posting::new(alloc, entries.len(), budget)?,
         };
         for (rule, entry) in entries.iter().enumerate() {
             all.post_entry(checked, entry, rule)?;

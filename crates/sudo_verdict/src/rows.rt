@@ -7,9 +7,6 @@ ghost use Rattle.sudo_verdict.specs.Body.Blocks.{Adds, AddsWords};
 use crate::numbers::NUMBERS;
 use std::alloc::{AllocError, Global};
 
-// The most words of all rows: 32 MiB. If the rows would need more, several numbers share a row.
-const WORDS: usize = 1 << 22;
-
 /// The rules that are posted under each number, a bit for each rule.
 #[derive(Drop)]
 pub(crate) struct Rows {
@@ -50,11 +47,12 @@ fn or_words(block: &mut [u64], words: &[u64])
 }
 
 impl Rows {
-    /// Creates empty rows for this many rules. Returns `AllocError` if allocation fails.
-    pub(crate) fn new(alloc: Global, rules: usize) -> Result<Rows, AllocError>
+    /// Creates empty rows for this many rules, of this many words of 64 rules in all: if a row for each number would need
+    /// more, several numbers share a row. Returns `AllocError` if allocation fails.
+    pub(crate) fn new(alloc: Global, rules: usize, words: usize) -> Result<Rows, AllocError>
         ensures { IfOk result (λ r. 0 < length r.rows.items) }
     {
-        let count = (WORDS / (rules / 64 + 1)).clamp(1, NUMBERS);
+        let count = (words / (rules / 64 + 1)).clamp(1, NUMBERS);
         let mut rows = Vec::with_capacity(alloc, count)?;
         for _ in 0..count {
             rows.push(Vec::new(alloc))?;

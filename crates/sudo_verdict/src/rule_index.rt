@@ -12,7 +12,7 @@ ghost use Rattle.sudo_verdict.specs.Postings.{Indexes};
 
 use crate::aliases::Aliases;
 use crate::candidates::{add_command, add_user, last_in_both_before};
-use crate::postings::Postings;
+use crate::postings::{Budget, Postings};
 use crate::query::{Query, query_of};
 use crate::rows::Rows;
 use crate::search::search_entry;
@@ -42,14 +42,23 @@ impl Model for RuleIndex {
 }
 
 impl RuleIndex {
-    /// Returns the index of a policy, in time about linear in the user and command lists of its rules as written out,
-    /// and in at most 64 MiB besides the rows' own.
+    /// Returns the index of a policy, in time about linear in the user and command lists of its rules as written out.
     ///
     /// Returns `AllocError` if allocation fails.
     pub fn of(alloc: Global, checked: &Checked) -> Result<RuleIndex, AllocError>
         ensures { IfOk result (Indexes checked.now) }
     {
-        let postings = Postings::of(alloc, checked)?;
+        RuleIndex::within(alloc, checked, Budget::standard())
+    }
+
+    /// Returns the same as `of`, within a budget: a smaller index finds more rules for a request, and the verdicts are the
+    /// same.
+    ///
+    /// Returns `AllocError` if allocation fails.
+    pub fn within(alloc: Global, checked: &Checked, budget: Budget) -> Result<RuleIndex, AllocError>
+        ensures { IfOk result (Indexes checked.now) }
+    {
+        let postings = Postings::of(alloc, checked, budget)?;
         Ok(RuleIndex {
             users: postings.users.rows,
             commands: postings.commands.rows,

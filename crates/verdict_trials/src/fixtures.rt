@@ -8,7 +8,7 @@ use sudo_load::{Supply, load};
 use sudo_match::Directory;
 use sudo_policy::{Checked, check};
 use sudo_text::Seq;
-use sudo_verdict::{Request, RuleIndex, Verdict, What, verdict};
+use sudo_verdict::{Budget, Request, RuleIndex, Verdict, What, verdict};
 
 const USERS: &str =
     "user,uid,groups\nroot,0,root:0\nalice,1000,alice:1000 adm:4\nbob,1001,bob:1001 operator:37\noperator,11,operator:37\n";
@@ -51,7 +51,13 @@ pub(crate) fn requests(alloc: Global, lines: &str) -> Result<Seq<Request>, Fail>
     Ok(read_requests(alloc, &mut reader)?.list)
 }
 
-/// Returns the verdict of the three bodies, by the index, by the search and by listing. Fails if they differ.
+// A budget that every policy of more than a few rules exceeds: one row, and three members posted one by one.
+const SMALLEST: Budget = Budget {
+    words: 1,
+    members: 3,
+};
+
+/// Returns the verdict by an index, by one beyond its budget, by the search and by listing. Fails if they differ.
 pub(crate) fn verdict_of_bodies(
     alloc: Global,
     checked: &Checked,
@@ -60,6 +66,10 @@ pub(crate) fn verdict_of_bodies(
 ) -> Result<Verdict, Fail> {
     let index = RuleIndex::of(alloc, checked)?;
     let found = index.verdict(checked, directory, request);
+    let small = RuleIndex::within(alloc, checked, SMALLEST)?;
+    if small.verdict(checked, directory, request) != found {
+        return Err(Fail::new("the index and the one beyond its budget differ"));
+    }
     if verdict(checked, directory, request) != found {
         return Err(Fail::new("the index and the search differ"));
     }
