@@ -26,7 +26,7 @@ or_each_assoc (x ∷ a) [] c = refl
 or_each_assoc (x ∷ a) (y ∷ b) [] = refl
 or_each_assoc (x ∷ a) (y ∷ b) (z ∷ c) = rw (option_or_assoc, or_each_assoc a b c) refl
 
--- b at place n alone
+-- true at index n alone
 abbrev is_only : ℕ → List Bool → Bool
 is_only n [] = false
 is_only zero (b ∷ bs) = b && list_all not bs
