@@ -28,7 +28,7 @@ class Hostile(Case):
         first, empty, columns, rule, *rows = out.splitlines()
         self.assertRegex(first, r"^`--help` takes [0-9.]+ s\.$")
         self.assertEqual((empty, columns, rule.count("|---")), ("", COLUMNS, 10))
-        return [row.strip("| ").split(" | ") for row in rows]
+        return [[cell.strip() for cell in row.strip("|").split("|")] for row in rows]
 
     def test_a_quick_run(self) -> None:
         rows = self.table("exit 3", "--small", "one-word", "chain", "stars")
