@@ -57,6 +57,18 @@ const SMALLEST: Budget = Budget {
     members: 3,
 };
 
+// Returns the verdict by an index within a budget.
+fn verdict_within(
+    alloc: Global,
+    checked: &Checked,
+    directory: &Directory,
+    request: &Request,
+    budget: Budget,
+) -> Result<Verdict, AllocError> {
+    let index = RuleIndex::within(alloc, checked, budget)?;
+    Ok(index.verdict(checked, directory, request))
+}
+
 /// Returns the verdict by an index, by one beyond its budget, by the search and by listing. Fails if they differ.
 pub(crate) fn verdict_of_bodies(
     alloc: Global,
@@ -64,10 +76,8 @@ pub(crate) fn verdict_of_bodies(
     directory: &Directory,
     request: &Request,
 ) -> Result<Verdict, Fail> {
-    let index = RuleIndex::of(alloc, checked)?;
-    let found = index.verdict(checked, directory, request);
-    let small = RuleIndex::within(alloc, checked, SMALLEST)?;
-    if small.verdict(checked, directory, request) != found {
+    let found = verdict_within(alloc, checked, directory, request, Budget::standard())?;
+    if verdict_within(alloc, checked, directory, request, SMALLEST)? != found {
         return Err(Fail::new("the index and the one beyond its budget differ"));
     }
     if verdict(checked, directory, request) != found {
