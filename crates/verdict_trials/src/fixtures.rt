@@ -69,6 +69,15 @@ fn verdict_within(
     Ok(index.verdict(checked, directory, request))
 }
 
+// Fails with a message if the verdicts differ.
+fn same(found: Verdict, expected: Verdict, message: &'static str) -> Result<(), Fail> {
+    if found == expected {
+        Ok(())
+    } else {
+        Err(Fail::new(message))
+    }
+}
+
 /// Returns the verdict by an index, by one beyond its budget, by the search and by listing. Fails if they differ.
 pub(crate) fn verdict_of_bodies(
     alloc: Global,
@@ -77,15 +86,16 @@ pub(crate) fn verdict_of_bodies(
     request: &Request,
 ) -> Result<Verdict, Fail> {
     let found = verdict_within(alloc, checked, directory, request, Budget::standard())?;
-    if verdict_within(alloc, checked, directory, request, SMALLEST)? != found {
-        return Err(Fail::new("the index and the one beyond its budget differ"));
-    }
-    if verdict(checked, directory, request) != found {
-        return Err(Fail::new("the index and the search differ"));
-    }
-    if verdict_by_listing(alloc, checked, directory, request)? != found {
-        return Err(Fail::new("the index and the listing differ"));
-    }
+    let small = verdict_within(alloc, checked, directory, request, SMALLEST)?;
+    same(
+        small,
+        found,
+        "the index and the one beyond its budget differ",
+    )?;
+    let searched = verdict(checked, directory, request);
+    same(searched, found, "the index and the search differ")?;
+    let listed = verdict_by_listing(alloc, checked, directory, request)?;
+    same(listed, found, "the index and the listing differ")?;
     Ok(found)
 }
 
