@@ -55,7 +55,7 @@ fn taken_count<R: Wait>(rt: &R, handoff: &Handoff, pass: &mut Pass) -> Option<u3
 }
 
 /// How many close marks could be put, whether `Stop` came back, and the count of the first close mark.
-fn used<R: Wait>(rt: &R, handoff: &Handoff, pass: &mut Pass) -> (u32, bool, Option<u32>)
+pub(crate) fn used<R: Wait>(rt: &R, handoff: &Handoff, pass: &mut Pass) -> (u32, bool, Option<u32>)
     requires { pass.old.handoff ≡ handoff.now }
 {
     let put = filled(rt, handoff, pass);
