@@ -58,6 +58,12 @@ class Refusals(Case):
         self.assertIn("2: odd faulted: checked: fault kind=panic at=x.rt:5:1\n3: odd failed: assertion failed\n", out)
         self.assertIn("| `odd` | 6 | 0 | 1 | 1 | 3 |", out)
 
+    def test_one_that_needs_a_limit_is_left_out(self) -> None:
+        odd = "printf '%s\\n' FAILED '    error: memory is not limited here' '    the test exited with status 101'"
+        out = self.sweep(TRY.format(odd=odd), "--passing", "2", status=0)[0]
+        self.assertIn("5 numbers from 1 on\n", out)
+        self.assertNotIn("odd", out)
+
     def test_first_and_last(self) -> None:
         out = self.sweep(TRY.format(odd="echo ok"), "--first", "2", "--last", "3", status=0)[0]
         self.assertIn("2 numbers from 2 on\n", out)

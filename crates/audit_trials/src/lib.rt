@@ -11,6 +11,10 @@ mod file_trials;
 #[cfg(test)]
 mod fixtures;
 #[cfg(test)]
+mod growth_trials;
+#[cfg(test)]
+mod growths;
+#[cfg(test)]
 mod order_trials;
 #[cfg(test)]
 mod queue_trials;

@@ -9,7 +9,7 @@ use sudo_text::Seq;
 
 // An arrival of a sender, by the number of the request or the count of the close mark.
 #[derive(Clone, Copy)]
-enum Step {
+pub(crate) enum Step {
     Reply(u32, u32),
     // A reply with another verdict.
     Unknown(u32, u32),
@@ -44,10 +44,14 @@ fn arrival(alloc: Global, step: Step) -> Arrival {
     }
 }
 
-// Returns the steps in the order with this number. Its digits, the first below the number of steps,
-// the next below one less and so on, choose each next step among those that are left. So n steps
-// have n! numbers, and each order has one.
-fn in_order(alloc: Global, steps: &[Step], order: usize) -> Result<Vec<Arrival>, AllocError> {
+/// Returns the steps in the order with this number. Its digits, the first below the number of steps,
+/// the next below one less and so on, choose each next step among those that are left. So n steps
+/// have n! numbers, and each order has one.
+pub(crate) fn in_order(
+    alloc: Global,
+    steps: &[Step],
+    order: usize,
+) -> Result<Vec<Arrival>, AllocError> {
     let mut left = Vec::new(alloc);
     for step in steps {
         left.push(*step)?;
@@ -71,8 +75,8 @@ fn name(alloc: Global, letter: u8) -> Result<Seq<u8>, AllocError> {
     Ok(Seq::from_vec(name))
 }
 
-// Returns a roster of names of one letter.
-fn roster(alloc: Global, letters: &[u8]) -> Result<Vec<Seq<u8>>, AllocError> {
+/// Returns a roster of names of one letter.
+pub(crate) fn roster(alloc: Global, letters: &[u8]) -> Result<Vec<Seq<u8>>, AllocError> {
     let mut names = Vec::new(alloc);
     for letter in letters {
         names.push(name(alloc, *letter)?)?;
@@ -110,8 +114,8 @@ fn sender_report(
     })
 }
 
-// Returns the report of the sender a, which sent two requests, and the sender b, which sent one.
-fn two_and_one(alloc: Global) -> Result<Report, AllocError> {
+/// Returns the report of the sender a, which sent two requests, and the sender b, which sent one.
+pub(crate) fn two_and_one(alloc: Global) -> Result<Report, AllocError> {
     let mut senders = Vec::new(alloc);
     senders.push(sender_report(alloc, b'a', 0, 2)?)?;
     senders.push(sender_report(alloc, b'b', 1, 1)?)?;

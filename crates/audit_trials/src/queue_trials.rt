@@ -54,9 +54,9 @@ fn taken_count<R: Wait>(rt: &R, handoff: &Handoff, pass: &mut Pass) -> Option<u3
     }
 }
 
-// Returns how many close marks were put, whether `Stop` was returned, and the count of the first
-// close mark taken.
-fn used<R: Wait>(rt: &R, handoff: &Handoff, pass: &mut Pass) -> (u32, bool, Option<u32>)
+/// Returns how many close marks were put, whether `Stop` was returned, and the count of the first
+/// close mark taken.
+pub(crate) fn used<R: Wait>(rt: &R, handoff: &Handoff, pass: &mut Pass) -> (u32, bool, Option<u32>)
     requires { pass.old.handoff ≡ handoff.now }
 {
     let put = filled(rt, handoff, pass);

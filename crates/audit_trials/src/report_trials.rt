@@ -35,9 +35,8 @@ fn nopasswd() -> Tags {
     Tags { choices }
 }
 
-#[test]
-fn a_report_of_two_answers(rt: HostRuntime) -> Result<(), Fail> {
-    let alloc = rt.alloc();
+/// A report of two answers.
+pub(crate) fn two_answers(alloc: Global) -> Result<Report, AllocError> {
     let mut answers = Vec::new(alloc);
     answers.push(answer(
         alloc,
@@ -53,16 +52,29 @@ fn a_report_of_two_answers(rt: HostRuntime) -> Result<(), Fail> {
         name: text(alloc, b"s")?,
         answers: Seq::from_vec(answers),
     })?;
-    let report = Report {
+    Ok(Report {
         senders: Seq::from_vec(senders),
-    };
+    })
+}
+
+/// The files whose lines the report names.
+pub(crate) fn two_files(alloc: Global) -> Result<Vec<Seq<u8>>, AllocError> {
     let mut files = Vec::new(alloc);
     files.push(text(alloc, b"/etc/sudoers")?)?;
     files.push(text(alloc, b"/etc/sudoers.d/a,b")?)?;
-    let found = report_text(alloc, &report, files.as_slice())?;
-    let wanted =
-        b"sender,number,verdict,line,tags\ns,1,allow,\"/etc/sudoers.d/a,b:12\",NOPASSWD SETENV\ns,2,unknown-user,,\n";
-    assert!(rt; found.as_slice() == wanted.as_slice());
+    Ok(files)
+}
+
+/// The text of that report.
+pub(crate) const TWO_ANSWERS: &[u8] =
+    b"sender,number,verdict,line,tags\ns,1,allow,\"/etc/sudoers.d/a,b:12\",NOPASSWD SETENV\ns,2,unknown-user,,\n";
+
+#[test]
+fn a_report_of_two_answers(rt: HostRuntime) -> Result<(), Fail> {
+    let alloc = rt.alloc();
+    let files = two_files(alloc)?;
+    let found = report_text(alloc, &two_answers(alloc)?, files.as_slice())?;
+    assert!(rt; found.as_slice() == TWO_ANSWERS);
     Ok(())
 }
 

@@ -59,9 +59,9 @@ fn several_senders(rt: HostRuntime) -> Result<(), Fail> {
     Ok(())
 }
 
-const SOURCES: &str = "s: 1=kill 3=su close=3 | t: 1=su close=1 | s: 2=stranger";
+pub(crate) const SOURCES: &str = "s: 1=kill 3=su close=3 | t: 1=su close=1 | s: 2=stranger";
 
-const REPORT: &str =
+pub(crate) const REPORT: &str =
     "sender,number,verdict,line,tags\ns,1,allow,sudoers:1,NOPASSWD\ns,2,unknown-user,,\ns,3,deny,sudoers:1,\nt,1,deny,sudoers:1,\n";
 
 #[test]

@@ -8,6 +8,10 @@ mod fixtures;
 #[cfg(test)]
 mod grammar_trials;
 #[cfg(test)]
+mod growth_trials;
+#[cfg(test)]
+mod growths;
+#[cfg(test)]
 mod include_trials;
 #[cfg(test)]
 mod parser_trials;

@@ -5,7 +5,7 @@ use audit_files::{Script, read_hosts, read_requests, read_users};
 use std::alloc::{AllocError, Global};
 use std::test::Fail;
 use sudo_load::{Supply, load};
-use sudo_match::Directory;
+use sudo_match::{Directory, Machine, Person};
 use sudo_policy::{Checked, check};
 use sudo_text::Seq;
 use sudo_verdict::{Budget, Request, RuleIndex, Verdict, What, verdict};
@@ -17,12 +17,22 @@ const HOSTS: &str = "host,interfaces\nweb1,10.1.2.3/16 127.0.0.1/8\nweb2,10.2.0.
 
 const HEADER: &str = "number,user,host,runas_user,runas_group,command,arguments\n";
 
-/// Returns the directory of the users root, alice, bob and operator, and of the hosts web1 and web2.
-pub(crate) fn directory(alloc: Global) -> Result<Directory, Fail> {
+/// Returns the users root, alice, bob and operator.
+pub(crate) fn people(alloc: Global) -> Result<Vec<Person>, Fail> {
     let mut users = Script::of(alloc, USERS.as_bytes(), 4096)?;
-    let people = read_users(alloc, &mut users)?;
+    Ok(read_users(alloc, &mut users)?)
+}
+
+/// The hosts web1 and web2.
+pub(crate) fn machines(alloc: Global) -> Result<Vec<Machine>, Fail> {
     let mut hosts = Script::of(alloc, HOSTS.as_bytes(), 4096)?;
-    let machines = read_hosts(alloc, &mut hosts)?;
+    Ok(read_hosts(alloc, &mut hosts)?)
+}
+
+/// These users and hosts.
+pub(crate) fn directory(alloc: Global) -> Result<Directory, Fail> {
+    let people = people(alloc)?;
+    let machines = machines(alloc)?;
     Ok(Directory::new(alloc, people, machines)?)
 }
 

@@ -5,6 +5,10 @@
 #[cfg(test)]
 mod fixtures;
 #[cfg(test)]
+mod growth_trials;
+#[cfg(test)]
+mod growths;
+#[cfg(test)]
 mod match_trials;
 #[cfg(test)]
 mod oracle;
