@@ -47,8 +47,8 @@ module _ (names : List (List ℕ)) (arrivals : List Arrival) (held : List Sender
         let found = close_held 0 held t c m in
         let own = tested t s e in
         let at = found.at in
-        let place : found.place ≡ s = omega (arith, at, own) in
-        let sender = same_Some found.sender h (sym found.there ∙ ap (slice_get held) place ∙ there) in
+        let index : found.index ≡ s = omega (arith, at, own) in
+        let sender = same_Some found.sender h (sym found.there ∙ ap (slice_get held) index ∙ there) in
         let clash : Some c ≡ None = sym found.got ∙ ap (λ (k : SenderState). k.close) sender ∙ unclosed in
         cc
 
@@ -60,8 +60,8 @@ module _ (names : List (List ℕ)) (arrivals : List Arrival) (held : List Sender
         let own = tested a.sender s tests.0 in
         let number = tested a.request.number n tests.1 in
         let at = found.at in
-        let place : found.place ≡ s = omega (arith, at, own) in
-        let sender = same_Some found.sender h (sym found.there ∙ ap (slice_get held) place ∙ there) in
+        let index : found.index ≡ s = omega (arith, at, own) in
+        let sender = same_Some found.sender h (sym found.there ∙ ap (slice_get held) index ∙ there) in
         let clash : Some a ≡ None = sym found.got ∙ ap (λ (k : SenderState). get k.answers a.request.number) sender ∙ ap (get h.answers) number ∙ none in
         cc
 

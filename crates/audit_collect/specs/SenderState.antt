@@ -30,8 +30,8 @@ greatest_key [] = 0
 greatest_key (e ∷ es) = max e.0 (greatest_key es)
 
 -- the greatest accepted number of a sender, 0 if none was accepted
-abbrev pub greatest : SenderState → ℕ
-greatest h = greatest_key (entries h.answers)
+abbrev pub greatest_number : SenderState → ℕ
+greatest_number h = greatest_key (entries h.answers)
 
 -- whether a number exceeds the count of the close mark
 abbrev pub exceeds_close : Option ℕ → ℕ → Bool
@@ -49,7 +49,7 @@ reply_refusal h sender number =
 abbrev pub close_refusal : SenderState → ℕ → ℕ → Option Refused
 close_refusal h sender count =
     if is_some h.close then Some (ClosedTwice sender)
-    else if nat_lt count (greatest h) then Some (PastClose sender (greatest h))
+    else if nat_lt count (greatest_number h) then Some (PastClose sender (greatest_number h))
     else None
 
 -- the refusal of an arrival, if it is refused: first of all, if its sender is not in the roster
@@ -74,18 +74,19 @@ changed_at zero f (x ∷ xs) = f x ∷ xs
 changed_at (suc i) f (x ∷ xs) = x ∷ changed_at i f xs
 
 -- the state with one more arrival
-abbrev pub accepted : List SenderState → Arrival → List SenderState
-accepted held (Reply answer) = changed_at answer.sender (with_reply answer) held
-accepted held (Close sender count) = changed_at sender (with_close count) held
+abbrev pub with_arrival : List SenderState → Arrival → List SenderState
+with_arrival held (Reply answer) = changed_at answer.sender (with_reply answer) held
+with_arrival held (Close sender count) = changed_at sender (with_close count) held
 
--- the state after all arrivals, or the refusal of the first that is refused
+-- the refusal of a first arrival, if there is one, before the result of the rest
 abbrev pub after_first : Option Refused → Result (List SenderState) Refused → Result (List SenderState) Refused
 after_first None rest = rest
 after_first (Some refused) rest = Err refused
 
+-- the state after all arrivals, or the refusal of the first that is refused
 abbrev pub after : List SenderState → List Arrival → Result (List SenderState) Refused
 after held [] = Ok held
-after held (arrival ∷ arrivals) = after_first (refusal held arrival) (after (accepted held arrival) arrivals)
+after held (arrival ∷ arrivals) = after_first (refusal held arrival) (after (with_arrival held arrival) arrivals)
 
 abbrev pub IsReply : Arrival → Type 0
 IsReply (Reply answer) = Unit {0}

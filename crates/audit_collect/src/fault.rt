@@ -32,7 +32,8 @@ pub enum Refused {
     /// The sender was closed before.
     #[error("sender {sender}: closed twice")]
     ClosedTwice { sender: u32 },
-    /// A reply's number exceeds the count of its sender's close mark.
+    /// A reply's number exceeds the count of its sender's close mark; or the count of a close mark is
+    /// below an accepted number, which `number` then is.
     #[error("sender {sender}: request {number} past close")]
     PastClose { sender: u32, number: u32 },
     /// Out of memory.

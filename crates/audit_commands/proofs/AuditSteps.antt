@@ -2,7 +2,7 @@
 use Rattle.std.proofs.Common.{◌≡◌, ◌≤◌, ℕ, List, Option, Result, Ok, Err, refl, arith}
 use Rattle.std.specs.Prelude.{IfErr, IfOk}
 use Rattle.audit_collect.specs.declared.report.Report.{Report}
-use Rattle.audit_run.specs.Names.{names_of}
+use Rattle.audit_run.specs.Names.{names_under}
 use Rattle.audit_run.specs.Passes.{PassView}
 use Rattle.audit_files.specs.Report.{report_text}
 use Rattle.audit_run.specs.IsAuditResult.{IsAuditResult}
@@ -77,11 +77,11 @@ unreported_of given policy directory (Ok p) is known h = tt
 unreported_of given policy directory (Err fault) is known h = no_report given policy directory fault is known h
 
 pub answered : (policy : Policy) (directory : KnownRows) (sources : List (List ℕ)) (readable_bytes : List (Option Ahead)) (workers : ℕ) (before after : PassView) (result : Result Report AuditFault)
-    → IsAuditResult (names_of policy directory) sources readable_bytes workers before after result → Answers policy directory sources readable_bytes workers result
+    → IsAuditResult (names_under policy directory) sources readable_bytes workers before after result → Answers policy directory sources readable_bytes workers result
 answered policy directory sources readable_bytes workers before after result h = record { before = before; after = after; audited = h }
 
 pub a_text : (policy : Policy) (directory : KnownRows) (sources : List (List ℕ)) (readable_bytes : List (Option Ahead)) (workers : ℕ) (before after : PassView) (report : Report) (text : List ℕ)
-    → IsAuditResult (names_of policy directory) sources readable_bytes workers before after (Ok report) → text ≡ report_text policy.files report → IsReported policy directory sources readable_bytes workers text 0
+    → IsAuditResult (names_under policy directory) sources readable_bytes workers before after (Ok report) → text ≡ report_text policy.files report → IsReported policy directory sources readable_bytes workers text 0
 a_text policy directory sources readable_bytes workers before after report text h is = record {
   report = report;
   answers = record { before = before; after = after; audited = h };

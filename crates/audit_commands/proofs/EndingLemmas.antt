@@ -3,7 +3,7 @@ use Rattle.std.proofs.Common.{◌≡◌, ◌<◌, ◌≤◌, ◌⊎◌, ℕ, Lis
 use Rattle.std.specs.Prelude.{IfErr, IfOk}
 use Rattle.audit_commands.specs.Body.Ended.{IsFault, IsPrinted}
 use Rattle.audit_commands.specs.Endings.{Written, Ends, HasWritten, HasWrittenNothing, IsFaultPrinted, IsWell, FailsToWrite, Prints, Refuses, PrintsLine}
-use Rattle.audit_commands.specs.FaultLines.{fault_text, line_of, printed_of}
+use Rattle.audit_commands.specs.FaultLines.{fault_text, error_line, printed_of}
 use Rattle.audit_commands.specs.Faults.{status_of}
 use Rattle.audit_commands.specs.declared.fault.Fault.{Fault}
 use Rattle.audit_commands.specs.declared.fault.Fault.TheVariants as faults
@@ -93,7 +93,7 @@ ends_most Good Bad status out err most ends = elim ends [
 ]
 
 -- Only the errors of a policy are printed as they are.
-pub plain_line : (fault : Fault) → ((lines : _) → fault ≡ faults.Errors lines → ⊥) → printed_of fault ≡ line_of (fault_text fault)
+pub plain_line : (fault : Fault) → ((lines : _) → fault ≡ faults.Errors lines → ⊥) → printed_of fault ≡ error_line (fault_text fault)
 plain_line (faults.Errors lines) other = absurd (other lines refl)
 plain_line (faults.CannotRead path) other = refl
 plain_line (faults.Refused files fault) other = refl

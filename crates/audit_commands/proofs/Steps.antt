@@ -8,7 +8,7 @@ use Rattle.audit_commands.specs.Endings.{Prints, Written}
 use Rattle.audit_commands.specs.Examining.{IsExamined}
 use Rattle.audit_commands.specs.Expanding.{IsExpanded, IsNotExpanded, IsNotExpandedOf}
 use Rattle.audit_commands.specs.Holding.{HoldsFile, Holdings}
-use Rattle.audit_commands.specs.Loading.{IsChecked, PassesCheck, IsLoaded, IsNoPolicy, IsNotChecked, IsNotCheckedOf, IsUnread}
+use Rattle.audit_commands.specs.Loading.{IsChecked, PassesCheck, IsLoaded, IsNoPolicy, IsNotChecked, IsNotCheckedOf, IsUnreadPath}
 use Rattle.audit_commands.specs.declared.fault.Fault.{Fault}
 use Rattle.audit_commands.specs.declared.fault.Fault.TheVariants as faults
 
@@ -40,7 +40,7 @@ expanded_most held path kind name text status x =
     omega (arith, zero)
 
 -- The main file cannot be read.
-pub main_unread : (held : Option Holdings) (path : List ℕ) (fault : Fault) → IsUnread held path path → (fault ≡ faults.Memory) ⊎ (fault ≡ faults.CannotRead path) → IsNoPolicy held path fault
+pub main_unread : (held : Option Holdings) (path : List ℕ) (fault : Fault) → IsUnreadPath held path path → (fault ≡ faults.Memory) ⊎ (fault ≡ faults.CannotRead path) → IsNoPolicy held path fault
 main_unread held path fault unread is = elim is [
   | inl memory ↦ subst (IsNoPolicy held path) (sym memory) tt
   | inr named ↦ subst (IsNoPolicy held path) (sym named) unread

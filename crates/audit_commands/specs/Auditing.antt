@@ -2,16 +2,16 @@
 use Rattle.std.specs.Prelude.{◌≡◌, ⊤, ℕ, List, Option, None, Result, Ok, Err}
 use Rattle.audit_collect.specs.declared.report.Report.{Report}
 use Rattle.audit_files.specs.Feeding.{Ahead}
-use Rattle.audit_files.specs.Files.{IsRead, States}
+use Rattle.audit_files.specs.Files.{IsRead, IsStatedBy}
 use Rattle.audit_files.specs.Hosts.{machines}
 use Rattle.audit_files.specs.Users.{people}
-use Rattle.audit_run.specs.Names.{names_of}
+use Rattle.audit_run.specs.Names.{names_under}
 use Rattle.audit_run.specs.Passes.{PassView}
 use Rattle.audit_files.specs.Report.{report_text}
 use Rattle.audit_run.specs.IsAuditResult.{IsAuditResult}
 use Rattle.audit_run.specs.declared.fault.AuditFault.{AuditFault}
 use Rattle.sudo_match.specs.declared.fault.DirFault.{DirFault}
-use Rattle.sudo_match.specs.KnownRows.{IsRefusal, KnownRows, directory_fault}
+use Rattle.sudo_match.specs.KnownRows.{IsDirectoryFault, KnownRows, directory_fault}
 use Rattle.sudo_match.specs.declared.people.Machine.{Machine}
 use Rattle.sudo_match.specs.declared.people.Person.{Person}
 use Rattle.sudo_grammar.specs.declared.policy.Policy.{Policy}
@@ -44,13 +44,13 @@ pub record AreRefused (users hosts : Option Ahead) (fault : DirFault) : Type 0 w
   pub rows : List Machine
   pub people_read : IsRead people users (Ok persons)
   pub machines_read : IsRead machines hosts (Ok rows)
-  pub refusal : IsRefusal (directory_fault persons rows) fault
+  pub refusal : IsDirectoryFault (directory_fault persons rows) fault
 
--- why the files state no directory: the users file has a fault; it has none, and the hosts file has
--- one; or both together have one
+-- why the files state no directory: the users file has a fault; it is sound, and the hosts file has
+-- one; or both are sound, and their rows together have one
 abbrev pub IsNoDirectory : Option Ahead → Option Ahead → Fault → Type 0
-IsNoDirectory users hosts (faults.Users fault) = States people users (Err fault)
-IsNoDirectory users hosts (faults.Hosts fault) = ((persons : List Person) × IsRead people users (Ok persons)) × States machines hosts (Err fault)
+IsNoDirectory users hosts (faults.Users fault) = IsStatedBy people users (Err fault)
+IsNoDirectory users hosts (faults.Hosts fault) = ((persons : List Person) × IsRead people users (Ok persons)) × IsStatedBy machines hosts (Err fault)
 IsNoDirectory users hosts (faults.Directory fault) = AreRefused users hosts fault
 IsNoDirectory users hosts (faults.Refused files fault) = ⊥
 IsNoDirectory users hosts (faults.CannotRead unread) = ⊥
@@ -65,7 +65,7 @@ IsNoDirectory users hosts faults.Memory = ⊥
 pub record Answers (policy : Policy) (directory : KnownRows) (sources : List (List ℕ)) (readable_bytes : List (Option Ahead)) (workers : ℕ) (result : Result Report AuditFault) : Type 0 where
   pub before : PassView
   pub after : PassView
-  pub audited : IsAuditResult (names_of policy directory) sources readable_bytes workers before after result
+  pub audited : IsAuditResult (names_under policy directory) sources readable_bytes workers before after result
 
 -- the result of an audit under the policy, which passes the check, and the directory that the files
 -- state

@@ -14,8 +14,8 @@ pub record Written : Type 0 where
   pub failed_before : ℕ
   pub failed_after : ℕ
 
-abbrev pub written : {W : Type 0} → (W → Option (List ℕ)) → (W → ℕ) → W → W → Written
-written taken failed old new = record { before = taken old; after = taken new; failed_before = failed old; failed_after = failed new }
+abbrev pub writer_states : {W : Type 0} → (W → Option (List ℕ)) → (W → ℕ) → W → W → Written
+writer_states taken failed old new = record { before = taken old; after = taken new; failed_before = failed old; failed_after = failed new }
 
 -- no write failed
 abbrev pub IsWell : Written → Type 0

@@ -4,23 +4,23 @@ use Rattle.sudo_grammar.specs.declared.kind.Kind.{Kind}
 use Rattle.sudo_grammar.specs.declared.kind.Member.{Member}
 use Rattle.sudo_grammar.specs.declared.kind.Signed.{Signed}
 use Rattle.sudo_grammar.specs.declared.policy.Policy.{Policy}
-use Rattle.sudo_parser.specs.Texts.{text_of}
+use Rattle.sudo_parser.specs.Texts.{signed_text}
 use Rattle.sudo_policy.specs.Definitions.{in_force}
-use Rattle.sudo_policy.specs.Written.{Written}
+use Rattle.sudo_policy.specs.Written.{IsWrittenOut}
 use Rattle.audit_commands.specs.Holding.{Holdings}
 use Rattle.audit_commands.specs.Loading.{IsChecked, IsNotChecked}
 use Rattle.audit_commands.specs.declared.fault.Fault.{Fault}
 use Rattle.audit_commands.specs.declared.fault.Fault.TheVariants as faults
 
 -- the line of a member
-abbrev pub line_of : Signed → List ℕ
-line_of member = text_of member ++ 10 ∷ []
+abbrev pub member_line : Signed → List ℕ
+member_line member = signed_text member ++ 10 ∷ []
 
 -- the lines of an alias of a policy: its definition in force, written out
 abbrev pub AreAliasLines : Policy → Kind → List ℕ → List ℕ → Type 0
 AreAliasLines policy kind name lines =
     (members : List Member) × (atoms : List Signed) × (in_force kind policy name ≡ Some members)
-    × Written kind policy members atoms × (lines ≡ flat_map line_of atoms)
+    × IsWrittenOut kind policy members atoms × (lines ≡ flat_map member_line atoms)
 
 -- the output of `expand` with status 0: the lines of an alias of the policy that the file at a path
 -- unfolds to, which passes the check

@@ -19,24 +19,24 @@ fault_text (faults.Write written) = codes "write failed after " ++ decimal writt
 fault_text faults.Memory = no_memory
 
 -- a text on a line of its own
-abbrev pub line_of : List ℕ → List ℕ
-line_of text = codes "sudo_audit: " ++ text ++ 10 ∷ []
+abbrev pub error_line : List ℕ → List ℕ
+error_line text = codes "sudo_audit: " ++ text ++ 10 ∷ []
 
 -- the text printed for a fault: one line, except for the errors of a policy, which are printed as
 -- `check` prints them
 abbrev pub printed_of : Fault → List ℕ
 printed_of (faults.Errors lines) = lines.items
-printed_of (faults.CannotRead path) = line_of (fault_text (faults.CannotRead path))
-printed_of (faults.Refused files fault) = line_of (fault_text (faults.Refused files fault))
-printed_of (faults.NoSuchAlias name) = line_of (fault_text (faults.NoSuchAlias name))
-printed_of (faults.BadSender word) = line_of (fault_text (faults.BadSender word))
-printed_of (faults.Users fault) = line_of (fault_text (faults.Users fault))
-printed_of (faults.Hosts fault) = line_of (fault_text (faults.Hosts fault))
-printed_of (faults.Directory fault) = line_of (fault_text (faults.Directory fault))
-printed_of (faults.Audit names fault) = line_of (fault_text (faults.Audit names fault))
-printed_of (faults.Write written) = line_of (fault_text (faults.Write written))
-printed_of faults.Memory = line_of (fault_text faults.Memory)
+printed_of (faults.CannotRead path) = error_line (fault_text (faults.CannotRead path))
+printed_of (faults.Refused files fault) = error_line (fault_text (faults.Refused files fault))
+printed_of (faults.NoSuchAlias name) = error_line (fault_text (faults.NoSuchAlias name))
+printed_of (faults.BadSender word) = error_line (fault_text (faults.BadSender word))
+printed_of (faults.Users fault) = error_line (fault_text (faults.Users fault))
+printed_of (faults.Hosts fault) = error_line (fault_text (faults.Hosts fault))
+printed_of (faults.Directory fault) = error_line (fault_text (faults.Directory fault))
+printed_of (faults.Audit names fault) = error_line (fault_text (faults.Audit names fault))
+printed_of (faults.Write written) = error_line (fault_text (faults.Write written))
+printed_of faults.Memory = error_line (fault_text faults.Memory)
 
 -- the line printed if allocation for the line of a fault failed
 abbrev pub memory_line : List ℕ
-memory_line = line_of no_memory
+memory_line = error_line no_memory

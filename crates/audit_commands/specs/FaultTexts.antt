@@ -138,13 +138,13 @@ abbrev pub named_sender : List ℕ → List ℕ
 named_sender name = codes "sender " ++ name
 
 -- `sender NAME`, for the sender with this index in the roster of the sources' names
-abbrev pub sender_text : List (List ℕ) → ℕ → List ℕ
-sender_text names sender = named_sender (slice_index_or (roster names) sender [])
+abbrev pub sender_by_index : List (List ℕ) → ℕ → List ℕ
+sender_by_index names sender = named_sender (slice_index_or (roster names) sender [])
 
 -- a request of a sender, and a fault
 abbrev pub request_text : List (List ℕ) → ℕ → ℕ → List ℕ → List ℕ
 request_text names sender number what =
-    sender_text names sender ++ codes ": request " ++ decimal number ++ what
+    sender_by_index names sender ++ codes ": request " ++ decimal number ++ what
 
 -- the fault of a roster
 abbrev pub roster_fault_text : RosterFault → List ℕ
@@ -155,7 +155,7 @@ roster_fault_text rosters.Memory = no_memory
 -- the collector's refusal of what a source states
 abbrev pub refusal_text : List (List ℕ) → Refused → List ℕ
 refusal_text names (refusals.Double sender number) = request_text names sender number (codes " twice")
-refusal_text names (refusals.ClosedTwice sender) = sender_text names sender ++ codes ": closed twice"
+refusal_text names (refusals.ClosedTwice sender) = sender_by_index names sender ++ codes ": closed twice"
 refusal_text names (refusals.PastClose sender number) = request_text names sender number (codes " past close")
 refusal_text names (refusals.Stranger sender) = codes "refused by the collector"
 refusal_text names (refusals.ZeroNumber sender) = codes "refused by the collector"
@@ -163,7 +163,7 @@ refusal_text names refusals.Memory = no_memory
 
 -- the fault of sources that lack something
 abbrev pub lack_text : List (List ℕ) → Unfinished → List ℕ
-lack_text names (unfinished.Open sender) = sender_text names sender ++ codes ": not closed"
+lack_text names (unfinished.Open sender) = sender_by_index names sender ++ codes ": not closed"
 lack_text names (unfinished.Gap sender number) = request_text names sender number (codes " missing")
 
 -- the fault of requests that make no report

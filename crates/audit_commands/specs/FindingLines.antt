@@ -9,11 +9,11 @@ use Rattle.sudo_grammar.specs.declared.kind.Kind.TheVariants as kinds
 use Rattle.audit_files.specs.Places.{place_text}
 
 -- the keyword of a kind of alias
-abbrev pub keyword : Kind → List ℕ
-keyword kinds.User = codes "User_Alias"
-keyword kinds.Runas = codes "Runas_Alias"
-keyword kinds.Host = codes "Host_Alias"
-keyword kinds.Cmnd = codes "Cmnd_Alias"
+abbrev pub keyword_text : Kind → List ℕ
+keyword_text kinds.User = codes "User_Alias"
+keyword_text kinds.Runas = codes "Runas_Alias"
+keyword_text kinds.Host = codes "Host_Alias"
+keyword_text kinds.Cmnd = codes "Cmnd_Alias"
 
 -- the text of a class of findings
 abbrev pub class_text : Class → List ℕ
@@ -26,7 +26,7 @@ class_text Unused = codes ": warning: unused "
 
 -- the line of a finding on a policy with these files
 abbrev pub finding_line : List (List ℕ) → Finding → List ℕ
-finding_line files finding = place_text files finding.place ++ class_text finding.class ++ keyword finding.kind ++ codes " " ++ finding.name ++ 10 ∷ []
+finding_line files finding = place_text files finding.place ++ class_text finding.class ++ keyword_text finding.kind ++ codes " " ++ finding.name ++ 10 ∷ []
 
 -- the line of a finding, if it is listed: a warning is not, if only errors are
 abbrev pub listed_line : List (List ℕ) → Bool → Finding → List ℕ

@@ -25,14 +25,14 @@ IsUnloaded held path read fault =
 
 -- the path cannot be read: reading fails there, or it is that of the main file, which does not
 -- exist
-abbrev pub IsUnread : Option Holdings → List ℕ → List ℕ → Type 0
-IsUnread held path unread = IsUnreadable held unread ⊎ ((unread ≡ path) × HoldsFile held path None)
+abbrev pub IsUnreadPath : Option Holdings → List ℕ → List ℕ → Type 0
+IsUnreadPath held path unread = IsUnreadable held unread ⊎ ((unread ≡ path) × HoldsFile held path None)
 
 -- why there is no policy: a path cannot be read, memory failed, or the content of the files is
 -- refused
 abbrev pub IsNoPolicy : Option Holdings → List ℕ → Fault → Type 0
 IsNoPolicy held path (faults.Refused files fault) = IsUnloaded held path files fault
-IsNoPolicy held path (faults.CannotRead unread) = IsUnread held path unread
+IsNoPolicy held path (faults.CannotRead unread) = IsUnreadPath held path unread
 IsNoPolicy held path faults.Memory = ⊤
 IsNoPolicy held path (faults.Errors lines) = ⊥
 IsNoPolicy held path (faults.NoSuchAlias name) = ⊥

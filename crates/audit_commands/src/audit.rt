@@ -3,7 +3,7 @@ ghost use Rattle.std.specs.Prelude.{◌≡◌, ◌≤◌, ℕ, List, Option, IfE
 ghost use Rattle.audit_commands.specs.Auditing.{Given, IsAudited, IsDirectory, IsNoDirectory, IsNotAudited, IsReported, IsUnreported};
 ghost use Rattle.audit_commands.specs.Holding.{Holdings};
 ghost use Rattle.audit_commands.specs.Loading.{IsChecked};
-ghost use Rattle.audit_commands.specs.Endings.{written as sent, Ends};
+ghost use Rattle.audit_commands.specs.Endings.{writer_states as sent, Ends};
 
 use crate::ending::end_run;
 use crate::fault::Fault;
@@ -65,7 +65,8 @@ fn report_under<T: Threads + Wait + Sync, R: Feed + Drop + Send>(
     requires { (1 ≤ workers) × (workers ≤ 16) }
     ensures report { let names = map (λ s. s.name) sources.items in
         let readable_bytes = map (λ s. R.ahead s.reader) sources.items in
-        IfOk result (λ p. IsReported policy.now directory.now names readable_bytes workers p.text.items
+        IfOk result (λ p. IsReported policy.now directory.now names readable_bytes workers
+        p.text.items
         p.status) }
     ensures fault { let names = map (λ s. s.name) sources.items in
         let readable_bytes = map (λ s. R.ahead s.reader) sources.items in
@@ -130,8 +131,8 @@ fn audited<T: Threads + Wait + Sync, U: Feed, H: Feed, R: Feed + Drop + Send>(
 /// which their names first appear, and for each of its requests, in the order of their numbers, the
 /// verdict of the policy of a file.
 ///
-/// Returns the exit status: 0; 1 if the policy is refused; 3 if the users, the hosts or the
-/// requests are refused; 4 if reading, writing, a thread or memory failed. Checks in this order:
+/// Returns the exit status: 0; 1 if the policy is refused or has errors; 3 if the users, the hosts
+/// or the requests are refused; 4 if reading, writing, a thread or memory failed. Checks in this order:
 /// the policy, the users, the hosts, both together, the requests. If the check of the policy finds
 /// errors, prints them on `err`, as `check` prints them; prints any other fault as one line on
 /// `err`. Then nothing was printed on `out`, except by a write that failed part way.

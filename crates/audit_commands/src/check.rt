@@ -1,6 +1,6 @@
 //! `check`: lists the findings on a policy.
 ghost use Rattle.std.specs.Prelude.{◌≡◌, ◌≤◌, IfErr, IfOk};
-ghost use Rattle.audit_commands.specs.Endings.{written as sent, Ends};
+ghost use Rattle.audit_commands.specs.Endings.{writer_states as sent, Ends};
 ghost use Rattle.audit_commands.specs.Examining.{check_status, check_text, IsExamined};
 ghost use Rattle.audit_commands.specs.Loading.{PassesCheck, IsNoPolicy};
 

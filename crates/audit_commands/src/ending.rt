@@ -1,8 +1,8 @@
 //! The end of a run: its output and its exit status.
 ghost use Rattle.std.specs.Prelude.{◌≡◌, ◌++◌, IfOk, OnOk, codes, decimal};
 ghost use Rattle.audit_commands.specs.Body.Ended.{IsFault, IsPrinted};
-ghost use Rattle.audit_commands.specs.Endings.{written as sent, Ends, IsFaultPrinted, PrintsLine};
-ghost use Rattle.audit_commands.specs.FaultLines.{fault_text, line_of};
+ghost use Rattle.audit_commands.specs.Endings.{writer_states as sent, Ends, IsFaultPrinted, PrintsLine};
+ghost use Rattle.audit_commands.specs.FaultLines.{fault_text, error_line};
 
 use crate::fault::Fault;
 use crate::fault_text::{
@@ -39,7 +39,7 @@ fn push_fault(line: &mut Vec<u8>, fault: &Fault) -> Result<(), AllocError>
 
 // Returns the line of a fault.
 fn fault_line(alloc: Global, fault: &Fault) -> Result<Vec<u8>, AllocError>
-    ensures { IfOk result (λ line. line.items ≡ line_of (fault_text fault.now)) }
+    ensures { IfOk result (λ line. line.items ≡ error_line (fault_text fault.now)) }
 {
     let mut line = Vec::new(alloc);
     push(&mut line, b"sudo_audit: ")?;
@@ -56,8 +56,8 @@ fn write_line<E: Sink>(line: &[u8], status: u8, err: &mut E) -> u8
     status
 }
 
-/// Prints a fault, and returns its status. If allocation for its line failed, prints that instead
-/// and returns 4. Ignores a write that fails.
+/// Prints the line of a fault, and returns its status. If allocation for that line failed, prints
+/// the line of `out of memory` and returns 4. Ignores a write that fails.
 pub fn report_fault<E: Sink>(alloc: Global, fault: &Fault, err: &mut E) -> u8
     ensures { IsFaultPrinted fault.now result (sent E.taken E.stalled_writes err.old err.new) }
 {

@@ -1,7 +1,7 @@
 //! `expand`: writes an alias out.
 ghost use Rattle.std.specs.Prelude.{◌≡◌, ◌≤◌, ◌++◌, flat_map, IfErr, IfOk, OnOk};
-ghost use Rattle.audit_commands.specs.Endings.{written as sent, Ends};
-ghost use Rattle.audit_commands.specs.Expanding.{line_of, AreAliasLines, IsExpanded, IsNotExpanded, IsNotExpandedOf};
+ghost use Rattle.audit_commands.specs.Endings.{writer_states as sent, Ends};
+ghost use Rattle.audit_commands.specs.Expanding.{member_line, AreAliasLines, IsExpanded, IsNotExpanded, IsNotExpandedOf};
 
 use crate::ending::end_run;
 use crate::fault::Fault;
@@ -17,7 +17,7 @@ use sudo_text::Seq;
 
 // Returns a line for each member.
 fn member_lines(alloc: Global, members: &[Signed]) -> Result<Vec<u8>, AllocError>
-    ensures { IfOk result (λ lines. lines.items ≡ flat_map line_of members.now) }
+    ensures { IfOk result (λ lines. lines.items ≡ flat_map member_line members.now) }
 {
     let mut lines = Vec::new(alloc);
     for member in members {
@@ -28,7 +28,7 @@ fn member_lines(alloc: Global, members: &[Signed]) -> Result<Vec<u8>, AllocError
 
 // Appends the line of a member.
 fn push_member(alloc: Global, lines: &mut Vec<u8>, member: &Signed) -> Result<(), AllocError>
-    ensures { OnOk result (lines.new.items ≡ lines.old.items ++ line_of member.now) }
+    ensures { OnOk result (lines.new.items ≡ lines.old.items ++ member_line member.now) }
 {
     let text = member_text(alloc, member)?;
     lines.extend_from_slice(text.as_slice())?;
@@ -70,8 +70,8 @@ fn expand_output<F: Files>(
 
 /// Prints the members of an alias on `out`, one per line, in order, each with its sign.
 ///
-/// Returns the exit status: 0; 1 if the policy is refused or has no such alias; 4 if reading,
-/// writing or memory failed. If the check of the policy finds errors, prints them on `err`, as
+/// Returns the exit status: 0; 1 if the policy is refused, has errors or has no such alias; 4 if
+/// reading, writing or memory failed. If the check of the policy finds errors, prints them on `err`, as
 /// `check` prints them; prints any other fault as one line on `err`. Then nothing was printed on
 /// `out`, except by a write that failed part way.
 pub fn expand_run<F: Files, O: Sink, E: Sink>(

@@ -10,7 +10,7 @@ use sudo_load::LoadFault;
 use sudo_match::DirFault;
 use sudo_text::Seq;
 
-/// The reason why a run has nothing to print.
+/// The reason why a run did not print its whole text.
 #[derive(Debug, Drop)]
 pub enum Fault {
     /// The file or the folder at this path cannot be read.

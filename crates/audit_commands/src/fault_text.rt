@@ -1,7 +1,7 @@
 //! The texts of faults, each written once.
 ghost use Rattle.std.specs.Prelude.{◌≡◌, ◌++◌, OnOk, codes, decimal, slice_index_or, []};
 ghost use Rattle.audit_run.specs.Roster.{roster};
-ghost use Rattle.audit_commands.specs.FaultTexts.{audit_fault_text, called_fault_text, cannot_read, collect_fault_text, directory_fault_text, expected_text as text_of_expected, file_fault_text, has_parts as two_have, lack_text, at_column, at_line, load_fault_text, named_sender, no_memory, parse_fault_text, part_text, refusal_text, request_text, roster_fault_text, row_text, sender_text, source_fault_text, text_fault_text, unsupported_text as text_of_unsupported, wanted_path as path_of_wanted};
+ghost use Rattle.audit_commands.specs.FaultTexts.{audit_fault_text, called_fault_text, cannot_read, collect_fault_text, directory_fault_text, expected_text as text_of_expected, file_fault_text, has_parts as two_have, lack_text, at_column, at_line, load_fault_text, named_sender, no_memory, parse_fault_text, part_text, refusal_text, request_text, roster_fault_text, row_text, sender_by_index, source_fault_text, text_fault_text, unsupported_text as text_of_unsupported, wanted_path as path_of_wanted};
 
 use crate::lines::{push, push_both, push_number};
 use audit_collect::{CollectFault, Refused, RosterFault, Unfinished};
@@ -286,7 +286,7 @@ fn push_sender(
     what: &[u8],
 ) -> Result<(), AllocError>
     ensures { OnOk result (line.new.items ≡ line.old.items
-        ++ (sender_text names.now sender ++ what.now)) }
+        ++ (sender_by_index names.now sender ++ what.now)) }
 {
     push_named_sender(line, sender_at(names, sender))?;
     push(line, what)

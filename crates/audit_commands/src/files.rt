@@ -13,7 +13,7 @@ use thiserror::Error;
 /// The reason why a file or a folder cannot be read.
 #[derive(Clone, Copy, Debug, PartialEq, Eq, Error)]
 pub enum FilesFault {
-    /// A read failed, or a name is not text.
+    /// Opening or reading failed, or a name is not text.
     #[error("failed")]
     Failed,
     /// Out of memory.
@@ -33,8 +33,8 @@ pub trait Files {
     // specifies them.
     ghost held: { Self → Option Holdings };
 
-    /// Returns the text of a file, cut one byte past the limit for a text, or `None` if there is no
-    /// such file. Returns `Failed` if reading failed, and `Memory` if allocation failed.
+    /// Returns the text of a file, or `None` if there is no such file. Of a file above the limit for a
+    /// text, returns some text above that limit. Returns `Failed` if reading failed, and `Memory` if allocation failed.
     fn file(&mut self, alloc: Global, path: &[u8]) -> Result<Option<Seq<u8>>, FilesFault>
         ensures text { IfOk result (λ text. HoldsFile (held self.old) path.now text) }
         ensures failed { IfErr result (λ e. e ≡ FilesFault.Failed

@@ -1,6 +1,6 @@
 //! Lines that the program prints.
 ghost use Rattle.std.specs.Prelude.{◌≡◌, ◌++◌, IfOk, OnOk, decimal};
-ghost use Rattle.audit_commands.specs.FindingLines.{class_text, finding_line, finding_lines as lines_of, keyword as keyword_of, listed_line};
+ghost use Rattle.audit_commands.specs.FindingLines.{class_text, finding_line, finding_lines as lines_of, keyword_text as keyword_of, listed_line};
 
 use audit_files::push_place;
 use itoa::Buffer;
@@ -33,7 +33,7 @@ pub(crate) fn push_number(line: &mut Vec<u8>, number: u64) -> Result<(), AllocEr
 }
 
 // Returns the keyword of a kind of alias.
-fn keyword(kind: Kind) -> &'static [u8]
+fn keyword_text(kind: Kind) -> &'static [u8]
     ensures { result.now ≡ keyword_of kind }
 {
     match kind {
@@ -65,7 +65,7 @@ fn push_finding(lines: &mut Vec<u8>, files: &[Seq<u8>], finding: &Finding) -> Re
 {
     push_place(lines, files, finding.place)?;
     push(lines, called(finding.class))?;
-    push(lines, keyword(finding.kind))?;
+    push(lines, keyword_text(finding.kind))?;
     push(lines, b" ")?;
     push(lines, finding.name.as_slice())?;
     push(lines, b"\n")

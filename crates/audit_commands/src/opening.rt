@@ -20,18 +20,18 @@ pub trait Opener<R> {
 
 /// Opens the files of this machine. Its contracts leave the content of the files unspecified.
 #[derive(Drop)]
-pub(crate) struct Machine<'a> {
+pub(crate) struct SystemOpener<'a> {
     rt: &'a HostRuntime,
 }
 
-impl<'a> Machine<'a> {
+impl<'a> SystemOpener<'a> {
     /// Creates an opener of the files of this machine.
-    pub(crate) fn new(rt: &'a HostRuntime) -> Machine<'a> {
-        Machine { rt }
+    pub(crate) fn new(rt: &'a HostRuntime) -> SystemOpener<'a> {
+        SystemOpener { rt }
     }
 }
 
-impl Opener<Device<File>> for Machine<'_> {
+impl Opener<Device<File>> for SystemOpener<'_> {
     ghost opens = { λ _ _ _. ⊤ };
 
     ghost closed = { λ _ _. ⊤ };

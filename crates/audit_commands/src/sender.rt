@@ -1,10 +1,10 @@
 //! Senders as the command line names them.
 ghost use Rattle.std.specs.Prelude.{◌≡◌, ◌++◌, ◌∷◌, List, ℕ, true, IfSome, IfNone};
 ghost use Rattle.std.specs.List.{list_all};
-ghost use Rattle.audit_commands.specs.Senders.{is_name_byte as name_byte, is_sender_name as sender_name};
+ghost use Rattle.audit_commands.specs.Senders.{is_sender_byte as name_byte, is_sender_name as sender_name};
 
 // Whether a byte is an ASCII letter, a digit, `_` or `-`.
-fn is_name_byte(b: u8) -> bool
+fn is_sender_byte(b: u8) -> bool
     ensures { result ≡ name_byte b }
 {
     matches!(b, b'0'..=b'9' | b'A'..=b'Z' | b'a'..=b'z' | b'_' | b'-')
@@ -14,7 +14,7 @@ fn is_name_byte(b: u8) -> bool
 fn all_name_bytes(text: &[u8]) -> bool
     ensures { result ≡ list_all name_byte text.now }
 {
-    text.iter().all(|b| is_name_byte(*b))
+    text.iter().all(|b| is_sender_byte(*b))
 }
 
 // Whether a name has 1 to 64 bytes, each of which may occur in a name.

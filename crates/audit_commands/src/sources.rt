@@ -6,7 +6,7 @@ use crate::audit::audit_into;
 use crate::ending::report_fault;
 use crate::fault::Fault;
 use crate::files::Disk;
-use crate::opening::{Machine, Opener};
+use crate::opening::{Opener, SystemOpener};
 use crate::sender::sender_of;
 use audit_files::Device;
 use audit_run::Source;
@@ -144,7 +144,7 @@ pub(crate) fn run_audit<T: Threads + Wait + Sync>(
     let alloc = rt.alloc();
     let mut out = Device::new(rt.stdout());
     let mut err = Device::new(rt.stderr());
-    match open_all(alloc, &Machine::new(rt), users, hosts, words) {
+    match open_all(alloc, &SystemOpener::new(rt), users, hosts, words) {
         Ok(files) => {
             let OpenedFiles {
                 mut users,

@@ -7,7 +7,7 @@ use Rattle.audit_files.specs.Users.{row_fault, row_limit}
 use Rattle.std.specs.List.{cons_option}
 use Rattle.std.proofs.lemmas.List.Elements.{filter_map-append}
 use Rattle.sudo_match.specs.declared.request.Request.{Request}
-use Rattle.audit_files.specs.Numerals.{number_of}
+use Rattle.audit_files.specs.Numerals.{numeral_value}
 use Rattle.audit_files.specs.Requests.{close_of, closes_in, fields_in, order_fault, request_fault, request_of, requests_in}
 use Rattle.audit_files.specs.Rows.{Fields}
 use Rattle.audit_files.specs.declared.requests.RequestRow.{RequestRow}
@@ -28,7 +28,7 @@ close_no_request a [] [] d e f g n h = refl
 close_no_request a (y ∷ ys) [] d e f g n h = refl
 close_no_request a b (x ∷ xs) d e f g n h = by (Rattle.audit_files.specs.Requests.same_text a _) h
   where
-    by : (s : Bool) → cond (s && false) (number_of b) None ≡ Some n → request_of (a ∷ b ∷ (x ∷ xs) ∷ d ∷ e ∷ f ∷ g ∷ []) ≡ None
+    by : (s : Bool) → cond (s && false) (numeral_value b) None ≡ Some n → request_of (a ∷ b ∷ (x ∷ xs) ∷ d ∷ e ∷ f ∷ g ∷ []) ≡ None
     by true e2 = cc
     by false e2 = cc
 

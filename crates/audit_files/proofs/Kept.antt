@@ -9,29 +9,29 @@ use Rattle.std.proofs.lemmas.List.Sums.{fold_push}
 use Rattle.std.proofs.lemmas.Slice.Eq.{bytes_eq-Decides}
 use Rattle.sudo_match.specs.declared.people.Group.{Group}
 use Rattle.sudo_match.specs.declared.people.Person.{Person}
-use Rattle.audit_files.specs.Numerals.{is_empty, number_of}
+use Rattle.audit_files.specs.Numerals.{is_empty, numeral_value}
 use Rattle.audit_files.specs.Rows.{Fields, first_fault}
-use Rattle.audit_files.specs.Users.{AreApart, AreUsersOf, followed_by, goes_after, groups_of_row, has_groups, last_of, member_of, membership_fault, row_behind, row_fault, rows_of, rows_with, users_of, users_of_rows, with_row}
+use Rattle.audit_files.specs.Users.{HaveDistinctNeighbours, AreUsersOf, followed_by, goes_after, groups_of_row, has_groups, last_of, member_of, membership_fault, row_behind, row_fault, rows_of, rows_with, users_of, users_of_rows, with_row}
 use Rattle.audit_files.specs.declared.fault.FileFault.{FileFault}
 use Rattle.audit_files.proofs.Gathered.{gathers_some}
 
 -- ---- Users of one name are not neighbours
 
-apart_row : (people : List Person) (row : Person) → AreApart people → AreApart (with_row people row)
+apart_row : (people : List Person) (row : Person) → HaveDistinctNeighbours people → HaveDistinctNeighbours (with_row people row)
 apart_row [] row apart = tt
 apart_row (p ∷ []) row apart = by (bytes_eq p.name row.name) refl
   where
-    by : (same : Bool) → bytes_eq p.name row.name ≡ same → AreApart (cond same (record p { groups = p.groups ++ row.groups } ∷ []) (p ∷ row ∷ []))
+    by : (same : Bool) → bytes_eq p.name row.name ≡ same → HaveDistinctNeighbours (cond same (record p { groups = p.groups ++ row.groups } ∷ []) (p ∷ row ∷ []))
     by true e = tt
     by false e = (e, tt)
 apart_row (p ∷ q ∷ []) row apart = by (bytes_eq q.name row.name) refl
   where
-    by : (same : Bool) → bytes_eq q.name row.name ≡ same → AreApart (p ∷ cond same (record q { groups = q.groups ++ row.groups } ∷ []) (q ∷ row ∷ []))
+    by : (same : Bool) → bytes_eq q.name row.name ≡ same → HaveDistinctNeighbours (p ∷ cond same (record q { groups = q.groups ++ row.groups } ∷ []) (q ∷ row ∷ []))
     by true e = (apart.0, tt)
     by false e = (apart.0, (e, tt))
 apart_row (p ∷ q ∷ r ∷ rest) row apart = (apart.0, apart_row (q ∷ r ∷ rest) row apart.1)
 
-users_are_apart : (rows people : List Person) → AreApart people → AreApart (fold with_row people rows)
+users_are_apart : (rows people : List Person) → HaveDistinctNeighbours people → HaveDistinctNeighbours (fold with_row people rows)
 users_are_apart [] people apart = apart
 users_are_apart (row ∷ rows) people apart = users_are_apart rows (with_row people row) (apart_row people row apart)
 
@@ -108,7 +108,7 @@ kept_row (p ∷ q ∷ rest) row follows single =
 
 -- what two fields state is one group or none
 single_groups : (gid name : List ℕ) (gs : List Group) → groups_of_row gid name ≡ Some gs → IsSingle gs
-single_groups gid name gs e = by (is_empty name) (is_empty gid) (number_of gid) e
+single_groups gid name gs e = by (is_empty name) (is_empty gid) (numeral_value gid) e
   where
     at : (found : List Group) → IsSingle found → Some found ≡ Some gs → IsSingle gs
     at found single h = let same : found ≡ gs = cc in subst IsSingle same single
@@ -126,7 +126,7 @@ single_member [] row e = cc
 single_member (a ∷ []) row e = cc
 single_member (a ∷ b ∷ []) row e = cc
 single_member (a ∷ b ∷ c ∷ []) row e = cc
-single_member (user ∷ uid ∷ gid ∷ group ∷ []) row e = by (is_empty user) (number_of uid) (groups_of_row gid group) refl e
+single_member (user ∷ uid ∷ gid ∷ group ∷ []) row e = by (is_empty user) (numeral_value uid) (groups_of_row gid group) refl e
   where
     by : (no_user : Bool) (number : Option ℕ) (found : Option (List Group)) → groups_of_row gid group ≡ found
         → cond no_user None (option_and_then (λ n. option_map (λ gs. record { name = user; uid = n; groups = gs }) found) number) ≡ Some row

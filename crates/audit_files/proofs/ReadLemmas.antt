@@ -8,7 +8,7 @@ use Rattle.std.proofs.lemmas.List.{length-replicate}
 use Rattle.audit_files.specs.Whole.{whole_of}
 use Rattle.audit_files.specs.declared.whole.ReadFault.TheVariants as why
 use Rattle.audit_files.specs.Faults.{IsNotOutOfMemory}
-use Rattle.audit_files.specs.Files.{IsRead, States, byte_limit, bytes_read, bytes_upto, itself, stated_in}
+use Rattle.audit_files.specs.Files.{IsRead, IsStatedBy, byte_limit, bytes_read, bytes_upto, itself, stated_in}
 use Rattle.audit_files.specs.declared.fault.FileFault.{FileFault}
 use Rattle.audit_files.specs.declared.fault.FileFault.TheVariants.{TooMany, Read}
 
@@ -104,6 +104,6 @@ fault_is_read {T} meaning readable_bytes fault i = record { ahead = i.ahead; giv
     by (Err f) h = let same : f ≡ fault = cc in rw same refl
 
 pub text_states : {T : Type 0} (meaning : List ℕ → Result T FileFault) (readable_bytes : Option Ahead) (text : List ℕ) (r : Result T FileFault)
-    → IsRead itself readable_bytes (Ok text) → IfOk r (λ x. meaning text ≡ Ok x) → IfErr r (λ e. IsNotOutOfMemory e → meaning text ≡ Err e) → States meaning readable_bytes r
+    → IsRead itself readable_bytes (Ok text) → IfOk r (λ x. meaning text ≡ Ok x) → IfErr r (λ e. IsNotOutOfMemory e → meaning text ≡ Err e) → IsStatedBy meaning readable_bytes r
 text_states meaning readable_bytes text (Ok x) i ok err = text_is_read meaning readable_bytes text (Ok x) i ok
 text_states meaning readable_bytes text (Err e) i ok err = λ no_memory. text_is_read meaning readable_bytes text (Err e) i (err no_memory)

@@ -22,9 +22,9 @@ after_header header [] = None
 after_header header (first ∷ rest) = if same_fields first header then Some rest else None
 
 -- the first fault of the records after the header, or `Header` without a header
-abbrev pub fault_after : (List Fields → Fields → Option FileFault) → Option (List Fields) → Option FileFault
-fault_after fault None = Some Header
-fault_after fault (Some rest) = first_fault fault [] rest
+abbrev pub first_record_fault : (List Fields → Fields → Option FileFault) → Option (List Fields) → Option FileFault
+first_record_fault fault None = Some Header
+first_record_fault fault (Some rest) = first_fault fault [] rest
 
 -- the value that the records after the header state, or their fault
 abbrev pub stated_by : {T : Type 0} → (List Fields → Fields → Option FileFault) → (List Fields → T) → Option (List Fields) → Result T FileFault
@@ -33,8 +33,8 @@ stated_by fault value (Some rest) = unless (first_fault fault [] rest) (value re
 
 -- the value that the records of a file state under this header; `Header` if the header is another
 -- or missing
-abbrev pub stated : {T : Type 0} → Fields → (List Fields → Fields → Option FileFault) → (List Fields → T) → List Fields → Result T FileFault
-stated header fault value all = stated_by fault value (after_header header all)
+abbrev pub value_in_file : {T : Type 0} → Fields → (List Fields → Fields → Option FileFault) → (List Fields → T) → List Fields → Result T FileFault
+value_in_file header fault value all = stated_by fault value (after_header header all)
 
 -- the most bytes that a file may have
 abbrev pub byte_limit : ℕ
@@ -72,9 +72,9 @@ pub record IsRead {T : Type 0} (meaning : List ℕ → Result T FileFault) (read
   pub states : read_as meaning ahead ≡ result
 
 -- the result is what some possible bytes of the reader state; out of memory is unspecified
-abbrev pub States : {T : Type 0} → (List ℕ → Result T FileFault) → Option Ahead → Result T FileFault → Type 0
-States meaning readable_bytes (Ok x) = IsRead meaning readable_bytes (Ok x)
-States meaning readable_bytes (Err e) = IsNotOutOfMemory e → IsRead meaning readable_bytes (Err e)
+abbrev pub IsStatedBy : {T : Type 0} → (List ℕ → Result T FileFault) → Option Ahead → Result T FileFault → Type 0
+IsStatedBy meaning readable_bytes (Ok x) = IsRead meaning readable_bytes (Ok x)
+IsStatedBy meaning readable_bytes (Err e) = IsNotOutOfMemory e → IsRead meaning readable_bytes (Err e)
 
 -- the bytes themselves, as a value
 abbrev pub itself : List ℕ → Result (List ℕ) FileFault

@@ -3,8 +3,8 @@ use Rattle.std.specs.Prelude.{◌≡◌, refl, Bool, true, false, nat_le, ℕ, L
 use Rattle.std.proofs.lemmas.Bool.{leb-true}
 use Rattle.sudo_match.specs.declared.people.Interface.{Interface}
 use Rattle.sudo_match.specs.declared.people.Machine.{Machine}
-use Rattle.audit_files.specs.Files.{stated}
-use Rattle.audit_files.specs.Numerals.{is_empty, number_of}
+use Rattle.audit_files.specs.Files.{value_in_file}
+use Rattle.audit_files.specs.Numerals.{is_empty, numeral_value}
 use Rattle.audit_files.specs.Parts.{cut_at, items_of}
 use Rattle.audit_files.specs.Rows.{Fields, records_of}
 use Rattle.audit_files.specs.Users.{row_fault}
@@ -14,8 +14,8 @@ abbrev pub hosts_header : Fields
 hosts_header = codes "host" ∷ codes "interfaces" ∷ []
 
 -- the byte of an address: a number below 256
-abbrev pub octet_of : List ℕ → Option ℕ
-octet_of text = octet_in (number_of text)
+abbrev pub address_byte : List ℕ → Option ℕ
+address_byte text = octet_in (numeral_value text)
   where
     octet_in : Option ℕ → Option ℕ
     octet_in None = None
@@ -27,10 +27,10 @@ address_by (Some a) (Some b) (Some c) (Some d) = Some (((a * 256 + b) * 256 + c)
 address_by _ _ _ _ = None
 
 -- the address of four bytes, separated by dots
-abbrev pub address_of : List ℕ → Option ℕ
-address_of text =
+abbrev pub host_address : List ℕ → Option ℕ
+host_address text =
     option_and_then (λ p. option_and_then (λ q. option_and_then (λ r.
-    address_by (octet_of p.0) (octet_of q.0) (octet_of r.0) (octet_of r.1)) (cut_at 46 q.1)) (cut_at 46 p.1)) (cut_at 46 text)
+    address_by (address_byte p.0) (address_byte q.0) (address_byte r.0) (address_byte r.1)) (cut_at 46 q.1)) (cut_at 46 p.1)) (cut_at 46 text)
 
 -- an interface with this number of bits, if they are at most 32
 abbrev pub interface_if : (addr bits : ℕ) (fits : Bool) → nat_le bits 32 ≡ fits → Option Interface
@@ -43,7 +43,7 @@ interface_with addr bits = interface_if addr bits (nat_le bits 32) refl
 -- an address, a slash, and the number of its network bits, up to 32
 abbrev pub interface_of : List ℕ → Option Interface
 interface_of word =
-    option_and_then (λ p. option_and_then (λ a. option_and_then (λ n. interface_with a n) (number_of p.1)) (address_of p.0)) (cut_at 47 word)
+    option_and_then (λ p. option_and_then (λ a. option_and_then (λ n. interface_with a n) (numeral_value p.1)) (host_address p.0)) (cut_at 47 word)
 
 -- a nonempty host, and interfaces separated by one space
 abbrev pub machine_of : Fields → Option Machine
@@ -56,4 +56,4 @@ machine_fault before fields = row_fault before (machine_of fields)
 
 -- the hosts that the bytes of a hosts file state, or its first fault
 abbrev pub machines : List ℕ → Result (List Machine) FileFault
-machines text = stated hosts_header machine_fault (filter_map machine_of) (records_of text)
+machines text = value_in_file hosts_header machine_fault (filter_map machine_of) (records_of text)

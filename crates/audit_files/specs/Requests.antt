@@ -3,8 +3,8 @@ use Rattle.std.specs.Prelude.{⊤, ◌<◌, ℕ, suc, Bool, false, not, List, []
 use Rattle.std.specs.Option.{option_map_or}
 use Rattle.std.specs.Cmp.Lexicographic.{pointwise}
 use Rattle.sudo_match.specs.declared.request.Request.{Request}
-use Rattle.audit_files.specs.Files.{stated}
-use Rattle.audit_files.specs.Numerals.{is_empty, number_of}
+use Rattle.audit_files.specs.Files.{value_in_file}
+use Rattle.audit_files.specs.Numerals.{is_empty, numeral_value}
 use Rattle.audit_files.specs.Rows.{Fields, records_of}
 use Rattle.audit_files.specs.declared.fault.FileFault.{FileFault}
 use Rattle.audit_files.specs.declared.fault.FileFault.TheVariants.{BadRow, OutOfOrder, RowAfterClose, TooMany}
@@ -36,7 +36,7 @@ is_command (b ∷ rest) = (b == 47) || same_text (b ∷ rest) (codes "sudoedit")
 -- the number of a request: from 1, beside a user, a host and a command
 abbrev pub asked_number : List ℕ → List ℕ → List ℕ → List ℕ → Option ℕ
 asked_number number user host command =
-    if not (is_empty user) && (not (is_empty host) && is_command command) then positive (number_of number) else None
+    if not (is_empty user) && (not (is_empty host) && is_command command) then positive (numeral_value number) else None
 
 -- the request that these fields state
 abbrev pub request_of : Fields → Option Request
@@ -60,7 +60,7 @@ fields_in row = row.number.now ∷ row.user.now ∷ row.host.now ∷ row.runas_u
 abbrev pub close_of : Fields → Option ℕ
 close_of (word ∷ count ∷ host ∷ runas_user ∷ runas_group ∷ command ∷ arguments ∷ []) =
     if same_text word (codes "close") && (is_empty host && (is_empty runas_user && (is_empty runas_group && (is_empty command && is_empty arguments))))
-    then number_of count
+    then numeral_value count
     else None
 close_of _ = None
 
@@ -108,7 +108,7 @@ requests_of all = record { list = requests_in all; close = slice_get (closes_in 
 
 -- the content of a requests file, from its bytes, or its first fault
 abbrev pub sent : List ℕ → Result Requests FileFault
-sent text = stated requests_header request_fault requests_of (records_of text)
+sent text = value_in_file requests_header request_fault requests_of (records_of text)
 
 -- the numbers of the requests rise, from above this one on
 abbrev pub RiseAbove : ℕ → List Request → Type 0

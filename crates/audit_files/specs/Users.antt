@@ -2,8 +2,8 @@
 use Rattle.std.specs.Prelude.{⊤, ◌≡◌, ℕ, Bool, true, false, not, List, [], ◌∷◌, ◌++◌, ◌+◌, ◌-◌, ◌==◌, ◌&&◌, ◌||◌, nat_le, length, codes, bytes_eq, filter_map, flat_map, fold, map, slice_get, is_some, Option, Some, None, Result, option_map, option_and_then, if◌then◌else◌}
 use Rattle.sudo_match.specs.declared.people.Group.{Group}
 use Rattle.sudo_match.specs.declared.people.Person.{Person}
-use Rattle.audit_files.specs.Files.{after_header, stated}
-use Rattle.audit_files.specs.Numerals.{is_empty, number_of}
+use Rattle.audit_files.specs.Files.{after_header, value_in_file}
+use Rattle.audit_files.specs.Numerals.{is_empty, numeral_value}
 use Rattle.audit_files.specs.Parts.{cut_at, items_of}
 use Rattle.audit_files.specs.Rows.{Fields, records_of}
 use Rattle.audit_files.specs.declared.fault.FileFault.{FileFault}
@@ -14,15 +14,15 @@ abbrev pub users_header : Fields
 users_header = codes "user" ∷ codes "uid" ∷ codes "groups" ∷ []
 
 -- a nonempty name, a colon, and a number
-abbrev pub group_of : List ℕ → Option Group
-group_of word =
-    option_and_then (λ p. if is_empty p.0 then None else option_map (λ n. record { name = p.0; gid = n }) (number_of p.1)) (cut_at 58 word)
+abbrev pub membership_of : List ℕ → Option Group
+membership_of word =
+    option_and_then (λ p. if is_empty p.0 then None else option_map (λ n. record { name = p.0; gid = n }) (numeral_value p.1)) (cut_at 58 word)
 
 -- a nonempty user, a number, and groups separated by one space
 abbrev pub person_of : Fields → Option Person
 person_of (user ∷ uid ∷ groups ∷ []) =
     if is_empty user then None
-    else option_and_then (λ n. option_map (λ gs. record { name = user; uid = n; groups = gs }) (items_of group_of groups)) (number_of uid)
+    else option_and_then (λ n. option_map (λ gs. record { name = user; uid = n; groups = gs }) (items_of membership_of groups)) (numeral_value uid)
 person_of _ = None
 
 -- the most rows that a users or a hosts file may have
@@ -47,13 +47,13 @@ abbrev pub groups_of_row : List ℕ → List ℕ → Option (List Group)
 groups_of_row gid name =
     if is_empty name
     then (if is_empty gid then Some [] else None)
-    else option_map (λ n. record { name = name; gid = n } ∷ []) (number_of gid)
+    else option_map (λ n. record { name = name; gid = n } ∷ []) (numeral_value gid)
 
 -- a nonempty user, a number, and one group or none
 abbrev pub member_of : Fields → Option Person
 member_of (user ∷ uid ∷ gid ∷ group ∷ []) =
     if is_empty user then None
-    else option_and_then (λ n. option_map (λ gs. record { name = user; uid = n; groups = gs }) (groups_of_row gid group)) (number_of uid)
+    else option_and_then (λ n. option_map (λ gs. record { name = user; uid = n; groups = gs }) (groups_of_row gid group)) (numeral_value uid)
 member_of _ = None
 
 -- the users after a row that follows a row of this user: a row of the same user adds its group, and
@@ -105,14 +105,14 @@ abbrev pub people : List ℕ → Result (List Person) FileFault
 people text =
     let all = records_of text in
     if is_some (after_header memberships_header all)
-    then stated memberships_header membership_fault users_of all
-    else stated users_header person_fault (filter_map person_of) all
+    then value_in_file memberships_header membership_fault users_of all
+    else value_in_file users_header person_fault (filter_map person_of) all
 
 -- no two neighbours have the same name
-abbrev pub AreApart : List Person → Type 0
-AreApart [] = ⊤
-AreApart (p ∷ []) = ⊤
-AreApart (p ∷ q ∷ rest) = (bytes_eq p.name q.name ≡ false) × AreApart (q ∷ rest)
+abbrev pub HaveDistinctNeighbours : List Person → Type 0
+HaveDistinctNeighbours [] = ⊤
+HaveDistinctNeighbours (p ∷ []) = ⊤
+HaveDistinctNeighbours (p ∷ q ∷ rest) = (bytes_eq p.name q.name ≡ false) × HaveDistinctNeighbours (q ∷ rest)
 
 -- the rows that a user with these groups is written as: one per group, or one without a group
 abbrev pub rows_with : Person → List Group → List Person
@@ -126,4 +126,4 @@ rows_of p = rows_with p p.groups
 -- users' rows, in order, are what the records state
 abbrev pub AreUsersOf : List Fields → List Person → Type 0
 AreUsersOf records users =
-    AreApart users × (map member_of records ≡ map (λ row. Some row) (flat_map rows_of users))
+    HaveDistinctNeighbours users × (map member_of records ≡ map (λ row. Some row) (flat_map rows_of users))

@@ -3,7 +3,7 @@ ghost use Rattle.std.specs.Prelude.{◌≡◌, ◌+◌, ◌∷◌, ◌++◌, [],
 ghost use Rattle.csv.specs.Records.{fields_of};
 ghost use Rattle.audit_files.specs.Faults.{IsNotOutOfMemory, failures_in, read_failures};
 ghost use Rattle.audit_files.specs.Files.{IsRead};
-ghost use Rattle.audit_files.specs.Hosts.{address_by, address_of, interface_of, interface_with, machine_of, machines, octet_of};
+ghost use Rattle.audit_files.specs.Hosts.{address_by, host_address, interface_of, interface_with, machine_of, machines, address_byte};
 
 use crate::fields::field;
 use crate::number::number;
@@ -18,7 +18,7 @@ use sudo_text::Seq;
 
 // Returns the byte of an address that a text denotes: a number below 256.
 fn octet(text: &[u8]) -> Option<u8>
-    ensures { result ≡ octet_of text.now }
+    ensures { result ≡ address_byte text.now }
 {
     match number(text) {
         Some(found) if found < 256 => Some(found as u8),
@@ -46,7 +46,7 @@ fn address_from(
 
 // Returns the address that a text denotes: four bytes, separated by dots.
 fn address(text: &[u8]) -> Option<u32>
-    ensures { result ≡ address_of text.now }
+    ensures { result ≡ host_address text.now }
 {
     let (first, rest) = cut(text, b'.')?;
     let (second, rest) = cut(rest, b'.')?;
@@ -127,7 +127,8 @@ impl Table for HostList {
     ghost fault = { machine_fault };
 
     // One host for each record.
-    ghost holds = { λ list before. (list.list.items ≡ filter_map machine_of before) × (length list.list.items ≡ length before) };
+    ghost holds = { λ list before. (list.list.items ≡ filter_map machine_of before)
+        × (length list.list.items ≡ length before) };
 
     #[tactic(auto, using(crate::proofs::FieldLemmas::no_header, crate::proofs::FieldLemmas::two_fields))]
     fn is_header(&self, record: &ByteRecord) -> bool {

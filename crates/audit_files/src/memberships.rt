@@ -3,7 +3,7 @@ ghost use Rattle.std.specs.Prelude.{◌≡◌, ◌∷◌, [], IfOk, IfErr, OnOk,
 ghost use Rattle.std.specs.Option.{option_copied};
 ghost use Rattle.csv.specs.Records.{fields_of};
 ghost use Rattle.audit_files.specs.Faults.{IsNotOutOfMemory, failures_in};
-ghost use Rattle.audit_files.specs.Files.{after_header, same_fields, stated};
+ghost use Rattle.audit_files.specs.Files.{after_header, same_fields, value_in_file};
 ghost use Rattle.audit_files.specs.Rows.{records_of};
 ghost use Rattle.audit_files.specs.Users.{goes_after, groups_of_row, has_groups as group_test, last_of, member_of, membership_fault, memberships_header, row_behind, users_of, with_row};
 
@@ -187,10 +187,11 @@ impl Memberships {
 /// Returns the users that the bytes of a file with one row per membership state, in order, or its
 /// first fault.
 pub(crate) fn users_by_membership(alloc: Global, text: &[u8]) -> Result<Vec<Person>, FileFault>
-    ensures stated { IfOk result (λ list. stated memberships_header membership_fault users_of
+    ensures stated { IfOk result (λ list. value_in_file memberships_header membership_fault users_of
         (records_of text.now) ≡ Ok list.items) }
     ensures fault { IfErr result (λ e. IsNotOutOfMemory e
-        → stated memberships_header membership_fault users_of (records_of text.now) ≡ Err e) }
+        → value_in_file memberships_header membership_fault users_of (records_of text.now)
+        ≡ Err e) }
     ensures no_read { IfErr result (λ e. failures_in e ≡ 0) }
 {
     let mut table = Memberships {

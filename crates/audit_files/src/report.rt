@@ -1,7 +1,7 @@
 //! The text of a report, record by record.
 ghost use Rattle.std.specs.Prelude.{◌≡◌, ◌++◌, ◌∷◌, [], IfOk, OnOk};
 ghost use Rattle.audit_files.specs.Report.{answer_fields, line, report_text as text_of, sender_text, tags_text, verdict_place, verdict_tags, verdict_word, with_name, with_tag};
-ghost use Rattle.audit_files.specs.Body.Text.{IsBetween, written};
+ghost use Rattle.audit_files.specs.Body.Text.{IsBetween, text_so_far};
 
 use crate::places::push_place;
 use crate::records::Text;
@@ -95,8 +95,8 @@ fn put_five<'a>(
 ) -> Result<(), AllocError>
     requires { IsBetween text.old }
     ensures between { OnOk result (IsBetween text.new) }
-    ensures text { OnOk result (written text.new
-        ≡ written text.old ++ line (first.entry.now ∷ second.entry.now ∷ third.entry.now ∷
+    ensures text { OnOk result (text_so_far text.new
+        ≡ text_so_far text.old ++ line (first.entry.now ∷ second.entry.now ∷ third.entry.now ∷
         fourth.entry.now ∷ fifth.entry.now ∷ [])) }
 {
     text.put(&[first, second, third, fourth, fifth])
@@ -119,8 +119,8 @@ fn put_answer(
 ) -> Result<(), AllocError>
     requires { IsBetween text.old }
     ensures between { OnOk result (IsBetween text.new) }
-    ensures text { OnOk result (written text.new
-        ≡ written text.old ++ line (answer_fields files.now sender.now answer.now)) }
+    ensures text { OnOk result (text_so_far text.new
+        ≡ text_so_far text.old ++ line (answer_fields files.now sender.now answer.now)) }
 {
     let mut number = Buffer::new();
     set_place(&mut scratch.place, files, &answer.verdict)?;
@@ -144,8 +144,8 @@ fn put_sender(
 ) -> Result<(), AllocError>
     requires { IsBetween text.old }
     ensures between { OnOk result (IsBetween text.new) }
-    ensures text { OnOk result (written text.new
-        ≡ written text.old ++ sender_text files.now sender.now) }
+    ensures text { OnOk result (text_so_far text.new
+        ≡ text_so_far text.old ++ sender_text files.now sender.now) }
 {
     for answer in sender.answers.as_slice() {
         put_answer(text, scratch, files, sender.name.as_slice(), answer)?;
@@ -153,12 +153,12 @@ fn put_sender(
     Ok(())
 }
 
-/// The report as CSV: the header `sender,number,verdict,line,tags`, then for each sender a record for
+/// Returns the report as CSV: the header `sender,number,verdict,line,tags`, then for each sender a record for
 /// each of its answers, in their order.
 ///
 /// `line` is `PATH:LINE` of the grant that decided, with the path at the place's number in `files`, and
-/// empty but for `allow` and `deny`; `tags` is empty but for `allow`. It fails only where memory was
-/// refused.
+/// empty but for `allow` and `deny`; `tags` is empty but for `allow`. Returns `AllocError` if allocation
+/// failed.
 pub fn report_text(alloc: Global, report: &Report, files: &[Seq<u8>]) -> Result<Vec<u8>, AllocError>
     ensures { IfOk result (λ text. text.items ≡ text_of files.now report.now) }
 {

@@ -2,7 +2,7 @@
 ghost use Rattle.std.specs.Prelude.{◌≡◌, ◌≢◌, ◌+◌, ◌∷◌, ◌++◌, [], Some, Ok, Err, List, ℕ, IfOk, OnOk, IfErr, IfSome, IfNone, length, slice_get};
 ghost use Rattle.csv.specs.Records.{fields_of};
 ghost use Rattle.audit_files.specs.Faults.{IsNotOutOfMemory, failures_in, read_failures};
-ghost use Rattle.audit_files.specs.Files.{States, same_fields};
+ghost use Rattle.audit_files.specs.Files.{IsStatedBy, same_fields};
 ghost use Rattle.audit_files.specs.Requests.{asked_for, asked_number as number_asked, close_of, fields_in, requests_header, sent, is_command as command_test, last_number as number_of_last, order_fault as fault_of_order, request_of};
 
 use crate::fields::field;
@@ -171,7 +171,8 @@ impl Table for RequestList {
 
     ghost fault = { request_fault };
 
-    ghost holds = { λ sent before. (sent.list.items ≡ requests_in before) × (sent.close ≡ slice_get (closes_in before) 0) };
+    ghost holds = { λ sent before. (sent.list.items ≡ requests_in before) × (sent.close
+        ≡ slice_get (closes_in before) 0) };
 
     #[tactic(auto, using(crate::proofs::FieldLemmas::no_header))]
     fn is_header(&self, record: &ByteRecord) -> bool {
@@ -254,7 +255,7 @@ pub(crate) fn requests_of_text(alloc: Global, text: &[u8]) -> Result<Requests, F
 /// also for more than 268,435,456 bytes, before any row is read, `Read` if a read failed, and
 /// `Memory` if allocation failed.
 pub fn read_requests<R: Feed>(alloc: Global, reader: &mut R) -> Result<Requests, FileFault>
-    ensures states { States sent (R.ahead reader.old) result }
+    ensures states { IsStatedBy sent (R.ahead reader.old) result }
     ensures failures { R.failed_reads reader.new
         ≡ R.failed_reads reader.old + read_failures result }
 {

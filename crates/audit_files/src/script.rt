@@ -24,8 +24,8 @@ pub struct Script {
 impl Script {
     ghost use Rattle.audit_files.specs.Script.{ahead_of, taken_of, writes_of, stalled_of, step_of};
 
-    /// Creates a reader of these bytes, which moves at most `step` bytes per call, but at least
-    /// one. Returns `AllocError` if allocation failed.
+    /// Creates a reader of these bytes, which moves at most `step` bytes per call (1 if `step` is 0).
+    /// Returns `AllocError` if allocation failed.
     pub fn of(alloc: Global, bytes: &[u8], step: usize) -> Result<Script, AllocError>
         ensures ahead { IfOk result (λ s. ahead_of s
             ≡ record { bytes = bytes.now; fails = false }) }
@@ -48,8 +48,8 @@ impl Script {
         })
     }
 
-    /// Makes the call with this number, from 1, fail, and each later one: a write, and a read if
-    /// every read before it moves a whole step. A reader that ends before that call never fails.
+    /// Makes every write fail from the call with this number on, from 1; and every read, if all reads
+    /// before it moved a whole step. A reader that ends before that call never fails.
     pub fn failing_at(mut self, call: u64) -> Script
         ensures ahead { ahead_of result ≡ failing call (step_of self) (ahead_of self) }
         ensures taken { taken_of result ≡ taken_of self }

@@ -2,7 +2,7 @@
 ghost use Rattle.std.specs.Prelude.{◌≡◌, ◌+◌, ◌∷◌, ◌++◌, [], ℕ, List, Option, Some, None, length, OnOk, IfErr};
 ghost use Rattle.csv.specs.Records.{fields_of};
 ghost use Rattle.audit_files.specs.Faults.{IsNotOutOfMemory, failures_in};
-ghost use Rattle.audit_files.specs.Files.{fault_after, after_header, same_fields};
+ghost use Rattle.audit_files.specs.Files.{first_record_fault, after_header, same_fields};
 ghost use Rattle.audit_files.specs.declared.fault.FileFault.{FileFault};
 ghost use Rattle.audit_files.specs.Rows.{Fields, IsReading, first_fault, records_of, rows_left};
 
@@ -64,7 +64,7 @@ pub(crate) fn gather<T: Table>(alloc: Global, text: &[u8], table: &mut T) -> Res
         × (after_header T.header (records_of text.now) ≡ Some rest)
         × (first_fault T.fault [] rest ≡ None) × T.holds table.new rest) }
     ensures err { IfErr result (λ e. IsNotOutOfMemory e
-        → fault_after T.fault (after_header T.header (records_of text.now)) ≡ Some e) }
+        → first_record_fault T.fault (after_header T.header (records_of text.now)) ≡ Some e) }
     ensures no_read { IfErr result (λ e. failures_in e ≡ 0) }
 {
     let mut rows = Rows::new(alloc, text);

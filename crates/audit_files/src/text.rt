@@ -13,7 +13,8 @@ const BYTE_LIMIT: usize = 268_435_456;
 /// bytes, `Read` if a read failed, and `Memory` if allocation failed.
 pub(crate) fn read_text<R: Feed>(alloc: Global, reader: &mut R) -> Result<Vec<u8>, FileFault>
     ensures text { IfOk result (λ text. IsRead itself (R.ahead reader.old) (Ok text.items)) }
-    ensures fault { IfErr result (λ e. IsNotOutOfMemory e → IsRead itself (R.ahead reader.old) (Err e)) }
+    ensures fault { IfErr result (λ e. IsNotOutOfMemory e → IsRead itself (R.ahead reader.old) (Err
+        e)) }
     ensures failures { R.failed_reads reader.new
         ≡ R.failed_reads reader.old + read_failures result }
 {

@@ -2,9 +2,9 @@
 ghost use Rattle.std.specs.Prelude.{◌≡◌, ◌+◌, ◌∷◌, ◌++◌, [], Ok, Err, IfOk, IfErr, OnOk, IfSome, filter_map, length};
 ghost use Rattle.csv.specs.Records.{fields_of};
 ghost use Rattle.audit_files.specs.Faults.{IsNotOutOfMemory, failures_in, read_failures};
-ghost use Rattle.audit_files.specs.Files.{IsRead, stated};
+ghost use Rattle.audit_files.specs.Files.{IsRead, value_in_file};
 ghost use Rattle.audit_files.specs.Rows.{records_of};
-ghost use Rattle.audit_files.specs.Users.{group_of, people, person_fault, person_of, users_header};
+ghost use Rattle.audit_files.specs.Users.{membership_of, people, person_fault, person_of, users_header};
 
 use crate::fields::field;
 use crate::memberships::{self, users_by_membership};
@@ -19,7 +19,7 @@ use sudo_match::{Group, Person};
 use sudo_text::Seq;
 
 impl Item for Group {
-    ghost stated = { group_of };
+    ghost stated = { membership_of };
 
     fn read(alloc: Global, word: &[u8]) -> Result<Option<Group>, AllocError> {
         let Some((name, gid)) = cut(word, b':') else {
@@ -88,7 +88,8 @@ impl Table for UserList {
     ghost fault = { person_fault };
 
     // One user for each record.
-    ghost holds = { λ people before. (people.list.items ≡ filter_map person_of before) × (length people.list.items ≡ length before) };
+    ghost holds = { λ people before. (people.list.items ≡ filter_map person_of before)
+        × (length people.list.items ≡ length before) };
 
     #[tactic(auto, using(crate::proofs::FieldLemmas::no_header, crate::proofs::FieldLemmas::three_fields))]
     fn is_header(&self, record: &ByteRecord) -> bool {
@@ -128,10 +129,12 @@ impl UserList {
 // Returns the users that the bytes of a file with one row per user state, in order, or its first
 // fault.
 fn users_by_user(alloc: Global, text: &[u8]) -> Result<Vec<Person>, FileFault>
-    ensures stated { IfOk result (λ list. stated users_header person_fault (filter_map person_of)
+    ensures stated { IfOk result (λ list. value_in_file users_header person_fault (filter_map
+        person_of)
         (records_of text.now) ≡ Ok list.items) }
     ensures fault { IfErr result (λ e. IsNotOutOfMemory e
-        → stated users_header person_fault (filter_map person_of) (records_of text.now) ≡ Err e) }
+        → value_in_file users_header person_fault (filter_map person_of) (records_of text.now)
+        ≡ Err e) }
     ensures no_read { IfErr result (λ e. failures_in e ≡ 0) }
 {
     let mut table = UserList {
@@ -174,7 +177,8 @@ fn users_of_text(alloc: Global, text: &[u8]) -> Result<Vec<Person>, FileFault>
 /// bytes, before any row is read, `Read` if a read failed, and `Memory` if allocation failed.
 pub fn read_users<R: Feed>(alloc: Global, reader: &mut R) -> Result<Vec<Person>, FileFault>
     ensures stated { IfOk result (λ list. IsRead people (R.ahead reader.old) (Ok list.items)) }
-    ensures fault { IfErr result (λ e. IsNotOutOfMemory e → IsRead people (R.ahead reader.old) (Err e)) }
+    ensures fault { IfErr result (λ e. IsNotOutOfMemory e → IsRead people (R.ahead reader.old) (Err
+        e)) }
     ensures failures { R.failed_reads reader.new
         ≡ R.failed_reads reader.old + read_failures result }
 {

@@ -5,15 +5,15 @@ use Rattle.std.proofs.lemmas.Slice.Eq.{bytes_eq-Decides}
 use Rattle.std.specs.List.{zip}
 use Rattle.audit_collect.proofs.Members.{Among, Contains-Among}
 use Rattle.audit_run.specs.Parts.{Stated, parts_by_owner}
-use Rattle.audit_run.specs.Roster.{owners, place_of, roster, without}
-use Rattle.audit_run.specs.Shards.{AreApart}
+use Rattle.audit_run.specs.Roster.{owners, index_in, roster, without}
+use Rattle.audit_run.specs.Shards.{AreDisjoint}
 use Rattle.audit_run.proofs.Owned.{among_roster}
 
 -- no name that is among the first is among the second
 abbrev pub Parted : List (List ℕ) → List (List ℕ) → Type 0
 Parted first second = (name : List ℕ) → Among name first → Among name second → ⊥
 
-pub parted : (first second : List (List ℕ)) → AreApart first second → Parted first second
+pub parted : (first second : List (List ℕ)) → AreDisjoint first second → Parted first second
 parted first second apart name there also = apart name (Contains-Among name first there) (Contains-Among name second also)
 
 filter_append : {X : Type 0} (test : X → Bool) (xs ys : List X) → filter test (xs ++ ys) ≡ filter test xs ++ filter test ys
@@ -55,37 +55,37 @@ roster_joined (n ∷ first) second apart =
     ∙ ap (λ l. n ∷ l) (filter_append (λ other. not (bytes_eq n other)) (roster first) (roster second))
     ∙ ap (λ l. n ∷ (without n (roster first) ++ l)) (without_absent n (roster second) (λ m. apart n (inl refl) (roster_among n second m)))
 
--- a name's place in two rosters
-place_front : (name : List ℕ) (xs ys : List (List ℕ)) → Among name xs → place_of name (xs ++ ys) ≡ place_of name xs
+-- a name's index in two rosters
+place_front : (name : List ℕ) (xs ys : List (List ℕ)) → Among name xs → index_in name (xs ++ ys) ≡ index_in name xs
 place_front name [] ys m = absurd m
 place_front name (x ∷ xs) ys m = by (bytes_eq x name) refl m (place_front name xs ys)
   where
-    by : (b : Bool) → bytes_eq x name ≡ b → (x ≡ name) ⊎ Among name xs → (Among name xs → place_of name (xs ++ ys) ≡ place_of name xs) → (if b then 0 else 1 + place_of name (xs ++ ys)) ≡ (if b then 0 else 1 + place_of name xs)
+    by : (b : Bool) → bytes_eq x name ≡ b → (x ≡ name) ⊎ Among name xs → (Among name xs → index_in name (xs ++ ys) ≡ index_in name xs) → (if b then 0 else 1 + index_in name (xs ++ ys)) ≡ (if b then 0 else 1 + index_in name xs)
     by true e m rest = refl
     by false e (inl same) rest = let yes_equal : bytes_eq x name ≡ true = (bytes_eq-Decides x name).1 same in absurd (cc)
     by false e (inr m) rest = ap (λ k. 1 + k) (rest m)
 
-place_back : (name : List ℕ) (xs ys : List (List ℕ)) → (Among name xs → ⊥) → place_of name (xs ++ ys) ≡ length xs + place_of name ys
+place_back : (name : List ℕ) (xs ys : List (List ℕ)) → (Among name xs → ⊥) → index_in name (xs ++ ys) ≡ length xs + index_in name ys
 place_back name [] ys absent = omega arith
 place_back name (x ∷ xs) ys absent = by (bytes_eq x name) refl (place_back name xs ys (λ m. absent (inr m)))
   where
-    by : (b : Bool) → bytes_eq x name ≡ b → place_of name (xs ++ ys) ≡ length xs + place_of name ys → (if b then 0 else 1 + place_of name (xs ++ ys)) ≡ suc (length xs) + place_of name ys
+    by : (b : Bool) → bytes_eq x name ≡ b → index_in name (xs ++ ys) ≡ length xs + index_in name ys → (if b then 0 else 1 + index_in name (xs ++ ys)) ≡ suc (length xs) + index_in name ys
     by true e rest = absurd (absent (inl ((bytes_eq-Decides x name).0 e)))
     by false e rest = omega (arith, rest)
 
-places_front : (names xs ys : List (List ℕ)) → ((name : List ℕ) → Among name names → Among name xs) → map (λ name. place_of name (xs ++ ys)) names ≡ map (λ name. place_of name xs) names
+places_front : (names xs ys : List (List ℕ)) → ((name : List ℕ) → Among name names → Among name xs) → map (λ name. index_in name (xs ++ ys)) names ≡ map (λ name. index_in name xs) names
 places_front [] xs ys there = refl
 places_front (n ∷ names) xs ys there = λ i. place_front n xs ys (there n (inl refl)) i ∷ places_front names xs ys (λ name m. there name (inr m)) i
 
-places_back : (names xs ys : List (List ℕ)) → ((name : List ℕ) → Among name names → Among name xs → ⊥) → map (λ name. place_of name (xs ++ ys)) names ≡ map (λ k. length xs + k) (map (λ name. place_of name ys) names)
+places_back : (names xs ys : List (List ℕ)) → ((name : List ℕ) → Among name names → Among name xs → ⊥) → map (λ name. index_in name (xs ++ ys)) names ≡ map (λ k. length xs + k) (map (λ name. index_in name ys) names)
 places_back [] xs ys absent = refl
 places_back (n ∷ names) xs ys absent = λ i. place_back n xs ys (absent n (inl refl)) i ∷ places_back names xs ys (λ name m. absent name (inr m)) i
 
 owners_joined : (first second : List (List ℕ)) → Parted first second → owners (first ++ second) ≡ owners first ++ map (λ k. length (roster first) + k) (owners second)
 owners_joined first second apart =
-    ap (λ r. map (λ name. place_of name r) (first ++ second)) (roster_joined first second apart)
-    ∙ map-append (λ name. place_of name (roster first ++ roster second)) first second
-    ∙ ap (λ l. l ++ map (λ name. place_of name (roster first ++ roster second)) second) (places_front first (roster first) (roster second) (λ name m. among_roster name first m))
+    ap (λ r. map (λ name. index_in name r) (first ++ second)) (roster_joined first second apart)
+    ∙ map-append (λ name. index_in name (roster first ++ roster second)) first second
+    ∙ ap (λ l. l ++ map (λ name. index_in name (roster first ++ roster second)) second) (places_front first (roster first) (roster second) (λ name m. among_roster name first m))
     ∙ ap (λ l. owners first ++ l) (places_back second (roster first) (roster second) (λ name m r. apart name (roster_among name first r) m))
 
 -- a source whose owner stands so many places further
@@ -107,7 +107,7 @@ zip_after senders (o ∷ os) (s ∷ states) = ap (λ l. (senders + o, s) ∷ l) 
 pub owned_joined : (first second : List (List ℕ)) (states more : List Stated) → Parted first second → length states ≡ length first
     → parts_by_owner (first ++ second) (states ++ more) ≡ parts_by_owner first states ++ map (part_after (length (roster first))) (parts_by_owner second more)
 owned_joined first second states more apart stated =
-    let long : length states ≡ length (owners first) = stated ∙ sym (length-map first (λ name. place_of name (roster first))) in
+    let long : length states ≡ length (owners first) = stated ∙ sym (length-map first (λ name. index_in name (roster first))) in
     ap (λ os. zip os (states ++ more)) (owners_joined first second apart)
     ∙ zip_append (owners first) (map (λ k. length (roster first) + k) (owners second)) states more long
     ∙ ap (λ l. parts_by_owner first states ++ l) (zip_after (length (roster first)) (owners second) more)

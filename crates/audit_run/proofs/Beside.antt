@@ -4,7 +4,7 @@ use Rattle.std.proofs.lemmas.List.{append-nil}
 use Rattle.std.proofs.lemmas.List.Concat.{flat_map-append}
 use Rattle.std.proofs.lemmas.Option.{same_Some}
 use Rattle.audit_collect.proofs.HeldLaw.{self_tested, tested}
-use Rattle.audit_run.specs.Asked.{asked_of, counts_in, counts_of, has_number, values_of_sender, requests_in}
+use Rattle.audit_run.specs.Asked.{asked_of, counts_in, counts_of, has_number, values_of_sender, requests_of}
 use Rattle.audit_run.specs.Outcome.{AreWhole, IsWholeSender}
 use Rattle.audit_run.specs.Parts.{Stated}
 use Rattle.audit_run.proofs.Apart.{part_after}
@@ -29,16 +29,16 @@ at_back (x ∷ xs) ys i = let e : suc (length xs) + i ≡ suc (length xs + i) = 
 
 -- the second list has it, so many places before
 pub record Later {X : Type 0} (xs ys : List X) (i : ℕ) (x : X) : Type 0 where
-  pub place : ℕ
-  pub is : i ≡ length xs + place
-  pub there : slice_get ys place ≡ Some x
+  pub index : ℕ
+  pub is : i ≡ length xs + index
+  pub there : slice_get ys index ≡ Some x
 
 pub at_cases : {X : Type 0} (xs ys : List X) (i : ℕ) (x : X) → slice_get (xs ++ ys) i ≡ Some x → (slice_get xs i ≡ Some x) ⊎ Later xs ys i x
-at_cases [] ys i x there = inr (record { place = i; is = omega arith; there = there })
+at_cases [] ys i x there = inr (record { index = i; is = omega arith; there = there })
 at_cases (z ∷ xs) ys zero x there = inl there
 at_cases (z ∷ xs) ys (suc i) x there = elim (at_cases xs ys i x there) [
   | inl front ↦ inl front
-  | inr back ↦ inr (record { place = back.place; is = let at = back.is in omega (arith, at); there = back.there })
+  | inr back ↦ inr (record { index = back.index; is = let at = back.is in omega (arith, at); there = back.there })
 ]
 
 -- what a mapped list has is made of what the list has
@@ -70,13 +70,13 @@ test_after n a k = by (a == k) refl
 
 -- a sender is of the first list, or of the second
 pub record IsAfter (senders sender : ℕ) : Type 0 where
-  pub place : ℕ
-  pub is : sender ≡ senders + place
+  pub index : ℕ
+  pub is : sender ≡ senders + index
 
 pub before_or_after : (senders sender : ℕ) → (sender < senders) ⊎ IsAfter senders sender
 before_or_after senders sender = elim (within_or_past sender senders) [
   | inl before ↦ inl before
-  | inr past ↦ inr (record { place = sender - senders; is = omega (arith, past) })
+  | inr past ↦ inr (record { index = sender - senders; is = omega (arith, past) })
 ]
 
 module _ {X : Type 0} (f : Stated → List X) (senders : ℕ) where
@@ -120,20 +120,20 @@ module _ (senders others : ℕ) (parts more : List (ℕ × Stated)) (parts_by_ow
   -- all senders of both lists are whole where those of each are
   pub whole_joined : AreWhole senders parts → AreWhole others more → AreWhole (senders + others) (both senders parts more)
   whole_joined whole also sender within = elim (before_or_after senders sender) [
-    | inl before ↦ whole_same sender sender (both senders parts more) parts (of_front requests_in senders sender parts more before) (of_front counts_in senders sender parts more before) (whole sender before)
+    | inl before ↦ whole_same sender sender (both senders parts more) parts (of_front requests_of senders sender parts more before) (of_front counts_in senders sender parts more before) (whole sender before)
     | inr after ↦
         let at = after.is in
         subst (λ s. IsWholeSender s (both senders parts more)) (sym at)
-        (whole_same (senders + after.place) after.place (both senders parts more) more (of_back requests_in senders after.place parts more parts_by_owner) (of_back counts_in senders after.place parts more parts_by_owner)
-        (also after.place (omega (arith, at, within))))
+        (whole_same (senders + after.index) after.index (both senders parts more) more (of_back requests_of senders after.index parts more parts_by_owner) (of_back counts_in senders after.index parts more parts_by_owner)
+        (also after.index (omega (arith, at, within))))
   ]
 
   pub whole_first : AreWhole (senders + others) (both senders parts more) → AreWhole senders parts
   whole_first whole sender before =
-      whole_same sender sender parts (both senders parts more) (sym (of_front requests_in senders sender parts more before)) (sym (of_front counts_in senders sender parts more before))
+      whole_same sender sender parts (both senders parts more) (sym (of_front requests_of senders sender parts more before)) (sym (of_front counts_in senders sender parts more before))
       (whole sender (omega (arith, before)))
 
   pub whole_second : AreWhole (senders + others) (both senders parts more) → AreWhole others more
   whole_second whole sender within =
-      whole_same sender (senders + sender) more (both senders parts more) (sym (of_back requests_in senders sender parts more parts_by_owner)) (sym (of_back counts_in senders sender parts more parts_by_owner))
+      whole_same sender (senders + sender) more (both senders parts more) (sym (of_back requests_of senders sender parts more parts_by_owner)) (sym (of_back counts_in senders sender parts more parts_by_owner))
       (whole (senders + sender) (omega (arith, within)))

@@ -51,11 +51,11 @@ roster_apart : (names : List (List ℕ)) → Apart (roster names)
 roster_apart [] = tt
 roster_apart (n ∷ ns) = (without_apart n (roster ns), without_keeps n (roster ns) (roster_apart ns))
 
-no_repeat : (names : List (List ℕ)) → Apart names → (place earlier : ℕ) (name : List ℕ) → earlier < place → slice_get names place ≡ Some name → slice_get names earlier ≡ Some name → ⊥
-no_repeat [] apart place earlier name before there same = none_is_some name there
+no_repeat : (names : List (List ℕ)) → Apart names → (index earlier : ℕ) (name : List ℕ) → earlier < index → slice_get names index ≡ Some name → slice_get names earlier ≡ Some name → ⊥
+no_repeat [] apart index earlier name before there same = none_is_some name there
 no_repeat (n ∷ ns) apart zero earlier name before there same = absurd (omega (arith, before))
-no_repeat (n ∷ ns) apart (suc place) zero name before there same = apart.0 place name there (some_is n name same)
-no_repeat (n ∷ ns) apart (suc place) (suc earlier) name before there same = no_repeat ns apart.1 place earlier name (omega (arith, before)) there same
+no_repeat (n ∷ ns) apart (suc index) zero name before there same = apart.0 index name there (some_is n name same)
+no_repeat (n ∷ ns) apart (suc index) (suc earlier) name before there same = no_repeat ns apart.1 index earlier name (omega (arith, before)) there same
 
 pub roster_distinct : (names : List (List ℕ)) → AreDistinct (roster names)
 roster_distinct names = λ i name below repeats. no_repeat (roster names) (roster_apart names) i repeats.earlier name repeats.before repeats.there repeats.same

@@ -12,7 +12,7 @@ use Rattle.audit_run.specs.Names.{answer}
 use Rattle.audit_run.specs.Passes.{PassView, with_job_taken, with_outcome_put, with_job_put}
 use Rattle.audit_run.specs.Body.FreshPasses.{with_messages}
 use Rattle.audit_run.specs.Arrivals.{arrivals_of}
-use Rattle.audit_run.specs.Body.Gathered.{state_after, is_end, is_stopped, IsOutOfMemory, Counts, Gathers, Conducts, HasGatheredAll, Drains}
+use Rattle.audit_run.specs.Body.Gathered.{collector_after, is_last_outcome, is_stopped, RanOutOfMemory, Counts, Gathers, Conducts, HasGatheredAll, Drains}
 
 pub gaining_none : (p : PassView) → with_messages p [] [] [] [] ≡ p
 gaining_none p = λ i. record p { jobs_put = append-nil p.jobs_put i; jobs_taken = append-nil p.jobs_taken i; outcomes_put = append-nil p.outcomes_put i; outcomes_taken = append-nil p.outcomes_taken i }
@@ -32,12 +32,12 @@ gathers_none g = record { stuck = λ h. h; same = inr (λ rest. refl) }
 pub gathers_more : (g h k : Gathering) (xs ys : List Outcome) → Gathers g xs h → Gathers h ys k → Gathers g (xs ++ ys) k
 gathers_more g h k xs ys one two = record {
   stuck = λ m. two.stuck (one.stuck m);
-  same = ⊎_elim (λ (m : IsOutOfMemory k). inl m)
-      (λ (t : (rest : List Arrival) → state_after h.collector h.refused (arrivals_of ys ++ rest) ≡ state_after k.collector k.refused rest).
-      ⊎_elim (λ (m : IsOutOfMemory h). inl (two.stuck m))
-      (λ (o : (rest : List Arrival) → state_after g.collector g.refused (arrivals_of xs ++ rest) ≡ state_after h.collector h.refused rest).
-      inr (λ rest. ap (λ l. state_after g.collector g.refused (l ++ rest)) (arrivals_of-append xs ys)
-      ∙ (ap (state_after g.collector g.refused) (append_assoc (arrivals_of xs) (arrivals_of ys) rest) ∙ (o (arrivals_of ys ++ rest) ∙ t rest))))
+  same = ⊎_elim (λ (m : RanOutOfMemory k). inl m)
+      (λ (t : (rest : List Arrival) → collector_after h.collector h.refused (arrivals_of ys ++ rest) ≡ collector_after k.collector k.refused rest).
+      ⊎_elim (λ (m : RanOutOfMemory h). inl (two.stuck m))
+      (λ (o : (rest : List Arrival) → collector_after g.collector g.refused (arrivals_of xs ++ rest) ≡ collector_after h.collector h.refused rest).
+      inr (λ rest. ap (λ l. collector_after g.collector g.refused (l ++ rest)) (arrivals_of-append xs ys)
+      ∙ (ap (collector_after g.collector g.refused) (append_assoc (arrivals_of xs) (arrivals_of ys) rest) ∙ (o (arrivals_of ys ++ rest) ∙ t rest))))
       one.same)
       two.same;
 }
@@ -47,7 +47,7 @@ counts_none g = record { sources = omega arith; workers = omega arith }
 
 pub counts_more : (g h k : Gathering) (xs ys : List Outcome) → Counts g xs h → Counts h ys k → Counts g (xs ++ ys) k
 counts_more g h k xs ys one two = record {
-  sources = omega (arith, count_by-append is_end xs ys, one.sources, two.sources);
+  sources = omega (arith, count_by-append is_last_outcome xs ys, one.sources, two.sources);
   workers = omega (arith, count_by-append is_stopped xs ys, one.workers, two.workers);
 }
 

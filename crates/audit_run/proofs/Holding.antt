@@ -117,17 +117,17 @@ module _ (names : Names) (roster : List (List ℕ)) (workers : ℕ) (parts : Lis
   pub lacking : (what : Unfinished) → IsFirstMissing held what → Lack (length roster) parts what
   lacking what first = by what first.misses
     where
-      within : first.place < length roster
-      within = let inside = slice_get_within held first.place first.sender first.there in omega (arith, inside, long)
+      within : first.index < length roster
+      within = let inside = slice_get_within held first.index first.sender first.there in omega (arith, inside, long)
 
-      by : (what : Unfinished) → IsMissing first.place first.sender what → Lack (length roster) parts what
+      by : (what : Unfinished) → IsMissing first.index first.sender what → Lack (length roster) parts what
       by (Open s) misses = (
         subst (λ n. n < length roster) (sym misses.0) within,
-        subst (λ n. counts_of n parts ≡ []) (sym misses.0) (open_has_none first.place first.sender first.there misses.1),
+        subst (λ n. counts_of n parts ≡ []) (sym misses.0) (open_has_none first.index first.sender first.there misses.1),
       )
       by (Gap s n) misses = (
         subst (λ m. m < length roster) (sym misses.0) within,
-        subst (λ m. IsGap m n parts) (sym misses.0) (gap_of first.place first.sender first.there n misses.1),
+        subst (λ m. IsGap m n parts) (sym misses.0) (gap_of first.index first.sender first.there n misses.1),
       )
 
   -- where all are finished, the sources are whole

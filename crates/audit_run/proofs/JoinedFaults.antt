@@ -11,7 +11,7 @@ use Rattle.audit_collect.specs.declared.fault.Unfinished.{Unfinished}
 use Rattle.audit_collect.specs.declared.fault.Unfinished.TheVariants.{Open, Gap}
 use Rattle.audit_collect.proofs.Members.{count_by-append}
 use Rattle.audit_files.specs.declared.fault.FileFault.{FileFault}
-use Rattle.audit_run.specs.Asked.{asked_of, counts_in, counts_of, has_number, values_of_sender, requests_in}
+use Rattle.audit_run.specs.Asked.{asked_of, counts_in, counts_of, has_number, values_of_sender, requests_of}
 use Rattle.audit_run.specs.IsAuditResult.{NoneRefused}
 use Rattle.audit_run.specs.Outcome.{AskInTwo, Asks, HaveRefused, IsGap, IsPast, Lack}
 use Rattle.audit_run.specs.Parts.{Stated}
@@ -22,16 +22,16 @@ use Rattle.audit_run.proofs.Refusing.{IsOwned}
 
 -- no source of both is refused where none of either is
 pub none_joined : (faults more : List (Option FileFault)) → NoneRefused faults → NoneRefused more → NoneRefused (faults ++ more)
-none_joined faults more none also place fault there = elim (at_cases faults more place (Some fault) there) [
-  | inl front ↦ none place fault front
-  | inr back ↦ also back.place fault back.there
+none_joined faults more none also index fault there = elim (at_cases faults more index (Some fault) there) [
+  | inl front ↦ none index fault front
+  | inr back ↦ also back.index fault back.there
 ]
 
 pub none_first : (faults more : List (Option FileFault)) → NoneRefused (faults ++ more) → NoneRefused faults
-none_first faults more none place fault there = none place fault (at_front faults more place (Some fault) there)
+none_first faults more none index fault there = none index fault (at_front faults more index (Some fault) there)
 
 pub none_second : (faults more : List (Option FileFault)) → NoneRefused (faults ++ more) → NoneRefused more
-none_second faults more none place fault there = none (length faults + place) fault (at_back faults more place ∙ there)
+none_second faults more none index fault there = none (length faults + index) fault (at_back faults more index ∙ there)
 
 all_at : {X : Type 0} (P : X → Type 0) (xs : List X) (i : ℕ) (x : X) → All P xs → slice_get xs i ≡ Some x → P x
 all_at P [] i x all there = absurd (cc)
@@ -75,7 +75,7 @@ refused_first parts more (refused.ClosedTwice s) h =
     omega (arith, sum, h)
 refused_first parts more (refused.PastClose s n) h = record {
   asked =
-      let sum = ap (count_by (has_number n)) (flat_map-append (values_of_sender s requests_in) parts more) ∙ count_by-append (has_number n) (asked_of s parts) (asked_of s more) in
+      let sum = ap (count_by (has_number n)) (flat_map-append (values_of_sender s requests_of) parts more) ∙ count_by-append (has_number n) (asked_of s parts) (asked_of s more) in
       let some = h.asked in
       omega (arith, sum, some);
   count = h.count;
@@ -99,10 +99,10 @@ pub record LackAfter (senders others : ℕ) (more : List (ℕ × Stated)) (what 
 
 -- the source is one of the second list
 record PartAfter (senders : ℕ) (parts more : List (ℕ × Stated)) (i : ℕ) (part : ℕ × Stated) : Type 0 where
-  pub place : ℕ
-  pub at : i ≡ length parts + place
+  pub index : ℕ
+  pub at : i ≡ length parts + index
   pub own : ℕ × Stated
-  pub there : slice_get more place ≡ Some own
+  pub there : slice_get more index ≡ Some own
   pub is : part_after senders own ≡ part
 
 module _ (senders : ℕ) (parts more : List (ℕ × Stated)) (parts_by_owner : All (IsOwned senders) parts) where
@@ -112,7 +112,7 @@ module _ (senders : ℕ) (parts more : List (ℕ × Stated)) (parts_by_owner : A
   asks_before : (s n : ℕ) (part part2 : ℕ × Stated) → part_after senders part ≡ part2 → Asks (senders + s) n part2 → Asks s n part
   asks_before s n part part2 same asks =
       let of : senders + part.0 ≡ senders + s = ap (λ (p : ℕ × Stated). p.0) same ∙ asks.of in
-      record { of = omega (arith, of); asks = subst (λ (p : ℕ × Stated). 1 ≤ count_by (has_number n) (requests_in p.1)) (sym same) asks.asks }
+      record { of = omega (arith, of); asks = subst (λ (p : ℕ × Stated). 1 ≤ count_by (has_number n) (requests_of p.1)) (sym same) asks.asks }
 
   -- what the second list has, both have
   pub refused_second : (why : Refused) → HaveRefused more why → HaveRefused (both senders parts more) (refused_after senders why)
@@ -128,7 +128,7 @@ module _ (senders : ℕ) (parts more : List (ℕ × Stated)) (parts_by_owner : A
     second_asks = asks_after s n h.second_part h.second_asks;
   }
   refused_second (refused.ClosedTwice s) h = subst (λ l. 2 ≤ length l) (sym (of_back counts_in senders s parts more parts_by_owner)) h
-  refused_second (refused.PastClose s n) h = past_same (senders + s) s n (both senders parts more) more (of_back requests_in senders s parts more parts_by_owner) (of_back counts_in senders s parts more parts_by_owner) h
+  refused_second (refused.PastClose s n) h = past_same (senders + s) s n (both senders parts more) more (of_back requests_of senders s parts more parts_by_owner) (of_back counts_in senders s parts more parts_by_owner) h
   refused_second (refused.Stranger s) h = h
   refused_second (refused.ZeroNumber s) h = h
   refused_second refused.Memory h = h
@@ -138,17 +138,17 @@ module _ (senders : ℕ) (parts more : List (ℕ × Stated)) (parts_by_owner : A
   part_first s i part before of there = elim (at_cases parts (map (part_after senders) more) i part there) [
     | inl front ↦ front
     | inr back ↦
-        let made = made_of (part_after senders) more back.place part back.there in
-        let place : senders + made.item.0 ≡ s = ap (λ (p : ℕ × Stated). p.0) made.is ∙ of in
-        absurd (omega (arith, place, before))
+        let made = made_of (part_after senders) more back.index part back.there in
+        let index : senders + made.item.0 ≡ s = ap (λ (p : ℕ × Stated). p.0) made.is ∙ of in
+        absurd (omega (arith, index, before))
   ]
 
   part_second : (s i : ℕ) (part : ℕ × Stated) → part.0 ≡ senders + s → slice_get (both senders parts more) i ≡ Some part → PartAfter senders parts more i part
   part_second s i part of there = elim (at_cases parts (map (part_after senders) more) i part there) [
     | inl front ↦ let within = all_at (IsOwned senders) parts i part parts_by_owner front in absurd (omega (arith, within, of))
     | inr back ↦
-        let made = made_of (part_after senders) more back.place part back.there in
-        record { place = back.place; at = back.is; own = made.item; there = made.there; is = made.is }
+        let made = made_of (part_after senders) more back.index part back.there in
+        record { index = back.index; at = back.is; own = made.item; there = made.there; is = made.is }
   ]
 
   two_second : (s n : ℕ) → AskInTwo (senders + s) n (both senders parts more) → AskInTwo s n more
@@ -156,8 +156,8 @@ module _ (senders : ℕ) (parts more : List (ℕ × Stated)) (parts_by_owner : A
       let one = part_second s h.first h.first_part h.first_asks.of h.first_there in
       let two = part_second s h.second h.second_part h.second_asks.of h.second_there in
       record {
-        first = one.place;
-        second = two.place;
+        first = one.index;
+        second = two.index;
         apart = let less = h.apart in let at = one.at in let later = two.at in omega (arith, less, at, later);
         first_part = one.own;
         second_part = two.own;
@@ -182,25 +182,25 @@ module _ (senders : ℕ) (parts more : List (ℕ × Stated)) (parts_by_owner : A
       second_asks = h.second_asks;
     })
     | inr after ↦ inr (record {
-      own = refused.Double after.place n;
-      have = two_second after.place n (subst (λ t. AskInTwo t n (both senders parts more)) after.is h);
+      own = refused.Double after.index n;
+      have = two_second after.index n (subst (λ t. AskInTwo t n (both senders parts more)) after.is h);
       is = ap (λ t. refused.Double t n) after.is;
     })
   ]
   refused_either (refused.ClosedTwice s) h = elim (before_or_after senders s) [
     | inl before ↦ inl (subst (λ l. 2 ≤ length l) (of_front counts_in senders s parts more before) h)
     | inr after ↦ inr (record {
-      own = refused.ClosedTwice after.place;
-      have = subst (λ l. 2 ≤ length l) (of_back counts_in senders after.place parts more parts_by_owner) (subst (λ t. 2 ≤ length (counts_of t (both senders parts more))) after.is h);
+      own = refused.ClosedTwice after.index;
+      have = subst (λ l. 2 ≤ length l) (of_back counts_in senders after.index parts more parts_by_owner) (subst (λ t. 2 ≤ length (counts_of t (both senders parts more))) after.is h);
       is = ap (λ t. refused.ClosedTwice t) after.is;
     })
   ]
   refused_either (refused.PastClose s n) h = elim (before_or_after senders s) [
-    | inl before ↦ inl (past_same s s n parts (both senders parts more) (sym (of_front requests_in senders s parts more before)) (sym (of_front counts_in senders s parts more before)) h)
+    | inl before ↦ inl (past_same s s n parts (both senders parts more) (sym (of_front requests_of senders s parts more before)) (sym (of_front counts_in senders s parts more before)) h)
     | inr after ↦ inr (record {
-      own = refused.PastClose after.place n;
+      own = refused.PastClose after.index n;
       have =
-          past_same after.place (senders + after.place) n more (both senders parts more) (sym (of_back requests_in senders after.place parts more parts_by_owner)) (sym (of_back counts_in senders after.place parts more parts_by_owner))
+          past_same after.index (senders + after.index) n more (both senders parts more) (sym (of_back requests_of senders after.index parts more parts_by_owner)) (sym (of_back counts_in senders after.index parts more parts_by_owner))
           (subst (λ t. IsPast t n (both senders parts more)) after.is h);
       is = ap (λ t. refused.PastClose t n) after.is;
     })
@@ -214,35 +214,35 @@ module _ (senders : ℕ) (parts more : List (ℕ × Stated)) (parts_by_owner : A
     lack_first (Open s) h = (let within = h.0 in omega (arith, within), of_front counts_in senders s parts more h.0 ∙ h.1)
     lack_first (Gap s n) h = (
       let within = h.0 in omega (arith, within),
-      gap_same s s n (both senders parts more) parts (of_front requests_in senders s parts more h.0) (of_front counts_in senders s parts more h.0) h.1,
+      gap_same s s n (both senders parts more) parts (of_front requests_of senders s parts more h.0) (of_front counts_in senders s parts more h.0) h.1,
     )
 
     pub lack_second : (what : Unfinished) → Lack others more what → Lack (senders + others) (both senders parts more) (unfinished_after senders what)
     lack_second (Open s) h = (let within = h.0 in omega (arith, within), of_back counts_in senders s parts more parts_by_owner ∙ h.1)
     lack_second (Gap s n) h = (
       let within = h.0 in omega (arith, within),
-      gap_same (senders + s) s n (both senders parts more) more (of_back requests_in senders s parts more parts_by_owner) (of_back counts_in senders s parts more parts_by_owner) h.1,
+      gap_same (senders + s) s n (both senders parts more) more (of_back requests_of senders s parts more parts_by_owner) (of_back counts_in senders s parts more parts_by_owner) h.1,
     )
 
     pub lack_either : (what : Unfinished) → Lack (senders + others) (both senders parts more) what → Lack senders parts what ⊎ LackAfter senders others more what
     lack_either (Open s) h = elim (before_or_after senders s) [
       | inl before ↦ inl (before, sym (of_front counts_in senders s parts more before) ∙ h.1)
       | inr after ↦ inr (record {
-        own = Open after.place;
+        own = Open after.index;
         lack = (
           let within = h.0 in let at = after.is in omega (arith, within, at),
-          sym (of_back counts_in senders after.place parts more parts_by_owner) ∙ sym (ap (λ t. counts_of t (both senders parts more)) after.is) ∙ h.1,
+          sym (of_back counts_in senders after.index parts more parts_by_owner) ∙ sym (ap (λ t. counts_of t (both senders parts more)) after.is) ∙ h.1,
         );
         is = ap (λ t. Open t) after.is;
       })
     ]
     lack_either (Gap s n) h = elim (before_or_after senders s) [
-      | inl before ↦ inl (before, gap_same s s n parts (both senders parts more) (sym (of_front requests_in senders s parts more before)) (sym (of_front counts_in senders s parts more before)) h.1)
+      | inl before ↦ inl (before, gap_same s s n parts (both senders parts more) (sym (of_front requests_of senders s parts more before)) (sym (of_front counts_in senders s parts more before)) h.1)
       | inr after ↦ inr (record {
-        own = Gap after.place n;
+        own = Gap after.index n;
         lack = (
           let within = h.0 in let at = after.is in omega (arith, within, at),
-          gap_same after.place (senders + after.place) n more (both senders parts more) (sym (of_back requests_in senders after.place parts more parts_by_owner)) (sym (of_back counts_in senders after.place parts more parts_by_owner))
+          gap_same after.index (senders + after.index) n more (both senders parts more) (sym (of_back requests_of senders after.index parts more parts_by_owner)) (sym (of_back counts_in senders after.index parts more parts_by_owner))
               (subst (λ t. IsGap t n (both senders parts more)) after.is h.1),
         );
         is = ap (λ t. Gap t n) after.is;

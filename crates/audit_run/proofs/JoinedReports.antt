@@ -10,7 +10,7 @@ use Rattle.audit_collect.specs.declared.report.SenderReport.{SenderReport}
 use Rattle.audit_files.specs.Report.{answer_fields, header, line, report_text, sender_text}
 use Rattle.audit_run.specs.declared.message.Names.{Names}
 use Rattle.audit_run.specs.Names.{answer_to}
-use Rattle.audit_run.specs.Asked.{asked_of, counts_in, counts_of, requests_in}
+use Rattle.audit_run.specs.Asked.{asked_of, counts_in, counts_of, requests_of}
 use Rattle.audit_run.specs.Outcome.{IsReport, IsRow}
 use Rattle.audit_run.specs.Parts.{Stated}
 use Rattle.audit_run.specs.Shards.{answer_after, joined_report, row_after}
@@ -21,8 +21,8 @@ use Rattle.audit_run.proofs.Refusing.{IsOwned}
 row_same : (names : Names) (roster roster2 : List (List ℕ)) (parts parts2 : List (ℕ × Stated)) (s : ℕ) (row : SenderReport)
     → slice_get roster2 s ≡ slice_get roster s → counts_of s parts2 ≡ counts_of s parts → asked_of s parts ≡ asked_of s parts2
     → IsRow names roster parts s row → IsRow names roster2 parts2 s row
-row_same names roster roster2 parts parts2 s row place counts asked is = record {
-  name = place ∙ is.name;
+row_same names roster roster2 parts parts2 s row index counts asked is = record {
+  name = index ∙ is.name;
   closed = counts ∙ is.closed;
   answers = λ i answer there.
       let (request, has, number, answers) = is.answers i answer there in
@@ -40,12 +40,12 @@ module _ (names : Names) (first second : List (List ℕ)) (parts more : List (�
   row_front : (s : ℕ) (row : SenderReport) → s < length first → IsRow names first parts s row → IsRow names (first ++ second) (both (length first) parts more) s row
   row_front s row before is =
       row_same names first (first ++ second) parts (both (length first) parts more) s row (at_within first second s before)
-      (of_front counts_in (length first) s parts more before) (sym (of_front requests_in (length first) s parts more before)) is
+      (of_front counts_in (length first) s parts more before) (sym (of_front requests_of (length first) s parts more before)) is
 
   row_of_front : (s : ℕ) (row : SenderReport) → s < length first → IsRow names (first ++ second) (both (length first) parts more) s row → IsRow names first parts s row
   row_of_front s row before is =
       row_same names (first ++ second) first (both (length first) parts more) parts s row (sym (at_within first second s before))
-      (sym (of_front counts_in (length first) s parts more before)) (of_front requests_in (length first) s parts more before) is
+      (sym (of_front counts_in (length first) s parts more before)) (of_front requests_of (length first) s parts more before) is
 
   row_back : (s : ℕ) (row : SenderReport) → IsRow names second more s row → IsRow names (first ++ second) (both (length first) parts more) (length first + s) (row_after (length first) row)
   row_back s row is = record {
@@ -55,7 +55,7 @@ module _ (names : Names) (first second : List (List ℕ)) (parts more : List (�
         let made = made_of (answer_after (length first)) row.answers i answer there in
         let (request, has, number, answers) = is.answers i made.item made.there in (
           request,
-          subst (λ l. Contains l request) (sym (of_back requests_in (length first) s parts more parts_by_owner)) has,
+          subst (λ l. Contains l request) (sym (of_back requests_of (length first) s parts more parts_by_owner)) has,
           number,
           sym made.is ∙ ap (answer_after (length first)) answers,
         );
@@ -68,11 +68,11 @@ module _ (names : Names) (first second : List (List ℕ)) (parts more : List (�
     answers = λ i answer there.
         let made = made_of (answer_before (length first)) row.answers i answer there in
         let (request, has, number, answers) = is.answers i made.item made.there in
-        let place : (length first + s) - length first ≡ s = omega arith in (
+        let index : (length first + s) - length first ≡ s = omega arith in (
           request,
-          subst (λ l. Contains l request) (of_back requests_in (length first) s parts more parts_by_owner) has,
+          subst (λ l. Contains l request) (of_back requests_of (length first) s parts more parts_by_owner) has,
           number,
-          sym made.is ∙ ap (answer_before (length first)) answers ∙ ap (λ t. answer_to names t request) place,
+          sym made.is ∙ ap (answer_before (length first)) answers ∙ ap (λ t. answer_to names t request) index,
         );
   }
 
@@ -93,13 +93,13 @@ module _ (names : Names) (first second : List (List ℕ)) (parts more : List (�
           let few = is.one_each in
           row_front s row (omega (arith, within, few)) (is.rows s row front)
       | inr back ↦
-          let made = made_of (row_after senders) other.senders back.place row back.there in
+          let made = made_of (row_after senders) other.senders back.index row back.there in
           let at = back.is in
           let few = is.one_each in
-          let place : s ≡ length first + back.place = omega (arith, at, few) in
-          subst (λ t. IsRow names (first ++ second) (both (length first) parts more) t row) (sym place)
-          (subst (IsRow names (first ++ second) (both (length first) parts more) (length first + back.place)) (ap (λ n. row_after n made.item) (sym same) ∙ made.is)
-          (row_back back.place made.item (also.rows back.place made.item made.there)))
+          let index : s ≡ length first + back.index = omega (arith, at, few) in
+          subst (λ t. IsRow names (first ++ second) (both (length first) parts more) t row) (sym index)
+          (subst (IsRow names (first ++ second) (both (length first) parts more) (length first + back.index)) (ap (λ n. row_after n made.item) (sym same) ∙ made.is)
+          (row_back back.index made.item (also.rows back.index made.item made.there)))
     ];
   }
 
@@ -130,7 +130,7 @@ module _ (names : Names) (first second : List (List ℕ)) (parts more : List (�
         (row_of_back s made.item (is.rows (length first + s) made.item (ap (λ n. slice_get (rows ++ later) (n + s)) (sym long) ∙ at_back rows later s ∙ made.there)));
   }
 
--- the text has no sender's place
+-- the text has no sender's index
 answers_text : (files : List (List ℕ)) (name : List ℕ) (senders : ℕ) (answers : List Answer)
     → flat_map (λ a. line (answer_fields files name a)) (map (answer_after senders) answers) ≡ flat_map (λ a. line (answer_fields files name a)) answers
 answers_text files name senders [] = refl

@@ -30,78 +30,78 @@ take_back [] ys k = let e : 0 + k ≡ k = omega arith in ap (λ n. take n ys) e
 take_back (x ∷ xs) ys k = let e : suc (length xs) + k ≡ suc (length xs + k) = omega arith in ap (λ n. take n (x ∷ (xs ++ ys))) e ∙ ap (λ l. x ∷ l) (take_back xs ys k)
 
 -- the number of a source among those of its name
-part_first : (first second : List (List ℕ)) (place : ℕ) (name : List ℕ) → place ≤ length first → part_at (first ++ second) place name ≡ part_at first place name
-part_first first second place name within = ap (λ l. 1 + count_by (λ other. bytes_eq other name) l) (take-append-le place first second within)
+part_first : (first second : List (List ℕ)) (index : ℕ) (name : List ℕ) → index ≤ length first → part_at (first ++ second) index name ≡ part_at first index name
+part_first first second index name within = ap (λ l. 1 + count_by (λ other. bytes_eq other name) l) (take-append-le index first second within)
 
-part_second : (first second : List (List ℕ)) (place : ℕ) (name : List ℕ) → (Among name first → ⊥) → part_at (first ++ second) (length first + place) name ≡ part_at second place name
-part_second first second place name absent =
-    let whole = ap (count_by (λ other. bytes_eq other name)) (take_back first second place) in
-    let sum = count_by-append (λ other. bytes_eq other name) first (take place second) in
+part_second : (first second : List (List ℕ)) (index : ℕ) (name : List ℕ) → (Among name first → ⊥) → part_at (first ++ second) (length first + index) name ≡ part_at second index name
+part_second first second index name absent =
+    let whole = ap (count_by (λ other. bytes_eq other name)) (take_back first second index) in
+    let sum = count_by-append (λ other. bytes_eq other name) first (take index second) in
     let none = none_named name first absent in
     omega (arith, whole, sum, none)
 
--- a list in which no source is refused has none at each place
+-- a list in which no source is refused has none at each index
 none_at : (faults : List (Option FileFault)) (i : ℕ) → NoneRefused faults → i < length faults → slice_get faults i ≡ Some None
 none_at [] i none within = absurd (omega (arith, within))
 none_at (None ∷ faults) zero none within = refl
 none_at (Some fault ∷ faults) zero none within = absurd (none 0 fault refl)
-none_at (f ∷ faults) (suc i) none within = none_at faults i (λ place fault there. none (suc place) fault there) (omega (arith, within))
+none_at (f ∷ faults) (suc i) none within = none_at faults i (λ index fault there. none (suc index) fault there) (omega (arith, within))
 
 module _ (first second : List (List ℕ)) (faults more : List (Option FileFault)) (apart : Parted first second) (long : length faults ≡ length first) (name : List ℕ) (part : ℕ) (fault : FileFault) where
   pub source_first : IsRefusedSource first faults name part fault → IsRefusedSource (first ++ second) (faults ++ more) name part fault
   source_first h =
-      let (place, is, of_file, named, part_is) = h in
-      let within = slice_get_within first place name named in (
-        place,
-        record { there = at_front faults more place (Some fault) is.there; earlier = λ i less. at_front faults more i None (is.earlier i less) },
+      let (index, is, of_file, named, part_is) = h in
+      let within = slice_get_within first index name named in (
+        index,
+        record { there = at_front faults more index (Some fault) is.there; earlier = λ i less. at_front faults more i None (is.earlier i less) },
         of_file,
-        at_front first second place name named,
-        part_is ∙ sym (part_first first second place name (omega (arith, within))),
+        at_front first second index name named,
+        part_is ∙ sym (part_first first second index name (omega (arith, within))),
       )
 
   pub source_second : NoneRefused faults → IsRefusedSource second more name part fault → IsRefusedSource (first ++ second) (faults ++ more) name part fault
   source_second none h =
-      let (place, is, of_file, named, part_is) = h in (
-        length first + place,
+      let (index, is, of_file, named, part_is) = h in (
+        length first + index,
         record {
-          there = ap (λ n. slice_get (faults ++ more) (n + place)) (sym long) ∙ at_back faults more place ∙ is.there;
+          there = ap (λ n. slice_get (faults ++ more) (n + index)) (sym long) ∙ at_back faults more index ∙ is.there;
           earlier = λ i less. elim (before_or_after (length faults) i) [
             | inl before ↦ at_within faults more i before ∙ none_at faults i none before
             | inr after ↦
                 let at = after.is in
-                ap (slice_get (faults ++ more)) at ∙ at_back faults more after.place ∙ is.earlier after.place (omega (arith, at, less, long))
+                ap (slice_get (faults ++ more)) at ∙ at_back faults more after.index ∙ is.earlier after.index (omega (arith, at, less, long))
           ];
         },
         of_file,
-        at_back first second place ∙ named,
-        part_is ∙ sym (part_second first second place name (λ m. apart name m (among_at second place name named))),
+        at_back first second index ∙ named,
+        part_is ∙ sym (part_second first second index name (λ m. apart name m (among_at second index name named))),
       )
 
   pub source_either : IsRefusedSource (first ++ second) (faults ++ more) name part fault → IsRefusedSource first faults name part fault ⊎ IsRefusedSource second more name part fault
-  source_either h = let (place, is, of_file, named, part_is) = h in elim (before_or_after (length first) place) [
+  source_either h = let (index, is, of_file, named, part_is) = h in elim (before_or_after (length first) index) [
     | inl before ↦
-        let own = sym (at_within first second place before) ∙ named in
+        let own = sym (at_within first second index before) ∙ named in
         inl (
-          place,
+          index,
           record {
-            there = sym (at_within faults more place (omega (arith, before, long))) ∙ is.there;
+            there = sym (at_within faults more index (omega (arith, before, long))) ∙ is.there;
             earlier = λ i less. sym (at_within faults more i (omega (arith, before, long, less))) ∙ is.earlier i less;
           },
           of_file,
           own,
-          part_is ∙ part_first first second place name (omega (arith, before)),
+          part_is ∙ part_first first second index name (omega (arith, before)),
         )
     | inr after ↦
         let at = after.is in
-        let own = sym (at_back first second after.place) ∙ ap (slice_get (first ++ second)) (sym at) ∙ named in
+        let own = sym (at_back first second after.index) ∙ ap (slice_get (first ++ second)) (sym at) ∙ named in
         inr (
-          after.place,
+          after.index,
           record {
-            there = sym (at_back faults more after.place) ∙ (let e : length faults + after.place ≡ place = omega (arith, at, long) in ap (slice_get (faults ++ more)) e) ∙ is.there;
+            there = sym (at_back faults more after.index) ∙ (let e : length faults + after.index ≡ index = omega (arith, at, long) in ap (slice_get (faults ++ more)) e) ∙ is.there;
             earlier = λ i less. sym (at_back faults more i) ∙ is.earlier (length faults + i) (omega (arith, at, less, long));
           },
           of_file,
           own,
-          part_is ∙ ap (λ n. part_at (first ++ second) n name) at ∙ part_second first second after.place name (λ m. apart name m (among_at second after.place name own)),
+          part_is ∙ ap (λ n. part_at (first ++ second) n name) at ∙ part_second first second after.index name (λ m. apart name m (among_at second after.index name own)),
         )
   ]

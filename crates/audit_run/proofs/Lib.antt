@@ -3,6 +3,7 @@ pub mod Counted
 pub mod Twice
 pub mod Refusing
 pub mod Holding
+pub mod Registered
 pub mod Reporting
 pub mod Owned
 pub mod Excluding

@@ -5,14 +5,14 @@ use Rattle.std.proofs.lemmas.List.Elements.{All-cons, All-nil}
 use Rattle.std.proofs.lemmas.Slice.Eq.{bytes_eq-Decides}
 use Rattle.audit_collect.proofs.Members.{Among}
 use Rattle.audit_files.specs.Feeding.{Ahead}
-use Rattle.audit_files.specs.Files.{States, bytes_read, stated_in}
+use Rattle.audit_files.specs.Files.{IsStatedBy, bytes_read, stated_in}
 use Rattle.audit_files.specs.Requests.{AreRising, sent}
 use Rattle.audit_files.specs.declared.fault.FileFault.{FileFault}
 use Rattle.audit_files.specs.declared.requests.Requests.{Requests}
 use Rattle.audit_files.proofs.Rising.{sent_rises}
-use Rattle.audit_run.specs.Asked.{requests_in}
+use Rattle.audit_run.specs.Asked.{requests_of}
 use Rattle.audit_run.specs.Parts.{AreRead, Stated, parts_by_owner}
-use Rattle.audit_run.specs.Roster.{owners, place_of, roster, without}
+use Rattle.audit_run.specs.Roster.{owners, index_in, roster, without}
 use Rattle.audit_run.proofs.Refusing.{IsOwned}
 use Rattle.audit_run.proofs.Twice.{Rises}
 
@@ -21,7 +21,7 @@ read_rises : (bytes : Result (List ℕ) FileFault) (requests : Requests) → sta
 read_rises (Ok text) requests e = sent_rises text requests e
 read_rises (Err fault) requests e = absurd (cc)
 
-state_rises : (readable_bytes : Option Ahead) (state : Stated) → States sent readable_bytes state → AreRising (requests_in state)
+state_rises : (readable_bytes : Option Ahead) (state : Stated) → IsStatedBy sent readable_bytes state → AreRising (requests_of state)
 state_rises readable_bytes (Ok requests) states = read_rises (bytes_read states.ahead) requests states.states
 state_rises readable_bytes (Err fault) states = tt
 
@@ -37,11 +37,11 @@ pub all_rise : (sources : List (List ℕ)) (readable_bytes : List (Option Ahead)
 all_rise sources readable_bytes states read = rise_zip (owners sources) readable_bytes states read
 
 -- a name that stands is found before the end
-place_within : (name : List ℕ) (names : List (List ℕ)) → Among name names → place_of name names < length names
+place_within : (name : List ℕ) (names : List (List ℕ)) → Among name names → index_in name names < length names
 place_within name [] m = absurd m
 place_within name (other ∷ names) m = by (bytes_eq other name) refl m (place_within name names)
   where
-    by : (b : Bool) → bytes_eq other name ≡ b → (other ≡ name) ⊎ Among name names → (Among name names → place_of name names < length names) → cond b 0 (1 + place_of name names) < suc (length names)
+    by : (b : Bool) → bytes_eq other name ≡ b → (other ≡ name) ⊎ Among name names → (Among name names → index_in name names < length names) → cond b 0 (1 + index_in name names) < suc (length names)
     by true e m rest = omega arith
     by false e (inl same) rest = let yes_equal : bytes_eq other name ≡ true = (bytes_eq-Decides other name).1 same in absurd (cc)
     by false e (inr m) rest = let within = rest m in omega (arith, within)
@@ -67,12 +67,12 @@ among_roster name (n ∷ names) (inr m) = by (bytes_eq n name) refl (among_roste
     by true e later = inl ((bytes_eq-Decides n name).0 e)
     by false e later = inr (among_without n name (roster names) e later)
 
-own_zip : (senders : ℕ) (all : List (List ℕ)) (names : List (List ℕ)) (states : List Stated) → ((name : List ℕ) → Among name names → place_of name all < senders)
-    → All (IsOwned senders) (zip (map (λ name. place_of name all) names) states)
+own_zip : (senders : ℕ) (all : List (List ℕ)) (names : List (List ℕ)) (states : List Stated) → ((name : List ℕ) → Among name names → index_in name all < senders)
+    → All (IsOwned senders) (zip (map (λ name. index_in name all) names) states)
 own_zip senders all [] states within = All-nil (IsOwned senders)
 own_zip senders all (n ∷ names) [] within = All-nil (IsOwned senders)
 own_zip senders all (n ∷ names) (s ∷ states) within =
-    All-cons (IsOwned senders) (place_of n all, s) (zip (map (λ name. place_of name all) names) states) (within n (inl refl)) (own_zip senders all names states (λ name m. within name (inr m)))
+    All-cons (IsOwned senders) (index_in n all, s) (zip (map (λ name. index_in name all) names) states) (within n (inl refl)) (own_zip senders all names states (λ name m. within name (inr m)))
 
 -- each source's owner is in the roster
 pub all_owned : (sources : List (List ℕ)) (states : List Stated) → All (IsOwned (length (roster sources))) (parts_by_owner sources states)

@@ -15,7 +15,7 @@ use Rattle.audit_run.specs.IsAuditResult.{IsOutcome, NoneRefused, IsRunOutcome}
 use Rattle.audit_run.specs.Parts.{AreRead, Stated, faults_of, parts_by_owner}
 use Rattle.audit_run.specs.Passes.{PassView}
 use Rattle.audit_run.specs.Roster.{roster}
-use Rattle.audit_run.specs.Shards.{AreApart, AreShards, IsJoined, IsNoneOfSources, MayReturn, joined_report, names_of_sources, told_of}
+use Rattle.audit_run.specs.Shards.{AreDisjoint, AreShards, IsJoined, IsNoneOfSources, MayReturn, joined_report, names_of_sources, told_of}
 use Rattle.audit_run.proofs.Excluding.{one_report, whole_not_lacking, whole_not_refused}
 use Rattle.audit_run.proofs.Owned.{all_owned}
 use Rattle.audit_run.proofs.Sharded.{outcome_cut, outcome_joined}
@@ -36,23 +36,23 @@ same_states (source ∷ sources) (s ∷ states) [] read also none none2 = absurd
 same_states (source ∷ sources) (Err fault ∷ states) (t ∷ more) read also none none2 = absurd (none 0 fault refl)
 same_states (source ∷ sources) (Ok x ∷ states) (Err fault ∷ more) read also none none2 = absurd (none2 0 fault refl)
 same_states (source ∷ sources) (Ok x ∷ states) (Ok y ∷ more) read also none none2 = λ i.
-    same_state source.1 (Ok x) (Ok y) read.0 also.0 i ∷ same_states sources states more read.1 also.1 (λ place fault there. none (suc place) fault there) (λ place fault there. none2 (suc place) fault there) i
+    same_state source.1 (Ok x) (Ok y) read.0 also.0 i ∷ same_states sources states more read.1 also.1 (λ index fault there. none (suc index) fault there) (λ index fault there. none2 (suc index) fault there) i
 
 -- what states something is not refused
 not_refused : (sources : List (List ℕ × Ahead)) (states more : List Stated) → AreRead (told_of sources) states → AreRead (told_of sources) more → NoneRefused (faults_of more)
-    → (place : ℕ) (fault : FileFault) → IsNotOutOfMemory fault → slice_get (faults_of states) place ≡ Some (Some fault) → ⊥
-not_refused [] [] more read also none place fault of there = cc
-not_refused [] (s ∷ states) more read also none place fault of there = read
-not_refused (source ∷ sources) [] more read also none place fault of there = read
-not_refused (source ∷ sources) (s ∷ states) [] read also none place fault of there = also
-not_refused (source ∷ sources) (s ∷ states) (Err other ∷ more) read also none place fault of there = none 0 other refl
+    → (index : ℕ) (fault : FileFault) → IsNotOutOfMemory fault → slice_get (faults_of states) index ≡ Some (Some fault) → ⊥
+not_refused [] [] more read also none index fault of there = cc
+not_refused [] (s ∷ states) more read also none index fault of there = read
+not_refused (source ∷ sources) [] more read also none index fault of there = read
+not_refused (source ∷ sources) (s ∷ states) [] read also none index fault of there = also
+not_refused (source ∷ sources) (s ∷ states) (Err other ∷ more) read also none index fault of there = none 0 other refl
 not_refused (source ∷ sources) (Ok x ∷ states) (Ok y ∷ more) read also none zero fault of there = cc
 not_refused (source ∷ sources) (Err why ∷ states) (Ok y ∷ more) read also none zero fault of there =
     let same : why ≡ fault = cc in
     let clash : Err why ≡ Ok y = same_state source.1 (Err why) (Ok y) (read.0 (subst IsNotOutOfMemory (sym same) of)) also.0 in
     cc
-not_refused (source ∷ sources) (s ∷ states) (Ok y ∷ more) read also none (suc place) fault of there =
-    not_refused sources states more read.1 also.1 (λ p f at. none (suc p) f at) place fault of there
+not_refused (source ∷ sources) (s ∷ states) (Ok y ∷ more) read also none (suc index) fault of there =
+    not_refused sources states more read.1 also.1 (λ p f at. none (suc p) f at) index fault of there
 
 read_joined : (first second : List (List ℕ × Ahead)) (states more : List Stated) → AreRead (told_of first) states → AreRead (told_of second) more → AreRead (told_of (first ++ second)) (states ++ more)
 read_joined [] second [] more read also = also
@@ -95,8 +95,8 @@ module _ (names : Names) (sources : List (List ℕ × Ahead)) (states : List Sta
 
   no_fault_ran : (fault : AuditFault) (workers : ℕ) (old new : PassView) → IsRunOutcome names (names_of_sources sources) (told_of sources) workers old new (Err fault) → IsNoneOfSources fault
   no_fault_ran (Sender name part why) workers old new run =
-      let (place, is_first, of_file, named, part_is) = run.outcome in
-      not_refused sources run.states states run.read read outcome.0 place why of_file is_first.there
+      let (index, is_first, of_file, named, part_is) = run.outcome in
+      not_refused sources run.states states run.read read outcome.0 index why of_file is_first.there
   no_fault_ran (Collect (collect.Roster why)) workers old new run = tt
   no_fault_ran (Collect (collect.Refused why)) workers old new run =
       let own = run.outcome in
@@ -119,7 +119,7 @@ module _ (names : Names) (sources : List (List ℕ × Ahead)) (states : List Sta
   no_fault_returned Memory returned = tt
   no_fault_returned TooManyParts returned = tt
 
-module _ (names : Names) (first second : List (List ℕ × Ahead)) (apart : AreApart (names_of_sources first) (names_of_sources second)) where
+module _ (names : Names) (first second : List (List ℕ × Ahead)) (apart : AreDisjoint (names_of_sources first) (names_of_sources second)) where
   in_order : names_of_sources (first ++ second) ≡ names_of_sources first ++ names_of_sources second
   in_order = map-append (λ (source : List ℕ × Ahead). source.0) first second
 

@@ -4,7 +4,7 @@ use Rattle.std.specs.Prelude.{not, bytes_eq, filter, if◌then◌else◌}
 use Rattle.std.specs.List.{list_any, zip}
 use Rattle.std.proofs.lemmas.List.Folds.{list_any-append}
 use Rattle.std.proofs.lemmas.Slice.Eq.{bytes_eq-Decides}
-use Rattle.audit_run.specs.Roster.{owners, place_of, places_in, roster, without}
+use Rattle.audit_run.specs.Roster.{owners, index_in, indices_in, roster, without}
 
 -- whether the name was found before
 abbrev pub stands : List (List ℕ) → List ℕ → Bool
@@ -14,19 +14,19 @@ stands found name = list_any (λ f. bytes_eq f name) found
 abbrev pub others : List (List ℕ) → List (List ℕ) → List (List ℕ)
 others found names = filter (λ name. not (stands found name)) names
 
-pub absent : (name : List ℕ) (found : List (List ℕ)) → place_of name found ≡ length found → stands found name ≡ false
+pub absent : (name : List ℕ) (found : List (List ℕ)) → index_in name found ≡ length found → stands found name ≡ false
 absent name [] e = refl
 absent name (f ∷ fs) e = go (bytes_eq f name) refl e (absent name fs)
   where
-    go : (b : Bool) → bytes_eq f name ≡ b → (if b then 0 else 1 + place_of name fs) ≡ suc (length fs) → (place_of name fs ≡ length fs → stands fs name ≡ false) → (bytes_eq f name || stands fs name) ≡ false
+    go : (b : Bool) → bytes_eq f name ≡ b → (if b then 0 else 1 + index_in name fs) ≡ suc (length fs) → (index_in name fs ≡ length fs → stands fs name ≡ false) → (bytes_eq f name || stands fs name) ≡ false
     go true t e more = absurd (omega (arith, e))
     go false t e more = ap (λ b. b || stands fs name) t ∙ more (omega (arith, e))
 
-pub present : (name : List ℕ) (found : List (List ℕ)) → place_of name found ≢ length found → stands found name ≡ true
+pub present : (name : List ℕ) (found : List (List ℕ)) → index_in name found ≢ length found → stands found name ≡ true
 present name [] ne = absurd (ne refl)
 present name (f ∷ fs) ne = go (bytes_eq f name) refl ne (present name fs)
   where
-    go : (b : Bool) → bytes_eq f name ≡ b → (if b then 0 else 1 + place_of name fs) ≢ suc (length fs) → (place_of name fs ≢ length fs → stands fs name ≡ true) → (bytes_eq f name || stands fs name) ≡ true
+    go : (b : Bool) → bytes_eq f name ≡ b → (if b then 0 else 1 + index_in name fs) ≢ suc (length fs) → (index_in name fs ≢ length fs → stands fs name ≡ true) → (bytes_eq f name || stands fs name) ≡ true
     go true t ne more = ap (λ b. b || stands fs name) t
     go false t ne more = ap (λ b. b || stands fs name) t ∙ more (λ e. ne (omega (arith, e)))
 
@@ -72,7 +72,7 @@ without_one found (o ∷ os) name there = go (bytes_eq name o) refl (without_one
     go false eb more = ap (λ x. others found (cond (not x) (o ∷ w) w)) eb ∙ ap (λ l. cond (not (stands found o)) (o ∷ l) l) (more)
 
 -- the first name of those left is new
-pub one_new : (found after left rest all : List (List ℕ)) (name : List ℕ) → after ≡ found ++ name ∷ [] → left ≡ name ∷ rest → place_of name found ≡ length found
+pub one_new : (found after left rest all : List (List ℕ)) (name : List ℕ) → after ≡ found ++ name ∷ [] → left ≡ name ∷ rest → index_in name found ≡ length found
     → found ++ others found (roster left) ≡ all → after ++ others after (roster rest) ≡ all
 one_new found after left rest all name pushed step new was =
     ap (λ l. l ++ others l (roster rest)) pushed
@@ -82,7 +82,7 @@ one_new found after left rest all name pushed step new was =
     ∙ (ap (λ l. found ++ others found (roster l)) (sym step) ∙ was))))
 
 -- or stands before
-pub one_old : (found left rest all : List (List ℕ)) (name : List ℕ) → left ≡ name ∷ rest → place_of name found ≢ length found
+pub one_old : (found left rest all : List (List ℕ)) (name : List ℕ) → left ≡ name ∷ rest → index_in name found ≢ length found
     → found ++ others found (roster left) ≡ all → found ++ others found (roster rest) ≡ all
 one_old found left rest all name step old was =
     ap (λ l. found ++ l) (sym (without_one found (roster rest) name (present name found old)))
@@ -96,6 +96,6 @@ twice reader ahead (s ∷ ss) = ap (λ l. ahead (reader s) ∷ l) (twice reader 
 -- the sources by their owners, when the roster was found
 pub entered : {S F T : Type 0} (name : S → List ℕ) (reader : S → F) (ahead : F → T) (sources : List S) (names found : List (List ℕ)) (readers : List F)
     → names ≡ map name sources → found ≡ roster names → readers ≡ map reader sources
-    → zip (places_in found names) (map ahead readers) ≡ zip (owners (map name sources)) (map (λ s. ahead (reader s)) sources)
+    → zip (indices_in found names) (map ahead readers) ≡ zip (owners (map name sources)) (map (λ s. ahead (reader s)) sources)
 entered name reader ahead sources names found readers names_are found_is readers_are =
-    (λ i. zip (places_in ((found_is ∙ ap roster names_are) i) (names_are i)) (map ahead (readers_are i))) ∙ ap (λ l. zip (owners (map name sources)) l) (twice reader ahead sources)
+    (λ i. zip (indices_in ((found_is ∙ ap roster names_are) i) (names_are i)) (map ahead (readers_are i))) ∙ ap (λ l. zip (owners (map name sources)) l) (twice reader ahead sources)

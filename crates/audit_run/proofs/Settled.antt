@@ -2,7 +2,7 @@
 use Rattle.std.proofs.Common.{◌≡◌, ℕ, suc, ◌+◌, ◌-◌, ◌<◌, ◌≤◌, List, [], ◌∷◌, ◌++◌, map, Option, None, Result, Ok, Err, IsPermutation, refl, sym, ap, ◌∙◌, subst, ⊎_elim, arith, append-nil, vec_len, length}
 use Rattle.std.specs.List.{zip}
 use Rattle.std.proofs.lemmas.Slice.Zip.{AllZip-long}
-use Rattle.audit_files.specs.Files.{States}
+use Rattle.audit_files.specs.Files.{IsStatedBy}
 use Rattle.audit_files.specs.Requests.{sent}
 use Rattle.std.proofs.lemmas.List.{map-append}
 use Rattle.std.proofs.lemmas.List.Sorted.{IsPermutation-map, IsPermutation-trans}
@@ -18,7 +18,7 @@ use Rattle.audit_run.specs.declared.message.Names.{Names}
 use Rattle.audit_run.specs.declared.message.Job.{Job}
 use Rattle.audit_run.specs.declared.message.Outcome.{Outcome}
 use Rattle.audit_run.specs.Names.{answer}
-use Rattle.audit_run.specs.Passes.{PassView, split_off, with_joined, IsEmpty, IsWhole}
+use Rattle.audit_run.specs.Passes.{PassView, split_off, with_joined, IsEmpty, IsOnlyPass}
 use Rattle.audit_run.specs.declared.prepared.PreparedRun.{PreparedRun}
 use Rattle.audit_run.specs.declared.prepared.EndedRun.{EndedRun}
 use Rattle.audit_run.specs.declared.fault.AuditFault.{AuditFault}
@@ -36,10 +36,10 @@ use Rattle.audit_run.proofs.Reporting.{reported}
 use Rattle.audit_run.specs.IsAuditResult.{IsAuditResult, IsOutcome, IsReportOfArrived, IsRunOutcome, most_parts}
 use Rattle.audit_run.specs.Body.Concluded.{Answers, RefusesSenders}
 use Rattle.audit_run.specs.Arrivals.{arrivals_of}
-use Rattle.audit_run.specs.Body.Gathered.{state_after, IsOutOfMemory, Gathers, Drains}
+use Rattle.audit_run.specs.Body.Gathered.{collector_after, RanOutOfMemory, Gathers, Drains}
 use Rattle.audit_run.specs.Parts.{AreRead, Stated, fault_in, faults_of, parts_by_owner, run_jobs}
 use Rattle.audit_run.specs.Body.FreshPasses.{with_messages, after_splits}
-use Rattle.audit_run.specs.Roster.{owners, place_of, roster}
+use Rattle.audit_run.specs.Roster.{owners, index_in, roster}
 use Rattle.audit_run.specs.Body.Run.{HasRun}
 use Rattle.audit_run.specs.Body.Work.{AreParts, IsPart, after_run}
 use Rattle.audit_run.proofs.Gains.{gaining_more, gathers_more}
@@ -119,12 +119,12 @@ any_arrivals sources faults comes (Err TooManyParts) a = a
 
 -- what was gathered decides the answer
 concluded : (sources : List (List ℕ)) (faults : List (Option FileFault)) (g h : Gathering) (outcomes : List Outcome) (result : Result Report AuditFault)
-    → Gathers g outcomes h → g.collector ≡ start (roster sources) → g.refused ≡ None → Answers sources faults (state_after h.collector h.refused []) result
+    → Gathers g outcomes h → g.collector ≡ start (roster sources) → g.refused ≡ None → Answers sources faults (collector_after h.collector h.refused []) result
     → Answers sources faults (after (start (roster sources)) (arrivals_of outcomes)) result
 concluded sources faults g h outcomes result gathers collector none answers =
-    ⊎_elim (λ (m : IsOutOfMemory h). any_arrivals sources faults _ result (subst (λ (o : Option Refused). Answers sources faults (state_after h.collector o []) result) m answers))
-    (λ (same : (rest : List Arrival) → state_after g.collector g.refused (arrivals_of outcomes ++ rest) ≡ state_after h.collector h.refused rest).
-    subst (λ (comes : Result (List SenderState) Refused). Answers sources faults comes result) (sym (same []) ∙ (λ i. state_after (collector i) (none i) (append-nil (arrivals_of outcomes) i))) answers)
+    ⊎_elim (λ (m : RanOutOfMemory h). any_arrivals sources faults _ result (subst (λ (o : Option Refused). Answers sources faults (collector_after h.collector o []) result) m answers))
+    (λ (same : (rest : List Arrival) → collector_after g.collector g.refused (arrivals_of outcomes ++ rest) ≡ collector_after h.collector h.refused rest).
+    subst (λ (comes : Result (List SenderState) Refused). Answers sources faults comes result) (sym (same []) ∙ (λ i. collector_after (collector i) (none i) (append-nil (arrivals_of outcomes) i))) answers)
     gathers.same
 
 refused_by : (names : Names) (sources : List (List ℕ)) (readable_bytes : List (Option Ahead)) (states : List Stated) (workers : ℕ) (outcomes : List Outcome) (why : Refused)
@@ -192,16 +192,16 @@ senders_refused names sources readable_bytes workers p TooManyParts few refuses 
 
 pub settled : (names : Names) (sources : List (List ℕ)) (readable_bytes : List (Option Ahead)) (count workers : ℕ) (p p1 p2 p3 : PassView) (prepared : PreparedRun) (ended : EndedRun) (g : Gathering) (result : Result Report AuditFault)
     → length sources ≤ most_parts → IsRoster (roster sources) → length sources ≡ count → length readable_bytes ≡ count
-    → IsWhole p → IsEmpty p → (count + workers) + 1 < 1024
+    → IsOnlyPass p → IsEmpty p → (count + workers) + 1 < 1024
     → vec_len prepared.worker_passes ≡ workers → prepared.gathering.collector ≡ start (roster sources) → prepared.gathering.refused ≡ None → prepared.pass ≡ split_off p → p1 ≡ after_splits p ((count + workers) + 1)
-    → HasRun names (zip (owners sources) readable_bytes) count prepared ended → p2 ≡ with_joined p1 ended.pass → Drains names p2 ended.gathering p3 g → (IsWhole p2 → IsEmpty p3)
-    → Answers sources ended.faults.items (state_after g.collector g.refused []) result
+    → HasRun names (zip (owners sources) readable_bytes) count prepared ended → p2 ≡ with_joined p1 ended.pass → Drains names p2 ended.gathering p3 g → (IsOnlyPass p2 → IsEmpty p3)
+    → Answers sources ended.faults.items (collector_after g.collector g.refused []) result
     → IsAuditResult names sources readable_bytes workers p p3 result
 settled names sources readable_bytes count workers p p1 p2 p3 prepared ended g result few is_roster sources_are told_are whole empty light_enough workers_are collector unrefused mine light run merged drain left answers =
-    let owners_are : length (owners sources) ≡ length sources = length_map (λ (name : List ℕ). place_of name (roster sources)) sources in
+    let owners_are : length (owners sources) ≡ length sources = length_map (λ (name : List ℕ). index_in name (roster sources)) sources in
     let stated = parts_are (owners sources) readable_bytes run.parts (omega (arith, owners_are, sources_are, told_are)) run.read in
     let states : List Stated = stated.0 in
-    let long : length states ≡ length readable_bytes = AllZip-long (States sent) readable_bytes states stated.1 in
+    let long : length states ≡ length readable_bytes = AllZip-long (IsStatedBy sent) readable_bytes states stated.1 in
     let faults : ended.faults.items ≡ faults_of states =
     run.faults ∙ (ap (map (λ (part : ℕ × Stated). fault_in part.1)) stated.2 ∙ faults_are (owners sources) states (omega (arith, long, owners_are, sources_are, told_are))) in
     let put : List Job = run_jobs workers (parts_by_owner sources states) in
@@ -217,7 +217,7 @@ settled names sources readable_bytes count workers p p1 p2 p3 prepared ended g r
     let nothing : IsEmpty p3 = left (ap (λ (x : PassView). x.weight) two ∙ whole) in
     let decided : Answers sources (faults_of states) (after (start (roster sources)) (arrivals_of outcomes)) result =
     concluded sources (faults_of states) prepared.gathering g outcomes result (gathers_more prepared.gathering ended.gathering g run.gathered drain.outcomes run.gathers drain.gathered) collector unrefused
-    (subst (λ (l : List (Option FileFault)). Answers sources l (state_after g.collector g.refused []) result) faults answers) in
+    (subst (λ (l : List (Option FileFault)). Answers sources l (collector_after g.collector g.refused []) result) faults answers) in
     audited names sources readable_bytes workers p p3 _ _ result decided (record {
       few = few;
       is_roster = is_roster;

@@ -11,7 +11,7 @@ use Rattle.audit_files.specs.Faults.{IsNotOutOfMemory}
 use Rattle.audit_run.specs.declared.message.Names.{Names}
 use Rattle.audit_run.specs.declared.message.Outcome.{Outcome}
 use Rattle.audit_run.specs.Names.{answer}
-use Rattle.audit_run.specs.Passes.{PassView, IsEmpty, IsWhole}
+use Rattle.audit_run.specs.Passes.{PassView, IsEmpty, IsOnlyPass}
 use Rattle.audit_run.specs.declared.fault.AuditFault.{AuditFault}
 use Rattle.audit_run.specs.declared.fault.AuditFault.TheVariants.{Sender, Collect, NoThread, Memory, TooManyParts}
 use Rattle.audit_run.specs.Arrivals.{arrivals_of}
@@ -25,28 +25,28 @@ most_parts = 256
 
 -- no source is refused
 abbrev pub NoneRefused : List (Option FileFault) → Type 0
-NoneRefused faults = (place : ℕ) (fault : FileFault) → slice_get faults place ≡ Some (Some fault) → ⊥
+NoneRefused faults = (index : ℕ) (fault : FileFault) → slice_get faults index ≡ Some (Some fault) → ⊥
 
 -- the first source that is refused
-pub record IsFirstFault (faults : List (Option FileFault)) (place : ℕ) (fault : FileFault) : Type 0 where
-  pub there : slice_get faults place ≡ Some (Some fault)
-  pub earlier : (i : ℕ) → i < place → slice_get faults i ≡ Some None
+pub record IsFirstFault (faults : List (Option FileFault)) (index : ℕ) (fault : FileFault) : Type 0 where
+  pub there : slice_get faults index ≡ Some (Some fault)
+  pub earlier : (i : ℕ) → i < index → slice_get faults i ≡ Some None
 
 -- this is the first source that is refused: its name, its number among the sources of that name,
 -- and its fault
 abbrev pub IsRefusedSource : List (List ℕ) → List (Option FileFault) → List ℕ → ℕ → FileFault → Type 0
 IsRefusedSource sources faults name part fault =
-    (place : ℕ) × IsFirstFault faults place fault × IsNotOutOfMemory fault
-    × (slice_get sources place ≡ Some name) × (part ≡ part_at sources place name)
+    (index : ℕ) × IsFirstFault faults index fault × IsNotOutOfMemory fault
+    × (slice_get sources index ≡ Some name) × (part ≡ part_at sources index name)
 
 -- a report is that of the arrivals that the workers put, which are complete
 abbrev pub IsReportOfArrived : List (List ℕ) → List Outcome → Result Report AuditFault → Type 0
 IsReportOfArrived sources outcomes (Ok report) = IsReportOf (roster sources) (arrivals_of outcomes) report
 IsReportOfArrived sources outcomes (Err fault) = ⊤
 
--- the result of an audit of sources with this content: the report, if each sender is whole over all
--- its sources; or else the first source, in their order, that is refused; or else what a collector
--- refuses or what is missing; `NoThread` and `Memory` are not constrained
+-- the result of an audit of sources with this content: the first source, in their order, that is
+-- refused, if one is; else the report, if each sender is whole over all its sources; else what a
+-- collector refuses or what is missing; `NoThread` and `Memory` are not constrained
 abbrev pub IsOutcome : Names → List (List ℕ) → List Stated → Result Report AuditFault → Type 0
 IsOutcome names sources states (Ok report) =
     NoneRefused (faults_of states) × AreWhole (length (roster sources)) (parts_by_owner sources states) × IsReport names (roster sources) (parts_by_owner sources states) report
@@ -71,7 +71,7 @@ pub record IsRunOutcome (names : Names) (sources : List (List ℕ)) (readable_by
   pub all : IsPermutation (map (answer names) (run_jobs workers (parts_by_owner sources states))) outcomes
   pub outcome : IsOutcome names sources states result
   pub arrived : IsReportOfArrived sources outcomes result
-  pub whole : IsWhole new
+  pub whole : IsOnlyPass new
   pub same_handoff : new.handoff ≡ old.handoff
   pub same_names : new.names ≡ old.names
   pub empty : IsEmpty new

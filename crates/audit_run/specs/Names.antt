@@ -14,8 +14,8 @@ use Rattle.audit_run.specs.declared.message.Job.TheVariants as job
 use Rattle.audit_run.specs.declared.message.Outcome.{Outcome}
 use Rattle.audit_run.specs.declared.message.Outcome.TheVariants as outcome
 
-abbrev pub names_of : Policy → KnownRows → Names
-names_of policy directory = record { policy = policy; directory = directory }
+abbrev pub names_under : Policy → KnownRows → Names
+names_under policy directory = record { policy = policy; directory = directory }
 
 -- the reply to a request of this sender
 abbrev pub answer_to : Names → (sender : ℕ) → Request → Answer

@@ -12,7 +12,7 @@ use Rattle.audit_collect.specs.declared.report.SenderReport.{SenderReport}
 use Rattle.audit_run.specs.declared.message.Names.{Names}
 use Rattle.audit_run.specs.Names.{answer_to}
 use Rattle.audit_run.specs.Parts.{Stated}
-use Rattle.audit_run.specs.Asked.{asked_of, counts_of, has_number, requests_in, times_asked}
+use Rattle.audit_run.specs.Asked.{asked_of, counts_of, has_number, requests_of, times_asked}
 
 -- the sender has one close mark, and over all its sources the numbers 1 to its count, each once,
 -- and no other
@@ -30,7 +30,7 @@ AreWhole senders parts = (sender : ℕ) → sender < senders → IsWholeSender s
 -- the source is the sender's, and asks for the number
 pub record Asks (sender number : ℕ) (part : ℕ × Stated) : Type 0 where
   pub of : part.0 ≡ sender
-  pub asks : 1 ≤ count_by (has_number number) (requests_in part.1)
+  pub asks : 1 ≤ count_by (has_number number) (requests_of part.1)
 
 -- two different sources of the sender ask for the number
 pub record AskInTwo (sender number : ℕ) (parts : List (ℕ × Stated)) : Type 0 where
@@ -83,8 +83,8 @@ Lack senders parts (Gap sender number) = (sender < senders) × IsGap sender numb
 pub record IsRow (names : Names) (roster : List (List ℕ)) (parts : List (ℕ × Stated)) (sender : ℕ) (row : SenderReport) : Type 0 where
   pub name : slice_get roster sender ≡ Some row.name
   pub closed : counts_of sender parts ≡ length row.answers ∷ []
-  pub answers : (place : ℕ) (answer : Answer) → slice_get row.answers place ≡ Some answer
-      → (request : Request) × Contains (asked_of sender parts) request × (request.number ≡ place + 1) × (answer ≡ answer_to names sender request)
+  pub answers : (index : ℕ) (answer : Answer) → slice_get row.answers index ≡ Some answer
+      → (request : Request) × Contains (asked_of sender parts) request × (request.number ≡ index + 1) × (answer ≡ answer_to names sender request)
 
 -- the report of the sources: a row for each sender, in the order of the roster
 pub record IsReport (names : Names) (roster : List (List ℕ)) (parts : List (ℕ × Stated)) (report : Report) : Type 0 where

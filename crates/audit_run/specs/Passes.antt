@@ -7,7 +7,7 @@ use Rattle.sudo_grammar.specs.declared.policy.Policy.{Policy}
 use Rattle.audit_run.specs.declared.message.Names.{Names}
 use Rattle.audit_run.specs.declared.message.Job.{Job}
 use Rattle.audit_run.specs.declared.message.Outcome.{Outcome}
-use Rattle.audit_run.specs.Names.{names_of}
+use Rattle.audit_run.specs.Names.{names_under}
 
 -- the identity of a handoff: the queue of jobs and the queue of outcomes
 abbrev pub HandoffId : Type 0
@@ -25,7 +25,7 @@ pub record PassView : Type 0 where
   pub outcomes_taken : List Outcome
 
 abbrev pub new_pass : HandoffId → Policy → KnownRows → PassView
-new_pass handoff policy directory = record { handoff = handoff; names = names_of policy directory; weight = 1024; jobs_put = []; jobs_taken = []; outcomes_put = []; outcomes_taken = [] }
+new_pass handoff policy directory = record { handoff = handoff; names = names_under policy directory; weight = 1024; jobs_put = []; jobs_taken = []; outcomes_put = []; outcomes_taken = [] }
 
 abbrev pub with_job_put : PassView → Job → PassView
 with_job_put p job = record p { jobs_put = p.jobs_put ++ job ∷ [] }
@@ -57,10 +57,10 @@ with_joined p q = record p {
 }
 
 -- the pass is the only one of its handoff
-abbrev pub IsWhole : PassView → Type 0
-IsWhole p = p.weight ≡ 1024
+abbrev pub IsOnlyPass : PassView → Type 0
+IsOnlyPass p = p.weight ≡ 1024
 
--- the messages put are, as often, those taken and those left, at most 256
+-- each message put was taken or is left, counted as often as it was put; at most 256 are left
 abbrev pub JobsLeft : PassView → List Job → Type 0
 JobsLeft p left = IsPermutation p.jobs_put (p.jobs_taken ++ left) × (length left ≤ 256)
 

@@ -11,18 +11,18 @@ roster [] = []
 roster (name ∷ names) = name ∷ without name (roster names)
 
 -- the index of the first name equal to this one, from 0; the number of names if there is none
-abbrev pub place_of : List ℕ → List (List ℕ) → ℕ
-place_of name [] = 0
-place_of name (other ∷ names) = if bytes_eq other name then 0 else 1 + place_of name names
+abbrev pub index_in : List ℕ → List (List ℕ) → ℕ
+index_in name [] = 0
+index_in name (other ∷ names) = if bytes_eq other name then 0 else 1 + index_in name names
 
 -- the index of each name in a roster
-abbrev pub places_in : List (List ℕ) → List (List ℕ) → List ℕ
-places_in roster names = map (λ name. place_of name roster) names
+abbrev pub indices_in : List (List ℕ) → List (List ℕ) → List ℕ
+indices_in roster names = map (λ name. index_in name roster) names
 
 -- the owner of each source, given the sources' names: the index of its sender in the roster
 abbrev pub owners : List (List ℕ) → List ℕ
-owners names = places_in (roster names) names
+owners names = indices_in (roster names) names
 
 -- the number of the source at this index among the sources of its name, from 1
 abbrev pub part_at : List (List ℕ) → ℕ → List ℕ → ℕ
-part_at names place name = 1 + count_by (λ other. bytes_eq other name) (take place names)
+part_at names index name = 1 + count_by (λ other. bytes_eq other name) (take index names)

@@ -21,12 +21,12 @@ use Rattle.audit_run.specs.Passes.{PassView}
 use Rattle.audit_run.specs.Roster.{roster}
 
 -- no name is in both lists
-abbrev pub AreApart : List (List ℕ) → List (List ℕ) → Type 0
-AreApart first second = (name : List ℕ) → Contains first name → Contains second name → ⊥
+abbrev pub AreDisjoint : List (List ℕ) → List (List ℕ) → Type 0
+AreDisjoint first second = (name : List ℕ) → Contains first name → Contains second name → ⊥
 
 -- two lists of sources, by their names, with none in common; the first list has one state for each source
 pub record AreShards (first second : List (List ℕ)) (states : List Stated) : Type 0 where
-  pub apart : AreApart first second
+  pub apart : AreDisjoint first second
   pub stated : length states ≡ length first
 
 -- in the roster of both, the senders of the second list follow those of the first: so in an answer, a row and a fault

@@ -2,12 +2,14 @@
 ghost use Rattle.std.specs.Prelude.{◌≡◌, ◌+◌, ◌<◌, ◌≤◌, [], Ok, Err, ℕ, List, IfOk, IfErr, OnOk, None, Some, Option, MatchOption, map, slice_get, vec_len, vec_capacity, length, IsTrue, IfSome, IfNone, ◌↔◌};
 ghost use Rattle.std.specs.List.{zip};
 ghost use Rattle.audit_files.specs.declared.fault.FileFault.TheVariants.{Memory};
-ghost use Rattle.audit_run.specs.Names.{names_of};
-ghost use Rattle.audit_run.specs.Passes.{IsEmpty, IsWhole};
+ghost use Rattle.audit_run.specs.Names.{names_under};
+ghost use Rattle.audit_run.specs.Passes.{IsEmpty, IsOnlyPass};
 ghost use Rattle.audit_run.specs.IsAuditResult.{IsAuditResult, IsFirstFault, NoneRefused, most_parts};
 ghost use Rattle.audit_run.specs.Body.Concluded.{Answers};
-ghost use Rattle.audit_run.specs.Body.Gathered.{state_after};
-ghost use Rattle.audit_run.specs.Roster.{part_at};
+ghost use Rattle.audit_run.specs.Body.Gathered.{collector_after};
+ghost use Rattle.audit_collect.specs.SenderState.{start};
+ghost use Rattle.audit_collect.specs.Roster.{IsRoster};
+ghost use Rattle.audit_run.specs.Roster.{owners, part_at, roster};
 ghost use Rattle.audit_run.specs.Body.Run.{HasRun, IsReady};
 ghost use Rattle.audit_run.specs.Body.Work.{part_ahead};
 ghost use Rattle.audit_run.specs.declared.fault.AuditFault.TheVariants.{TooManyParts};
@@ -22,6 +24,7 @@ use crate::readers::{ReaderHandle, join_readers, start_readers};
 use crate::roster::{RegisteredSources, register};
 use crate::shared::Shared;
 use crate::source::{Part, Source};
+use crate::wakes::Wakes;
 use crate::workers::{join_workers, start_workers};
 use crate::{Handoff, Pass};
 use audit_collect::{CollectFault, Refused, Report};
@@ -54,7 +57,7 @@ fn run<'s, 'e: 's, R: Threads + Wait + Sync, F: Feed + Drop + Send + 'e, G: Gate
     requires index { Indexes shared.policy.now shared.index.now }
     requires room { (vec_len readers ≡ 0) × (vec_len parts ≤ vec_capacity readers) }
     ensures { IsTrue result.all_started → HasRun
-        (names_of shared.entry.policy.now shared.entry.directory.now)
+        (names_under shared.entry.policy.now shared.entry.directory.now)
         (map (λ p. part_ahead p.owner (F.ahead p.reader)) parts.items)
         (vec_len parts) prepared result }
 {
@@ -66,21 +69,14 @@ fn run<'s, 'e: 's, R: Threads + Wait + Sync, F: Feed + Drop + Send + 'e, G: Gate
         mut workers,
         mut faults,
     } = prepared;
-    let Shared { alloc, handoff, .. } = shared;
+    let Shared { handoff, wakes, .. } = shared;
     let all_workers = start_workers(rt, scope, shared, gate, worker_passes, &mut workers);
     let all_started = all_workers
-        && start_readers(
-            alloc,
-            rt,
-            scope,
-            handoff,
-            source_passes,
-            parts,
-            &mut readers,
-        );
+        && start_readers(rt, scope, shared, source_passes, parts, &mut readers);
     gather_all(
         rt,
         handoff,
+        wakes,
         &mut pass,
         &mut gathering,
         readers.len(),
@@ -110,7 +106,7 @@ fn run_scoped<R: Threads + Wait + Sync, F: Feed + Drop + Send, G: Gate + Sync>(
     requires index { Indexes shared.policy.now shared.index.now }
     requires room { (vec_len readers ≡ 0) × (vec_len parts ≤ vec_capacity readers) }
     ensures { IsTrue result.all_started → HasRun
-        (names_of shared.entry.policy.now shared.entry.directory.now)
+        (names_under shared.entry.policy.now shared.entry.directory.now)
         (map (λ p. part_ahead p.owner (F.ahead p.reader)) parts.items)
         (vec_len parts) prepared result }
 {
@@ -123,7 +119,7 @@ fn run_scoped<R: Threads + Wait + Sync, F: Feed + Drop + Send, G: Gate + Sync>(
             requires index { Indexes shared.policy.now shared.index.now }
             requires room { (vec_len readers ≡ 0) × (vec_len parts ≤ vec_capacity readers) }
             ensures { IsTrue result.all_started
-                → HasRun (names_of shared.entry.policy.now shared.entry.directory.now)
+                → HasRun (names_under shared.entry.policy.now shared.entry.directory.now)
                 (map (λ p. part_ahead p.owner (F.ahead p.reader)) parts.items)
                 (vec_len parts) prepared result }
         { run(rt, scope, shared, gate, prepared, parts, readers) },
@@ -132,10 +128,10 @@ fn run_scoped<R: Threads + Wait + Sync, F: Feed + Drop + Send, G: Gate + Sync>(
 
 // Whether allocation failed for a source.
 fn has_memory_fault(faults: &[Option<FileFault>]) -> bool
-    ensures { (place : ℕ) → slice_get faults.now place ≡ Some (Some Memory) → IsTrue result }
+    ensures { (index : ℕ) → slice_get faults.now index ≡ Some (Some Memory) → IsTrue result }
 {
-    for place in 0..faults.len() {
-        if matches!(faults[place], Some(FileFault::Memory)) {
+    for index in 0..faults.len() {
+        if matches!(faults[index], Some(FileFault::Memory)) {
             return true;
         }
     }
@@ -147,21 +143,21 @@ fn first_fault(faults: &[Option<FileFault>]) -> Option<(usize, FileFault)>
     ensures { MatchOption result (NoneRefused faults.now)
         (λ first. IsFirstFault faults.now first.0 first.1) }
 {
-    for place in 0..faults.len() {
-        if let Some(fault) = faults[place] {
-            return Some((place, fault));
+    for index in 0..faults.len() {
+        if let Some(fault) = faults[index] {
+            return Some((index, fault));
         }
     }
     None
 }
 
 // Returns the number of the source at this index among the sources of this name, from 1.
-fn part_number(names: &[Seq<u8>], place: usize, name: &[u8]) -> u32
-    requires { (place ≤ length names.now) × (length names.now ≤ 256) }
-    ensures { result ≡ part_at names.now place name.now }
+fn part_number(names: &[Seq<u8>], index: usize, name: &[u8]) -> u32
+    requires { (index ≤ length names.now) × (length names.now ≤ 256) }
+    ensures { result ≡ part_at names.now index name.now }
 {
     let mut part = 1;
-    for earlier in 0..place {
+    for earlier in 0..index {
         if names[earlier].as_slice() == name {
             part += 1;
         }
@@ -176,16 +172,17 @@ fn conclude(
     gathering: Gathering,
 ) -> Result<Report, AuditFault>
     requires { (length faults.now ≡ vec_len names) × (vec_len names ≤ 256) }
-    ensures { Answers names.items faults.now (state_after gathering.collector gathering.refused [])
+    ensures { Answers names.items faults.now (collector_after gathering.collector gathering.refused
+        [])
         result }
 {
     let mut names = names;
     if has_memory_fault(faults) || matches!(gathering.refused, Some(Refused::Memory)) {
         return Err(AuditFault::Memory);
     }
-    if let Some((place, fault)) = first_fault(faults) {
-        let part = part_number(&names, place, names[place].as_slice());
-        let name = names.swap_remove(place);
+    if let Some((index, fault)) = first_fault(faults) {
+        let part = part_number(&names, index, names[index].as_slice());
+        let name = names.swap_remove(index);
         return Err(AuditFault::Sender { name, part, fault });
     }
     let Gathering {
@@ -201,6 +198,52 @@ fn conclude(
             Err((_, unfinished)) => Err(AuditFault::Collect(CollectFault::Unfinished(unfinished))),
         },
     }
+}
+
+// Audits registered sources: runs the threads, gathers their answers, and joins them.
+fn audit_registered<'e, R: Threads + Wait + Sync, F: Feed + Drop + Send, G: Gate + Sync>(
+    rt: &R,
+    shared: Shared<'e>,
+    gate: &G,
+    pass: &mut Pass,
+    registered: RegisteredSources<F>,
+    workers: u32,
+) -> Result<Report, AuditFault>
+    requires pass { IsOnlyPass pass.old × IsEmpty pass.old
+        × (pass.old.handoff ≡ shared.handoff.now)
+        × (pass.old.names ≡ names_under shared.policy.now shared.directory.now) }
+    requires workers { (1 ≤ workers) × (workers ≤ 16) }
+    requires index { Indexes shared.policy.now shared.index.now }
+    requires parts { map (λ p. part_ahead p.owner (F.ahead p.reader)) registered.parts.items
+        ≡ zip (owners registered.names.items)
+        (map (λ p. F.ahead p.reader) registered.parts.items) }
+    requires lengths { (vec_len registered.parts ≡ vec_len registered.names)
+        × (vec_len registered.names ≤ 256) }
+    requires collector { (registered.collector ≡ start (roster registered.names.items))
+        × IsRoster (roster registered.names.items) }
+    ensures { IsAuditResult (names_under shared.entry.policy.now shared.entry.directory.now)
+        registered.names.items (map (λ p. F.ahead p.reader) registered.parts.items) workers
+        pass.old pass.new result }
+{
+    let RegisteredSources {
+        names,
+        parts,
+        collector,
+    } = registered;
+    let handles = Vec::with_capacity(shared.alloc, parts.len())?;
+    let prepared = prepare(rt, shared, pass, collector, parts.len(), workers as usize)?;
+    let EndedRun {
+        pass: mine,
+        mut gathering,
+        faults,
+        all_started,
+    } = run_scoped(rt, shared, gate, prepared, parts, handles);
+    if !all_started {
+        return Err(AuditFault::NoThread);
+    }
+    pass.join(rt, shared.handoff, mine);
+    drain(rt, shared, gate, pass, &mut gathering);
+    conclude(names, &faults, gathering)
 }
 
 /// Audits the requests of the sources, with one thread for each source and this number of worker
@@ -227,44 +270,30 @@ pub fn audit<R: Threads + Wait + Sync, F: Feed + Drop + Send, G: Gate + Sync>(
     workers: u32,
     gate: &G,
 ) -> Result<Report, AuditFault>
-    requires pass { IsWhole pass.old × IsEmpty pass.old × (pass.old.handoff ≡ handoff.now)
-        × (pass.old.names ≡ names_of policy.now directory.now) }
+    requires pass { IsOnlyPass pass.old × IsEmpty pass.old × (pass.old.handoff ≡ handoff.now)
+        × (pass.old.names ≡ names_under policy.now directory.now) }
     requires workers { (1 ≤ workers) × (workers ≤ 16) }
     ensures parts { (result ≡ Err TooManyParts) ↔ (most_parts < vec_len sources) }
-    ensures outcome { IsAuditResult (names_of policy.now directory.now) (map (λ s. s.name) sources.items)
+    ensures outcome { IsAuditResult (names_under policy.now directory.now) (map (λ s. s.name)
+        sources.items)
         (map (λ s. F.ahead s.reader) sources.items) workers pass.old pass.new result }
 {
     if sources.len() > MOST_PARTS {
         return Err(AuditFault::TooManyParts);
     }
-    let RegisteredSources {
-        names,
-        parts,
-        collector,
-    } = match register(alloc, sources) {
-        Ok(entered) => entered,
+    let registered = match register(alloc, sources) {
+        Ok(registered) => registered,
         Err(fault) => return Err(fault),
     };
     let index = RuleIndex::of(alloc, policy)?;
-    let handles = Vec::with_capacity(alloc, parts.len())?;
+    let wakes = Wakes::new();
     let shared = Shared {
         alloc,
         policy,
         index: &index,
         directory,
         handoff,
+        wakes: &wakes,
     };
-    let prepared = prepare(rt, shared, pass, collector, parts.len(), workers as usize)?;
-    let EndedRun {
-        pass: mine,
-        mut gathering,
-        faults,
-        all_started,
-    } = run_scoped(rt, shared, gate, prepared, parts, handles);
-    if !all_started {
-        return Err(AuditFault::NoThread);
-    }
-    pass.join(rt, handoff, mine);
-    drain(rt, shared, gate, pass, &mut gathering);
-    conclude(names, &faults, gathering)
+    audit_registered(rt, shared, gate, pass, registered, workers)
 }

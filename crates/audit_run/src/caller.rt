@@ -1,8 +1,8 @@
 //! The caller's part while the threads run: takes outcomes, offers arrivals to the collector, stops
 //! the workers.
 ghost use Rattle.std.specs.Prelude.{◌≡◌, [], ◌∷◌, false, replicate};
-ghost use Rattle.audit_run.specs.Names.{names_of};
-ghost use Rattle.audit_run.specs.Passes.{IsWhole, OutcomesLeft, JobsLeft};
+ghost use Rattle.audit_run.specs.Names.{names_under};
+ghost use Rattle.audit_run.specs.Passes.{IsOnlyPass, OutcomesLeft, JobsLeft};
 ghost use Rattle.audit_run.specs.declared.message.Job.TheVariants as job;
 ghost use Rattle.audit_run.specs.declared.message.Outcome.TheVariants.{Arrived};
 ghost use Rattle.audit_run.specs.Body.Gathered.{Conducts, Drains, Gathers, HasGatheredAll, HasSameCounts, running_of};
@@ -11,11 +11,11 @@ ghost use Rattle.sudo_verdict.specs.Postings.{Indexes};
 use crate::gate::Gate;
 use crate::gather::{Awaited, Gathering};
 use crate::shared::Shared;
+use crate::wakes::{Need, Tries, Wakes};
 use crate::worker::answer_job;
 use crate::{Handoff, Job, Outcome, Pass};
 use audit_collect::Arrival;
 use std::sync::Wait;
-use std::thread;
 
 // Offers an arrival to the collector, unless one was refused before.
 fn offer(gathering: &mut Gathering, arrival: Arrival)
@@ -40,7 +40,7 @@ fn gather_one<R: Wait>(
 ) -> bool
     requires { pass.old.handoff ≡ handoff.now }
     ensures taken { Conducts pass.old gathering.old [] pass.new gathering.new }
-    ensures left { IsWhole pass.old → result ≡ false
+    ensures left { IsOnlyPass pass.old → result ≡ false
         → (pass.new ≡ pass.old) × OutcomesLeft pass.old [] }
 {
     match handoff.take_outcome(rt, pass) {
@@ -56,10 +56,29 @@ fn gather_one<R: Wait>(
     true
 }
 
+// Gathers an outcome if there is one, and else passes the time.
+fn gather_or_wait<R: Wait>(
+    rt: &R,
+    handoff: &Handoff,
+    tries: &mut Tries<'_>,
+    pass: &mut Pass,
+    gathering: &mut Gathering,
+)
+    requires { pass.old.handoff ≡ handoff.now }
+    ensures { Conducts pass.old gathering.old [] pass.new gathering.new }
+{
+    if gather_one(rt, handoff, pass, gathering) {
+        tries.succeeded();
+    } else {
+        tries.failed(rt);
+    }
+}
+
 // Gathers until none of the awaited threads runs.
 fn gather_until_ended<R: Wait>(
     rt: &R,
     handoff: &Handoff,
+    tries: &mut Tries<'_>,
     pass: &mut Pass,
     gathering: &mut Gathering,
     awaited: Awaited,
@@ -72,25 +91,33 @@ fn gather_until_ended<R: Wait>(
         if gathering.running(awaited) == 0 {
             return;
         }
-        if !gather_one(rt, handoff, pass, gathering) {
-            thread::yield_now();
-        }
+        gather_or_wait(rt, handoff, tries, pass, gathering);
     }
     unreachable!()
 }
 
-// Puts `Stop`. Gathers one outcome between attempts while the queue of jobs is full.
-fn put_stop<R: Wait>(rt: &R, handoff: &Handoff, pass: &mut Pass, gathering: &mut Gathering)
+// Puts `Stop`, and wakes all workers that sleep. While the queue of jobs is full, gathers between
+// attempts: each job that a worker takes from it gives an outcome, so the wait for one ends.
+fn put_stop<R: Wait>(
+    rt: &R,
+    handoff: &Handoff,
+    wakes: &Wakes,
+    tries: &mut Tries<'_>,
+    pass: &mut Pass,
+    gathering: &mut Gathering,
+)
     requires { pass.old.handoff ≡ handoff.now }
     ensures { Conducts pass.old gathering.old (job.Stop ∷ []) pass.new gathering.new }
 {
     for _ in rt.forever() {
         match handoff.put_job(rt, pass, Job::Stop) {
-            Ok(()) => return,
+            Ok(()) => {
+                wakes.wake_all(Need::JobRoom);
+                return;
+            }
             Err(_full) => {
-                if !gather_one(rt, handoff, pass, gathering) {
-                    thread::yield_now();
-                }
+                wakes.wake_all(Need::JobRoom);
+                gather_or_wait(rt, handoff, tries, pass, gathering);
             }
         }
     }
@@ -100,6 +127,8 @@ fn put_stop<R: Wait>(rt: &R, handoff: &Handoff, pass: &mut Pass, gathering: &mut
 fn put_stops<R: Wait>(
     rt: &R,
     handoff: &Handoff,
+    wakes: &Wakes,
+    tries: &mut Tries<'_>,
     pass: &mut Pass,
     gathering: &mut Gathering,
     workers: usize,
@@ -108,7 +137,7 @@ fn put_stops<R: Wait>(
     ensures { Conducts pass.old gathering.old (replicate workers job.Stop) pass.new gathering.new }
 {
     for _stopped in 0..workers {
-        put_stop(rt, handoff, pass, gathering);
+        put_stop(rt, handoff, wakes, tries, pass, gathering);
     }
 }
 
@@ -117,6 +146,7 @@ fn put_stops<R: Wait>(
 pub fn gather_all<R: Wait>(
     rt: &R,
     handoff: &Handoff,
+    wakes: &Wakes,
     pass: &mut Pass,
     gathering: &mut Gathering,
     sources: usize,
@@ -129,16 +159,18 @@ pub fn gather_all<R: Wait>(
 {
     gathering.sources_running = sources;
     gathering.workers_running = workers;
-    gather_until_ended(rt, handoff, pass, gathering, Awaited::Sources);
-    put_stops(rt, handoff, pass, gathering, workers);
-    gather_until_ended(rt, handoff, pass, gathering, Awaited::Workers);
+    let mut tries = Tries::new(wakes, Need::Outcome);
+    let tries = &mut tries;
+    gather_until_ended(rt, handoff, tries, pass, gathering, Awaited::Sources);
+    put_stops(rt, handoff, wakes, tries, pass, gathering, workers);
+    gather_until_ended(rt, handoff, tries, pass, gathering, Awaited::Workers);
 }
 
 // Gathers until no outcome is left.
 fn gather_rest<R: Wait>(rt: &R, handoff: &Handoff, pass: &mut Pass, gathering: &mut Gathering)
     requires { pass.old.handoff ≡ handoff.now }
     ensures taken { Conducts pass.old gathering.old [] pass.new gathering.new }
-    ensures left { IsWhole pass.old → OutcomesLeft pass.new [] }
+    ensures left { IsOnlyPass pass.old → OutcomesLeft pass.new [] }
 {
     for _ in rt.forever() {
         if !gather_one(rt, handoff, pass, gathering) {
@@ -157,13 +189,13 @@ pub fn drain<R: Wait, G: Gate>(
     gathering: &mut Gathering,
 )
     requires pass { pass.old.handoff ≡ shared.handoff.now }
-    requires names { pass.old.names ≡ names_of shared.policy.now shared.directory.now }
+    requires names { pass.old.names ≡ names_under shared.policy.now shared.directory.now }
     requires index { Indexes shared.policy.now shared.index.now }
-    ensures taken { Drains (names_of shared.entry.policy.now shared.entry.directory.now) pass.old
+    ensures taken { Drains (names_under shared.entry.policy.now shared.entry.directory.now) pass.old
         gathering.old
         pass.new
         gathering.new }
-    ensures left { IsWhole pass.old → JobsLeft pass.new [] × OutcomesLeft pass.new [] }
+    ensures left { IsOnlyPass pass.old → JobsLeft pass.new [] × OutcomesLeft pass.new [] }
 {
     for _ in rt.forever() {
         gather_rest(rt, shared.handoff, pass, gathering);

@@ -1,7 +1,7 @@
 //! The two queues between the threads of an audit, and the passes with which threads use them.
 ghost use Rattle.std.specs.Prelude.{◌≡◌, ◌<◌, ◌≤◌, List, Some, IfOk, IfSome, MatchResult, MatchOption, length, [], ◌∷◌};
-ghost use Rattle.audit_run.specs.Names.{names_of, IsRight};
-ghost use Rattle.audit_run.specs.Passes.{new_pass, with_job_put, with_job_taken, with_outcome_put, with_outcome_taken, after_split, split_off, with_joined, IsEmpty, IsWhole, JobsLeft, OutcomesLeft};
+ghost use Rattle.audit_run.specs.Names.{names_under, IsRight};
+ghost use Rattle.audit_run.specs.Passes.{new_pass, with_job_put, with_job_taken, with_outcome_put, with_outcome_taken, after_split, split_off, with_joined, IsEmpty, IsOnlyPass, JobsLeft, OutcomesLeft};
 ghost use Rattle.audit_run.specs.declared.message.Job.{Job};
 ghost use Rattle.audit_run.specs.declared.message.Outcome.{Outcome};
 
@@ -54,9 +54,21 @@ impl Model for Pass {
 
     ghost Value = { PassView };
 
-    ghost view = { λ p. record { handoff = (p.jobs.table_id, p.outcomes.table_id); names = names_in (known p.jobs).names; weight = (known p.jobs).weight; jobs_put = (known p.jobs).put; jobs_taken = (known p.jobs).taken; outcomes_put = (known p.outcomes).put; outcomes_taken = (known p.outcomes).taken } };
+    ghost view = { λ p. record {
+      handoff = (p.jobs.table_id, p.outcomes.table_id);
+      names = names_in
+          (known p.jobs).names;
+      weight = (known p.jobs).weight;
+      jobs_put = (known p.jobs).put;
+      jobs_taken = (known p.jobs).taken;
+      outcomes_put = (known p.outcomes).put;
+      outcomes_taken =
+          (known p.outcomes).taken;
+    } };
 
-    ghost invariant = { λ p. (p.jobs.me.1 ≡ []) × (p.outcomes.me.1 ≡ []) × (0 < (known p.jobs).weight) × ((known p.outcomes).weight ≡ (known p.jobs).weight) × ((known p.outcomes).names ≡ (known p.jobs).names) × IsSome (known p.jobs).names };
+    ghost invariant = { λ p. (p.jobs.me.1 ≡ []) × (p.outcomes.me.1 ≡ [])
+        × (0 < (known p.jobs).weight) × ((known p.outcomes).weight ≡ (known p.jobs).weight)
+        × ((known p.outcomes).names ≡ (known p.jobs).names) × IsSome (known p.jobs).names };
 }
 
 // Creates the queues for the names of `J`, which the call chooses.
@@ -65,7 +77,7 @@ fn opened<J: Naming<Names>>(
     policy: &Checked,
     directory: &Directory,
 ) -> Result<(Handoff, Pass), AllocError>
-    requires { J.names ≡ Some (names_of policy.now directory.now) }
+    requires { J.names ≡ Some (names_under policy.now directory.now) }
     ensures { IfOk result (λ r. r.1 ≡ new_pass r.0 policy.now directory.now) }
 {
     let (jobs, jobs_seat) = rule::open::<Job, Names, J>(alloc)?;
@@ -98,7 +110,7 @@ impl Handoff {
         requires pass { pass.old.handoff ≡ self.now }
         ensures answer { MatchResult result (λ _. pass.new ≡ with_job_put pass.old job)
             (λ back. (back ≡ job) × (pass.new ≡ pass.old)) }
-        ensures whole { IsWhole pass.old → (left : List Job) × JobsLeft pass.old left
+        ensures whole { IsOnlyPass pass.old → (left : List Job) × JobsLeft pass.old left
             × MatchResult result (λ _. length left < 256) (λ _. length left ≡ 256) }
     {
         rule::put(rt, &self.jobs, &mut pass.jobs, job)
@@ -110,7 +122,7 @@ impl Handoff {
         requires pass { pass.old.handoff ≡ self.now }
         ensures answer { MatchOption result (pass.new ≡ pass.old)
             (λ job. pass.new ≡ with_job_taken pass.old job) }
-        ensures whole { IsWhole pass.old → MatchOption result (JobsLeft pass.old [])
+        ensures whole { IsOnlyPass pass.old → MatchOption result (JobsLeft pass.old [])
             (λ job. (rest : List Job) × JobsLeft pass.old (job ∷ rest)) }
     {
         rule::take(rt, &self.jobs, &mut pass.jobs)
@@ -128,7 +140,7 @@ impl Handoff {
         requires verdict { IsRight pass.old.names outcome }
         ensures answer { MatchResult result (λ _. pass.new ≡ with_outcome_put pass.old outcome)
             (λ back. (back ≡ outcome) × (pass.new ≡ pass.old)) }
-        ensures whole { IsWhole pass.old → (left : List Outcome) × OutcomesLeft pass.old left
+        ensures whole { IsOnlyPass pass.old → (left : List Outcome) × OutcomesLeft pass.old left
             × MatchResult result (λ _. length left < 256) (λ _. length left ≡ 256) }
     {
         rule::put(rt, &self.outcomes, &mut pass.outcomes, outcome)
@@ -141,7 +153,7 @@ impl Handoff {
         ensures answer { MatchOption result (pass.new ≡ pass.old)
             (λ outcome. pass.new ≡ with_outcome_taken pass.old outcome) }
         ensures verdict { IfSome result (IsRight pass.old.names) }
-        ensures whole { IsWhole pass.old → MatchOption result (OutcomesLeft pass.old [])
+        ensures whole { IsOnlyPass pass.old → MatchOption result (OutcomesLeft pass.old [])
             (λ outcome. (rest : List Outcome) × OutcomesLeft pass.old (outcome ∷ rest)) }
     {
         rule::take(rt, &self.outcomes, &mut pass.outcomes)

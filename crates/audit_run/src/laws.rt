@@ -20,7 +20,7 @@ ghost use Rattle.audit_run.specs.IsAuditResult.{IsOutcome, NoneRefused};
 ghost use Rattle.audit_run.specs.Outcome.{AreWhole, HaveRefused, IsReport, Lack};
 ghost use Rattle.audit_run.specs.Parts.{AreRead, Stated, faults_of, parts_by_owner, run_jobs};
 ghost use Rattle.audit_run.specs.Roster.{roster};
-ghost use Rattle.audit_run.specs.Shards.{AreApart, AreShards, IsJoined, IsNoneOfSources, IsOfEither, MayReturn, fault_after, joined_report, names_of_sources};
+ghost use Rattle.audit_run.specs.Shards.{AreDisjoint, AreShards, IsJoined, IsNoneOfSources, IsOfEither, MayReturn, fault_after, joined_report, names_of_sources};
 
 /// If a collector refuses an arrival, the sources have the fault that it names, whatever the order of the answers to
 /// all jobs and the number of workers.
@@ -38,7 +38,8 @@ pub fn refusals_are_of_sources()
 pub fn lacks_are_of_sources()
     ensures { (names : Names) (sources : List (List ℕ)) (states : List Stated) (workers : ℕ)
         (outcomes : List Outcome) (held : List SenderState) (what : Unfinished)
-        → IsPermutation (map (answer names) (run_jobs workers (parts_by_owner sources states))) outcomes
+        → IsPermutation (map (answer names) (run_jobs workers (parts_by_owner sources states)))
+        outcomes
         → after (start (roster sources)) (arrivals_of outcomes) ≡ Ok held → IsFirstMissing held what
         → Lack (length (roster sources)) (parts_by_owner sources states) what }
 {}
@@ -48,12 +49,14 @@ pub fn lacks_are_of_sources()
 pub fn reports_are_of_sources()
     ensures whole { (names : Names) (sources : List (List ℕ)) (states : List Stated) (workers : ℕ)
         (outcomes : List Outcome) (held : List SenderState)
-        → IsPermutation (map (answer names) (run_jobs workers (parts_by_owner sources states))) outcomes
+        → IsPermutation (map (answer names) (run_jobs workers (parts_by_owner sources states)))
+        outcomes
         → after (start (roster sources)) (arrivals_of outcomes) ≡ Ok held → AllFinished held
         → AreWhole (length (roster sources)) (parts_by_owner sources states) }
     ensures report { (names : Names) (sources : List (List ℕ)) (states : List Stated) (workers : ℕ)
         (outcomes : List Outcome) (held : List SenderState)
-        → IsPermutation (map (answer names) (run_jobs workers (parts_by_owner sources states))) outcomes
+        → IsPermutation (map (answer names) (run_jobs workers (parts_by_owner sources states)))
+        outcomes
         → after (start (roster sources)) (arrivals_of outcomes) ≡ Ok held → AllFinished held
         → IsReport names (roster sources) (parts_by_owner sources states) (report_of held) }
 {}
@@ -81,7 +84,7 @@ pub fn rosters_are_distinct()
 /// If each list has a report, the report of both is the first's rows followed by the second's; both have a report only
 /// if each list has one. The text of the joined report is the first's followed by the second's without its header.
 pub fn shards_have_joined_reports()
-    ensures roster { (first : List (List ℕ)) (second : List (List ℕ)) → AreApart first second
+    ensures roster { (first : List (List ℕ)) (second : List (List ℕ)) → AreDisjoint first second
         → roster (first ++ second) ≡ roster first ++ roster second }
     ensures report { (names : Names) (first : List (List ℕ)) (second : List (List ℕ))
         (states : List Stated) (more : List Stated) (report : Report) (other : Report)
@@ -128,22 +131,22 @@ pub fn shards_have_their_refusals()
 pub fn audits_of_shards_join()
     ensures report { (names : Names) (first : List (List ℕ × Ahead))
         (second : List (List ℕ × Ahead)) (report : Report) (other : Report) (whole : Report)
-        → AreApart (names_of_sources first) (names_of_sources second)
+        → AreDisjoint (names_of_sources first) (names_of_sources second)
         → MayReturn names first (Ok report) → MayReturn names second (Ok other)
         → MayReturn names (first ++ second) (Ok whole) → whole ≡ joined_report report other }
     ensures no_fault { (names : Names) (first : List (List ℕ × Ahead))
         (second : List (List ℕ × Ahead)) (report : Report) (other : Report) (fault : AuditFault)
-        → AreApart (names_of_sources first) (names_of_sources second)
+        → AreDisjoint (names_of_sources first) (names_of_sources second)
         → MayReturn names first (Ok report) → MayReturn names second (Ok other)
         → MayReturn names (first ++ second) (Err fault) → IsNoneOfSources fault }
     ensures first_refused { (names : Names) (first : List (List ℕ × Ahead))
         (second : List (List ℕ × Ahead)) (fault : AuditFault) (whole : Report)
-        → AreApart (names_of_sources first) (names_of_sources second)
+        → AreDisjoint (names_of_sources first) (names_of_sources second)
         → MayReturn names first (Err fault) → (IsNoneOfSources fault → ⊥)
         → MayReturn names (first ++ second) (Ok whole) → ⊥ }
     ensures second_refused { (names : Names) (first : List (List ℕ × Ahead))
         (second : List (List ℕ × Ahead)) (fault : AuditFault) (whole : Report)
-        → AreApart (names_of_sources first) (names_of_sources second)
+        → AreDisjoint (names_of_sources first) (names_of_sources second)
         → MayReturn names second (Err fault) → (IsNoneOfSources fault → ⊥)
         → MayReturn names (first ++ second) (Ok whole) → ⊥ }
 {}

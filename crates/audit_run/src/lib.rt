@@ -22,6 +22,7 @@ mod rule;
 mod sender;
 mod shared;
 mod source;
+mod wakes;
 mod worker;
 mod workers;
 

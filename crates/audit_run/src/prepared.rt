@@ -1,6 +1,6 @@
 //! The resources of a run, made before any of its threads starts.
 ghost use Rattle.std.specs.Prelude.{◌≡◌, ◌+◌, ◌<◌, None, All, IfOk, vec_len};
-ghost use Rattle.audit_run.specs.Names.{names_of};
+ghost use Rattle.audit_run.specs.Names.{names_under};
 ghost use Rattle.audit_run.specs.Passes.{split_off};
 ghost use Rattle.audit_run.specs.Body.FreshPasses.{after_splits};
 ghost use Rattle.audit_run.specs.Body.Run.{IsReady};
@@ -49,7 +49,7 @@ fn split_passes<R: Wait>(
         × (pass.new ≡ after_splits pass.old count)) }
 {
     let mut passes = Vec::with_capacity(alloc, count)?;
-    for _place in 0..count {
+    for _index in 0..count {
         passes.push(pass.split(rt, handoff))?;
     }
     Ok(passes)
@@ -66,7 +66,7 @@ pub fn prepare<R: Wait>(
     workers: usize,
 ) -> Result<PreparedRun, AllocError>
     requires pass { (pass.old.handoff ≡ shared.handoff.now)
-        × (pass.old.names ≡ names_of shared.policy.now shared.directory.now) }
+        × (pass.old.names ≡ names_under shared.policy.now shared.directory.now) }
     requires weight { (sources + workers) + 1 < pass.old.weight }
     ensures ready { IfOk result (λ prepared. IsReady shared.entry.handoff.now
         shared.entry.policy.now

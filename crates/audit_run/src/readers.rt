@@ -4,9 +4,11 @@ ghost use Rattle.audit_run.specs.Parts.{Stated, fault_in, put_by_sources};
 ghost use Rattle.audit_run.specs.Body.FreshPasses.{IsFresh};
 ghost use Rattle.audit_run.specs.Body.Work.{AreParts, HasSent, joined_sources, part_ahead};
 
-use crate::sender::{put_job, send};
+use crate::sender::{put_end, send};
+use crate::shared::Shared;
 use crate::source::Part;
-use crate::{Handoff, Job, Pass};
+use crate::wakes::Wakes;
+use crate::{Handoff, Pass};
 use audit_files::{Feed, FileFault, read_requests};
 use std::alloc::Global;
 use std::snapshot::Snapshot;
@@ -41,6 +43,7 @@ fn read_and_send<R: Wait, F: Feed + Drop>(
     alloc: Global,
     rt: &R,
     handoff: &Handoff,
+    wakes: &Wakes,
     mut pass: Pass,
     part: Part<F>,
 ) -> Sent
@@ -50,11 +53,11 @@ fn read_and_send<R: Wait, F: Feed + Drop>(
     let Part { owner, mut reader } = part;
     match read_requests(alloc, &mut reader) {
         Ok(requests) => Sent {
-            pass: send(rt, handoff, pass, owner, requests),
+            pass: send(rt, handoff, wakes, pass, owner, requests),
             fault: None,
         },
         Err(fault) => {
-            put_job(rt, handoff, &mut pass, Job::End { sender: owner });
+            put_end(rt, handoff, wakes, &mut pass, owner);
             Sent {
                 pass,
                 fault: Some(fault),
@@ -68,12 +71,14 @@ fn start_reader<'s, 'e: 's, R: Threads + Wait + Sync, F: Feed + Drop + Send + 'e
     rt: &'e R,
     scope: &Scope<'s, &'e ()>,
     handoff: &'e Handoff,
+    wakes: &'e Wakes,
     pass: Pass,
     part: Part<F>,
 ) -> Option<ReaderHandle<F>>
     requires { pass.handoff ≡ handoff.now }
     ensures before { IfSome result (λ h. h.promise.before.value ≡ pass) }
-    ensures readable_bytes { IfSome result (λ h. part_ahead h.promise.owner (F.ahead h.promise.reader.value)
+    ensures readable_bytes { IfSome result (λ h. part_ahead h.promise.owner (F.ahead
+        h.promise.reader.value)
         ≡ part_ahead part.owner (F.ahead part.reader)) }
 {
     let promise = SourceRan {
@@ -84,35 +89,41 @@ fn start_reader<'s, 'e: 's, R: Threads + Wait + Sync, F: Feed + Drop + Send + 'e
     let body = move || -> Sent
         requires { pass.handoff ≡ handoff.now }
         ensures { HasSent (F.ahead part.reader) pass part.owner result }
-    { read_and_send(alloc, rt, handoff, pass, part) };
+    { read_and_send(alloc, rt, handoff, wakes, pass, part) };
     scope.spawn_with(promise, body).ok()
 }
 
 /// Starts a thread for each source, and appends its handle, for which `handles` needs capacity.
 /// Returns false if one could not be started, and then starts no further one.
 pub fn start_readers<'s, 'e: 's, R: Threads + Wait + Sync, F: Feed + Drop + Send + 'e>(
-    alloc: Global,
     rt: &'e R,
     scope: &Scope<'s, &'e ()>,
-    handoff: &'e Handoff,
+    shared: Shared<'e>,
     mut passes: Vec<Pass>,
     parts: Vec<Part<F>>,
     handles: &mut Vec<ReaderHandle<F>>,
 ) -> bool
-    requires passes { All (λ p. IsFresh handoff.now p) passes.items
+    requires passes { All (λ p. IsFresh shared.handoff.now p) passes.items
         × (vec_len passes ≡ vec_len parts) }
     requires room { (vec_len parts ≤ vec_capacity handles.old) × (vec_len handles.old ≡ 0) }
-    ensures fresh { All (λ h. IsFresh handoff.now h.promise.before.value) handles.new.items }
+    ensures fresh { All (λ h. IsFresh shared.entry.handoff.now h.promise.before.value)
+        handles.new.items }
     ensures few { vec_len handles.new ≤ vec_len parts }
     ensures all { IsTrue result → map (λ h. part_ahead h.promise.owner
         (F.ahead h.promise.reader.value)) handles.new.items
         ≡ map (λ p. part_ahead p.owner (F.ahead p.reader)) parts.items }
 {
+    let Shared {
+        alloc,
+        handoff,
+        wakes,
+        ..
+    } = shared;
     for part in parts {
         let Some(pass) = passes.pop() else {
             unreachable!()
         };
-        let Some(handle) = start_reader(alloc, rt, scope, handoff, pass, part) else {
+        let Some(handle) = start_reader(alloc, rt, scope, handoff, wakes, pass, part) else {
             return false;
         };
         let Ok(()) = handles.push(handle) else {

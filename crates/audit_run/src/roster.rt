@@ -4,7 +4,7 @@ ghost use Rattle.std.specs.List.{zip};
 ghost use Rattle.audit_collect.specs.SenderState.{start};
 ghost use Rattle.audit_collect.specs.Roster.{AreDistinct, IsRoster};
 ghost use Rattle.audit_run.specs.Body.Concluded.{RefusesSenders};
-ghost use Rattle.audit_run.specs.Roster.{owners, place_of, places_in, roster};
+ghost use Rattle.audit_run.specs.Roster.{owners, index_in, indices_in, roster};
 ghost use Rattle.audit_run.specs.Body.Work.{part_ahead};
 
 use crate::fault::AuditFault;
@@ -35,20 +35,20 @@ fn split_sources<F: Drop>(
 }
 
 // Returns the index of the first name equal to this one, or the number of names if there is none.
-fn place_in(names: &[Seq<u8>], name: &[u8]) -> usize
-    ensures place { result ≡ place_of name.now names.now }
+fn index_within(names: &[Seq<u8>], name: &[u8]) -> usize
+    ensures index { result ≡ index_in name.now names.now }
     ensures within { result ≤ length names.now }
 {
-    let mut place = 0;
+    let mut index = 0;
     let mut left = names;
     while let Some((first, rest)) = left.split_first() {
         if first.as_slice() == name {
-            return place;
+            return index;
         }
-        place += 1;
+        index += 1;
         left = rest;
     }
-    place
+    index
 }
 
 // Returns each name once, in the order of first appearance.
@@ -59,7 +59,7 @@ fn roster_of(alloc: Global, names: &[Seq<u8>]) -> Result<Vec<Seq<u8>>, AllocErro
     let mut found: Vec<Seq<u8>> = Vec::new(alloc);
     let mut left = names;
     while let Some((name, rest)) = left.split_first() {
-        if place_in(&found, name.as_slice()) == found.len() {
+        if index_within(&found, name.as_slice()) == found.len() {
             found.push(Seq::from_slice(alloc, name.as_slice())?)?;
         }
         left = rest;
@@ -76,7 +76,7 @@ fn parts_of<F: Feed + Drop>(
 ) -> Result<Vec<Part<F>>, AllocError>
     requires { (length names.now ≡ vec_len readers) × (length roster.now < 2 ^ 32) }
     ensures parts { IfOk result (λ r. map (λ p. part_ahead p.owner (F.ahead p.reader)) r.items
-        ≡ zip (places_in roster.now names.now) (map F.ahead readers.items)) }
+        ≡ zip (indices_in roster.now names.now) (map F.ahead readers.items)) }
     ensures length { IfOk result (λ r. vec_len r ≡ vec_len readers) }
 {
     let mut parts = Vec::with_capacity(alloc, readers.len())?;
@@ -85,7 +85,7 @@ fn parts_of<F: Feed + Drop>(
         let Some((name, rest)) = left.split_first() else {
             unreachable!()
         };
-        let owner = place_in(roster, name.as_slice()) as u32;
+        let owner = index_within(roster, name.as_slice()) as u32;
         parts.push(Part { owner, reader })?;
         left = rest;
     }

@@ -1,16 +1,17 @@
-//! A sender: puts the jobs of one requests file.
+//! What the thread of a source does: puts the jobs of one requests file.
 ghost use Rattle.std.specs.Prelude.{◌≡◌};
 ghost use Rattle.audit_run.specs.Passes.{with_job_put};
 ghost use Rattle.audit_run.specs.Parts.{jobs_of};
+ghost use Rattle.audit_run.specs.declared.message.Job.TheVariants.{End};
 ghost use Rattle.audit_run.specs.Body.Work.{putting_jobs};
 
+use crate::wakes::{Need, Tries, Wakes};
 use crate::{Handoff, Job, Pass};
 use audit_files::Requests;
 use std::sync::Wait;
-use std::thread;
 
-/// Puts a job. Tries again while the queue is full.
-pub fn put_job<R: Wait>(rt: &R, handoff: &Handoff, pass: &mut Pass, job: Job)
+// Puts a job. Waits while the queue is full.
+fn put_waiting<R: Wait>(rt: &R, handoff: &Handoff, tries: &mut Tries<'_>, pass: &mut Pass, job: Job)
     requires { pass.old.handoff ≡ handoff.now }
     ensures { pass.new ≡ with_job_put pass.old job }
 {
@@ -20,17 +21,36 @@ pub fn put_job<R: Wait>(rt: &R, handoff: &Handoff, pass: &mut Pass, job: Job)
             Ok(()) => return,
             Err(back) => {
                 waiting = back;
-                thread::yield_now();
+                tries.failed(rt);
             }
         }
     }
     unreachable!()
 }
 
+// Puts a job. A function of its own owns the tries, so that those with loops own less.
+fn put_job<R: Wait>(rt: &R, handoff: &Handoff, wakes: &Wakes, pass: &mut Pass, job: Job)
+    requires { pass.old.handoff ≡ handoff.now }
+    ensures { pass.new ≡ with_job_put pass.old job }
+{
+    let mut tries = Tries::new(wakes, Need::JobRoom);
+    put_waiting(rt, handoff, &mut tries, pass, job);
+}
+
+/// Puts `End`, and wakes all workers that sleep: the sender puts no further job.
+pub fn put_end<R: Wait>(rt: &R, handoff: &Handoff, wakes: &Wakes, pass: &mut Pass, sender: u32)
+    requires { pass.old.handoff ≡ handoff.now }
+    ensures { pass.new ≡ with_job_put pass.old (End sender) }
+{
+    put_job(rt, handoff, wakes, pass, Job::End { sender });
+    wakes.wake_all(Need::JobRoom);
+}
+
 /// Puts the requests in order, the close mark if there is one, and `End`.
 pub fn send<R: Wait>(
     rt: &R,
     handoff: &Handoff,
+    wakes: &Wakes,
     mut pass: Pass,
     sender: u32,
     requests: Requests,
@@ -39,12 +59,15 @@ pub fn send<R: Wait>(
     ensures { result ≡ putting_jobs pass (jobs_of sender requests) }
 {
     let Requests { list, close } = requests;
+    let mut messages = 0u32;
     for request in list.into_vec() {
-        put_job(rt, handoff, &mut pass, Job::Ask { sender, request });
+        put_job(rt, handoff, wakes, &mut pass, Job::Ask { sender, request });
+        messages = messages.wrapping_add(1);
+        wakes.count(Need::JobRoom, messages);
     }
     if let Some(count) = close {
-        put_job(rt, handoff, &mut pass, Job::Close { sender, count });
+        put_job(rt, handoff, wakes, &mut pass, Job::Close { sender, count });
     }
-    put_job(rt, handoff, &mut pass, Job::End { sender });
+    put_end(rt, handoff, wakes, &mut pass, sender);
     pass
 }

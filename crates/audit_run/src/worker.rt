@@ -1,21 +1,27 @@
 //! A worker, which takes jobs and puts their outcomes.
 ghost use Rattle.std.specs.Prelude.{◌≡◌, ◌∷◌, ◌++◌, [], List};
-ghost use Rattle.audit_run.specs.Names.{names_of, answer, IsRight};
-ghost use Rattle.audit_run.specs.Passes.{with_outcome_put};
+ghost use Rattle.audit_run.specs.Names.{names_under, answer, IsRight};
+ghost use Rattle.audit_run.specs.Passes.{with_job_taken, with_outcome_put};
 ghost use Rattle.audit_run.specs.declared.message.Job.{Job};
 ghost use Rattle.audit_run.specs.Body.Work.{after_work};
 ghost use Rattle.sudo_verdict.specs.Postings.{Indexes};
 
 use crate::gate::Gate;
 use crate::shared::Shared;
+use crate::wakes::{Need, Tries};
 use crate::{Handoff, Job, Outcome, Pass};
 use audit_collect::{Answer, Arrival};
 use std::sync::Wait;
-use std::thread;
 use sudo_match::Request;
 
-/// Puts an outcome, retrying while the queue is full.
-pub fn put_outcome_waiting<R: Wait>(rt: &R, handoff: &Handoff, pass: &mut Pass, outcome: Outcome)
+// Puts an outcome. Waits while the queue is full.
+fn put_trying<R: Wait>(
+    rt: &R,
+    handoff: &Handoff,
+    tries: &mut Tries<'_>,
+    pass: &mut Pass,
+    outcome: Outcome,
+)
     requires pass { pass.old.handoff ≡ handoff.now }
     requires verdict { IsRight pass.old.names outcome }
     ensures { pass.new ≡ with_outcome_put pass.old outcome }
@@ -26,11 +32,44 @@ pub fn put_outcome_waiting<R: Wait>(rt: &R, handoff: &Handoff, pass: &mut Pass, 
             Ok(()) => return,
             Err(back) => {
                 waiting = back;
-                thread::yield_now();
+                tries.failed(rt);
             }
         }
     }
     unreachable!()
+}
+
+// Puts an outcome. A function of its own owns the tries, so that those with loops own less.
+fn put_outcome_waiting<R: Wait>(rt: &R, shared: Shared<'_>, pass: &mut Pass, outcome: Outcome)
+    requires pass { pass.old.handoff ≡ shared.handoff.now }
+    requires verdict { IsRight pass.old.names outcome }
+    ensures { pass.new ≡ with_outcome_put pass.old outcome }
+{
+    let mut tries = Tries::new(shared.wakes, Need::OutcomeRoom);
+    put_trying(rt, shared.handoff, &mut tries, pass, outcome);
+}
+
+// Takes a job. Waits while there is none.
+fn take_trying<R: Wait>(rt: &R, handoff: &Handoff, tries: &mut Tries<'_>, pass: &mut Pass) -> Job
+    requires { pass.old.handoff ≡ handoff.now }
+    ensures { pass.new ≡ with_job_taken pass.old result }
+{
+    for _ in rt.forever() {
+        match handoff.take_job(rt, pass) {
+            Some(job) => return job,
+            None => tries.failed(rt),
+        }
+    }
+    unreachable!()
+}
+
+// Takes a job.
+fn take_job_waiting<R: Wait>(rt: &R, shared: Shared<'_>, pass: &mut Pass) -> Job
+    requires { pass.old.handoff ≡ shared.handoff.now }
+    ensures { pass.new ≡ with_job_taken pass.old result }
+{
+    let mut tries = Tries::new(shared.wakes, Need::Job);
+    take_trying(rt, shared.handoff, &mut tries, pass)
 }
 
 // Judges a request and puts the answer, between the two calls of the gate.
@@ -43,10 +82,10 @@ fn answer_request<R: Wait, G: Gate>(
     request: Request,
 )
     requires pass { pass.old.handoff ≡ shared.handoff.now }
-    requires names { pass.old.names ≡ names_of shared.policy.now shared.directory.now }
+    requires names { pass.old.names ≡ names_under shared.policy.now shared.directory.now }
     requires index { Indexes shared.policy.now shared.index.now }
     ensures { pass.new ≡ with_outcome_put pass.old
-        (answer (names_of shared.entry.policy.now shared.entry.directory.now)
+        (answer (names_under shared.entry.policy.now shared.entry.directory.now)
         (Job.Ask sender request)) }
 {
     let Shared {
@@ -63,22 +102,17 @@ fn answer_request<R: Wait, G: Gate>(
         request,
         verdict,
     };
-    put_outcome_waiting(
-        rt,
-        shared.handoff,
-        pass,
-        Outcome::Arrived(Arrival::Reply(reply)),
-    );
+    put_outcome_waiting(rt, shared, pass, Outcome::Arrived(Arrival::Reply(reply)));
     gate.after(sender, number);
 }
 
 /// Puts the outcome of a job.
 pub fn answer_job<R: Wait, G: Gate>(rt: &R, shared: Shared<'_>, gate: &G, pass: &mut Pass, job: Job)
     requires pass { pass.old.handoff ≡ shared.handoff.now }
-    requires names { pass.old.names ≡ names_of shared.policy.now shared.directory.now }
+    requires names { pass.old.names ≡ names_under shared.policy.now shared.directory.now }
     requires index { Indexes shared.policy.now shared.index.now }
     ensures { pass.new ≡ with_outcome_put pass.old
-        (answer (names_of shared.entry.policy.now shared.entry.directory.now) job) }
+        (answer (names_under shared.entry.policy.now shared.entry.directory.now) job) }
 {
     let outcome = match job {
         Job::Ask { sender, request } => {
@@ -88,27 +122,30 @@ pub fn answer_job<R: Wait, G: Gate>(rt: &R, shared: Shared<'_>, gate: &G, pass: 
         Job::End { sender } => Outcome::End { sender },
         Job::Stop => Outcome::Stopped,
     };
-    put_outcome_waiting(rt, shared.handoff, pass, outcome);
+    put_outcome_waiting(rt, shared, pass, outcome);
 }
 
 /// Takes jobs and puts their outcomes, up to and including `Stop`.
 pub fn work<R: Wait, G: Gate>(rt: &R, shared: Shared<'_>, gate: &G, mut pass: Pass) -> Pass
     requires pass { pass.handoff ≡ shared.handoff.now }
-    requires names { pass.names ≡ names_of shared.policy.now shared.directory.now }
+    requires names { pass.names ≡ names_under shared.policy.now shared.directory.now }
     requires index { Indexes shared.policy.now shared.index.now }
     ensures { (jobs : List Job) × (result ≡ after_work
-        (names_of shared.entry.policy.now shared.entry.directory.now) pass
+        (names_under shared.entry.policy.now shared.entry.directory.now) pass
         (jobs ++ Job.Stop ∷ [])) }
 {
+    let mut messages = 0u32;
     for _ in rt.forever() {
-        match shared.handoff.take_job(rt, &mut pass) {
-            None => thread::yield_now(),
-            Some(Job::Stop) => {
-                put_outcome_waiting(rt, shared.handoff, &mut pass, Outcome::Stopped);
+        messages = messages.wrapping_add(1);
+        match take_job_waiting(rt, shared, &mut pass) {
+            Job::Stop => {
+                put_outcome_waiting(rt, shared, &mut pass, Outcome::Stopped);
+                shared.wakes.wake_all(Need::Job);
                 return pass;
             }
-            Some(job) => answer_job(rt, shared, gate, &mut pass, job),
+            job => answer_job(rt, shared, gate, &mut pass, job),
         }
+        shared.wakes.count(Need::Job, messages);
     }
     unreachable!()
 }

@@ -1,6 +1,6 @@
 //! Starts the workers of an audit, and joins them.
 ghost use Rattle.std.specs.Prelude.{◌≡◌, ◌+◌, ◌≤◌, List, All, IfSome, vec_len, vec_capacity, IsTrue};
-ghost use Rattle.audit_run.specs.Names.{names_of};
+ghost use Rattle.audit_run.specs.Names.{names_under};
 ghost use Rattle.audit_run.specs.declared.message.Job.{Job};
 ghost use Rattle.audit_run.specs.Body.FreshPasses.{fresh};
 ghost use Rattle.audit_run.specs.Body.Work.{HasWorked, joined_workers};
@@ -35,7 +35,7 @@ fn start_worker<'s, 'e: 's, R: Threads + Wait + Sync, G: Gate + Sync>(
     pass: Pass,
 ) -> Option<WorkerHandle>
     requires pass { pass.handoff ≡ shared.handoff.now }
-    requires names { pass.names ≡ names_of shared.policy.now shared.directory.now }
+    requires names { pass.names ≡ names_under shared.policy.now shared.directory.now }
     requires index { Indexes shared.policy.now shared.index.now }
     ensures { IfSome result (λ h. h.promise.before.value ≡ pass) }
 {
@@ -50,10 +50,11 @@ fn start_worker<'s, 'e: 's, R: Threads + Wait + Sync, G: Gate + Sync>(
         index,
         directory,
         handoff,
+        wakes,
     } = shared;
     let body = move || -> Pass
         requires pass { pass.handoff ≡ handoff.now }
-        requires names { pass.names ≡ names_of policy.now directory.now }
+        requires names { pass.names ≡ names_under policy.now directory.now }
         requires index { Indexes policy.now index.now }
         ensures { HasWorked pass result }
     {
@@ -63,6 +64,7 @@ fn start_worker<'s, 'e: 's, R: Threads + Wait + Sync, G: Gate + Sync>(
             index,
             directory,
             handoff,
+            wakes,
         };
         work(rt, shared, gate, pass)
     };
@@ -112,7 +114,7 @@ pub fn join_workers<R: Threads + Wait>(
     requires fresh { All (λ h. h.promise.before.value
         ≡ fresh shared.handoff.now shared.policy.now shared.directory.now) handles.items }
     ensures { (jobs : List Job) × (pass.new ≡ joined_workers
-        (names_of shared.entry.policy.now shared.entry.directory.now) pass.old
+        (names_under shared.entry.policy.now shared.entry.directory.now) pass.old
         (vec_len handles) jobs) }
 {
     for handle in handles {

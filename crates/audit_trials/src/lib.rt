@@ -34,3 +34,5 @@ mod source_trials;
 mod standing_trials;
 #[cfg(test)]
 mod thread_trials;
+#[cfg(test)]
+mod wake_trials;

@@ -48,8 +48,8 @@ fn senders_are_limited(rt: HostRuntime) -> Result<(), Fail> {
     Ok(())
 }
 
-// Returns the words of a source with this name, with requests 1 to 1,000 and this close mark.
-fn thousand(alloc: Global, name: &str, close: u32) -> Result<String, AllocError> {
+/// Returns the words of a source with this name, with requests 1 to 1,000 and this close mark.
+pub(crate) fn thousand(alloc: Global, name: &str, close: u32) -> Result<String, AllocError> {
     let mut text = format!(in alloc; "{name}:")?;
     for number in 1..1001u32 {
         let word = format!(in alloc; " {number}=kill")?;

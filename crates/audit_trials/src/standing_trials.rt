@@ -39,8 +39,8 @@ struct Standing<'a, F> {
     late: &'a AtomicU64,
 }
 
-// Waits until the count reaches `until`, and counts a wait that is in vain.
-fn wait_until(count: &AtomicU64, until: u64, late: &AtomicU64) {
+/// Waits until the count reaches `until`, and counts a wait that is in vain.
+pub(crate) fn wait_until(count: &AtomicU64, until: u64, late: &AtomicU64) {
     for _ in 0..TURNS {
         if count.load(Ordering::SeqCst) >= until {
             return;

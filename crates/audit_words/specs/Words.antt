@@ -66,12 +66,12 @@ abbrev pub IsNumberIn : ℕ → List Row → Type 0
 IsNumberIn workers rows = (text : Text) × (one_of (codes "workers") rows ≡ Some text) × ParsesUnsigned {E = ParseIntError} 32 10 text (Ok workers)
 
 -- the rows of the subcommand hold this command
-abbrev pub States : Asked → Text × List Row → Type 0
-States (Check file) p = (p.0 ≡ codes "check") × (first_of (codes "file") p.1 ≡ Some file.now)
-States (Expand file kind name) p =
+abbrev pub HoldsCommand : Asked → Text × List Row → Type 0
+HoldsCommand (Check file) p = (p.0 ≡ codes "check") × (first_of (codes "file") p.1 ≡ Some file.now)
+HoldsCommand (Expand file kind name) p =
     (p.0 ≡ codes "expand") × (first_of (codes "file") p.1 ≡ Some file.now)
     × (first_of (codes "kind") p.1 ≡ Some (kind_word kind)) × (first_of (codes "name") p.1 ≡ Some name.now)
-States (Audit file users hosts workers senders) p =
+HoldsCommand (Audit file users hosts workers senders) p =
     (p.0 ≡ codes "audit") × (first_of (codes "file") p.1 ≡ Some file.now)
     × (first_of (codes "users") p.1 ≡ Some users.now) × (first_of (codes "hosts") p.1 ≡ Some hosts.now)
     × IsNumberIn workers p.1 × (unwrap_or (all_of (codes "senders") p.1) [] ≡ map (λ s. s.now) senders.items)
@@ -84,7 +84,7 @@ WorkersFit (Audit file users hosts workers senders) = (1 ≤ workers) × (worker
 
 -- a subcommand with these rows asks for no command: its name is another, or its KIND is invalid
 abbrev pub AsksNothing : Text × List Row → Type 0
-AsksNothing p = (asked : Asked) → States asked p → ⊥
+AsksNothing p = (asked : Asked) → HoldsCommand asked p → ⊥
 
 -- `clap` does not accept the words, or they ask for no command
 abbrev pub IsMisuse : List Text → Type 0
@@ -93,9 +93,9 @@ IsMisuse words =
     ⊎ ((p : Text × List Row) → subcommand_of program_app words ≡ Some p → AsksNothing p)
 
 -- the error for refused words: out of memory, or they are misuse
-abbrev pub IsRefusal : List Text → Error → Type 0
-IsRefusal words error = (kind_of error ≡ OutOfMemory) ⊎ IsMisuse words
+abbrev pub IsErrorOfWords : List Text → Error → Type 0
+IsErrorOfWords words error = (kind_of error ≡ OutOfMemory) ⊎ IsMisuse words
 
 -- the error for words that cannot be read: misuse, as for an invalid value, or out of memory
-abbrev pub IsUnread : ErrorKind → Type 0
-IsUnread kind = (kind ≡ ValueValidation) ⊎ (kind ≡ OutOfMemory)
+abbrev pub IsUnreadableWord : ErrorKind → Type 0
+IsUnreadableWord kind = (kind ≡ ValueValidation) ⊎ (kind ≡ OutOfMemory)

@@ -1,7 +1,7 @@
 //! The words of the command line.
 ghost use Rattle.std.specs.Prelude.{◌≡◌, ◌≢◌, ◌≤◌, [], None, Some, IfErr, IfOk, IfSome, List, map, unwrap_or};
 ghost use Rattle.clap.specs.Words.{Row, Text, all_of, first_of, found_of, kind_of as error_kind, rows_of, subcommand_of};
-ghost use Rattle.audit_words.specs.Words.{AsksNothing, IsNumberIn, IsRefusal, IsUnread, States, WorkersFit, kind_word, program_app};
+ghost use Rattle.audit_words.specs.Words.{AsksNothing, IsNumberIn, IsErrorOfWords, IsUnreadableWord, HoldsCommand, WorkersFit, kind_word, program_app};
 
 use crate::program::program;
 use crate::request::Asked;
@@ -78,7 +78,7 @@ fn asked_by<'a>(
     given: &ArgMatches<'a>,
 ) -> Result<Option<Asked<'a>>, Error>
     ensures stated { IfOk result (λ o. IfSome o
-        (λ a. States a (name.now, rows_of (found_of given.now)))) }
+        (λ a. HoldsCommand a (name.now, rows_of (found_of given.now)))) }
     ensures workers { IfOk result (λ o. IfSome o WorkersFit) }
     ensures none { IfOk result (λ o. o ≡ None
         → AsksNothing (name.now, rows_of (found_of given.now))) }
@@ -120,9 +120,9 @@ fn asked_by<'a>(
 /// four.
 pub fn asked<'a, S: AsStr>(alloc: Global, words: &'a [S]) -> Result<Asked<'a>, Error>
     ensures stated { IfOk result (λ a. (p : Text × List Row)
-        × (subcommand_of program_app (map S.text words.entry.now) ≡ Some p) × States a p) }
+        × (subcommand_of program_app (map S.text words.entry.now) ≡ Some p) × HoldsCommand a p) }
     ensures workers { IfOk result WorkersFit }
-    ensures refused { IfErr result (λ e. IsRefusal (map S.text words.entry.now) e) }
+    ensures refused { IfErr result (λ e. IsErrorOfWords (map S.text words.entry.now) e) }
 {
     let mut command = program(alloc)?;
     let matches = command.try_get_matches_from_mut(words)?;
@@ -150,7 +150,7 @@ fn no_text(alloc: Global) -> Result<Error, AllocError>
 /// memory, or else a word that is not text, which is misuse.
 pub fn unread(alloc: Global, kind: ReadKind) -> Error
     ensures memory { kind ≡ ReadKind.OutOfMemory → error_kind result ≡ ErrorKind.OutOfMemory }
-    ensures kinds { IsUnread (error_kind result) }
+    ensures kinds { IsUnreadableWord (error_kind result) }
 {
     if kind == ReadKind::OutOfMemory {
         return Error::from(AllocError);

@@ -228,22 +228,34 @@ fn width(alloc: Global, checked: &Checked, name: &[u8]) -> Result<usize, ExpandF
     Ok(members.len())
 }
 
+// Returns the number of members of a command alias of the policy of a text, written out.
+fn width_in(alloc: Global, text: &str, name: &[u8]) -> Result<usize, Fail> {
+    let checked = checked(alloc, text)?;
+    Ok(width(alloc, &checked, name)?)
+}
+
+// Whether the policy of a text has an alias of this kind and name.
+fn has_alias(alloc: Global, text: &str, kind: Kind, name: &[u8]) -> Result<bool, Fail> {
+    let checked = checked(alloc, text)?;
+    Ok(checked.definition(kind, name).is_some())
+}
+
 #[test]
 fn a_policy_without_errors_is_taken(rt: HostRuntime) -> Result<(), Fail> {
     let alloc = rt.alloc();
-    let deep = checked(alloc, chain(alloc, 64)?.as_str())?;
-    assert_eq!(rt; width(alloc, &deep, b"A1")?, 1);
-    assert!(rt; deep.definition(Kind::Cmnd, b"A64").is_some());
-    assert!(rt; deep.definition(Kind::Cmnd, b"A65").is_none());
-    assert!(rt; deep.definition(Kind::Host, b"A64").is_none());
+    let deep = chain(alloc, 64)?;
+    assert_eq!(rt; width_in(alloc, deep.as_str(), b"A1")?, 1);
+    assert!(rt; has_alias(alloc, deep.as_str(), Kind::Cmnd, b"A64")?);
+    assert!(rt; !has_alias(alloc, deep.as_str(), Kind::Cmnd, b"A65")?);
+    assert!(rt; !has_alias(alloc, deep.as_str(), Kind::Host, b"A64")?);
     Ok(())
 }
 
 #[test]
 fn a_wide_alias_is_written_out(rt: HostRuntime) -> Result<(), Fail> {
     let alloc = rt.alloc();
-    let wide = checked(alloc, doubling(alloc, 16)?.as_str())?;
-    assert_eq!(rt; width(alloc, &wide, b"W16")?, 65_536);
+    let wide = doubling(alloc, 16)?;
+    assert_eq!(rt; width_in(alloc, wide.as_str(), b"W16")?, 65_536);
     Ok(())
 }
 
@@ -258,13 +270,18 @@ fn refusal(alloc: Global, fault: &CheckFault, given: &Policy) -> Result<String, 
     }
 }
 
+// Returns the fault for which a policy is not accepted, if it is handed back unchanged.
+fn refused_as(alloc: Global, policy: Policy, same: &Policy) -> Result<String, Fail> {
+    match check(alloc, policy) {
+        Ok(_checked) => Err(Fail::new("accepted")),
+        Err(fault) => Ok(refusal(alloc, &fault, same)?),
+    }
+}
+
 // Returns the fault for which the policy of one file is not accepted, if the policy is handed back unchanged.
 fn refused(alloc: Global, text: &str) -> Result<String, Fail> {
     let same = policy(alloc, text)?;
-    match check(alloc, policy(alloc, text)?) {
-        Ok(_checked) => Err(Fail::new("accepted")),
-        Err(fault) => Ok(refusal(alloc, &fault, &same)?),
-    }
+    refused_as(alloc, policy(alloc, text)?, &same)
 }
 
 #[test]

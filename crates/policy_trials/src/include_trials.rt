@@ -124,30 +124,27 @@ fn a_file_that_includes_itself(rt: HostRuntime) -> Result<(), Fail> {
     Ok(())
 }
 
+// Returns the places of the entries of a main file that has a line so many times, or its fault. It may include the file
+// `a` and the folder `d`, which are empty.
+fn loaded_of(alloc: Global, line: &str, count: u32) -> Result<String, AllocError> {
+    let supplies: [Supply; 2] = [file(alloc, "a", "")?, folder(alloc, "d", "")?];
+    let main = repeated(alloc, line, count)?;
+    loaded(alloc, "sudoers", main.as_str(), &supplies)
+}
+
 #[test]
 fn files_and_folders_are_counted(rt: HostRuntime) -> Result<(), Fail> {
     let alloc = rt.alloc();
-    let supplies: [Supply; 2] = [file(alloc, "a", "")?, folder(alloc, "d", "")?];
     // The main file counts as the first reading of a file.
-    let main = repeated(alloc, "@include a\n", 1023)?;
+    assert_eq!(rt; loaded_of(alloc, "@include a\n", 1023)?.as_str(), "");
     assert_eq!(rt;
-        loaded(alloc, "sudoers", main.as_str(), &supplies)?.as_str(),
-        ""
-    );
-    let main = repeated(alloc, "@include a\n", 1024)?;
-    assert_eq!(rt;
-        loaded(alloc, "sudoers", main.as_str(), &supplies)?.as_str(),
+        loaded_of(alloc, "@include a\n", 1024)?.as_str(),
         "0=sudoers:1024, 1024: too many files, 1024 read"
     );
     // Folders are counted separately.
-    let main = repeated(alloc, "@includedir d\n", 1024)?;
+    assert_eq!(rt; loaded_of(alloc, "@includedir d\n", 1024)?.as_str(), "");
     assert_eq!(rt;
-        loaded(alloc, "sudoers", main.as_str(), &supplies)?.as_str(),
-        ""
-    );
-    let main = repeated(alloc, "@includedir d\n", 1025)?;
-    assert_eq!(rt;
-        loaded(alloc, "sudoers", main.as_str(), &supplies)?.as_str(),
+        loaded_of(alloc, "@includedir d\n", 1025)?.as_str(),
         "0=sudoers:1025, 1025: too many files, 1 read"
     );
     Ok(())

@@ -4,23 +4,23 @@ use Rattle.std.specs.Prelude.{Vec, bytes_eq}
 use Rattle.std.specs.Map.{lookup}
 use Rattle.std.specs.declared.alloc.Global.{Global}
 use Rattle.indexmap.specs.IndexMap.{insert_entry}
-use Rattle.sudo_base.specs.NameEntry.{bare}
+use Rattle.sudo_base.specs.NameEntry.{entry_by_list}
 use Rattle.sudo_base.specs.NameIndices.{index_of}
 
 -- a look-up among the entries is one among the names
-pub lookup_bare : (name : List ℕ) (es : List (Vec ℕ Global × ℕ)) → lookup (λ k. bytes_eq name k.items) es ≡ index_of (map bare es) name
+pub lookup_bare : (name : List ℕ) (es : List (Vec ℕ Global × ℕ)) → lookup (λ k. bytes_eq name k.items) es ≡ index_of (map entry_by_list es) name
 lookup_bare name [] = refl
 lookup_bare name (e ∷ es) = ap (λ r. cond (bytes_eq name e.0.items) (Some e.1) r) (lookup_bare name es)
 
 abbrev same_key : Vec ℕ Global → Vec ℕ Global → Bool
 same_key k l = bytes_eq k.items l.items
 
-insert_step : (b : Bool) (e : Vec ℕ Global × ℕ) (es xs : List (Vec ℕ Global × ℕ)) (ys : List (List ℕ × ℕ)) (i v : ℕ) (r : Option ℕ) → cond b (Some i) r ≡ None → (r ≡ None → map bare xs ≡ ys) → map bare (cond b ((e.0, v) ∷ es) (e ∷ xs)) ≡ bare e ∷ ys
+insert_step : (b : Bool) (e : Vec ℕ Global × ℕ) (es xs : List (Vec ℕ Global × ℕ)) (ys : List (List ℕ × ℕ)) (i v : ℕ) (r : Option ℕ) → cond b (Some i) r ≡ None → (r ≡ None → map entry_by_list xs ≡ ys) → map entry_by_list (cond b ((e.0, v) ∷ es) (e ∷ xs)) ≡ entry_by_list e ∷ ys
 insert_step true e es xs ys i v r none rest = cc
-insert_step false e es xs ys i v r none rest = ap (λ zs. bare e ∷ zs) (rest none)
+insert_step false e es xs ys i v r none rest = ap (λ zs. entry_by_list e ∷ zs) (rest none)
 
 -- a new name goes last
-pub insert_bare : (key : Vec ℕ Global) (v : ℕ) (es : List (Vec ℕ Global × ℕ)) → index_of (map bare es) key.items ≡ None → map bare (insert_entry same_key es key v) ≡ map bare es ++ (key.items, v) ∷ []
+pub insert_bare : (key : Vec ℕ Global) (v : ℕ) (es : List (Vec ℕ Global × ℕ)) → index_of (map entry_by_list es) key.items ≡ None → map entry_by_list (insert_entry same_key es key v) ≡ map entry_by_list es ++ (key.items, v) ∷ []
 insert_bare key v [] none = refl
 insert_bare key v (e ∷ es) none =
-    insert_step (bytes_eq key.items e.0.items) e es (insert_entry same_key es key v) (map bare es ++ (key.items, v) ∷ []) e.1 v (index_of (map bare es) key.items) none (insert_bare key v es)
+    insert_step (bytes_eq key.items e.0.items) e es (insert_entry same_key es key v) (map entry_by_list es ++ (key.items, v) ∷ []) e.1 v (index_of (map entry_by_list es) key.items) none (insert_bare key v es)

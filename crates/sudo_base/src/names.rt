@@ -14,11 +14,11 @@ pub struct Names {
 
 impl Model for Names {
     ghost use Rattle.std.specs.Prelude.{List, ℕ, map};
-    ghost use Rattle.sudo_base.specs.NameEntry.{bare};
+    ghost use Rattle.sudo_base.specs.NameEntry.{entry_by_list};
 
     ghost Value = { List (List ℕ × ℕ) };
 
-    ghost view = { λ n. map bare n.indices.entries };
+    ghost view = { λ n. map entry_by_list n.indices.entries };
 }
 
 impl Names {

@@ -183,7 +183,8 @@ impl<T> AsSlice<T> for Seq<T> {
 }
 
 impl<T: Clone> Clone for Seq<T> {
-    ghost is_clone = { λ s t. AllZip T.is_clone s t × (((x y : T) → T.is_clone x y → y ≡ x) → t ≡ s) };
+    ghost is_clone = { λ s t. AllZip T.is_clone s t × (((x y : T) → T.is_clone x y → y ≡ x) → t
+        ≡ s) };
 
     fn clone(&self) -> Result<Seq<T>, AllocError> {
         let items = self.items.clone()?;

@@ -30,7 +30,7 @@ use Rattle.sudo_grammar.specs.declared.policy.Parameter.{Parameter}
 use Rattle.sudo_grammar.specs.declared.policy.Parameter.TheVariants as parameters
 use Rattle.sudo_grammar.specs.declared.policy.Operator.{Operator}
 use Rattle.sudo_grammar.specs.Members.{atom_of}
-use Rattle.sudo_grammar.specs.Forms.{binding_mark, binding, the_word, parameter, more_parameters, parameter_list, defaults, rule, include, groups, runas, optional, spec, more_specs, specs, more_sections, sections, last_as_tag, tag, tags, ◌▸◌, one, mark, bangs, member, item, more_items, list, name, definition, more_definitions, definitions, keyword, Writes}
+use Rattle.sudo_grammar.specs.Forms.{binding_mark, binding, the_word, parameter, more_parameters, parameter_list, defaults, rule, include, groups, runas, optional, spec, more_specs, specs, more_sections, sections, last_as_tag, tag, tags, ◌▸◌, one, mark, bangs, member, item, more_items, list, name, definition, more_definitions, definition_list, keyword_form, Writes}
 use Rattle.sudo_grammar.specs.States.{Binds, DefaultsStart, AtParameter, AfterSwitch, AtValue, AfterValue, at_parameter, at_value, at_operator, after_switch, after_value, at_binding, after_defaults, bound_to, Included, Users, Hosts, RunasUsers, RunasGroups, RunasStart, GroupsStart, after_runas, at_runas, at_groups, after_item, Granting, Command, AfterCommand, at_command, command_state, after_command, after_colon, Purpose, Defines, kind_for, State, Start, AliasName, AfterName, Item, AfterItem, Room, at_item, member_state, after_member, at_alias_name, at_start, step}
 use Rattle.sudo_grammar.specs.Reading.{reading}
 use Rattle.sudo_grammar.specs.Faults.{HasRoom}
@@ -207,13 +207,13 @@ module _ (room : Room) where
       ∙ more_definitions-read k (d ++ x ∷ []) y ys h.1.1.0 (omega arith) h.1.1.1.1
       ∙ rw append_assoc refl
 
-  definitions-read : (k : Kind) (xs : List Definition) (ts : List Token) → length xs ≤ room k → definitions k xs ts []
+  definitions-read : (k : Kind) (xs : List Definition) (ts : List Token) → length xs ≤ room k → definition_list k xs ts []
       → reading room (AliasName k []) ts ≡ Ok (entries.Aliases k xs)
   definitions-read k [] ts fits h = absurd h
   definitions-read k (x ∷ xs) ts fits h =
       definition-read k [] x ts h.0 (omega arith) h.1.0 ∙ more_definitions-read k [] x xs h.0 (omega arith) h.1.1
 
-  pub keyword-read : (k : Kind) (ts rest : List Token) → keyword k ts rest
+  pub keyword-read : (k : Kind) (ts rest : List Token) → keyword_form k ts rest
       → reading room Start ts ≡ reading room (AliasName k []) rest
   keyword-read k [] rest h = absurd h
   keyword-read k (t ∷ ts) rest h =

@@ -3,10 +3,10 @@ use Rattle.std.proofs.Common.{cond, inl, inr, ◌⊎◌, ◌≡◌, List, [], �
 use Rattle.sudo_text.specs.declared.token.Token.{Token}
 use Rattle.sudo_grammar.specs.declared.policy.EntryBody.{EntryBody}
 use Rattle.sudo_grammar.specs.Forms.{Writes}
-use Rattle.sudo_grammar.specs.States.{State, Start, AliasName, AfterName, Room, at_alias_name, step, ended, state_after}
+use Rattle.sudo_grammar.specs.States.{State, Start, AliasName, AfterName, Room, at_alias_name, step, entry_after_list, state_after}
 use Rattle.sudo_grammar.specs.Reading.{entry_or_stop, reading, stop_at, Stop}
 use Rattle.sudo_grammar.specs.Remaining.{Completes}
-use Rattle.sudo_grammar.specs.Faults.{Begins, IsOneTooMany, IsStuck, IsGrammarFault, WritesWithin}
+use Rattle.sudo_grammar.specs.Faults.{BeginsEntry, IsOneTooMany, IsStuck, IsGrammarFault, WritesWithin}
 use Rattle.sudo_grammar.proofs.Complete.{entry-read}
 use Rattle.sudo_grammar.proofs.Limits.{reading-stops, room-kept}
 use Rattle.sudo_grammar.proofs.Sound.{sound, some-injective}
@@ -38,9 +38,9 @@ full-stops room place front t reached (k, (d, (w, (named, is, full)))) =
 -- where a line is stuck, no step leads on
 stuck-halted : (room : Room) (place : State) (front rest : List Token) → state_after room Start front ≡ Some place
     → IsStuck room front rest → IsHalted room place rest
-stuck-halted room place front [] reached stuck = go (ended place) refl
+stuck-halted room place front [] reached stuck = go (entry_after_list place) refl
   where
-    go : (r : Option EntryBody) → ended place ≡ r → ended place ≡ None
+    go : (r : Option EntryBody) → entry_after_list place ≡ r → entry_after_list place ≡ None
     go None is = is
     go (Some e) is =
         let read : reading room Start (front ++ []) ≡ Ok e =
@@ -48,7 +48,7 @@ stuck-halted room place front [] reached stuck = go (ended place) refl
         absurd (stuck e (sound room Start front e (ap (reading room Start) (sym (append-nil front)) ∙ read)))
 stuck-halted room place front (t ∷ ts) reached stuck = go (step room place t) refl stuck
   where
-    go : (r : Option State) → step room place t ≡ r → (Begins (front ++ t ∷ []) → ⊥) ⊎ IsOneTooMany room front t
+    go : (r : Option State) → step room place t ≡ r → (BeginsEntry (front ++ t ∷ []) → ⊥) ⊎ IsOneTooMany room front t
         → step room place t ≡ None
     go None is h = is
     go (Some next) is (inl dead) = absurd (dead (begins room (front ++ t ∷ []) next (state_after-step room Start place next front t reached is)))

@@ -24,7 +24,7 @@ use Rattle.sudo_grammar.specs.Words.{name_of, tag_of}
 use Rattle.sudo_grammar.specs.Members.{atom_of}
 use Rattle.sudo_grammar.specs.Openings.{Opening, Keyword, DefaultsLine, Directive, BadDirective, Other, opening_of, is_direct, kind_of_mark, is_word, operator_of}
 use Rattle.sudo_grammar.specs.Forms.{mark, bangs, list, spec, binding, parameter, as_tag, last_as_tag, Writes}
-use Rattle.sudo_grammar.specs.States.{Granting, Purpose, Defines, Users, Hosts, RunasUsers, RunasGroups, Binds, kind_for, bound_to, closed, Room, State, Start, AliasName, AfterName, Item, AfterItem, Command, AfterCommand, RunasStart, GroupsStart, DefaultsStart, AtParameter, AfterSwitch, AtValue, AfterValue, Included, at_item, member_state, after_item, after_list, after_name, at_alias_name, at_command, command_state, at_paren, after_command, after_colon, at_runas, at_groups, at_binding, after_defaults, at_parameter, at_operator, after_switch, at_value, after_value, at_start, step, ended}
+use Rattle.sudo_grammar.specs.States.{Granting, Purpose, Defines, Users, Hosts, RunasUsers, RunasGroups, Binds, kind_for, bound_to, closed_section, Room, State, Start, AliasName, AfterName, Item, AfterItem, Command, AfterCommand, RunasStart, GroupsStart, DefaultsStart, AtParameter, AfterSwitch, AtValue, AfterValue, Included, at_item, member_state, after_item, after_list, after_name, at_alias_name, at_command, command_state, at_paren, after_command, after_colon, at_runas, at_groups, at_binding, after_defaults, at_parameter, at_operator, after_switch, at_value, after_value, at_start, step, entry_after_list}
 use Rattle.sudo_grammar.specs.Reading.{entry_or_stop, reading, stop_at, Stop}
 use Rattle.sudo_grammar.specs.Remaining.{AfterSpec, AtCommand, AtTags, AtSpec, AtGroups, AfterList, InList, AtItem, parameter_left, Completes}
 
@@ -42,7 +42,7 @@ on : (place next : State) (e : EntryBody) (ts : List Token) → Some place ≡ S
 on place next e ts h g = subst (λ x. Completes x e ts) (sym (some-injective h)) g
 
 -- where a line may end, it goes on with no token
-ends : (place : State) (e : EntryBody) → ended place ≡ Some e → Completes place e []
+ends : (place : State) (e : EntryBody) → entry_after_list place ≡ Some e → Completes place e []
 ends (AfterItem (Defines k done w) d) e h = ([], ([], (refl, ([], (refl, rw append-nil (sym (some-injective h)))))))
 ends (AfterCommand g s) e h = inl ([], ([], (([], (refl, refl)), sym (some-injective h))))
 ends (AfterSwitch b d n name) e h = inl ([], (refl, sym (some-injective h)))
@@ -207,11 +207,11 @@ back-next_spec g s t ts e is h = go (whole_spec (record g { commands = g.command
 
 back-next_section : (g : Granting) (s : CommandSpec) (t : Token) (ts : List Token) (e : EntryBody)
     → t.kind ≡ tokens.Mark marks.Colon → as_tag s.command ≡ None
-    → AtItem (Hosts g.users (g.sections ++ closed g s ∷ [])) 0 [] e ts → AfterSpec g s e (t ∷ ts)
-back-next_section g s t ts e is none h = go (whole_list (Hosts g.users (g.sections ++ closed g s ∷ [])) e ts h)
+    → AtItem (Hosts g.users (g.sections ++ closed_section g s ∷ [])) 0 [] e ts → AfterSpec g s e (t ∷ ts)
+back-next_section g s t ts e is none h = go (whole_list (Hosts g.users (g.sections ++ closed_section g s ∷ [])) e ts h)
   where
     go : (hosts : List Member) × ((after : List Token)
-        × (list kinds.Host hosts ts after × AfterList (Hosts g.users (g.sections ++ closed g s ∷ [])) hosts e after))
+        × (list kinds.Host hosts ts after × AfterList (Hosts g.users (g.sections ++ closed_section g s ∷ [])) hosts e after))
         → AfterSpec g s e (t ∷ ts)
     go (hosts, (after, (listed, (cs, (ss, ((a, (equals, (b, (commands, further)))), is_e)))))) = (
       [],
@@ -511,9 +511,9 @@ backward room (Included folder hash path) next t ts e h g = cc
 
 -- from a place on, what is read goes on so
 pub sound : (room : Room) (place : State) (ts : List Token) (e : EntryBody) → reading room place ts ≡ Ok e → Completes place e ts
-sound room place [] e h = go (ended place) refl h
+sound room place [] e h = go (entry_after_list place) refl h
   where
-    go : (r : Option EntryBody) → ended place ≡ r → entry_or_stop place r ≡ Ok e → Completes place e []
+    go : (r : Option EntryBody) → entry_after_list place ≡ r → entry_or_stop place r ≡ Ok e → Completes place e []
     go (Some x) is h = ends place e (is ∙ ap Some (ok-injective h))
     go None is h = cc
 sound room place (t ∷ ts) e h = go (step room place t) refl h (λ next. sound room next ts e)

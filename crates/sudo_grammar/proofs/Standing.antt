@@ -20,11 +20,11 @@ use Rattle.sudo_grammar.specs.declared.fault.Refusal.TheVariants as refusals
 use Rattle.sudo_grammar.specs.declared.fault.Unsupported.TheVariants as forms
 use Rattle.sudo_grammar.specs.Words.{name_of, plain_word, kind_of_keyword, is_digest_name}
 use Rattle.sudo_grammar.specs.Members.{atom_of, expected_in}
-use Rattle.sudo_grammar.specs.Openings.{Opening, Keyword, DefaultsLine, Directive, BadDirective, Other, opening_of, plain_opening, is_direct, is_word, is_percent, spells}
-use Rattle.sudo_grammar.specs.States.{Purpose, Defines, Users, Hosts, RunasUsers, RunasGroups, Binds, kind_for, bound_to, Room, State, Start, AliasName, AfterName, Item, AfterItem, Command, AfterCommand, RunasStart, GroupsStart, DefaultsStart, AtParameter, AfterSwitch, AtValue, AfterValue, Included, at_start, after_item, after_name, after_defaults, at_alias_name, step, ended, state_after}
-use Rattle.sudo_grammar.specs.Refusals.{is_next, is_next_at, with_next, refused_atom, refused_member, is_option, or_option, last_command, refused_name, refused_start, refused_after, refused_at}
+use Rattle.sudo_grammar.specs.Openings.{Opening, Keyword, DefaultsLine, Directive, BadDirective, Other, opening_of, plain_opening, is_direct, is_word, is_percent, word_passes}
+use Rattle.sudo_grammar.specs.States.{Purpose, Defines, Users, Hosts, RunasUsers, RunasGroups, Binds, kind_for, bound_to, Room, State, Start, AliasName, AfterName, Item, AfterItem, Command, AfterCommand, RunasStart, GroupsStart, DefaultsStart, AtParameter, AfterSwitch, AtValue, AfterValue, Included, at_start, after_item, after_name, after_defaults, at_alias_name, step, entry_after_list, state_after}
+use Rattle.sudo_grammar.specs.Refusals.{is_next, is_next_at, with_next, refused_atom, refused_member, is_option, or_option, last_command, refused_name, refused_start, refusal_after_list, refused_at}
 use Rattle.sudo_grammar.specs.Reading.{entry_or_stop, reading, Stop}
-use Rattle.sudo_grammar.specs.Faults.{Begins, IsGrammarFault}
+use Rattle.sudo_grammar.specs.Faults.{BeginsEntry, IsGrammarFault}
 use Rattle.sudo_grammar.specs.Standing.{MembersStand, CanStand}
 use Rattle.sudo_grammar.proofs.Complete.{at_item-takes, at_command-takes, hosts-first, runas-first, groups-first, binds-first, word-parameter, word-value}
 use Rattle.sudo_grammar.proofs.Sound.{sound}
@@ -40,7 +40,7 @@ syntax-injective x y h = cc
 with-next-word : (kind : Kind) (t : Token) (ts : List Token) (r : Refusal) (x : Expected)
     → with_next kind t ts r ≡ refusals.Syntax x → r ≡ refusals.Syntax x
 with-next-word kinds.Host t ts r x h = h
-with-next-word kinds.Cmnd t ts r x h = go (spells is_digest_name (plain_word t.kind) && is_next marks.Colon ts) h
+with-next-word kinds.Cmnd t ts r x h = go (word_passes is_digest_name (plain_word t.kind) && is_next marks.Colon ts) h
   where
     go : (b : Bool) → cond b (refusals.Unsupported forms.Digest) r ≡ refusals.Syntax x → r ≡ refusals.Syntax x
     go true h = cc
@@ -117,10 +117,10 @@ start-takes t a Other is h = (AfterItem Users (record { bangs = 0; token = t; at
 
 module _ (room : Room) (front : List Token) where
   step-begins : (place next : State) (t : Token) → state_after room Start front ≡ Some place → step room place t ≡ Some next
-      → Begins (front ++ t ∷ [])
+      → BeginsEntry (front ++ t ∷ [])
   step-begins place next t reached is = begins room (front ++ t ∷ []) next (state_after-step room Start place next front t reached is)
 
-  may-end : (place : State) (e : EntryBody) → state_after room Start front ≡ Some place → ended place ≡ Some e
+  may-end : (place : State) (e : EntryBody) → state_after room Start front ≡ Some place → entry_after_list place ≡ Some e
       → CanStand wants.EndOfLine front
   may-end place e reached is = (
     e,
@@ -146,7 +146,7 @@ module _ (room : Room) (front : List Token) where
       users : MembersStand kinds.User front
       users t a is = taken (start-takes t a (opening_of t.kind) refl is)
         where
-          taken : (next : State) × (at_start (opening_of t.kind) t ≡ Some next) → Begins (front ++ t ∷ [])
+          taken : (next : State) × (at_start (opening_of t.kind) t ≡ Some next) → BeginsEntry (front ++ t ∷ [])
           taken (next, e) = step-begins Start next t reached e
 
       member : refused_member kinds.User ts ≡ refusals.Syntax x → CanStand x front
@@ -170,7 +170,7 @@ module _ (room : Room) (front : List Token) where
   fixed w x h stands = subst (λ y. CanStand y front) (syntax-injective w x h) stands
 
   after-stands : (p : Purpose) (d : List Member) (ts : List Token) (x : Expected)
-      → state_after room Start front ≡ Some (AfterItem p d) → refused_after p ts ≡ refusals.Syntax x → CanStand x front
+      → state_after room Start front ≡ Some (AfterItem p d) → refusal_after_list p ts ≡ refusals.Syntax x → CanStand x front
   after-stands (Defines k done w) d ts x reached h = fixed wants.EndOfLine x h (may-end (AfterItem (Defines k done w) d) _ reached refl)
   after-stands Users d ts x reached h = member-stands kinds.Host ts x h
       (λ t a is. step-begins (AfterItem Users d) _ t reached (hosts-first room d t _ t.kind refl (at_item-takes (Hosts d []) 0 [] t a is)))
@@ -194,7 +194,7 @@ module _ (room : Room) (front : List Token) where
   place-stands (Item p n d) ts x reached h = member-stands (kind_for p) ts x h
       (λ t a is. step-begins (Item p n d) _ t reached (at_item-takes p n d t a is))
   place-stands (AfterItem p d) ts x reached h =
-      after-stands p d ts x reached (no-option (last_command (kind_for p) d) ts (refused_after p ts) x h)
+      after-stands p d ts x reached (no-option (last_command (kind_for p) d) ts (refusal_after_list p ts) x h)
   place-stands (Command g r d n) ts x reached h = member-stands kinds.Cmnd ts x h
       (λ t a is. step-begins (Command g r d n) _ t reached (at_command-takes g r d n t a is))
   place-stands (AfterCommand g s) ts x reached h =

@@ -14,11 +14,11 @@ use Rattle.sudo_grammar.specs.declared.policy.EntryBody.{EntryBody}
 use Rattle.sudo_grammar.specs.declared.policy.EntryBody.TheVariants as entries
 use Rattle.sudo_grammar.specs.Words.{name_of}
 use Rattle.sudo_grammar.specs.Forms.{Writes}
-use Rattle.sudo_grammar.specs.States.{Purpose, Defines, Users, Hosts, RunasUsers, RunasGroups, Binds, State, Start, AliasName, AfterName, Item, AfterItem, Command, AfterCommand, RunasStart, GroupsStart, DefaultsStart, AtParameter, AfterSwitch, AtValue, AfterValue, Included, Room, at_alias_name, step, ended, state_after}
+use Rattle.sudo_grammar.specs.States.{Purpose, Defines, Users, Hosts, RunasUsers, RunasGroups, Binds, State, Start, AliasName, AfterName, Item, AfterItem, Command, AfterCommand, RunasStart, GroupsStart, DefaultsStart, AtParameter, AfterSwitch, AtValue, AfterValue, Included, Room, at_alias_name, step, entry_after_list, state_after}
 use Rattle.sudo_grammar.specs.Refusals.{refused_at}
 use Rattle.sudo_grammar.specs.Reading.{entry_or_stop, reading, stop_at, Stop}
 use Rattle.sudo_grammar.specs.Remaining.{Completes}
-use Rattle.sudo_grammar.specs.Faults.{HasRoom, Begins, IsStuck, IsGrammarFault}
+use Rattle.sudo_grammar.specs.Faults.{HasRoom, BeginsEntry, IsStuck, IsGrammarFault}
 use Rattle.sudo_grammar.proofs.Complete.{entry-read, reading-step}
 use Rattle.sudo_grammar.proofs.Unique.{count}
 use Rattle.sudo_grammar.proofs.Limits.{reading-stops}
@@ -120,10 +120,10 @@ completes-back room place q (t ∷ ts) more e h g = go (step room place t) refl 
     go None is h hyp = cc
 
 -- a form begins with the tokens that lead to a place
-pub begins : (room : Room) (front : List Token) (q : State) → state_after room Start front ≡ Some q → Begins front
+pub begins : (room : Room) (front : List Token) (q : State) → state_after room Start front ≡ Some q → BeginsEntry front
 begins room front q h = go (live q)
   where
-    go : IsLive q (finish q) → Begins front
+    go : IsLive q (finish q) → BeginsEntry front
     go (wide, (e, read)) = (e, finish q, completes-back room Start q front (finish q) e h (sound wide q (finish q) e read))
 
 -- the reading of a front and more is that of what is left, from the place after the front
@@ -211,7 +211,7 @@ form-front room place front more e reached w =
 
 -- no form begins with a front and a token that no step takes
 dead : (room : Room) (place : State) (t : Token) (front : List Token) → state_after room Start front ≡ Some place
-    → NoStep room place t → Begins (front ++ t ∷ []) → ⊥
+    → NoStep room place t → BeginsEntry (front ++ t ∷ []) → ⊥
 dead room place t front reached none (e, rest, w) =
     let covers : Covers room (with_room room e) = λ k. omega arith in
     let whole : (front ++ t ∷ []) ++ rest ≡ front ++ t ∷ rest = rw append_assoc refl in
@@ -223,7 +223,7 @@ dead room place t front reached none (e, rest, w) =
 
 -- nor is a front a form where the line can't end
 dead-end : (room : Room) (place : State) (front : List Token) → state_after room Start front ≡ Some place
-    → ended place ≡ None → (e : EntryBody) → Writes e front → ⊥
+    → entry_after_list place ≡ None → (e : EntryBody) → Writes e front → ⊥
 dead-end room place front reached none e w =
     let read : reading (with_room room e) place [] ≡ Ok e =
     form-front room place front [] e reached (subst (λ x. Writes e x) (sym (append-nil front)) w) in
@@ -244,7 +244,7 @@ stuck room place t front ts reached none = inl (dead room place t front reached 
 
 -- no step leads on, or the line can't end
 abbrev pub IsHalted : Room → State → List Token → Type 0
-IsHalted room place [] = ended place ≡ None
+IsHalted room place [] = entry_after_list place ≡ None
 IsHalted room place (t ∷ ts) = step room place t ≡ None
 
 -- Reading stops at a place that the tokens before lead to, and from which no step leads on.
@@ -273,9 +273,9 @@ halts-back room place next t ts stop is h = record {
 
 halts : (room : Room) (place : State) (ts : List Token) (stop : Stop) → reading room place ts ≡ Err stop
     → Halts room place ts stop
-halts room place [] stop h = go (ended place) refl h
+halts room place [] stop h = go (entry_after_list place) refl h
   where
-    go : (r : Option EntryBody) → ended place ≡ r → entry_or_stop place r ≡ Err stop → Halts room place [] stop
+    go : (r : Option EntryBody) → entry_after_list place ≡ r → entry_or_stop place r ≡ Err stop → Halts room place [] stop
     go (Some x) is h = cc
     go None is h = subst (λ x. Halts room place [] x) (err-injective h)
         (record { front = []; whole = refl; last = place; reached = refl; refusal = refl; halted = is })

@@ -16,8 +16,8 @@ use Rattle.sudo_grammar.specs.declared.fault.Refusal.TheVariants as refusals
 use Rattle.std.specs.Str.{bytes_eq}
 use Rattle.std.specs.Prelude.{codes, ◌&&◌}
 use Rattle.sudo_grammar.specs.declared.fault.Unsupported.{Unsupported}
-use Rattle.sudo_grammar.specs.Words.{bytes_of, is_plain, plain_word, is_name}
-use Rattle.sudo_grammar.specs.Members.{expected_in, cut_at, ok_number, number_of, group_of, user_of, joined, octet_of, address_of_groups, groups_of, address_of, spelled_mask, mask_or, mask_of, net_with, network_of, address_or_host, plain_host_of, host_of, begins_with_caret, no_command, other_atom, plain_atom, atom_of}
+use Rattle.sudo_grammar.specs.Words.{bytes_of, has_no_escape, plain_word, is_name}
+use Rattle.sudo_grammar.specs.Members.{expected_in, cut_at, ok_number, number_of, group_of, user_of, address_of_numbers, octet_of, address_of_groups, dotted_groups, address_of, spelled_mask, mask_or, mask_in, net_with, network_of, address_or_host, plain_host_of, host_of, begins_with_caret, no_command, other_atom, plain_atom, atom_of}
 
 -- A refusal that is a syntax error is that word's.
 abbrev pub IsWord : Expected → Refusal → Type 0
@@ -85,19 +85,19 @@ user-word [] = same _ wants.Member
 user-word (c ∷ cs) = choose _ _ _ _ (ok wants.Member _) (choose _ _ _ _ (unsupported _ wants.Member forms.Netgroup)
     (choose _ _ _ _ (group-word (bytes_of cs)) (choose _ _ _ _ (id-word wants.Member atoms.Uid (number_of (bytes_of cs))) (ok wants.Member _))))
 
-joined-word : (x : Expected) (a b c d : ℕ) → IsWordIfErr x (joined a b c d)
+joined-word : (x : Expected) (a b c d : ℕ) → IsWordIfErr x (address_of_numbers a b c d)
 joined-word x a b c d = choose _ _ _ _ (ok x _) (no-number _ x)
 
 address-word : (x : Expected) (bytes : List ℕ) → IsWordIfSome x (address_of bytes)
-address-word x bytes = go (groups_of bytes)
+address-word x bytes = go (dotted_groups bytes)
   where
     four : (a b c d : Option ℕ) → IsWordIfSome x
-        (option_and_then (λ a. option_and_then (λ b. option_and_then (λ c. option_map (λ d. joined a b c d) d) c) b) a)
+        (option_and_then (λ a. option_and_then (λ b. option_and_then (λ c. option_map (λ d. address_of_numbers a b c d) d) c) b) a)
     four None b c d = none _ x
     four (Some a) None c d = none _ x
     four (Some a) (Some b) None d = none _ x
     four (Some a) (Some b) (Some c) None = none _ x
-    four (Some a) (Some b) (Some c) (Some d) = some x (joined a b c d) (joined-word x a b c d)
+    four (Some a) (Some b) (Some c) (Some d) = some x (address_of_numbers a b c d) (joined-word x a b c d)
 
     go : (g : Option (List ℕ × List ℕ × List ℕ × List ℕ)) → IsWordIfSome x (option_and_then address_of_groups g)
     go None = none _ x
@@ -118,7 +118,7 @@ net-word x addr (Err r) h = err _ x r (of-err _ x r h)
 network-word : (x : Expected) (o : Option (Result ℕ Refusal)) (back : List ℕ) → IsWordIfSome x o → IsWordIfErr x (network_of o back)
 network-word x None back h = no-number _ x
 network-word x (Some (Err r)) back h = err _ x r (of-err _ x r (of-some x (Err r) h))
-network-word x (Some (Ok addr)) back h = net-word x addr (mask_of back) (mask-word x (number_of back) back)
+network-word x (Some (Ok addr)) back h = net-word x addr (mask_in back) (mask-word x (number_of back) back)
 
 plain_host-word : (x : Expected) (cs : List Ch) (bytes : List ℕ) (o : Option (List ℕ × List ℕ)) → IsWordIfErr x (plain_host_of cs bytes o)
 plain_host-word x cs bytes (Some parts) = network-word x (address_of parts.0) parts.1 (address-word x parts.0)
@@ -137,7 +137,7 @@ host-word quoted (c ∷ cs) = choose _ _ _ _ (unsupported _ wants.Member forms.N
 
 -- no word is wanted for a command where another word stands
 no_command-word : (quoted : Bool) (cs : List Ch) → IsWord wants.Command (no_command quoted cs)
-no_command-word quoted cs y = go quoted (begins_with_caret cs) (is_plain cs && bytes_eq (bytes_of cs) (codes "list"))
+no_command-word quoted cs y = go quoted (begins_with_caret cs) (has_no_escape cs && bytes_eq (bytes_of cs) (codes "list"))
   where
     go : (a b c : Bool) → cond a refusals.NotCommand
         (cond b (refusals.Unsupported forms.RegularExpression) (cond c (refusals.Unsupported forms.List) refusals.NotCommand))

@@ -13,8 +13,8 @@ use Rattle.sudo_grammar.specs.Refusals.{refused_at}
 use Rattle.sudo_grammar.specs.Reading.{Stop}
 
 -- the tokens begin a form of some entry
-abbrev pub Begins : List Token → Type 0
-Begins front = (e : EntryBody) × (rest : List Token) × Writes e (front ++ rest)
+abbrev pub BeginsEntry : List Token → Type 0
+BeginsEntry front = (e : EntryBody) × (rest : List Token) × Writes e (front ++ rest)
 
 -- within the limits of definitions
 abbrev pub HasRoom : Room → EntryBody → Type 0
@@ -33,7 +33,7 @@ IsOneTooMany room front t = (kind : Kind) × ((done : List Definition) × ((w : 
 -- the line cannot continue after the front with the next token, or end there
 abbrev pub IsStuck : Room → List Token → List Token → Type 0
 IsStuck room front [] = (e : EntryBody) → Writes e front → ⊥
-IsStuck room front (t ∷ ts) = (Begins (front ++ t ∷ []) → ⊥) ⊎ IsOneTooMany room front t
+IsStuck room front (t ∷ ts) = (BeginsEntry (front ++ t ∷ []) → ⊥) ⊎ IsOneTooMany room front t
 
 -- the line's fault: it is at the first token up to which the tokens begin no form, or which is the name of a definition
 -- over the limit, or at the end of the line; the state before it decides the refusal; an option such as `CWD=` is
@@ -41,7 +41,7 @@ IsStuck room front (t ∷ ts) = (Begins (front ++ t ∷ []) → ⊥) ⊎ IsOneTo
 pub record IsGrammarFault (room : Room) (ts : List Token) (stop : Stop) : Type 0 where
   pub front : List Token
   pub whole : ts ≡ front ++ stop.rest
-  pub begins : Begins front
+  pub begins : BeginsEntry front
   pub stuck : IsStuck room front stop.rest
   pub place : State
   pub reached : state_after room Start front ≡ Some place

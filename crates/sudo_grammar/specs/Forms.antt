@@ -98,9 +98,9 @@ abbrev pub more_definitions : Kind → List Definition → Form
 more_definitions kind [] = nothing
 more_definitions kind (d ∷ ds) = mark marks.Colon ▸ definition kind d ▸ more_definitions kind ds
 
-abbrev pub definitions : Kind → List Definition → Form
-definitions kind [] = never
-definitions kind (d ∷ ds) = definition kind d ▸ more_definitions kind ds
+abbrev pub definition_list : Kind → List Definition → Form
+definition_list kind [] = never
+definition_list kind (d ∷ ds) = definition kind d ▸ more_definitions kind ds
 
 -- a proposition, without a token
 abbrev pub only : Type 0 → Form
@@ -207,12 +207,12 @@ abbrev pub include : Bool → Bool → List Ch → Form
 include folder hash path = one (λ t. opening_of t.kind ≡ openings.Directive folder hash path)
 
 -- the keyword of the kind
-abbrev pub keyword : Kind → Form
-keyword kind = one (λ t. opening_of t.kind ≡ openings.Keyword kind)
+abbrev pub keyword_form : Kind → Form
+keyword_form kind = one (λ t. opening_of t.kind ≡ openings.Keyword kind)
 
 -- the forms of a line
 abbrev pub entry : EntryBody → Form
-entry (entries.Aliases kind ds) = keyword kind ▸ definitions kind ds
+entry (entries.Aliases kind ds) = keyword_form kind ▸ definition_list kind ds
 entry (entries.Defaults b xs) = defaults b xs
 entry (entries.Rule users ss) = rule users ss
 entry (entries.Include folder hash path) = include folder hash path

@@ -3,8 +3,8 @@ use Rattle.std.specs.Prelude.{Bool, true, false}
 use Rattle.sudo_grammar.specs.declared.policy.EntryBody.{EntryBody}
 use Rattle.sudo_grammar.specs.declared.policy.EntryBody.TheVariants as bodies
 
-abbrev pub is_include : EntryBody → Bool
-is_include (bodies.Aliases kind definitions) = false
-is_include (bodies.Defaults binding parameters) = false
-is_include (bodies.Rule users sections) = false
-is_include (bodies.Include folder hash path) = true
+abbrev pub is_include_entry : EntryBody → Bool
+is_include_entry (bodies.Aliases kind definitions) = false
+is_include_entry (bodies.Defaults binding parameters) = false
+is_include_entry (bodies.Rule users sections) = false
+is_include_entry (bodies.Include folder hash path) = true

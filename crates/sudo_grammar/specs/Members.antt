@@ -17,7 +17,7 @@ use Rattle.sudo_grammar.specs.declared.fault.Unsupported.TheVariants as forms
 use Rattle.sudo_grammar.specs.declared.fault.Refusal.{Refusal}
 use Rattle.sudo_grammar.specs.declared.fault.Refusal.TheVariants as refusals
 use Rattle.sudo_text.specs.Bytes.{is_digit}
-use Rattle.sudo_grammar.specs.Words.{bytes_of, is_plain, plain_word, is_name}
+use Rattle.sudo_grammar.specs.Words.{bytes_of, has_no_escape, plain_word, is_name}
 
 -- the expected token in a list of a kind
 abbrev pub expected_in : Kind → Expected
@@ -81,16 +81,16 @@ abbrev pub is_octet : List ℕ → Bool
 is_octet bytes = (nat_lt 0 (length bytes) && nat_lt (length bytes) 4) && list_all is_digit bytes
 
 -- four groups of bytes with three dots between them
-abbrev pub groups_of : List ℕ → Option (List ℕ × List ℕ × List ℕ × List ℕ)
-groups_of bytes = option_and_then (λ p. option_and_then (λ q. option_map (λ r. (p.0, q.0, r.0, r.1)) (cut_at 46 q.1)) (cut_at 46 p.1)) (cut_at 46 bytes)
+abbrev pub dotted_groups : List ℕ → Option (List ℕ × List ℕ × List ℕ × List ℕ)
+dotted_groups bytes = option_and_then (λ p. option_and_then (λ q. option_map (λ r. (p.0, q.0, r.0, r.1)) (cut_at 46 q.1)) (cut_at 46 p.1)) (cut_at 46 bytes)
 
-abbrev pub is_byte : ℕ → Bool
-is_byte n = nat_lt n 256
+abbrev pub is_below_256 : ℕ → Bool
+is_below_256 n = nat_lt n 256
 
 -- the address of four numbers; a number over 255 is refused
-abbrev pub joined : ℕ → ℕ → ℕ → ℕ → Result ℕ Refusal
-joined a b c d =
-    if ((is_byte a && is_byte b) && is_byte c) && is_byte d
+abbrev pub address_of_numbers : ℕ → ℕ → ℕ → ℕ → Result ℕ Refusal
+address_of_numbers a b c d =
+    if ((is_below_256 a && is_below_256 b) && is_below_256 c) && is_below_256 d
     then Ok (16777216 * a + 65536 * b + 256 * c + d) else Err refusals.BadNumber
 
 -- the value of one to three digits
@@ -100,13 +100,13 @@ octet_of bytes = if is_octet bytes then number_of bytes else None
 -- the address of four groups, if each is one to three digits
 abbrev pub address_of_groups : (List ℕ × List ℕ × List ℕ × List ℕ) → Option (Result ℕ Refusal)
 address_of_groups g =
-    option_and_then (λ a. option_and_then (λ b. option_and_then (λ c. option_map (λ d. joined a b c d)
+    option_and_then (λ a. option_and_then (λ b. option_and_then (λ c. option_map (λ d. address_of_numbers a b c d)
     (octet_of g.3)) (octet_of g.2)) (octet_of g.1)) (octet_of g.0)
 
 -- the address that bytes spell: four groups of one to three digits with dots between them; none for bytes of another
 -- shape, and a refusal if a group is over 255
 abbrev pub address_of : List ℕ → Option (Result ℕ Refusal)
-address_of bytes = option_and_then address_of_groups (groups_of bytes)
+address_of bytes = option_and_then address_of_groups (dotted_groups bytes)
 
 -- the mask with the given number of leading bits set
 abbrev pub mask_of_bits : ℕ → Result ℕ Refusal
@@ -121,8 +121,8 @@ mask_or (Some bits) bytes = mask_of_bits bits
 mask_or None bytes = spelled_mask (address_of bytes)
 
 -- a mask: a number of bits up to 32, or as an address
-abbrev pub mask_of : List ℕ → Result ℕ Refusal
-mask_of bytes = mask_or (number_of bytes) bytes
+abbrev pub mask_in : List ℕ → Result ℕ Refusal
+mask_in bytes = mask_or (number_of bytes) bytes
 
 abbrev pub net_with : ℕ → Result ℕ Refusal → Result Atom Refusal
 net_with addr (Ok mask) = Ok (atoms.Net addr mask)
@@ -132,7 +132,7 @@ net_with addr (Err refusal) = Err refusal
 abbrev pub network_of : Option (Result ℕ Refusal) → List ℕ → Result Atom Refusal
 network_of None back = Err refusals.BadNumber
 network_of (Some (Err refusal)) back = Err refusal
-network_of (Some (Ok addr)) back = net_with addr (mask_of back)
+network_of (Some (Ok addr)) back = net_with addr (mask_in back)
 
 abbrev pub address_or_host : List Ch → Option (Result ℕ Refusal) → Result Atom Refusal
 address_or_host chars None = Ok (atoms.Host chars false)
@@ -155,7 +155,7 @@ plain_host_of chars bytes (Some parts) = network_of (address_of parts.0) parts.1
 
 abbrev pub unquoted_host_of : List Ch → Result Atom Refusal
 unquoted_host_of chars =
-    if is_plain chars then plain_host_of chars (bytes_of chars) (cut_at 47 (bytes_of chars))
+    if has_no_escape chars then plain_host_of chars (bytes_of chars) (cut_at 47 (bytes_of chars))
     else if list_any is_slash chars then Err refusals.BadNumber
     else Ok (atoms.Host chars false)
 
@@ -189,7 +189,7 @@ abbrev pub no_command : Bool → List Ch → Refusal
 no_command quoted chars =
     if quoted then refusals.NotCommand
     else if begins_with_caret chars then refusals.Unsupported forms.RegularExpression
-    else if is_plain chars && bytes_eq (bytes_of chars) (codes "list") then refusals.Unsupported forms.List
+    else if has_no_escape chars && bytes_eq (bytes_of chars) (codes "list") then refusals.Unsupported forms.List
     else refusals.NotCommand
 
 -- a word that is neither ALL nor a name of an alias

@@ -75,9 +75,9 @@ operator_of (tokens.Mark marks.MinusEquals) = Some operators.Remove
 operator_of _ = None
 
 -- an unquoted word without escapes that passes a test
-abbrev pub spells : (List ℕ → Bool) → Option (List ℕ) → Bool
-spells test None = false
-spells test (Some w) = test w
+abbrev pub word_passes : (List ℕ → Bool) → Option (List ℕ) → Bool
+word_passes test None = false
+word_passes test (Some w) = test w
 
 -- the single character `%`, unescaped, in quotes or not
 abbrev pub is_percent_sign : List Ch → Bool

@@ -4,7 +4,7 @@ use Rattle.std.specs.Prelude.{List, [], ◌∷◌, Option, None, Some, Result, O
 use Rattle.sudo_text.specs.declared.token.Token.{Token}
 use Rattle.sudo_grammar.specs.declared.policy.EntryBody.{EntryBody}
 use Rattle.sudo_grammar.specs.declared.fault.Refusal.{Refusal}
-use Rattle.sudo_grammar.specs.States.{State, Room, step, ended}
+use Rattle.sudo_grammar.specs.States.{State, Room, step, entry_after_list}
 use Rattle.sudo_grammar.specs.Refusals.{refused_at}
 
 -- a refusal, and the tokens from the refused one on
@@ -21,6 +21,6 @@ entry_or_stop place None = Err (stop_at place [])
 
 -- the entry of the tokens from a state on, or the refusal of the first of them that cannot continue the line
 abbrev pub reading : Room → State → List Token → Result EntryBody Stop
-reading room place [] = entry_or_stop place (ended place)
+reading room place [] = entry_or_stop place (entry_after_list place)
 reading room place (t ∷ ts) = elim (step room place t)
     [ Some next ↦ reading room next ts | None ↦ Err (stop_at place (t ∷ ts)) ]

@@ -26,7 +26,7 @@ use Rattle.sudo_grammar.specs.declared.fault.Refusal.{Refusal}
 use Rattle.sudo_grammar.specs.declared.fault.Refusal.TheVariants as refusals
 use Rattle.sudo_grammar.specs.declared.fault.Unsupported.TheVariants as forms
 use Rattle.sudo_grammar.specs.Words.{name_of, plain_word, is_option_name, is_digest_name}
-use Rattle.sudo_grammar.specs.Openings.{Opening, BadDirective, opening_of, is_percent, is_mark, spells}
+use Rattle.sudo_grammar.specs.Openings.{Opening, BadDirective, opening_of, is_percent, is_mark, word_passes}
 use Rattle.sudo_grammar.specs.Members.{atom_of, expected_in}
 use Rattle.sudo_grammar.specs.States.{Purpose, Defines, Users, Hosts, RunasUsers, RunasGroups, Binds, kind_for, State, Start, AliasName, AfterName, Item, AfterItem, Command, AfterCommand, RunasStart, GroupsStart, DefaultsStart, AtParameter, AfterSwitch, AtValue, AfterValue, Included}
 
@@ -43,7 +43,7 @@ is_next_at place m (t ∷ ts) = is_mark m t.kind && (t.start == place)
 -- name of a digest with a colon after it is a digest
 abbrev pub with_next : Kind → Token → List Token → Refusal → Refusal
 with_next kinds.Cmnd t ts refusal =
-    if spells is_digest_name (plain_word t.kind) && is_next marks.Colon ts
+    if word_passes is_digest_name (plain_word t.kind) && is_next marks.Colon ts
     then refusals.Unsupported forms.Digest else refusal
 with_next kinds.Host t ts refusal = refusal
 with_next _ t ts refusal =
@@ -63,7 +63,7 @@ refused_member kind (t ∷ ts) = refused_atom kind t ts (atom_of kind t.kind)
 -- refusal is that of the name, without a column
 abbrev pub is_option : Option Member → List Token → Bool
 is_option None ts = false
-is_option (Some m) ts = spells is_option_name (plain_word m.token.kind) && is_next marks.Equals ts
+is_option (Some m) ts = word_passes is_option_name (plain_word m.token.kind) && is_next marks.Equals ts
 
 abbrev pub or_option : Option Member → List Token → Refusal → Refusal
 or_option m ts refusal = if is_option m ts then refusals.Unsupported forms.CommandOption else refusal
@@ -89,13 +89,13 @@ last_command kinds.Cmnd members = slice_get members (length members - 1)
 last_command _ members = None
 
 -- the refusal after a list, at tokens that begin no further item
-abbrev pub refused_after : Purpose → List Token → Refusal
-refused_after (Defines kind done name) ts = refusals.Syntax wants.EndOfLine
-refused_after Users ts = refused_member kinds.Host ts
-refused_after (Hosts users sections) ts = refusals.Syntax wants.Equals
-refused_after (RunasUsers granting) ts = refusals.Syntax wants.RightParen
-refused_after (RunasGroups granting users) ts = refusals.Syntax wants.RightParen
-refused_after (Binds kind) ts = refusals.Syntax wants.Parameter
+abbrev pub refusal_after_list : Purpose → List Token → Refusal
+refusal_after_list (Defines kind done name) ts = refusals.Syntax wants.EndOfLine
+refusal_after_list Users ts = refused_member kinds.Host ts
+refusal_after_list (Hosts users sections) ts = refusals.Syntax wants.Equals
+refusal_after_list (RunasUsers granting) ts = refusals.Syntax wants.RightParen
+refusal_after_list (RunasGroups granting users) ts = refusals.Syntax wants.RightParen
+refusal_after_list (Binds kind) ts = refusals.Syntax wants.Parameter
 
 -- the refusal of tokens that cannot continue or end the line in this state
 abbrev pub refused_at : State → List Token → Refusal
@@ -104,7 +104,7 @@ refused_at (AliasName kind done) ts = refused_name ts
 refused_at (AfterName kind done name) ts = refusals.Syntax wants.Equals
 refused_at (Item purpose bangs done) ts = refused_member (kind_for purpose) ts
 refused_at (AfterItem purpose done) ts =
-    or_option (last_command (kind_for purpose) done) ts (refused_after purpose ts)
+    or_option (last_command (kind_for purpose) done) ts (refusal_after_list purpose ts)
 refused_at (Command granting runas tags bangs) ts = refused_member kinds.Cmnd ts
 refused_at (AfterCommand granting spec) ts = or_option (Some spec.command) ts (refusals.Syntax wants.EndOfLine)
 refused_at (RunasStart granting) ts = refused_member kinds.Runas ts

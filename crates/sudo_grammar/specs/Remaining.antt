@@ -18,7 +18,7 @@ use Rattle.sudo_grammar.specs.declared.policy.Parameter.TheVariants as parameter
 use Rattle.sudo_grammar.specs.declared.policy.EntryBody.{EntryBody}
 use Rattle.sudo_grammar.specs.declared.policy.EntryBody.TheVariants as entries
 use Rattle.sudo_grammar.specs.Openings.{operator_of}
-use Rattle.sudo_grammar.specs.Forms.{◌▸◌, Form, never, one, mark, bangs, member, more_items, list, more_definitions, definitions, optional, runas, groups, tags, as_tag, more_specs, specs, more_sections, sections, binding, the_word, parameter, more_parameters, parameter_list, Writes}
+use Rattle.sudo_grammar.specs.Forms.{◌▸◌, Form, never, one, mark, bangs, member, more_items, list, more_definitions, definition_list, optional, runas, groups, tags, as_tag, more_specs, specs, more_sections, sections, binding, the_word, parameter, more_parameters, parameter_list, Writes}
 use Rattle.sudo_grammar.specs.States.{Granting, Purpose, Defines, Users, Hosts, RunasUsers, RunasGroups, Binds, kind_for, bound_to, State, Start, AliasName, AfterName, Item, AfterItem, Command, AfterCommand, RunasStart, GroupsStart, DefaultsStart, AtParameter, AfterSwitch, AtValue, AfterValue, Included}
 
 -- after a command: further commands, and further sections
@@ -91,7 +91,7 @@ AtAssigned b done name operator e ts = (value : Token) × ((xs : List Parameter)
 abbrev pub Completes : State → EntryBody → List Token → Type 0
 Completes Start e ts = Writes e ts
 Completes (AliasName kind done) e ts =
-    (ds : List Definition) × (definitions kind ds ts [] × (e ≡ entries.Aliases kind (done ++ ds)))
+    (ds : List Definition) × (definition_list kind ds ts [] × (e ≡ entries.Aliases kind (done ++ ds)))
 Completes (AfterName kind done name) e ts = (ms : List Member) × ((ds : List Definition)
     × ((mark marks.Equals ▸ list kind ms ▸ more_definitions kind ds) ts []
     × (e ≡ entries.Aliases kind (done ++ record { name = name; members = ms } ∷ ds))))

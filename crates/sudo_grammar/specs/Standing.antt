@@ -15,21 +15,21 @@ use Rattle.sudo_grammar.specs.Words.{name_of}
 use Rattle.sudo_grammar.specs.Members.{atom_of}
 use Rattle.sudo_grammar.specs.Openings.{opening_of, is_direct, is_word, Directive}
 use Rattle.sudo_grammar.specs.Forms.{Writes}
-use Rattle.sudo_grammar.specs.Faults.{Begins}
+use Rattle.sudo_grammar.specs.Faults.{BeginsEntry}
 
 -- each member of lists of the kind
 abbrev pub MembersStand : Kind → List Token → Type 0
-MembersStand kind front = (t : Token) (a : Atom) → atom_of kind t.kind ≡ Ok a → Begins (front ++ t ∷ [])
+MembersStand kind front = (t : Token) (a : Atom) → atom_of kind t.kind ≡ Ok a → BeginsEntry (front ++ t ∷ [])
 
 abbrev pub CanStand : Expected → List Token → Type 0
-CanStand wants.AliasName front = (t : Token) (w : List ℕ) → name_of t.kind ≡ Some w → Begins (front ++ t ∷ [])
-CanStand wants.Equals front = (t : Token) → t.kind ≡ tokens.Mark marks.Equals → Begins (front ++ t ∷ [])
+CanStand wants.AliasName front = (t : Token) (w : List ℕ) → name_of t.kind ≡ Some w → BeginsEntry (front ++ t ∷ [])
+CanStand wants.Equals front = (t : Token) → t.kind ≡ tokens.Mark marks.Equals → BeginsEntry (front ++ t ∷ [])
 CanStand wants.Member front = (kind : Kind) × ((kind ≡ kinds.Cmnd → ⊥) × MembersStand kind front)
 CanStand wants.Command front = MembersStand kinds.Cmnd front
-CanStand wants.RightParen front = (t : Token) → t.kind ≡ tokens.Mark marks.RightParen → Begins (front ++ t ∷ [])
+CanStand wants.RightParen front = (t : Token) → t.kind ≡ tokens.Mark marks.RightParen → BeginsEntry (front ++ t ∷ [])
 CanStand wants.Parameter front =
-    (t : Token) → is_word t.kind ≡ true → is_direct t ≡ false → Begins (front ++ t ∷ [])
-CanStand wants.Value front = (t : Token) → is_word t.kind ≡ true → Begins (front ++ t ∷ [])
+    (t : Token) → is_word t.kind ≡ true → is_direct t ≡ false → BeginsEntry (front ++ t ∷ [])
+CanStand wants.Value front = (t : Token) → is_word t.kind ≡ true → BeginsEntry (front ++ t ∷ [])
 CanStand wants.Path front = (t : Token) (folder hash : Bool) (path : List Ch)
-    → opening_of t.kind ≡ Directive folder hash path → Begins (front ++ t ∷ [])
+    → opening_of t.kind ≡ Directive folder hash path → BeginsEntry (front ++ t ∷ [])
 CanStand wants.EndOfLine front = (e : EntryBody) × Writes e front

@@ -184,13 +184,13 @@ at_command granting runas tags bangs t (tokens.Mark marks.LeftParen) = at_paren 
 at_command granting runas tags bangs t _ = command_state granting runas tags bangs t (atom_of kinds.Cmnd t.kind)
 
 -- the section that ends with a command
-abbrev pub closed : Granting → CommandSpec → Section
-closed granting spec = record { hosts = granting.hosts; commands = granting.commands ++ spec ∷ [] }
+abbrev pub closed_section : Granting → CommandSpec → Section
+closed_section granting spec = record { hosts = granting.hosts; commands = granting.commands ++ spec ∷ [] }
 
 -- after a command and a colon: it was a tag, or the next section begins
 abbrev pub after_colon : Granting → CommandSpec → Option Tag → State
 after_colon granting spec (Some tag) = Command granting spec.runas (spec.tags ++ tag ∷ []) 0
-after_colon granting spec None = Item (Hosts granting.users (granting.sections ++ closed granting spec ∷ [])) 0 []
+after_colon granting spec None = Item (Hosts granting.users (granting.sections ++ closed_section granting spec ∷ [])) 0 []
 
 abbrev pub after_command : Granting → CommandSpec → TokenKind → Option State
 after_command granting spec (tokens.Mark marks.Comma) =
@@ -266,16 +266,16 @@ ended_list (Defines kind done name) members =
     Some (entries.Aliases kind (done ++ record { name = name; members = members } ∷ []))
 ended_list _ members = None
 
--- the entry of a list's line, if the line may end after the list
-abbrev pub ended : State → Option EntryBody
-ended (AfterItem purpose done) = ended_list purpose done
-ended (AfterCommand granting spec) =
-    Some (entries.Rule granting.users (granting.sections ++ closed granting spec ∷ []))
-ended (AfterSwitch binding done bangs name) =
+-- the entry of the line, if it may end in this state
+abbrev pub entry_after_list : State → Option EntryBody
+entry_after_list (AfterItem purpose done) = ended_list purpose done
+entry_after_list (AfterCommand granting spec) =
+    Some (entries.Rule granting.users (granting.sections ++ closed_section granting spec ∷ []))
+entry_after_list (AfterSwitch binding done bangs name) =
     Some (entries.Defaults binding (done ++ parameters.Switch bangs name ∷ []))
-ended (AfterValue binding done) = Some (entries.Defaults binding done)
-ended (Included folder hash path) = Some (entries.Include folder hash path)
-ended _ = None
+entry_after_list (AfterValue binding done) = Some (entries.Defaults binding done)
+entry_after_list (Included folder hash path) = Some (entries.Include folder hash path)
+entry_after_list _ = None
 
 -- the state after tokens, if a line can begin with them
 abbrev pub state_after : Room → State → List Token → Option State

@@ -18,12 +18,12 @@ abbrev pub bytes_of : List Ch → List ℕ
 bytes_of = map (λ c. c.byte)
 
 -- no character is escaped
-abbrev pub is_plain : List Ch → Bool
-is_plain = list_all (λ c. not c.escaped)
+abbrev pub has_no_escape : List Ch → Bool
+has_no_escape = list_all (λ c. not c.escaped)
 
 -- the word that an unquoted token without escapes spells
 abbrev pub plain_word : TokenKind → Option (List ℕ)
-plain_word (tokens.Word quoted chars) = if not quoted && is_plain chars then Some (bytes_of chars) else None
+plain_word (tokens.Word quoted chars) = if not quoted && has_no_escape chars then Some (bytes_of chars) else None
 plain_word _ = None
 
 abbrev pub is_upper : ℕ → Bool

@@ -4,34 +4,34 @@ use std::alloc::{AllocError, AllocFailed};
 use sudo_text::{Place, TextFault};
 use thiserror::Error;
 
-/// The token that a syntax error expects.
+/// What the parser expected at the token of a syntax error.
 #[derive(Clone, Copy, Debug, PartialEq, Eq, PartialOrd, Ord, Hash, Error)]
 pub enum Expected {
-    /// After the keyword of an alias line, or after `:` in one.
+    /// A name, after the keyword of an alias line or after `:` in one.
     #[error("alias name")]
     AliasName,
-    /// After the name of an alias in its definition, and after a host of a section.
+    /// `=`, after the name of an alias in its definition or after the hosts of a section.
     #[error("=")]
     Equals,
-    /// Where a user, a host, or a user or group to run as must begin.
+    /// A user, a host, or a user or group to run as.
     #[error("member")]
     Member,
-    /// Where a command must begin.
+    /// A command.
     #[error("command")]
     Command,
-    /// After an item in parentheses.
+    /// `)`, after an item in parentheses.
     #[error(")")]
     RightParen,
-    /// In a `Defaults` line.
+    /// A parameter of a `Defaults` line.
     #[error("parameter")]
     Parameter,
-    /// After `=`, `+=` or `-=` of a parameter.
+    /// A value, after `=`, `+=` or `-=` of a parameter.
     #[error("value")]
     Value,
-    /// In an include line without a path.
+    /// A path, in an include line.
     #[error("path")]
     Path,
-    /// Where the line may end, and the token cannot continue it.
+    /// The end of the line, or a token that continues it.
     #[error("end of line")]
     EndOfLine,
 }

@@ -1,7 +1,7 @@
 //! The tree of a policy: its lines in order, each as written.
 ghost use Rattle.std.specs.Prelude.{IsTrue, nat_lt, length, not};
 ghost use Rattle.std.specs.List.{list_all};
-ghost use Rattle.sudo_grammar.specs.Includes.{is_include};
+ghost use Rattle.sudo_grammar.specs.Includes.{is_include_entry};
 
 use crate::{Kind, Member, Tag};
 use sudo_text::{Ch, Place, Seq, Token};
@@ -19,7 +19,7 @@ pub struct Policy {
     /// Each entry belongs to one of the files.
     pub ghost placed: { IsTrue (list_all (λ e. nat_lt e.place.file (length files)) entries) },
     /// No include line is left.
-    pub ghost unfolded: { IsTrue (list_all (λ e. not (is_include e.body)) entries) },
+    pub ghost unfolded: { IsTrue (list_all (λ e. not (is_include_entry e.body)) entries) },
 }
 
 /// The content of one logical line.

@@ -9,21 +9,21 @@ use Rattle.sudo_load.specs.declared.supply.Supply.{Supply}
 use Rattle.sudo_load.specs.Body.Outcomes.{GivesBy}
 use Rattle.sudo_load.specs.Paths.{in_folder}
 use Rattle.sudo_load.specs.Supplies.{supplied_file, supplied_folder}
-use Rattle.sudo_load.specs.Unfolding.{Refusal, Outcome, Inclusion, refused, with_folder, IfElse, SuppliedLoads, FileLoads, NamesLoad, FolderLoads, FilesLoad, IsFolderOrder}
+use Rattle.sudo_load.specs.Unfolding.{Refusal, Outcome, Inclusion, refused_with, with_folder, IfElse, SuppliedLoads, FileLoads, NamesLoad, FolderLoads, FilesLoad, IsFolderOrder}
 
 pub nested : (levels : ℕ) (supplies : List Supply) (loaded : LoadState) (place : Place) (path : List ℕ) → levels ≡ 0
-    → FileLoads levels supplies loaded place path (refused loaded (faults.TooNested place))
+    → FileLoads levels supplies loaded place path (refused_with loaded (faults.TooNested place))
 unfolding FileLoads
 nested zero supplies loaded place path none = refl
 nested (suc levels) supplies loaded place path none = absurd (omega arith)
 
 pub full : (levels : ℕ) (supplies : List Supply) (loaded : LoadState) (place : Place) (path : List ℕ) → 0 < levels → 1024 ≤ length loaded.files
-    → FileLoads levels supplies loaded place path (refused loaded (faults.TooMany place))
+    → FileLoads levels supplies loaded place path (refused_with loaded (faults.TooMany place))
 unfolding FileLoads
 full zero supplies loaded place path some many = absurd (omega arith)
 full (suc levels) supplies loaded place path some many =
     let test : nat_lt (length loaded.files) 1024 ≡ false = grind (arith, nat_tests) in
-    subst (λ b. IfElse b (SuppliedLoads (FileLoads levels supplies) supplies loaded place path (supplied_file supplies path) (refused loaded (faults.TooMany place))) (refused loaded (faults.TooMany place) ≡ refused loaded (faults.TooMany place))) (sym test) refl
+    subst (λ b. IfElse b (SuppliedLoads (FileLoads levels supplies) supplies loaded place path (supplied_file supplies path) (refused_with loaded (faults.TooMany place))) (refused_with loaded (faults.TooMany place) ≡ refused_with loaded (faults.TooMany place))) (sym test) refl
 
 pub supplied : (levels : ℕ) (supplies : List Supply) (loaded : LoadState) (place : Place) (path : List ℕ) (found : Option (Option (List ℕ))) (outcome : Outcome)
     → 0 < levels → length loaded.files < 1024 → found ≡ supplied_file supplies path
@@ -36,13 +36,13 @@ supplied (suc levels) supplies loaded place path found outcome some few is loads
     let there : SuppliedLoads (FileLoads levels supplies) supplies loaded place path (supplied_file supplies path) outcome =
     subst (λ s. SuppliedLoads (FileLoads levels supplies) supplies loaded place path s outcome) is
     (subst (λ (m : ℕ). SuppliedLoads (FileLoads m supplies) supplies loaded place path found outcome) n loads) in
-    subst (λ b. IfElse b (SuppliedLoads (FileLoads levels supplies) supplies loaded place path (supplied_file supplies path) outcome) (outcome ≡ refused loaded (faults.TooMany place))) (sym test) there
+    subst (λ b. IfElse b (SuppliedLoads (FileLoads levels supplies) supplies loaded place path (supplied_file supplies path) outcome) (outcome ≡ refused_with loaded (faults.TooMany place))) (sym test) there
 
 pub folder_supplied : (include : Inclusion) (supplies : List Supply) (loaded : LoadState) (place : Place) (path : List ℕ) (found : Option (List (List ℕ))) (outcome : Outcome)
     → loaded.folders < 1024 → found ≡ supplied_folder supplies path → NamesLoad include loaded place path found outcome → FolderLoads include supplies loaded place path outcome
 folder_supplied include supplies loaded place path found outcome few is loads =
     let test : nat_lt loaded.folders 1024 ≡ true = grind (arith, nat_tests) in
-    subst (λ b. IfElse b (NamesLoad include loaded place path (supplied_folder supplies path) outcome) (outcome ≡ refused loaded (faults.TooMany place))) (sym test)
+    subst (λ b. IfElse b (NamesLoad include loaded place path (supplied_folder supplies path) outcome) (outcome ≡ refused_with loaded (faults.TooMany place))) (sym test)
     (subst (λ s. NamesLoad include loaded place path s outcome) is loads)
 
 -- What is given by one relation is given by another that follows from it.

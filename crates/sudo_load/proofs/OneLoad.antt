@@ -12,7 +12,7 @@ use Rattle.sudo_parser.specs.Parsed.{AreEntries, IsFirstFault, over_limit}
 use Rattle.sudo_parser.proofs.OneReading.{one_entries, one_first_fault, entries_no_fault}
 use Rattle.sudo_load.specs.declared.loading.LoadState.{LoadState}
 use Rattle.sudo_load.specs.declared.supply.Supply.{Supply}
-use Rattle.sudo_load.specs.Files.{Reads}
+use Rattle.sudo_load.specs.Files.{HasContent}
 use Rattle.sudo_load.specs.Load.{IsLoad, Closes, ClosesBy, SameLoad}
 use Rattle.sudo_load.specs.Paths.{in_folder, is_kept}
 use Rattle.sudo_load.specs.Supplies.{supplied_file, supplied_folder}
@@ -31,19 +31,19 @@ ok_err r a b is other = absurd cc
 one_lines : (file : ℕ) (text : List ℕ) (a b : List Line) → lines_of file text ≡ Ok a → lines_of file text ≡ Ok b → a ≡ b
 one_lines file text a b is other = ok_is (lines_of file text) a b is other
 
-reads_apart : (file : ℕ) (text : List ℕ) (entries : List Entry) (fault : ParseFault) → Reads file text (Ok entries) → Reads file text (Err fault) → ⊥
+reads_apart : (file : ℕ) (text : List ℕ) (entries : List Entry) (fault : ParseFault) → HasContent file text (Ok entries) → HasContent file text (Err fault) → ⊥
 reads_apart file text entries fault (lines, is, are) (inl (why, other, same)) = ok_err (lines_of file text) lines why is other
 reads_apart file text entries fault (lines, is, are) (inr (lines2, other, first)) =
     entries_no_fault [] lines entries fault are (subst (λ ls. IsFirstFault ls fault) (sym (one_lines file text lines lines2 is other)) first)
 
-one_fault_read : (file : ℕ) (text : List ℕ) (a b : ParseFault) → Reads file text (Err a) → Reads file text (Err b) → a ≡ b
+one_fault_read : (file : ℕ) (text : List ℕ) (a b : ParseFault) → HasContent file text (Err a) → HasContent file text (Err b) → a ≡ b
 one_fault_read file text a b (inl (why, is, same)) (inl (why2, is2, same2)) = same ∙ (ap parses.Text (err_is (lines_of file text) why why2 is is2) ∙ sym same2)
 one_fault_read file text a b (inl (why, is, same)) (inr (lines, is2, first)) = absurd (ok_err (lines_of file text) lines why is2 is)
 one_fault_read file text a b (inr (lines, is, first)) (inl (why, is2, same)) = absurd (ok_err (lines_of file text) lines why is is2)
 one_fault_read file text a b (inr (lines, is, first)) (inr (lines2, is2, first2)) =
     one_first_fault [] lines a b first (subst (λ ls. IsFirstFault ls b) (sym (one_lines file text lines lines2 is is2)) first2)
 
-one_read : (file : ℕ) (text : List ℕ) (a b : Result (List Entry) ParseFault) → Reads file text a → Reads file text b → a ≡ b
+one_read : (file : ℕ) (text : List ℕ) (a b : Result (List Entry) ParseFault) → HasContent file text a → HasContent file text b → a ≡ b
 one_read file text (Ok a) (Ok b) (lines, is, are) (lines2, is2, are2) =
     ap Ok (one_entries [] lines a b are (subst (λ ls. AreEntries ls b) (sym (one_lines file text lines lines2 is is2)) are2))
 one_read file text (Ok a) (Err b) reads other = absurd (reads_apart file text a b reads other)

@@ -13,7 +13,7 @@ use Rattle.sudo_grammar.specs.declared.policy.Entry.{Entry}
 use Rattle.sudo_grammar.specs.declared.policy.EntryBody.{EntryBody}
 use Rattle.sudo_grammar.specs.declared.policy.EntryBody.TheVariants as bodies
 use Rattle.sudo_grammar.specs.declared.fault.ParseFault.{ParseFault}
-use Rattle.sudo_grammar.specs.Includes.{is_include}
+use Rattle.sudo_grammar.specs.Includes.{is_include_entry}
 use Rattle.sudo_grammar.specs.declared.fault.Refusal.{Refusal as GrammarRefusal}
 use Rattle.sudo_grammar.specs.declared.fault.Refusal.TheVariants as refusals
 use Rattle.sudo_text.specs.Tokens.{fault_place}
@@ -21,17 +21,17 @@ use Rattle.sudo_text.proofs.FaultPlace.{faults_placed}
 use Rattle.sudo_grammar.specs.declared.kind.Kind.{Kind}
 use Rattle.sudo_parser.specs.Limits.{less}
 use Rattle.sudo_parser.specs.Parsed.{AreEntriesAfter, entry_of, IsLineFault, IsFirstFaultAfter, room_after, column, fault_at, fits, over_limit_from}
-use Rattle.sudo_load.specs.FaultFiles.{text_file, parse_file, IsBelow, IsPlaced}
+use Rattle.sudo_load.specs.FaultFiles.{text_file, parse_file, IsBelow, IsInFiles}
 use Rattle.sudo_load.specs.declared.fault.LoadFault.TheVariants as faults
 use Rattle.sudo_load.specs.declared.fault.LoadFault.{LoadFault}
 use Rattle.sudo_load.specs.declared.loading.LoadState.{LoadState}
 use Rattle.sudo_load.specs.declared.supply.Supply.{Supply}
-use Rattle.sudo_load.specs.Files.{Reads}
+use Rattle.sudo_load.specs.Files.{HasContent}
 use Rattle.sudo_load.specs.Load.{IsLoad}
 use Rattle.sudo_load.specs.Body.IsConsistent.{placed_in, IsConsistent}
 use Rattle.sudo_load.specs.Supplies.{supplied_file, supplied_folder}
 use Rattle.sudo_load.specs.Paths.{in_folder}
-use Rattle.sudo_load.specs.Unfolding.{Refusal, Outcome, Inclusion, with_file, with_folder, with_entry, Then, IfElse, FilesLoad, NamesLoad, FolderLoads, IncludeLoads, EntryLoadsBy, EntriesLoad, LinesLoad, TextLoads, SuppliedLoads, FileLoads, include_of, nothing}
+use Rattle.sudo_load.specs.Unfolding.{Refusal, Outcome, Inclusion, with_file, with_folder, with_entry, Then, IfElse, FilesLoad, NamesLoad, FolderLoads, IncludeLoads, EntryLoadsBy, EntriesLoad, LinesLoad, TextLoads, SuppliedLoads, FileLoads, include_of, nothing_loaded}
 
 -- Each of the lines stands in the file.
 abbrev pub InFile : ℕ → List Line → Type 0
@@ -89,7 +89,7 @@ entries_in file before (line ∷ lines) entries at (said, rest, says, are, whole
     subst (EntriesIn file) (sym whole) (said_in file line said rest at.0 (entries_in file (before ++ entry_of line said) lines rest at.1 are))
 
 -- What the file of this number says stands in it.
-pub read_in : (file : ℕ) (text : List ℕ) (entries : List Entry) → Reads file text (Ok entries) → EntriesIn file entries
+pub read_in : (file : ℕ) (text : List ℕ) (entries : List Entry) → HasContent file text (Ok entries) → EntriesIn file entries
 read_in file text entries (lines, is, are) = entries_in file [] lines entries (lines_in file text lines is) are
 
 text_file_of : (fault : TextFault) (place : Place) → fault_place fault ≡ Some place → text_file fault ≡ Some place.file
@@ -119,7 +119,7 @@ first_fault_in file before (line ∷ lines) fault at (inl here) = line_fault_in 
 first_fault_in file before (line ∷ lines) fault at (inr (said, says, later)) = first_fault_in file (before ++ entry_of line said) lines fault at.1 later
 
 -- A fault of the file of this number stands in it.
-read_fault_in : (file : ℕ) (text : List ℕ) (fault : ParseFault) → Reads file text (Err fault) → StandsIn file (parse_file fault)
+read_fault_in : (file : ℕ) (text : List ℕ) (fault : ParseFault) → HasContent file text (Err fault) → StandsIn file (parse_file fault)
 read_fault_in file text fault (inl (why, is, same)) = subst (StandsIn file) (sym (ap parse_file same)) (lines_fault_in file text why is)
 read_fault_in file text fault (inr (lines, is, first)) = first_fault_in file [] lines fault (lines_in file text lines is) first
 
@@ -161,18 +161,18 @@ fine_file loaded path fine = record {
 fine_folder : (loaded : LoadState) → IsConsistent loaded → IsConsistent (with_folder loaded)
 fine_folder loaded fine = record { placed = fine.placed; unfolded = fine.unfolded }
 
-fine_entry : (loaded : LoadState) (entry : Entry) → IsConsistent loaded → entry.place.file < length loaded.files → is_include entry.body ≡ false → IsConsistent (with_entry loaded entry)
+fine_entry : (loaded : LoadState) (entry : Entry) → IsConsistent loaded → entry.place.file < length loaded.files → is_include_entry entry.body ≡ false → IsConsistent (with_entry loaded entry)
 fine_entry loaded entry fine at no_include =
     let test : nat_lt entry.place.file (length loaded.files) ≡ true = grind (arith, nat_tests) in
     record {
       placed = all_push (λ e. nat_lt e.place.file (length loaded.files)) loaded.entries entry fine.placed test;
-      unfolded = all_push (λ e. not (is_include e.body)) loaded.entries entry fine.unfolded (ap not no_include);
+      unfolded = all_push (λ e. not (is_include_entry e.body)) loaded.entries entry fine.unfolded (ap not no_include);
     }
 
 -- After this many files at the least, all is fine.
 abbrev pub FineAfter : ℕ → Outcome → Type 0
 FineAfter n (Ok loaded) = IsConsistent loaded × (n ≤ length loaded.files)
-FineAfter n (Err refusal) = IsPlaced refusal
+FineAfter n (Err refusal) = IsInFiles refusal
 
 fine_later : (n m : ℕ) (outcome : Outcome) → n ≤ m → FineAfter m outcome → FineAfter n outcome
 fine_later n m (Ok loaded) le fine = (fine.0, omega (arith, fine.1))
@@ -190,7 +190,7 @@ then_fine n (Err refusal) next outcome fine onward goes = subst (FineAfter n) (s
 ends_fine : (loaded : LoadState) (outcome : Outcome) → IsConsistent loaded → outcome ≡ Ok loaded → FineAfter (length loaded.files) outcome
 ends_fine loaded outcome fine is = subst (FineAfter (length loaded.files)) (sym is) (fine, omega arith)
 
-refused_fine : (n : ℕ) (refusal : Refusal) (outcome : Outcome) → IsPlaced refusal → outcome ≡ Err refusal → FineAfter n outcome
+refused_fine : (n : ℕ) (refusal : Refusal) (outcome : Outcome) → IsInFiles refusal → outcome ≡ Err refusal → FineAfter n outcome
 refused_fine n refusal outcome placed is = subst (FineAfter n) (sym is) placed
 
 files_keep : (include : Inclusion) → Keeps include → (loaded : LoadState) (place : Place) (paths : List (List ℕ)) (outcome : Outcome) → IsConsistent loaded → place.file < length loaded.files
@@ -238,7 +238,7 @@ entries_keep include keeps supplies file number loaded (entry ∷ entries) outco
     (λ after good more goes. entries_keep include keeps supplies file number after entries outcome good (omega (arith, at, more)) ins.1 goes)
 
 lines_keep : (include : Inclusion) → Keeps include → (supplies : List Supply) (file : List ℕ) (number : ℕ) (text : List ℕ) (loaded : LoadState) (read : Result (List Entry) ParseFault) (outcome : Outcome) → IsConsistent loaded
-    → number < length loaded.files → Reads number text read → LinesLoad include supplies file loaded read outcome → FineAfter (length loaded.files) outcome
+    → number < length loaded.files → HasContent number text read → LinesLoad include supplies file loaded read outcome → FineAfter (length loaded.files) outcome
 lines_keep include keeps supplies file number text loaded (Ok entries) outcome fine at reads loads =
     entries_keep include keeps supplies file number loaded entries outcome fine at (read_in number text entries reads) loads
 lines_keep include keeps supplies file number text loaded (Err fault) outcome fine at reads loads =
@@ -267,32 +267,32 @@ file_keeps (suc levels) supplies = λ loaded place path outcome fine at loads.
 
 -- What the main file unfolds to is fine.
 pub unfolded_fine : (levels : ℕ) (path text : List ℕ) (supplies : List Supply) (loaded : LoadState)
-    → TextLoads (FileLoads levels supplies) supplies nothing path text (Ok loaded) → IsConsistent loaded
+    → TextLoads (FileLoads levels supplies) supplies nothing_loaded path text (Ok loaded) → IsConsistent loaded
 unfolded_fine levels path text supplies loaded loads =
-    (text_keeps (FileLoads levels supplies) (file_keeps levels supplies) supplies nothing path text (Ok loaded) (record { placed = refl; unfolded = refl }) loads).0
+    (text_keeps (FileLoads levels supplies) (file_keeps levels supplies) supplies nothing_loaded path text (Ok loaded) (record { placed = refl; unfolded = refl }) loads).0
 
-pub start_fine : (levels : ℕ) (path text : List ℕ) (supplies : List Supply) (start loaded : LoadState) → start ≡ nothing
+pub start_fine : (levels : ℕ) (path text : List ℕ) (supplies : List Supply) (start loaded : LoadState) → start ≡ nothing_loaded
     → TextLoads (FileLoads levels supplies) supplies start path text (Ok loaded) → IsConsistent loaded
 start_fine levels path text supplies start loaded is loads =
     unfolded_fine levels path text supplies loaded (subst (λ s. TextLoads (FileLoads levels supplies) supplies s path text (Ok loaded)) is loads)
 
-pub start_refused : (path p text : List ℕ) (supplies : List Supply) (start : LoadState) (refusal : Refusal) → start ≡ nothing → p ≡ path
+pub start_refused : (path p text : List ℕ) (supplies : List Supply) (start : LoadState) (refusal : Refusal) → start ≡ nothing_loaded → p ≡ path
     → TextLoads (FileLoads 128 supplies) supplies start p text (Err refusal) → IsLoad path text supplies (Err refusal)
 start_refused path p text supplies start refusal is same loads = (
   Err refusal,
-  subst (λ q. TextLoads (FileLoads 128 supplies) supplies nothing q text (Err refusal)) same
+  subst (λ q. TextLoads (FileLoads 128 supplies) supplies nothing_loaded q text (Err refusal)) same
       (subst (λ s. TextLoads (FileLoads 128 supplies) supplies s p text (Err refusal)) is loads),
   refl,
 )
 
 -- So is a refusal's fault, where memory was not refused.
-pub refusal_placed : (path text : List ℕ) (supplies : List Supply) (start : LoadState) (refusal : Refusal) → start ≡ nothing
-    → (refusal.1 ≢ faults.Memory → TextLoads (FileLoads 128 supplies) supplies start path text (Err refusal)) → IsPlaced refusal
+pub refusal_placed : (path text : List ℕ) (supplies : List Supply) (start : LoadState) (refusal : Refusal) → start ≡ nothing_loaded
+    → (refusal.1 ≢ faults.Memory → TextLoads (FileLoads 128 supplies) supplies start path text (Err refusal)) → IsInFiles refusal
 refusal_placed path text supplies start (files, fault) is loads = placed_unless files fault
-    (λ no_memory. text_keeps (FileLoads 128 supplies) (file_keeps 128 supplies) supplies nothing path text (Err (files, fault)) (record { placed = refl; unfolded = refl })
+    (λ no_memory. text_keeps (FileLoads 128 supplies) (file_keeps 128 supplies) supplies nothing_loaded path text (Err (files, fault)) (record { placed = refl; unfolded = refl })
     (subst (λ s. TextLoads (FileLoads 128 supplies) supplies s path text (Err (files, fault))) is (loads no_memory)))
   where
-    placed_unless : (files : List (List ℕ)) (fault : LoadFault) → (fault ≢ faults.Memory → IsPlaced (files, fault)) → IsPlaced (files, fault)
+    placed_unless : (files : List (List ℕ)) (fault : LoadFault) → (fault ≢ faults.Memory → IsInFiles (files, fault)) → IsInFiles (files, fault)
     placed_unless files (faults.Parse fault) h = h (λ e. cc)
     placed_unless files (faults.TooNested place) h = h (λ e. cc)
     placed_unless files (faults.TooMany place) h = h (λ e. cc)

@@ -42,5 +42,5 @@ IsBelow n None = ⊤
 IsBelow n (Some file) = file < n
 
 -- a fault lies in one of the files that were read
-abbrev pub IsPlaced : Refusal → Type 0
-IsPlaced refusal = IsBelow (length refusal.0) (fault_file refusal.1)
+abbrev pub IsInFiles : Refusal → Type 0
+IsInFiles refusal = IsBelow (length refusal.0) (fault_file refusal.1)

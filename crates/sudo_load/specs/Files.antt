@@ -9,8 +9,8 @@ use Rattle.sudo_grammar.specs.declared.fault.ParseFault.TheVariants as faults
 use Rattle.sudo_parser.specs.Parsed.{AreEntries, IsFirstFault}
 
 -- the file with this number has these entries, or this fault
-abbrev pub Reads : ℕ → List ℕ → Result (List Entry) ParseFault → Type 0
-Reads file text (Ok entries) = (lines : List Line) × (lines_of file text ≡ Ok lines) × AreEntries lines entries
-Reads file text (Err fault) =
+abbrev pub HasContent : ℕ → List ℕ → Result (List Entry) ParseFault → Type 0
+HasContent file text (Ok entries) = (lines : List Line) × (lines_of file text ≡ Ok lines) × AreEntries lines entries
+HasContent file text (Err fault) =
     ((why : TextFault) × (lines_of file text ≡ Err why) × (fault ≡ faults.Text why))
     ⊎ ((lines : List Line) × (lines_of file text ≡ Ok lines) × IsFirstFault lines fault)

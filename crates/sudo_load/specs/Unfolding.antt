@@ -18,7 +18,7 @@ use Rattle.sudo_load.specs.declared.fault.LoadFault.TheVariants as faults
 use Rattle.sudo_load.specs.declared.fault.Want.TheVariants as wants
 use Rattle.sudo_load.specs.declared.loading.LoadState.{LoadState}
 use Rattle.sudo_load.specs.declared.supply.Supply.{Supply}
-use Rattle.sudo_load.specs.Files.{Reads}
+use Rattle.sudo_load.specs.Files.{HasContent}
 use Rattle.sudo_load.specs.Paths.{beside, in_folder, is_kept}
 use Rattle.sudo_load.specs.Supplies.{supplied_file, supplied_folder}
 
@@ -38,8 +38,8 @@ Refusal = List (List ℕ) × LoadFault
 abbrev pub Outcome : Type 0
 Outcome = Result LoadState Refusal
 
-abbrev pub refused : LoadState → LoadFault → Outcome
-refused loaded fault = Err (loaded.files, fault)
+abbrev pub refused_with : LoadState → LoadFault → Outcome
+refused_with loaded fault = Err (loaded.files, fault)
 
 -- one more file is read
 abbrev pub with_file : LoadState → List ℕ → LoadState
@@ -78,7 +78,7 @@ abbrev pub IsFolderOrder : List (List ℕ) → List (List ℕ) → Type 0
 IsFolderOrder names ordered = IsPermutation (filter is_kept names) ordered × IsSorted (slice_cmp nat_cmp) ordered
 
 abbrev pub NamesLoad : Inclusion → LoadState → Place → List ℕ → Option (List (List ℕ)) → Outcome → Type 0
-NamesLoad include loaded place path None outcome = outcome ≡ refused loaded (faults.Wanted (wants.Folder path))
+NamesLoad include loaded place path None outcome = outcome ≡ refused_with loaded (faults.Wanted (wants.Folder path))
 NamesLoad include loaded place path (Some names) outcome =
     (ordered : List (List ℕ)) × IsFolderOrder names ordered
     × FilesLoad include (with_folder loaded) place (map (in_folder path) ordered) outcome
@@ -87,7 +87,7 @@ NamesLoad include loaded place path (Some names) outcome =
 abbrev pub FolderLoads : Inclusion → List Supply → LoadState → Place → List ℕ → Outcome → Type 0
 FolderLoads include supplies loaded place path outcome =
     IfElse (nat_lt loaded.folders reading_limit) (NamesLoad include loaded place path (supplied_folder supplies path) outcome)
-    (outcome ≡ refused loaded (faults.TooMany place))
+    (outcome ≡ refused_with loaded (faults.TooMany place))
 
 abbrev pub bytes_of : List Ch → List ℕ
 bytes_of = map (λ c. c.byte)
@@ -118,30 +118,30 @@ EntriesLoad include supplies file loaded (entry ∷ entries) outcome =
 
 abbrev pub LinesLoad : Inclusion → List Supply → List ℕ → LoadState → Result (List Entry) ParseFault → Outcome → Type 0
 LinesLoad include supplies file loaded (Ok entries) outcome = EntriesLoad include supplies file loaded entries outcome
-LinesLoad include supplies file loaded (Err fault) outcome = outcome ≡ refused loaded (faults.Parse fault)
+LinesLoad include supplies file loaded (Err fault) outcome = outcome ≡ refused_with loaded (faults.Parse fault)
 
 -- the text of a file, which is parsed whole before its includes are resolved
 abbrev pub TextLoads : Inclusion → List Supply → LoadState → List ℕ → List ℕ → Outcome → Type 0
 TextLoads include supplies loaded path text outcome =
-    (read : Result (List Entry) ParseFault) × Reads (length loaded.files) text read
+    (read : Result (List Entry) ParseFault) × HasContent (length loaded.files) text read
     × LinesLoad include supplies path (with_file loaded path) read outcome
 
 abbrev pub SuppliedLoads : Inclusion → List Supply → LoadState → Place → List ℕ → Option (Option (List ℕ)) → Outcome → Type 0
-SuppliedLoads include supplies loaded place path None outcome = outcome ≡ refused loaded (faults.Wanted (wants.File path))
-SuppliedLoads include supplies loaded place path (Some None) outcome = outcome ≡ refused loaded (faults.Missing place path)
+SuppliedLoads include supplies loaded place path None outcome = outcome ≡ refused_with loaded (faults.Wanted (wants.File path))
+SuppliedLoads include supplies loaded place path (Some None) outcome = outcome ≡ refused_with loaded (faults.Missing place path)
 SuppliedLoads include supplies loaded place path (Some (Some text)) outcome = TextLoads include supplies loaded path text outcome
 
 -- the file at a path is included at a place, with `levels` levels of includes left
 unfoldable pub FileLoads : ℕ → List Supply → Inclusion
-FileLoads zero supplies loaded place path outcome = outcome ≡ refused loaded (faults.TooNested place)
+FileLoads zero supplies loaded place path outcome = outcome ≡ refused_with loaded (faults.TooNested place)
 FileLoads (suc levels) supplies loaded place path outcome =
     IfElse (nat_lt (length loaded.files) reading_limit)
     (SuppliedLoads (FileLoads levels supplies) supplies loaded place path (supplied_file supplies path) outcome)
-    (outcome ≡ refused loaded (faults.TooMany place))
+    (outcome ≡ refused_with loaded (faults.TooMany place))
 
-abbrev pub nothing : LoadState
-nothing = record { files = []; folders = 0; entries = [] }
+abbrev pub nothing_loaded : LoadState
+nothing_loaded = record { files = []; folders = 0; entries = [] }
 
 -- the main file, with all that it includes
 abbrev pub Unfolds : List ℕ → List ℕ → List Supply → Outcome → Type 0
-Unfolds path text supplies outcome = TextLoads (FileLoads nesting_limit supplies) supplies nothing path text outcome
+Unfolds path text supplies outcome = TextLoads (FileLoads nesting_limit supplies) supplies nothing_loaded path text outcome

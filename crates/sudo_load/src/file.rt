@@ -1,6 +1,6 @@
 //! The entries of one file.
 ghost use Rattle.std.specs.Prelude.{◌≡◌, ◌≢◌, Ok, Err, IfOk, IfErr};
-ghost use Rattle.sudo_load.specs.Files.{Reads};
+ghost use Rattle.sudo_load.specs.Files.{HasContent};
 
 use std::alloc::Global;
 use sudo_grammar::{Entry, ParseFault};
@@ -9,9 +9,9 @@ use sudo_text::{Seq, TextFault, lines};
 
 /// Reads the entries of the file with the given number.
 pub(crate) fn read(alloc: Global, file: u32, text: &[u8]) -> Result<Seq<Entry>, ParseFault>
-    ensures entries { IfOk result (λ entries. Reads file text.now (Ok entries)) }
+    ensures entries { IfOk result (λ entries. HasContent file text.now (Ok entries)) }
     ensures fault { IfErr result (λ fault. fault ≢ ParseFault.Memory
-        → Reads file text.now (Err fault)) }
+        → HasContent file text.now (Err fault)) }
 {
     match lines(alloc, file, text) {
         Ok(lines) => match parse(alloc, &lines) {

@@ -3,7 +3,7 @@ ghost use Rattle.std.specs.Prelude.{◌≡◌, ℕ, List, map, filter, IfOk};
 ghost use Rattle.std.specs.List.{filter_map};
 ghost use Rattle.sudo_load.specs.Unfolding.{IsFolderOrder, include_of as spec_followed};
 ghost use Rattle.sudo_load.specs.Paths.{is_kept as spec_is_kept, in_folder as spec_in_folder};
-ghost use Rattle.sudo_load.specs.Included.{IncludedBy, named as spec_named};
+ghost use Rattle.sudo_load.specs.Included.{IncludedBy, wanted_by as spec_named};
 
 use crate::fault::Want;
 use crate::file::read;
@@ -65,7 +65,7 @@ pub(crate) fn include_of(
     file: &[u8],
     body: &EntryBody,
 ) -> Result<Option<(bool, Seq<u8>)>, AllocError>
-    ensures { IfOk result (λ named. named ≡ spec_followed file.now body.now) }
+    ensures { IfOk result (λ wanted_by. wanted_by ≡ spec_followed file.now body.now) }
 {
     match body {
         EntryBody::Include { folder, path, .. } => {
@@ -78,7 +78,7 @@ pub(crate) fn include_of(
 }
 
 // Returns the file or folder that a line of a file names, if it is an include line.
-fn named(alloc: Global, file: &[u8], entry: &Entry) -> Result<Option<Want>, AllocError>
+fn wanted_by(alloc: Global, file: &[u8], entry: &Entry) -> Result<Option<Want>, AllocError>
     ensures { IfOk result (λ want. want ≡ spec_named file.now entry.now) }
 {
     match include_of(alloc, file, &entry.body)? {
@@ -94,7 +94,7 @@ fn named_in(alloc: Global, file: &[u8], entries: &[Entry]) -> Result<Vec<Want>, 
 {
     let mut wants = Vec::new(alloc);
     for entry in entries {
-        if let Some(want) = named(alloc, file, entry)? {
+        if let Some(want) = wanted_by(alloc, file, entry)? {
             wants.push(want)?;
         }
     }

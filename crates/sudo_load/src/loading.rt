@@ -1,11 +1,11 @@
 //! The loading of a policy from files that include files.
 ghost use Rattle.std.specs.Prelude.{◌≡◌, ℕ, ◌≤◌, ◌<◌, ◌^◌, List, length, map, filter, IfOk, IfErr, Ok, []};
-ghost use Rattle.sudo_load.specs.Unfolding.{FileLoads, FilesLoad, FolderLoads, EntryLoads, EntriesLoad, TextLoads, nothing as spec_nothing, with_file as spec_with_file, with_entry as spec_with_entry};
+ghost use Rattle.sudo_load.specs.Unfolding.{FileLoads, FilesLoad, FolderLoads, EntryLoads, EntriesLoad, TextLoads, nothing_loaded as spec_nothing, with_file as spec_with_file, with_entry as spec_with_entry};
 ghost use Rattle.sudo_parser.specs.Parsed.{over_limit};
 ghost use Rattle.sudo_load.specs.Body.Outcomes.{GivesBy};
 ghost use Rattle.sudo_load.specs.Load.{Closes, LoadGives};
 ghost use Rattle.sudo_load.specs.Body.IsConsistent.{IsConsistent};
-ghost use Rattle.sudo_load.specs.FaultFiles.{IsPlaced};
+ghost use Rattle.sudo_load.specs.FaultFiles.{IsInFiles};
 
 use crate::fault::{LoadFault, Want};
 use crate::file::read;
@@ -44,7 +44,7 @@ fn out_of_memory(alloc: Global) -> Refusal
 }
 
 // Returns the initial state.
-fn nothing(alloc: Global) -> LoadState
+fn nothing_loaded(alloc: Global) -> LoadState
     ensures { result ≡ spec_nothing }
 {
     LoadState {
@@ -249,7 +249,7 @@ fn load_text(
 fn policy_of(loaded: LoadState) -> Result<Policy, Refusal>
     requires { IsConsistent loaded }
     ensures closes { Closes loaded (over_limit loaded.entries) result }
-    ensures placed { IfErr result (λ refusal. IsPlaced refusal) }
+    ensures placed { IfErr result (λ refusal. IsInFiles refusal) }
 {
     match first_over_limit(loaded.entries.as_slice()) {
         None => Ok(Policy {
@@ -283,12 +283,19 @@ pub fn load(
 ) -> Result<Policy, (Seq<Seq<u8>>, LoadFault)>
     ensures load { LoadGives path.now text.now supplies.now result }
     ensures memory { IfErr result (λ refusal. refusal.1 ≡ LoadFault.Memory → refusal.0 ≡ []) }
-    ensures placed { IfErr result (λ refusal. IsPlaced refusal) }
+    ensures placed { IfErr result (λ refusal. IsInFiles refusal) }
 {
     let Ok(path) = Seq::from_slice(alloc, path) else {
         return Err(out_of_memory(alloc));
     };
-    match load_text(alloc, NESTING_LIMIT, supplies, nothing(alloc), path, text) {
+    match load_text(
+        alloc,
+        NESTING_LIMIT,
+        supplies,
+        nothing_loaded(alloc),
+        path,
+        text,
+    ) {
         Ok(loaded) => policy_of(loaded),
         Err(refusal) => Err(refusal),
     }

@@ -12,19 +12,19 @@ use Rattle.sudo_match.specs.declared.fault.DirFault.{DirFault}
 use Rattle.sudo_match.specs.declared.fault.DirFault.TheVariants.{UserTwice, HostTwice, GroupClash, NoGroup, NoRoot}
 use Rattle.sudo_match.specs.Class.{lower_text}
 use Rattle.sudo_match.specs.Indexing.{AreApart, ArePositions, IsKept}
-use Rattle.sudo_match.specs.KnownRows.{same_user, same_host, groups_clash, groups_of, is_no_group, or_else, user_fault, host_fault, group_fault, ungrouped_fault, root_fault, directory_fault, IsRefusal}
+use Rattle.sudo_match.specs.KnownRows.{same_user, same_host, groups_clash, groups_of, is_no_group, or_else, user_fault, host_fault, group_fault, ungrouped_fault, root_fault, directory_fault, IsDirectoryFault}
 
 -- a fault that is passed on as it is
 pub passed-on : {A : Type 0} (r : Result A DirFault) (e : DirFault) (P : DirFault → Type 0) → IsErrAnd r (λ d. d ≡ e) → P e → IfErr r P
 passed-on (Ok x) e P h p = tt
 passed-on (Err d) e P h p = subst P (sym h) p
 
-refusal-here : (a b : Option DirFault) (e : DirFault) → IsRefusal a e → IsRefusal (or_else a b) e
+refusal-here : (a b : Option DirFault) (e : DirFault) → IsDirectoryFault a e → IsDirectoryFault (or_else a b) e
 refusal-here a b e (inl h) = inl h
 refusal-here a b e (inr h) = inr (ap (λ o. or_else o b) h)
 
-refusal-later : (a b : Option DirFault) (e : DirFault) → a ≡ None → IsRefusal b e → IsRefusal (or_else a b) e
-refusal-later a b e none h = let P : Option DirFault → Type 0 = λ o. IsRefusal (or_else o b) e in subst P (sym none) h
+refusal-later : (a b : Option DirFault) (e : DirFault) → a ≡ None → IsDirectoryFault b e → IsDirectoryFault (or_else a b) e
+refusal-later a b e none h = let P : Option DirFault → Type 0 = λ o. IsDirectoryFault (or_else o b) e in subst P (sym none) h
 
 none-later : (a b : Option DirFault) → a ≡ None → or_else a b ≡ b
 none-later a b none = ap (λ o. or_else o b) none
@@ -41,20 +41,20 @@ group-none people groups i = ap (option_map (λ (g : Group). GroupClash g.name))
 ungrouped-none : (people : List Person) → find (λ u. is_no_group u.groups) people ≡ None → ungrouped_fault people ≡ None
 ungrouped-none people none = ap (option_map (λ (u : Person). NoGroup u.name)) none
 
-pub refused-user : (people : List Person) (machines : List Machine) (e : DirFault) → IsRefusal (user_fault people) e → IsRefusal (directory_fault people machines) e
+pub refused-user : (people : List Person) (machines : List Machine) (e : DirFault) → IsDirectoryFault (user_fault people) e → IsDirectoryFault (directory_fault people machines) e
 unfolding directory_fault
 refused-user people machines e h = refusal-here (user_fault people) _ e h
 
 pub refused-host :
     (people : List Person) (machines : List Machine) (users : List (List ℕ × ℕ)) (e : DirFault) → AreApart same_user (λ u. u.name) people users →
-    IsRefusal (host_fault machines) e → IsRefusal (directory_fault people machines) e
+    IsDirectoryFault (host_fault machines) e → IsDirectoryFault (directory_fault people machines) e
 unfolding directory_fault
 refused-host people machines users e i h =
     refusal-later (user_fault people) _ e (user-none people users i) (refusal-here (host_fault machines) _ e h)
 
 pub refused-group :
     (people : List Person) (machines : List Machine) (users hosts : List (List ℕ × ℕ)) (e : DirFault) → AreApart same_user (λ u. u.name) people users →
-    AreApart same_host (λ m. lower_text m.name) machines hosts → IsRefusal (group_fault people) e → IsRefusal (directory_fault people machines) e
+    AreApart same_host (λ m. lower_text m.name) machines hosts → IsDirectoryFault (group_fault people) e → IsDirectoryFault (directory_fault people machines) e
 unfolding directory_fault
 refused-group people machines users hosts e i j h =
     refusal-later (user_fault people) _ e (user-none people users i)
@@ -74,12 +74,12 @@ last-faults people machines users hosts groups i j k =
 pub refused-ungrouped :
     (people : List Person) (machines : List Machine) (users hosts groups : List (List ℕ × ℕ)) (u : Person) (e : DirFault) → AreApart same_user (λ u. u.name) people users →
     AreApart same_host (λ m. lower_text m.name) machines hosts → AreApart groups_clash (λ g. g.name) (groups_of people) groups →
-    find (λ u. is_no_group u.groups) people ≡ Some u → IsRefusal (Some (NoGroup u.name)) e → IsRefusal (directory_fault people machines) e
+    find (λ u. is_no_group u.groups) people ≡ Some u → IsDirectoryFault (Some (NoGroup u.name)) e → IsDirectoryFault (directory_fault people machines) e
 refused-ungrouped people machines users hosts groups u e i j k found h =
     let fault : directory_fault people machines ≡ Some (NoGroup u.name) =
     last-faults people machines users hosts groups i j k
     ∙ ap (λ o. or_else (option_map (λ (v : Person). NoGroup v.name) o) (root_fault people)) found in
-    let P : Option DirFault → Type 0 = λ o. IsRefusal o e in
+    let P : Option DirFault → Type 0 = λ o. IsDirectoryFault o e in
     subst P (sym fault) h
 
 -- ---- The user `root`
@@ -91,7 +91,7 @@ root-known people users i =
 pub refused-root :
     (people : List Person) (machines : List Machine) (users hosts groups : List (List ℕ × ℕ)) → AreApart same_user (λ u. u.name) people users →
     AreApart same_host (λ m. lower_text m.name) machines hosts → AreApart groups_clash (λ g. g.name) (groups_of people) groups →
-    find (λ u. is_no_group u.groups) people ≡ None → is_some (index_of users (codes "root")) ≡ false → IsRefusal (directory_fault people machines) NoRoot
+    find (λ u. is_no_group u.groups) people ≡ None → is_some (index_of users (codes "root")) ≡ false → IsDirectoryFault (directory_fault people machines) NoRoot
 refused-root people machines users hosts groups i j k grouped missing =
     inr (last-faults people machines users hosts groups i j k
     ∙ none-later (ungrouped_fault people) (root_fault people) (ungrouped-none people grouped)

@@ -10,7 +10,7 @@ use Rattle.sudo_match.specs.declared.people.Group.{Group}
 use Rattle.sudo_base.specs.Indexes.{Indexes}
 use Rattle.sudo_base.specs.NameIndices.{index_of}
 use Rattle.sudo_base.proofs.IndexLemmas.{take-some, list_any-append, bytes_eq-is, indexes-none, indexes-more, index_of-append, index_of-empty, none-is}
-use Rattle.sudo_match.specs.Indexing.{AreApart, differs, noted}
+use Rattle.sudo_match.specs.Indexing.{AreApart, differs, with_name}
 use Rattle.sudo_match.specs.KnownRows.{groups_clash, clashes_at}
 use Rattle.sudo_match.proofs.ClashLemmas.{NoneBefore, none-first, none-more, clash-here, clash-none}
 
@@ -59,10 +59,10 @@ indexes-same key rows n x places i at old = record {
 
 pub indexes-noted :
     {A : Type 0} (key : A → List ℕ) (rows : List A) (n : ℕ) (x : A) (names : List (List ℕ × ℕ)) → Indexes key rows n (index_of names) →
-    slice_get rows n ≡ Some x → Indexes key rows (n + 1) (index_of (noted names (key x) n))
+    slice_get rows n ≡ Some x → Indexes key rows (n + 1) (index_of (with_name names (key x) n))
 indexes-noted key rows n x names i at = go (is_some (index_of names (key x))) refl
   where
-    go : (b : Bool) → is_some (index_of names (key x)) ≡ b → Indexes key rows (n + 1) (index_of (noted names (key x) n))
+    go : (b : Bool) → is_some (index_of names (key x)) ≡ b → Indexes key rows (n + 1) (index_of (with_name names (key x) n))
     go true f = rw f (indexes-same key rows n x (index_of names) i at f)
     go false f =
         let new : index_of names (key x) ≡ None = none-is (index_of names (key x)) f in
@@ -196,7 +196,7 @@ group-clash groups n names ids x r at =
 
 pub groups-more :
     (groups : List Group) (n : ℕ) (names ids : List (List ℕ × ℕ)) (x : Group) → GroupsRead groups n names ids → slice_get groups n ≡ Some x →
-    clashes_at groups_clash groups n ≡ false → GroupsRead groups (n + 1) (noted names x.name n) (noted ids (x.gid ∷ []) n)
+    clashes_at groups_clash groups n ≡ false → GroupsRead groups (n + 1) (with_name names x.name n) (with_name ids (x.gid ∷ []) n)
 groups-more groups n names ids x r at apart = record {
   by_name = indexes-noted (λ g. g.name) groups n x names r.by_name at;
   by_id = indexes-noted (λ g. g.gid ∷ []) groups n x ids r.by_id at;

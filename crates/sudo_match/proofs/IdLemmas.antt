@@ -4,14 +4,14 @@ use Rattle.std.specs.Prelude.{nat_eq}
 use Rattle.std.specs.Map.{lookup}
 use Rattle.indexmap.specs.IndexMap.{insert_entry}
 use Rattle.sudo_base.specs.NameIndices.{index_of}
-use Rattle.sudo_match.specs.Body.IdEntry.{bare}
+use Rattle.sudo_match.specs.Body.IdEntry.{entry_by_id}
 
 and-true : (b : Bool) → (b && true) ≡ b
 and-true true = refl
 and-true false = refl
 
 -- a look-up among the entries is one among the IDs
-pub lookup_bare : (id : ℕ) (es : List (ℕ × ℕ)) → lookup (nat_eq id) es ≡ index_of (map bare es) (id ∷ [])
+pub lookup_bare : (id : ℕ) (es : List (ℕ × ℕ)) → lookup (nat_eq id) es ≡ index_of (map entry_by_id es) (id ∷ [])
 lookup_bare id [] = refl
 lookup_bare id (e ∷ es) =
     ap (λ b. cond b (Some e.1) (lookup (nat_eq id) es)) (sym (and-true (nat_eq id e.0)))
@@ -19,14 +19,14 @@ lookup_bare id (e ∷ es) =
 
 insert_step :
     (b : Bool) (e : ℕ × ℕ) (es xs : List (ℕ × ℕ)) (ys : List (List ℕ × ℕ)) (i v : ℕ) (r : Option ℕ) → cond (b && true) (Some i) r ≡ None →
-    (r ≡ None → map bare xs ≡ ys) → map bare (cond b ((e.0, v) ∷ es) (e ∷ xs)) ≡ bare e ∷ ys
+    (r ≡ None → map entry_by_id xs ≡ ys) → map entry_by_id (cond b ((e.0, v) ∷ es) (e ∷ xs)) ≡ entry_by_id e ∷ ys
 insert_step true e es xs ys i v r none rest = cc
-insert_step false e es xs ys i v r none rest = ap (λ zs. bare e ∷ zs) (rest none)
+insert_step false e es xs ys i v r none rest = ap (λ zs. entry_by_id e ∷ zs) (rest none)
 
 -- a new ID goes last
 pub insert_bare :
-    (id v : ℕ) (es : List (ℕ × ℕ)) → index_of (map bare es) (id ∷ []) ≡ None →
-    map bare (insert_entry nat_eq es id v) ≡ map bare es ++ (id ∷ [], v) ∷ []
+    (id v : ℕ) (es : List (ℕ × ℕ)) → index_of (map entry_by_id es) (id ∷ []) ≡ None →
+    map entry_by_id (insert_entry nat_eq es id v) ≡ map entry_by_id es ++ (id ∷ [], v) ∷ []
 insert_bare id v [] none = refl
 insert_bare id v (e ∷ es) none =
-    insert_step (nat_eq id e.0) e es (insert_entry nat_eq es id v) (map bare es ++ (id ∷ [], v) ∷ []) e.1 v (index_of (map bare es) (id ∷ [])) none (insert_bare id v es)
+    insert_step (nat_eq id e.0) e es (insert_entry nat_eq es id v) (map entry_by_id es ++ (id ∷ [], v) ∷ []) e.1 v (index_of (map entry_by_id es) (id ∷ [])) none (insert_bare id v es)

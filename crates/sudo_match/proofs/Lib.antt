@@ -14,3 +14,4 @@ pub mod CharsLemmas
 pub mod ItemLemmas
 pub mod PartLemmas
 pub mod StepLemmas
+pub mod BeginningLemmas

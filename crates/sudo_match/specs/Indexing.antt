@@ -15,8 +15,8 @@ pub record AreApart {A : Type 0} (clashes : A → A → Bool) (key : A → List 
   pub indexed : Indexes key rows (length rows) (index_of names)
 
 -- the names with one more, unless it is already there
-abbrev pub noted : List (List ℕ × ℕ) → List ℕ → ℕ → List (List ℕ × ℕ)
-noted names name at = if is_some (index_of names name) then names else names ++ (name, at) ∷ []
+abbrev pub with_name : List (List ℕ × ℕ) → List ℕ → ℕ → List (List ℕ × ℕ)
+with_name names name at = if is_some (index_of names name) then names else names ++ (name, at) ∷ []
 
 -- the group at a position
 abbrev pub group_there : List Person → GroupPosition → Option Group

@@ -79,11 +79,11 @@ ungrouped_fault people = option_map (λ u. NoGroup u.name) (find (λ u. is_no_gr
 abbrev pub root_fault : List Person → Option DirFault
 root_fault people = if list_any (λ u. bytes_eq u.name (codes "root")) people then None else Some NoRoot
 
--- the first fault of the rows, in the order of the five kinds; each names the first row that shows it
+-- the first fault of the rows, in the order of the five kinds; each but `NoRoot` names the first row that shows it
 unfoldable pub directory_fault : List Person → List Machine → Option DirFault
 directory_fault people machines =
     or_else (user_fault people) (or_else (host_fault machines) (or_else (group_fault people) (or_else (ungrouped_fault people) (root_fault people))))
 
 -- the given fault, if there is one, or an allocation failure
-abbrev pub IsRefusal : Option DirFault → DirFault → Type 0
-IsRefusal wanted fault = (fault ≡ Memory) ⊎ (wanted ≡ Some fault)
+abbrev pub IsDirectoryFault : Option DirFault → DirFault → Type 0
+IsDirectoryFault wanted fault = (fault ≡ Memory) ⊎ (wanted ≡ Some fault)

@@ -3,6 +3,7 @@ pub mod Pattern
 pub mod HostNames
 pub mod Reading
 pub mod Matching
+pub mod Beginnings
 pub mod KnownRows
 pub mod Indexing
 pub mod Written

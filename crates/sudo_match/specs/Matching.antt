@@ -37,8 +37,8 @@ group_fits _ g = false
 -- ---- Hosts
 
 -- the characters have a dot
-abbrev pub has_dot : List Ch → Bool
-has_dot chars = list_any (is_byte 46) chars
+abbrev pub pattern_has_dot : List Ch → Bool
+pattern_has_dot chars = list_any (is_byte 46) chars
 
 -- a host's name up to its first dot
 abbrev pub short_name : List ℕ → List ℕ
@@ -46,7 +46,7 @@ short_name name = before_first (λ b. b == 46) name
 
 -- the name with which a pattern is compared: the whole one for a pattern with a dot
 abbrev pub compared_name : List Ch → List ℕ → List ℕ
-compared_name chars name = if has_dot chars then name else short_name name
+compared_name chars name = if pattern_has_dot chars then name else short_name name
 
 abbrev pub host_pattern : List Ch → Bool → List Ch
 host_pattern chars quoted = if quoted then quoted_chars chars else host_chars chars

@@ -137,15 +137,15 @@ parts cs = parts_after 0 cs
 -- ---- Paths
 
 -- a path whose last character is `/` stands for the files of that folder: it is matched as if `?*` were appended
-abbrev pub ends_in_slash : List Ch → Bool
-ends_in_slash cs = has (is_byte 47) (slice_get cs (length cs - 1))
+abbrev pub is_folder_path : List Ch → Bool
+is_folder_path cs = has (is_byte 47) (slice_get cs (length cs - 1))
 
 abbrev pub any_name : Bool → List Ch
 any_name true = record { byte = 63; escaped = false } ∷ record { byte = 42; escaped = false } ∷ []
 any_name false = []
 
 abbrev pub path_chars : List Ch → List Ch
-path_chars cs = cs ++ any_name (ends_in_slash cs)
+path_chars cs = cs ++ any_name (is_folder_path cs)
 
 -- ---- Fitting
 

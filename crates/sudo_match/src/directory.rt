@@ -2,7 +2,7 @@
 ghost use Rattle.std.specs.Prelude.{◌≡◌, find, bytes_eq, IfOk, IfErr, None};
 ghost use Rattle.std.specs.Option.{option_copied};
 ghost use Rattle.sudo_match.specs.Class.{lower_text};
-ghost use Rattle.sudo_match.specs.KnownRows.{user_named, host_named, group_named, directory_fault, is_no_group, IsRefusal};
+ghost use Rattle.sudo_match.specs.KnownRows.{user_named, host_named, group_named, directory_fault, is_no_group, IsDirectoryFault};
 
 use crate::indexing::{group_names, host_names, host_place, user_names};
 use crate::positions::{GroupPosition, group_found, positions_of};
@@ -48,7 +48,8 @@ impl Directory {
         ensures known { IfOk result (λ d. (d.people ≡ people.items)
             × (d.machines ≡ machines.items)) }
         ensures faultless { IfOk result (λ d. directory_fault people.items machines.items ≡ None) }
-        ensures fault { IfErr result (IsRefusal (directory_fault people.items machines.items)) }
+        ensures fault { IfErr result (IsDirectoryFault (directory_fault people.items
+            machines.items)) }
     {
         Directory::of_rows(alloc, Seq::from_vec(people), Seq::from_vec(machines))
     }
@@ -61,7 +62,7 @@ impl Directory {
     ) -> Result<Directory, DirFault>
         ensures known { IfOk result (λ d. (d.people ≡ people) × (d.machines ≡ machines)) }
         ensures faultless { IfOk result (λ d. directory_fault people machines ≡ None) }
-        ensures fault { IfErr result (IsRefusal (directory_fault people machines)) }
+        ensures fault { IfErr result (IsDirectoryFault (directory_fault people machines)) }
     {
         let users = user_names(alloc, people.as_slice())?;
         let hosts = host_names(alloc, machines.as_slice())?;

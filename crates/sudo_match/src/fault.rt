@@ -1,13 +1,13 @@
 //! The faults of the rows of a directory.
 ghost use Rattle.std.specs.Prelude.{Some};
-ghost use Rattle.sudo_match.specs.KnownRows.{IsRefusal};
+ghost use Rattle.sudo_match.specs.KnownRows.{IsDirectoryFault};
 
 use std::alloc::{AllocError, Global};
 use sudo_text::Seq;
 use thiserror::Error;
 
-/// The reason why rows of users and hosts make no directory, in the order in which the faults are looked for. Each
-/// names the first row that shows it.
+/// The reasons why rows of users and hosts make no directory, in the order in which they are looked for. Those with a
+/// name have that of the first row that shows the fault.
 #[derive(Clone, Debug, Drop, PartialEq, Eq, Error)]
 pub enum DirFault {
     /// Two rows have this user name.
@@ -46,7 +46,7 @@ impl DirFault {
 
     /// Returns `UserTwice` for a name, or `Memory` if copying the name fails.
     pub(crate) fn user_twice(alloc: Global, name: &[u8]) -> DirFault
-        ensures { IsRefusal (Some (UserTwice name.now)) result }
+        ensures { IsDirectoryFault (Some (UserTwice name.now)) result }
     {
         match Seq::from_slice(alloc, name) {
             Ok(name) => DirFault::UserTwice { name },
@@ -56,7 +56,7 @@ impl DirFault {
 
     /// Returns `HostTwice` for a name, or `Memory` if copying the name fails.
     pub(crate) fn host_twice(alloc: Global, name: &[u8]) -> DirFault
-        ensures { IsRefusal (Some (HostTwice name.now)) result }
+        ensures { IsDirectoryFault (Some (HostTwice name.now)) result }
     {
         match Seq::from_slice(alloc, name) {
             Ok(name) => DirFault::HostTwice { name },
@@ -66,7 +66,7 @@ impl DirFault {
 
     /// Returns `GroupClash` for a name, or `Memory` if copying the name fails.
     pub(crate) fn group_clash(alloc: Global, name: &[u8]) -> DirFault
-        ensures { IsRefusal (Some (GroupClash name.now)) result }
+        ensures { IsDirectoryFault (Some (GroupClash name.now)) result }
     {
         match Seq::from_slice(alloc, name) {
             Ok(name) => DirFault::GroupClash { name },
@@ -76,7 +76,7 @@ impl DirFault {
 
     /// Returns `NoGroup` for the name of a user, or `Memory` if copying the name fails.
     pub(crate) fn no_group(alloc: Global, user: &[u8]) -> DirFault
-        ensures { IsRefusal (Some (NoGroup user.now)) result }
+        ensures { IsDirectoryFault (Some (NoGroup user.now)) result }
     {
         match Seq::from_slice(alloc, user) {
             Ok(user) => DirFault::NoGroup { user },

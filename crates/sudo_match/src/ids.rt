@@ -1,7 +1,7 @@
 //! A map from group IDs to indices.
 ghost use Rattle.std.specs.Prelude.{◌≡◌, [], ◌∷◌, OnOk};
 ghost use Rattle.sudo_base.specs.NameIndices.{index_of};
-ghost use Rattle.sudo_match.specs.Indexing.{noted};
+ghost use Rattle.sudo_match.specs.Indexing.{with_name};
 
 use indexmap::IndexMap;
 use std::alloc::{AllocError, Global};
@@ -15,11 +15,11 @@ pub(crate) struct Ids {
 
 impl Model for Ids {
     ghost use Rattle.std.specs.Prelude.{List, ℕ, map};
-    ghost use Rattle.sudo_match.specs.Body.IdEntry.{bare};
+    ghost use Rattle.sudo_match.specs.Body.IdEntry.{entry_by_id};
 
     ghost Value = { List (List ℕ × ℕ) };
 
-    ghost view = { λ n. map bare n.indices.entries };
+    ghost view = { λ n. map entry_by_id n.indices.entries };
 }
 
 impl Ids {
@@ -41,7 +41,7 @@ impl Ids {
 
     /// Inserts the index of an ID, unless the ID has one.
     pub(crate) fn note(&mut self, id: u32, index: usize) -> Result<(), AllocError>
-        ensures { OnOk result (self.new ≡ noted self.old (id ∷ []) index) }
+        ensures { OnOk result (self.new ≡ with_name self.old (id ∷ []) index) }
     {
         if self.get(id).is_some() {
             return Ok(());

@@ -3,8 +3,8 @@ ghost use Rattle.std.specs.Prelude.{◌≡◌, ◌==◌, ◌||◌, ◌∷◌, []
 ghost use Rattle.std.specs.Option.{option_copied};
 ghost use Rattle.sudo_base.specs.NameIndices.{index_of};
 ghost use Rattle.sudo_match.specs.Class.{lower_text};
-ghost use Rattle.sudo_match.specs.KnownRows.{same_user, same_host, groups_clash, groups_of, user_fault, host_fault, group_fault, IsRefusal};
-ghost use Rattle.sudo_match.specs.Indexing.{AreApart, ArePositions, noted, differs};
+ghost use Rattle.sudo_match.specs.KnownRows.{same_user, same_host, groups_clash, groups_of, user_fault, host_fault, group_fault, IsDirectoryFault};
+ghost use Rattle.sudo_match.specs.Indexing.{AreApart, ArePositions, with_name, differs};
 
 use crate::ids::Ids;
 use crate::positions::{GroupPosition, group_at, group_found};
@@ -15,7 +15,7 @@ use sudo_base::Names;
 /// Returns the indices of users by name. Returns `UserTwice` for the first user whose name an earlier one has.
 pub(crate) fn user_names(alloc: Global, people: &[Person]) -> Result<Names, DirFault>
     ensures names { IfOk result (AreApart same_user (λ u. u.name) people.now) }
-    ensures fault { IfErr result (IsRefusal (user_fault people.now)) }
+    ensures fault { IfErr result (IsDirectoryFault (user_fault people.now)) }
 {
     let mut names = Names::new(alloc);
     for (at, person) in people.iter().enumerate() {
@@ -41,7 +41,7 @@ fn in_lower_case(alloc: Global, name: &[u8]) -> Result<Vec<u8>, AllocError>
 /// has.
 pub(crate) fn host_names(alloc: Global, machines: &[Machine]) -> Result<Names, DirFault>
     ensures names { IfOk result (AreApart same_host (λ m. lower_text m.name) machines.now) }
-    ensures fault { IfErr result (IsRefusal (host_fault machines.now)) }
+    ensures fault { IfErr result (IsDirectoryFault (host_fault machines.now)) }
 {
     let mut names = Names::new(alloc);
     for (at, machine) in machines.iter().enumerate() {
@@ -71,7 +71,7 @@ pub(crate) fn host_place(names: &Names, name: &[u8]) -> Option<usize>
 
 // Inserts the index of a name, unless the name has one.
 fn note(names: &mut Names, alloc: Global, name: &[u8], index: usize) -> Result<(), AllocError>
-    ensures { OnOk result (names.new ≡ noted names.old name.now index) }
+    ensures { OnOk result (names.new ≡ with_name names.old name.now index) }
 {
     if names.get(name).is_some() {
         return Ok(());
@@ -124,7 +124,7 @@ pub(crate) fn group_names(
 ) -> Result<Names, DirFault>
     requires { ArePositions people.now positions.now }
     ensures names { IfOk result (AreApart groups_clash (λ g. g.name) (groups_of people.now)) }
-    ensures fault { IfErr result (IsRefusal (group_fault people.now)) }
+    ensures fault { IfErr result (IsDirectoryFault (group_fault people.now)) }
 {
     let mut names = Names::new(alloc);
     let mut ids = Ids::new(alloc);

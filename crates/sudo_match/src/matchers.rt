@@ -1,8 +1,10 @@
 //! The matching of one atom of a policy, as in sudoers(5), "User_List", "Host_List" and "Cmnd_List".
 ghost use Rattle.std.specs.Prelude.{◌≡◌, ◌==◌, ◌^◌, ◌-◌, ◌≤◌, bytes_eq, length};
 ghost use Rattle.std.specs.List.{list_any};
-ghost use Rattle.sudo_match.specs.Matching.{user_fits, group_fits, host_fits, command_fits, compared_name, short_name, has_dot, mask_of, is_loopback, address_fits, net_fits, spells, arguments_fit, arguments_slash};
+ghost use Rattle.sudo_match.specs.Beginnings.{command_differs};
+ghost use Rattle.sudo_match.specs.Matching.{user_fits, group_fits, host_fits, command_fits, compared_name, short_name, pattern_has_dot, mask_of, is_loopback, address_fits, net_fits, spells, arguments_fit, arguments_slash};
 
+use crate::beginning::{begins_otherwise, is_named_otherwise};
 use crate::{Group, Interface, Machine, Pattern, Person, Slash};
 use sudo_grammar::Atom;
 use sudo_text::{Ch, Seq};
@@ -102,7 +104,7 @@ fn short_name(name: &[u8]) -> &[u8]
 }
 
 fn has_dot(chars: &[Ch]) -> bool
-    ensures { result ≡ has_dot chars.now }
+    ensures { result ≡ pattern_has_dot chars.now }
 {
     chars.iter().any(|ch| ch.byte == b'.')
 }
@@ -128,6 +130,9 @@ pub fn host_matches(atom: &Atom, host: &Machine) -> bool
     match atom {
         Atom::All => true,
         Atom::Host { chars, quoted } => {
+            if is_named_otherwise(chars.as_slice(), host.name.as_slice()) {
+                return false;
+            }
             let name = compared_name(chars.as_slice(), host.name.as_slice());
             Pattern::of_host(chars.as_slice(), *quoted).matches_lower(name)
         }
@@ -180,6 +185,18 @@ pub fn command_matches(atom: &Atom, command: &[u8], arguments: &[u8]) -> bool
             };
             arguments_fit(slash, args, arguments)
         }
+        _ => false,
+    }
+}
+
+/// Whether the atom is a command whose path differs from this one, where they differ first, in a character that is not
+/// special. It does not match this command then if the command has no special byte (`has_special`). Takes much less time
+/// than `command_matches`.
+pub fn command_differs(atom: &Atom, command: &[u8]) -> bool
+    ensures { result ≡ command_differs atom.now command.now }
+{
+    match atom {
+        Atom::Command { path, .. } => begins_otherwise(path.as_slice(), command),
         _ => false,
     }
 }

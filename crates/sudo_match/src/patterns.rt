@@ -159,19 +159,19 @@ impl Text<'_> {
     ghost use Rattle.sudo_match.specs.Reading.{text_of, is_free_byte};
 
     // Whether there is a byte at this index and a star may fit it.
-    fn is_free_at(&self, place: usize, slash: Slash) -> bool
-        ensures { result ≡ is_free_byte slash (slice_get (text_of self.now) place) }
+    fn is_free_at(&self, offset: usize, slash: Slash) -> bool
+        ensures { result ≡ is_free_byte slash (slice_get (text_of self.now) offset) }
     {
-        match self.get(place) {
+        match self.get(offset) {
             Some(byte) => slash.is_free(byte),
             None => false,
         }
     }
 
-    fn get(&self, place: usize) -> Option<u8>
-        ensures { result ≡ slice_get (text_of self.now) place }
+    fn get(&self, offset: usize) -> Option<u8>
+        ensures { result ≡ slice_get (text_of self.now) offset }
     {
-        let byte = *self.bytes.get(place)?;
+        let byte = *self.bytes.get(offset)?;
         if self.lower {
             Some(byte.to_ascii_lowercase())
         } else {
@@ -252,7 +252,7 @@ pub fn is_special(ch: Ch) -> bool
 
 impl<'a> Chars<'a> {
     ghost use Rattle.sudo_match.specs.Reading.{seen, read, text_of, follows_bracket};
-    ghost use Rattle.sudo_match.specs.Body.Shown.{class_of, opened, held_by};
+    ghost use Rattle.sudo_match.specs.Body.Shown.{class_of, class_at_start, held_by};
     ghost use Rattle.sudo_match.specs.Body.Step.{StepIs};
     ghost use Rattle.sudo_match.specs.declared.patterns.Reading.TheVariants.{Exact};
 
@@ -359,7 +359,7 @@ impl<'a> Chars<'a> {
 
     fn class_at(&self, at: usize) -> Option<Class>
         requires { at ≤ length (seen self.now) }
-        ensures { result ≡ opened (drop at (seen self.now)) }
+        ensures { result ≡ class_at_start (drop at (seen self.now)) }
     {
         if !self.is_plain_at(at, b'[') {
             return None;
@@ -601,18 +601,18 @@ impl<'a> Chars<'a> {
         text: &Text<'_>,
         slash: Slash,
         at: usize,
-        place: usize,
+        offset: usize,
         known: &mut Unclosed,
     ) -> Step
         requires within { at ≤ length (seen self.now) }
         requires knows { Knows (seen self.now) known.old }
-        ensures is { StepIs slash (seen self.now) (text_of text.now) at place result }
+        ensures is { StepIs slash (seen self.now) (text_of text.now) at offset result }
         ensures knows { Knows (seen self.now) known.new }
     {
         if self.is_plain_at(at, b'*') {
             return Step::Starred;
         }
-        match text.get(place) {
+        match text.get(offset) {
             Some(byte) => {
                 let Some((holds, more)) = self.part_holds(at, byte, slash, known) else {
                     return Step::Stuck;
@@ -691,18 +691,18 @@ impl<'a> Chars<'a> {
             return false;
         };
         let mut at = literal;
-        let mut place = literal;
+        let mut offset = literal;
         let mut retry: Option<(usize, usize)> = None;
         let mut known = Unclosed::none(0);
         loop {
-            match self.step(text, slash, at, place, &mut known) {
+            match self.step(text, slash, at, offset, &mut known) {
                 Step::Starred => {
                     at += 1;
-                    retry = Some((at, place));
+                    retry = Some((at, offset));
                 }
                 Step::Taken(more) => {
                     at = at + 1 + more;
-                    place += 1;
+                    offset += 1;
                 }
                 Step::Finished => return true,
                 Step::Stuck => {
@@ -713,7 +713,7 @@ impl<'a> Chars<'a> {
                         return false;
                     }
                     at = start;
-                    place = from + 1;
+                    offset = from + 1;
                     retry = Some((start, from + 1));
                 }
             }

@@ -12,7 +12,7 @@ use Rattle.sudo_grammar.proofs.Complete.{entry-read}
 use Rattle.sudo_grammar.proofs.OneFault.{read-within}
 use Rattle.sudo_grammar.proofs.Stops.{leftmost}
 use Rattle.sudo_parser.specs.Body.Stops.{GivesEntry}
-use Rattle.sudo_parser.specs.Body.Faults.{IsFaultOf}
+use Rattle.sudo_parser.specs.Body.Faults.{HasGrammarFault}
 
 pub entry-written : (room : Room) (ts : List Token) (r : Result EntryBody ParserStop)
     → GivesEntry r (reading room Start ts) → IfOk r (λ e. WritesWithin room e ts)
@@ -24,7 +24,7 @@ pub entry-only : (room : Room) (ts : List Token) (r : Result EntryBody ParserSto
 entry-only room ts r e h w = subst (λ x. GivesEntry r x) (entry-read room e ts w.0 w.1) h
 
 pub entry-fault : (room : Room) (ts : List Token) (r : Result EntryBody ParserStop)
-    → GivesEntry r (reading room Start ts) → IfErr r (IsFaultOf room ts)
+    → GivesEntry r (reading room Start ts) → IfErr r (HasGrammarFault room ts)
 entry-fault room ts (Ok e) h = tt
 entry-fault room ts (Err (stops.At refusal left)) (stop, (is, (refused, count))) = (stop, (leftmost room ts stop is, (refused, count)))
 entry-fault room ts (Err stops.Memory) h = tt

@@ -9,7 +9,7 @@ use Rattle.sudo_grammar.specs.declared.fault.ParseFault.{ParseFault}
 use Rattle.sudo_parser.specs.declared.stops.ParserStop.TheVariants as stops
 use Rattle.sudo_grammar.specs.States.{Room}
 use Rattle.sudo_grammar.specs.Faults.{WritesWithin}
-use Rattle.sudo_parser.specs.Body.Faults.{IsFaultOf}
+use Rattle.sudo_parser.specs.Body.Faults.{HasGrammarFault}
 use Rattle.sudo_parser.specs.Parsed.{column, fault_at, IsLineFault, IsEntryOf}
 use Rattle.std.proofs.Common.{Some}
 use Rattle.sudo_grammar.specs.declared.policy.EntryBody.{EntryBody}
@@ -27,12 +27,12 @@ pub left_fits : {A : Type 0} (ts front rest : List A) (left : ℕ) → ts ≡ fr
 left_fits ts front rest left whole count = omega (arith, ap length whole, length-append front rest)
 
 -- So many tokens are left as there are.
-pub stop_fits : (room : Room) (ts : List Token) (refusal : Refusal) (left : ℕ) → IsFaultOf room ts (stops.At refusal left) → left ≤ length ts
+pub stop_fits : (room : Room) (ts : List Token) (refusal : Refusal) (left : ℕ) → HasGrammarFault room ts (stops.At refusal left) → left ≤ length ts
 stop_fits room ts refusal left (stop, (is, (why, count))) = left_fits ts is.front stop.rest left is.whole count
 
 -- A stop is the line's grammar fault.
 pub grammar_fault : (room : Room) (line : Line) (ts : List Token) (refusal : Refusal) (left : ℕ) (fault : ParseFault)
-    → spells line ts ≡ true → (ts ≡ [] → ⊥) → IsFaultOf room ts (stops.At refusal left)
+    → spells line ts ≡ true → (ts ≡ [] → ⊥) → HasGrammarFault room ts (stops.At refusal left)
     → fault ≡ fault_at line.first (column line (drop (length ts - left) ts)) refusal → IsLineFault room line fault
 grammar_fault room line [] refusal left fault spelled some stopped e = absurd (some refl)
 grammar_fault room line (t ∷ ts) refusal left fault spelled some (stop, (is, (why, count))) e =
@@ -48,10 +48,10 @@ grammar_fault room line (t ∷ ts) refusal left fault spelled some (stop, (is, (
 
 -- The same, of what the code has of the tokens.
 pub grammar_fault_of : (room : Room) (line : Line) (ts us vs : List Token) (refusal : Refusal) (left : ℕ) (fault : ParseFault)
-    → us ≡ ts → vs ≡ ts → spells line ts ≡ true → (ts ≡ [] → ⊥) → IsFaultOf room us (stops.At refusal left)
+    → us ≡ ts → vs ≡ ts → spells line ts ≡ true → (ts ≡ [] → ⊥) → HasGrammarFault room us (stops.At refusal left)
     → fault ≡ fault_at line.first (column line (drop (length vs - left) vs)) refusal → IsLineFault room line fault
 grammar_fault_of room line ts us vs refusal left fault u v spelled some stopped e =
-    grammar_fault room line ts refusal left fault spelled some (subst (λ xs. IsFaultOf room xs (stops.At refusal left)) u stopped)
+    grammar_fault room line ts refusal left fault spelled some (subst (λ xs. HasGrammarFault room xs (stops.At refusal left)) u stopped)
     (e ∙ ap (λ xs. fault_at line.first (column line (drop (length xs - left) xs)) refusal) v)
 
 -- What a line's tokens write is what it says.

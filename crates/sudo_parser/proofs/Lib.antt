@@ -11,3 +11,4 @@ pub mod FaultLemmas
 pub mod ParsedLemmas
 pub mod TextVectors
 pub mod OneReading
+pub mod Names

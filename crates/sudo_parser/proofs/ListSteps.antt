@@ -21,9 +21,9 @@ use Rattle.sudo_parser.specs.declared.stops.ParserStop.{ParserStop}
 use Rattle.sudo_parser.specs.declared.stops.ParserStop.TheVariants as stops
 use Rattle.sudo_grammar.specs.Words.{plain_word, is_option_name}
 use Rattle.sudo_grammar.specs.Members.{atom_of}
-use Rattle.sudo_grammar.specs.Openings.{is_mark, is_equal_mark, spells}
+use Rattle.sudo_grammar.specs.Openings.{is_mark, is_equal_mark, word_passes}
 use Rattle.sudo_grammar.specs.States.{Purpose, Defines, Users, Hosts, RunasUsers, RunasGroups, Binds, kind_for, State, Item, AfterItem, Room, at_item, after_item, member_state, after_member}
-use Rattle.sudo_grammar.specs.Refusals.{is_option, or_option, last_command, refused_atom, refused_after}
+use Rattle.sudo_grammar.specs.Refusals.{is_option, or_option, last_command, refused_atom, refusal_after_list}
 use Rattle.sudo_grammar.specs.Reading.{reading}
 use Rattle.sudo_parser.specs.Body.Gives.{Declines}
 use Rattle.sudo_parser.specs.Body.Stops.{IsMark, IsNext, IsNotNext}
@@ -138,10 +138,10 @@ mark-is _ h = cc
 
 -- what follows the name of an option is an equals sign
 pub option-equals : (m : Member) (t : Token) (ts : List Token) → is_option (Some m) (t ∷ ts) ≡ true → IsMark marks.Equals t
-option-equals m t ts h = mark-is t.kind (and-right (spells is_option_name (plain_word m.token.kind)) _ h)
+option-equals m t ts h = mark-is t.kind (and-right (word_passes is_option_name (plain_word m.token.kind)) _ h)
 
 pub option-some : (m : Member) → is_option (Some m) [] ≡ true → ⊥
-option-some m h = and-false (spells is_option_name (plain_word m.token.kind)) h
+option-some m h = and-false (word_passes is_option_name (plain_word m.token.kind)) h
 
 -- no list of commands goes on with an equals sign
 commands-stuck : (p : Purpose) (ms : List Member) (t : Token) → kind_for p ≡ kinds.Cmnd
@@ -174,8 +174,8 @@ option-stuck room p d m (t ∷ ts) h =
     let equals : IsMark marks.Equals t = option-equals m t ts (option-in (kind_for p) m (t ∷ ts) h) in
     reading-stuck room (AfterItem p (d ++ m ∷ [])) t ts
     (ap (after_item p (d ++ m ∷ []) t) equals ∙ commands-stuck p (d ++ m ∷ []) t (option-kind (kind_for p) m (t ∷ ts) h))
-    ∙ ap (λ o. Err (record { rest = t ∷ ts; refusal = or_option o (t ∷ ts) (refused_after p (t ∷ ts)) })) (last_command-snoc (kind_for p) d m)
-    ∙ ap (λ b. Err (record { rest = t ∷ ts; refusal = cond b (refusals.Unsupported forms.CommandOption) (refused_after p (t ∷ ts)) })) h
+    ∙ ap (λ o. Err (record { rest = t ∷ ts; refusal = or_option o (t ∷ ts) (refusal_after_list p (t ∷ ts)) })) (last_command-snoc (kind_for p) d m)
+    ∙ ap (λ b. Err (record { rest = t ∷ ts; refusal = cond b (refusals.Unsupported forms.CommandOption) (refusal_after_list p (t ∷ ts)) })) h
 
 -- the places of a list's item
 pub item-takes : (room : Room) (p : Purpose) (d : List Member) (kind : Kind) → kind_for p ≡ kind

@@ -14,19 +14,19 @@ use Rattle.sudo_grammar.specs.declared.policy.EntryBody.{EntryBody}
 use Rattle.sudo_grammar.specs.declared.policy.EntryBody.TheVariants as bodies
 use Rattle.sudo_grammar.specs.declared.fault.ParseFault.{ParseFault}
 use Rattle.sudo_grammar.specs.Kinds.{same_kind}
-use Rattle.sudo_parser.specs.Limits.{defined, less}
+use Rattle.sudo_parser.specs.Limits.{definition_count, less}
 use Rattle.sudo_grammar.specs.States.{Room}
 use Rattle.sudo_parser.specs.Parsed.{room_after, IsEntryOf, entry_of, AreEntriesAfter, AreEntries, IsLineFault, IsFirstFaultAfter, IsFirstFault, Adds, fits, over_limit_from}
 
 defined_more : (kind : Kind) (entries : List Entry) (e : Entry)
-    → sum_by (λ (x : Entry). defined kind x.body) (entries ++ e ∷ []) ≡ sum_by (λ (x : Entry). defined kind x.body) entries + defined kind e.body
-defined_more kind entries e = omega (arith, sum_by-append (λ (x : Entry). defined kind x.body) entries (e ∷ []))
+    → sum_by (λ (x : Entry). definition_count kind x.body) (entries ++ e ∷ []) ≡ sum_by (λ (x : Entry). definition_count kind x.body) entries + definition_count kind e.body
+defined_more kind entries e = omega (arith, sum_by-append (λ (x : Entry). definition_count kind x.body) entries (e ∷ []))
 
 -- The room after one more entry.
 pub room_more : (entries : List Entry) (e : Entry) → room_after (entries ++ e ∷ []) ≡ less (room_after entries) e.body
 room_more entries e = λ i kind. at kind i
   where
-    at : (kind : Kind) → 4096 - sum_by (λ (x : Entry). defined kind x.body) (entries ++ e ∷ []) ≡ (4096 - sum_by (λ (x : Entry). defined kind x.body) entries) - defined kind e.body
+    at : (kind : Kind) → 4096 - sum_by (λ (x : Entry). definition_count kind x.body) (entries ++ e ∷ []) ≡ (4096 - sum_by (λ (x : Entry). definition_count kind x.body) entries) - definition_count kind e.body
     at kind = omega (arith, defined_more kind entries e)
 
 pub room_kept : (room after : Room) (entries more : List Entry) (e : Entry) → room ≡ room_after entries → after ≡ less room e.body → more ≡ entries ++ e ∷ []

@@ -7,7 +7,7 @@ use Rattle.sudo_grammar.specs.declared.policy.EntryBody.{EntryBody}
 use Rattle.sudo_grammar.specs.declared.fault.Refusal.{Refusal}
 use Rattle.sudo_parser.specs.declared.stops.ParserStop.{ParserStop}
 use Rattle.sudo_parser.specs.declared.stops.ParserStop.TheVariants as stops
-use Rattle.sudo_grammar.specs.States.{State, Room, step, ended}
+use Rattle.sudo_grammar.specs.States.{State, Room, step, entry_after_list}
 use Rattle.sudo_grammar.specs.Refusals.{refused_at}
 use Rattle.sudo_grammar.specs.Reading.{Stop, stop_at, entry_or_stop, reading}
 use Rattle.sudo_parser.specs.Body.Stops.{Stops, IsMark, IsNext, IsNotNext}
@@ -22,7 +22,7 @@ pub reading-stuck : (room : Room) (place : State) (t : Token) (ts : List Token) 
     → reading room place (t ∷ ts) ≡ Err (stop_at place (t ∷ ts))
 reading-stuck room place t ts h = rw (h, reading) refl
 
-pub reading-missing : (room : Room) (place : State) → ended place ≡ None → reading room place [] ≡ Err (stop_at place [])
+pub reading-missing : (room : Room) (place : State) → entry_after_list place ≡ None → reading room place [] ≡ Err (stop_at place [])
 reading-missing room place h = ap (entry_or_stop place) h
 
 -- the mark that comes next is read by one step
@@ -42,7 +42,7 @@ pub stops-same : (e : ParserStop) (a b : Result EntryBody Stop) → a ≡ b → 
 stops-same e a b same h = subst (λ x. Stops e x) (sym same) h
 
 -- where no token leads on and none may be missing, the reading stops
-pub stops-always : (room : Room) (place : State) (ts : List Token) (r : Refusal) → ended place ≡ None
+pub stops-always : (room : Room) (place : State) (ts : List Token) (r : Refusal) → entry_after_list place ≡ None
     → ((t : Token) (us : List Token) → ts ≡ t ∷ us → step room place t ≡ None) → refused_at place ts ≡ r
     → Stops (stops.At r (length ts)) (reading room place ts)
 stops-always room place [] r last none is = stops-here room place [] r (reading-missing room place last) is
@@ -50,11 +50,11 @@ stops-always room place (t ∷ ts) r last none is =
     stops-here room place (t ∷ ts) r (reading-stuck room place t ts (none t ts refl)) is
 
 -- a place whose steps are another's reads as that one
-pub reading-same : (room : Room) (p q : State) (ts : List Token) → ended p ≡ ended q → refused_at p ts ≡ refused_at q ts
+pub reading-same : (room : Room) (p q : State) (ts : List Token) → entry_after_list p ≡ entry_after_list q → refused_at p ts ≡ refused_at q ts
     → ((t : Token) (us : List Token) → ts ≡ t ∷ us → step room p t ≡ step room q t) → reading room p ts ≡ reading room q ts
-reading-same room p q [] last refused same = go (ended q) last
+reading-same room p q [] last refused same = go (entry_after_list q) last
   where
-    go : (e : Option EntryBody) → ended p ≡ e → entry_or_stop p (ended p) ≡ entry_or_stop q e
+    go : (e : Option EntryBody) → entry_after_list p ≡ e → entry_or_stop p (entry_after_list p) ≡ entry_or_stop q e
     go None h = ap (entry_or_stop p) h ∙ ap (λ r. Err (record { rest = []; refusal = r })) refused
     go (Some e) h = ap (entry_or_stop p) h
 reading-same room p q (t ∷ ts) last refused same = go (step room q t) refl (same t ts refl)

@@ -4,7 +4,7 @@ use Rattle.std.specs.Prelude.{map, codes}
 use Prim.Native.String.{String}
 use Rattle.sudo_text.specs.declared.token.Ch.{Ch}
 use Rattle.sudo_grammar.specs.declared.kind.Atom.TheVariants as atoms
-use Rattle.sudo_parser.specs.Texts.{text_of, atom_text}
+use Rattle.sudo_parser.specs.Texts.{signed_text, atom_text}
 
 abbrev chars : String → List Ch
 chars s = map (λ b. record { byte = b; escaped = false }) (codes s)
@@ -12,10 +12,10 @@ chars s = map (λ b. record { byte = b; escaped = false }) (codes s)
 abbrev escaped : String → List Ch
 escaped s = map (λ b. record { byte = b; escaped = true }) (codes s)
 
-negated : text_of (record { negated = true; atom = atoms.All }) ≡ codes "!ALL"
+negated : signed_text (record { negated = true; atom = atoms.All }) ≡ codes "!ALL"
 negated = refl
 
-group : text_of (record { negated = true; atom = atoms.Group (codes "domain users") }) ≡ codes "!%domain\\ users"
+group : signed_text (record { negated = true; atom = atoms.Group (codes "domain users") }) ≡ codes "!%domain\\ users"
 group = refl
 
 -- a name that reads as ALL or as an alias stands in double quotes, and no other

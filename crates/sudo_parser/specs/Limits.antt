@@ -15,10 +15,10 @@ room_of room kinds.Host = room.host
 room_of room kinds.Cmnd = room.cmnd
 
 -- the number of aliases of a kind that a line defines
-abbrev pub defined : Kind → EntryBody → ℕ
-defined kind (bodies.Aliases k definitions) = if same_kind k kind then length definitions else 0
-defined kind _ = 0
+abbrev pub definition_count : Kind → EntryBody → ℕ
+definition_count kind (bodies.Aliases k definitions) = if same_kind k kind then length definitions else 0
+definition_count kind _ = 0
 
 -- the room that is left after an entry
 abbrev pub less : (Kind → ℕ) → EntryBody → Kind → ℕ
-less room body kind = room kind - defined kind body
+less room body kind = room kind - definition_count kind body

@@ -17,7 +17,7 @@ use Rattle.sudo_grammar.specs.declared.fault.Refusal.{Refusal}
 use Rattle.sudo_grammar.specs.declared.fault.Refusal.TheVariants as refusals
 use Rattle.sudo_grammar.specs.declared.fault.ParseFault.{ParseFault}
 use Rattle.sudo_grammar.specs.declared.fault.ParseFault.TheVariants as faults
-use Rattle.sudo_parser.specs.Limits.{defined, less}
+use Rattle.sudo_parser.specs.Limits.{definition_count, less}
 use Rattle.sudo_grammar.specs.States.{Room}
 use Rattle.sudo_grammar.specs.Reading.{Stop}
 use Rattle.sudo_grammar.specs.Faults.{WritesWithin, IsGrammarFault}
@@ -28,7 +28,7 @@ alias_limit = 4096
 
 -- the number of definitions of a kind that are still allowed after these entries
 abbrev pub room_after : List Entry → Room
-room_after entries kind = alias_limit - sum_by (λ e. defined kind e.body) entries
+room_after entries kind = alias_limit - sum_by (λ e. definition_count kind e.body) entries
 
 -- a line without tokens has no entry, and any other has the entry that its tokens write, within the room for
 -- definitions

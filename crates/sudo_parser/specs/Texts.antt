@@ -14,17 +14,17 @@ abbrev pub hex_digit : ℕ → ℕ
 hex_digit n = if nat_lt n 10 then 48 + n else 87 + n
 
 -- a space and the bytes with a special meaning between words
-abbrev pub is_special : ℕ → Bool
-is_special b = list_any (λ s. s == b) (codes " !=:,()\\\"#")
+abbrev pub needs_backslash : ℕ → Bool
+needs_backslash b = list_any (λ s. s == b) (codes " !=:,()\\\"#")
 
-abbrev pub is_control : ℕ → Bool
-is_control b = nat_lt b 32 || (b == 127)
+abbrev pub is_ascii_control : ℕ → Bool
+is_ascii_control b = nat_lt b 32 || (b == 127)
 
 -- a byte of a name
 abbrev pub byte_text : ℕ → List ℕ
 byte_text b =
-    if is_special b then 92 ∷ b ∷ []
-    else if is_control b then 92 ∷ 120 ∷ hex_digit (b / 16) ∷ hex_digit (b % 16) ∷ []
+    if needs_backslash b then 92 ∷ b ∷ []
+    else if is_ascii_control b then 92 ∷ 120 ∷ hex_digit (b / 16) ∷ hex_digit (b % 16) ∷ []
     else b ∷ []
 
 abbrev pub name_text : List ℕ → List ℕ
@@ -74,5 +74,5 @@ atom_text (atoms.Address a) = address_text a
 atom_text (atoms.Net addr mask) = address_text addr ++ (47 ∷ address_text mask)
 atom_text (atoms.Command path args) = command_text path args
 
-abbrev pub text_of : Signed → List ℕ
-text_of m = (if m.negated then 33 ∷ [] else []) ++ atom_text m.atom
+abbrev pub signed_text : Signed → List ℕ
+signed_text m = (if m.negated then 33 ∷ [] else []) ++ atom_text m.atom

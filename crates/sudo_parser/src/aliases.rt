@@ -5,6 +5,7 @@ ghost use Rattle.sudo_grammar.specs.Reading.{reading};
 ghost use Rattle.sudo_parser.specs.Body.Stops.{GivesEntry};
 ghost use Rattle.sudo_parser.specs.Body.Aliases.{ReadsName, StopsInName, ReadsDefinition, StopsInDefinition};
 
+use crate::likely::{empty_list, likely_parts};
 use crate::lists::members;
 use crate::stops::{ParserStop, wants};
 use crate::tokens::{after_mark, first_token};
@@ -71,7 +72,7 @@ pub(crate) fn aliases(
     ensures { (room : Room) → room kind ≡ limit
         → GivesEntry result (reading room (AliasName kind []) tokens.now) }
 {
-    let mut definitions = Seq::new(alloc);
+    let mut definitions = empty_list(alloc, likely_parts(tokens))?;
     let mut rest = tokens;
     'definitions: loop {
         let is_full = limit as usize <= definitions.len();

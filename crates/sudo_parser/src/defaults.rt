@@ -63,13 +63,17 @@ fn binding(alloc: Global, tokens: &[Token]) -> Result<(Option<Binding>, &[Token]
 }
 
 // Reads a word, and returns the tokens after it.
-fn word(expected: Expected, tokens: &[Token]) -> Result<(Token, &[Token]), ParserStop>
+fn word(
+    alloc: Global,
+    expected: Expected,
+    tokens: &[Token],
+) -> Result<(Token, &[Token]), ParserStop>
     ensures reads { IfOk result (λ r. IsWordNext tokens.now r.0 r.1.now) }
     ensures stops { IfErr result (IsWordMissing expected tokens.now) }
 {
     match first_token(tokens) {
         Some((first, rest)) => match &first.kind {
-            TokenKind::Word { .. } => Ok((copy_of(first)?, rest)),
+            TokenKind::Word { .. } => Ok((copy_of(alloc, first)?, rest)),
             _ => Err(wants(expected, tokens.len())),
         },
         None => Err(wants(expected, 0)),
@@ -103,20 +107,20 @@ fn next_operator(tokens: &[Token]) -> Option<(Operator, &[Token])>
 }
 
 // Reads a parameter, and returns the tokens after it.
-fn parameter(tokens: &[Token]) -> Result<(Parameter, &[Token]), ParserStop>
+fn parameter(alloc: Global, tokens: &[Token]) -> Result<(Parameter, &[Token]), ParserStop>
     requires { length tokens.now < 2 ^ 32 }
     ensures reads { IfOk result (λ r. ReadsParameter tokens.now r.0 r.1.now) }
     ensures stops { IfErr result (StopsInParameter tokens.now) }
 {
     let (bangs, named) = bangs(tokens);
-    let (name, after) = word(Expected::Parameter, named)?;
+    let (name, after) = word(alloc, Expected::Parameter, named)?;
     if bangs != 0 {
         return Ok((Parameter::Switch { bangs, name }, after));
     }
     match next_operator(after) {
         None => Ok((Parameter::Switch { bangs, name }, after)),
         Some((operator, valued)) => {
-            let (value, rest) = word(Expected::Value, valued)?;
+            let (value, rest) = word(alloc, Expected::Value, valued)?;
             Ok((
                 Parameter::Assign {
                     name,
@@ -138,7 +142,7 @@ fn parameters(alloc: Global, tokens: &[Token]) -> Result<Seq<Parameter>, ParserS
     let mut parameters = Seq::new(alloc);
     let mut rest = tokens;
     'parameters: loop {
-        let (parameter, after) = parameter(rest)?;
+        let (parameter, after) = parameter(alloc, rest)?;
         parameters.push(parameter)?;
         match after_mark(after, Mark::Comma) {
             Some(next) => rest = next,

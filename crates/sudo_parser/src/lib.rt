@@ -4,6 +4,7 @@
 mod aliases;
 mod defaults;
 mod laws;
+mod likely;
 mod line;
 mod lists;
 mod members;

@@ -13,7 +13,7 @@ ghost use Rattle.sudo_grammar.specs.declared.policy.EntryBody.{EntryBody};
 ghost use Rattle.sudo_parser.specs.Body.Stops.{GivesEntry};
 ghost use Rattle.sudo_parser.specs.Body.Openings.{opening_view, IsInclude};
 ghost use Rattle.sudo_parser.specs.Limits.{room_of};
-ghost use Rattle.sudo_parser.specs.Body.Faults.{IsFaultOf};
+ghost use Rattle.sudo_parser.specs.Body.Faults.{HasGrammarFault};
 
 use crate::aliases::aliases;
 use crate::defaults::defaults;
@@ -153,7 +153,7 @@ pub(crate) fn entry(alloc: Global, room: &Room, tokens: &[Token]) -> Result<Entr
     ensures written { IfOk result (λ e. WritesWithin (room_of room.now) e tokens.now) }
     ensures only { (e : EntryBody) → WritesWithin (room_of room.now) e tokens.now
         → GivesEntry result (Ok e) }
-    ensures fault { IfErr result (IsFaultOf (room_of room.now) tokens.now) }
+    ensures fault { IfErr result (HasGrammarFault (room_of room.now) tokens.now) }
 {
     read(alloc, room, tokens)
 }

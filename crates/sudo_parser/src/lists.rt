@@ -4,6 +4,7 @@ ghost use Rattle.sudo_grammar.specs.Refusals as refusals;
 ghost use Rattle.sudo_parser.specs.Body.Stops.{IsNotNext};
 ghost use Rattle.sudo_parser.specs.Body.Lists.{option_begins, IsTaken, StopsAtMember, ReadsItem, StopsInItem, ReadsItems, StopsInItems, stop_of_member};
 
+use crate::likely::{empty_list, likely_members};
 use crate::members::{MemberFault, atom, expected};
 use crate::stops::{ParserStop, wants};
 use crate::tokens::{
@@ -91,7 +92,7 @@ fn member(
                     left: rest.len(),
                 });
             }
-            let token = copy_of(first)?;
+            let token = copy_of(alloc, first)?;
             Ok((Member { bangs, token, atom }, rest))
         }
     }
@@ -121,7 +122,7 @@ pub(crate) fn members(
     ensures reads { IfOk result (λ r. ReadsItems kind tokens.now r.0 r.1.now) }
     ensures stops { IfErr result (StopsInItems kind tokens.now) }
 {
-    let mut members = Seq::new(alloc);
+    let mut members = empty_list(alloc, likely_members(tokens))?;
     let mut rest = tokens;
     'items: loop {
         let (member, after) = item(alloc, kind, rest)?;

@@ -3,11 +3,11 @@ ghost use Rattle.std.specs.Prelude.{◌≡◌, IfOk, ◌==◌};
 ghost use Rattle.std.specs.List.{list_any};
 ghost use Rattle.sudo_grammar.specs.Words.{bytes_of};
 ghost use Rattle.sudo_grammar.specs.Members.{atom_of, expected_in, other_atom, user_of, group_of, cut_at, address_of, network_of, is_slash, host_of, unquoted_host_of, plain_host_of, command_of, no_command, begins_with_caret, ends_in_dollar};
-ghost use Rattle.sudo_parser.specs.Body.Gives.{Gives};
+ghost use Rattle.sudo_parser.specs.Body.Gives.{AgreesWith};
 ghost use Rattle.sudo_grammar.specs.Members;
 
 use crate::numbers::{address, cut, mask, number};
-use crate::words::{ALL, bytes, is_alias_name, is_text, is_unescaped, plain};
+use crate::words::{ALL, bytes, is_text, is_unescaped, plain, spells, spells_name};
 use std::alloc::{AllocError, Global};
 use sudo_grammar::{Atom, Expected, Kind, Refusal, Unsupported};
 use sudo_text::{Ch, Seq, TokenKind};
@@ -34,7 +34,7 @@ impl From<AllocError> for MemberFault {
 
 // Reads a network: an address and a mask.
 fn network(front: &[u8], back: &[u8]) -> Result<Atom, MemberFault>
-    ensures { Gives result (network_of (address_of front.now) back.now) }
+    ensures { AgreesWith result (network_of (address_of front.now) back.now) }
 {
     match address(front) {
         None => Err(MemberFault::Refused(Refusal::BadNumber)),
@@ -55,7 +55,7 @@ fn copied(alloc: Global, chars: &[Ch]) -> Result<Seq<Ch>, AllocError>
 
 // Returns a host's name.
 fn host_name(alloc: Global, chars: &[Ch], quoted: bool) -> Result<Atom, MemberFault>
-    ensures { Gives result (Ok (Atom.Host chars.now quoted)) }
+    ensures { AgreesWith result (Ok (Atom.Host chars.now quoted)) }
 {
     let chars = copied(alloc, chars)?;
     Ok(Atom::Host { chars, quoted })
@@ -63,7 +63,7 @@ fn host_name(alloc: Global, chars: &[Ch], quoted: bool) -> Result<Atom, MemberFa
 
 // Reads an unquoted host word without escapes: an address, a network or a name.
 fn plain_host(alloc: Global, chars: &[Ch]) -> Result<Atom, MemberFault>
-    ensures { Gives result (plain_host_of chars.now (bytes_of chars.now)
+    ensures { AgreesWith result (plain_host_of chars.now (bytes_of chars.now)
         (cut_at 47 (bytes_of chars.now))) }
 {
     let bytes = bytes(alloc, chars)?;
@@ -84,7 +84,7 @@ fn has_slash(chars: &[Ch]) -> bool
 }
 
 fn unquoted_host(alloc: Global, chars: &[Ch]) -> Result<Atom, MemberFault>
-    ensures { Gives result (unquoted_host_of chars.now) }
+    ensures { AgreesWith result (unquoted_host_of chars.now) }
 {
     if is_unescaped(chars) {
         plain_host(alloc, chars)
@@ -119,7 +119,7 @@ pub(crate) fn expected(kind: Kind) -> Expected
 
 // Reads a host.
 fn host(alloc: Global, quoted: bool, chars: &[Ch]) -> Result<Atom, MemberFault>
-    ensures { Gives result (host_of quoted chars.now) }
+    ensures { AgreesWith result (host_of quoted chars.now) }
 {
     match chars {
         [] => Err(no_member()),
@@ -137,7 +137,7 @@ fn host(alloc: Global, quoted: bool, chars: &[Ch]) -> Result<Atom, MemberFault>
 
 // Reads a group, by the characters after `%`.
 fn group(alloc: Global, chars: &[Ch]) -> Result<Atom, MemberFault>
-    ensures { Gives result (group_of (bytes_of chars.now)) }
+    ensures { AgreesWith result (group_of (bytes_of chars.now)) }
 {
     match chars {
         [] => Err(no_member()),
@@ -157,7 +157,7 @@ fn group(alloc: Global, chars: &[Ch]) -> Result<Atom, MemberFault>
 
 // Reads a user, a group or one of their refused forms, by the first byte if it is unescaped.
 fn user(alloc: Global, chars: &[Ch]) -> Result<Atom, MemberFault>
-    ensures { Gives result (user_of chars.now) }
+    ensures { AgreesWith result (user_of chars.now) }
 {
     match chars {
         [] => Err(no_member()),
@@ -203,7 +203,7 @@ fn has_dollar(chars: &[Ch]) -> bool
 
 // Reads a command: its path, and its arguments. Refuses arguments that are a regular expression.
 fn command(alloc: Global, path: &[Ch], args: &Option<Seq<Ch>>) -> Result<Atom, MemberFault>
-    ensures { Gives result (command_of path.now args.now) }
+    ensures { AgreesWith result (command_of path.now args.now) }
 {
     match args {
         None => Ok(Atom::Command {
@@ -239,7 +239,7 @@ fn not_command(quoted: bool, chars: &[Ch]) -> Refusal
 
 // Reads a token that is neither `ALL` nor the name of an alias.
 fn other(alloc: Global, kind: Kind, token: &TokenKind) -> Result<Atom, MemberFault>
-    ensures { Gives result (other_atom kind token.now) }
+    ensures { AgreesWith result (other_atom kind token.now) }
 {
     match token {
         TokenKind::Word { quoted, chars } => match kind {
@@ -257,14 +257,14 @@ fn other(alloc: Global, kind: Kind, token: &TokenKind) -> Result<Atom, MemberFau
 
 /// Returns the meaning of a token in a list of a kind, or its refusal: see sudoers(5), "SUDOERS FILE FORMAT".
 pub(crate) fn atom(alloc: Global, kind: Kind, token: &TokenKind) -> Result<Atom, MemberFault>
-    ensures { Gives result (atom_of kind token.now) }
+    ensures { AgreesWith result (atom_of kind token.now) }
 {
-    match plain(alloc, token)? {
+    match plain(token) {
         Some(word) => {
-            if word.as_slice() == ALL {
+            if spells(word, ALL) {
                 Ok(Atom::All)
-            } else if is_alias_name(&word) {
-                Ok(Atom::Alias(word))
+            } else if spells_name(word) {
+                Ok(Atom::Alias(bytes(alloc, word)?))
             } else {
                 other(alloc, kind, token)
             }

@@ -3,7 +3,7 @@ ghost use Rattle.std.specs.Prelude.{◌≡◌, ◌<◌, length, position, IfSome
 ghost use Rattle.std.specs.Option.{option_map};
 ghost use Rattle.std.specs.List.{list_all};
 ghost use Rattle.sudo_text.specs.Bytes.{is_digit};
-ghost use Rattle.sudo_grammar.specs.Members.{number_of, cut_at, groups_of, address_of, mask_of, joined, is_octet, octet_of, mask_of_bits};
+ghost use Rattle.sudo_grammar.specs.Members.{number_of, cut_at, dotted_groups, address_of, mask_in, address_of_numbers, is_octet, octet_of, mask_of_bits};
 
 use sudo_grammar::Refusal;
 
@@ -70,7 +70,7 @@ struct Groups<'a> {
 
 fn four_groups(bytes: &[u8]) -> Option<Groups<'_>>
     ensures { option_map (λ g. (g.first.now, g.second.now, g.third.now, g.fourth.now)) result
-        ≡ groups_of bytes.now }
+        ≡ dotted_groups bytes.now }
 {
     let (first, rest) = cut(bytes, b'.')?;
     let (second, rest) = cut(rest, b'.')?;
@@ -92,7 +92,7 @@ fn octet(bytes: &[u8]) -> Option<u32>
 
 // Returns the address of four numbers. Returns `BadNumber` if one is over 255.
 fn address_from(a: u32, b: u32, c: u32, d: u32) -> Result<u32, Refusal>
-    ensures { result ≡ joined a b c d }
+    ensures { result ≡ address_of_numbers a b c d }
 {
     if a < 256 && b < 256 && c < 256 && d < 256 {
         Ok((a << 24) + (b << 16) + (c << 8) + d)
@@ -127,7 +127,7 @@ fn leading_bits(bits: u32) -> Result<u32, Refusal>
 
 /// Reads a mask: a number of bits up to 32, or an address.
 pub(crate) fn mask(bytes: &[u8]) -> Result<u32, Refusal>
-    ensures { result ≡ mask_of bytes.now }
+    ensures { result ≡ mask_in bytes.now }
 {
     match number(bytes) {
         Some(bits) => leading_bits(bits),

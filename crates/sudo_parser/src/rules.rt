@@ -5,6 +5,7 @@ ghost use Rattle.sudo_grammar.specs.Reading.{reading};
 ghost use Rattle.sudo_parser.specs.Body.Stops.{GivesEntry};
 ghost use Rattle.sudo_parser.specs.Body.Rules.{IsTagNext, IsNoTagNext, ReadsTags, ReadsSpec, StopsInSpec, ReadsSpecs, StopsInSpecs, ReadsSection, StopsInSection, ReadsSections, StopsInSections};
 
+use crate::likely::{empty_list, likely_commands, likely_parts};
 use crate::lists::{item, members};
 use crate::runas::runas;
 use crate::stops::{ParserStop, wants};
@@ -14,7 +15,7 @@ use std::alloc::{AllocError, Global};
 use sudo_grammar::{CommandSpec, EntryBody, Expected, Kind, Section, Tag};
 use sudo_text::{Mark, Seq, Token};
 
-/// The tag that comes next with a colon after it, if one does, and the tokens after the colon.
+/// Returns the tag that comes next with a colon after it, if any, and the tokens after the colon.
 fn next_tag(alloc: Global, tokens: &[Token]) -> Result<Option<(Tag, &[Token])>, AllocError>
     ensures { IfOk result (λ r. MatchOption r (IsNoTagNext tokens.now)
         (λ x. IsTagNext tokens.now x.0 x.1.now)) }
@@ -33,7 +34,7 @@ fn next_tag(alloc: Global, tokens: &[Token]) -> Result<Option<(Tag, &[Token])>, 
     }
 }
 
-/// The tags that come next, and the tokens after them.
+/// Returns the tags that come next, and the tokens after them.
 fn tags(alloc: Global, tokens: &[Token]) -> Result<(Seq<Tag>, &[Token]), AllocError>
     ensures { IfOk result (λ r. ReadsTags tokens.now r.0 r.1.now) }
 {
@@ -75,7 +76,7 @@ fn specs(alloc: Global, tokens: &[Token]) -> Result<(Seq<CommandSpec>, &[Token])
     ensures reads { IfOk result (λ r. ReadsSpecs tokens.now r.0 r.1.now) }
     ensures stops { IfErr result (StopsInSpecs tokens.now) }
 {
-    let mut specs = Seq::new(alloc);
+    let mut specs = empty_list(alloc, likely_commands(tokens))?;
     let mut rest = tokens;
     'specs: loop {
         let (spec, after) = spec(alloc, rest)?;
@@ -108,7 +109,7 @@ fn sections(alloc: Global, tokens: &[Token]) -> Result<Seq<Section>, ParserStop>
     ensures reads { IfOk result (ReadsSections tokens.now) }
     ensures stops { IfErr result (StopsInSections tokens.now) }
 {
-    let mut sections = Seq::new(alloc);
+    let mut sections = empty_list(alloc, likely_parts(tokens))?;
     let mut rest = tokens;
     'sections: loop {
         let (section, after) = section(alloc, rest)?;

@@ -4,8 +4,8 @@ ghost use Rattle.sudo_grammar.specs.Refusals as refusals;
 ghost use Rattle.sudo_parser.specs.Body.Stops.{IsMark, IsNotNext, IsNext};
 ghost use Rattle.sudo_parser.specs.Body.Lists.{ReadsBangs};
 
-use std::alloc::AllocError;
-use sudo_text::{Mark, Token, TokenKind};
+use std::alloc::{AllocError, Global};
+use sudo_text::{Ch, Mark, Seq, Token, TokenKind};
 
 pub(crate) fn is_mark(token: &Token, mark: Mark) -> bool
     ensures { IsTrue result ↔ IsMark mark token.now }
@@ -26,11 +26,57 @@ pub(crate) fn first_token(tokens: &[Token]) -> Option<(&Token, &[Token])>
     }
 }
 
-/// Copies a token.
-pub(crate) fn copy_of(token: &Token) -> Result<Token, AllocError>
+// Copies the arguments of a command, if it has any.
+fn copy_of_arguments(
+    alloc: Global,
+    arguments: &Option<Seq<Ch>>,
+) -> Result<Option<Seq<Ch>>, AllocError>
+    ensures { IfOk result (λ copy. copy ≡ arguments.now) }
+{
+    match arguments {
+        None => Ok(None),
+        Some(arguments) => Ok(Some(Seq::from_slice(alloc, arguments)?)),
+    }
+}
+
+// Copies a command.
+fn copy_of_command(
+    alloc: Global,
+    path: &[Ch],
+    arguments: &Option<Seq<Ch>>,
+) -> Result<TokenKind, AllocError>
+    ensures { IfOk result (λ copy. copy ≡ TokenKind.Command path.now arguments.now) }
+{
+    let path = Seq::from_slice(alloc, path)?;
+    let args = copy_of_arguments(alloc, arguments)?;
+    Ok(TokenKind::Command { path, args })
+}
+
+// Copies the kind and content of a token.
+fn copy_of_kind(alloc: Global, kind: &TokenKind) -> Result<TokenKind, AllocError>
+    ensures { IfOk result (λ copy. copy ≡ kind.now) }
+{
+    match kind {
+        TokenKind::Word { quoted, chars } => {
+            let (quoted, chars) = (*quoted, Seq::from_slice(alloc, chars)?);
+            Ok(TokenKind::Word { quoted, chars })
+        }
+        TokenKind::Command { path, args } => copy_of_command(alloc, path, args),
+        TokenKind::Mark(mark) => Ok(TokenKind::Mark(*mark)),
+        TokenKind::Include { folder, hash, path } => {
+            let (folder, hash, path) = (*folder, *hash, Seq::from_slice(alloc, path)?);
+            Ok(TokenKind::Include { folder, hash, path })
+        }
+    }
+}
+
+/// Copies a token. Takes exactly the memory that its characters need, and returns `AllocError` if there is none.
+pub(crate) fn copy_of(alloc: Global, token: &Token) -> Result<Token, AllocError>
     ensures { IfOk result (λ copy. copy ≡ token.now) }
 {
-    token.clone()
+    let kind = copy_of_kind(alloc, &token.kind)?;
+    let (start, end) = (token.start, token.end);
+    Ok(Token { kind, start, end })
 }
 
 /// Returns the tokens after a mark, if it is the next token.

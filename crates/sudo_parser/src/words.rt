@@ -2,7 +2,8 @@
 ghost use Rattle.std.specs.Prelude.{◌≡◌, ◌&&◌, IfOk};
 ghost use Rattle.std.specs.Str.{bytes_eq};
 ghost use Rattle.std.specs.List.{list_all};
-ghost use Rattle.sudo_grammar.specs.Words.{bytes_of, is_plain, plain_word, is_name, is_name_byte, begins_upper, name_of, tag_of, tag_of_name, is_option_name, is_digest_name};
+ghost use Rattle.std.specs.Option.{option_map};
+ghost use Rattle.sudo_grammar.specs.Words.{bytes_of, has_no_escape, plain_word, is_name, is_name_byte, begins_upper, name_of, tag_of, tag_of_name, is_option_name, is_digest_name};
 ghost use Rattle.sudo_grammar.specs.Tags.{tag_name};
 ghost use Rattle.sudo_grammar.specs.Words as words;
 ghost use Rattle.sudo_grammar.specs.Openings as openings;
@@ -17,27 +18,34 @@ pub(crate) const ALL: &[u8] = b"ALL";
 pub(crate) fn bytes(alloc: Global, chars: &[Ch]) -> Result<Seq<u8>, AllocError>
     ensures { IfOk result (λ bytes. bytes ≡ bytes_of chars.now) }
 {
-    let bytes: Vec<u8> = chars.iter().map(|c| c.byte).collect(alloc)?;
+    let mut bytes = Vec::with_capacity(alloc, chars.len())?;
+    for c in chars {
+        bytes.push(c.byte)?;
+    }
     Ok(Seq::from_vec(bytes))
 }
 
 /// Whether none of the characters is escaped.
 pub(crate) fn is_unescaped(chars: &[Ch]) -> bool
-    ensures { result ≡ is_plain chars.now }
+    ensures { result ≡ has_no_escape chars.now }
 {
     chars.iter().all(|c| !c.escaped)
 }
 
-/// Returns the word that a token spells, if it is an unquoted word without escapes.
-pub(crate) fn plain(alloc: Global, token: &TokenKind) -> Result<Option<Seq<u8>>, AllocError>
-    ensures { IfOk result (λ word. word ≡ plain_word token.now) }
+/// Returns the characters of a token, if it is an unquoted word without escapes.
+pub(crate) fn plain(token: &TokenKind) -> Option<&[Ch]>
+    ensures { option_map (λ word. bytes_of word.now) result ≡ plain_word token.now }
 {
     match token {
-        TokenKind::Word { quoted, chars } if !*quoted && is_unescaped(chars) => {
-            Ok(Some(bytes(alloc, chars)?))
-        }
-        _ => Ok(None),
+        TokenKind::Word { quoted, chars } if !*quoted && is_unescaped(chars) => Some(chars),
+        _ => None,
     }
+}
+
+fn is_in_names(byte: u8) -> bool
+    ensures { result ≡ is_name_byte byte }
+{
+    byte.is_ascii_uppercase() || byte.is_ascii_digit() || byte == b'_'
 }
 
 fn begins_with_upper(word: &[u8]) -> bool
@@ -52,7 +60,7 @@ fn begins_with_upper(word: &[u8]) -> bool
 fn has_name_bytes(word: &[u8]) -> bool
     ensures { result ≡ list_all is_name_byte word.now }
 {
-    word.iter().all(|b| b.is_ascii_uppercase() || b.is_ascii_digit() || *b == b'_')
+    word.iter().all(|b| is_in_names(*b))
 }
 
 /// Whether a word is the name of an alias: an upper-case letter, followed by upper-case letters, digits and
@@ -74,9 +82,32 @@ pub(crate) fn spells(chars: &[Ch], text: &[u8]) -> bool
     }
 }
 
+fn spells_upper(chars: &[Ch]) -> bool
+    ensures { result ≡ begins_upper (bytes_of chars.now) }
+{
+    match chars {
+        [] => false,
+        [first, ..] => first.byte.is_ascii_uppercase(),
+    }
+}
+
+fn spells_name_bytes(chars: &[Ch]) -> bool
+    ensures { result ≡ list_all (λ c. is_name_byte c.byte) chars.now }
+{
+    chars.iter().all(|c| is_in_names(c.byte))
+}
+
+/// Whether the bytes of characters are the name of an alias.
+#[tactic(auto, using(crate::proofs::Names::name_bytes))]
+pub(crate) fn spells_name(chars: &[Ch]) -> bool
+    ensures { result ≡ is_name (bytes_of chars.now) }
+{
+    spells_upper(chars) && spells_name_bytes(chars) && !spells(chars, ALL)
+}
+
 /// Whether the characters spell `text` without escapes.
 pub(crate) fn is_text(chars: &[Ch], text: &[u8]) -> bool
-    ensures { result ≡ (is_plain chars.now && bytes_eq (bytes_of chars.now) text.now) }
+    ensures { result ≡ (has_no_escape chars.now && bytes_eq (bytes_of chars.now) text.now) }
 {
     is_unescaped(chars) && spells(chars, text)
 }
@@ -85,10 +116,10 @@ pub(crate) fn is_text(chars: &[Ch], text: &[u8]) -> bool
 pub(crate) fn name(alloc: Global, token: &TokenKind) -> Result<Option<Seq<u8>>, AllocError>
     ensures { IfOk result (λ name. name ≡ name_of token.now) }
 {
-    match plain(alloc, token)? {
+    match plain(token) {
         Some(word) => {
-            if is_alias_name(&word) {
-                Ok(Some(word))
+            if spells_name(word) {
+                Ok(Some(bytes(alloc, word)?))
             } else {
                 Ok(None)
             }
@@ -110,7 +141,7 @@ fn is_name_of(name: &[u8], tag: Tag) -> bool
     }
 }
 
-/// The tag that a name spells, among the pairs' tags if on, and else among their opposites.
+/// Returns the tag that a name spells, if any: among the pairs' own tags if `on`, else among their opposites.
 fn tag_switched(name: &[u8], on: bool) -> Option<Tag>
     ensures { result ≡ words.tag_switched name.now on }
 {
@@ -120,14 +151,14 @@ fn tag_switched(name: &[u8], on: bool) -> Option<Tag>
         .find(|tag| is_name_of(name, *tag))
 }
 
-/// The tag that a name spells.
+/// Returns the tag that a name spells, if any.
 fn tag_named(name: &[u8]) -> Option<Tag>
     ensures { result ≡ tag_of_name name.now }
 {
     tag_switched(name, true).or(tag_switched(name, false))
 }
 
-/// The tag that a token spells.
+/// Returns the tag that a token spells, if any.
 pub(crate) fn tag(alloc: Global, token: &TokenKind) -> Result<Option<Tag>, AllocError>
     ensures { IfOk result (λ tag. tag ≡ tag_of token.now) }
 {
@@ -154,7 +185,7 @@ fn is_option_text(chars: &[Ch]) -> bool
 
 /// Whether a token is the name of a command's option.
 pub(crate) fn is_option(token: &TokenKind) -> bool
-    ensures { result ≡ openings.spells is_option_name (plain_word token.now) }
+    ensures { result ≡ openings.word_passes is_option_name (plain_word token.now) }
 {
     match token {
         TokenKind::Word { quoted, chars } => {
@@ -175,7 +206,7 @@ fn is_digest_text(chars: &[Ch]) -> bool
 
 /// Whether a token is the name of a command's digest.
 pub(crate) fn is_digest(token: &TokenKind) -> bool
-    ensures { result ≡ openings.spells is_digest_name (plain_word token.now) }
+    ensures { result ≡ openings.word_passes is_digest_name (plain_word token.now) }
 {
     match token {
         TokenKind::Word { quoted, chars } => {

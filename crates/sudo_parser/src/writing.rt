@@ -2,7 +2,7 @@
 ghost use Rattle.std.specs.Prelude.{◌≡◌, ◌++◌, ◌∷◌, ◌<◌, ◌||◌, ◌^◌, [], OnOk, IfOk, codes, decimal, true};
 ghost use Rattle.std.specs.Str.{bytes_eq};
 ghost use Rattle.sudo_grammar.specs.Words.{is_name};
-ghost use Rattle.sudo_parser.specs.Texts.{hex_digit, is_special, is_control, byte_text, name_text, first_text, user_text, ch_text, chars_text, quoted_ch_text, host_text, address_text, command_text, atom_text, text_of};
+ghost use Rattle.sudo_parser.specs.Texts.{hex_digit, needs_backslash, is_ascii_control, byte_text, name_text, first_text, user_text, ch_text, chars_text, quoted_ch_text, host_text, address_text, command_text, atom_text, signed_text};
 
 use crate::words::{ALL, is_alias_name};
 use itoa::Buffer;
@@ -24,7 +24,7 @@ fn hex(digit: u8) -> u8
 
 // Whether a byte is a space or a byte with a special meaning between words.
 fn has_meaning(b: u8) -> bool
-    ensures { result ≡ is_special b }
+    ensures { result ≡ needs_backslash b }
 {
     matches!(
         b,
@@ -181,7 +181,7 @@ fn push_atom(out: &mut Vec<u8>, atom: &Atom) -> Result<(), AllocError>
 /// Returns the text of a written-out member in the syntax of sudoers(5): `!` if it is negated, and its atom with the
 /// escapes that preserve each byte.
 pub fn member_text(alloc: Global, member: &Signed) -> Result<Vec<u8>, AllocError>
-    ensures { IfOk result (λ text. text.items ≡ text_of member.now) }
+    ensures { IfOk result (λ text. text.items ≡ signed_text member.now) }
 {
     let mut out = Vec::new(alloc);
     if member.negated {

@@ -7,8 +7,8 @@ use Rattle.std.proofs.lemmas.List.Elements.{Contains-append_cases}
 use Rattle.sudo_policy.specs.declared.graph.Measure.{Measure}
 use Rattle.sudo_policy.specs.declared.graph.State.{State}
 use Rattle.sudo_policy.specs.declared.graph.State.TheVariants.{New, Open, Done, Looped}
-use Rattle.sudo_policy.specs.Body.Graph.{Links, Edge, Path, step, more, ReachesCycle, beside, deeper, link_measure, row_measure, measure_within, MarksOf, StateHolds, StatesHold, IsSettled, is_looped}
-use Rattle.sudo_policy.specs.Body.Marking.{IsMarked, IsUnmarked, AreSet, PathPast, ReversesUpTo, IsWhole, DecidesCycles}
+use Rattle.sudo_policy.specs.Body.Graph.{Links, Edge, Path, step, more, ReachesCycle, measure_of_both, deeper, link_measure, row_measure, measure_within, MarksOf, StateHolds, StatesHold, IsSettled, is_looped}
+use Rattle.sudo_policy.specs.Body.Marking.{IsMarked, IsUnmarked, AreSet, PathPast, ReversesUpTo, IsClosedOverCycles, DecidesCycles}
 use Rattle.sudo_policy.proofs.FollowingLemmas.{joined_parts, option_map_some}
 use Rattle.sudo_policy.proofs.GraphLemmas.{Path-edge, Path-path}
 use Rattle.sudo_policy.proofs.MarkingLemmas.{one_in, none_in, marked_or_not, marked_more, AreSet-kept, AreSet-cases}
@@ -35,7 +35,7 @@ ReachesCycle-next g i r = by r.way
 link_has : (inner : ℕ → Option Measure) (row : List (Option ℕ)) (a : Measure) (j : ℕ) → row_measure inner row ≡ Some a → Contains row (Some j) → (b : Measure) × (inner j ≡ Some b)
 link_has inner [] a j is has = absurd (none_in (Some j) has)
 link_has inner (l ∷ ls) a j is has =
-    let k = joined_parts beside (link_measure inner l) (row_measure inner ls) a is in
+    let k = joined_parts measure_of_both (link_measure inner l) (row_measure inner ls) a is in
     elim (Contains-append_cases (l ∷ []) ls (Some j) has) [
       | inl first ↦
           (let same : l ≡ Some j = one_in l (Some j) first in
@@ -118,7 +118,7 @@ path_back g back t i j (step e) = step (t.all i j (edge_inside g i j e) e)
 path_back g back t i j (more e path) = Path-edge back j _ i (path_back g back t _ j path) (t.all i _ (edge_inside g i _ e) e)
 
 -- behind an alias that is not done are, past those that are done, all that it leads to and is reached from
-in_behind : (g back : Links) (node : ℕ) (done : List Bool) (behind : List ℕ) → ReversesUpTo g (length g) back → length done ≡ length g → IsWhole g done → IsUnmarked done node → ((i : ℕ) → PathPast back done node i → Contains behind i) → (i : ℕ) → Path g node i → Path g i node → Contains behind i
+in_behind : (g back : Links) (node : ℕ) (done : List Bool) (behind : List ℕ) → ReversesUpTo g (length g) back → length done ≡ length g → IsClosedOverCycles g done → IsUnmarked done node → ((i : ℕ) → PathPast back done node i → Contains behind i) → (i : ℕ) → Path g node i → Path g i node → Contains behind i
 in_behind g back node done behind t long whole new found i there back_path = found i (path_past back done node i (path_back g back t i node back_path) free)
   where
     free : (k : ℕ) → Path back node k → (k ≡ i) ⊎ Path back k i → IsUnmarked done k
@@ -137,7 +137,7 @@ in_behind g back node done behind t long whole new found i there back_path = fou
 
 -- of those behind an alias, those that it leads to past the others are the ones on a cycle with it
 pub round_is : (g back : Links) (node : ℕ) (done aside mid : List Bool) (behind round : List ℕ)
-    → ReversesUpTo g (length g) back → length done ≡ length g → IsWhole g done → IsUnmarked done node
+    → ReversesUpTo g (length g) back → length done ≡ length g → IsClosedOverCycles g done → IsUnmarked done node
     → ((i : ℕ) (m : Bool) → slice_get aside i ≡ Some m → m ≡ true) → AreSet false behind aside mid
     → ((i : ℕ) → (Contains behind i → PathPast back done node i) × (PathPast back done node i → Contains behind i))
     → ((i : ℕ) → (Contains round i → PathPast g mid node i) × (PathPast g mid node i → Contains round i))

@@ -17,7 +17,7 @@ use Rattle.sudo_policy.specs.Found.{Marks, AreFindings, has_error, found_by, fin
 use Rattle.sudo_policy.specs.Body.Graph.{Links, Path, IsClosed, IsInside, IsReached, MarksOf, StatesHold, IsSettled}
 use Rattle.sudo_policy.specs.Body.Judgement.{is_deep, is_wide, AreAliasMarks, found_in, missing_in, atom_missing}
 use Rattle.sudo_policy.specs.Body.DefinitionRef.{alias_view, row_of, row_of_alias, granting_row, link_of, IsSurvey, LeadsInside}
-use Rattle.sudo_policy.specs.Positions.{names_of}
+use Rattle.sudo_policy.specs.Positions.{names_of_kind}
 use Rattle.std.proofs.lemmas.Option.{slice_get-map}
 use Rattle.sudo_policy.proofs.FollowingLemmas.{option_map_some}
 use Rattle.sudo_policy.proofs.JudgeLemmas.{cyclic_are, deep_are, wide_are, unused_are, have_depths}
@@ -35,23 +35,23 @@ length_mapped f (x ∷ xs) = ap suc (length_mapped f xs)
 
 -- ---- Links lead to aliases
 
-row_leads : (index : Index) (n : ℕ) (kind : Kind) (ms : List Member) → ((kind : Kind) (name : List ℕ) (i : ℕ) → index_of (names_of index kind) name ≡ Some i → i < n) → IsInside (row_of index kind ms) n
+row_leads : (index : Index) (n : ℕ) (kind : Kind) (ms : List Member) → ((kind : Kind) (name : List ℕ) (i : ℕ) → index_of (names_of_kind index kind) name ≡ Some i → i < n) → IsInside (row_of index kind ms) n
 row_leads index n kind ms inside j h =
     let k = in_map (link_of index kind) ms (Some j) h in
     by (alias_named k.0.atom) k.2
   where
-    by : (o : Option (List ℕ)) → option_and_then (λ name. index_of (names_of index kind) name) o ≡ Some j → j < n
+    by : (o : Option (List ℕ)) → option_and_then (λ name. index_of (names_of_kind index kind) name) o ≡ Some j → j < n
     by None e = cc
     by (Some name) e = inside kind name j e
 
-pub links_closed : (index : Index) (ds : List AliasDefinition) → ((kind : Kind) (name : List ℕ) (i : ℕ) → index_of (names_of index kind) name ≡ Some i → i < length ds) → IsClosed (map (row_of_alias index) ds)
+pub links_closed : (index : Index) (ds : List AliasDefinition) → ((kind : Kind) (name : List ℕ) (i : ℕ) → index_of (names_of_kind index kind) name ≡ Some i → i < length ds) → IsClosed (map (row_of_alias index) ds)
 links_closed index ds inside i j e =
     let k = option_map_some (row_of_alias index) (slice_get ds i) e.row (sym (slice_get-map (row_of_alias index) ds i) ∙ e.row_is) in
     let less = row_leads index (length ds) k.0.kind k.0.members inside j (subst (λ (r : List (Option ℕ)). Contains r (Some j)) k.2 e.has) in
     let long = length_mapped (row_of_alias index) ds in
     omega (arith, less, long)
 
-pub roots_inside : (index : Index) (n : ℕ) (ls : List MemberList) → ((kind : Kind) (name : List ℕ) (i : ℕ) → index_of (names_of index kind) name ≡ Some i → i < n) → IsInside (flat_map (granting_row index) ls) n
+pub roots_inside : (index : Index) (n : ℕ) (ls : List MemberList) → ((kind : Kind) (name : List ℕ) (i : ℕ) → index_of (names_of_kind index kind) name ≡ Some i → i < n) → IsInside (flat_map (granting_row index) ls) n
 roots_inside index n ls inside j h =
     let k = in_flat (granting_row index) ls (Some j) h in
     by k.0 k.0.granting k.2
@@ -66,7 +66,7 @@ leads_inside p survey s kind name i is =
     let long = length_mapped alias_view survey.aliases.items in
     omega (arith, less, long)
 
-pub views_inside : (survey : Survey) → LeadsInside survey → (kind : Kind) (name : List ℕ) (i : ℕ) → index_of (names_of survey.index kind) name ≡ Some i → i < length (map alias_view survey.aliases.items)
+pub views_inside : (survey : Survey) → LeadsInside survey → (kind : Kind) (name : List ℕ) (i : ℕ) → index_of (names_of_kind survey.index kind) name ≡ Some i → i < length (map alias_view survey.aliases.items)
 views_inside survey leads kind name i is =
     let less = leads kind name i is in
     let long = length_mapped alias_view survey.aliases.items in
@@ -107,15 +107,15 @@ module _ (p : Policy) (survey : Survey) (s : IsSurvey p (definitions p) survey) 
   pub judged_is : AreAliasMarks p judged
   judged_is = record {
     cyclic_are = subst (λ (xs : List AliasDefinition). Marks (IsCyclic p) xs judged.cyclic.items) s.aliases_are
-        (cyclic_are p ds (names_of survey.index) survey.index.positions.items s.indexed states states_long long held_of settled judged.cyclic.items used cyclic_of used_of);
+        (cyclic_are p ds (names_of_kind survey.index) survey.index.positions.items s.indexed states states_long long held_of settled judged.cyclic.items used cyclic_of used_of);
     deep_are = subst (λ (xs : List AliasDefinition). Marks (IsTooDeep p) xs judged.deep.items) s.aliases_are (subst (λ (marks : List Bool). Marks (IsTooDeep p) ds marks) (sym deep)
-        (deep_are p ds (names_of survey.index) survey.index.positions.items s.indexed states states_long long held_of settled judged.cyclic.items used cyclic_of used_of));
+        (deep_are p ds (names_of_kind survey.index) survey.index.positions.items s.indexed states states_long long held_of settled judged.cyclic.items used cyclic_of used_of));
     wide_are = subst (λ (xs : List AliasDefinition). Marks (IsTooWide p) xs judged.wide.items) s.aliases_are (subst (λ (marks : List Bool). Marks (IsTooWide p) ds marks) (sym wide)
-        (wide_are p ds (names_of survey.index) survey.index.positions.items s.indexed states states_long long held_of settled judged.cyclic.items used cyclic_of used_of));
+        (wide_are p ds (names_of_kind survey.index) survey.index.positions.items s.indexed states states_long long held_of settled judged.cyclic.items used cyclic_of used_of));
     unused_are = subst (λ (xs : List AliasDefinition). Marks (IsUnused p) xs judged.unused.items) s.aliases_are (subst (λ (marks : List Bool). Marks (IsUnused p) ds marks) (sym unused)
-        (unused_are p ds (names_of survey.index) survey.index.positions.items s.indexed states states_long long held_of settled judged.cyclic.items used cyclic_of used_of));
+        (unused_are p ds (names_of_kind survey.index) survey.index.positions.items s.indexed states states_long long held_of settled judged.cyclic.items used cyclic_of used_of));
     have_depths = λ none i d at.
-        have_depths p ds (names_of survey.index) survey.index.positions.items s.indexed states states_long long held_of settled judged.cyclic.items used cyclic_of used_of none i d
+        have_depths p ds (names_of_kind survey.index) survey.index.positions.items s.indexed states states_long long held_of settled judged.cyclic.items used cyclic_of used_of none i d
         (ap (λ (xs : List AliasDefinition). slice_get xs i) s.aliases_are ∙ at);
   }
 
@@ -123,10 +123,10 @@ module _ (p : Policy) (survey : Survey) (s : IsSurvey p (definitions p) survey) 
 
 module _ (p : Policy) (survey : Survey) (s : IsSurvey p (definitions p) survey) where
   -- a name has a number exactly where it has a definition
-  missing_name : (kind : Kind) (name : List ℕ) → is_none (index_of (names_of survey.index kind) name) ≡ is_none (in_force kind p name)
-  missing_name kind name = by (index_of (names_of survey.index kind) name) refl
+  missing_name : (kind : Kind) (name : List ℕ) → is_none (index_of (names_of_kind survey.index kind) name) ≡ is_none (in_force kind p name)
+  missing_name kind name = by (index_of (names_of_kind survey.index kind) name) refl
     where
-      by : (o : Option ℕ) → index_of (names_of survey.index kind) name ≡ o → is_none (index_of (names_of survey.index kind) name) ≡ is_none (in_force kind p name)
+      by : (o : Option ℕ) → index_of (names_of_kind survey.index kind) name ≡ o → is_none (index_of (names_of_kind survey.index kind) name) ≡ is_none (in_force kind p name)
       by None e =
           ap is_none e ∙ ap (λ (o : Option AliasDefinition). is_none (option_map (λ (d : AliasDefinition). d.members) o)) (sym (sym (s.indexed.lookup kind name) ∙ ap (option_and_then (slice_get (map alias_view survey.aliases.items))) e))
       by (Some i) e =
@@ -147,7 +147,7 @@ module _ (p : Policy) (survey : Survey) (s : IsSurvey p (definitions p) survey) 
 
       atom : (o : Option (List ℕ)) (ns : List (List ℕ)) → atom_missing survey.index l.kind l.place o ++ map finding (filter (λ name. is_none (in_force l.kind p name)) ns) ≡ map finding (filter (λ name. is_none (in_force l.kind p name)) (option_to_list o ++ ns))
       atom None ns = refl
-      atom (Some name) ns = one name ns (is_none (index_of (names_of survey.index l.kind) name)) (is_none (in_force l.kind p name)) (missing_name l.kind name)
+      atom (Some name) ns = one name ns (is_none (index_of (names_of_kind survey.index l.kind) name)) (is_none (in_force l.kind p name)) (missing_name l.kind name)
 
       go : (ms : List Member) → flat_map (λ (m : Member). atom_missing survey.index l.kind l.place (alias_named m.atom)) ms ≡ map finding (filter (λ name. is_none (in_force l.kind p name)) (names_used ms))
       go [] = refl
@@ -179,9 +179,9 @@ module _ (p : Policy) (survey : Survey) (s : IsSurvey p (definitions p) survey) 
 
   -- a definition in force is that of an alias
   pub among_aliases : (kind : Kind) (name : List ℕ) (ms : List Member) → in_force kind p name ≡ Some ms → (i : ℕ) × (d : AliasDefinition) × (slice_get (aliases p) i ≡ Some d) × (d.kind ≡ kind) × (d.members ≡ ms)
-  among_aliases kind name ms is = by (index_of (names_of survey.index kind) name) refl
+  among_aliases kind name ms is = by (index_of (names_of_kind survey.index kind) name) refl
     where
-      by : (o : Option ℕ) → index_of (names_of survey.index kind) name ≡ o → (i : ℕ) × (d : AliasDefinition) × (slice_get (aliases p) i ≡ Some d) × (d.kind ≡ kind) × (d.members ≡ ms)
+      by : (o : Option ℕ) → index_of (names_of_kind survey.index kind) name ≡ o → (i : ℕ) × (d : AliasDefinition) × (slice_get (aliases p) i ≡ Some d) × (d.kind ≡ kind) × (d.members ≡ ms)
       by None e =
           let none : in_force kind p name ≡ None = ap (option_map (λ (d : AliasDefinition). d.members)) (sym (s.indexed.lookup kind name) ∙ ap (option_and_then (slice_get (map alias_view survey.aliases.items))) e) in
           absurd (let both : None ≡ Some ms = sym none ∙ is in cc)

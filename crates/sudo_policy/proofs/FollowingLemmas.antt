@@ -4,7 +4,7 @@ use Rattle.std.specs.Prelude.{option_map}
 use Rattle.sudo_grammar.specs.declared.kind.Kind.{Kind}
 use Rattle.sudo_grammar.specs.declared.kind.Member.{Member}
 use Rattle.sudo_grammar.specs.declared.policy.Policy.{Policy}
-use Rattle.sudo_policy.specs.Following.{Reading, joined, member_reading, list_reading, reading_within, definition_of_member}
+use Rattle.sudo_policy.specs.Following.{Reading, option_join, member_reading, list_reading, reading_within, definition_of_member}
 
 -- both parts of a joined value are there
 pub record Parts {R : Type 0} (join : R → R → R) (x y : Option R) (r : R) : Type 0 where
@@ -14,12 +14,12 @@ pub record Parts {R : Type 0} (join : R → R → R) (x y : Option R) (r : R) : 
   pub second_is : y ≡ Some second
   pub whole : r ≡ join first second
 
-pub joined_parts : {R : Type 0} (join : R → R → R) (x y : Option R) (r : R) → joined join x y ≡ Some r → Parts join x y r
+pub joined_parts : {R : Type 0} (join : R → R → R) (x y : Option R) (r : R) → option_join join x y ≡ Some r → Parts join x y r
 joined_parts join None y r h = cc
 joined_parts join (Some x) None r h = cc
 joined_parts join (Some x) (Some y) r h = record { first = x; second = y; first_is = refl; second_is = refl; whole = cc }
 
-pub joined_from : {R : Type 0} (join : R → R → R) (x y : Option R) (a b r : R) → x ≡ Some a → y ≡ Some b → r ≡ join a b → joined join x y ≡ Some r
+pub joined_from : {R : Type 0} (join : R → R → R) (x y : Option R) (a b r : R) → x ≡ Some a → y ≡ Some b → r ≡ join a b → option_join join x y ≡ Some r
 joined_from join x y a b r at_x at_y whole = rw (at_x, at_y, whole) refl
 
 -- the value under a map is there

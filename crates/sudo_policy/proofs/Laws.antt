@@ -10,9 +10,9 @@ use Rattle.sudo_grammar.specs.declared.kind.Member.{Member}
 use Rattle.sudo_grammar.specs.declared.kind.Signed.{Signed}
 use Rattle.sudo_grammar.specs.declared.policy.Policy.{Policy}
 use Rattle.sudo_policy.specs.Definitions.{in_force, alias_named}
-use Rattle.sudo_policy.specs.Following.{joined, depth, reading_within, member_reading, list_reading, definition_of_member}
+use Rattle.sudo_policy.specs.Following.{option_join, depth, reading_within, member_reading, list_reading, definition_of_member}
 use Rattle.sudo_policy.specs.Resolving.{resolves, rank, greatest}
-use Rattle.sudo_policy.specs.Written.{Written, writing, written, member_written, alone_written, negated_if, differ, is_negated}
+use Rattle.sudo_policy.specs.Written.{IsWrittenOut, writing, written_form, member_written, alone_written, negated_if, differ, is_negated}
 use Rattle.sudo_policy.proofs.AppendLemmas.{reading_append}
 use Rattle.sudo_policy.proofs.FollowingLemmas.{joined_parts, inner_parts}
 
@@ -21,7 +21,7 @@ pub some_value : {X : Type 0} (o : Option X) → is_some o ≡ true → (x : X) 
 some_value None h = cc
 some_value (Some x) h = (x, refl)
 
-pub both_there : {R : Type 0} (join : R → R → R) (x y : Option R) → is_some (joined join x y) ≡ (is_some x && is_some y)
+pub both_there : {R : Type 0} (join : R → R → R) (x y : Option R) → is_some (option_join join x y) ≡ (is_some x && is_some y)
 both_there join None y = refl
 both_there join (Some a) None = refl
 both_there join (Some a) (Some b) = refl
@@ -32,7 +32,7 @@ is_alias atom = is_some (alias_named atom)
 module _ (kind : Kind) (p : Policy) where
   -- ---- Lists end to end
 
-  writing_append : (n : ℕ) (xs ys : List Member) → reading_within writing kind p n (xs ++ ys) ≡ joined ◌++◌ (reading_within writing kind p n xs) (reading_within writing kind p n ys)
+  writing_append : (n : ℕ) (xs ys : List Member) → reading_within writing kind p n (xs ++ ys) ≡ option_join ◌++◌ (reading_within writing kind p n xs) (reading_within writing kind p n ys)
   writing_append n xs ys = reading_append writing (λ r. refl) (λ a b c. append_assoc a b c) kind p n xs ys
 
   pub resolves_append : (xs ys : List Member) → resolves kind p (xs ++ ys) ≡ (resolves kind p xs && resolves kind p ys)
@@ -42,15 +42,15 @@ module _ (kind : Kind) (p : Policy) where
   pub resolves_cons : (m : Member) (ms : List Member) → resolves kind p (m ∷ ms) ≡ true → (resolves kind p (m ∷ []) ≡ true) × (resolves kind p ms ≡ true)
   resolves_cons m ms h = and_parts _ _ (sym (resolves_append (m ∷ []) ms) ∙ h)
 
-  pub written_append : (xs ys : List Member) → written kind p (xs ++ ys) ≡ written kind p xs ++ written kind p ys
-  unfolding written
+  pub written_append : (xs ys : List Member) → written_form kind p (xs ++ ys) ≡ written_form kind p xs ++ written_form kind p ys
+  unfolding written_form
   written_append xs ys = flat_map-append (member_written kind p) xs ys
 
-  pub written_none : written kind p [] ≡ []
-  unfolding written
+  pub written_none : written_form kind p [] ≡ []
+  unfolding written_form
   written_none = refl
 
-  pub written_cons : (m : Member) (ms : List Member) → written kind p (m ∷ ms) ≡ written kind p (m ∷ []) ++ written kind p ms
+  pub written_cons : (m : Member) (ms : List Member) → written_form kind p (m ∷ ms) ≡ written_form kind p (m ∷ []) ++ written_form kind p ms
   written_cons m ms = written_append (m ∷ []) ms
 
   pub depth_append : (xs ys : List Member) → rank kind p (xs ++ ys) ≡ max (rank kind p xs) (rank kind p ys)
@@ -76,8 +76,8 @@ module _ (kind : Kind) (p : Policy) where
       let k = joined_parts ◌++◌ _ _ ws (sym (writing_append (suc n) (m ∷ []) ms) ∙ h) in
       ap (λ (o : Option (List Signed)). unwrap_or o [] ++ written_at (suc n) ms) k.first_is ∙ ap (λ us. k.first ++ us) (written_reads n ms k.second k.second_is) ∙ sym k.whole
 
-  pub written_from : (ms : List Member) (ws : List Signed) → reading_within writing kind p 64 ms ≡ Some ws → written kind p ms ≡ ws
-  unfolding written
+  pub written_from : (ms : List Member) (ws : List Signed) → reading_within writing kind p 64 ms ≡ Some ws → written_form kind p ms ≡ ws
+  unfolding written_form
   written_from ms ws h = written_reads 63 ms ws h
 
   pub reading_of : (ms : List Member) → resolves kind p ms ≡ true → (ws : List Signed) × (reading_within writing kind p 64 ms ≡ Some ws)
@@ -85,7 +85,7 @@ module _ (kind : Kind) (p : Policy) where
   reading_of ms h = some_value (reading_within writing kind p 64 ms) h
 
   -- a list that resolves has the written form
-  pub is_written : (ms : List Member) → resolves kind p ms ≡ true → Written kind p ms (written kind p ms)
+  pub is_written : (ms : List Member) → resolves kind p ms ≡ true → IsWrittenOut kind p ms (written_form kind p ms)
   is_written ms h =
       let k = reading_of ms h in
       record { steps = 64; reads = k.1 ∙ ap Some (sym (written_from ms k.0 k.1)) }
@@ -95,14 +95,14 @@ module _ (kind : Kind) (p : Policy) where
   alone_read : (inner : List Member → Option (List Signed)) (m : Member) → alias_named m.atom ≡ None → list_reading writing kind p inner (m ∷ []) ≡ Some (record { negated = is_negated m; atom = m.atom } ∷ [])
   alone_read inner m none =
       let undefined : definition_of_member kind p m ≡ None = ap (λ (o : Option (List ℕ)). option_and_then (in_force kind p) o) none in
-      ap (λ (o : Option (List Member)). joined ◌++◌ (member_reading writing inner m o) (Some [])) undefined
-      ∙ ap (λ (o : Option (List ℕ)). joined ◌++◌ (alone_written m o) (Some [])) none
+      ap (λ (o : Option (List Member)). option_join ◌++◌ (member_reading writing inner m o) (Some [])) undefined
+      ∙ ap (λ (o : Option (List ℕ)). option_join ◌++◌ (alone_written m o) (Some [])) none
 
   alone_within : (n : ℕ) (m : Member) → alias_named m.atom ≡ None → reading_within writing kind p (suc n) (m ∷ []) ≡ Some (record { negated = is_negated m; atom = m.atom } ∷ [])
   unfolding reading_within
   alone_within n m none = alone_read (reading_within writing kind p n) m none
 
-  pub alone_stands : (m : Member) → alias_named m.atom ≡ None → written kind p (m ∷ []) ≡ record { negated = is_negated m; atom = m.atom } ∷ []
+  pub alone_stands : (m : Member) → alias_named m.atom ≡ None → written_form kind p (m ∷ []) ≡ record { negated = is_negated m; atom = m.atom } ∷ []
   alone_stands m none = written_from (m ∷ []) _ (alone_within 63 m none)
 
   pub alone_resolves : (m : Member) → alias_named m.atom ≡ None → resolves kind p (m ∷ []) ≡ true
@@ -116,7 +116,7 @@ module _ (kind : Kind) (p : Policy) where
       by None h = refl
       by (Some x) h = cc
 
-  pub atom_written : (m : Member) → is_alias m.atom ≡ false → written kind p (m ∷ []) ≡ record { negated = is_negated m; atom = m.atom } ∷ []
+  pub atom_written : (m : Member) → is_alias m.atom ≡ false → written_form kind p (m ∷ []) ≡ record { negated = is_negated m; atom = m.atom } ∷ []
   atom_written m h = alone_stands m (not_alias m.atom h)
 
 -- ---- Members that are aliases
@@ -146,7 +146,7 @@ module _ (kind : Kind) (p : Policy) where
   abbrev rank_at : (n : ℕ) → List Member → ℕ
   rank_at n ms = greatest (λ (m : Member). unwrap_or (reading_within depth kind p n (m ∷ [])) 0) ms
 
-  reading_depth_append : (n : ℕ) (xs ys : List Member) → reading_within depth kind p n (xs ++ ys) ≡ joined max (reading_within depth kind p n xs) (reading_within depth kind p n ys)
+  reading_depth_append : (n : ℕ) (xs ys : List Member) → reading_within depth kind p n (xs ++ ys) ≡ option_join max (reading_within depth kind p n xs) (reading_within depth kind p n ys)
   reading_depth_append n xs ys = reading_append depth zero_max max_assoc kind p n xs ys
     where
       zero_max : (r : ℕ) → max 0 r ≡ r
@@ -182,7 +182,7 @@ module _ (kind : Kind) (p : Policy) where
         let i = inner_parts writing kind p 63 m ds [] k.0 defined k.1 in
         ap is_some i.inner_is
 
-    pub inner_written : resolves kind p (m ∷ []) ≡ true → written kind p (m ∷ []) ≡ map (negated_if (is_negated m)) (written kind p ds)
+    pub inner_written : resolves kind p (m ∷ []) ≡ true → written_form kind p (m ∷ []) ≡ map (negated_if (is_negated m)) (written_form kind p ds)
     inner_written h =
         let k = reading_of kind p (m ∷ []) h in
         let i = inner_parts writing kind p 63 m ds [] k.0 defined k.1 in
@@ -204,7 +204,7 @@ module _ (kind : Kind) (p : Policy) where
   pub alias_resolves : (m : Member) (name : List ℕ) (ds : List Member) → m.atom ≡ Alias name → in_force kind p name ≡ Some ds → resolves kind p (m ∷ []) ≡ true → resolves kind p ds ≡ true
   alias_resolves m name ds is found h = inner_resolves m ds (defined_member m name ds is found) h
 
-  pub alias_written : (m : Member) (name : List ℕ) (ds : List Member) → m.atom ≡ Alias name → in_force kind p name ≡ Some ds → resolves kind p (m ∷ []) ≡ true → written kind p (m ∷ []) ≡ map (negated_if (is_negated m)) (written kind p ds)
+  pub alias_written : (m : Member) (name : List ℕ) (ds : List Member) → m.atom ≡ Alias name → in_force kind p name ≡ Some ds → resolves kind p (m ∷ []) ≡ true → written_form kind p (m ∷ []) ≡ map (negated_if (is_negated m)) (written_form kind p ds)
   alias_written m name ds is found h = inner_written m ds (defined_member m name ds is found) h
 
   pub alias_depth : (m : Member) (name : List ℕ) (ds : List Member) → m.atom ≡ Alias name → in_force kind p name ≡ Some ds → resolves kind p (m ∷ []) ≡ true → rank kind p ds < rank kind p (m ∷ [])
@@ -214,8 +214,8 @@ module _ (kind : Kind) (p : Policy) where
   undefined_read : (inner : List Member → Option (List Signed)) (m : Member) (name : List ℕ) → alias_named m.atom ≡ Some name → in_force kind p name ≡ None → list_reading writing kind p inner (m ∷ []) ≡ None
   undefined_read inner m name is none =
       let undefined : definition_of_member kind p m ≡ None = ap (λ (o : Option (List ℕ)). option_and_then (in_force kind p) o) is ∙ none in
-      ap (λ (o : Option (List Member)). joined ◌++◌ (member_reading writing inner m o) (Some [])) undefined
-      ∙ ap (λ (o : Option (List ℕ)). joined ◌++◌ (alone_written m o) (Some [])) is
+      ap (λ (o : Option (List Member)). option_join ◌++◌ (member_reading writing inner m o) (Some [])) undefined
+      ∙ ap (λ (o : Option (List ℕ)). option_join ◌++◌ (alone_written m o) (Some [])) is
 
   undefined_within : (n : ℕ) (m : Member) (name : List ℕ) → alias_named m.atom ≡ Some name → in_force kind p name ≡ None → reading_within writing kind p (suc n) (m ∷ []) ≡ None
   unfolding reading_within

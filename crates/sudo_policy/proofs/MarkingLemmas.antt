@@ -4,7 +4,7 @@ use Rattle.std.specs.Prelude.{slice_get, Contains}
 use Rattle.std.proofs.lemmas.Option.{slice_get-get_or}
 use Rattle.std.proofs.lemmas.List.Elements.{Contains-get_or, Contains-append_left, Contains-append_right, Contains-append_cases, Contains-push, Contains-push_cases}
 use Rattle.sudo_policy.specs.Body.Graph.{Links, Edge, IsInside, IsClosed}
-use Rattle.sudo_policy.specs.Body.Marking.{IsMarked, IsUnmarked, unmarked, MarksRow, AreSet, ReversesRow, ReversesUpTo}
+use Rattle.sudo_policy.specs.Body.Marking.{IsMarked, IsUnmarked, unmarked_count, MarksRow, AreSet, ReversesRow, ReversesUpTo}
 use Rattle.sudo_policy.proofs.StateLemmas.{get_set_same, get_set_other, get_set_cases, get_within, within_get, length_set, same_or_not}
 
 -- ---- Elements
@@ -29,7 +29,7 @@ pub marked_or_not : (marks : List Bool) (i : ℕ) (m : Bool) → slice_get marks
 marked_or_not marks i true h = inl h
 marked_or_not marks i false h = inr refl
 
-unmarked_set : (marks : List Bool) (i : ℕ) → slice_get marks i ≡ Some false → unmarked (set marks i true) + 1 ≡ unmarked marks
+unmarked_set : (marks : List Bool) (i : ℕ) → slice_get marks i ≡ Some false → unmarked_count (set marks i true) + 1 ≡ unmarked_count marks
 unmarked_set [] i h = cc
 unmarked_set (m ∷ ms) zero h = let e : m ≡ false = cc in rw e (omega arith)
 unmarked_set (m ∷ ms) (suc i) h = let k = unmarked_set ms i h in omega (arith, k)

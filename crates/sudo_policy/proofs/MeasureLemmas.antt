@@ -8,8 +8,8 @@ use Rattle.sudo_policy.specs.declared.index.Position.{Position}
 use Rattle.sudo_grammar.specs.declared.kind.Member.{Member}
 use Rattle.sudo_grammar.specs.declared.policy.Policy.{Policy}
 use Rattle.sudo_policy.specs.Definitions.{AliasDefinition, defines, definitions, in_force, alias_named}
-use Rattle.sudo_policy.specs.Following.{joined, member_reading, list_reading, reading_within, definition_of_member}
-use Rattle.sudo_policy.specs.Body.Graph.{Links, beside, deeper, measured, link_measure, row_measure, measure_within}
+use Rattle.sudo_policy.specs.Following.{option_join, member_reading, list_reading, reading_within, definition_of_member}
+use Rattle.sudo_policy.specs.Body.Graph.{Links, measure_of_both, deeper, list_measure, link_measure, row_measure, measure_within}
 use Rattle.sudo_policy.specs.Body.DefinitionRef.{IsIndexed, link_among}
 use Rattle.sudo_base.specs.NameIndices.{index_of}
 use Rattle.sudo_policy.proofs.StateLemmas.{get_within}
@@ -60,26 +60,26 @@ module _ (p : Policy) (aliases : List AliasDefinition) (names : Kind → List (L
   unlinked kind m is = definition_linked kind m ∙ ap (λ o. option_map (λ (d : AliasDefinition). d.members) (option_and_then (slice_get aliases) o)) is
 
   -- a list comes to what its row comes to, where each definition comes to what its alias does
-  list_row : (kind : Kind) (inner : List Member → Option Measure) (up : ℕ → Option Measure) → ((j : ℕ) (d : AliasDefinition) → slice_get aliases j ≡ Some d → d.kind ≡ kind → inner d.members ≡ up j) → (ms : List Member) → list_reading measured kind p inner ms ≡ row_measure up (row kind ms)
+  list_row : (kind : Kind) (inner : List Member → Option Measure) (up : ℕ → Option Measure) → ((j : ℕ) (d : AliasDefinition) → slice_get aliases j ≡ Some d → d.kind ≡ kind → inner d.members ≡ up j) → (ms : List Member) → list_reading list_measure kind p inner ms ≡ row_measure up (row kind ms)
   list_row kind inner up agree [] = refl
   list_row kind inner up agree (m ∷ ms) =
-      ap (λ o. joined beside o (list_reading measured kind p inner ms)) (by (link_among (names kind) m) refl)
-      ∙ ap (λ o. joined beside (link_measure up (link_among (names kind) m)) o) (list_row kind inner up agree ms)
+      ap (λ o. option_join measure_of_both o (list_reading list_measure kind p inner ms)) (by (link_among (names kind) m) refl)
+      ∙ ap (λ o. option_join measure_of_both (link_measure up (link_among (names kind) m)) o) (list_row kind inner up agree ms)
     where
-      by : (l : Option ℕ) → link_among (names kind) m ≡ l → member_reading measured inner m (definition_of_member kind p m) ≡ link_measure up (link_among (names kind) m)
-      by None e = ap (member_reading measured inner m) (unlinked kind m e) ∙ ap (link_measure up) (sym e)
+      by : (l : Option ℕ) → link_among (names kind) m ≡ l → member_reading list_measure inner m (definition_of_member kind p m) ≡ link_measure up (link_among (names kind) m)
+      by None e = ap (member_reading list_measure inner m) (unlinked kind m e) ∙ ap (link_measure up) (sym e)
       by (Some j) e =
           let d = linked kind m j e in
-          ap (member_reading measured inner m) d.3 ∙ ap (option_map deeper) (agree j d.0 d.1 d.2) ∙ ap (link_measure up) (sym e)
+          ap (member_reading list_measure inner m) d.3 ∙ ap (option_map deeper) (agree j d.0 d.1 d.2) ∙ ap (link_measure up) (sym e)
 
   graph_at : (j : ℕ) (d : AliasDefinition) → slice_get aliases j ≡ Some d → slice_get graph j ≡ Some (row_of_defined d)
   graph_at j d at = slice_get-map row_of_defined aliases j ∙ ap (option_map row_of_defined) at
 
   -- a definition comes to the measure of its alias
-  pub measure_is : (n : ℕ) (j : ℕ) (d : AliasDefinition) → slice_get aliases j ≡ Some d → reading_within measured d.kind p n d.members ≡ measure_within graph n j
+  pub measure_is : (n : ℕ) (j : ℕ) (d : AliasDefinition) → slice_get aliases j ≡ Some d → reading_within list_measure d.kind p n d.members ≡ measure_within graph n j
   unfolding reading_within measure_within
   measure_is zero j d at = list_row d.kind (λ _. None) (λ _. None) (λ i e at_i same. refl) d.members ∙ ap (option_and_then (row_measure (λ _. None))) (sym (graph_at j d at))
   measure_is (suc n) j d at =
-      list_row d.kind (reading_within measured d.kind p n) (measure_within graph n)
-      (λ i e at_i same. subst (λ (k : Kind). reading_within measured k p n e.members ≡ measure_within graph n i) same (measure_is n i e at_i)) d.members
+      list_row d.kind (reading_within list_measure d.kind p n) (measure_within graph n)
+      (λ i e at_i same. subst (λ (k : Kind). reading_within list_measure k p n e.members ≡ measure_within graph n i) same (measure_is n i e at_i)) d.members
       ∙ ap (option_and_then (row_measure (measure_within graph n))) (sym (graph_at j d at))

@@ -5,8 +5,8 @@ use Rattle.sudo_grammar.specs.declared.kind.Kind.{Kind}
 use Rattle.sudo_policy.specs.declared.graph.Measure.{Measure}
 use Rattle.sudo_grammar.specs.declared.kind.Member.{Member}
 use Rattle.sudo_grammar.specs.declared.policy.Policy.{Policy}
-use Rattle.sudo_policy.specs.Following.{Reading, joined, member_reading, list_reading, reading_within, definition_of_member, depth, width}
-use Rattle.sudo_policy.specs.Body.Graph.{beside, deeper, measured}
+use Rattle.sudo_policy.specs.Following.{Reading, option_join, member_reading, list_reading, reading_within, definition_of_member, depth, width}
+use Rattle.sudo_policy.specs.Body.Graph.{measure_of_both, deeper, list_measure}
 use Rattle.sudo_policy.proofs.FollowingLemmas.{option_map_some}
 
 module _ {R S : Type 0} (g : Reading R) (k : Reading S) (h : R → S)
@@ -15,7 +15,7 @@ module _ {R S : Type 0} (g : Reading R) (k : Reading S) (h : R → S)
     (alone : (m : Member) → option_map h (g.alone m) ≡ k.alone m)
     (through : (m : Member) (r : R) → h (g.through m r) ≡ k.through m (h r))
     (kind : Kind) (p : Policy) where
-  joined_map : (x y : Option R) → option_map h (joined g.join x y) ≡ joined k.join (option_map h x) (option_map h y)
+  joined_map : (x y : Option R) → option_map h (option_join g.join x y) ≡ option_join k.join (option_map h x) (option_map h y)
   joined_map None y = refl
   joined_map (Some a) None = refl
   joined_map (Some a) (Some b) = ap Some (join a b)
@@ -32,8 +32,8 @@ module _ {R S : Type 0} (g : Reading R) (k : Reading S) (h : R → S)
   list_map inner other agree [] = ap Some nothing
   list_map inner other agree (m ∷ ms) =
       joined_map (member_reading g inner m (definition_of_member kind p m)) (list_reading g kind p inner ms)
-      ∙ ap (λ o. joined k.join o (option_map h (list_reading g kind p inner ms))) (member_map inner other agree m (definition_of_member kind p m))
-      ∙ ap (λ o. joined k.join (member_reading k other m (definition_of_member kind p m)) o) (list_map inner other agree ms)
+      ∙ ap (λ o. option_join k.join o (option_map h (list_reading g kind p inner ms))) (member_map inner other agree m (definition_of_member kind p m))
+      ∙ ap (λ o. option_join k.join (member_reading k other m (definition_of_member kind p m)) o) (list_map inner other agree ms)
 
   pub reading_map : (n : ℕ) (ms : List Member) → option_map h (reading_within g kind p n ms) ≡ reading_within k kind p n ms
   unfolding reading_within
@@ -54,7 +54,7 @@ measure_of a c = record { depth = a; width = c }
 same_measure : (a b c d : ℕ) → a ≡ b → c ≡ d → measure_of a c ≡ measure_of b d
 same_measure a b c d e f = cc
 
-cap-join : (a b : ℕ × ℕ) → cap (both.join a b) ≡ beside (cap a) (cap b)
+cap-join : (a b : ℕ × ℕ) → cap (both.join a b) ≡ measure_of_both (cap a) (cap b)
 cap-join a b = same_measure _ _ _ _ (cap_max a.0 b.0) (cap_sum a.1 b.1)
   where
     cap_max : (x y : ℕ) → min (max x y) 65 ≡ max (min x 65) (min y 65)
@@ -69,9 +69,9 @@ cap-deeper a = same_measure _ _ _ _ (deep a.0) refl
     deep : (x : ℕ) → min (suc x) 65 ≡ min (min x 65 + 1) 65
     deep x = omega arith
 
-module _ (kind : Kind) (p : Policy) (n : ℕ) (ms : List Member) (a : Measure) (is : reading_within measured kind p n ms ≡ Some a) where
+module _ (kind : Kind) (p : Policy) (n : ℕ) (ms : List Member) (a : Measure) (is : reading_within list_measure kind p n ms ≡ Some a) where
   full : (b : ℕ × ℕ) × (reading_within both kind p n ms ≡ Some b) × (a ≡ cap b)
-  full = option_map_some cap (reading_within both kind p n ms) a (reading_map both measured cap refl cap-join (λ m. refl) (λ m b. cap-deeper b) kind p n ms ∙ is)
+  full = option_map_some cap (reading_within both kind p n ms) a (reading_map both list_measure cap refl cap-join (λ m. refl) (λ m b. cap-deeper b) kind p n ms ∙ is)
 
   -- the depth of a list whose measure is known
   pub depth_measured : (d : ℕ) × (reading_within depth kind p n ms ≡ Some d) × (a.depth ≡ min d 65)
@@ -82,12 +82,12 @@ module _ (kind : Kind) (p : Policy) (n : ℕ) (ms : List Member) (a : Measure) (
   width_measured = (full.0.1, sym (reading_map both width (λ b. b.1) refl (λ x y. refl) (λ m. refl) (λ m b. refl) kind p n ms) ∙ ap (option_map (λ b. b.1)) full.1, ap (λ (m : Measure). m.width) full.2)
 
 -- a list with a depth has a measure, and so has one with a width
-pub measured_deep : (kind : Kind) (p : Policy) (n : ℕ) (ms : List Member) (d : ℕ) → reading_within depth kind p n ms ≡ Some d → (a : Measure) × (reading_within measured kind p n ms ≡ Some a)
+pub measured_deep : (kind : Kind) (p : Policy) (n : ℕ) (ms : List Member) (d : ℕ) → reading_within depth kind p n ms ≡ Some d → (a : Measure) × (reading_within list_measure kind p n ms ≡ Some a)
 measured_deep kind p n ms d is =
     let k = option_map_some (λ (b : ℕ × ℕ). b.0) (reading_within both kind p n ms) d (reading_map both depth (λ b. b.0) refl (λ x y. refl) (λ m. refl) (λ m b. refl) kind p n ms ∙ is) in
-    (cap k.0, sym (reading_map both measured cap refl cap-join (λ m. refl) (λ m b. cap-deeper b) kind p n ms) ∙ ap (option_map cap) k.1)
+    (cap k.0, sym (reading_map both list_measure cap refl cap-join (λ m. refl) (λ m b. cap-deeper b) kind p n ms) ∙ ap (option_map cap) k.1)
 
-pub measured_wide : (kind : Kind) (p : Policy) (n : ℕ) (ms : List Member) (w : ℕ) → reading_within width kind p n ms ≡ Some w → (a : Measure) × (reading_within measured kind p n ms ≡ Some a)
+pub measured_wide : (kind : Kind) (p : Policy) (n : ℕ) (ms : List Member) (w : ℕ) → reading_within width kind p n ms ≡ Some w → (a : Measure) × (reading_within list_measure kind p n ms ≡ Some a)
 measured_wide kind p n ms w is =
     let k = option_map_some (λ (b : ℕ × ℕ). b.1) (reading_within both kind p n ms) w (reading_map both width (λ b. b.1) refl (λ x y. refl) (λ m. refl) (λ m b. refl) kind p n ms ∙ is) in
-    (cap k.0, sym (reading_map both measured cap refl cap-join (λ m. refl) (λ m b. cap-deeper b) kind p n ms) ∙ ap (option_map cap) k.1)
+    (cap k.0, sym (reading_map both list_measure cap refl cap-join (λ m. refl) (λ m b. cap-deeper b) kind p n ms) ∙ ap (option_map cap) k.1)

@@ -6,8 +6,8 @@ use Rattle.std.proofs.lemmas.List.Elements.{Contains-get_or}
 use Rattle.sudo_policy.specs.declared.graph.Measure.{Measure}
 use Rattle.sudo_policy.specs.declared.graph.State.{State}
 use Rattle.sudo_policy.specs.declared.graph.State.TheVariants.{New, Open, Done, Looped}
-use Rattle.sudo_policy.specs.Following.{joined}
-use Rattle.sudo_policy.specs.Body.Graph.{Links, Edge, Path, ReachesCycle, IsClosed, beside, deeper, one_member, no_member, link_measure, StateHolds, StatesHold, OpenLead, OpenNear, is_new, MayTurn, Turned, IsSettled, measure_of_state, done_measure}
+use Rattle.sudo_policy.specs.Following.{option_join}
+use Rattle.sudo_policy.specs.Body.Graph.{Links, Edge, Path, ReachesCycle, IsClosed, measure_of_both, deeper, measure_of_one, measure_of_none, link_measure, StateHolds, StatesHold, OpenLead, OpenNear, is_new, MayTurn, Turned, IsSettled, measure_of_state, done_measure}
 use Rattle.sudo_policy.proofs.GraphLemmas.{RowMeasures, RowMeasures-none, RowMeasures-alone, RowMeasures-link, Measures-row, ReachesCycle-edge, ReachesCycle-back}
 
 -- an element after a write to it, and to another
@@ -134,14 +134,14 @@ abbrev pub settled_as : Option Measure → State
 settled_as None = Looped
 settled_as (Some a) = Done a
 
-pub known_none : (g : Links) (node : ℕ) (row : List (Option ℕ)) → Known g node (drop (length row) row) (Some no_member)
-known_none g node row = subst (λ (r : List (Option ℕ)). RowMeasures g r no_member) (sym (drop-length row)) (RowMeasures-none g)
+pub known_none : (g : Links) (node : ℕ) (row : List (Option ℕ)) → Known g node (drop (length row) row) (Some measure_of_none)
+known_none g node row = subst (λ (r : List (Option ℕ)). RowMeasures g r measure_of_none) (sym (drop-length row)) (RowMeasures-none g)
 
-known_alone : (g : Links) (node : ℕ) (rest : List (Option ℕ)) (m : Option Measure) → Known g node rest m → Known g node (None ∷ rest) (joined beside (Some one_member) m)
+known_alone : (g : Links) (node : ℕ) (rest : List (Option ℕ)) (m : Option Measure) → Known g node rest m → Known g node (None ∷ rest) (option_join measure_of_both (Some measure_of_one) m)
 known_alone g node rest None h = h
 known_alone g node rest (Some a) h = RowMeasures-alone g rest a h
 
-known_link : (g : Links) (node next : ℕ) (rest : List (Option ℕ)) (s : State) (m : Option Measure) → (s ≡ New → ⊥) → StateHolds g next s → (s ≡ Open → (next ≡ node) ⊎ Path g next node) → Edge g node next → Known g node rest m → Known g node (Some next ∷ rest) (joined beside (option_map deeper (measure_of_state s)) m)
+known_link : (g : Links) (node next : ℕ) (rest : List (Option ℕ)) (s : State) (m : Option Measure) → (s ≡ New → ⊥) → StateHolds g next s → (s ≡ Open → (next ≡ node) ⊎ Path g next node) → Edge g node next → Known g node rest m → Known g node (Some next ∷ rest) (option_join measure_of_both (option_map deeper (measure_of_state s)) m)
 known_link g node next rest New m seen held near e h = absurd (seen refl)
 known_link g node next rest Open m seen held near e h = ReachesCycle-back g node next e (near refl)
 known_link g node next rest (Done b) None seen held near e h = h
@@ -158,14 +158,14 @@ near_open g start states node long at lead turned j open_j =
     ]
 
 -- one more link was visited
-pub known_next : (g : Links) (states : List State) (node : ℕ) (rest : List (Option ℕ)) (m : Option Measure) (link : Option ℕ) → IsClosed g → length states ≡ length g → StatesHold g states → OpenNear g states node → ((next : ℕ) → link ≡ Some next → slice_get states next ≡ Some New → ⊥) → ((next : ℕ) → link ≡ Some next → Edge g node next) → Known g node rest m → Known g node (link ∷ rest) (joined beside (link_measure (done_measure states) link) m)
+pub known_next : (g : Links) (states : List State) (node : ℕ) (rest : List (Option ℕ)) (m : Option Measure) (link : Option ℕ) → IsClosed g → length states ≡ length g → StatesHold g states → OpenNear g states node → ((next : ℕ) → link ≡ Some next → slice_get states next ≡ Some New → ⊥) → ((next : ℕ) → link ≡ Some next → Edge g node next) → Known g node rest m → Known g node (link ∷ rest) (option_join measure_of_both (link_measure (done_measure states) link) m)
 known_next g states node rest m None closed long held near seen edge h = known_alone g node rest m h
 known_next g states node rest m (Some next) closed long held near seen edge h =
     let e = edge next refl in
     let inside = closed node next e in
     let s = get_within states next (omega (arith, inside, long)) in
     let is : done_measure states next ≡ measure_of_state s.0 = ap (option_and_then measure_of_state) s.1 in
-    subst (λ (o : Option Measure). Known g node (Some next ∷ rest) (joined beside (option_map deeper o) m)) (sym is)
+    subst (λ (o : Option Measure). Known g node (Some next ∷ rest) (option_join measure_of_both (option_map deeper o) m)) (sym is)
     (known_link g node next rest s.0 m
     (λ new. seen next refl (s.1 ∙ ap Some new))
     (held next s.0 s.1)

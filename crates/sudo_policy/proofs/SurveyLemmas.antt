@@ -20,7 +20,7 @@ use Rattle.sudo_grammar.specs.declared.policy.Entry.{Entry}
 use Rattle.sudo_grammar.specs.declared.policy.EntryBody.{EntryBody}
 use Rattle.sudo_grammar.specs.declared.policy.EntryBody.TheVariants.{Aliases}
 use Rattle.sudo_policy.specs.declared.survey.DefinitionRef.{DefinitionRef}
-use Rattle.sudo_policy.specs.Body.DefinitionRef.{IsIndexed, IsPlaced, StandAt}
+use Rattle.sudo_policy.specs.Body.DefinitionRef.{IsIndexed, IsAtItsPosition, StandAt}
 use Rattle.sudo_policy.proofs.StateLemmas.{get_within}
 use Rattle.sudo_policy.specs.Positions.{members_at, definition_at_body}
 use Rattle.sudo_base.specs.NameIndices.{index_of}
@@ -283,8 +283,8 @@ take_whole (x ∷ xs) zero h = absurd (omega arith)
 take_whole (x ∷ xs) (suc i) h = ap (λ ys. x ∷ ys) (take_whole xs i (omega arith))
 
 -- one more definition is where it is said to be
-pub placed_push : (p : Policy) (olds news : List DefinitionRef) (n : DefinitionRef) → news ≡ olds ++ n ∷ [] → All (IsPlaced p) olds → IsPlaced p n → All (IsPlaced p) news
-placed_push p olds news n is all here = subst (λ (ns : List DefinitionRef). All (IsPlaced p) ns) (sym is) (All-push (IsPlaced p) olds n all here)
+pub placed_push : (p : Policy) (olds news : List DefinitionRef) (n : DefinitionRef) → news ≡ olds ++ n ∷ [] → All (IsAtItsPosition p) olds → IsAtItsPosition p n → All (IsAtItsPosition p) news
+placed_push p olds news n is all here = subst (λ (ns : List DefinitionRef). All (IsAtItsPosition p) ns) (sym is) (All-push (IsAtItsPosition p) olds n all here)
 
 -- the definitions of an alias line
 pub stand_at : (p : Policy) (at : ℕ) (e : Entry) (kind : Kind) (ds : List Definition) → slice_get p.entries at ≡ Some e → e.body ≡ Aliases kind ds → StandAt p at ds

@@ -10,14 +10,14 @@ use Rattle.sudo_grammar.specs.declared.policy.Policy.{Policy}
 use Rattle.sudo_policy.specs.Definitions.{in_force, alias_named}
 use Rattle.sudo_policy.specs.Following.{definition_of_member}
 use Rattle.sudo_policy.specs.Resolving.{resolves, rank}
-use Rattle.sudo_policy.specs.Written.{written, negated_if, differ, is_negated}
+use Rattle.sudo_policy.specs.Written.{written_form, negated_if, differ, is_negated}
 use Rattle.sudo_policy.proofs.Laws.{resolves_cons, written_cons, written_none, rank_cons, alone_stands, inner_resolves, inner_written, inner_rank, undefined_fails, negated_twice}
 
 -- the members ds of an alias's definition, and the members after the alias
 pub record Opened (kind : Kind) (p : Policy) (m : Member) (ds rest : List Member) : Type 0 where
   pub inner : resolves kind p ds ≡ true
   pub lower : rank kind p ds < rank kind p (m ∷ rest)
-  pub atoms : written kind p (m ∷ rest) ≡ map (negated_if (is_negated m)) (written kind p ds) ++ written kind p rest
+  pub atoms : written_form kind p (m ∷ rest) ≡ map (negated_if (is_negated m)) (written_form kind p ds) ++ written_form kind p rest
 
 module _ (kind : Kind) (p : Policy) (m : Member) (rest : List Member) (h : resolves kind p (m ∷ rest) ≡ true) where
   pub rank_rest : rank kind p rest ≤ rank kind p (m ∷ rest)
@@ -31,11 +31,11 @@ module _ (kind : Kind) (p : Policy) (m : Member) (rest : List Member) (h : resol
       record {
         inner = inner_resolves kind p m ds is one;
         lower = omega (arith, whole, less);
-        atoms = written_cons kind p m rest ∙ ap (λ ws. ws ++ written kind p rest) (inner_written kind p m ds is one);
+        atoms = written_cons kind p m rest ∙ ap (λ ws. ws ++ written_form kind p rest) (inner_written kind p m ds is one);
       }
 
-  pub written_alone : alias_named m.atom ≡ None → written kind p (m ∷ rest) ≡ record { negated = is_negated m; atom = m.atom } ∷ written kind p rest
-  written_alone no_alias = written_cons kind p m rest ∙ ap (λ ws. ws ++ written kind p rest) (alone_stands kind p m no_alias)
+  pub written_alone : alias_named m.atom ≡ None → written_form kind p (m ∷ rest) ≡ record { negated = is_negated m; atom = m.atom } ∷ written_form kind p rest
+  written_alone no_alias = written_cons kind p m rest ∙ ap (λ ws. ws ++ written_form kind p rest) (alone_stands kind p m no_alias)
 
   -- an alias among the members has a definition
   pub never_undefined : (name : List ℕ) → alias_named m.atom ≡ Some name → in_force kind p name ≡ None → ⊥
@@ -49,7 +49,7 @@ module _ (kind : Kind) (p : Policy) (m : Member) (rest : List Member) (h : resol
 pub record Along (kind : Kind) (p : Policy) (negate : Bool) (start done : List Signed) (ms rest : List Member) : Type 0 where
   pub resolves_rest : resolves kind p rest ≡ true
   pub lower : rank kind p rest ≤ rank kind p ms
-  pub atoms : done ++ map (negated_if negate) (written kind p rest) ≡ start ++ map (negated_if negate) (written kind p ms)
+  pub atoms : done ++ map (negated_if negate) (written_form kind p rest) ≡ start ++ map (negated_if negate) (written_form kind p ms)
 
 module _ (kind : Kind) (p : Policy) (negate : Bool) (start done : List Signed) (ms : List Member) (m : Member) (rest : List Member) (along : Along kind p negate start done ms (m ∷ rest)) where
   -- a member that is no alias was written
@@ -65,18 +65,18 @@ module _ (kind : Kind) (p : Policy) (negate : Bool) (start done : List Signed) (
       }
 
   -- an alias was written
-  pub Along-alias : (ds : List Member) → Opened kind p m ds rest → Along kind p negate start (done ++ map (negated_if (differ negate (is_negated m))) (written kind p ds)) ms rest
+  pub Along-alias : (ds : List Member) → Opened kind p m ds rest → Along kind p negate start (done ++ map (negated_if (differ negate (is_negated m))) (written_form kind p ds)) ms rest
   Along-alias ds open_m =
       let down = rank_rest kind p m rest along.resolves_rest in
       let below = along.lower in
-      let twice = negated_twice negate (is_negated m) (written kind p ds) in
-      let both = map-append (negated_if negate) (map (negated_if (is_negated m)) (written kind p ds)) (written kind p rest) in
+      let twice = negated_twice negate (is_negated m) (written_form kind p ds) in
+      let both = map-append (negated_if negate) (map (negated_if (is_negated m)) (written_form kind p ds)) (written_form kind p rest) in
       record {
         resolves_rest = (resolves_cons kind p m rest along.resolves_rest).1;
         lower = omega (arith, down, below);
         atoms =
             append_assoc done _ _
-            ∙ ap (λ ws. done ++ (ws ++ map (negated_if negate) (written kind p rest))) (sym twice)
+            ∙ ap (λ ws. done ++ (ws ++ map (negated_if negate) (written_form kind p rest))) (sym twice)
             ∙ ap (λ ws. done ++ ws) (sym both)
             ∙ ap (λ ws. done ++ map (negated_if negate) ws) (sym open_m.atoms)
             ∙ along.atoms;
@@ -89,10 +89,10 @@ Along-split kind p negate start done ms i m along within is =
     subst (λ rest. Along kind p negate start done ms rest) split along
 
 -- nothing is left of the list
-pub Along-end : (kind : Kind) (p : Policy) (negate : Bool) (start done : List Signed) (ms : List Member) (i : ℕ) → Along kind p negate start done ms (drop i ms) → length ms ≤ i → done ≡ start ++ map (negated_if negate) (written kind p ms)
+pub Along-end : (kind : Kind) (p : Policy) (negate : Bool) (start done : List Signed) (ms : List Member) (i : ℕ) → Along kind p negate start done ms (drop i ms) → length ms ≤ i → done ≡ start ++ map (negated_if negate) (written_form kind p ms)
 Along-end kind p negate start done ms i along past =
     let none : drop i ms ≡ [] = drop_of_length-le ms past in
-    let empty : written kind p (drop i ms) ≡ [] = ap (written kind p) none ∙ written_none kind p in
+    let empty : written_form kind p (drop i ms) ≡ [] = ap (written_form kind p) none ∙ written_none kind p in
     sym (append-nil done) ∙ ap (λ ws. done ++ map (negated_if negate) ws) (sym empty) ∙ along.atoms
 
 -- the definition of a member that is an alias

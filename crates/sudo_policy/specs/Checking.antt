@@ -1,4 +1,4 @@
--- The result of the check of a policy: visudo(8) in its strict mode.
+-- The result of the check of a policy: visudo(8) in its strict mode, with this program's limits.
 use Rattle.std.specs.Prelude.{◌≡◌, true, false, List}
 use Rattle.sudo_policy.specs.declared.checking.CheckFault.{CheckFault}
 use Rattle.sudo_policy.specs.declared.checking.CheckFault.TheVariants.{Findings, Memory}
@@ -18,6 +18,6 @@ pub record Fails (p : Policy) (found : List Finding) : Type 0 where
   pub some : has_error found ≡ true
 
 -- a refusal hands the policy back, with all findings if one is an error
-abbrev pub Refuses : Policy → CheckFault → Type 0
-Refuses p (Findings back found) = (back ≡ p) × Fails p found
-Refuses p (Memory back) = back ≡ p
+abbrev pub RefusesPolicy : Policy → CheckFault → Type 0
+RefusesPolicy p (Findings back found) = (back ≡ p) × Fails p found
+RefusesPolicy p (Memory back) = back ≡ p

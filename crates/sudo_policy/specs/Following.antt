@@ -18,10 +18,10 @@ pub record Reading (R : Type 0) : Type 0 where
 abbrev pub definition_of_member : Kind → Policy → Member → Option (List Member)
 definition_of_member kind p m = option_and_then (in_force kind p) (alias_named m.atom)
 
-abbrev pub joined : {R : Type 0} → (R → R → R) → Option R → Option R → Option R
-joined join None y = None
-joined join (Some x) None = None
-joined join (Some x) (Some y) = Some (join x y)
+abbrev pub option_join : {R : Type 0} → (R → R → R) → Option R → Option R → Option R
+option_join join None y = None
+option_join join (Some x) None = None
+option_join join (Some x) (Some y) = Some (join x y)
 
 -- the value of one member, where `inner` is the value of a definition
 abbrev pub member_reading : {R : Type 0} → Reading R → (List Member → Option R) → Member → Option (List Member) → Option R
@@ -32,7 +32,7 @@ member_reading g inner m (Some ms) = option_map (g.through m) (inner ms)
 abbrev pub list_reading : {R : Type 0} → Reading R → Kind → Policy → (List Member → Option R) → List Member → Option R
 list_reading g kind p inner [] = Some g.nothing
 list_reading g kind p inner (m ∷ ms) =
-    joined g.join (member_reading g inner m (definition_of_member kind p m)) (list_reading g kind p inner ms)
+    option_join g.join (member_reading g inner m (definition_of_member kind p m)) (list_reading g kind p inner ms)
 
 -- the value of a list, if no chain of more than `steps` definitions begins at a member of it
 unfoldable pub reading_within : {R : Type 0} → Reading R → Kind → Policy → ℕ → List Member → Option R

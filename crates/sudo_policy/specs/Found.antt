@@ -1,4 +1,4 @@
--- The findings on a policy's aliases, in strict mode of visudo(8).
+-- The findings on a policy's aliases: those of strict mode of visudo(8), and of this program's limits.
 use Rattle.std.specs.Prelude.{◌≡◌, ℕ, suc, ◌<◌, Bool, true, false, List, [], ◌++◌, Some, is_none, map, flat_map, filter, slice_get, length, Contains, IsTrue, ◌⊎◌, ◌↔◌}
 use Rattle.std.specs.List.{items_where_true, list_any}
 use Rattle.sudo_policy.specs.declared.finding.Class.{Class}

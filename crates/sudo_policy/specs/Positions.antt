@@ -14,15 +14,15 @@ use Rattle.sudo_policy.specs.declared.index.Index.{Index}
 use Rattle.sudo_policy.specs.Definitions.{in_force}
 
 -- the names of one kind, each with the number of its definition in force
-abbrev pub names_of : Index → Kind → List (List ℕ × ℕ)
-names_of index User = index.users
-names_of index Runas = index.runas
-names_of index Host = index.hosts
-names_of index Cmnd = index.commands
+abbrev pub names_of_kind : Index → Kind → List (List ℕ × ℕ)
+names_of_kind index User = index.users
+names_of_kind index Runas = index.runas
+names_of_kind index Host = index.hosts
+names_of_kind index Cmnd = index.commands
 
 -- the position of a name's definition, by the index
 abbrev pub position_in : Index → Kind → List ℕ → Option Position
-position_in index kind name = option_and_then (slice_get index.positions.items) (index_of (names_of index kind) name)
+position_in index kind name = option_and_then (slice_get index.positions.items) (index_of (names_of_kind index kind) name)
 
 abbrev pub definition_at_body : EntryBody → ℕ → Option (List Member)
 definition_at_body (Aliases kind definitions) at = option_map (λ (d : Definition). d.members) (slice_get definitions at)

@@ -10,7 +10,7 @@ use Rattle.sudo_grammar.specs.declared.policy.Runas.{Runas as RunasPart}
 use Rattle.sudo_grammar.specs.declared.policy.Section.{Section}
 use Rattle.sudo_policy.specs.Definitions.{lists, MemberList}
 use Rattle.sudo_policy.specs.Following.{depth, reading_within}
-use Rattle.sudo_policy.specs.Written.{writing, Written, written}
+use Rattle.sudo_policy.specs.Written.{writing, IsWrittenOut, written_form}
 
 -- a list resolves: every alias that it reaches is defined, and at most 64 definitions are nested
 unfoldable pub resolves : Kind → Policy → List Member → Bool
@@ -20,9 +20,9 @@ resolves kind p ms = is_some (reading_within writing kind p 64 ms)
 unfoldable pub IsSound : Policy → Type 0
 IsSound p = IsTrue (list_all (λ (l : MemberList). resolves l.kind p l.members) (lists p))
 
--- the written form of each list of the policy is `written`
+-- the written form of each list of the policy is `written_form`
 abbrev pub AreWritten : Policy → Type 0
-AreWritten p = (l : MemberList) → Contains (lists p) l → Written l.kind p l.members (written l.kind p l.members)
+AreWritten p = (l : MemberList) → Contains (lists p) l → IsWrittenOut l.kind p l.members (written_form l.kind p l.members)
 
 -- the greatest value of f on the items, or 0
 abbrev pub greatest : {X : Type 0} → (X → ℕ) → List X → ℕ

@@ -36,17 +36,18 @@ writing = record {
 
 -- ws is the list written out: its members in order, with each alias replaced by its definition and signs turned; a list
 -- that reaches a cycle or an undefined name has no written form
-abbrev pub Written : Kind → Policy → List Member → List Signed → Type 0
-Written kind p ms ws = ReadsAs writing kind p ms ws
+abbrev pub IsWrittenOut : Kind → Policy → List Member → List Signed → Type 0
+IsWrittenOut kind p ms ws = ReadsAs writing kind p ms ws
 
 -- the written form of one member, through at most 64 nested definitions; empty if it has none
 abbrev pub member_written : Kind → Policy → Member → List Signed
 member_written kind p m = unwrap_or (reading_within writing kind p 64 (m ∷ [])) []
 
--- a list written out, member by member; the written form of each list of a policy that passes the check
-unfoldable pub written : Kind → Policy → List Member → List Signed
-written kind p ms = flat_map (member_written kind p) ms
+-- a list written out, member by member: the written form of each list that has one, as each list of a policy that
+-- passes the check has
+unfoldable pub written_form : Kind → Policy → List Member → List Signed
+written_form kind p ms = flat_map (member_written kind p) ms
 
 -- two written forms of one list are the same
 abbrev pub WrittenOnce : Type 0
-WrittenOnce = (kind : Kind) (p : Policy) (ms : List Member) (a b : List Signed) → Written kind p ms a → Written kind p ms b → a ≡ b
+WrittenOnce = (kind : Kind) (p : Policy) (ms : List Member) (a b : List Signed) → IsWrittenOut kind p ms a → IsWrittenOut kind p ms b → a ≡ b

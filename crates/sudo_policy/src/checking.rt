@@ -1,6 +1,6 @@
 //! The check of a policy.
 ghost use Rattle.std.specs.Prelude.{◌≡◌, IfOk, IfErr};
-ghost use Rattle.sudo_policy.specs.Checking.{Passes, Refuses};
+ghost use Rattle.sudo_policy.specs.Checking.{Passes, RefusesPolicy};
 ghost use Rattle.sudo_policy.specs.Found.{has_error, is_error};
 
 use crate::examination::examine;
@@ -21,13 +21,13 @@ pub enum CheckFault {
     Memory(Policy),
 }
 
-/// Checks the aliases of a policy as strict mode of visudo(8) does.
+/// Checks the aliases of a policy as strict mode of visudo(8) does, and by the limits of this program.
 ///
 /// Returns `Findings` exactly if a finding is an error, and `Memory` if allocation fails.
 pub fn check(alloc: Global, policy: Policy) -> Result<Checked, CheckFault>
     ensures same { IfOk result (λ checked. checked ≡ policy) }
     ensures passes { IfOk result (λ checked. Passes policy) }
-    ensures refuses { IfErr result (λ fault. Refuses policy fault) }
+    ensures refuses { IfErr result (λ fault. RefusesPolicy policy fault) }
 {
     match examine(alloc, &policy) {
         Ok(examined) => {

@@ -4,7 +4,7 @@ ghost use Rattle.sudo_policy.specs.Body.Graph.{IsClosed, IsInside, MarksOf, Path
 ghost use Rattle.sudo_policy.specs.declared.graph.State.{State};
 ghost use Rattle.std.specs.Prelude.{Some, slice_get};
 ghost use Rattle.std.specs.List.{list_any};
-ghost use Rattle.sudo_policy.specs.Body.Marking.{AreSet, DecidesCycles, IsMarked, IsUnmarked, IsWhole, PathPast, ReversesRow, ReversesUpTo};
+ghost use Rattle.sudo_policy.specs.Body.Marking.{AreSet, DecidesCycles, IsMarked, IsUnmarked, IsClosedOverCycles, PathPast, ReversesRow, ReversesUpTo};
 
 use crate::graph::State;
 use crate::reach::spread;
@@ -133,7 +133,7 @@ fn round(
     requires closed { IsClosed links.now }
     requires turned { ReversesUpTo links.now (length links.now) back.now }
     requires sizes { length done.old ≡ length links.now }
-    requires whole { IsWhole links.now done.old }
+    requires whole { IsClosedOverCycles links.now done.old }
     requires new { IsUnmarked done.old node }
     requires aside { aside.old ≡ replicate (length links.now) true }
     ensures found { IfOk result (λ round. (i : ℕ) →

@@ -41,8 +41,8 @@ struct AliasMarks {
     unused: Vec<bool>,
 }
 
-/// Returns the findings of visudo(8)'s strict mode on a policy: class by class, each class in the order of the loaded
-/// policy.
+/// Returns the findings on a policy, those of visudo(8)'s strict mode and of the limits: class by class, each class in
+/// the order of the loaded policy.
 ///
 /// Returns `AllocError` if allocation fails.
 pub fn findings(alloc: Global, policy: &Policy) -> Result<Vec<Finding>, AllocError>

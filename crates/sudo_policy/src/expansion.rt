@@ -3,7 +3,7 @@ ghost use Rattle.std.specs.Prelude.{◌≡◌, Bool, Some, None, List, ◌++◌,
 ghost use Rattle.std.specs.declared.result.Result.TheVariants.{Err};
 ghost use Rattle.sudo_policy.specs.Definitions.{in_force, alias_named};
 ghost use Rattle.sudo_policy.specs.Resolving.{resolves};
-ghost use Rattle.sudo_policy.specs.Written.{differ, negated_if, written, Written};
+ghost use Rattle.sudo_policy.specs.Written.{differ, negated_if, written_form, IsWrittenOut};
 
 use crate::Checked;
 use crate::member::{alias_name, atom_copied, is_negated};
@@ -52,7 +52,7 @@ pub fn expand(
 ) -> Result<Vec<Signed>, ExpandFault>
     ensures written { IfOk result (λ atoms. (members : List Member)
         × (in_force kind checked.now name.now ≡ Some members)
-        × Written kind checked.now members atoms.items) }
+        × IsWrittenOut kind checked.now members atoms.items) }
     ensures no_such_alias { in_force kind checked.now name.now ≡ None
         → result ≡ Err ExpandFault.NoSuchAlias }
     ensures known { IfErr result (λ fault. fault ≡ ExpandFault.NoSuchAlias
@@ -77,7 +77,7 @@ fn write_out(
 ) -> Result<(), AllocError>
     requires { IsTrue (resolves kind checked.now members.now) }
     ensures { OnOk result (atoms.new.items ≡ atoms.old.items
-        ++ map (negated_if negate) (written kind checked.now members.now)) }
+        ++ map (negated_if negate) (written_form kind checked.now members.now)) }
 {
     for member in members {
         let negated = differ(negate, is_negated(member));

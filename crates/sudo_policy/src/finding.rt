@@ -3,8 +3,8 @@
 use sudo_grammar::Kind;
 use sudo_text::{Place, Seq};
 
-/// The classes of findings, in the order in which they are listed: those of the strict check of visudo(8). The first
-/// five are errors, the last one is a warning.
+/// The classes of findings, in the order in which they are listed: those of the strict check of visudo(8), and the
+/// limits of this program. The first five are errors, the last one is a warning.
 #[derive(Clone, Copy, Debug, PartialEq, Eq)]
 pub enum Class {
     /// A further definition of a name of the same kind.

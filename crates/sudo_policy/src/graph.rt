@@ -1,8 +1,8 @@
 //! Aliases as a graph of numbers: the aliases that reach a cycle, and the depth and width of the others.
 ghost use Rattle.std.specs.Prelude.{◌≡◌, ◌<◌, ℕ, IfOk, OnOk, Some, List, Option, length, option_map, slice_get};
 ghost use Rattle.sudo_policy.specs.declared.graph.State.{State};
-ghost use Rattle.sudo_policy.specs.Following.{joined};
-ghost use Rattle.sudo_policy.specs.Body.Graph.{Edge, IsClosed, StatesHold, OpenLead, OpenNear, NoneOpen, Turned, IsSettled, beside, deeper, one_member, no_member, link_measure, done_measure};
+ghost use Rattle.sudo_policy.specs.Following.{option_join};
+ghost use Rattle.sudo_policy.specs.Body.Graph.{Edge, IsClosed, StatesHold, OpenLead, OpenNear, NoneOpen, Turned, IsSettled, measure_of_both, deeper, measure_of_one, measure_of_none, link_measure, done_measure};
 
 use std::alloc::{AllocError, Global};
 use sudo_text::Seq;
@@ -35,7 +35,7 @@ impl Measure {
 
     // Returns the measure of this list followed by the other.
     fn beside(self, other: Measure) -> Measure
-        ensures { result ≡ beside self other }
+        ensures { result ≡ measure_of_both self other }
     {
         Measure {
             depth: self.depth.max(other.depth),
@@ -69,7 +69,7 @@ fn link_measure(states: &[State], link: Option<usize>) -> Option<Measure>
 
 // Returns the measure of both lists together, if both are known.
 fn joined(a: Option<Measure>, b: Option<Measure>) -> Option<Measure>
-    ensures { result ≡ joined beside a b }
+    ensures { result ≡ option_join measure_of_both a b }
 {
     match (a, b) {
         (Some(a), Some(b)) => Some(a.beside(b)),

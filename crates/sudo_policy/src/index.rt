@@ -3,7 +3,7 @@ ghost use Rattle.std.specs.Prelude.{◌≡◌, None, [], ◌∷◌, ◌++◌, fa
 ghost use Rattle.sudo_base.specs.NameIndices.{index_of};
 ghost use Rattle.sudo_grammar.specs.declared.kind.Kind.{Kind};
 ghost use Rattle.sudo_grammar.specs.Kinds.{same_kind};
-ghost use Rattle.sudo_policy.specs.Positions.{position_in, members_at, names_of};
+ghost use Rattle.sudo_policy.specs.Positions.{position_in, members_at, names_of_kind};
 
 use std::alloc::{AllocError, Global};
 use sudo_base::Names;
@@ -29,7 +29,7 @@ pub(crate) struct Index {
 impl Index {
     /// Creates an empty index.
     pub(crate) fn new(alloc: Global) -> Index
-        ensures names { (kind : Kind) → names_of result kind ≡ [] }
+        ensures names { (kind : Kind) → names_of_kind result kind ≡ [] }
         ensures positions { result.positions.items ≡ [] }
     {
         Index {
@@ -49,11 +49,11 @@ impl Index {
         name: &[u8],
         position: Position,
     ) -> Result<(), AllocError>
-        requires { index_of (names_of self.old kind) name.now ≡ None }
-        ensures names { OnOk result (names_of self.new kind
-            ≡ names_of self.old kind ++ (name.now, length self.old.positions.items) ∷ []) }
+        requires { index_of (names_of_kind self.old kind) name.now ≡ None }
+        ensures names { OnOk result (names_of_kind self.new kind
+            ≡ names_of_kind self.old kind ++ (name.now, length self.old.positions.items) ∷ []) }
         ensures others { OnOk result ((other : Kind) → same_kind other kind ≡ false
-            → names_of self.new other ≡ names_of self.old other) }
+            → names_of_kind self.new other ≡ names_of_kind self.old other) }
         ensures positions { OnOk result (self.new.positions.items
             ≡ self.old.positions.items ++ position ∷ []) }
     {
@@ -69,7 +69,7 @@ impl Index {
 
     /// Returns the number of the name's definition in force.
     pub(crate) fn number(&self, kind: Kind, name: &[u8]) -> Option<usize>
-        ensures { result ≡ index_of (names_of self.now kind) name.now }
+        ensures { result ≡ index_of (names_of_kind self.now kind) name.now }
     {
         match kind {
             Kind::User => self.users.get(name),

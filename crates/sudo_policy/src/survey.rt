@@ -2,7 +2,7 @@
 ghost use Rattle.std.specs.Prelude.{◌≡◌, ◌++◌, [], ◌∷◌, List, All, map, flat_map, IfOk, OnOk, Some, slice_get};
 ghost use Rattle.sudo_grammar.specs.declared.policy.Policy.{Policy};
 ghost use Rattle.sudo_policy.specs.Definitions.{AliasDefinition, definitions, definitions_of, definitions_of_list, lists, lists_of_body, lists_of_list, binding_lists_of, section_lists, command_lists, runas_lists, option_lists, granting_list};
-ghost use Rattle.sudo_policy.specs.Body.DefinitionRef.{alias_view, list_view, row_of, row_of_alias, granting_row, IsSurvey, IsPlaced, StandAt};
+ghost use Rattle.sudo_policy.specs.Body.DefinitionRef.{alias_view, list_view, row_of, row_of_alias, granting_row, IsSurvey, IsAtItsPosition, StandAt};
 
 use crate::index::{Index, Position};
 use crate::member::alias_name;
@@ -38,7 +38,7 @@ pub(crate) fn definitions(
     policy: &Policy,
 ) -> Result<Vec<DefinitionRef<'_>>, AllocError>
     ensures all { IfOk result (λ all. map alias_view all.items ≡ definitions policy.now) }
-    ensures placed { IfOk result (λ all. All (IsPlaced policy.now) all.items) }
+    ensures placed { IfOk result (λ all. All (IsAtItsPosition policy.now) all.items) }
 {
     let mut all = Vec::new(alloc);
     for (at, entry) in policy.entries.as_slice().iter().enumerate() {
@@ -54,7 +54,7 @@ fn push_entry<'a>(
     all: &mut Vec<DefinitionRef<'a>>,
 ) -> Result<(), AllocError>
     ensures placed { OnOk result ((p : Policy) → slice_get p.entries at ≡ Some entry.now
-        → All (IsPlaced p) all.old.items → All (IsPlaced p) all.new.items) }
+        → All (IsAtItsPosition p) all.old.items → All (IsAtItsPosition p) all.new.items) }
     ensures all { OnOk result (map alias_view all.new.items
         ≡ map alias_view all.old.items ++ definitions_of entry.now) }
 {
@@ -78,7 +78,7 @@ fn push_definitions<'a>(
     all: &mut Vec<DefinitionRef<'a>>,
 ) -> Result<(), AllocError>
     ensures placed { OnOk result ((p : Policy) → StandAt p entry definitions.now
-        → All (IsPlaced p) all.old.items → All (IsPlaced p) all.new.items) }
+        → All (IsAtItsPosition p) all.old.items → All (IsAtItsPosition p) all.new.items) }
     ensures all { OnOk result (map alias_view all.new.items
         ≡ map alias_view all.old.items ++ definitions_of_list kind place definitions.now) }
 {
@@ -286,7 +286,7 @@ impl<'a> Survey<'a> {
     // Adds a definition: to those in force if its name is new, otherwise to the redefinitions.
     fn add(&mut self, alloc: Global, definition: DefinitionRef<'a>) -> Result<(), AllocError>
         ensures kept { OnOk result ((p : Policy) (done : List AliasDefinition)
-            → IsPlaced p definition.entry → IsSurvey p done self.old → IsSurvey p
+            → IsAtItsPosition p definition.entry → IsSurvey p done self.old → IsSurvey p
             (done ++ alias_view definition.entry ∷ []) self.new) }
     {
         match self.index.number(definition.kind, definition.name) {
@@ -305,7 +305,7 @@ pub(crate) fn take_survey<'a>(
     alloc: Global,
     definitions: &[DefinitionRef<'a>],
 ) -> Result<Survey<'a>, AllocError>
-    ensures { IfOk result (λ survey. (p : Policy) → All (IsPlaced p) definitions.now
+    ensures { IfOk result (λ survey. (p : Policy) → All (IsAtItsPosition p) definitions.now
         → IsSurvey p (map alias_view definitions.now) survey) }
 {
     let mut survey = Survey {

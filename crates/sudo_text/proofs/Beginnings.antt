@@ -11,7 +11,7 @@ use Rattle.sudo_text.specs.declared.rules.Before.{Before}
 use Rattle.sudo_text.specs.declared.rules.Rule.{Rule}
 use Rattle.sudo_text.specs.declared.rules.Rule.TheVariants as rules
 use Rattle.sudo_text.specs.Bytes.{is_blank, is_digit}
-use Rattle.sudo_text.specs.Pieces.{skip, is_mark, is_assignment, is_end, piece_at}
+use Rattle.sudo_text.specs.Pieces.{skip, is_mark_byte, is_assignment, is_end, piece_at}
 use Rattle.sudo_text.specs.Places.{opens, wants_value, is_defaults, word_style, directive_len, defaults_mark_at, mark_at, is_sudoedit, mark_or_word, general_rule_at, first_rule, rule_at}
 use Rattle.sudo_text.specs.Runs.{OnlyNumbers, BeginsWord, Begins}
 use Rattle.sudo_text.proofs.Reaching.{choose, both}
@@ -94,7 +94,7 @@ no_defaults_mark text at h =
 
 -- No mark at all.
 record NoMark (kind : LineKind) (text : List ℕ) (at : ℕ) : Type 0 where
-  no_mark : is_mark (get_or text at 0) ≡ false
+  no_mark : is_mark_byte (get_or text at 0) ≡ false
   of_defaults : IsTrue (is_defaults kind) → NoDefaultsMark text at
 
 no_mark_at : (kind : LineKind) (text : List ℕ) (at : ℕ) → mark_at kind text at ≡ None → NoMark kind text at

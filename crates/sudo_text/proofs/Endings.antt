@@ -13,7 +13,7 @@ use Rattle.sudo_text.specs.declared.piece.Piece.{Piece}
 use Rattle.sudo_text.specs.declared.piece.Piece.TheVariants.{Char, End, Bad}
 use Rattle.sudo_text.specs.declared.piece.Flaw.TheVariants as flaws
 use Rattle.sudo_text.specs.Bytes.{is_blank, is_hex, is_control, hex_value}
-use Rattle.sudo_text.specs.Pieces.{plain, escaped, skip, is_mark, is_assignment, ends_word, ends_run, has_hex, is_arguments, hex_at, escape_at, blanks_at, piece_at, reach, run_end}
+use Rattle.sudo_text.specs.Pieces.{plain, escaped, skip, is_mark_byte, is_assignment, ends_word, ends_run, has_hex, is_arguments, hex_at, escape_at, blanks_at, piece_at, reach, run_end}
 use Rattle.sudo_text.specs.Tokens.{takes_next, quoted_end}
 use Rattle.sudo_text.specs.Runs.{IsFirstClosingQuote, IsBehindFirstQuote, LeadsOut, IsWholeRun}
 use Rattle.sudo_text.proofs.Reaching.{choose, both, bad_char, bad_end, end_char, none_some, follow_parts, run_parts}
@@ -39,7 +39,7 @@ backslash_stays styles.Include text start at e = rw e (and_false (not (at == sta
 -- Nor does a hexadecimal digit, where there are such escapes.
 record NoEnder (b : ℕ) : Type 0 where
   blank : is_blank b ≡ false
-  mark : is_mark b ≡ false
+  mark : is_mark_byte b ≡ false
   quote : (b == 34) ≡ false
   sign : (b == 35) ≡ false
   comma : (b == 44) ≡ false

@@ -15,3 +15,4 @@ pub mod Unique
 pub mod OneFault
 pub mod Endings
 pub mod FaultPlace
+pub mod CommonRuns

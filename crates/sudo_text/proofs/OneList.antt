@@ -16,7 +16,7 @@ use Rattle.sudo_text.specs.declared.line.Line.{Line}
 use Rattle.sudo_text.specs.declared.piece.Style.TheVariants as styles
 use Rattle.sudo_text.specs.Pieces.{skip, run_end, same_bool}
 use Rattle.sudo_text.specs.Places.{word_style, mark_len, directive_len, rule_at, before_of, line_kind}
-use Rattle.sudo_text.specs.Tokens.{keyword, quoted_end, command_end, mark_code, path_end, token_by, token_end, is_comment, has_join_after, is_offset, stands, closes_line, spells_from, spells}
+use Rattle.sudo_text.specs.Tokens.{defaults_word, quoted_end, command_end, mark_code, path_end, token_by, token_end, is_comment, has_join_after, is_offset, stands, closes_line, spells_from, spells}
 use Rattle.sudo_text.proofs.Reaching.{choose, both, none_some, same_bool_true}
 use Rattle.sudo_text.proofs.Unique.{true_false, run_unique, quoted_unique, keyword_parts, command_unique, path_unique, same_mark}
 
@@ -24,7 +24,7 @@ use Rattle.sudo_text.proofs.Unique.{true_false, run_unique, quoted_unique, keywo
 abbrev pub Reads : Rule → LineKind → List ℕ → ℕ → TokenKind → ℕ → Type 0
 Reads (rules.Include folder hash) kind text at token end =
     (path : List Ch) × (token ≡ kinds.Include folder hash path) × (path_end text (at + directive_len folder) path ≡ Some end)
-Reads rules.Keyword kind text at token end = (token ≡ kinds.Word false keyword) × (at + 8 ≡ end)
+Reads rules.Keyword kind text at token end = (token ≡ kinds.Word false defaults_word) × (at + 8 ≡ end)
 Reads rules.Comment kind text at token end = ⊥
 Reads rules.Quoted kind text at token end = (cs : List Ch) × (token ≡ kinds.Word true cs) × (quoted_end text at cs ≡ Some end)
 Reads rules.Value kind text at token end = (cs : List Ch) × (token ≡ kinds.Word false cs) × (run_end styles.Value text at cs ≡ Some end)

@@ -6,18 +6,18 @@ use Rattle.std.proofs.lemmas.List.{append-nil}
 use Rattle.sudo_text.specs.declared.line.Line.{Line}
 use Rattle.sudo_text.specs.declared.fault.TextFault.{TextFault}
 use Rattle.sudo_text.specs.declared.fault.TextFault.TheVariants.{BadEscape}
-use Rattle.sudo_text.specs.Lines.{runs, is_cut_short, is_continued, ends_in_escape, without_escape, joined, joins_from, place, line_of, with_front, lines_of_runs, logical_lines_from, physical_lines}
+use Rattle.sudo_text.specs.Lines.{runs, is_cut_short, is_continued, ends_in_escape, without_escape, logical_text, joins_from, place, line_of, with_front, lines_of_runs, logical_lines_from, physical_lines}
 
 -- The logical line that began at line `first` and has this text and these joins, gone on with by a run.
 abbrev pub line_onto : ℕ → ℕ → List ℕ → List ℕ → List (List ℕ) → Line
 line_onto file first text joins run =
-    record { first = place file first; text = text ++ joined run; joins = joins ++ joins_from (length text) run }
+    record { first = place file first; text = text ++ logical_text run; joins = joins ++ joins_from (length text) run }
 
 -- What the runs come to, where the first of them, at line `at`, goes on with a logical line.
 abbrev pub onto : ℕ → Bool → ℕ → ℕ → List ℕ → List ℕ → List (List (List ℕ)) → Result (List Line) TextFault
 onto file short first at text joins [] = Ok []
 onto file short first at text joins (run ∷ []) =
-    if short then Err (BadEscape (place file first) (length text + length (joined run))) else Ok (line_onto file first text joins run ∷ [])
+    if short then Err (BadEscape (place file first) (length text + length (logical_text run))) else Ok (line_onto file first text joins run ∷ [])
 onto file short first at text joins (run ∷ next ∷ rest) =
     with_front (line_onto file first text joins run ∷ []) (lines_of_runs file short (at + length run) (next ∷ rest))
 
@@ -39,7 +39,7 @@ first_run continuing line rest =
 
 from_start : (file : ℕ) (short : Bool) (first : ℕ) (rs : List (List (List ℕ))) → onto file short first first [] [] rs ≡ lines_of_runs file short first rs
 from_start file short first [] = refl
-from_start file short first (r ∷ []) = ap (λ (n : ℕ). if short then Err (BadEscape (place file first) n) else Ok (line_of file first r ∷ [])) (zero-add (length (joined r)))
+from_start file short first (r ∷ []) = ap (λ (n : ℕ). if short then Err (BadEscape (place file first) n) else Ok (line_of file first r ∷ [])) (zero-add (length (logical_text r)))
 from_start file short first (r ∷ s ∷ rs) = refl
 
 -- The loop begins with the first physical line.
@@ -69,7 +69,7 @@ line_more : (file first : ℕ) (text joins line next : List ℕ) (more : List (L
     ≡ line_onto file first (text ++ without_escape line) (joins ++ length (text ++ without_escape line) ∷ []) (next ∷ more)
 line_more file first text joins line next more =
     let front : List ℕ = without_escape line in
-    let back : List ℕ = joined (next ∷ more) in
+    let back : List ℕ = logical_text (next ∷ more) in
     let n : length text + length front ≡ length (text ++ front) = sym (length-append text front) in
     let k : ℕ = length (text ++ front) in
     subst (λ (m : ℕ). record { first = place file first; text = text ++ (front ++ back); joins = joins ++ m ∷ joins_from m (next ∷ more) } ≡ line_onto file first (text ++ front) (joins ++ k ∷ []) (next ∷ more)) (sym n)
@@ -80,8 +80,8 @@ one_more : (file : ℕ) (short : Bool) (first at : ℕ) (text joins line next : 
     ≡ onto file short first (at + 1) (text ++ without_escape line) (joins ++ length (text ++ without_escape line) ∷ []) ((next ∷ more) ∷ others)
 one_more file short first at text joins line next more [] =
     let l = line_more file first text joins line next more in
-    let n : length text + length (without_escape line ++ joined (next ∷ more)) ≡ length (text ++ without_escape line) + length (joined (next ∷ more))
-    = omega (arith, length-append text (without_escape line), length-append (without_escape line) (joined (next ∷ more))) in
+    let n : length text + length (without_escape line ++ logical_text (next ∷ more)) ≡ length (text ++ without_escape line) + length (logical_text (next ∷ more))
+    = omega (arith, length-append text (without_escape line), length-append (without_escape line) (logical_text (next ∷ more))) in
     λ i. if short then Err (BadEscape (place file first) (n i)) else Ok (l i ∷ [])
 one_more file short first at text joins line next more (other ∷ others) =
     let l = line_more file first text joins line next more in
@@ -118,10 +118,10 @@ pub turn : (file first at : ℕ) (text text' joins joins' line next front after 
     → progress file first at text joins continued line (physical_lines front) ≡ total → continued ≡ true
     → physical_lines front ≡ next ∷ physical_lines after → text' ≡ text ++ without_escape line → joins' ≡ joins ++ length text' ∷ [] → ends ≡ ends_in_escape next
     → progress file first (at + 1) text' joins' ends next (physical_lines after) ≡ total
-turn file first at text text' joins joins' line next front after continued ends total so_far on cuts longer joined is =
+turn file first at text text' joins joins' line next front after continued ends total so_far on cuts longer logical_text is =
     let e = goes_on file first at text joins line next (physical_lines after) in
     let a : progress file first at text joins true line (next ∷ physical_lines after) ≡ total = subst (λ p. progress file first at text joins true line p ≡ total) cuts (subst (λ t. progress file first at text joins t line (physical_lines front) ≡ total) on so_far) in
-    rw (joined, longer, is) (sym e ∙ a)
+    rw (logical_text, longer, is) (sym e ∙ a)
 
 -- What a last physical line gives.
 pub ending : (file first at : ℕ) (text text' joins line front : List ℕ) (continued : Bool) (total : Result (List Line) TextFault)

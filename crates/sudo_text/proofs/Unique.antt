@@ -11,7 +11,7 @@ use Rattle.sudo_text.specs.declared.piece.Style.{Style}
 use Rattle.sudo_text.specs.declared.piece.Style.TheVariants as styles
 use Rattle.sudo_text.specs.declared.piece.Piece.TheVariants.{Char, End}
 use Rattle.sudo_text.specs.Pieces.{piece_at, skip, reach, run_end, same_ch}
-use Rattle.sudo_text.specs.Tokens.{same_chars, keyword, quoted_end, keyword_end, has_arguments, arguments_end, command_end, mark_code, path_end}
+use Rattle.sudo_text.specs.Tokens.{same_chars, defaults_word, quoted_end, keyword_end, has_arguments, arguments_end, command_end, mark_code, path_end}
 use Rattle.sudo_text.proofs.Reaching.{choose, both, end_char, none_some, follow_parts, run_parts, same_ch_true}
 
 pub true_false : true ≡ false → ⊥
@@ -72,11 +72,11 @@ same_chars_true (c ∷ cs) (d ∷ ds) h =
     let parts = both (same_ch c d) (same_chars cs ds) h in
     λ i. same_ch_true c d parts.0 i ∷ same_chars_true cs ds parts.1 i
 
-pub keyword_parts : (at e : ℕ) (cs : List Ch) → keyword_end at cs ≡ Some e → (cs ≡ keyword) × (at + 8 ≡ e)
+pub keyword_parts : (at e : ℕ) (cs : List Ch) → keyword_end at cs ≡ Some e → (cs ≡ defaults_word) × (at + 8 ≡ e)
 unfolding keyword_end
 keyword_parts at e cs h =
-    choose (same_chars cs keyword) (Some (at + 8)) None (Some e) h
-    (λ w k. let s : at + 8 ≡ e = cc k in (same_chars_true cs keyword w, s))
+    choose (same_chars cs defaults_word) (Some (at + 8)) None (Some e) h
+    (λ w k. let s : at + 8 ≡ e = cc k in (same_chars_true cs defaults_word w, s))
     (λ w k. absurd (none_some e k))
 
 pub arguments_unique : (kind : LineKind) (text : List ℕ) (at e f : ℕ) (xs ys : Option (List Ch))

@@ -48,7 +48,7 @@ runs continuing [] = []
 runs continuing (line ∷ rest) =
     if is_continued continuing line then onto_first line (runs true rest) else (line ∷ []) ∷ runs false rest
 
--- the last line asks for a next one
+-- the last line is continued, and nothing follows
 abbrev pub is_cut_short : Bool → List (List ℕ) → Bool
 is_cut_short continuing [] = continuing
 is_cut_short continuing (line ∷ rest) = is_cut_short (is_continued continuing line) rest
@@ -58,12 +58,12 @@ abbrev pub without_escape : List ℕ → List ℕ
 without_escape line = take (length line - 1) line
 
 -- the lines of a run concatenated, each but the last without its last backslash
-abbrev pub joined : List (List ℕ) → List ℕ
-joined [] = []
-joined (line ∷ []) = line
-joined (line ∷ next ∷ rest) = without_escape line ++ joined (next ∷ rest)
+abbrev pub logical_text : List (List ℕ) → List ℕ
+logical_text [] = []
+logical_text (line ∷ []) = line
+logical_text (line ∷ next ∷ rest) = without_escape line ++ logical_text (next ∷ rest)
 
--- the offsets in the joined text at which the further lines of a run begin, the first at an offset
+-- the offsets in the joined text at which the further lines of a run begin, if its first line is at this offset
 abbrev pub joins_from : ℕ → List (List ℕ) → List ℕ
 joins_from at [] = []
 joins_from at (line ∷ []) = []
@@ -76,7 +76,7 @@ place file number = record { file = file; line = number }
 
 -- the logical line of a run of a file, whose first physical line has this number
 abbrev pub line_of : ℕ → ℕ → List (List ℕ) → Line
-line_of file number run = record { first = place file number; text = joined run; joins = joins_from 0 run }
+line_of file number run = record { first = place file number; text = logical_text run; joins = joins_from 0 run }
 
 -- the lines before, followed by those of the rest
 abbrev pub with_front : List Line → Result (List Line) TextFault → Result (List Line) TextFault
@@ -88,7 +88,7 @@ with_front front (Err fault) = Err fault
 abbrev pub lines_of_runs : ℕ → Bool → ℕ → List (List (List ℕ)) → Result (List Line) TextFault
 lines_of_runs file short number [] = Ok []
 lines_of_runs file short number (run ∷ []) =
-    if short then Err (BadEscape (place file number) (length (joined run))) else Ok (line_of file number run ∷ [])
+    if short then Err (BadEscape (place file number) (length (logical_text run))) else Ok (line_of file number run ∷ [])
 lines_of_runs file short number (run ∷ next ∷ rest) =
     with_front (line_of file number run ∷ []) (lines_of_runs file short (number + length run) (next ∷ rest))
 

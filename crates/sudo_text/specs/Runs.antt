@@ -10,7 +10,7 @@ use Rattle.sudo_text.specs.declared.rules.Rule.TheVariants as rules
 use Rattle.sudo_text.specs.declared.piece.Style.{Style}
 use Rattle.sudo_text.specs.declared.piece.Style.TheVariants as styles
 use Rattle.sudo_text.specs.Bytes.{is_blank, is_digit}
-use Rattle.sudo_text.specs.Pieces.{plain, skip, IsBlankAt, is_mark, is_assignment, ends_run, is_arguments, run_end}
+use Rattle.sudo_text.specs.Pieces.{plain, skip, IsBlankAt, is_mark_byte, is_assignment, ends_run, is_arguments, run_end}
 use Rattle.sudo_text.specs.Places.{opens, is_defaults, directive_len, rule_at}
 use Rattle.sudo_text.specs.Tokens.{has_closing, quoted_end, command_end}
 
@@ -82,7 +82,7 @@ OnlyNumbers before text at = slice_index text at ≡ 35 → IsTrue (opens before
 -- Defaults line no `+=` or `-=` either, and directly after the word `Defaults` no `@` or `>`
 pub record BeginsWord (kind : LineKind) (before : Before) (text : List ℕ) (at : ℕ) : Type 0 where
   pub no_blank : is_blank (slice_index text at) ≡ false
-  pub no_mark : is_mark (slice_index text at) ≡ false
+  pub no_mark : is_mark_byte (slice_index text at) ≡ false
   pub no_quote : slice_index text at ≢ 34
   pub number : OnlyNumbers before text at
   pub no_path : slice_index text at ≢ 47

@@ -54,11 +54,11 @@ WordEnds style text at (kinds.Mark mark) end = ⊥
 WordEnds style text at (kinds.Include folder hash path) end = ⊥
 
 -- the word `Defaults` that begins a line
-abbrev pub keyword : List Ch
-keyword = map plain (codes "Defaults")
+abbrev pub defaults_word : List Ch
+defaults_word = map plain (codes "Defaults")
 
 unfoldable pub keyword_end : ℕ → List Ch → Option ℕ
-keyword_end at cs = if same_chars cs keyword then Some (at + 8) else None
+keyword_end at cs = if same_chars cs defaults_word then Some (at + 8) else None
 
 -- a command whose path ends at an offset has arguments: blanks follow, and then a byte that begins them; a command of a
 -- Defaults line has none

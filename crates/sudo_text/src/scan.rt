@@ -1,6 +1,6 @@
 //! The tokens of a line.
 ghost use Rattle.std.specs.Prelude.{◌≡◌, ◌+◌, ◌<◌, ◌≤◌, ◌^◌, ◌≢◌, length, drop, Some, true, false, [], ◌-◌, IsTrue, IfOk, IfErr, All};
-ghost use Rattle.sudo_text.specs.Pieces.{takes_first, Breaks, plain as spec_plain};
+ghost use Rattle.sudo_text.specs.Pieces.{takes_first, Breaks};
 ghost use Rattle.sudo_text.specs.Places.{RuleFits, KindFits};
 ghost use Rattle.sudo_text.specs.Refusals.{Refuses};
 ghost use Rattle.sudo_text.specs.Tokens as spec;
@@ -11,7 +11,7 @@ ghost use Rattle.std.specs.Prelude.{List, Ok};
 
 use crate::bytes::peek;
 use crate::folding::TEXT_LIMIT;
-use crate::piece::{Flaw, Style, ends_run, skip_blanks};
+use crate::piece::{Flaw, Style, ends_run, plain, skip_blanks};
 use crate::rules::{
     Before, LineKind, Rule, before_of, directive_len, is_defaults, line_kind, mark_len, rule_at,
     word_style,
@@ -126,17 +126,9 @@ fn include_path(alloc: Global, text: &[u8], directive: usize) -> Result<(Seq<Ch>
     }
 }
 
-// Returns the character of a byte that no escape yields.
-fn plain(byte: u8) -> Ch
-    ensures { result ≡ spec_plain byte }
-{
-    let escaped = false;
-    Ch { byte, escaped }
-}
-
 // Returns the characters of the word `Defaults`.
-fn keyword(alloc: Global) -> Result<Seq<Ch>, AllocError>
-    ensures { IfOk result (λ s. s ≡ spec.keyword) }
+fn defaults_word(alloc: Global) -> Result<Seq<Ch>, AllocError>
+    ensures { IfOk result (λ s. s ≡ spec.defaults_word) }
 {
     let chars = [
         plain(b'D'),
@@ -191,7 +183,7 @@ fn token_at(
             Ok((TokenKind::Include { folder, hash, path }, end))
         }
         Rule::Keyword => {
-            let (quoted, chars) = (false, keyword(alloc)?);
+            let (quoted, chars) = (false, defaults_word(alloc)?);
             Ok((TokenKind::Word { quoted, chars }, at + 8))
         }
         Rule::Quoted => {
@@ -276,6 +268,17 @@ fn fault_of(first: Place, refusal: Refusal) -> TextFault
     }
 }
 
+// Returns about how many tokens a line has, for the memory that they are given at first; a short line's are mostly fewer.
+fn likely_count(line: &Line) -> usize
+    ensures { result ≤ 64 }
+{
+    if line.text.len() < 252 {
+        line.text.len() / 4 + 1
+    } else {
+        64
+    }
+}
+
 // Returns the tokens of a line, or its leftmost fault.
 fn all_tokens(alloc: Global, line: &Line) -> Result<Vec<Token>, TextFault>
     requires { length line.now.text ≤ TEXT_LIMIT }
@@ -285,7 +288,7 @@ fn all_tokens(alloc: Global, line: &Line) -> Result<Vec<Token>, TextFault>
     ensures fault { IfErr result (λ f. f ≢ TextFault.Memory → LeftmostFault line.now f) }
 {
     let kind = line_kind(line.text.as_slice());
-    let mut tokens = Vec::new(alloc);
+    let mut tokens = Vec::with_capacity(alloc, likely_count(line))?;
     let mut before = Before::Nothing;
     let mut from = 0;
     'tokens: loop {

@@ -12,12 +12,12 @@ use Rattle.sudo_grammar.specs.declared.policy.Policy.{Policy}
 use Rattle.sudo_policy.specs.Definitions.{in_force}
 use Rattle.sudo_policy.proofs.Laws.{is_alias}
 use Rattle.sudo_verdict.specs.Values.{is_all}
-use Rattle.sudo_policy.specs.Written.{is_negated, negated_if, written}
+use Rattle.sudo_policy.specs.Written.{is_negated, negated_if, written_form}
 use Rattle.sudo_policy.specs.Resolving.{resolves, rank}
 use Rattle.sudo_policy.proofs.Laws.{alias_resolves, alias_written, alias_depth, alias_defined, atom_written, resolves_append, written_append, written_none, depth_append}
 use Rattle.sudo_verdict.specs.Values.{value}
 use Rattle.sudo_verdict.specs.Last.{last_that}
-use Rattle.sudo_verdict.specs.Decided.{decided, decided_in, decision_of, negated_once}
+use Rattle.sudo_verdict.specs.Decided.{list_decision, decided_in, decision_of, negated_once}
 use Rattle.sudo_verdict.specs.declared.decision.Decision.{Decision}
 use Rattle.sudo_verdict.proofs.Lasts.{last_that_append, last_that_map, option_map_or, option_map_map}
 
@@ -40,30 +40,30 @@ module _ (test : Atom → Bool) where
       ∙ sym (option_map_map decision_of (negated_once b) (last_that (λ s. test s.atom) xs))
 
   module _ (k : Kind) (p : Policy) where
-    pub decided_append : (xs ys : List Member) → decided k p (xs ++ ys) test ≡ option_or (decided k p ys test) (decided k p xs test)
-    unfolding decided
-    decided_append xs ys = ap (decided_in test) (written_append k p xs ys) ∙ decided_in_append (written k p xs) (written k p ys)
+    pub decided_append : (xs ys : List Member) → list_decision k p (xs ++ ys) test ≡ option_or (list_decision k p ys test) (list_decision k p xs test)
+    unfolding list_decision
+    decided_append xs ys = ap (decided_in test) (written_append k p xs ys) ∙ decided_in_append (written_form k p xs) (written_form k p ys)
 
-    pub decided_none : decided k p [] test ≡ None
-    unfolding decided decided_in
+    pub decided_none : list_decision k p [] test ≡ None
+    unfolding list_decision decided_in
     decided_none = rw (written_none k p)
 
-    pub decided_atom : (m : Member) → is_alias m.atom ≡ false → decided k p (m ∷ []) test ≡ cond (test m.atom) (Some (record { negated = is_negated m; all = is_all m.atom })) None
-    unfolding decided decided_in
+    pub decided_atom : (m : Member) → is_alias m.atom ≡ false → list_decision k p (m ∷ []) test ≡ cond (test m.atom) (Some (record { negated = is_negated m; all = is_all m.atom })) None
+    unfolding list_decision decided_in
     decided_atom m h = rw (atom_written k p m h) (one (record { negated = is_negated m; atom = m.atom }) (test m.atom))
 
     pub decided_alias : (m : Member) (name : List ℕ) (ds : List Member) → m.atom ≡ atom.Alias name → in_force k p name ≡ Some ds → resolves k p (m ∷ []) ≡ true
-        → decided k p (m ∷ []) test ≡ option_map (negated_once (is_negated m)) (decided k p ds test)
-    unfolding decided
+        → list_decision k p (m ∷ []) test ≡ option_map (negated_once (is_negated m)) (list_decision k p ds test)
+    unfolding list_decision
     decided_alias m name ds is found fits =
-        ap (decided_in test) (alias_written k p m name ds is found fits) ∙ decided_in_negated (is_negated m) (written k p ds)
+        ap (decided_in test) (alias_written k p m name ds is found fits) ∙ decided_in_negated (is_negated m) (written_form k p ds)
 
 -- A list whose last member is m.
 module _ (k : Kind) (p : Policy) (test : Atom → Bool) (left rest : List Member) (m : Member) (is : left ≡ rest ++ m ∷ []) where
-  pub last_decides : (d : Decision) → decided k p (m ∷ []) test ≡ Some d → decided k p left test ≡ Some d
+  pub last_decides : (d : Decision) → list_decision k p (m ∷ []) test ≡ Some d → list_decision k p left test ≡ Some d
   last_decides d e = rw (is, decided_append test k p rest (m ∷ []), e)
 
-  pub last_silent : decided k p (m ∷ []) test ≡ None → decided k p left test ≡ decided k p rest test
+  pub last_silent : list_decision k p (m ∷ []) test ≡ None → list_decision k p left test ≡ list_decision k p rest test
   last_silent e = rw (is, decided_append test k p rest (m ∷ []), e)
 
   pub rest_resolves : resolves k p left ≡ true → resolves k p rest ≡ true
@@ -78,7 +78,7 @@ module _ (k : Kind) (p : Policy) (test : Atom → Bool) (left rest : List Member
   pub last_shallow : rank k p (m ∷ []) ≤ rank k p left
   last_shallow = rw is (omega (arith, depth_append k p rest (m ∷ [])))
 
-pub none_silent : (k : Kind) (p : Policy) (test : Atom → Bool) (left : List Member) → length left ≡ 0 → decided k p left test ≡ None
+pub none_silent : (k : Kind) (p : Policy) (test : Atom → Bool) (left : List Member) → length left ≡ 0 → list_decision k p left test ≡ None
 none_silent k p test [] h = decided_none test k p
 none_silent k p test (m ∷ ms) h = cc
 
@@ -92,10 +92,10 @@ not_alias _ h = refl
 -- A member that is an alias, by the decision of its list.
 module _ (k : Kind) (p : Policy) (test : Atom → Bool) (m : Member) (name : List ℕ) (ds : List Member)
     (is : m.atom ≡ atom.Alias name) (found : Some ds ≡ in_force k p name) (fits : resolves k p (m ∷ []) ≡ true) where
-  pub alias_silent : None ≡ decided k p ds test → None ≡ decided k p (m ∷ []) test
+  pub alias_silent : None ≡ list_decision k p ds test → None ≡ list_decision k p (m ∷ []) test
   alias_silent e = sym (decided_alias test k p m name ds is (sym found) fits ∙ ap (option_map (negated_once (is_negated m))) (sym e))
 
-  pub alias_decides : (d : Decision) → Some d ≡ decided k p ds test → Some (negated_once (is_negated m) d) ≡ decided k p (m ∷ []) test
+  pub alias_decides : (d : Decision) → Some d ≡ list_decision k p ds test → Some (negated_once (is_negated m) d) ≡ list_decision k p (m ∷ []) test
   alias_decides d e = sym (decided_alias test k p m name ds is (sym found) fits ∙ ap (option_map (negated_once (is_negated m))) (sym e))
 
   pub alias_falls : rank k p ds < rank k p (m ∷ [])
@@ -106,10 +106,10 @@ module _ (k : Kind) (p : Policy) (test : Atom → Bool) (m : Member) (name : Lis
 
 -- A member that is no alias.
 module _ (k : Kind) (p : Policy) (test : Atom → Bool) (m : Member) (not_one : (name : List ℕ) → m.atom ≡ atom.Alias name → ⊥) where
-  pub atom_decides : test m.atom ≡ true → Some (record { negated = is_negated m; all = is_all m.atom }) ≡ decided k p (m ∷ []) test
+  pub atom_decides : test m.atom ≡ true → Some (record { negated = is_negated m; all = is_all m.atom }) ≡ list_decision k p (m ∷ []) test
   atom_decides e = sym (decided_atom test k p m (not_alias m.atom not_one) ∙ ap (λ b. cond b (Some (record { negated = is_negated m; all = is_all m.atom })) None) e)
 
-  pub atom_silent : test m.atom ≡ false → None ≡ decided k p (m ∷ []) test
+  pub atom_silent : test m.atom ≡ false → None ≡ list_decision k p (m ∷ []) test
   atom_silent e = sym (decided_atom test k p m (not_alias m.atom not_one) ∙ ap (λ b. cond b (Some (record { negated = is_negated m; all = is_all m.atom })) None) e)
 
 -- The value of a list is the sign with which it decides.
@@ -117,13 +117,13 @@ sign_of : (o : Option Signed) → option_map (λ s. not s.negated) o ≡ option_
 sign_of None = refl
 sign_of (Some s) = refl
 
-pub value_decided : (k : Kind) (p : Policy) (ms : List Member) (test : Atom → Bool) → value k p ms test ≡ option_map (λ d. not d.negated) (decided k p ms test)
-unfolding value decided decided_in
-value_decided k p ms test = sign_of (last_that (λ s. test s.atom) (written k p ms))
+pub value_decided : (k : Kind) (p : Policy) (ms : List Member) (test : Atom → Bool) → value k p ms test ≡ option_map (λ d. not d.negated) (list_decision k p ms test)
+unfolding value list_decision decided_in
+value_decided k p ms test = sign_of (last_that (λ s. test s.atom) (written_form k p ms))
 
 -- A list whose last member decides so.
 pub last_is : (k : Kind) (p : Policy) (test : Atom → Bool) (left rest : List Member) (m : Member) → left ≡ rest ++ m ∷ [] → (o : Option Decision) →
-    decided k p (m ∷ []) test ≡ o → is_some o ≡ true → decided k p left test ≡ o
+    list_decision k p (m ∷ []) test ≡ o → is_some o ≡ true → list_decision k p left test ≡ o
 last_is k p test left rest m is (Some d) e some = last_decides k p test left rest m is d e
 last_is k p test left rest m is None e some = cc
 

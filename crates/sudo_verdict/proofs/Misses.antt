@@ -17,7 +17,7 @@ use Rattle.sudo_grammar.specs.declared.kind.Atom.TheVariants as atom
 use Rattle.sudo_match.specs.declared.people.Person.{Person}
 use Rattle.sudo_match.specs.declared.people.Group.{Group}
 use Rattle.sudo_match.specs.Matching.{user_fits}
-use Rattle.sudo_verdict.specs.Postings.{bit, row_words, Rows, posted, Grows, next_number, bucket_of, user_bucket, group_number, uid_number, gid_number, whole_seed, beginning_seed, atom_number, misses_group, misses_user, misses_beginnings, misses_command}
+use Rattle.sudo_verdict.specs.Postings.{bit, row_words, Rows, is_in_row, Grows, next_number, bucket_of, user_bucket, group_number, uid_number, gid_number, whole_seed, beginning_seed, atom_number, misses_group, misses_user, misses_beginnings, misses_command}
 
 -- ---- The row of a number
 
@@ -30,18 +30,18 @@ row-there rows number n row same e = ap (λ k. slice_get rows (number % k)) (sym
 
 -- ---- One more rule
 
-posted-is : (rows : Rows) (number rule at : ℕ) → number % length rows ≡ at → posted rows number rule ≡ (bit (row_words (slice_get rows at)) rule == 1)
-unfolding posted
+posted-is : (rows : Rows) (number rule at : ℕ) → number % length rows ≡ at → is_in_row rows number rule ≡ (bit (row_words (slice_get rows at)) rule == 1)
+unfolding is_in_row
 posted-is rows number rule at e = ap (λ k. bit (row_words (slice_get rows k)) rule == 1) e
 
 posted-in-set :
     (rows : Rows) (index : ℕ) (row : Vec ℕ Global) (number rule at : ℕ) → number % length rows ≡ at →
-    posted (set rows index row) number rule ≡ (bit (row_words (slice_get (set rows index row) at)) rule == 1)
+    is_in_row (set rows index row) number rule ≡ (bit (row_words (slice_get (set rows index row) at)) rule == 1)
 posted-in-set rows index row number rule at e = posted-is (set rows index row) number rule at (ap (λ n. number % n) (length-set rows index row) ∙ e)
 
 pub posted-set :
     (rows : Rows) (index : ℕ) (row : Vec ℕ Global) (number rule : ℕ) → index < length rows → number % length rows ≡ index →
-    bit row.items rule ≡ 1 → posted (set rows index row) number rule ≡ true
+    bit row.items rule ≡ 1 → is_in_row (set rows index row) number rule ≡ true
 posted-set rows index row number rule h e there =
     posted-in-set rows index row number rule index e
     ∙ ap (λ o. bit (row_words o) rule == 1) (get_set_same rows index row h)
@@ -52,7 +52,7 @@ pub grows-set :
     ((rule : ℕ) → bit old.items rule ≡ 1 → bit new.items rule ≡ 1) → Grows rows (set rows index new)
 grows-set rows index old new h e keeps number rule there = go (cases_eq (number % length rows) index)
   where
-    go : (number % length rows ≡ index) ⊎ (number % length rows ≡ index → ⊥) → posted (set rows index new) number rule ≡ true
+    go : (number % length rows ≡ index) ⊎ (number % length rows ≡ index → ⊥) → is_in_row (set rows index new) number rule ≡ true
     go (inl same) =
         posted-set rows index new number rule h same
         (keeps rule (eqb-true (bit old.items rule) 1 (sym (posted-is rows number rule index same ∙ ap (λ o. bit (row_words o) rule == 1) e) ∙ there)))
@@ -102,7 +102,7 @@ bit-past ws first i h =
 
 pub posted-none :
     (rows : Rows) (number rule : ℕ) (row : Vec ℕ Global) → slice_get rows (number % length rows) ≡ Some row → bit row.items rule ≡ 0 →
-    posted rows number rule ≡ false
+    is_in_row rows number rule ≡ false
 posted-none rows number rule row e none =
     posted-is rows number rule (number % length rows) refl
     ∙ ap (λ o. bit (row_words o) rule == 1) e
@@ -126,77 +126,77 @@ groups-old : (old new : Rows) → Grows old new → (rule : ℕ) (gs : List Grou
 groups-old old new grows rule [] e = refl
 groups-old old new grows rule (g ∷ gs) e =
     let here = and_parts (misses_group new rule g) (list_all (misses_group new rule) gs) e in
-    let two = and_parts (not (posted new (group_number g.name) rule)) (not (posted new (gid_number g.gid) rule)) here.0 in
+    let two = and_parts (not (is_in_row new (group_number g.name) rule)) (not (is_in_row new (gid_number g.gid) rule)) here.0 in
     both (misses_group old rule g) (list_all (misses_group old rule) gs)
-    (both (not (posted old (group_number g.name) rule)) (not (posted old (gid_number g.gid) rule))
-    (keeps-not (posted old (group_number g.name) rule) (posted new (group_number g.name) rule) (grows (group_number g.name) rule) two.0)
-    (keeps-not (posted old (gid_number g.gid) rule) (posted new (gid_number g.gid) rule) (grows (gid_number g.gid) rule) two.1))
+    (both (not (is_in_row old (group_number g.name) rule)) (not (is_in_row old (gid_number g.gid) rule))
+    (keeps-not (is_in_row old (group_number g.name) rule) (is_in_row new (group_number g.name) rule) (grows (group_number g.name) rule) two.0)
+    (keeps-not (is_in_row old (gid_number g.gid) rule) (is_in_row new (gid_number g.gid) rule) (grows (gid_number g.gid) rule) two.1))
     (groups-old old new grows rule gs here.1)
 
 -- the three rows that each user has, and those of the groups
 pub misses-parts :
     (rows : Rows) (rule : ℕ) (u : Person) → misses_user rows rule u ≡ true →
-    (not (posted rows 0 rule) ≡ true) × ((not (posted rows (user_bucket u.name) rule) ≡ true) × ((not (posted rows (uid_number u.uid) rule) ≡ true) × (list_all (misses_group rows rule) u.groups ≡ true)))
+    (not (is_in_row rows 0 rule) ≡ true) × ((not (is_in_row rows (user_bucket u.name) rule) ≡ true) × ((not (is_in_row rows (uid_number u.uid) rule) ≡ true) × (list_all (misses_group rows rule) u.groups ≡ true)))
 unfolding misses_user
 misses-parts rows rule u e =
-    let a = and_parts (not (posted rows 0 rule)) _ e in
-    let b = and_parts (not (posted rows (user_bucket u.name) rule)) _ a.1 in
-    let c = and_parts (not (posted rows (uid_number u.uid) rule)) (list_all (misses_group rows rule) u.groups) b.1 in
+    let a = and_parts (not (is_in_row rows 0 rule)) _ e in
+    let b = and_parts (not (is_in_row rows (user_bucket u.name) rule)) _ a.1 in
+    let c = and_parts (not (is_in_row rows (uid_number u.uid) rule)) (list_all (misses_group rows rule) u.groups) b.1 in
     (a.0, (b.0, (c.0, c.1)))
 
 pub misses-all :
-    (rows : Rows) (rule : ℕ) (u : Person) → not (posted rows 0 rule) ≡ true → not (posted rows (user_bucket u.name) rule) ≡ true →
-    not (posted rows (uid_number u.uid) rule) ≡ true → list_all (misses_group rows rule) u.groups ≡ true → misses_user rows rule u ≡ true
+    (rows : Rows) (rule : ℕ) (u : Person) → not (is_in_row rows 0 rule) ≡ true → not (is_in_row rows (user_bucket u.name) rule) ≡ true →
+    not (is_in_row rows (uid_number u.uid) rule) ≡ true → list_all (misses_group rows rule) u.groups ≡ true → misses_user rows rule u ≡ true
 unfolding misses_user
 misses-all rows rule u e f g h =
-    both (not (posted rows 0 rule)) _ e
-    (both (not (posted rows (user_bucket u.name) rule)) _ f (both (not (posted rows (uid_number u.uid) rule)) (list_all (misses_group rows rule) u.groups) g h))
+    both (not (is_in_row rows 0 rule)) _ e
+    (both (not (is_in_row rows (user_bucket u.name) rule)) _ f (both (not (is_in_row rows (uid_number u.uid) rule)) (list_all (misses_group rows rule) u.groups) g h))
 
 pub misses-old : (old new : Rows) → Grows old new → (rule : ℕ) (u : Person) → misses_user new rule u ≡ true → misses_user old rule u ≡ true
 misses-old old new grows rule u e =
     let parts = misses-parts new rule u e in
     misses-all old rule u
-    (keeps-not (posted old 0 rule) (posted new 0 rule) (grows 0 rule) parts.0)
-    (keeps-not (posted old (user_bucket u.name) rule) (posted new (user_bucket u.name) rule) (grows (user_bucket u.name) rule) parts.1.0)
-    (keeps-not (posted old (uid_number u.uid) rule) (posted new (uid_number u.uid) rule) (grows (uid_number u.uid) rule) parts.1.1.0)
+    (keeps-not (is_in_row old 0 rule) (is_in_row new 0 rule) (grows 0 rule) parts.0)
+    (keeps-not (is_in_row old (user_bucket u.name) rule) (is_in_row new (user_bucket u.name) rule) (grows (user_bucket u.name) rule) parts.1.0)
+    (keeps-not (is_in_row old (uid_number u.uid) rule) (is_in_row new (uid_number u.uid) rule) (grows (uid_number u.uid) rule) parts.1.1.0)
     (groups-old old new grows rule u.groups parts.1.1.1)
 
 -- no group of the user has a name, or an ID, under which the rule is found
 
 named-none :
     (rows : Rows) (rule : ℕ) (name : List ℕ) (gs : List Group) → list_all (misses_group rows rule) gs ≡ true →
-    posted rows (group_number name) rule ≡ true → list_any (λ (g : Group). bytes_eq g.name name) gs ≡ false
+    is_in_row rows (group_number name) rule ≡ true → list_any (λ (g : Group). bytes_eq g.name name) gs ≡ false
 named-none rows rule name [] e there = refl
 named-none rows rule name (g ∷ gs) e there =
     let here = and_parts (misses_group rows rule g) (list_all (misses_group rows rule) gs) e in
-    let two = and_parts (not (posted rows (group_number g.name) rule)) (not (posted rows (gid_number g.gid) rule)) here.0 in
+    let two = and_parts (not (is_in_row rows (group_number g.name) rule)) (not (is_in_row rows (gid_number g.gid) rule)) here.0 in
     test (bytes_eq g.name name) refl two.0 (named-none rows rule name gs here.1 there)
   where
-    test : (b : Bool) → bytes_eq g.name name ≡ b → not (posted rows (group_number g.name) rule) ≡ true → list_any (λ (x : Group). bytes_eq x.name name) gs ≡ false
+    test : (b : Bool) → bytes_eq g.name name ≡ b → not (is_in_row rows (group_number g.name) rule) ≡ true → list_any (λ (x : Group). bytes_eq x.name name) gs ≡ false
         → (b || list_any (λ (x : Group). bytes_eq x.name name) gs) ≡ false
     test true f missed rest =
         let same : g.name ≡ name = (bytes_eq-Decides g.name name).0 f in
-        absurd (never (posted rows (group_number g.name) rule) (ap (λ n. posted rows (group_number n) rule) same ∙ there) missed)
+        absurd (never (is_in_row rows (group_number g.name) rule) (ap (λ n. is_in_row rows (group_number n) rule) same ∙ there) missed)
     test false f missed rest = rest
 
 bucket_of-none :
     (rows : Rows) (rule gid : ℕ) (gs : List Group) → list_all (misses_group rows rule) gs ≡ true →
-    posted rows (gid_number gid) rule ≡ true → list_any (λ (g : Group). g.gid == gid) gs ≡ false
+    is_in_row rows (gid_number gid) rule ≡ true → list_any (λ (g : Group). g.gid == gid) gs ≡ false
 bucket_of-none rows rule gid [] e there = refl
 bucket_of-none rows rule gid (g ∷ gs) e there =
     let here = and_parts (misses_group rows rule g) (list_all (misses_group rows rule) gs) e in
-    let two = and_parts (not (posted rows (group_number g.name) rule)) (not (posted rows (gid_number g.gid) rule)) here.0 in
+    let two = and_parts (not (is_in_row rows (group_number g.name) rule)) (not (is_in_row rows (gid_number g.gid) rule)) here.0 in
     test (g.gid == gid) refl two.1 (bucket_of-none rows rule gid gs here.1 there)
   where
-    test : (b : Bool) → (g.gid == gid) ≡ b → not (posted rows (gid_number g.gid) rule) ≡ true → list_any (λ (x : Group). x.gid == gid) gs ≡ false
+    test : (b : Bool) → (g.gid == gid) ≡ b → not (is_in_row rows (gid_number g.gid) rule) ≡ true → list_any (λ (x : Group). x.gid == gid) gs ≡ false
         → (b || list_any (λ (x : Group). x.gid == gid) gs) ≡ false
     test true f missed rest =
         let same : g.gid ≡ gid = eqb-true g.gid gid f in
-        absurd (never (posted rows (gid_number g.gid) rule) (ap (λ n. posted rows (gid_number n) rule) same ∙ there) missed)
+        absurd (never (is_in_row rows (gid_number g.gid) rule) (ap (λ n. is_in_row rows (gid_number n) rule) same ∙ there) missed)
     test false f missed rest = rest
 
 named-other :
-    (rows : Rows) (rule : ℕ) (name other : List ℕ) → not (posted rows (user_bucket other) rule) ≡ true → posted rows (user_bucket name) rule ≡ true →
+    (rows : Rows) (rule : ℕ) (name other : List ℕ) → not (is_in_row rows (user_bucket other) rule) ≡ true → is_in_row rows (user_bucket name) rule ≡ true →
     bytes_eq name other ≡ false
 named-other rows rule name other missed there = test (bytes_eq name other) refl
   where
@@ -204,10 +204,10 @@ named-other rows rule name other missed there = test (bytes_eq name other) refl
     test false f = refl
     test true f =
         let same : name ≡ other = (bytes_eq-Decides name other).0 f in
-        absurd (never (posted rows (user_bucket other) rule) (ap (λ n. posted rows (user_bucket n) rule) (sym same) ∙ there) missed)
+        absurd (never (is_in_row rows (user_bucket other) rule) (ap (λ n. is_in_row rows (user_bucket n) rule) (sym same) ∙ there) missed)
 
 bucket_of-other :
-    (rows : Rows) (rule uid other : ℕ) → not (posted rows (uid_number other) rule) ≡ true → posted rows (uid_number uid) rule ≡ true →
+    (rows : Rows) (rule uid other : ℕ) → not (is_in_row rows (uid_number other) rule) ≡ true → is_in_row rows (uid_number uid) rule ≡ true →
     (uid == other) ≡ false
 bucket_of-other rows rule uid other missed there = test (uid == other) refl
   where
@@ -215,29 +215,29 @@ bucket_of-other rows rule uid other missed there = test (uid == other) refl
     test false f = refl
     test true f =
         let same : uid ≡ other = eqb-true uid other f in
-        absurd (never (posted rows (uid_number other) rule) (ap (λ n. posted rows (uid_number n) rule) (sym same) ∙ there) missed)
+        absurd (never (is_in_row rows (uid_number other) rule) (ap (λ n. is_in_row rows (uid_number n) rule) (sym same) ∙ there) missed)
 
 -- an atom under which the rule is found does not fit the user
-pub misses-atom : (rows : Rows) (rule : ℕ) (u : Person) (a : Atom) → misses_user rows rule u ≡ true → posted rows (atom_number a) rule ≡ true → user_fits a u ≡ false
+pub misses-atom : (rows : Rows) (rule : ℕ) (u : Person) (a : Atom) → misses_user rows rule u ≡ true → is_in_row rows (atom_number a) rule ≡ true → user_fits a u ≡ false
 unfolding atom_number user_fits
 misses-atom rows rule u (atom.Name name) e there = named-other rows rule name u.name (misses-parts rows rule u e).1.0 there
 misses-atom rows rule u (atom.Uid uid) e there = bucket_of-other rows rule uid u.uid (misses-parts rows rule u e).1.1.0 there
 misses-atom rows rule u (atom.Group name) e there = named-none rows rule name u.groups (misses-parts rows rule u e).1.1.1 there
 misses-atom rows rule u (atom.Gid gid) e there = bucket_of-none rows rule gid u.groups (misses-parts rows rule u e).1.1.1 there
 misses-atom rows rule u (atom.Command path args) e there = refl
-misses-atom rows rule u _ e there = absurd (never (posted rows 0 rule) there (misses-parts rows rule u e).0)
+misses-atom rows rule u _ e there = absurd (never (is_in_row rows 0 rule) there (misses-parts rows rule u e).0)
 
 -- a rule that every user finds
-pub misses-never : (rows : Rows) (rule : ℕ) (u : Person) → posted rows 0 rule ≡ true → misses_user rows rule u ≡ true → ⊥
-misses-never rows rule u there e = never (posted rows 0 rule) there (misses-parts rows rule u e).0
+pub misses-never : (rows : Rows) (rule : ℕ) (u : Person) → is_in_row rows 0 rule ≡ true → misses_user rows rule u ≡ true → ⊥
+misses-never rows rule u there e = never (is_in_row rows 0 rule) there (misses-parts rows rule u e).0
 
 pub group-missed :
-    (rows : Rows) (rule : ℕ) (left rest : List Group) (g : Group) → left ≡ g ∷ rest → posted rows (group_number g.name) rule ≡ false →
-    posted rows (gid_number g.gid) rule ≡ false → list_all (misses_group rows rule) rest ≡ true → list_all (misses_group rows rule) left ≡ true
+    (rows : Rows) (rule : ℕ) (left rest : List Group) (g : Group) → left ≡ g ∷ rest → is_in_row rows (group_number g.name) rule ≡ false →
+    is_in_row rows (gid_number g.gid) rule ≡ false → list_all (misses_group rows rule) rest ≡ true → list_all (misses_group rows rule) left ≡ true
 group-missed rows rule left rest g is e f h =
     ap (list_all (misses_group rows rule)) is
     ∙ both (misses_group rows rule g) (list_all (misses_group rows rule) rest)
-    (both (not (posted rows (group_number g.name) rule)) (not (posted rows (gid_number g.gid) rule)) (ap not e) (ap not f)) h
+    (both (not (is_in_row rows (group_number g.name) rule)) (not (is_in_row rows (gid_number g.gid) rule)) (ap not e) (ap not f)) h
 
 pub no-groups : (rows : Rows) (rule : ℕ) (left : List Group) → length left ≡ 0 → list_all (misses_group rows rule) left ≡ true
 no-groups rows rule [] e = refl
@@ -245,22 +245,22 @@ no-groups rows rule (g ∷ gs) e = cc
 
 -- ---- Rules in no row of a command
 
-pub begins-more : (rows : Rows) (rule number b : ℕ) (bs : List ℕ) → posted rows number rule ≡ false →
+pub begins-more : (rows : Rows) (rule number b : ℕ) (bs : List ℕ) → is_in_row rows number rule ≡ false →
     misses_beginnings rows rule (next_number number b) bs ≡ true → misses_beginnings rows rule number (b ∷ bs) ≡ true
 unfolding misses_beginnings
-begins-more rows rule number b bs e h = both (not (posted rows number rule)) _ (ap not e) h
+begins-more rows rule number b bs e h = both (not (is_in_row rows number rule)) _ (ap not e) h
 
-pub begins-end : (rows : Rows) (rule number : ℕ) (left : List ℕ) → posted rows number rule ≡ false → length left ≡ 0 →
+pub begins-end : (rows : Rows) (rule number : ℕ) (left : List ℕ) → is_in_row rows number rule ≡ false → length left ≡ 0 →
     misses_beginnings rows rule number left ≡ true
 unfolding misses_beginnings
 begins-end rows rule number [] e h = ap not e
 begins-end rows rule number (b ∷ bs) e h = cc
 
-pub command-missed : (rows : Rows) (rule : ℕ) (command : List ℕ) → posted rows 0 rule ≡ false → posted rows (bucket_of whole_seed command) rule ≡ false →
+pub command-missed : (rows : Rows) (rule : ℕ) (command : List ℕ) → is_in_row rows 0 rule ≡ false → is_in_row rows (bucket_of whole_seed command) rule ≡ false →
     misses_beginnings rows rule beginning_seed command ≡ true → misses_command rows rule command ≡ true
 unfolding misses_command
 command-missed rows rule command e f h =
-    both (not (posted rows 0 rule)) _ (ap not e) (both (not (posted rows (bucket_of whole_seed command) rule)) _ (ap not f) h)
+    both (not (is_in_row rows 0 rule)) _ (ap not e) (both (not (is_in_row rows (bucket_of whole_seed command) rule)) _ (ap not f) h)
 
 -- ---- Rows that grow
 

@@ -10,8 +10,8 @@ use Rattle.sudo_grammar.specs.declared.kind.Member.{Member}
 use Rattle.sudo_grammar.specs.declared.policy.Policy.{Policy}
 use Rattle.sudo_policy.specs.Definitions.{in_force}
 use Rattle.sudo_verdict.specs.declared.decision.Decision.{Decision}
-use Rattle.sudo_verdict.specs.Decided.{decided}
-use Rattle.sudo_verdict.specs.Body.Recalling.{IsNumbering, number_in, Recalls, AreApart}
+use Rattle.sudo_verdict.specs.Decided.{list_decision}
+use Rattle.sudo_verdict.specs.Body.Recalling.{IsNumbering, number_in, Recalls, HasOneNamePerNumber}
 
 -- ---- Numbers
 
@@ -57,22 +57,22 @@ recalls-nothing k p names test slots empty name n ds o e f g = absurd (empty n o
 
 pub recalls-more :
     (k : Kind) (p : Policy) (names : Option (List (List ℕ × ℕ))) (test : Atom → Bool) (old new : List (Option (Option Decision))) (name : List ℕ)
-    (ds : List Member) (found : Option Decision) → AreApart names → Recalls k p names test old → in_force k p name ≡ Some ds → found ≡ decided k p ds test →
+    (ds : List Member) (found : Option Decision) → HasOneNamePerNumber names → Recalls k p names test old → in_force k p name ≡ Some ds → found ≡ list_decision k p ds test →
     ((n : ℕ) (o : Option Decision) → slice_get new n ≡ Some (Some o) → (slice_get old n ≡ Some (Some o)) ⊎ ((number_in names name ≡ Some n) × (o ≡ found))) →
     Recalls k p names test new
 recalls-more k p names test old new name ds found apart recalls is same kept other n others o e f g = go (kept n o f)
   where
-    go : (slice_get old n ≡ Some (Some o)) ⊎ ((number_in names name ≡ Some n) × (o ≡ found)) → o ≡ decided k p others test
+    go : (slice_get old n ≡ Some (Some o)) ⊎ ((number_in names name ≡ Some n) × (o ≡ found)) → o ≡ list_decision k p others test
     go (inl before) = recalls other n others o e before g
     go (inr here) =
         let one : other ≡ name = apart other name n e here.0 in
         let list : Some others ≡ Some ds = sym g ∙ ap (in_force k p) one ∙ is in
-        here.1 ∙ same ∙ ap (λ l. decided k p l test) (sym (some-is list))
+        here.1 ∙ same ∙ ap (λ l. list_decision k p l test) (sym (some-is list))
 
 pub recalled :
     (k : Kind) (p : Policy) (names : Option (List (List ℕ × ℕ))) (test : Atom → Bool) (slots : List (Option (Option Decision))) (name : List ℕ) (ds : List Member)
     (number : Option ℕ) (o : Option Decision) → Recalls k p names test slots → in_force k p name ≡ Some ds → number ≡ number_in names name →
-    IfSome number (λ n. slice_get slots n ≡ Some (Some o)) → (number ≡ None → ⊥) → o ≡ decided k p ds test
+    IfSome number (λ n. slice_get slots n ≡ Some (Some o)) → (number ≡ None → ⊥) → o ≡ list_decision k p ds test
 recalled k p names test slots name ds (Some n) o recalls is numbered there some = recalls name n ds o (sym numbered) there is
 recalled k p names test slots name ds None o recalls is numbered there some = absurd (some refl)
 

@@ -11,7 +11,7 @@ use Rattle.sudo_grammar.specs.declared.policy.Entry.{Entry}
 use Rattle.sudo_grammar.specs.declared.policy.EntryBody.{EntryBody}
 use Rattle.sudo_grammar.specs.declared.policy.EntryBody.TheVariants.{Rule}
 use Rattle.sudo_grammar.specs.declared.policy.Policy.{Policy}
-use Rattle.sudo_policy.specs.Written.{written}
+use Rattle.sudo_policy.specs.Written.{written_form}
 use Rattle.sudo_policy.specs.Resolving.{resolves, command_resolves, runas_resolves}
 use Rattle.sudo_text.specs.declared.line.Place.{Place}
 use Rattle.sudo_match.specs.Matching.{command_fits}
@@ -30,7 +30,7 @@ use Rattle.std.proofs.lemmas.List.FromFn.{length-enumerate_from}
 use Rattle.std.proofs.lemmas.List.{append-nil}
 use Rattle.sudo_verdict.specs.Last.{last_that, last_set}
 use Rattle.sudo_verdict.specs.Tagged.{tags_at, runas_at, tags_before, runas_before}
-use Rattle.sudo_verdict.specs.Decided.{decided, decided_in, decision_of}
+use Rattle.sudo_verdict.specs.Decided.{list_decision, decided_in, decision_of}
 use Rattle.sudo_verdict.specs.Questions.{Question}
 use Rattle.sudo_verdict.specs.Grants.{Grant, applies, grant_of, place_grants, section_grants, body_grants, entry_grants, grants}
 use Rattle.sudo_verdict.specs.RunasForms.{runas_allows}
@@ -66,12 +66,12 @@ module _ (p : Policy) (q : Question) where
 
     found_at : (i : ℕ) (c : CommandSpec) → found p q (place_grants p place users s (i, c))
         ≡ cond ((user_listed p users q && host_listed p s.hosts q) && runas_allows p q (runas_at s.commands i))
-        (option_map (verdict_from place (tags_at s.commands i)) (decided kind.Cmnd p (c.command ∷ []) (λ a. command_fits a q.command q.arguments)))
+        (option_map (verdict_from place (tags_at s.commands i)) (list_decision kind.Cmnd p (c.command ∷ []) (λ a. command_fits a q.command q.arguments)))
         None
-    unfolding found place_grants decided decided_in
+    unfolding found place_grants list_decision decided_in
     found_at i c =
         ap (option_map verdict_by)
-        (last_that_map ((user_listed p users q && host_listed p s.hosts q) && runas_allows p q (runas_at s.commands i)) (λ w. command_fits w.atom q.command q.arguments) (applies p q) (grant_of place users s i) (place_applies i) (written kind.Cmnd p (c.command ∷ [])))
+        (last_that_map ((user_listed p users q && host_listed p s.hosts q) && runas_allows p q (runas_at s.commands i)) (λ w. command_fits w.atom q.command q.arguments) (applies p q) (grant_of place users s i) (place_applies i) (written_form kind.Cmnd p (c.command ∷ [])))
         ∙ option_map_cond ((user_listed p users q && host_listed p s.hosts q) && runas_allows p q (runas_at s.commands i)) verdict_by _
         ∙ ap (λ o. cond ((user_listed p users q && host_listed p s.hosts q) && runas_allows p q (runas_at s.commands i)) o None)
         (option_map_map (grant_of place users s i) verdict_by _ ∙ sym (option_map_map decision_of (verdict_from place (tags_at s.commands i)) _))
@@ -234,7 +234,7 @@ unfolding commands_found
 places_end p q place cs left h = ap (commands_found p q place cs) h
 
 pub place_silent : (p : Policy) (q : Question) (place : Place) (cs : List CommandSpec) (c : CommandSpec)
-    → None ≡ decided kind.Cmnd p (c.command ∷ []) (λ a. command_fits a q.command q.arguments) → None ≡ command_found p q place cs c
+    → None ≡ list_decision kind.Cmnd p (c.command ∷ []) (λ a. command_fits a q.command q.arguments) → None ≡ command_found p q place cs c
 unfolding command_found
 place_silent p q place cs c e =
     nothing (runas_allows p q (runas_before cs))

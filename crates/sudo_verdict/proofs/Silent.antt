@@ -15,13 +15,13 @@ use Rattle.sudo_match.specs.declared.people.Person.{Person}
 use Rattle.sudo_match.specs.Matching.{user_fits, command_fits}
 use Rattle.std.proofs.lemmas.Bool.{cases_lt}
 use Rattle.sudo_verdict.specs.Questions.{Question}
-use Rattle.sudo_verdict.specs.Decided.{decided}
+use Rattle.sudo_verdict.specs.Decided.{list_decision}
 use Rattle.sudo_verdict.specs.Values.{allows, user_listed, host_listed}
 use Rattle.sudo_verdict.specs.RunasForms.{runas_allows}
 use Rattle.sudo_verdict.specs.Tagged.{tags_before, runas_before}
 use Rattle.sudo_verdict.specs.Found.{verdict_from, command_found, found_if_any, commands_found, section_found, rule_found, body_found, entry_found}
 use Rattle.sudo_verdict.specs.Last.{last_set}
-use Rattle.sudo_verdict.specs.Postings.{Rows, posted, atom_number, Grows, Covers, misses_user, misses_command}
+use Rattle.sudo_verdict.specs.Postings.{Rows, is_in_row, atom_number, Grows, Covers, misses_user, misses_command}
 use Rattle.sudo_verdict.specs.Body.Silence.{IsSilent, CommandsSilent, SectionsSilent, EntrySilent}
 use Rattle.sudo_verdict.proofs.Deciding.{value_decided}
 use Rattle.sudo_verdict.proofs.Misses.{misses-atom, misses-never, misses-old}
@@ -39,16 +39,16 @@ false-from false h = refl
 
 pub silent-old : (old new : Rows) (rule : ℕ) (test : Atom → Bool) → Grows old new → IsSilent new rule test → IsSilent old rule test
 silent-old old new rule test grows s = record {
-  everyone = never (posted old 0 rule) (posted new 0 rule) (grows 0 rule) s.everyone;
+  everyone = never (is_in_row old 0 rule) (is_in_row new 0 rule) (grows 0 rule) s.everyone;
   atoms = λ a there. s.atoms a (grows (atom_number a) rule there);
 }
 
-pub silent-never : (rows : Rows) (rule : ℕ) (test : Atom → Bool) → posted rows 0 rule ≡ true → IsSilent rows rule test → ⊥
+pub silent-never : (rows : Rows) (rule : ℕ) (test : Atom → Bool) → is_in_row rows 0 rule ≡ true → IsSilent rows rule test → ⊥
 silent-never rows rule test there s = let h : true ≡ false = sym there ∙ s.everyone in cc
 
 pub silent-user : (rows : Rows) (rule : ℕ) (u : Person) → misses_user rows rule u ≡ true → IsSilent rows rule (λ a. user_fits a u)
 silent-user rows rule u e = record {
-  everyone = false-from (posted rows 0 rule) (λ there. misses-never rows rule u there e);
+  everyone = false-from (is_in_row rows 0 rule) (λ there. misses-never rows rule u there e);
   atoms = λ a there. misses-atom rows rule u a e there;
 }
 
@@ -93,7 +93,7 @@ module _ (p : Policy) (q : Question) (place : Place) where
   cond-none true = refl
   cond-none false = refl
 
-  command-silent : (before : List CommandSpec) (c : CommandSpec) → decided kind.Cmnd p (c.command ∷ []) (λ a. command_fits a q.command q.arguments) ≡ None →
+  command-silent : (before : List CommandSpec) (c : CommandSpec) → list_decision kind.Cmnd p (c.command ∷ []) (λ a. command_fits a q.command q.arguments) ≡ None →
       command_found p q place before c ≡ None
   unfolding command_found
   command-silent before c none =
@@ -123,7 +123,7 @@ module _ (p : Policy) (q : Question) (place : Place) where
       ap (λ o. cond (user_listed p users q) o None) (all-none (section_found p q place) sections (λ k s e. section-silent s (silent k s e)))
       ∙ cond-none (user_listed p users q)
 
-  users-silent : (users : List Member) (sections : List Section) → decided kind.User p users (λ a. user_fits a q.user) ≡ None →
+  users-silent : (users : List Member) (sections : List Section) → list_decision kind.User p users (λ a. user_fits a q.user) ≡ None →
       rule_found p q place users sections ≡ None
   unfolding rule_found
   users-silent users sections none =
@@ -136,7 +136,7 @@ or-cases false b e = inr e
 
 pub rule-silent :
     (p : Policy) (user_rows command_rows : Rows) (rule : ℕ) (e : Entry) (users : List Member) (sections : List Section) → e.body ≡ body.Rule users sections →
-    ((t : Atom → Bool) → IsSilent user_rows rule t → decided kind.User p users t ≡ None) →
+    ((t : Atom → Bool) → IsSilent user_rows rule t → list_decision kind.User p users t ≡ None) →
     ((t : Atom → Bool) → IsSilent command_rows rule t → SectionsSilent p t sections) → EntrySilent p user_rows command_rows rule e
 rule-silent p user_rows command_rows rule e users sections is by_user by_command q missed = ap (body_found p q e.place) is ∙ go (or-cases _ _ missed)
   where

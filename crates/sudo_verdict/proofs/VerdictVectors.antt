@@ -7,7 +7,7 @@ use Rattle.sudo_text.specs.declared.line.Place.{Place}
 use Rattle.sudo_text.specs.declared.token.Ch.{Ch}
 use Rattle.sudo_text.specs.declared.token.Mark.TheVariants.{Bang}
 use Rattle.sudo_text.specs.declared.token.TokenKind.TheVariants as token
-use Rattle.sudo_grammar.specs.Includes.{is_include}
+use Rattle.sudo_grammar.specs.Includes.{is_include_entry}
 use Rattle.sudo_grammar.specs.declared.kind.Kind.{Kind}
 use Rattle.sudo_grammar.specs.declared.kind.Kind.TheVariants as kind
 use Rattle.sudo_grammar.specs.declared.kind.Atom.{Atom}
@@ -31,7 +31,7 @@ use Rattle.sudo_match.specs.declared.request.What.TheVariants as what
 use Rattle.sudo_match.specs.declared.request.Verdict.{Verdict}
 use Rattle.sudo_match.specs.declared.request.Verdict.TheVariants.{Allow, Deny, NoMatch, Unknown}
 use Rattle.sudo_policy.specs.Following.{reading_within}
-use Rattle.sudo_policy.specs.Written.{written}
+use Rattle.sudo_policy.specs.Written.{written_form}
 use Rattle.sudo_match.specs.KnownRows.{KnownRows, user_named, host_named, group_named}
 use Rattle.sudo_match.specs.Matching.{user_fits, group_fits, host_fits, command_fits}
 use Rattle.sudo_match.specs.Pattern.{begins, range_at, items_after, bracket_after, part_at, parts_after, cuts, fits}
@@ -124,7 +124,7 @@ rule n users sections = record { place = line n; body = Rule users sections }
 abbrev alias : Kind → ℕ → List ℕ → List Member → Entry
 alias k n name members = record { place = line n; body = Aliases k (record { name = name; members = members } ∷ []) }
 
-abbrev policy : (entries : List Entry) → IsTrue (list_all (λ (e : Entry). nat_lt e.place.file 1) entries) → IsTrue (list_all (λ (e : Entry). not (is_include e.body)) entries) → Policy
+abbrev policy : (entries : List Entry) → IsTrue (list_all (λ (e : Entry). nat_lt e.place.file 1) entries) → IsTrue (list_all (λ (e : Entry). not (is_include_entry e.body)) entries) → Policy
 policy entries placed unfolded = record { files = [] ∷ []; entries = entries; placed = placed; unfolded = unfolded }
 
 abbrev alice_all : ℕ → List CommandSpec → Entry
@@ -181,7 +181,7 @@ pub the_last_match_decides :
     (verdict_of all_then_not_su known (asks (codes "/bin/su")) ≡ Deny (line 1))
     × (verdict_of all_then_not_su known (asks (codes "/bin/ls")) ≡ allowed_setenv 1)
     × (verdict_of not_su_then_all known (asks (codes "/bin/su")) ≡ allowed_setenv 1)
-unfolding reading_within written user_named host_named group_named user_fits group_fits host_fits command_fits host_chars free_bangs parts_after part_at bracket_after items_after range_at begins fits cuts tags_named tags_before tags_at runas_before runas_at value form_allows runas_allows place_grants section_grants grants applies question_of verdict_on verdict_of
+unfolding reading_within written_form user_named host_named group_named user_fits group_fits host_fits command_fits host_chars free_bangs parts_after part_at bracket_after items_after range_at begins fits cuts tags_named tags_before tags_at runas_before runas_at value form_allows runas_allows place_grants section_grants grants applies question_of verdict_on verdict_of
 the_last_match_decides = (refl, refl, refl)
 
 abbrev all_then_ls : Policy
@@ -195,7 +195,7 @@ pub setenv_is_for_all_alone :
     (verdict_of all_then_ls known (asks (codes "/bin/ls")) ≡ allowed 1)
     × (verdict_of all_then_ls known (asks (codes "/bin/su")) ≡ allowed_setenv 1)
     × (verdict_of no_setenv_all known (asks (codes "/bin/ls")) ≡ Allow (line 1) (chosen None None (Some false)))
-unfolding reading_within written user_named host_named group_named user_fits group_fits host_fits command_fits host_chars free_bangs parts_after part_at bracket_after items_after range_at begins fits cuts tags_named tags_before tags_at runas_before runas_at value form_allows runas_allows place_grants section_grants grants applies question_of verdict_on verdict_of
+unfolding reading_within written_form user_named host_named group_named user_fits group_fits host_fits command_fits host_chars free_bangs parts_after part_at bracket_after items_after range_at begins fits cuts tags_named tags_before tags_at runas_before runas_at value form_allows runas_allows place_grants section_grants grants applies question_of verdict_on verdict_of
 setenv_is_for_all_alone = (refl, refl, refl)
 
 abbrev two_rules : Policy
@@ -206,7 +206,7 @@ pub the_last_rule_decides :
     (verdict_of two_rules known (asks (codes "/bin/id")) ≡ allowed_setenv 1)
     × (verdict_of two_rules known (asks (codes "/bin/su")) ≡ Deny (line 2))
     × (verdict_of two_rules known (asks (codes "/bin/ls")) ≡ allowed 3)
-unfolding reading_within written user_named host_named group_named user_fits group_fits host_fits command_fits host_chars free_bangs parts_after part_at bracket_after items_after range_at begins fits cuts tags_named tags_before tags_at runas_before runas_at value form_allows runas_allows place_grants section_grants grants applies question_of verdict_on verdict_of
+unfolding reading_within written_form user_named host_named group_named user_fits group_fits host_fits command_fits host_chars free_bangs parts_after part_at bracket_after items_after range_at begins fits cuts tags_named tags_before tags_at runas_before runas_at value form_allows runas_allows place_grants section_grants grants applies question_of verdict_on verdict_of
 the_last_rule_decides = (refl, refl, refl)
 
 abbrev safe : Policy
@@ -226,7 +226,7 @@ pub alias_signs :
     × (verdict_of not_safe known (asks (codes "/bin/ls")) ≡ Deny (line 2))
     × (verdict_of not_not_safe known (asks (codes "/bin/su")) ≡ Deny (line 3))
     × (verdict_of not_not_safe known (asks (codes "/bin/ls")) ≡ allowed 3)
-unfolding reading_within written user_named host_named group_named user_fits group_fits host_fits command_fits host_chars free_bangs parts_after part_at bracket_after items_after range_at begins fits cuts tags_named tags_before tags_at runas_before runas_at value form_allows runas_allows place_grants section_grants grants applies question_of verdict_on verdict_of
+unfolding reading_within written_form user_named host_named group_named user_fits group_fits host_fits command_fits host_chars free_bangs parts_after part_at bracket_after items_after range_at begins fits cuts tags_named tags_before tags_at runas_before runas_at value form_allows runas_allows place_grants section_grants grants applies question_of verdict_on verdict_of
 alias_signs = (refl, refl, refl, refl, refl, refl)
 
 abbrev all_aliased : Policy
@@ -235,7 +235,7 @@ all_aliased = policy (alias kind.Cmnd 1 (codes "ANY") (everything ∷ []) ∷ al
 -- `ANY = ALL`: the deciding command is the ALL in it
 pub all_through_an_alias :
     (verdict_of all_aliased known (asks (codes "/bin/ls")) ≡ allowed_setenv 2)
-unfolding reading_within written user_named host_named group_named user_fits group_fits host_fits command_fits host_chars free_bangs parts_after part_at bracket_after items_after range_at begins fits cuts tags_named tags_before tags_at runas_before runas_at value form_allows runas_allows place_grants section_grants grants applies question_of verdict_on verdict_of
+unfolding reading_within written_form user_named host_named group_named user_fits group_fits host_fits command_fits host_chars free_bangs parts_after part_at bracket_after items_after range_at begins fits cuts tags_named tags_before tags_at runas_before runas_at value form_allows runas_allows place_grants section_grants grants applies question_of verdict_on verdict_of
 all_through_an_alias = refl
 
 abbrev deep : Policy
@@ -247,7 +247,7 @@ pub aliases_two_deep :
     × (verdict_of deep known (asks_on (codes "web2") (codes "/bin/ls") (Some (codes "operator")) None) ≡ NoMatch)
     × (verdict_of deep known (asks_on (codes "web1") (codes "/bin/ls") None None) ≡ NoMatch)
     × (verdict_of deep known (record (asks_on (codes "web1") (codes "/bin/ls") (Some (codes "operator")) None) { user = codes "bob" }) ≡ NoMatch)
-unfolding reading_within written user_named host_named group_named user_fits group_fits host_fits command_fits host_chars free_bangs parts_after part_at bracket_after items_after range_at begins fits cuts tags_named tags_before tags_at runas_before runas_at value form_allows runas_allows place_grants section_grants grants applies question_of verdict_on verdict_of
+unfolding reading_within written_form user_named host_named group_named user_fits group_fits host_fits command_fits host_chars free_bangs parts_after part_at bracket_after items_after range_at begins fits cuts tags_named tags_before tags_at runas_before runas_at value form_allows runas_allows place_grants section_grants grants applies question_of verdict_on verdict_of
 aliases_two_deep = (refl, refl, refl, refl)
 
 abbrev not_after_all : Policy
@@ -260,7 +260,7 @@ all_after_not = policy (rule 1 (with_bangs 1 (atom.Name (codes "alice")) ∷ nam
 pub the_last_member_decides :
     (verdict_of not_after_all known (asks (codes "/bin/ls")) ≡ NoMatch)
     × (verdict_of all_after_not known (asks (codes "/bin/ls")) ≡ allowed 1)
-unfolding reading_within written user_named host_named group_named user_fits group_fits host_fits command_fits host_chars free_bangs parts_after part_at bracket_after items_after range_at begins fits cuts tags_named tags_before tags_at runas_before runas_at value form_allows runas_allows place_grants section_grants grants applies question_of verdict_on verdict_of
+unfolding reading_within written_form user_named host_named group_named user_fits group_fits host_fits command_fits host_chars free_bangs parts_after part_at bracket_after items_after range_at begins fits cuts tags_named tags_before tags_at runas_before runas_at value form_allows runas_allows place_grants section_grants grants applies question_of verdict_on verdict_of
 the_last_member_decides = (refl, refl)
 
 abbrev runas_list : Policy
@@ -276,7 +276,7 @@ pub runas_holds_for_later_commands :
     × (verdict_of runas_list known (asks (codes "/usr/bin/lprm")) ≡ allowed 1)
     × (verdict_of runas_list known (asks_on (codes "web1") (codes "/usr/bin/lprm") (Some (codes "operator")) None) ≡ NoMatch)
     × (verdict_of root_then_operator known (asks (codes "/bin/ls")) ≡ allowed 1)
-unfolding reading_within written user_named host_named group_named user_fits group_fits host_fits command_fits host_chars free_bangs parts_after part_at bracket_after items_after range_at begins fits cuts tags_named tags_before tags_at runas_before runas_at value form_allows runas_allows place_grants section_grants grants applies question_of verdict_on verdict_of
+unfolding reading_within written_form user_named host_named group_named user_fits group_fits host_fits command_fits host_chars free_bangs parts_after part_at bracket_after items_after range_at begins fits cuts tags_named tags_before tags_at runas_before runas_at value form_allows runas_allows place_grants section_grants grants applies question_of verdict_on verdict_of
 runas_holds_for_later_commands = (refl, refl, refl, refl, refl)
 
 abbrev two_sections : Policy
@@ -289,7 +289,7 @@ pub tags_stay_in_their_section :
     × (verdict_of two_sections known (asks (codes "/bin/ls")) ≡ Allow (line 1) (chosen None (Some true) None))
     × (verdict_of two_sections known (asks_on (codes "web2") (codes "/bin/kill") None None) ≡ allowed 1)
     × (verdict_of two_sections known (asks_on (codes "web2") (codes "/bin/ls") None None) ≡ NoMatch)
-unfolding reading_within written user_named host_named group_named user_fits group_fits host_fits command_fits host_chars free_bangs parts_after part_at bracket_after items_after range_at begins fits cuts tags_named tags_before tags_at runas_before runas_at value form_allows runas_allows place_grants section_grants grants applies question_of verdict_on verdict_of
+unfolding reading_within written_form user_named host_named group_named user_fits group_fits host_fits command_fits host_chars free_bangs parts_after part_at bracket_after items_after range_at begins fits cuts tags_named tags_before tags_at runas_before runas_at value form_allows runas_allows place_grants section_grants grants applies question_of verdict_on verdict_of
 tags_stay_in_their_section = (refl, refl, refl, refl, refl)
 
 abbrev pair_twice : Policy
@@ -298,7 +298,7 @@ pair_twice = policy (alice_all 1 (spec None (opposite pair.Passwd ∷ own pair.P
 -- `NOPASSWD: PASSWD: NOEXEC: /bin/ls`: of two tags of one pair the last counts
 pub the_last_tag_of_a_pair :
     (verdict_of pair_twice known (asks (codes "/bin/ls")) ≡ Allow (line 1) (chosen (Some false) (Some true) None))
-unfolding reading_within written user_named host_named group_named user_fits group_fits host_fits command_fits host_chars free_bangs parts_after part_at bracket_after items_after range_at begins fits cuts tags_named tags_before tags_at runas_before runas_at value form_allows runas_allows place_grants section_grants grants applies question_of verdict_on verdict_of
+unfolding reading_within written_form user_named host_named group_named user_fits group_fits host_fits command_fits host_chars free_bangs parts_after part_at bracket_after items_after range_at begins fits cuts tags_named tags_before tags_at runas_before runas_at value form_allows runas_allows place_grants section_grants grants applies question_of verdict_on verdict_of
 the_last_tag_of_a_pair = refl
 
 abbrev under : Option Runas → Policy
@@ -313,7 +313,7 @@ pub runas_without_parentheses :
     × (verdict_of (under None) known (asks_as (Some (codes "root")) (Some (codes "root"))) ≡ allowed 1)
     × (verdict_of (under None) known (asks_as None (Some (codes "adm"))) ≡ NoMatch)
     × (verdict_of (under None) known (asks_as (Some (codes "alice")) None) ≡ NoMatch)
-unfolding reading_within written user_named host_named group_named user_fits group_fits host_fits command_fits host_chars free_bangs parts_after part_at bracket_after items_after range_at begins fits cuts tags_named tags_before tags_at runas_before runas_at value form_allows runas_allows place_grants section_grants grants applies question_of verdict_on verdict_of
+unfolding reading_within written_form user_named host_named group_named user_fits group_fits host_fits command_fits host_chars free_bangs parts_after part_at bracket_after items_after range_at begins fits cuts tags_named tags_before tags_at runas_before runas_at value form_allows runas_allows place_grants section_grants grants applies question_of verdict_on verdict_of
 runas_without_parentheses = (refl, refl, refl, refl)
 
 -- `(operator)`
@@ -323,7 +323,7 @@ pub runas_users :
     × (verdict_of (form (Some (named (codes "operator") ∷ [])) None) known (asks_as None None) ≡ NoMatch)
     × (verdict_of (form (Some (named (codes "operator") ∷ [])) None) known (asks_as (Some (codes "operator")) (Some (codes "adm"))) ≡ NoMatch)
     × (verdict_of (form (Some (named (codes "operator") ∷ [])) None) known (asks_as None (Some (codes "adm"))) ≡ NoMatch)
-unfolding reading_within written user_named host_named group_named user_fits group_fits host_fits command_fits host_chars free_bangs parts_after part_at bracket_after items_after range_at begins fits cuts tags_named tags_before tags_at runas_before runas_at value form_allows runas_allows place_grants section_grants grants applies question_of verdict_on verdict_of
+unfolding reading_within written_form user_named host_named group_named user_fits group_fits host_fits command_fits host_chars free_bangs parts_after part_at bracket_after items_after range_at begins fits cuts tags_named tags_before tags_at runas_before runas_at value form_allows runas_allows place_grants section_grants grants applies question_of verdict_on verdict_of
 runas_users = (refl, refl, refl, refl, refl)
 
 -- `(operator:adm)`
@@ -336,14 +336,14 @@ pub runas_users_and_groups :
     × (verdict_of (form (Some (named (codes "operator") ∷ [])) (Some (named (codes "adm") ∷ []))) known (asks_as (Some (codes "operator")) (Some (codes "alice"))) ≡ NoMatch)
     × (verdict_of (form (Some (named (codes "operator") ∷ [])) (Some (named (codes "adm") ∷ []))) known (asks_as None (Some (codes "operator"))) ≡ NoMatch)
     × (verdict_of (form (Some (named (codes "operator") ∷ [])) (Some (named (codes "adm") ∷ []))) known (asks_as None None) ≡ NoMatch)
-unfolding reading_within written user_named host_named group_named user_fits group_fits host_fits command_fits host_chars free_bangs parts_after part_at bracket_after items_after range_at begins fits cuts tags_named tags_before tags_at runas_before runas_at value form_allows runas_allows place_grants section_grants grants applies question_of verdict_on verdict_of
+unfolding reading_within written_form user_named host_named group_named user_fits group_fits host_fits command_fits host_chars free_bangs parts_after part_at bracket_after items_after range_at begins fits cuts tags_named tags_before tags_at runas_before runas_at value form_allows runas_allows place_grants section_grants grants applies question_of verdict_on verdict_of
 runas_users_and_groups = (refl, refl, refl, refl, refl, refl, refl, refl)
 
 -- `(!alice:adm)`: the list has a value for alice
 pub runas_not_the_user :
     (verdict_of (form (Some (with_bangs 1 (atom.Name (codes "alice")) ∷ [])) (Some (named (codes "adm") ∷ []))) known (asks_as None (Some (codes "adm"))) ≡ NoMatch)
     × (verdict_of (form (Some (with_bangs 1 (atom.Name (codes "alice")) ∷ [])) (Some (named (codes "adm") ∷ []))) known (asks_as (Some (codes "alice")) (Some (codes "adm"))) ≡ NoMatch)
-unfolding reading_within written user_named host_named group_named user_fits group_fits host_fits command_fits host_chars free_bangs parts_after part_at bracket_after items_after range_at begins fits cuts tags_named tags_before tags_at runas_before runas_at value form_allows runas_allows place_grants section_grants grants applies question_of verdict_on verdict_of
+unfolding reading_within written_form user_named host_named group_named user_fits group_fits host_fits command_fits host_chars free_bangs parts_after part_at bracket_after items_after range_at begins fits cuts tags_named tags_before tags_at runas_before runas_at value form_allows runas_allows place_grants section_grants grants applies question_of verdict_on verdict_of
 runas_not_the_user = (refl, refl)
 
 -- `(:operator)`
@@ -354,7 +354,7 @@ pub runas_groups :
     × (verdict_of (form None (Some (named (codes "operator") ∷ []))) known (asks_as None (Some (codes "adm"))) ≡ allowed 1)
     × (verdict_of (form None (Some (named (codes "operator") ∷ []))) known (asks_as (Some (codes "root")) None) ≡ NoMatch)
     × (verdict_of (form None (Some (named (codes "operator") ∷ []))) known (asks_as None (Some (codes "root"))) ≡ NoMatch)
-unfolding reading_within written user_named host_named group_named user_fits group_fits host_fits command_fits host_chars free_bangs parts_after part_at bracket_after items_after range_at begins fits cuts tags_named tags_before tags_at runas_before runas_at value form_allows runas_allows place_grants section_grants grants applies question_of verdict_on verdict_of
+unfolding reading_within written_form user_named host_named group_named user_fits group_fits host_fits command_fits host_chars free_bangs parts_after part_at bracket_after items_after range_at begins fits cuts tags_named tags_before tags_at runas_before runas_at value form_allows runas_allows place_grants section_grants grants applies question_of verdict_on verdict_of
 runas_groups = (refl, refl, refl, refl, refl, refl)
 
 -- `()`
@@ -364,7 +364,7 @@ pub runas_empty :
     × (verdict_of (form None None) known (asks_as None (Some (codes "adm"))) ≡ allowed 1)
     × (verdict_of (form None None) known (asks_as None (Some (codes "operator"))) ≡ NoMatch)
     × (verdict_of (form None None) known (asks_as (Some (codes "root")) None) ≡ NoMatch)
-unfolding reading_within written user_named host_named group_named user_fits group_fits host_fits command_fits host_chars free_bangs parts_after part_at bracket_after items_after range_at begins fits cuts tags_named tags_before tags_at runas_before runas_at value form_allows runas_allows place_grants section_grants grants applies question_of verdict_on verdict_of
+unfolding reading_within written_form user_named host_named group_named user_fits group_fits host_fits command_fits host_chars free_bangs parts_after part_at bracket_after items_after range_at begins fits cuts tags_named tags_before tags_at runas_before runas_at value form_allows runas_allows place_grants section_grants grants applies question_of verdict_on verdict_of
 runas_empty = (refl, refl, refl, refl, refl)
 
 -- `(ALL:ALL, !adm)`
@@ -373,7 +373,7 @@ pub runas_groups_but_one :
     × (verdict_of (form (Some (everything ∷ [])) (Some (everything ∷ with_bangs 1 (atom.Name (codes "adm")) ∷ []))) known (asks_as (Some (codes "bob")) (Some (codes "alice"))) ≡ allowed 1)
     × (verdict_of (form (Some (everything ∷ [])) (Some (everything ∷ with_bangs 1 (atom.Name (codes "adm")) ∷ []))) known (asks_as (Some (codes "operator")) (Some (codes "adm"))) ≡ NoMatch)
     × (verdict_of (form (Some (everything ∷ [])) (Some (everything ∷ with_bangs 1 (atom.Name (codes "adm")) ∷ []))) known (asks_as None (Some (codes "adm"))) ≡ NoMatch)
-unfolding reading_within written user_named host_named group_named user_fits group_fits host_fits command_fits host_chars free_bangs parts_after part_at bracket_after items_after range_at begins fits cuts tags_named tags_before tags_at runas_before runas_at value form_allows runas_allows place_grants section_grants grants applies question_of verdict_on verdict_of
+unfolding reading_within written_form user_named host_named group_named user_fits group_fits host_fits command_fits host_chars free_bangs parts_after part_at bracket_after items_after range_at begins fits cuts tags_named tags_before tags_at runas_before runas_at value form_allows runas_allows place_grants section_grants grants applies question_of verdict_on verdict_of
 runas_groups_but_one = (refl, refl, refl, refl)
 
 -- without a user root
@@ -386,7 +386,7 @@ pub own_forms_need_no_root :
     × (verdict_of (form None (Some [])) rootless (asks_as None None) ≡ allowed 1)
     × (verdict_of (under None) rootless (asks_as None None) ≡ NoMatch)
     × (verdict_of (form (Some (everything ∷ [])) None) rootless (asks_as None None) ≡ NoMatch)
-unfolding reading_within written user_named host_named group_named user_fits group_fits host_fits command_fits host_chars free_bangs parts_after part_at bracket_after items_after range_at begins fits cuts tags_named tags_before tags_at runas_before runas_at value form_allows runas_allows place_grants section_grants grants applies question_of verdict_on verdict_of
+unfolding reading_within written_form user_named host_named group_named user_fits group_fits host_fits command_fits host_chars free_bangs parts_after part_at bracket_after items_after range_at begins fits cuts tags_named tags_before tags_at runas_before runas_at value form_allows runas_allows place_grants section_grants grants applies question_of verdict_on verdict_of
 own_forms_need_no_root = (refl, refl, refl, refl)
 
 -- the first name that is not known decides: of the user, the host, the target and the group
@@ -395,5 +395,5 @@ pub unknown_names :
     × (verdict_of all_then_not_su known (asks_on (codes "db") (codes "/bin/ls") (Some (codes "eve")) (Some (codes "wheel"))) ≡ Unknown what.Host)
     × (verdict_of all_then_not_su known (asks_on (codes "web1") (codes "/bin/ls") (Some (codes "eve")) (Some (codes "wheel"))) ≡ Unknown what.Target)
     × (verdict_of all_then_not_su known (asks_on (codes "web1") (codes "/bin/ls") (Some (codes "root")) (Some (codes "wheel"))) ≡ Unknown what.Group)
-unfolding reading_within written user_named host_named group_named user_fits group_fits host_fits command_fits host_chars free_bangs parts_after part_at bracket_after items_after range_at begins fits cuts tags_named tags_before tags_at runas_before runas_at value form_allows runas_allows place_grants section_grants grants applies question_of verdict_on verdict_of
+unfolding reading_within written_form user_named host_named group_named user_fits group_fits host_fits command_fits host_chars free_bangs parts_after part_at bracket_after items_after range_at begins fits cuts tags_named tags_before tags_at runas_before runas_at value form_allows runas_allows place_grants section_grants grants applies question_of verdict_on verdict_of
 unknown_names = (refl, refl, refl, refl)

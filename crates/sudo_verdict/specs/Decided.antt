@@ -5,7 +5,7 @@ use Rattle.sudo_grammar.specs.declared.kind.Atom.{Atom}
 use Rattle.sudo_grammar.specs.declared.kind.Signed.{Signed}
 use Rattle.sudo_grammar.specs.declared.kind.Member.{Member}
 use Rattle.sudo_grammar.specs.declared.policy.Policy.{Policy}
-use Rattle.sudo_policy.specs.Written.{differ, written}
+use Rattle.sudo_policy.specs.Written.{differ, written_form}
 use Rattle.sudo_verdict.specs.declared.decision.Decision.{Decision}
 use Rattle.sudo_verdict.specs.Last.{last_that}
 use Rattle.sudo_verdict.specs.Values.{is_all}
@@ -23,5 +23,5 @@ unfoldable pub decided_in : (Atom → Bool) → List Signed → Option Decision
 decided_in test list = option_map decision_of (last_that (λ s. test s.atom) list)
 
 -- the decision of a list: that of its written form
-unfoldable pub decided : Kind → Policy → List Member → (Atom → Bool) → Option Decision
-decided kind p list test = decided_in test (written kind p list)
+unfoldable pub list_decision : Kind → Policy → List Member → (Atom → Bool) → Option Decision
+list_decision kind p list test = decided_in test (written_form kind p list)

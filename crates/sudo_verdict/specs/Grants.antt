@@ -14,14 +14,14 @@ use Rattle.sudo_grammar.specs.declared.policy.EntryBody.{EntryBody}
 use Rattle.sudo_grammar.specs.declared.policy.EntryBody.TheVariants.{Rule}
 use Rattle.sudo_grammar.specs.declared.policy.Policy.{Policy}
 use Rattle.sudo_match.specs.declared.request.Tags.{Tags}
-use Rattle.sudo_policy.specs.Written.{written}
+use Rattle.sudo_policy.specs.Written.{written_form}
 use Rattle.sudo_match.specs.Matching.{command_fits}
 use Rattle.sudo_verdict.specs.Tagged.{tags_at, runas_at}
 use Rattle.sudo_verdict.specs.Questions.{Question}
 use Rattle.sudo_verdict.specs.Values.{user_listed, host_listed}
 use Rattle.sudo_verdict.specs.RunasForms.{runas_allows}
 
--- one written-out command, with its users, hosts, runas and tags
+-- one atom of a command written out, with its sign, users, hosts, runas and tags
 pub record Grant : Type 0 where
   pub place : Place
   pub users : List Member
@@ -45,7 +45,7 @@ grant_of place users s i w = record {
 
 -- the grants of command i: one for each atom of its written form, in order
 unfoldable pub place_grants : Policy → Place → List Member → Section → ℕ × CommandSpec → List Grant
-place_grants p place users s (i, c) = map (grant_of place users s i) (written kind.Cmnd p (c.command ∷ []))
+place_grants p place users s (i, c) = map (grant_of place users s i) (written_form kind.Cmnd p (c.command ∷ []))
 
 -- the grants of a section: those of each command, with its index
 unfoldable pub section_grants : Policy → Place → List Member → Section → List Grant

@@ -8,7 +8,7 @@ use Rattle.sudo_grammar.specs.declared.kind.Atom.{Atom}
 use Rattle.sudo_grammar.specs.declared.kind.Atom.TheVariants as atom
 use Rattle.sudo_grammar.specs.declared.policy.Entry.{Entry}
 use Rattle.sudo_grammar.specs.declared.policy.Policy.{Policy}
-use Rattle.sudo_match.specs.Pattern.{is_plain, ends_in_slash}
+use Rattle.sudo_match.specs.Pattern.{is_plain, is_folder_path}
 use Rattle.sudo_match.specs.declared.people.Person.{Person}
 use Rattle.sudo_match.specs.declared.people.Group.{Group}
 use Rattle.sudo_verdict.specs.Questions.{Question}
@@ -60,7 +60,7 @@ path_number_from folder beginning whole (c ∷ cs) =
 
 -- the number under which the path of a command is found
 abbrev pub path_number : List Ch → ℕ
-path_number path = path_number_from (ends_in_slash path) beginning_seed whole_seed path
+path_number path = path_number_from (is_folder_path path) beginning_seed whole_seed path
 
 -- the number under which an atom of a user list or of a command list is found; 0 for atoms that match all, or none
 unfoldable pub atom_number : Atom → ℕ
@@ -87,36 +87,36 @@ row_words None = []
 row_words (Some row) = row.items
 
 -- the rule is in the row of a number
-unfoldable pub posted : Rows → ℕ → ℕ → Bool
-posted rows number rule = bit (row_words (slice_get rows (number % length rows))) rule == 1
+unfoldable pub is_in_row : Rows → ℕ → ℕ → Bool
+is_in_row rows number rule = bit (row_words (slice_get rows (number % length rows))) rule == 1
 
 -- the rule is in neither row of a group, that of its name and that of its ID
 abbrev pub misses_group : Rows → ℕ → Group → Bool
-misses_group rows rule g = not (posted rows (group_number g.name) rule) && not (posted rows (gid_number g.gid) rule)
+misses_group rows rule g = not (is_in_row rows (group_number g.name) rule) && not (is_in_row rows (gid_number g.gid) rule)
 
 -- the rule is in no row of a user
 unfoldable pub misses_user : Rows → ℕ → Person → Bool
 misses_user rows rule u =
-    not (posted rows 0 rule)
-    && (not (posted rows (user_bucket u.name) rule)
-    && (not (posted rows (uid_number u.uid) rule)
+    not (is_in_row rows 0 rule)
+    && (not (is_in_row rows (user_bucket u.name) rule)
+    && (not (is_in_row rows (uid_number u.uid) rule)
     && list_all (misses_group rows rule) u.groups))
 
 -- the rule is in no row of a beginning of the bytes; `number` is that of the bytes before them
 unfoldable pub misses_beginnings : Rows → ℕ → ℕ → List ℕ → Bool
-misses_beginnings rows rule number [] = not (posted rows number rule)
+misses_beginnings rows rule number [] = not (is_in_row rows number rule)
 misses_beginnings rows rule number (b ∷ bs) =
-    not (posted rows number rule) && misses_beginnings rows rule (next_number number b) bs
+    not (is_in_row rows number rule) && misses_beginnings rows rule (next_number number b) bs
 
 -- the rule is in no row of a command
 unfoldable pub misses_command : Rows → ℕ → List ℕ → Bool
 misses_command rows rule command =
-    not (posted rows 0 rule)
-    && (not (posted rows (bucket_of whole_seed command) rule) && misses_beginnings rows rule beginning_seed command)
+    not (is_in_row rows 0 rule)
+    && (not (is_in_row rows (bucket_of whole_seed command) rule) && misses_beginnings rows rule beginning_seed command)
 
 -- each rule that the old rows have under a number, the new rows have under it too
 abbrev pub Grows : Rows → Rows → Type 0
-Grows old new = (number rule : ℕ) → posted old number rule ≡ true → posted new number rule ≡ true
+Grows old new = (number rule : ℕ) → is_in_row old number rule ≡ true → is_in_row new number rule ≡ true
 
 -- the rows by user and those by command
 abbrev pub Index : Type 0

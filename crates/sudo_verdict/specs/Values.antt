@@ -6,7 +6,7 @@ use Rattle.sudo_grammar.specs.declared.kind.Atom.{Atom}
 use Rattle.sudo_grammar.specs.declared.kind.Atom.TheVariants.{All}
 use Rattle.sudo_grammar.specs.declared.kind.Member.{Member}
 use Rattle.sudo_grammar.specs.declared.policy.Policy.{Policy}
-use Rattle.sudo_policy.specs.Written.{written}
+use Rattle.sudo_policy.specs.Written.{written_form}
 use Rattle.sudo_match.specs.Matching.{user_fits, host_fits}
 use Rattle.sudo_verdict.specs.Last.{last_that}
 use Rattle.sudo_verdict.specs.Questions.{Question}
@@ -16,9 +16,9 @@ is_all All = true
 is_all _ = false
 
 -- the value of a list: the sign of the last atom of the written-out list that passes the test (true for allow), or
--- none; for each list of a checked policy, `written` is its written form (`lists_are_written`)
+-- none; for each list of a checked policy, `written_form` is its written form (`lists_are_written`)
 unfoldable pub value : Kind → Policy → List Member → (Atom → Bool) → Option Bool
-value kind p list test = option_map (λ s. not s.negated) (last_that (λ s. test s.atom) (written kind p list))
+value kind p list test = option_map (λ s. not s.negated) (last_that (λ s. test s.atom) (written_form kind p list))
 
 abbrev pub allows : Option Bool → Bool
 allows v = unwrap_or v false

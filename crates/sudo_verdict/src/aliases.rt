@@ -1,12 +1,12 @@
 //! Numbers of aliases, and the decisions of aliases that are remembered while a list is decided.
 //!
-//! Aliases that name several others may write out to very many members. So if some alias does, the decision of each
-//! alias that others name is remembered while a list is decided.
+//! Aliases that name several others may write out to very many members. So if some alias names more than one other,
+//! the decision of each alias that others name is remembered while a list is decided.
 
 ghost use Rattle.std.specs.Prelude.{ℕ, ◌≡◌, ◌⊎◌, Option, Some, None, IfSome, slice_get, option_copied};
 ghost use Rattle.sudo_base.specs.NameIndices.{index_of};
 ghost use Rattle.sudo_verdict.specs.declared.decision.Decision.{Decision as TheDecision};
-ghost use Rattle.sudo_verdict.specs.Body.Recalling.{AreApart, IsNumbering, IsOneToOne, number_in};
+ghost use Rattle.sudo_verdict.specs.Body.Recalling.{HasOneNamePerNumber, IsNumbering, IsOneToOne, number_in};
 
 use crate::decision::Decision;
 use std::alloc::{AllocError, Global};
@@ -204,7 +204,8 @@ pub(crate) fn remember(slots: &mut [Slot], number: Option<usize>, found: Option<
 
 /// Returns the decision of the alias with this number, or `None` if it is not remembered.
 pub(crate) fn recall(slots: &[Slot], number: Option<usize>) -> Option<Option<Decision>>
-    ensures there { IfSome result (λ o. IfSome number (λ n. slice_get slots.now n ≡ Some (Some o))) }
+    ensures there { IfSome result (λ o. IfSome number (λ n. slice_get slots.now n
+        ≡ Some (Some o))) }
     ensures numbered { number ≡ None → result ≡ None }
 {
     *slots.get(number?)?
@@ -213,7 +214,7 @@ pub(crate) fn recall(slots: &[Slot], number: Option<usize>) -> Option<Option<Dec
 /// Returns the number of an alias, or `None` if aliases have no numbers or it has none.
 pub(crate) fn number_of(numbers: Option<&Numbers>, name: &[u8]) -> Option<usize>
     ensures value { result ≡ number_in (option_copied numbers.entry) name.now }
-    ensures apart { AreApart (option_copied numbers.entry) }
+    ensures apart { HasOneNamePerNumber (option_copied numbers.entry) }
 {
     match numbers {
         Some(numbers) => numbers.get(name),

@@ -3,14 +3,16 @@
 ghost use Rattle.std.specs.Prelude.{◌≡◌, ◌∷◌, [], Bool, IsTrue, option_copied, option_map};
 ghost use Rattle.sudo_grammar.specs.declared.kind.Atom.{Atom};
 ghost use Rattle.sudo_policy.specs.Resolving.{resolves};
+ghost use Rattle.sudo_match.specs.Beginnings.{has_special};
 ghost use Rattle.sudo_match.specs.Matching.{user_fits, group_fits, host_fits, command_fits};
 ghost use Rattle.sudo_verdict.specs.Values as values;
 ghost use Rattle.sudo_verdict.specs.Body.Recalling.{Recalls};
-ghost use Rattle.sudo_verdict.specs.Decided.{decided, negated_once};
+ghost use Rattle.sudo_verdict.specs.Decided.{list_decision, negated_once};
 
 use crate::aliases::{Aliases, Numbers, REMEMBERED, Slot, number_of, recall, remember};
 use sudo_match::{
-    Group, Machine, Person, command_matches, group_matches, host_matches, user_matches,
+    Group, Machine, Person, command_differs, command_matches, group_matches, host_matches,
+    user_matches,
 };
 use sudo_policy::{Atom, Checked, Kind, Member, is_negated};
 
@@ -70,12 +72,18 @@ impl Subject for AsHost<'_> {
 pub(crate) struct AsCommand<'a> {
     pub(crate) command: &'a [u8],
     pub(crate) arguments: &'a [u8],
+    /// Whether the command has a byte that is special in patterns.
+    pub(crate) special: bool,
+    ghost known: { special ≡ has_special command.now },
 }
 
 impl Subject for AsCommand<'_> {
     ghost fits = { λ s a. command_fits a s.command.now s.arguments.now };
 
     fn matches(&self, atom: &Atom) -> bool {
+        if !self.special && command_differs(atom, self.command) {
+            return false;
+        }
         command_matches(atom, self.command, self.arguments)
     }
 }
@@ -139,7 +147,7 @@ pub(crate) fn decide_list<S: Subject>(
     aliases: Option<&Aliases>,
 ) -> Option<Decision>
     requires { IsTrue (resolves kind checked.now members.now) }
-    ensures { result ≡ decided kind checked.now members.now (S.fits subject.now) }
+    ensures { result ≡ list_decision kind checked.now members.now (S.fits subject.now) }
 {
     match aliases {
         None => decide(checked, kind, members, subject, None, &mut []),
@@ -167,7 +175,7 @@ pub(crate) fn decide_one<S: Subject>(
     aliases: Option<&Aliases>,
 ) -> Option<Decision>
     requires { IsTrue (resolves kind checked.now (member.now ∷ [])) }
-    ensures { result ≡ decided kind checked.now (member.now ∷ []) (S.fits subject.now) }
+    ensures { result ≡ list_decision kind checked.now (member.now ∷ []) (S.fits subject.now) }
 {
     match aliases {
         None => decide_member(checked, kind, member, subject, None, &mut []),
@@ -199,7 +207,7 @@ fn decide<S: Subject>(
     requires resolves { IsTrue (resolves kind checked.now members.now) }
     requires recalls { Recalls kind checked.now (option_copied numbers) (S.fits subject.now)
         slots.old }
-    ensures value { result ≡ decided kind checked.now members.now (S.fits subject.now) }
+    ensures value { result ≡ list_decision kind checked.now members.now (S.fits subject.now) }
     ensures recalls { Recalls kind checked.now (option_copied numbers.entry) (S.fits subject.now)
         slots.new }
 {
@@ -227,7 +235,7 @@ fn decide_member<S: Subject>(
     requires resolves { IsTrue (resolves kind checked.now (member.now ∷ [])) }
     requires recalls { Recalls kind checked.now (option_copied numbers) (S.fits subject.now)
         slots.old }
-    ensures value { result ≡ decided kind checked.now (member.now ∷ []) (S.fits subject.now) }
+    ensures value { result ≡ list_decision kind checked.now (member.now ∷ []) (S.fits subject.now) }
     ensures recalls { Recalls kind checked.now (option_copied numbers.entry) (S.fits subject.now)
         slots.new }
 {

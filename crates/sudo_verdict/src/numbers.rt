@@ -4,7 +4,7 @@
 //! number is one of theirs.
 
 ghost use Rattle.std.specs.Prelude.{ℕ, ◌≡◌, ◌+◌, ◌*◌, ◌%◌, ◌<◌};
-ghost use Rattle.sudo_match.specs.Pattern.{ends_in_slash};
+ghost use Rattle.sudo_match.specs.Pattern.{is_folder_path};
 ghost use Rattle.sudo_verdict.specs.Postings as postings;
 
 use sudo_match::is_special;
@@ -103,7 +103,7 @@ fn path_number(path: &[Ch]) -> usize
 
 // Whether the path ends in `/`, so that it stands for the files of a folder.
 fn is_folder(path: &[Ch]) -> bool
-    ensures { result ≡ ends_in_slash path.now }
+    ensures { result ≡ is_folder_path path.now }
 {
     match path.last() {
         Some(ch) => ch.byte == b'/',

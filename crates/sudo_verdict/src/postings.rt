@@ -8,7 +8,7 @@ ghost use Rattle.std.specs.List.{list_all};
 ghost use Rattle.sudo_grammar.specs.declared.kind.Atom.{Atom};
 ghost use Rattle.sudo_grammar.specs.declared.kind.Kind.TheVariants as kind;
 ghost use Rattle.sudo_policy.specs.Resolving.{resolves, section_resolves, command_resolves};
-ghost use Rattle.sudo_verdict.specs.Decided.{decided};
+ghost use Rattle.sudo_verdict.specs.Decided.{list_decision};
 ghost use Rattle.sudo_verdict.specs.Postings.{Covers, Grows};
 ghost use Rattle.sudo_verdict.specs.Body.Silence.{IsSilent, CommandsSilent, SectionsSilent, EntrySilent};
 ghost use Rattle.sudo_verdict.specs.Body.Resolved.{body_resolves};
@@ -75,7 +75,7 @@ impl Posting {
         ensures grows { Grows self.old.rows.rows.items self.new.rows.rows.items }
         ensures covers { OnOk result ((test : Atom → Bool)
             → IsSilent self.new.rows.rows.items rule test
-            → decided kind checked.now members.now test ≡ None) }
+            → list_decision kind checked.now members.now test ≡ None) }
     {
         let mut left = members;
         while let Some((member, rest)) = left.split_last() {
@@ -101,7 +101,7 @@ impl Posting {
         ensures grows { Grows self.old.rows.rows.items self.new.rows.rows.items }
         ensures covers { OnOk result ((test : Atom → Bool)
             → IsSilent self.new.rows.rows.items rule test
-            → decided kind checked.now (member.now ∷ []) test ≡ None) }
+            → list_decision kind checked.now (member.now ∷ []) test ≡ None) }
     {
         if self.left == 0 {
             return self.rows.post(EVERYONE, rule);

@@ -10,8 +10,8 @@ ghost use Rattle.sudo_verdict.specs.Questions.{question_of, target_of};
 ghost use Rattle.sudo_verdict.specs.Body.Queries.{question};
 
 use crate::aliases::Aliases;
-use crate::decision::{AsGroup, AsHost, AsUser, value};
-use sudo_match::{Directory, Group, Machine, Person, Request, What};
+use crate::decision::{AsCommand, AsGroup, AsHost, AsUser, value};
+use sudo_match::{Directory, Group, Machine, Person, Request, What, has_special};
 use sudo_policy::{Checked, Kind, Member, Runas};
 use sudo_text::Seq;
 
@@ -26,8 +26,8 @@ pub(crate) struct Query<'a> {
     pub(crate) group: Option<&'a Group>,
     /// The user to run the command as, if known.
     pub(crate) target: Option<&'a Person>,
-    pub(crate) command: &'a [u8],
-    pub(crate) arguments: &'a [u8],
+    /// The command with its arguments.
+    pub(crate) command: AsCommand<'a>,
     /// The numbers of aliases, where each is to be decided once for a list.
     pub(crate) aliases: Option<&'a Aliases>,
 }
@@ -68,8 +68,11 @@ pub(crate) fn query_of<'a>(
         asked,
         group,
         target: target(directory, user, asked, group),
-        command: request.command.as_slice(),
-        arguments: request.arguments.as_slice(),
+        command: AsCommand {
+            command: request.command.as_slice(),
+            arguments: request.arguments.as_slice(),
+            special: has_special(request.command.as_slice()),
+        },
         aliases,
     })
 }

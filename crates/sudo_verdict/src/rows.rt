@@ -1,8 +1,8 @@
 //! Rules by number, as rows of bits.
 
 ghost use Rattle.std.specs.Prelude.{ℕ, ◌≡◌, ◌+◌, ◌*◌, ◌<◌, true, IfOk, OnOk, length};
-ghost use Rattle.sudo_verdict.specs.Postings.{Grows, bit, posted};
-ghost use Rattle.sudo_verdict.specs.Body.Blocks.{Adds, AddsWords};
+ghost use Rattle.sudo_verdict.specs.Postings.{Grows, bit, is_in_row};
+ghost use Rattle.sudo_verdict.specs.Body.Blocks.{UnitesRow, AddsWords};
 
 use crate::numbers::NUMBERS;
 use std::alloc::{AllocError, Global};
@@ -65,7 +65,7 @@ impl Rows {
         requires { 0 < length self.old.rows.items }
         ensures count { length self.new.rows.items ≡ length self.old.rows.items }
         ensures grows { Grows self.old.rows.items self.new.rows.items }
-        ensures posted { OnOk result (posted self.new.rows.items number rule ≡ true) }
+        ensures posted { OnOk result (is_in_row self.new.rows.items number rule ≡ true) }
     {
         let index = number % self.rows.len();
         post_in(&mut self.rows[index], rule)
@@ -75,7 +75,7 @@ impl Rows {
     pub(crate) fn add_to(&self, number: usize, first: usize, block: &mut [u64])
         requires { 0 < length self.now.rows.items }
         ensures count { length block.new ≡ length block.old }
-        ensures adds { Adds self.now.rows.items number first block.old block.new }
+        ensures adds { UnitesRow self.now.rows.items number first block.old block.new }
     {
         let row = self.rows[number % self.rows.len()].as_slice();
         if first < row.len() {

@@ -15,14 +15,14 @@ use crate::candidates::{add_command, add_user, last_in_both_before};
 use crate::postings::{Budget, Postings};
 use crate::query::{Query, query_of};
 use crate::rows::Rows;
-use crate::search::search_entry;
+use crate::search::search_candidate;
 use std::alloc::{AllocError, Global};
 use std::marker::Model;
 use sudo_match::{Directory, Request, Verdict};
 use sudo_policy::Checked;
 
 // The number of words, of 64 rules each, that are searched at a time.
-const BLOCK: usize = 256;
+const BLOCK: usize = 64;
 
 /// An index of the rules of a policy that may decide for a user and for a command. Holds numbers and names of aliases,
 /// but borrows nothing from the policy. Contracts see its rows.
@@ -110,7 +110,7 @@ fn search_block(
 ) -> Option<Verdict>
     requires index { Indexes checked.now index.now }
     requires begins { 64 * first < end }
-    requires block { end ≤ 64 * first + 16384 }
+    requires block { end ≤ 64 * first + 4096 }
     requires within { end ≤ length checked.now.entries }
     ensures { last_set (map (entry_found checked.now (question query.now))
         (take end checked.now.entries))
@@ -123,7 +123,7 @@ fn search_block(
     add_user(&index.users, query.user, first, &mut users[..words]);
     add_command(
         &index.commands,
-        query.command,
+        query.command.command,
         first,
         &mut commands[..words],
     );
@@ -167,7 +167,7 @@ fn search_candidates(
             return None;
         }
         left -= 1;
-        let found = search_entry(checked, query, &entries[start + left]);
+        let found = search_candidate(checked, query, &entries[start + left]);
         if found.is_some() {
             return found;
         }

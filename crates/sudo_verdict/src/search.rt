@@ -11,7 +11,7 @@ ghost use Rattle.sudo_verdict.specs.Verdicts.{verdict_of};
 ghost use Rattle.sudo_verdict.specs.Body.Resolved.{body_resolves};
 ghost use Rattle.sudo_verdict.specs.Found.{verdict_from, command_found, commands_found, section_found, entry_found};
 
-use crate::decision::{AsCommand, Decision, decide_one};
+use crate::decision::{Decision, decide_one};
 use crate::query::{Query, query_of};
 use crate::tags::{tags_before_end, tags_given};
 use sudo_match::{Directory, Request, Verdict};
@@ -60,6 +60,30 @@ pub(crate) fn search_entry(checked: &Checked, query: &Query<'_>, entry: &Entry) 
         EntryBody::Rule { users, sections } => {
             if query.user_listed(checked, users.as_slice()) {
                 search_sections(checked, query, entry.place, sections.as_slice())
+            } else {
+                None
+            }
+        }
+        _ => None,
+    }
+}
+
+/// Returns the same as `search_entry`. Decides the user list last: an index has found the entry by its user list, which
+/// then mostly allows the user.
+#[tactic(auto, unfolding(crate::specs::Found::rule_found))]
+pub(crate) fn search_candidate(
+    checked: &Checked,
+    query: &Query<'_>,
+    entry: &Entry,
+) -> Option<Verdict>
+    requires { IsTrue (body_resolves checked.now entry.now.body) }
+    ensures { result ≡ entry_found checked.now (question query.now) entry.now }
+{
+    match &entry.body {
+        EntryBody::Rule { users, sections } => {
+            let found = search_sections(checked, query, entry.place, sections.as_slice())?;
+            if query.user_listed(checked, users.as_slice()) {
+                Some(found)
             } else {
                 None
             }
@@ -162,12 +186,13 @@ fn search_command(
             refused,
         };
     }
-    let subject = AsCommand {
-        command: query.command,
-        arguments: query.arguments,
-    };
-    let Some(decision) = decide_one(checked, Kind::Cmnd, &spec.command, &subject, query.aliases)
-    else {
+    let Some(decision) = decide_one(
+        checked,
+        Kind::Cmnd,
+        &spec.command,
+        &query.command,
+        query.aliases,
+    ) else {
         return Examined {
             verdict: None,
             refused,

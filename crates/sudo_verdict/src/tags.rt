@@ -1,4 +1,4 @@
-//! Which tags hold at a place of a section.
+//! Which tags hold at a position of a section.
 
 ghost use Rattle.std.specs.Prelude.{◌≡◌, ◌∷◌, []};
 ghost use Rattle.sudo_verdict.specs.Tagged as tagged;
@@ -12,7 +12,7 @@ const SETENV: Tag = Tag {
     on: true,
 };
 
-/// With SETENV where the command is `ALL` and that pair is not set.
+/// Returns the tags, with SETENV added if the command is `ALL` and that pair is not set.
 pub(crate) fn tags_given(tags: Tags, all: bool) -> Tags
     ensures { result ≡ tagged.tags_given all tags }
 {
@@ -23,7 +23,7 @@ pub(crate) fn tags_given(tags: Tags, all: bool) -> Tags
     }
 }
 
-/// No tag.
+/// Returns the choices of no tag.
 #[tactic(auto, unfolding(crate::specs::Tagged::tags_named))]
 fn no_tags() -> Tags
     ensures { result ≡ tagged.tags_named [] }
@@ -33,17 +33,17 @@ fn no_tags() -> Tags
     }
 }
 
-/// With a tag that stands before these, for its pair where that is not set.
+/// Returns the tags with an earlier one added, if its pair is not set.
 fn with_earlier(tags: Tags, tag: Tag) -> Tags
     ensures { result ≡ tagged.or_tags tags (tagged.tags_named (tag ∷ [])) }
 {
     let mut tags = tags;
-    let place = tag.pair.position();
-    tags.choices[place] = tags.choices[place].or(Some(tag.on));
+    let position = tag.pair.position();
+    tags.choices[position] = tags.choices[position].or(Some(tag.on));
     tags
 }
 
-/// With the tags of a list that stands before these.
+/// Returns the tags with those of an earlier list added, for pairs that are not set.
 #[tactic(auto, using(crate::proofs::Tagging::or_tags_push, crate::proofs::Tagging::or_tags_end, crate::proofs::Tagging::or_tags_whole))]
 fn with_all_earlier(later: Tags, earlier: &[Tag]) -> Tags
     ensures { result ≡ tagged.or_tags later (tagged.tags_named earlier.now) }

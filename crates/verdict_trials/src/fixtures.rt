@@ -5,7 +5,7 @@ use audit_files::{Script, read_hosts, read_requests, read_users};
 use std::alloc::{AllocError, Global};
 use std::test::Fail;
 use sudo_load::{Supply, load};
-use sudo_match::{Directory, Machine, Person};
+use sudo_match::{Directory, Machine, Person, Tags};
 use sudo_policy::{Checked, check};
 use sudo_text::Seq;
 use sudo_verdict::{Budget, Request, RuleIndex, Verdict, What, verdict};
@@ -109,7 +109,7 @@ pub(crate) fn verdict_of_bodies(
     Ok(found)
 }
 
-fn word(verdict: Verdict) -> &'static str {
+fn word(verdict: &Verdict) -> &'static str {
     match verdict {
         Verdict::Allow { .. } => "allow",
         Verdict::Deny { .. } => "deny",
@@ -121,12 +121,10 @@ fn word(verdict: Verdict) -> &'static str {
     }
 }
 
-fn line_of(verdict: Verdict) -> Option<u32> {
-    match verdict {
-        Verdict::Allow { place, .. } => Some(place.line),
-        Verdict::Deny { place } => Some(place.line),
-        _ => None,
-    }
+// Appends the line of the grant that decided.
+fn append_line(alloc: Global, text: &mut String, line: u32) -> Result<(), AllocError> {
+    let number = format!(in alloc; " {line}")?;
+    text.push_str(number.as_str())
 }
 
 // The names of the pairs' tags, in the order of a report.
@@ -143,30 +141,33 @@ const TAG_NAMES: [&str; 8] = [
 
 // Appends a tag that is set, by its name or the name of its opposite.
 fn append_tag(text: &mut String, choice: Option<bool>, name: &str) -> Result<(), AllocError> {
-    if let Some(is_set) = choice {
-        text.push_str(if is_set { " " } else { " NO" })?;
-        text.push_str(name)?;
+    match choice {
+        Some(true) => text.push_str(" ")?,
+        Some(false) => text.push_str(" NO")?,
+        None => return Ok(()),
     }
-    Ok(())
+    text.push_str(name)
 }
 
-fn append_tags(text: &mut String, verdict: Verdict) -> Result<(), AllocError> {
-    if let Verdict::Allow { tags, .. } = verdict {
-        for (name, choice) in TAG_NAMES.iter().zip(tags.choices.iter()) {
-            append_tag(text, *choice, name)?;
-        }
+// Appends the tags that are set.
+fn append_tags(text: &mut String, tags: &Tags) -> Result<(), AllocError> {
+    for (name, choice) in TAG_NAMES.iter().zip(tags.choices.iter()) {
+        append_tag(text, *choice, name)?;
     }
     Ok(())
 }
 
 // Appends the verdict, its line and its tags, and a comma.
-fn append(alloc: Global, text: &mut String, verdict: Verdict) -> Result<(), AllocError> {
+fn append(alloc: Global, text: &mut String, verdict: &Verdict) -> Result<(), AllocError> {
     text.push_str(word(verdict))?;
-    if let Some(line) = line_of(verdict) {
-        let number = format!(in alloc; " {line}")?;
-        text.push_str(number.as_str())?;
+    match verdict {
+        Verdict::Allow { place, tags } => {
+            append_line(alloc, text, place.line)?;
+            append_tags(text, tags)?;
+        }
+        Verdict::Deny { place } => append_line(alloc, text, place.line)?,
+        _ => {}
     }
-    append_tags(text, verdict)?;
     text.push_str(",")
 }
 
@@ -181,6 +182,21 @@ fn policy_of(alloc: Global, policy: &str) -> Result<String, AllocError> {
 }
 
 // Returns the verdicts on the requests, in order, with a comma after each.
+fn verdict_texts(
+    alloc: Global,
+    directory: &Directory,
+    checked: &Checked,
+    requests: &[Request],
+) -> Result<String, Fail> {
+    let mut text = String::new(alloc);
+    for request in requests {
+        let verdict = verdict_of_bodies(alloc, checked, directory, request)?;
+        append(alloc, &mut text, &verdict)?;
+    }
+    Ok(text)
+}
+
+// Returns the verdicts on the requests of some lines under a policy.
 fn verdicts(
     alloc: Global,
     directory: &Directory,
@@ -189,15 +205,7 @@ fn verdicts(
 ) -> Result<String, Fail> {
     let checked = checked(alloc, policy)?;
     let requests = requests(alloc, lines)?;
-    let mut text = String::new(alloc);
-    for request in requests.as_slice() {
-        append(
-            alloc,
-            &mut text,
-            verdict_of_bodies(alloc, &checked, directory, request)?,
-        )?;
-    }
-    Ok(text)
+    verdict_texts(alloc, directory, &checked, requests.as_slice())
 }
 
 /// Fails if the policy does not give this verdict to the request.
@@ -226,11 +234,15 @@ fn row_holds(alloc: Global, directory: &Directory, row: &str) -> Result<(), Fail
     holds(alloc, directory, text.as_str(), asks.trim(), want.trim())
 }
 
+fn all_hold(alloc: Global, directory: &Directory, table: &str) -> Result<(), Fail> {
+    for row in table.lines() {
+        row_holds(alloc, directory, row)?;
+    }
+    Ok(())
+}
+
 /// Fails if a row of the table does not hold. A row is a policy, with `;` between its lines, a request and its verdict.
 pub(crate) fn rows_hold(alloc: Global, table: &str) -> Result<(), Fail> {
     let directory = directory(alloc)?;
-    for row in table.lines() {
-        row_holds(alloc, &directory, row)?;
-    }
-    Ok(())
+    all_hold(alloc, &directory, table)
 }

@@ -27,65 +27,94 @@ fn chars(alloc: Global, text: &[u8]) -> Result<Seq<Ch>, AllocError> {
     Ok(chars)
 }
 
-// Whether a pattern matches a text, first with `Slash::Any` and then with `Slash::Not`.
-fn both(alloc: Global, pattern: &[u8], text: &[u8]) -> Result<(bool, bool), AllocError> {
+// Returns for which values of `Slash` a pattern matches a text.
+fn fitting(alloc: Global, pattern: &[u8], text: &[u8]) -> Result<&'static str, AllocError> {
     let chars = chars(alloc, pattern)?;
     let pattern = Pattern::of(chars.as_slice());
     let any = pattern.matches(text, Slash::Any);
-    Ok((any, pattern.matches(text, Slash::Not)))
+    let not = pattern.matches(text, Slash::Not);
+    Ok(match (any, not) {
+        (true, true) => "both",
+        (true, false) => "any",
+        (false, true) => "not",
+        (false, false) => "none",
+    })
 }
+
+// Fails with a row if its answer is not the one that it ends in.
+fn told(alloc: Global, row: &str, answer: &str, want: &str) -> Result<(), Fail> {
+    if answer == want {
+        return Ok(());
+    }
+    Err(Fail::new(String::from_str(alloc, row)?))
+}
+
+// Fails if a row does not hold: a pattern, a text, and for which values of `Slash` they match.
+fn pattern_row_holds(alloc: Global, row: &str) -> Result<(), Fail> {
+    let Some((pattern, rest)) = row.split_once(' ') else {
+        return Err(Fail::new("a row without a text"));
+    };
+    let Some((text, want)) = rest.split_once(' ') else {
+        return Err(Fail::new("a row without an answer"));
+    };
+    let answer = fitting(alloc, pattern.as_bytes(), text.as_bytes())?;
+    told(alloc, row, answer, want)
+}
+
+// Fails if a row of the table does not hold.
+fn patterns_hold(alloc: Global, table: &str) -> Result<(), Fail> {
+    for row in table.lines() {
+        pattern_row_holds(alloc, row)?;
+    }
+    Ok(())
+}
+
+const STARS: &str = "*  both
+a* a both
+* a/b any
+? / any
+?  none
+\\* * both
+\\* a none
+*a*b caxab both
+/usr/* /usr/.x both";
 
 #[test]
 fn stars_and_questions(rt: HostRuntime) -> Result<(), Fail> {
-    let yes = (true, true);
-    let no = (false, false);
-    let any = (true, false);
-    assert_eq!(rt; both(rt.alloc(), b"*", b"")?, yes);
-    assert_eq!(rt; both(rt.alloc(), b"a*", b"a")?, yes);
-    assert_eq!(rt; both(rt.alloc(), b"*", b"a/b")?, any);
-    assert_eq!(rt; both(rt.alloc(), b"?", b"/")?, any);
-    assert_eq!(rt; both(rt.alloc(), b"?", b"")?, no);
-    assert_eq!(rt; both(rt.alloc(), b"\\*", b"*")?, yes);
-    assert_eq!(rt; both(rt.alloc(), b"\\*", b"a")?, no);
-    assert_eq!(rt; both(rt.alloc(), b"*a*b", b"caxab")?, yes);
-    assert_eq!(rt; both(rt.alloc(), b"/usr/*", b"/usr/.x")?, yes);
-    Ok(())
+    patterns_hold(rt.alloc(), STARS)
 }
+
+const BRACKETS: &str = "[!a]* b/c any
+[!a]* a/c none
+[]x] ] both
+[]x] x both
+[z-a] m none
+[z-a] z none
+[ab [ab both
+[ab a none
+[!] [!] both
+[--0] . both
+[--0] / any
+[+--] , both
+[]-a] ^ both
+[a-] - both";
 
 #[test]
 fn brackets(rt: HostRuntime) -> Result<(), Fail> {
-    let yes = (true, true);
-    let no = (false, false);
-    let any = (true, false);
-    assert_eq!(rt; both(rt.alloc(), b"[!a]*", b"b/c")?, any);
-    assert_eq!(rt; both(rt.alloc(), b"[!a]*", b"a/c")?, no);
-    assert_eq!(rt; both(rt.alloc(), b"[]x]", b"]")?, yes);
-    assert_eq!(rt; both(rt.alloc(), b"[]x]", b"x")?, yes);
-    assert_eq!(rt; both(rt.alloc(), b"[z-a]", b"m")?, no);
-    assert_eq!(rt; both(rt.alloc(), b"[z-a]", b"z")?, no);
-    assert_eq!(rt; both(rt.alloc(), b"[ab", b"[ab")?, yes);
-    assert_eq!(rt; both(rt.alloc(), b"[ab", b"a")?, no);
-    assert_eq!(rt; both(rt.alloc(), b"[!]", b"[!]")?, yes);
-    assert_eq!(rt; both(rt.alloc(), b"[--0]", b".")?, yes);
-    assert_eq!(rt; both(rt.alloc(), b"[--0]", b"/")?, any);
-    assert_eq!(rt; both(rt.alloc(), b"[+--]", b",")?, yes);
-    assert_eq!(rt; both(rt.alloc(), b"[]-a]", b"^")?, yes);
-    assert_eq!(rt; both(rt.alloc(), b"[a-]", b"-")?, yes);
-    Ok(())
+    patterns_hold(rt.alloc(), BRACKETS)
 }
+
+const CLASSES: &str = "[[:alpha:]] q both
+[[:alpha:]] 1 none
+[[\\:alpha\\:]] q both
+[[:al\\pha:]] q none
+[[:word:]] w] both
+[[:word:]] w none
+[![:digit:]] 7 none";
 
 #[test]
 fn classes(rt: HostRuntime) -> Result<(), Fail> {
-    let yes = (true, true);
-    let no = (false, false);
-    assert_eq!(rt; both(rt.alloc(), b"[[:alpha:]]", b"q")?, yes);
-    assert_eq!(rt; both(rt.alloc(), b"[[:alpha:]]", b"1")?, no);
-    assert_eq!(rt; both(rt.alloc(), b"[[\\:alpha\\:]]", b"q")?, yes);
-    assert_eq!(rt; both(rt.alloc(), b"[[:al\\pha:]]", b"q")?, no);
-    assert_eq!(rt; both(rt.alloc(), b"[[:word:]]", b"w]")?, yes);
-    assert_eq!(rt; both(rt.alloc(), b"[[:word:]]", b"w")?, no);
-    assert_eq!(rt; both(rt.alloc(), b"[![:digit:]]", b"7")?, no);
-    Ok(())
+    patterns_hold(rt.alloc(), CLASSES)
 }
 
 // Returns a pattern of 1,000 times `*a`, followed by `*b`.
@@ -170,28 +199,57 @@ fn with_arguments(alloc: Global, path: &[u8], args: &[u8]) -> Result<Atom, Alloc
     })
 }
 
+// Returns a command, with arguments if the text has any.
+fn command(alloc: Global, text: &str) -> Result<Atom, AllocError> {
+    match text.split_once(' ') {
+        Some((path, args)) => with_arguments(alloc, path.as_bytes(), args.as_bytes()),
+        None => {
+            let path = chars(alloc, text.as_bytes())?;
+            Ok(Atom::Command { path, args: None })
+        }
+    }
+}
+
+// Whether an atom matches a command with its arguments.
+fn allows(atom: &Atom, asked: &str) -> &'static str {
+    let (path, arguments) = asked.split_once(' ').unwrap_or((asked, ""));
+    if command_matches(atom, path.as_bytes(), arguments.as_bytes()) {
+        "yes"
+    } else {
+        "no"
+    }
+}
+
+// Fails if a row does not hold: a command, what is asked, and whether they match.
+fn command_row_holds(alloc: Global, row: &str) -> Result<(), Fail> {
+    let Some((text, rest)) = row.split_once('|') else {
+        return Err(Fail::new("a row without a question"));
+    };
+    let Some((asked, want)) = rest.split_once('|') else {
+        return Err(Fail::new("a row without an answer"));
+    };
+    let atom = command(alloc, text)?;
+    told(alloc, row, allows(&atom, asked), want)
+}
+
+const COMMANDS: &str = "/usr/bin/|/usr/bin/ls -l|yes
+/usr/bin/|/usr/bin/x/y|no
+/usr/bin/|/usr/bin/|no
+/bin/cat *|/bin/cat /etc/passwd x|yes
+/bin/cat *|/bin/cat|yes
+/bin/cat *|/bin/tac|no
+/bin/who \"\"|/bin/who|yes
+/bin/who \"\"|/bin/who am i|no
+sudoedit /etc/*|sudoedit /etc/passwd|yes
+sudoedit /etc/*|sudoedit /etc/ssh/config|no
+/bin/dd if=/dev/zero|/bin/dd if=/dev/zero|yes
+/bin/dd if=/dev/zero|/bin/dd if=/dev/sda|no";
+
 #[test]
 fn commands(rt: HostRuntime) -> Result<(), Fail> {
-    let folder = Atom::Command {
-        path: chars(rt.alloc(), b"/usr/bin/")?,
-        args: None,
-    };
-    assert!(rt; command_matches(&folder, b"/usr/bin/ls", b"-l"));
-    assert!(rt; !command_matches(&folder, b"/usr/bin/x/y", b""));
-    assert!(rt; !command_matches(&folder, b"/usr/bin/", b""));
-    let cat = with_arguments(rt.alloc(), b"/bin/cat", b"*")?;
-    assert!(rt; command_matches(&cat, b"/bin/cat", b"/etc/passwd x"));
-    assert!(rt; command_matches(&cat, b"/bin/cat", b""));
-    assert!(rt; !command_matches(&cat, b"/bin/tac", b""));
-    let who = with_arguments(rt.alloc(), b"/bin/who", b"\"\"")?;
-    assert!(rt; command_matches(&who, b"/bin/who", b""));
-    assert!(rt; !command_matches(&who, b"/bin/who", b"am i"));
-    let edit = with_arguments(rt.alloc(), b"sudoedit", b"/etc/*")?;
-    assert!(rt; command_matches(&edit, b"sudoedit", b"/etc/passwd"));
-    assert!(rt; !command_matches(&edit, b"sudoedit", b"/etc/ssh/config"));
-    let dd = with_arguments(rt.alloc(), b"/bin/dd", b"if=/dev/zero")?;
-    assert!(rt; command_matches(&dd, b"/bin/dd", b"if=/dev/zero"));
-    assert!(rt; !command_matches(&dd, b"/bin/dd", b"if=/dev/sda"));
+    for row in COMMANDS.lines() {
+        command_row_holds(rt.alloc(), row)?;
+    }
     assert!(rt; !command_matches(&Atom::Uid(0), b"/bin/dd", b""));
     Ok(())
 }
@@ -216,32 +274,81 @@ fn host(alloc: Global, pattern: &[u8]) -> Result<Atom, AllocError> {
     })
 }
 
+// Fails if a row does not hold: a pattern, which of the hosts, and whether they match.
+fn host_row_holds(alloc: Global, web: &Machine, db: &Machine, row: &str) -> Result<(), Fail> {
+    let Some((pattern, rest)) = row.split_once(' ') else {
+        return Err(Fail::new("a row without a host"));
+    };
+    let Some((name, want)) = rest.split_once(' ') else {
+        return Err(Fail::new("a row without an answer"));
+    };
+    let atom = host(alloc, pattern.as_bytes())?;
+    let matches = host_matches(&atom, if name == "web" { web } else { db });
+    told(alloc, row, if matches { "yes" } else { "no" }, want)
+}
+
+const HOSTS: &str = "WEB1.example.org web yes
+WEB1.example.com web no
+web? web yes
+db9 db yes
+wEb1 web yes
+web2 web no
+web web no
+web1- web no
+web1* web yes
+W*1.example.?rg web yes
+[!d]eb1 web yes";
+
+// Fails if a row of the table does not hold.
+fn hosts_hold(alloc: Global, web: &Machine, db: &Machine) -> Result<(), Fail> {
+    for row in HOSTS.lines() {
+        host_row_holds(alloc, web, db, row)?;
+    }
+    Ok(())
+}
+
 #[test]
 fn hosts(rt: HostRuntime) -> Result<(), Fail> {
     let web = machine(rt.alloc(), b"web1.example.org", 0x0a01_0203)?;
     let db = machine(rt.alloc(), b"DB9", 0x0a02_0009)?;
-    let net = Atom::Net {
-        addr: 0x0a01_0000,
-        mask: 0xffff_0000,
-    };
-    assert!(rt; host_matches(&net, &web));
-    assert!(rt; !host_matches(&net, &db));
-    assert!(rt; host_matches(&Atom::Address(0x0a01_0000), &web));
-    assert!(rt; !host_matches(&Atom::Address(0x0a01_0000), &db));
-    assert!(rt; host_matches(&Atom::Address(0x0a01_0203), &web));
-    assert!(rt; !host_matches(&Atom::Address(0x0a01_0203), &db));
-    assert!(rt; host_matches(&host(rt.alloc(), b"WEB1.example.org")?, &web));
-    assert!(rt; !host_matches(&host(rt.alloc(), b"WEB1.example.com")?, &web));
-    assert!(rt; host_matches(&host(rt.alloc(), b"web?")?, &web));
-    assert!(rt; host_matches(&host(rt.alloc(), b"db9")?, &db));
-    assert!(rt; !host_matches(&Atom::Address(0x7f00_0001), &web));
-    let loopback = Atom::Net {
-        addr: 0x7f00_0000,
-        mask: 0xff00_0000,
-    };
-    assert!(rt; !host_matches(&loopback, &web));
-    assert!(rt; !host_matches(&loopback, &db));
-    assert!(rt; host_matches(&Atom::All, &db));
+    hosts_hold(rt.alloc(), &web, &db)
+}
+
+// Whether an atom matches the first host and not the second.
+fn tells_apart(atom: &Atom, web: &Machine, db: &Machine) -> bool {
+    host_matches(atom, web) && !host_matches(atom, db)
+}
+
+// Whether addresses and networks match as they should.
+fn networks_hold(web: &Machine, db: &Machine) -> bool {
+    let (addr, mask) = (0x0a01_0000, 0xffff_0000);
+    let (loop_addr, loop_mask) = (0x7f00_0000, 0xff00_0000);
+    tells_apart(&Atom::Net { addr, mask }, web, db)
+        && tells_apart(&Atom::Address(0x0a01_0000), web, db)
+        && tells_apart(&Atom::Address(0x0a01_0203), web, db)
+        && !host_matches(&Atom::Address(0x7f00_0001), web)
+        && !host_matches(
+            &Atom::Net {
+                addr: loop_addr,
+                mask: loop_mask,
+            },
+            web,
+        )
+        && !host_matches(
+            &Atom::Net {
+                addr: loop_addr,
+                mask: loop_mask,
+            },
+            db,
+        )
+        && host_matches(&Atom::All, db)
+}
+
+#[test]
+fn networks(rt: HostRuntime) -> Result<(), Fail> {
+    let web = machine(rt.alloc(), b"web1.example.org", 0x0a01_0203)?;
+    let db = machine(rt.alloc(), b"DB9", 0x0a02_0009)?;
+    assert!(rt; networks_hold(&web, &db));
     Ok(())
 }
 
@@ -300,16 +407,28 @@ fn two_hosts(alloc: Global, name: &[u8]) -> Result<Vec<Machine>, AllocError> {
     Ok(machines)
 }
 
+// Whether a directory has none of these.
+fn lacks(directory: &Directory, user: &[u8], host: &[u8], group: &[u8]) -> bool {
+    directory.user(user).is_none()
+        && directory.host(host).is_none()
+        && directory.group(group).is_none()
+}
+
+// Whether a directory has this user, this host, and a group of this name and ID.
+fn knows(directory: &Directory, user: &[u8], host: &[u8], group: &[u8], gid: u32) -> bool {
+    let has_group = match directory.group(group) {
+        Some(group) => group.gid == gid,
+        None => false,
+    };
+    has_group && directory.user(user).is_some() && directory.host(host).is_some()
+}
+
 #[test]
 fn directory_knows_its_rows(rt: HostRuntime) -> Result<(), Fail> {
     let people = users(rt.alloc(), group(rt.alloc(), b"adm", 4)?)?;
     let directory = Directory::new(rt.alloc(), people, two_hosts(rt.alloc(), b"WEB2")?)?;
-    assert!(rt; directory.user(b"alice").is_some());
-    assert!(rt; directory.user(b"Alice").is_none());
-    assert!(rt; directory.host(b"Web2").is_some());
-    assert!(rt; directory.host(b"web3").is_none());
-    assert_eq!(rt; directory.group(b"adm").map(|group| group.gid), Some(4));
-    assert!(rt; directory.group(b"wheel").is_none());
+    assert!(rt; knows(&directory, b"alice", b"Web2", b"adm", 4));
+    assert!(rt; lacks(&directory, b"Alice", b"web3", b"wheel"));
     Ok(())
 }
 
@@ -324,24 +443,44 @@ fn bucket_of(alloc: Global, number: u32) -> Result<Seq<u8>, AllocError> {
     Ok(name)
 }
 
+// Returns the user of a number, with a group of its own.
+fn numbered_user(alloc: Global, number: u32) -> Result<Person, AllocError> {
+    let name = bucket_of(alloc, number)?;
+    let own = group(alloc, name.as_slice(), number.saturating_add(1000))?;
+    person(alloc, name.as_slice(), own)
+}
+
+// Returns the host of a number.
+fn numbered_host(alloc: Global, number: u32) -> Result<Machine, AllocError> {
+    let name = bucket_of(alloc, number)?;
+    machine(alloc, name.as_slice(), number)
+}
+
+// Returns 100,000 users and some that are needed.
+fn many_users(alloc: Global) -> Result<Vec<Person>, AllocError> {
+    let mut people = users(alloc, group(alloc, b"adm", 4)?)?;
+    for number in 0..100000u32 {
+        people.push(numbered_user(alloc, number)?)?;
+    }
+    Ok(people)
+}
+
+// Returns 100,000 hosts.
+fn many_hosts(alloc: Global) -> Result<Vec<Machine>, AllocError> {
+    let mut machines = Vec::new(alloc);
+    for number in 0..100000u32 {
+        machines.push(numbered_host(alloc, number)?)?;
+    }
+    Ok(machines)
+}
+
 #[test]
 fn large_directories_are_fast(rt: HostRuntime) -> Result<(), Fail> {
-    let mut people = users(rt.alloc(), group(rt.alloc(), b"adm", 4)?)?;
-    let mut machines = Vec::new(rt.alloc());
-    for number in 0..100000u32 {
-        let name = bucket_of(rt.alloc(), number)?;
-        let own = group(rt.alloc(), name.as_slice(), 1000 + number)?;
-        people.push(person(rt.alloc(), name.as_slice(), own)?)?;
-        machines.push(machine(rt.alloc(), name.as_slice(), number)?)?;
-    }
-    let directory = Directory::new(rt.alloc(), people, machines)?;
+    let people = many_users(rt.alloc())?;
+    let directory = Directory::new(rt.alloc(), people, many_hosts(rt.alloc())?)?;
     let last = bucket_of(rt.alloc(), 99999)?;
-    assert!(rt; directory.user(last.as_slice()).is_some());
-    assert!(rt; directory.host(last.as_slice()).is_some());
-    assert_eq!(rt;
-        directory.group(last.as_slice()).map(|group| group.gid),
-        Some(100999)
-    );
+    let name = last.as_slice();
+    assert!(rt; knows(&directory, name, name, name, 100999));
     Ok(())
 }
 

@@ -4,7 +4,8 @@ use crate::fixtures::{checked, directory, holds, requests, rows_hold, verdict_of
 use std::alloc::Global;
 use std::test::Fail;
 use sudo_match::Directory;
-use sudo_verdict::Verdict;
+use sudo_policy::Checked;
+use sudo_verdict::{Request, Verdict};
 
 const THE_LAST_MATCH_DECIDES: &str =
     r#"alice ALL = ALL, !/bin/su | alice,web1,,,/bin/ls, | allow 1 SETENV,
@@ -118,6 +119,21 @@ fn names_and_arguments(rt: HostRuntime) -> Result<(), Fail> {
     rows_hold(rt.alloc(), NAMES_AND_ARGUMENTS)
 }
 
+const SPECIAL_BYTES_OF_COMMANDS: &str = r#"alice ALL = /bin/l\* | alice,web1,,,/bin/l*, | allow 1,
+alice ALL = /bin/l\* | alice,web1,,,/bin/ls, | nomatch,
+alice ALL = /bin/?s | alice,web1,,,/bin/*s, | allow 1,
+alice ALL = /bin/[*?] | alice,web1,,,/bin/?, | allow 1,
+alice ALL = /bin/[a?] | alice,web1,,,/bin/*, | nomatch,
+alice ALL = /bin/*s | alice,web1,,,/bin/[s, | allow 1,
+alice ALL = /bin/ls, /bin/*x | alice,web1,,,/bin/l*x, | allow 1,
+alice ALL = /bin/ | alice,web1,,,/bin/?*, | allow 1,
+alice ALL = /bin/\[s, !/bin/\*s | alice,web1,,,/bin/[s, | allow 1,"#;
+
+#[test]
+fn special_bytes_of_commands(rt: HostRuntime) -> Result<(), Fail> {
+    rows_hold(rt.alloc(), SPECIAL_BYTES_OF_COMMANDS)
+}
+
 // Defines `A1 = A2`, and so on, up to `A64 = /bin/ls`, with a rule for A1.
 fn deep(alloc: Global) -> Result<String, Fail> {
     let mut text = String::new(alloc);
@@ -176,15 +192,36 @@ const RULES: &str =
 const ASKS: &str =
     "alice,web1,,,/bin/ls,\nalice,web1,,,/bin/su,\nalice,web1,,,/bin/id,\nalice,web1,root,,/bin/su,\nalice,web1,operator,,/bin/ls,\nalice,web1,operator,,/bin/id,\nalice,web1,,adm,/bin/ls,\nalice,web1,,operator,/bin/su,\nalice,web1,operator,operator,/bin/ls,\nalice,web1,operator,adm,/bin/id,\nalice,web1,root,adm,/bin/ls,\nalice,web1,alice,adm,/bin/su,\nbob,web1,operator,,/bin/ls,\nbob,web2,,,/bin/id,\nalice,web2,,,/bin/su,\nalice,web2,operator,adm,/bin/ls,";
 
-// Returns the number of requests that a policy of two rules allows. Fails if the three bodies differ.
+// Returns the number of requests that a policy allows. Fails if the bodies differ.
+fn allowed_of(
+    alloc: Global,
+    directory: &Directory,
+    checked: &Checked,
+    requests: &[Request],
+) -> Result<u32, Fail> {
+    let mut count = 0u32;
+    for request in requests {
+        if let Verdict::Allow { .. } = verdict_of_bodies(alloc, checked, directory, request)? {
+            count = count.saturating_add(1);
+        }
+    }
+    Ok(count)
+}
+
+// Returns the number of requests that a policy of two rules allows. Fails if the bodies differ.
 fn allowed(alloc: Global, directory: &Directory, first: &str, second: &str) -> Result<u32, Fail> {
     let text = format!(in alloc; "{ALIASES}{first}\n{second}")?;
     let checked = checked(alloc, text.as_str())?;
     let requests = requests(alloc, ASKS)?;
+    allowed_of(alloc, directory, &checked, requests.as_slice())
+}
+
+// Returns the number of requests that all policies of two rules allow.
+fn all_allowed(alloc: Global, directory: &Directory) -> Result<u32, Fail> {
     let mut count = 0u32;
-    for request in requests.as_slice() {
-        if let Verdict::Allow { .. } = verdict_of_bodies(alloc, &checked, directory, request)? {
-            count = count.saturating_add(1);
+    for first in RULES.lines() {
+        for second in RULES.lines() {
+            count = count.saturating_add(allowed(alloc, directory, first, second)?);
         }
     }
     Ok(count)
@@ -194,12 +231,7 @@ fn allowed(alloc: Global, directory: &Directory, first: &str, second: &str) -> R
 fn the_bodies_agree(rt: HostRuntime) -> Result<(), Fail> {
     let alloc = rt.alloc();
     let directory = directory(alloc)?;
-    let mut count = 0u32;
-    for first in RULES.lines() {
-        for second in RULES.lines() {
-            count = count.saturating_add(allowed(alloc, &directory, first, second)?);
-        }
-    }
+    let count = all_allowed(alloc, &directory)?;
     // Both verdicts are frequent among the 3,136 requests.
     assert!(rt; count > 300 && count < 2800, "{count} allowed");
     Ok(())

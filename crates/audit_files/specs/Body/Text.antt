@@ -4,8 +4,8 @@ use Rattle.csv.specs.Writing.{default_writer, fields_written, has_written, write
 use Rattle.audit_files.specs.declared.records.Text.{Text}
 
 -- the lines so far
-abbrev pub written : Text → List ℕ
-written t = (writer_under t.writer).items ++ writer_pending t.writer
+abbrev pub text_so_far : Text → List ℕ
+text_so_far t = (writer_under t.writer).items ++ writer_pending t.writer
 
 -- the text is between two records
 abbrev pub IsBetween : Text → Type 0

@@ -3,7 +3,7 @@ use Rattle.std.specs.Prelude.{◌≡◌, ℕ, ◌-◌, List, [], ◌++◌}
 use Rattle.audit_run.specs.declared.message.Job.{Job}
 use Rattle.audit_run.specs.declared.message.Names.{Names}
 use Rattle.audit_run.specs.declared.message.Outcome.{Outcome}
-use Rattle.audit_run.specs.Names.{names_of}
+use Rattle.audit_run.specs.Names.{names_under}
 use Rattle.audit_run.specs.Passes.{HandoffId, PassView}
 use Rattle.sudo_match.specs.KnownRows.{KnownRows}
 use Rattle.sudo_grammar.specs.declared.policy.Policy.{Policy}
@@ -13,7 +13,7 @@ abbrev pub fresh_with : HandoffId → Names → PassView
 fresh_with handoff names = record { handoff = handoff; names = names; weight = 1; jobs_put = []; jobs_taken = []; outcomes_put = []; outcomes_taken = [] }
 
 abbrev pub fresh : HandoffId → Policy → KnownRows → PassView
-fresh handoff policy directory = fresh_with handoff (names_of policy directory)
+fresh handoff policy directory = fresh_with handoff (names_under policy directory)
 
 abbrev pub IsFresh : HandoffId → PassView → Type 0
 IsFresh handoff p = p ≡ fresh_with handoff p.names

@@ -18,23 +18,23 @@ use Rattle.audit_run.specs.Arrivals.{arrivals_of}
 use Rattle.audit_run.specs.Body.FreshPasses.{with_messages}
 
 -- the state of a collector after these arrivals, from this state or this refusal
-abbrev pub state_after : List SenderState → Option Refused → List Arrival → Result (List SenderState) Refused
-state_after held None rest = after held rest
-state_after held (Some why) rest = Err why
+abbrev pub collector_after : List SenderState → Option Refused → List Arrival → Result (List SenderState) Refused
+collector_after held None rest = after held rest
+collector_after held (Some why) rest = Err why
 
-abbrev pub IsOutOfMemory : Gathering → Type 0
-IsOutOfMemory g = g.refused ≡ Some Memory
+abbrev pub RanOutOfMemory : Gathering → Type 0
+RanOutOfMemory g = g.refused ≡ Some Memory
 
 -- `h` is `g` after these outcomes were taken, or memory ran out
 pub record Gathers (g : Gathering) (outcomes : List Outcome) (h : Gathering) : Type 0 where
-  pub stuck : IsOutOfMemory g → IsOutOfMemory h
-  pub same : IsOutOfMemory h ⊎ ((rest : List Arrival) → state_after g.collector g.refused (arrivals_of outcomes ++ rest) ≡ state_after h.collector h.refused rest)
+  pub stuck : RanOutOfMemory g → RanOutOfMemory h
+  pub same : RanOutOfMemory h ⊎ ((rest : List Arrival) → collector_after g.collector g.refused (arrivals_of outcomes ++ rest) ≡ collector_after h.collector h.refused rest)
 
 -- whether an outcome is the last of a source
-abbrev pub is_end : Outcome → Bool
-is_end (Arrived arrival) = false
-is_end (End sender) = true
-is_end Stopped = false
+abbrev pub is_last_outcome : Outcome → Bool
+is_last_outcome (Arrived arrival) = false
+is_last_outcome (End sender) = true
+is_last_outcome Stopped = false
 
 -- whether an outcome is the last of a worker
 abbrev pub is_stopped : Outcome → Bool
@@ -49,7 +49,7 @@ running_of Workers g = g.workers_running
 
 -- each source and each worker whose last outcome is among these no longer runs
 pub record Counts (g : Gathering) (outcomes : List Outcome) (h : Gathering) : Type 0 where
-  pub sources : h.sources_running ≡ g.sources_running - count_by is_end outcomes
+  pub sources : h.sources_running ≡ g.sources_running - count_by is_last_outcome outcomes
   pub workers : h.workers_running ≡ g.workers_running - count_by is_stopped outcomes
 
 pub record HasSameCounts (g h : Gathering) : Type 0 where

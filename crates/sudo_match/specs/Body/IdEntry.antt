@@ -2,5 +2,5 @@
 use Rattle.std.specs.Prelude.{ℕ, List, [], ◌∷◌}
 
 -- an entry, with its ID as a name of one number
-abbrev pub bare : ℕ × ℕ → List ℕ × ℕ
-bare e = (e.0 ∷ [], e.1)
+abbrev pub entry_by_id : ℕ × ℕ → List ℕ × ℕ
+entry_by_id e = (e.0 ∷ [], e.1)

@@ -29,5 +29,5 @@ abbrev pub known_classes : List Class
 known_classes = Alnum ∷ Alpha ∷ Blank ∷ Cntrl ∷ Digit ∷ Graph ∷ Lower ∷ Print ∷ Punct ∷ Space ∷ Upper ∷ Xdigit ∷ []
 
 -- the first private class whose form the characters begin with
-abbrev pub opened : List Ch → Option Class
-opened cs = find (λ k. begins (class_form (class_of k)) cs) known_classes
+abbrev pub class_at_start : List Ch → Option Class
+class_at_start cs = find (λ k. begins (class_form (class_of k)) cs) known_classes

@@ -8,7 +8,7 @@ use Rattle.sudo_grammar.specs.Reading.{Stop}
 use Rattle.sudo_grammar.specs.Faults.{IsGrammarFault}
 
 -- the line has a grammar fault with this refusal and `left` tokens from it on; for an allocation failure, unspecified
-abbrev pub IsFaultOf : Room → List Token → ParserStop → Type 0
-IsFaultOf room ts (stops.At refusal left) =
+abbrev pub HasGrammarFault : Room → List Token → ParserStop → Type 0
+HasGrammarFault room ts (stops.At refusal left) =
     (stop : Stop) × (IsGrammarFault room ts stop × ((stop.refusal ≡ refusal) × (length stop.rest ≡ left)))
-IsFaultOf room ts stops.Memory = Unit {0}
+HasGrammarFault room ts stops.Memory = Unit {0}

@@ -9,6 +9,6 @@ Declines (declines.Refused refusal) given = given ≡ Err refusal
 Declines declines.Memory given = Unit {0}
 
 -- the result is the given one, or allocation failed
-abbrev pub Gives : {X : Type 0} → Result X MemberFault → Result X Refusal → Type 0
-Gives (Ok x) given = given ≡ Ok x
-Gives (Err e) given = Declines e given
+abbrev pub AgreesWith : {X : Type 0} → Result X MemberFault → Result X Refusal → Type 0
+AgreesWith (Ok x) given = given ≡ Ok x
+AgreesWith (Err e) given = Declines e given

@@ -13,9 +13,9 @@ use Rattle.sudo_parser.specs.declared.members.MemberFault.TheVariants as decline
 use Rattle.sudo_parser.specs.declared.stops.ParserStop.{ParserStop}
 use Rattle.sudo_parser.specs.declared.stops.ParserStop.TheVariants as stops
 use Rattle.sudo_grammar.specs.Words.{plain_word, is_option_name}
-use Rattle.sudo_grammar.specs.Openings.{spells}
+use Rattle.sudo_grammar.specs.Openings.{word_passes}
 use Rattle.sudo_grammar.specs.Members.{atom_of}
-use Rattle.sudo_grammar.specs.States.{Purpose, kind_for, State, Item, AfterItem, Room, step, ended}
+use Rattle.sudo_grammar.specs.States.{Purpose, kind_for, State, Item, AfterItem, Room, step, entry_after_list}
 use Rattle.sudo_grammar.specs.Refusals.{is_option, is_next, with_next, last_command, refused_at, refused_member}
 use Rattle.sudo_grammar.specs.Reading.{reading}
 use Rattle.sudo_parser.specs.Body.Stops.{Stops, IsMark, IsNotNext}
@@ -49,7 +49,7 @@ pub record Takes (kind : Kind) (room : Room) (before : ℕ → State) (after : M
       → (IsMark marks.LeftParen t → step room (before n) t ≡ None) → atom_of kind t.kind ≡ Err r
       → step room (before n) t ≡ None
   pub shut : (n : ℕ) (t : Token) → IsMark marks.LeftParen t → step room (before (suc n)) t ≡ None
-  pub unfinished : (n : ℕ) → ended (before n) ≡ None
+  pub unfinished : (n : ℕ) → entry_after_list (before n) ≡ None
   pub refusal : (n : ℕ) (ts : List Token) → refused_at (before n) ts ≡ refused_member kind ts
   pub option : (m : Member) (ts : List Token) → is_option (command_in kind m) ts ≡ true
       → reading room (after m) ts ≡ Err (record { rest = ts; refusal = refusals.Unsupported forms.CommandOption })
@@ -61,7 +61,7 @@ stop_of_member kind t ts declines.Memory left = stops.Memory
 
 -- an option of a command: its name, with an equals sign after it
 abbrev pub option_begins : Kind → Token → List Token → Bool
-option_begins kinds.Cmnd t ts = spells is_option_name (plain_word t.kind) && is_next marks.Equals ts
+option_begins kinds.Cmnd t ts = word_passes is_option_name (plain_word t.kind) && is_next marks.Equals ts
 option_begins _ t ts = false
 
 -- the first token is a member of the kind, after `bangs` exclamation marks, and not the name of an option

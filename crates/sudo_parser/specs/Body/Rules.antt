@@ -50,13 +50,13 @@ abbrev pub StopsInSpec : List Token → ParserStop → Type 0
 StopsInSpec ts e = (room : Room) (g : Granting) → Stops e (reading room (Command g None [] 0) ts)
 
 -- a section up to a command
-abbrev pub granted : List Member → List Section → List Member → List CommandSpec → Granting
-granted users sections hosts commands = record { users = users; sections = sections; hosts = hosts; commands = commands }
+abbrev pub granting_of : List Member → List Section → List Member → List CommandSpec → Granting
+granting_of users sections hosts commands = record { users = users; sections = sections; hosts = hosts; commands = commands }
 
 -- the reading of commands of a section, each with the comma after it, leads to the rest
 abbrev pub ReadsToSpec : List Token → List CommandSpec → List Token → Type 0
 ReadsToSpec ts cs rest = (room : Room) (us : List Member) (done : List Section) (hs : List Member)
-    → reading room (Command (granted us done hs []) None [] 0) ts ≡ reading room (Command (granted us done hs cs) None [] 0) rest
+    → reading room (Command (granting_of us done hs []) None [] 0) ts ≡ reading room (Command (granting_of us done hs cs) None [] 0) rest
 
 -- the reading of the commands of a section leads to the rest, which is shorter and does not begin with a comma
 pub record ReadsSpecs (ts : List Token) (cs : List CommandSpec) (rest : List Token) : Type 0 where
@@ -68,12 +68,12 @@ pub record ReadsSpecs (ts : List Token) (cs : List CommandSpec) (rest : List Tok
   pub no_option : is_option (Some last.command) rest ≡ false
   pub no_tag : (after : List Token) → IsNext marks.Colon rest after → as_tag last.command ≡ None
   pub reads : (room : Room) (us : List Member) (done : List Section) (hs : List Member)
-      → reading room (Command (granted us done hs []) None [] 0) ts
-      ≡ reading room (AfterCommand (granted us done hs before) last) rest
+      → reading room (Command (granting_of us done hs []) None [] 0) ts
+      ≡ reading room (AfterCommand (granting_of us done hs before) last) rest
 
 abbrev pub StopsInSpecs : List Token → ParserStop → Type 0
 StopsInSpecs ts e = (room : Room) (us : List Member) (done : List Section) (hs : List Member)
-    → Stops e (reading room (Command (granted us done hs []) None [] 0) ts)
+    → Stops e (reading room (Command (granting_of us done hs []) None [] 0) ts)
 
 -- the reading of a section of a rule leads to the rest, which is shorter and does not begin with a comma
 pub record ReadsSection (ts : List Token) (s : Section) (rest : List Token) : Type 0 where
@@ -85,7 +85,7 @@ pub record ReadsSection (ts : List Token) (s : Section) (rest : List Token) : Ty
   pub no_option : is_option (Some last.command) rest ≡ false
   pub no_tag : (after : List Token) → IsNext marks.Colon rest after → as_tag last.command ≡ None
   pub reads : (room : Room) (us : List Member) (done : List Section)
-      → reading room (Item (Hosts us done) 0 []) ts ≡ reading room (AfterCommand (granted us done s.hosts before) last) rest
+      → reading room (Item (Hosts us done) 0 []) ts ≡ reading room (AfterCommand (granting_of us done s.hosts before) last) rest
 
 abbrev pub StopsInSection : List Token → ParserStop → Type 0
 StopsInSection ts e = (room : Room) (us : List Member) (done : List Section)

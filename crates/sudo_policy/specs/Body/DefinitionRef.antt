@@ -10,7 +10,7 @@ use Rattle.sudo_policy.specs.declared.survey.DefinitionRef.{DefinitionRef}
 use Rattle.sudo_policy.specs.declared.survey.MemberList.{MemberList as HeldList}
 use Rattle.sudo_policy.specs.declared.survey.Survey.{Survey}
 use Rattle.sudo_policy.specs.Definitions.{AliasDefinition, MemberList, defines, definitions_in_force, redefinitions, alias_named}
-use Rattle.sudo_policy.specs.Positions.{names_of, members_at}
+use Rattle.sudo_policy.specs.Positions.{names_of_kind, members_at}
 use Rattle.sudo_base.specs.NameIndices.{index_of}
 
 -- the definition, without its position
@@ -25,7 +25,7 @@ abbrev pub link_among : List (List ℕ × ℕ) → Member → Option ℕ
 link_among names m = option_and_then (λ name. index_of names name) (alias_named m.atom)
 
 abbrev pub link_of : Index → Kind → Member → Option ℕ
-link_of index kind m = link_among (names_of index kind) m
+link_of index kind m = link_among (names_of_kind index kind) m
 
 abbrev pub row_of : Index → Kind → List Member → List (Option ℕ)
 row_of index kind ms = map (link_of index kind) ms
@@ -38,8 +38,8 @@ abbrev pub granting_row : Index → MemberList → List (Option ℕ)
 granting_row index l = if l.granting then row_of index l.kind l.members else []
 
 -- the definition is at its position
-abbrev pub IsPlaced : Policy → DefinitionRef → Type 0
-IsPlaced p n = members_at p n.position ≡ Some n.members.now
+abbrev pub IsAtItsPosition : Policy → DefinitionRef → Type 0
+IsAtItsPosition p n = members_at p n.position ≡ Some n.members.now
 
 -- the definitions of the entry are these
 abbrev pub StandAt : Policy → ℕ → List Definition → Type 0
@@ -57,8 +57,8 @@ pub record IsIndexed (p : Policy) (done aliases : List AliasDefinition) (names :
 pub record IsSurvey (p : Policy) (done : List AliasDefinition) (survey : Survey) : Type 0 where
   pub aliases_are : map alias_view survey.aliases.items ≡ definitions_in_force [] done
   pub repeats_are : map alias_view survey.redefinitions.items ≡ redefinitions [] done
-  pub indexed : IsIndexed p done (map alias_view survey.aliases.items) (names_of survey.index) survey.index.positions.items
+  pub indexed : IsIndexed p done (map alias_view survey.aliases.items) (names_of_kind survey.index) survey.index.positions.items
 
 -- each name's number is that of an alias
 abbrev pub LeadsInside : Survey → Type 0
-LeadsInside survey = (kind : Kind) (name : List ℕ) (i : ℕ) → index_of (names_of survey.index kind) name ≡ Some i → i < length survey.aliases.items
+LeadsInside survey = (kind : Kind) (name : List ℕ) (i : ℕ) → index_of (names_of_kind survey.index kind) name ≡ Some i → i < length survey.aliases.items

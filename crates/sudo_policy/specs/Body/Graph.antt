@@ -4,7 +4,7 @@ use Rattle.std.specs.Prelude.{◌≡◌, ℕ, zero, suc, ◌+◌, ◌<◌, min, 
 use Rattle.sudo_policy.specs.declared.graph.Measure.{Measure}
 use Rattle.sudo_policy.specs.declared.graph.State.{State}
 use Rattle.sudo_policy.specs.declared.graph.State.TheVariants.{New, Open, Done, Looped}
-use Rattle.sudo_policy.specs.Following.{Reading, joined}
+use Rattle.sudo_policy.specs.Following.{Reading, option_join}
 
 abbrev pub Links : Type 0
 Links = List (List (Option ℕ))
@@ -46,30 +46,30 @@ abbrev pub IsClosed : Links → Type 0
 IsClosed g = (i j : ℕ) → Edge g i j → j < length g
 
 -- depth and width, counted up to just beyond the limits on a written-out alias
-abbrev pub no_member : Measure
-no_member = record { depth = 0; width = 0 }
+abbrev pub measure_of_none : Measure
+measure_of_none = record { depth = 0; width = 0 }
 
-abbrev pub one_member : Measure
-one_member = record { depth = 0; width = 1 }
+abbrev pub measure_of_one : Measure
+measure_of_one = record { depth = 0; width = 1 }
 
-abbrev pub beside : Measure → Measure → Measure
-beside a b = record { depth = max a.depth b.depth; width = min (a.width + b.width) 65537 }
+abbrev pub measure_of_both : Measure → Measure → Measure
+measure_of_both a b = record { depth = max a.depth b.depth; width = min (a.width + b.width) 65537 }
 
 abbrev pub deeper : Measure → Measure
 deeper a = record { depth = min (a.depth + 1) 65; width = a.width }
 
 -- the measure of a list: its depth and width, up to just beyond the limits
-abbrev pub measured : Reading Measure
-measured = record { nothing = no_member; join = beside; alone = λ _. Some one_member; through = λ _ a. deeper a }
+abbrev pub list_measure : Reading Measure
+list_measure = record { nothing = measure_of_none; join = measure_of_both; alone = λ _. Some measure_of_one; through = λ _ a. deeper a }
 
 -- the measure of one link, where `inner` is that of an alias's definition
 abbrev pub link_measure : (ℕ → Option Measure) → Option ℕ → Option Measure
-link_measure inner None = Some one_member
+link_measure inner None = Some measure_of_one
 link_measure inner (Some j) = option_map deeper (inner j)
 
 abbrev pub row_measure : (ℕ → Option Measure) → List (Option ℕ) → Option Measure
-row_measure inner [] = Some no_member
-row_measure inner (l ∷ ls) = joined beside (link_measure inner l) (row_measure inner ls)
+row_measure inner [] = Some measure_of_none
+row_measure inner (l ∷ ls) = option_join measure_of_both (link_measure inner l) (row_measure inner ls)
 
 -- the measure of an alias's definition, if no chain of more than `steps` aliases begins at a link of it
 unfoldable pub measure_within : Links → ℕ → ℕ → Option Measure

@@ -15,7 +15,7 @@ use Rattle.sudo_policy.specs.declared.index.Index.{Index}
 use Rattle.sudo_policy.specs.Definitions.{AliasDefinition, MemberList, aliases, alias_named}
 use Rattle.sudo_policy.specs.Following.{ReadsAs, depth}
 use Rattle.sudo_policy.specs.Found.{finding_on, Marks, IsCyclic, IsTooDeep, IsTooWide, IsUnused}
-use Rattle.sudo_policy.specs.Positions.{names_of}
+use Rattle.sudo_policy.specs.Positions.{names_of_kind}
 
 abbrev pub is_deep : State → Bool
 is_deep New = false
@@ -31,7 +31,7 @@ is_wide Looped = false
 
 -- a finding for the use of a name without a definition
 abbrev pub use_missing : Index → Kind → Place → List ℕ → List Finding
-use_missing index kind place name = if is_none (index_of (names_of index kind) name) then record { class = Undefined; place = place; kind = kind; name = name } ∷ [] else []
+use_missing index kind place name = if is_none (index_of (names_of_kind index kind) name) then record { class = Undefined; place = place; kind = kind; name = name } ∷ [] else []
 
 abbrev pub atom_missing : Index → Kind → Place → Option (List ℕ) → List Finding
 atom_missing index kind place None = []

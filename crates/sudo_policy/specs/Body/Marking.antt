@@ -9,9 +9,9 @@ abbrev pub IsUnmarked : List Bool → ℕ → Type 0
 IsUnmarked marks i = slice_get marks i ≡ Some false
 
 -- the number of unmarked aliases
-abbrev pub unmarked : List Bool → ℕ
-unmarked [] = 0
-unmarked (m ∷ ms) = (if m then 0 else 1) + unmarked ms
+abbrev pub unmarked_count : List Bool → ℕ
+unmarked_count [] = 0
+unmarked_count (m ∷ ms) = (if m then 0 else 1) + unmarked_count ms
 
 -- the aliases to which a row leads are marked in addition, and the new ones are waiting
 pub record MarksRow (row : List (Option ℕ)) (old : List Bool) (before : List ℕ) (new : List Bool) (waiting : List ℕ) : Type 0 where
@@ -21,7 +21,7 @@ pub record MarksRow (row : List (Option ℕ)) (old : List Bool) (before : List �
   pub noted : (i : ℕ) → IsMarked new i → IsMarked old i ⊎ Contains waiting i
   pub still : (i : ℕ) → Contains before i → Contains waiting i
   pub waits : (i : ℕ) → Contains waiting i → Contains before i ⊎ (IsUnmarked old i × Contains row (Some i))
-  pub falls : 2 * unmarked new + length waiting ≤ 2 * unmarked old + length before
+  pub falls : 2 * unmarked_count new + length waiting ≤ 2 * unmarked_count old + length before
 
 -- the marks of these aliases are set, and no other changes
 pub record AreSet (mark : Bool) (aliases : List ℕ) (old new : List Bool) : Type 0 where
@@ -55,13 +55,13 @@ pub record ReversesUpTo (g : Links) (upto : ℕ) (back : Links) : Type 0 where
   pub only : (i j : ℕ) → Edge back j i → Edge g i j
 
 -- with an alias that is done, all aliases that it both reaches and is reached from are done
-abbrev pub IsWhole : Links → List Bool → Type 0
-IsWhole g done = (i j : ℕ) → IsMarked done i → Path g i j → Path g j i → IsMarked done j
+abbrev pub IsClosedOverCycles : Links → List Bool → Type 0
+IsClosedOverCycles g done = (i j : ℕ) → IsMarked done i → Path g i j → Path g j i → IsMarked done j
 
 -- among the aliases that are done, exactly those on cycles are marked
 pub record DecidesCycles (g : Links) (done cyclic : List Bool) : Type 0 where
   pub done_length : length done ≡ length g
   pub cyclic_length : length cyclic ≡ length g
-  pub whole : IsWhole g done
+  pub whole : IsClosedOverCycles g done
   pub sound : (i : ℕ) → IsMarked cyclic i → Path g i i
   pub found : (i : ℕ) → IsMarked done i → Path g i i → IsMarked cyclic i

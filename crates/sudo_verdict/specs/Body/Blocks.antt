@@ -1,16 +1,16 @@
 -- Blocks of rules as bits, with the rules that may decide; only proofs of bodies need these definitions.
 use Rattle.std.specs.Prelude.{◌≡◌, ℕ, ◌+◌, ◌*◌, ◌<◌, Bool, false, true, ◌==◌, ◌&&◌, List, length}
 use Rattle.sudo_match.specs.declared.people.Person.{Person}
-use Rattle.sudo_verdict.specs.Postings.{Rows, bit, posted, misses_user, misses_command}
+use Rattle.sudo_verdict.specs.Postings.{Rows, bit, is_in_row, misses_user, misses_command}
 
 -- the new words have each set bit of the old ones and, within their length, of `words`
 abbrev pub AddsWords : List ℕ → List ℕ → List ℕ → Type 0
 AddsWords words old new = (i : ℕ) → bit new i ≡ 0 → (bit old i ≡ 0) × (i < 64 * length old → bit words i ≡ 0)
 
 -- the new words have each set bit of the old ones and, within their length, of a number's row from the word `first` on
-abbrev pub Adds : Rows → ℕ → ℕ → List ℕ → List ℕ → Type 0
-Adds rows number first old new =
-    (i : ℕ) → bit new i ≡ 0 → (bit old i ≡ 0) × (i < 64 * length old → posted rows number (64 * first + i) ≡ false)
+abbrev pub UnitesRow : Rows → ℕ → ℕ → List ℕ → List ℕ → Type 0
+UnitesRow rows number first old new =
+    (i : ℕ) → bit new i ≡ 0 → (bit old i ≡ 0) × (i < 64 * length old → is_in_row rows number (64 * first + i) ≡ false)
 
 -- each rule without a bit in the block, which begins at the word `first`, is in no row of the user
 abbrev pub HasUser : Rows → ℕ → Person → List ℕ → Type 0

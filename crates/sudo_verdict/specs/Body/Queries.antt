@@ -10,6 +10,6 @@ question q = record {
   asked = option_copied q.asked;
   group = option_copied q.group;
   target = option_copied q.target;
-  command = q.command.now;
-  arguments = q.arguments.now;
+  command = q.command.command.now;
+  arguments = q.command.arguments.now;
 }

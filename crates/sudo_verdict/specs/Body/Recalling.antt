@@ -7,7 +7,7 @@ use Rattle.sudo_grammar.specs.declared.kind.Member.{Member}
 use Rattle.sudo_grammar.specs.declared.policy.Policy.{Policy}
 use Rattle.sudo_policy.specs.Definitions.{in_force}
 use Rattle.sudo_verdict.specs.declared.decision.Decision.{Decision}
-use Rattle.sudo_verdict.specs.Decided.{decided}
+use Rattle.sudo_verdict.specs.Decided.{list_decision}
 
 -- each number is that of one name at most
 abbrev pub IsOneToOne : List (List ℕ × ℕ) → Type 0
@@ -27,8 +27,8 @@ number_in (Some names) name = index_of names name
 abbrev pub Recalls : Kind → Policy → Option (List (List ℕ × ℕ)) → (Atom → Bool) → List (Option (Option Decision)) → Type 0
 Recalls kind p names test slots =
     (name : List ℕ) (n : ℕ) (ds : List Member) (o : Option Decision) → number_in names name ≡ Some n → slice_get slots n ≡ Some (Some o) →
-    in_force kind p name ≡ Some ds → o ≡ decided kind p ds test
+    in_force kind p name ≡ Some ds → o ≡ list_decision kind p ds test
 
 -- if names have numbers, each number is that of one name at most
-abbrev pub AreApart : Option (List (List ℕ × ℕ)) → Type 0
-AreApart names = (a b : List ℕ) (n : ℕ) → number_in names a ≡ Some n → number_in names b ≡ Some n → a ≡ b
+abbrev pub HasOneNamePerNumber : Option (List (List ℕ × ℕ)) → Type 0
+HasOneNamePerNumber names = (a b : List ℕ) (n : ℕ) → number_in names a ≡ Some n → number_in names b ≡ Some n → a ≡ b

@@ -7,20 +7,20 @@ use Rattle.sudo_grammar.specs.declared.policy.CommandSpec.{CommandSpec}
 use Rattle.sudo_grammar.specs.declared.policy.Section.{Section}
 use Rattle.sudo_grammar.specs.declared.policy.Entry.{Entry}
 use Rattle.sudo_grammar.specs.declared.policy.Policy.{Policy}
-use Rattle.sudo_verdict.specs.Decided.{decided}
+use Rattle.sudo_verdict.specs.Decided.{list_decision}
 use Rattle.sudo_verdict.specs.Found.{entry_found}
 use Rattle.sudo_verdict.specs.Questions.{Question}
-use Rattle.sudo_verdict.specs.Postings.{Rows, posted, atom_number, misses_user, misses_command}
+use Rattle.sudo_verdict.specs.Postings.{Rows, is_in_row, atom_number, misses_user, misses_command}
 
 -- the rule is not posted for everyone, and no atom under which it is posted passes the test
 pub record IsSilent (rows : Rows) (rule : ℕ) (test : Atom → Bool) : Type 0 where
-  pub everyone : posted rows 0 rule ≡ false
-  pub atoms : (a : Atom) → posted rows (atom_number a) rule ≡ true → test a ≡ false
+  pub everyone : is_in_row rows 0 rule ≡ false
+  pub atoms : (a : Atom) → is_in_row rows (atom_number a) rule ≡ true → test a ≡ false
 
 -- none of these commands decides
 abbrev pub CommandsSilent : Policy → (Atom → Bool) → List CommandSpec → Type 0
 CommandsSilent p test commands =
-    (k : ℕ) (c : CommandSpec) → slice_get commands k ≡ Some c → decided kind.Cmnd p (c.command ∷ []) test ≡ None
+    (k : ℕ) (c : CommandSpec) → slice_get commands k ≡ Some c → list_decision kind.Cmnd p (c.command ∷ []) test ≡ None
 
 -- no command of these sections decides
 abbrev pub SectionsSilent : Policy → (Atom → Bool) → List Section → Type 0

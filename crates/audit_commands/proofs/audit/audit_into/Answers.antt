@@ -1,6 +1,6 @@
 use Rattle.std.proofs.Common.{Err, map}
 use Rattle.audit_commands.specs.Auditing.{Given, IsAudited, IsNotAudited}
-use Rattle.audit_commands.specs.Endings.{written as sent}
+use Rattle.audit_commands.specs.Endings.{writer_states as sent}
 use Rattle.audit_commands.proofs.AuditSteps.{not_checked}
 use Rattle.audit_commands.proofs.EndingLemmas.{run_ends}
 use Rattle.audit_commands.proofs.audit.audit_into.Goals as goal

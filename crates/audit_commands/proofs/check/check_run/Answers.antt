@@ -1,4 +1,4 @@
-use Rattle.audit_commands.specs.Endings.{written as sent}
+use Rattle.audit_commands.specs.Endings.{writer_states as sent}
 use Rattle.audit_commands.specs.Examining.{IsExamined}
 use Rattle.audit_commands.specs.Loading.{IsNoPolicy}
 use Rattle.audit_commands.proofs.EndingLemmas.{ends_most, run_ends, zero_prints}

@@ -1,5 +1,5 @@
 use Rattle.std.proofs.Common.{arith, refl}
-use Rattle.audit_commands.specs.Endings.{written as sent}
+use Rattle.audit_commands.specs.Endings.{writer_states as sent}
 use Rattle.audit_commands.proofs.EndingLemmas.{lost_ends, refused_ends, whole_ends}
 use Rattle.audit_commands.proofs.ending.end_run.Goals as goal
 

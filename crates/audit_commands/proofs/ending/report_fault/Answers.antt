@@ -1,5 +1,5 @@
 use Rattle.std.proofs.Common.{◌∙◌, inl, inr, refl, sym}
-use Rattle.audit_commands.specs.Endings.{written as sent}
+use Rattle.audit_commands.specs.Endings.{writer_states as sent}
 use Rattle.audit_commands.specs.FaultLines.{printed_of}
 use Rattle.audit_commands.specs.Faults.{status_of}
 use Rattle.audit_commands.proofs.EndingLemmas.{plain_line, says_same}

@@ -7,7 +7,7 @@ use Rattle.audit_run.proofs.readers.start_readers.Goals as goal
 
 pub loop-part-preserved : goal.loop-part-preserved
 loop-part-preserved g c =
-    let handoff = c.args.handoff.now in
+    let handoff = c.args.shared.handoff.now in
     let inv = c.loop-part.invariant in
     let step = c.in-Some.ensures.steps in
     let popped = c.in-Some-pop.ensures in

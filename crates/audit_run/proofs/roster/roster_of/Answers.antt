@@ -1,5 +1,5 @@
 use Rattle.std.proofs.Common.{◌≡◌, ◌≢◌, ◌++◌, ◌∷◌, [], List, ℕ, length, ap, ◌∙◌, arith, rules}
-use Rattle.audit_run.specs.Roster.{place_of, roster}
+use Rattle.audit_run.specs.Roster.{index_in, roster}
 use Rattle.audit_run.proofs.Rosters.{one_new, one_old, others, others_none}
 use Rattle.audit_run.proofs.roster.roster_of.Goals as goal
 
@@ -15,8 +15,8 @@ loop-name-preserved-in_ok-push c =
     let step = c.in-Some.ensures.cases in
     let inv = c.loop-name.invariant in
     let copied = c.in_ok-from_slice.ensures in
-    let new : place_of name found ≡ length found = search rules in (
-      one_new found _ _ _ _ name (c.in_ok-push.ensures.items ∙ ap (λ n. found ++ n ∷ []) (copied ∙ c.as_slice-then-place_in-len.ensures)) step.0 new inv.0,
+    let new : index_in name found ≡ length found = search rules in (
+      one_new found _ _ _ _ name (c.in_ok-push.ensures.items ∙ ap (λ n. found ++ n ∷ []) (copied ∙ c.as_slice-then-index_within-len.ensures)) step.0 new inv.0,
       omega (arith, inv.1, c.in_ok-push.ensures.len, step.1),
     )
 
@@ -26,4 +26,4 @@ loop-name-preserved c =
     let name = c.in-Some.name.now in
     let step = c.in-Some.ensures.cases in
     let inv = c.loop-name.invariant in
-    let old : place_of name found ≢ length found = search rules in (one_old found _ _ _ name step.0 old inv.0, omega (arith, inv.1, step.1))
+    let old : index_in name found ≢ length found = search rules in (one_old found _ _ _ name step.0 old inv.0, omega (arith, inv.1, step.1))

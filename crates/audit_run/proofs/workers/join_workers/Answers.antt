@@ -1,6 +1,6 @@
 use Rattle.std.proofs.Common.{◌≡◌, ◌+◌, ◌++◌, All, length, ap, ◌∙◌, subst, arith}
 use Rattle.std.proofs.lemmas.List.Elements.{All-head, All-tail}
-use Rattle.audit_run.specs.Names.{names_of}
+use Rattle.audit_run.specs.Names.{names_under}
 use Rattle.audit_run.specs.Passes.{PassView, with_joined}
 use Rattle.audit_run.specs.Body.FreshPasses.{fresh}
 use Rattle.audit_run.specs.Body.Work.{after_work}
@@ -11,7 +11,7 @@ pub loop-handle-preserved : goal.loop-handle-preserved
 loop-handle-preserved g c =
     let inv = c.loop-handle.invariant in
     let old = inv.1 in
-    let names = names_of c.args.shared.policy.now c.args.shared.directory.now in
+    let names = names_under c.args.shared.policy.now c.args.shared.directory.now in
     let new_pass = fresh c.args.shared.handoff.now c.args.shared.policy.now c.args.shared.directory.now in
     let all = subst (All (λ h. h.promise.before.value ≡ new_pass)) c.in-Some.ensures.steps.0 inv.0 in
     let before = All-head (λ h. h.promise.before.value ≡ new_pass) _ _ all in

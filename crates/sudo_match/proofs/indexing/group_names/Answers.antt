@@ -6,8 +6,8 @@ use Rattle.sudo_match.specs.declared.people.Group.{Group}
 use Rattle.sudo_base.specs.NameIndices.{index_of}
 use Rattle.sudo_match.specs.declared.fault.DirFault.{DirFault}
 use Rattle.sudo_match.specs.declared.fault.DirFault.TheVariants.{GroupClash}
-use Rattle.sudo_match.specs.KnownRows.{first_clash, clashes_at, groups_clash, groups_of, IsRefusal}
-use Rattle.sudo_match.specs.Indexing.{differs, noted}
+use Rattle.sudo_match.specs.KnownRows.{first_clash, clashes_at, groups_clash, groups_of, IsDirectoryFault}
+use Rattle.sudo_match.specs.Indexing.{differs, with_name}
 use Rattle.sudo_match.proofs.ClashLemmas.{clash-is}
 use Rattle.sudo_match.proofs.GroupLemmas.{GroupsRead, group-clash, groups-more, groups-end}
 use Rattle.sudo_match.proofs.PositionLemmas.{position-past, groups-past}
@@ -46,7 +46,7 @@ returns-then-clashes-clause-fault c =
     let fault : option_map (λ (g : Group). GroupClash g.name) (first_clash groups_clash gs) ≡ Some (GroupClash c.as_slice-name.result.now) =
     ap (option_map (λ (g : Group). GroupClash g.name)) (clash-is groups_clash gs c.loop-at.at c.in-Some.group.now c.loop-at.invariant.none row clashes)
     ∙ ap (λ n. Some (GroupClash n)) (sym c.as_slice-name.ensures) in
-    let P : Option DirFault → Type 0 = λ o. IsRefusal o c.group_clash.result in
+    let P : Option DirFault → Type 0 = λ o. IsDirectoryFault o c.group_clash.result in
     subst P (sym fault) c.group_clash.ensures
 
 pub loop-at-preserved : goal.loop-at-preserved
@@ -59,10 +59,10 @@ loop-at-preserved c =
     c.loop-at.invariant row c.get.ensures c.as_slice-name.ensures c.get-in-loop-at.ensures c.clashes.ensures
     ∙ c.if-clashes.false in
     let more = groups-more gs c.loop-at.at c.loop-at.names c.loop-at.ids c.in-Some.group.now c.loop-at.invariant row apart in
-    let names : c.note.new.names ≡ noted c.loop-at.names c.in-Some.group.now.name c.loop-at.at =
-    c.in_ok-note.ensures ∙ ap (λ n. noted c.loop-at.names n c.loop-at.at) c.as_slice-name.ensures in
+    let names : c.note.new.names ≡ with_name c.loop-at.names c.in-Some.group.now.name c.loop-at.at =
+    c.in_ok-note.ensures ∙ ap (λ n. with_name c.loop-at.names n c.loop-at.at) c.as_slice-name.ensures in
     let P : List (List ℕ × ℕ) → Type 0 = λ ns. GroupsRead gs (c.loop-at.at + 1) ns c.note-in-loop-at.new.self in
-    let Q : List (List ℕ × ℕ) → Type 0 = λ is. GroupsRead gs (c.loop-at.at + 1) (noted c.loop-at.names c.in-Some.group.now.name c.loop-at.at) is in
+    let Q : List (List ℕ × ℕ) → Type 0 = λ is. GroupsRead gs (c.loop-at.at + 1) (with_name c.loop-at.names c.in-Some.group.now.name c.loop-at.at) is in
     subst P (sym names) (subst Q (sym c.in_ok-note-2.ensures) more)
 
 pub returns-clause-names : goal.returns-clause-names

@@ -8,7 +8,7 @@ use Rattle.sudo_base.proofs.IndexLemmas.{indexes-none, indexes-more, index_of-em
 use Rattle.sudo_match.specs.declared.fault.DirFault.{DirFault}
 use Rattle.sudo_match.specs.declared.fault.DirFault.TheVariants.{HostTwice}
 use Rattle.sudo_match.specs.Class.{lower_text}
-use Rattle.sudo_match.specs.KnownRows.{same_host, first_clash, clashes_at, IsRefusal}
+use Rattle.sudo_match.specs.KnownRows.{same_host, first_clash, clashes_at, IsDirectoryFault}
 use Rattle.sudo_match.proofs.ClashLemmas.{none-first, none-more, key-clash, clash-is, clash-none}
 use Rattle.sudo_match.proofs.indexing.host_names.Goals as goal
 
@@ -32,7 +32,7 @@ returns-then-is_some-clause-fault c =
     let fault : option_map (λ (m : Machine). HostTwice m.name) (first_clash same_host c.args.machines.now) ≡ Some (HostTwice c.as_slice-then-is_some.result.now) =
     ap (option_map (λ (m : Machine). HostTwice m.name)) (clash-is same_host c.args.machines.now c.loop-at.at c.index-machines-at.result c.loop-at.invariant.none row clashes)
     ∙ ap (λ n. Some (HostTwice n)) (sym c.as_slice-then-is_some.ensures) in
-    let P : Option DirFault → Type 0 = λ o. IsRefusal o c.host_twice.result in
+    let P : Option DirFault → Type 0 = λ o. IsDirectoryFault o c.host_twice.result in
     subst P (sym fault) c.host_twice.ensures
 
 pub loop-at-preserved : goal.loop-at-preserved

@@ -7,7 +7,7 @@ use Rattle.sudo_base.specs.NameIndices.{index_of}
 use Rattle.sudo_base.proofs.IndexLemmas.{indexes-none, indexes-more, index_of-empty, index_of-append, none-is}
 use Rattle.sudo_match.specs.declared.fault.DirFault.{DirFault}
 use Rattle.sudo_match.specs.declared.fault.DirFault.TheVariants.{UserTwice}
-use Rattle.sudo_match.specs.KnownRows.{same_user, first_clash, clashes_at, IsRefusal}
+use Rattle.sudo_match.specs.KnownRows.{same_user, first_clash, clashes_at, IsDirectoryFault}
 use Rattle.sudo_match.proofs.ClashLemmas.{none-first, none-more, key-clash, clash-is, clash-none}
 use Rattle.sudo_match.proofs.indexing.user_names.Goals as goal
 
@@ -29,7 +29,7 @@ returns-then-is_some-clause-fault c =
     let fault : option_map (λ (u : Person). UserTwice u.name) (first_clash same_user c.args.people.now) ≡ Some (UserTwice c.as_slice-name.result.now) =
     ap (option_map (λ (u : Person). UserTwice u.name)) (clash-is same_user c.args.people.now c.loop-at.at c.index-people-at.result c.loop-at.invariant.none row clashes)
     ∙ ap (λ n. Some (UserTwice n)) (sym c.as_slice-name.ensures) in
-    let P : Option DirFault → Type 0 = λ o. IsRefusal o c.user_twice.result in
+    let P : Option DirFault → Type 0 = λ o. IsDirectoryFault o c.user_twice.result in
     subst P (sym fault) c.user_twice.ensures
 
 pub loop-at-preserved : goal.loop-at-preserved

@@ -7,7 +7,7 @@ use Rattle.sudo_parser.proofs.lists.members.Goals as goal
 
 pub returns-in_err-member-clause-stops : goal.returns-in_err-member-clause-stops
 returns-in_err-member-clause-stops c =
-    passed-on c.from_residual.result c.in_err-member.field-0.0 (StopsInItems c.args.kind c.args.tokens.now) c.from_residual.ensures.1
+    passed-on c.from_residual-in_err-member.result c.in_err-member.field-0.0 (StopsInItems c.args.kind c.args.tokens.now) c.from_residual-in_err-member.ensures.1
     (items-stop c.args.kind c.args.tokens.now c.items.members c.items.rest.now _ c.items.invariant.1 c.in_err-member.ensures.stops)
 
 pub items-preserved : goal.items-preserved

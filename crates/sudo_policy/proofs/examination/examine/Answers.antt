@@ -4,15 +4,15 @@ use Rattle.sudo_grammar.specs.declared.policy.Policy.{Policy}
 use Rattle.sudo_policy.specs.declared.survey.DefinitionRef.{DefinitionRef}
 use Rattle.sudo_policy.specs.declared.survey.Survey.{Survey}
 use Rattle.sudo_policy.specs.Definitions.{AliasDefinition, definitions}
-use Rattle.sudo_policy.specs.Body.DefinitionRef.{alias_view, list_view, IsSurvey, IsPlaced}
+use Rattle.sudo_policy.specs.Body.DefinitionRef.{alias_view, list_view, IsSurvey, IsAtItsPosition}
 use Rattle.sudo_policy.proofs.ExaminedLemmas.{leads_inside, are_findings, sound_is}
 use Rattle.sudo_policy.proofs.IndexLemmas.{IsIndex-survey}
 use Rattle.sudo_policy.proofs.examination.examine.Goals as goal
 
 -- the survey is one of the policy's definitions
-survey_of : (p : Policy) (slice all : List DefinitionRef) (survey : Survey) → slice ≡ all → map alias_view all ≡ definitions p → All (IsPlaced p) all → ((q : Policy) → All (IsPlaced q) slice → IsSurvey q (map alias_view slice) survey) → IsSurvey p (definitions p) survey
+survey_of : (p : Policy) (slice all : List DefinitionRef) (survey : Survey) → slice ≡ all → map alias_view all ≡ definitions p → All (IsAtItsPosition p) all → ((q : Policy) → All (IsAtItsPosition q) slice → IsSurvey q (map alias_view slice) survey) → IsSurvey p (definitions p) survey
 survey_of p slice all survey same are placed gives =
-    subst (λ (ds : List AliasDefinition). IsSurvey p ds survey) (ap (map alias_view) same ∙ are) (gives p (subst (λ (ns : List DefinitionRef). All (IsPlaced p) ns) (sym same) placed))
+    subst (λ (ds : List AliasDefinition). IsSurvey p ds survey) (ap (map alias_view) same ∙ are) (gives p (subst (λ (ns : List DefinitionRef). All (IsAtItsPosition p) ns) (sym same) placed))
 
 pub judge-requires : goal.judge-requires
 judge-requires c = record {

@@ -3,7 +3,7 @@ use Rattle.std.specs.Prelude.{Vec}
 use Rattle.std.specs.declared.alloc.Global.{Global}
 use Rattle.sudo_grammar.specs.declared.kind.Signed.{Signed}
 use Rattle.sudo_policy.specs.Definitions.{in_force, alias_named}
-use Rattle.sudo_policy.specs.Written.{differ, is_negated, negated_if, written}
+use Rattle.sudo_policy.specs.Written.{differ, is_negated, negated_if, written_form}
 use Rattle.sudo_policy.proofs.WritingLemmas.{Along, Along-split, Along-alone, Along-alias, Along-end, opened, never_undefined, definition_from}
 use Rattle.sudo_policy.proofs.expansion.+write_out.Goals as goal
 use Rattle.sudo_policy.proofs.expansion.+write_out.Goals.{in-Some+in-Some-definition+in_ok-write_out-in-Some-definition, in-None+in_ok-atom_copied-in-None+in_ok-push-in-None}
@@ -43,8 +43,8 @@ loop-member-preserved t c =
           let known : in_force c.args.kind p w.in-Some.name.now ≡ Some w.in-Some-definition.definition.now = sym w.definition.ensures.value ∙ ap option_copied w.in-Some-definition.is in
           let open_m = opened c.args.kind p m rest along.resolves_rest w.in-Some-definition.definition.now (definition_from c.args.kind p m _ _ named known) in
           let sign : c.differ-negated.result ≡ differ c.args.negate (is_negated m) = c.differ-negated.ensures ∙ ap (differ c.args.negate) c.is_negated.ensures in
-          let grows : c.match-alias_name.atoms.items ≡ c.loop-member.atoms.items ++ map (negated_if (differ c.args.negate (is_negated m))) (written c.args.kind p w.in-Some-definition.definition.now) =
-          ap (λ (v : Vec Signed Global). v.items) w.atoms-is ∙ w.in_ok-write_out-in-Some-definition.ensures ∙ ap (λ b. c.loop-member.atoms.items ++ map (negated_if b) (written c.args.kind p w.in-Some-definition.definition.now)) sign in
+          let grows : c.match-alias_name.atoms.items ≡ c.loop-member.atoms.items ++ map (negated_if (differ c.args.negate (is_negated m))) (written_form c.args.kind p w.in-Some-definition.definition.now) =
+          ap (λ (v : Vec Signed Global). v.items) w.atoms-is ∙ w.in_ok-write_out-in-Some-definition.ensures ∙ ap (λ b. c.loop-member.atoms.items ++ map (negated_if b) (written_form c.args.kind p w.in-Some-definition.definition.now)) sign in
           subst (λ (done : List Signed). Along c.args.kind p c.args.negate start done ms rest) (sym grows)
           (Along-alias c.args.kind p c.args.negate start c.loop-member.atoms.items ms m rest along w.in-Some-definition.definition.now open_m))
       | in-None+in_ok-atom_copied-in-None+in_ok-push-in-None w ↦

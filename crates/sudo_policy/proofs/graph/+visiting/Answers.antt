@@ -5,8 +5,8 @@ use Rattle.std.proofs.lemmas.List.{drop_more}
 use Rattle.sudo_policy.specs.declared.graph.State.{State}
 use Rattle.sudo_policy.specs.declared.graph.State.TheVariants.{New, Open}
 use Rattle.sudo_policy.specs.declared.graph.Measure.{Measure}
-use Rattle.sudo_policy.specs.Following.{joined}
-use Rattle.sudo_policy.specs.Body.Graph.{Edge, Path, step, Turned, beside, link_measure, done_measure}
+use Rattle.sudo_policy.specs.Following.{option_join}
+use Rattle.sudo_policy.specs.Body.Graph.{Edge, Path, step, Turned, measure_of_both, link_measure, done_measure}
 use Rattle.sudo_policy.proofs.GraphLemmas.{Path-edge}
 use Rattle.sudo_policy.proofs.StateLemmas.{Known, settled_as, known_none, near_open, known_next, start_holds, end_holds, end_turned, end_settled, row_edge, new_count-below, length_set, within_get, Turned-refl, Turned-trans}
 use Rattle.sudo_policy.proofs.graph.+visiting.Goals as goal
@@ -76,12 +76,12 @@ visit-loop-at-preserved t c =
     let edge : (next : ℕ) → link ≡ Some next → Edge g node next =
     λ next named. row_edge g node at next row link (row_at c.args.links.now c.args.states.now c.args.node c.index-links-node.result c.as_slice-row.result.now c.requires.new c.requires.sizes c.index-links-node.is c.as_slice-row.ensures) inside refl named in
     let known : Known g node (drop (at + 1) row) c.loop-at.measure = subst (λ (k : ℕ). Known g node (drop k row) c.loop-at.measure) (sym up) v.known in
-    let next : Known g node (link ∷ drop (at + 1) row) (joined beside (link_measure (done_measure states) link) c.loop-at.measure) =
+    let next : Known g node (link ∷ drop (at + 1) row) (option_join measure_of_both (link_measure (done_measure states) link) c.loop-at.measure) =
     known_next g states node (drop (at + 1) row) c.loop-at.measure link c.requires.closed (long ∙ c.requires.sizes) c.in_ok-visit_link.ensures.holds near c.in_ok-visit_link.ensures.visited edge known in
     let split : drop at row ≡ link ∷ drop (at + 1) row = drop_more row at None inside in
-    let same : c.joined-measure.result ≡ joined beside (link_measure (done_measure states) link) c.loop-at.measure =
-    c.joined-measure.ensures ∙ ap (λ (o : Option Measure). joined beside o c.loop-at.measure) c.link_measure.ensures in
-    let one : Known g node (drop at row) (joined beside (link_measure (done_measure states) link) c.loop-at.measure) = subst (λ (r : List (Option ℕ)). Known g node r (joined beside (link_measure (done_measure states) link) c.loop-at.measure)) (sym split) next in
+    let same : c.joined-measure.result ≡ option_join measure_of_both (link_measure (done_measure states) link) c.loop-at.measure =
+    c.joined-measure.ensures ∙ ap (λ (o : Option Measure). option_join measure_of_both o c.loop-at.measure) c.link_measure.ensures in
+    let one : Known g node (drop at row) (option_join measure_of_both (link_measure (done_measure states) link) c.loop-at.measure) = subst (λ (r : List (Option ℕ)). Known g node r (option_join measure_of_both (link_measure (done_measure states) link) c.loop-at.measure)) (sym split) next in
     record {
       within = omega (arith, inside);
       visiting = record {

@@ -3,7 +3,7 @@ use Rattle.std.proofs.lemmas.List.{map_push, take_more}
 use Rattle.sudo_policy.proofs.SurveyLemmas.{take_whole}
 use Rattle.sudo_policy.specs.declared.survey.DefinitionRef.{DefinitionRef}
 use Rattle.sudo_policy.specs.Definitions.{AliasDefinition}
-use Rattle.sudo_policy.specs.Body.DefinitionRef.{alias_view, IsSurvey, IsPlaced}
+use Rattle.sudo_policy.specs.Body.DefinitionRef.{alias_view, IsSurvey, IsAtItsPosition}
 use Rattle.sudo_policy.proofs.survey.take_survey.Goals as goal
 
 pub loop-definition-preserved : goal.loop-definition-preserved
@@ -11,7 +11,7 @@ loop-definition-preserved c p all =
     let ds = c.args.definitions.now in
     let i = c.loop-definition.definition-index in
     let item = c.definition-item.result in
-    let placed : IsPlaced p item = subst (λ (n : DefinitionRef). IsPlaced p n) (sym c.definition-item.is) (all i item c.loop-definition-test.true) in
+    let placed : IsAtItsPosition p item = subst (λ (n : DefinitionRef). IsAtItsPosition p n) (sym c.definition-item.is) (all i item c.loop-definition-test.true) in
     let more : map alias_view (take (i + 1) ds) ≡ map alias_view (take i ds) ++ alias_view item ∷ [] =
     ap (map alias_view) (take_more ds i item c.loop-definition-test.true) ∙ map_push alias_view (take i ds) (get_or ds i item) ∙ ap (λ (n : DefinitionRef). map alias_view (take i ds) ++ alias_view n ∷ []) (sym c.definition-item.is) in
     subst (λ (done : List AliasDefinition). IsSurvey p done c.add.new.self) (sym more) (c.in_ok-add.ensures.kept p (map alias_view (take i ds)) placed (c.loop-definition.invariant p all))

@@ -1,5 +1,5 @@
 use Rattle.std.proofs.Common.{ap, sym, ◌∙◌, ◌+◌, ◌*◌, arith}
-use Rattle.sudo_verdict.specs.Postings.{posted, misses_beginnings}
+use Rattle.sudo_verdict.specs.Postings.{is_in_row, misses_beginnings}
 use Rattle.sudo_verdict.proofs.Misses.{command-missed, begins-more, begins-end}
 use Rattle.sudo_verdict.proofs.candidates.add_command.Goals as goal
 
@@ -18,7 +18,7 @@ loop-byte-init c =
           let second = c.add_to-2.ensures.adds i third.0 in
           let first = c.add_to.ensures.adds i second.0 in
           command-missed rows (64 * c.args.first + i) c.args.command.now (first.1 (omega (arith, one, two, three, h)))
-          (ap (λ k. posted rows k (64 * c.args.first + i)) (sym c.command_number.ensures) ∙ second.1 (omega (arith, one, two, three, h))) begins;
+          (ap (λ k. is_in_row rows k (64 * c.args.first + i)) (sym c.command_number.ensures) ∙ second.1 (omega (arith, one, two, three, h))) begins;
     }
 
 pub loop-byte-preserved : goal.loop-byte-preserved

@@ -1,7 +1,7 @@
 use Rattle.std.proofs.Common.{◌≡◌, ◌+◌, ◌*◌, ◌≤◌, IsTrue, [], ◌∷◌, length}
 use Rattle.sudo_policy.specs.Resolving.{resolves, rank}
 use Rattle.std.specs.Prelude.{option_copied}
-use Rattle.sudo_verdict.specs.Decided.{decided}
+use Rattle.sudo_verdict.specs.Decided.{list_decision}
 use Rattle.sudo_verdict.specs.Body.Recalling.{Recalls}
 use Rattle.sudo_verdict.proofs.decision.+deciding.Given as goal
 
@@ -18,7 +18,7 @@ invariant-decide-loop-member g l = record {
   resolve : IsTrue (resolves l.kind l.checked l.left);
   shallow : rank l.kind l.checked l.left ≤ rank l.kind l.checked l.members;
   recalls : Recalls l.kind l.checked (option_copied l.numbers) (g.S.Subject.fits l.subject) l.slots;
-  same : decided l.kind l.checked l.members (g.S.Subject.fits l.subject) ≡ decided l.kind l.checked l.left (g.S.Subject.fits l.subject);
+  same : list_decision l.kind l.checked l.members (g.S.Subject.fits l.subject) ≡ list_decision l.kind l.checked l.left (g.S.Subject.fits l.subject);
 }
 
 abbrev pub decreases-decide-loop-member : goal.decreases-decide-loop-member

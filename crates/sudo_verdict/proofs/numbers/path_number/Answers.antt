@@ -1,19 +1,19 @@
 use Rattle.std.proofs.Common.{sym, ap, ◌∙◌, cond}
-use Rattle.sudo_match.specs.Pattern.{ends_in_slash}
+use Rattle.sudo_match.specs.Pattern.{is_folder_path}
 use Rattle.sudo_verdict.specs.Postings.{next_number, path_number_from}
 use Rattle.sudo_verdict.proofs.Numbering.{path-special, path-more, path-end}
 use Rattle.sudo_verdict.proofs.numbers.path_number.Goals as goal
 
 pub returns-then-is_special : goal.returns-then-is_special
 returns-then-is_special c =
-    let folder = ends_in_slash c.args.path.now in
+    let folder = is_folder_path c.args.path.now in
     sym (c.loop-ch.invariant.same
     ∙ ap (path_number_from folder c.loop-ch.beginning c.loop-ch.whole) c.in-Some.ensures.cases.0
     ∙ path-special folder c.loop-ch.beginning c.loop-ch.whole c.in-Some.ch.now c.in-Some.rest.now (sym c.is_special.ensures ∙ c.if-is_special.true))
 
 pub loop-ch-preserved : goal.loop-ch-preserved
 loop-ch-preserved c =
-    let folder = ends_in_slash c.args.path.now in
+    let folder = is_folder_path c.args.path.now in
     record {
       beginning = c.next_number-beginning.ensures.below;
       whole = c.next_number-whole.ensures.below;
@@ -28,11 +28,11 @@ loop-ch-preserved c =
 pub returns-then-is_folder : goal.returns-then-is_folder
 returns-then-is_folder c =
     sym (c.loop-ch.invariant.same
-    ∙ path-end (ends_in_slash c.args.path.now) c.loop-ch.beginning c.loop-ch.whole c.loop-ch.left.now c.in_default.ensures.cases
+    ∙ path-end (is_folder_path c.args.path.now) c.loop-ch.beginning c.loop-ch.whole c.loop-ch.left.now c.in_default.ensures.cases
     ∙ ap (λ b. cond b c.loop-ch.beginning c.loop-ch.whole) (sym c.is_folder.ensures ∙ c.if-is_folder.true))
 
 pub returns-else-is_folder : goal.returns-else-is_folder
 returns-else-is_folder c =
     sym (c.loop-ch.invariant.same
-    ∙ path-end (ends_in_slash c.args.path.now) c.loop-ch.beginning c.loop-ch.whole c.loop-ch.left.now c.in_default.ensures.cases
+    ∙ path-end (is_folder_path c.args.path.now) c.loop-ch.beginning c.loop-ch.whole c.loop-ch.left.now c.in_default.ensures.cases
     ∙ ap (λ b. cond b c.loop-ch.beginning c.loop-ch.whole) (sym c.is_folder.ensures ∙ c.if-is_folder.false))

@@ -1,5 +1,5 @@
 use Rattle.std.proofs.Common.{◌≡◌, ◌<◌, length}
-use Rattle.sudo_match.specs.Pattern.{ends_in_slash}
+use Rattle.sudo_match.specs.Pattern.{is_folder_path}
 use Rattle.sudo_verdict.specs.Postings.{path_number, path_number_from}
 use Rattle.sudo_verdict.proofs.numbers.path_number.Given as goal
 
@@ -7,7 +7,7 @@ abbrev pub invariant-loop-ch : goal.invariant-loop-ch
 invariant-loop-ch l = record {
   beginning : l.beginning < 16384;
   whole : l.whole < 16384;
-  same : path_number l.path ≡ path_number_from (ends_in_slash l.path) l.beginning l.whole l.left;
+  same : path_number l.path ≡ path_number_from (is_folder_path l.path) l.beginning l.whole l.left;
 }
 
 abbrev pub decreases-loop-ch : goal.decreases-loop-ch

@@ -25,8 +25,8 @@ returns-then-left-eq0 c =
     c.requires.silent (k - c.args.start) e (omega (arith, l, h, within)) (ap (slice_get p.entries) place ∙ there)
     (c.last_in_both_before-left.ensures.none (k - c.args.start) (omega (arith, first)) (omega (arith, l, h))))
 
-pub search_entry-found-requires : goal.search_entry-found-requires
-search_entry-found-requires c =
+pub search_candidate-found-requires : goal.search_candidate-found-requires
+search_candidate-found-requires c =
     let policy = c.policy.ensures.value in
     let same = c.as_slice-entries.ensures ∙ ap (λ (p : Policy). p.entries) policy in
     let count = ap (λ l. length l) same in
@@ -52,8 +52,8 @@ returns-then-is_some c =
     let whole = c.requires.within in
     let at = c.args.start + (c.last_in_both_before-left.result - 1) in
     let there = slice_get_read c.as_slice-entries.result.now (length c.as_slice-entries.result.now) at c.index-entries-start.result refl (omega (arith, count, positive, up, within, whole)) c.index-entries-start.is in
-    let is_here : option_or c.search_entry-found.result (last_set (map (entry_found p q) (take at p.entries))) ≡ c.search_entry-found.result =
-    or-some c.search_entry-found.result (last_set (map (entry_found p q) (take at p.entries))) (sym c.if-is_some.ensures) in
+    let is_here : option_or c.search_candidate-found.result (last_set (map (entry_found p q) (take at p.entries))) ≡ c.search_candidate-found.result =
+    or-some c.search_candidate-found.result (last_set (map (entry_found p q) (take at p.entries))) (sym c.if-is_some.ensures) in
     c.loop-left.invariant.same
     ∙ skipped (entry_found p q) p.entries (at + 1) (c.args.start + c.loop-left.left) (omega (arith, positive, up))
     (λ k e l h there.
@@ -61,9 +61,9 @@ returns-then-is_some c =
     c.requires.silent (k - c.args.start) e (omega (arith, l, h, within)) (ap (slice_get p.entries) place ∙ there)
     (c.last_in_both_before-left.ensures.none (k - c.args.start) (omega (arith, l, positive)) (omega (arith, l, h))))
     ∙ last-there (entry_found p q) p.entries at c.index-entries-start.result (ap (λ l. slice_get l at) (sym same) ∙ there)
-    ∙ ap (λ o. option_or o (last_set (map (entry_found p q) (take at p.entries)))) (sym c.search_entry-found.ensures)
+    ∙ ap (λ o. option_or o (last_set (map (entry_found p q) (take at p.entries)))) (sym c.search_candidate-found.ensures)
     ∙ is_here
-    ∙ sym (or-some c.search_entry-found.result (last_set (map (entry_found p q) (take c.args.start p.entries))) (sym c.if-is_some.ensures))
+    ∙ sym (or-some c.search_candidate-found.result (last_set (map (entry_found p q) (take c.args.start p.entries))) (sym c.if-is_some.ensures))
 
 pub loop-left-preserved : goal.loop-left-preserved
 loop-left-preserved c =
@@ -88,6 +88,6 @@ loop-left-preserved c =
           c.requires.silent (k - c.args.start) e (omega (arith, l, h, within)) (ap (slice_get p.entries) place ∙ there)
           (c.last_in_both_before-left.ensures.none (k - c.args.start) (omega (arith, l, positive)) (omega (arith, l, h))))
           ∙ last-there (entry_found p q) p.entries at c.index-entries-start.result (ap (λ l. slice_get l at) (sym same) ∙ there)
-          ∙ ap (λ o. option_or o (last_set (map (entry_found p q) (take at p.entries)))) (sym c.search_entry-found.ensures)
-          ∙ or-none c.search_entry-found.result (last_set (map (entry_found p q) (take at p.entries))) (sym c.if-is_some.ensures);
+          ∙ ap (λ o. option_or o (last_set (map (entry_found p q) (take at p.entries)))) (sym c.search_candidate-found.ensures)
+          ∙ or-none c.search_candidate-found.result (last_set (map (entry_found p q) (take at p.entries))) (sym c.if-is_some.ensures);
     }

@@ -5,4 +5,4 @@ use Rattle.sudo_verdict.proofs.tags.with_earlier.Goals as goal
 pub returns : goal.returns
 returns c =
     let whole : IsWhole c.args.tags = search (rules, c.well_formed) in
-    rw c.or.ensures (or_tags_at c.args.tags c.args.tag c.position-place.result whole c.position-place.ensures)
+    rw c.or.ensures (or_tags_at c.args.tags c.args.tag c.position-position.result whole c.position-position.ensures)

@@ -3,24 +3,24 @@ use Rattle.std.specs.Prelude.{Some, None, find, is_some, codes}
 use Rattle.std.specs.Option.{option_copied}
 use Rattle.sudo_match.specs.declared.people.Person.{Person}
 use Rattle.sudo_base.specs.NameIndices.{index_of}
-use Rattle.sudo_match.specs.KnownRows.{directory_fault, is_no_group, IsRefusal}
+use Rattle.sudo_match.specs.KnownRows.{directory_fault, is_no_group, IsDirectoryFault}
 use Rattle.sudo_match.proofs.FaultLemmas.{passed-on, refused-user, refused-host, refused-group, refused-ungrouped, refused-root, faultless, kept}
 use Rattle.sudo_match.proofs.directory.Directory.of_rows.Goals as goal
 
 pub returns-in_err-users-clause-fault : goal.returns-in_err-users-clause-fault
 returns-in_err-users-clause-fault c =
-    passed-on c.from_residual.result c.in_err-users.field-0.0 (IsRefusal (directory_fault c.args.people c.args.machines)) c.from_residual.ensures.1
+    passed-on c.from_residual.result c.in_err-users.field-0.0 (IsDirectoryFault (directory_fault c.args.people c.args.machines)) c.from_residual.ensures.1
     (refused-user c.args.people c.args.machines c.in_err-users.field-0.0 (rw (sym c.as_slice.ensures) c.in_err-users.ensures.fault))
 
 pub returns-in_err-hosts-clause-fault : goal.returns-in_err-hosts-clause-fault
 returns-in_err-hosts-clause-fault c =
-    passed-on c.from_residual-in_err-hosts.result c.in_err-hosts.field-0.0 (IsRefusal (directory_fault c.args.people c.args.machines)) c.from_residual-in_err-hosts.ensures.1
+    passed-on c.from_residual-in_err-hosts.result c.in_err-hosts.field-0.0 (IsDirectoryFault (directory_fault c.args.people c.args.machines)) c.from_residual-in_err-hosts.ensures.1
     (refused-host c.args.people c.args.machines c.in_ok-users.users c.in_err-hosts.field-0.0 (rw (sym c.as_slice.ensures) c.in_ok-users.ensures.names)
     (rw (sym c.as_slice-2.ensures) c.in_err-hosts.ensures.fault))
 
 pub returns-in_err-groups-clause-fault : goal.returns-in_err-groups-clause-fault
 returns-in_err-groups-clause-fault c =
-    passed-on c.from_residual-in_err-groups.result c.in_err-groups.field-0.0 (IsRefusal (directory_fault c.args.people c.args.machines)) c.from_residual-in_err-groups.ensures.1
+    passed-on c.from_residual-in_err-groups.result c.in_err-groups.field-0.0 (IsDirectoryFault (directory_fault c.args.people c.args.machines)) c.from_residual-in_err-groups.ensures.1
     (refused-group c.args.people c.args.machines c.in_ok-users.users c.in_ok-hosts.hosts c.in_err-groups.field-0.0 (rw (sym c.as_slice.ensures) c.in_ok-users.ensures.names)
     (rw (sym c.as_slice-2.ensures) c.in_ok-hosts.ensures.names) (rw (sym c.as_slice-4.ensures) c.in_err-groups.ensures.fault))
 

@@ -10,7 +10,7 @@ overflow_add-at c = let within = c.in-Starred.ensures.is.within in omega (arith,
 
 pub loop-at-smaller-in-Starred : goal.loop-at-smaller-in-Starred
 loop-at-smaller-in-Starred c =
-    work-star c.args.slash (seen c.args.self.now) (text_of c.args.text.now) c.loop-at.at c.loop-at.place c.loop-at.retry
+    work-star c.args.slash (seen c.args.self.now) (text_of c.args.text.now) c.loop-at.at c.loop-at.offset c.loop-at.retry
     c.loop-at.invariant.keeps c.in-Starred.ensures.is.within
 
 pub loop-at-preserved-in-Starred : goal.loop-at-preserved-in-Starred
@@ -18,7 +18,7 @@ loop-at-preserved-in-Starred c = record {
   within = let within = c.in-Starred.ensures.is.within in omega (arith, within);
   knows = c.step.ensures.knows;
   keeps =
-      keeps-star c.args.slash (seen c.args.self.now) (text_of c.args.text.now) c.loop-at.at c.loop-at.place c.loop-at.retry
+      keeps-star c.args.slash (seen c.args.self.now) (text_of c.args.text.now) c.loop-at.at c.loop-at.offset c.loop-at.retry
       c.loop-at.invariant.keeps c.in-Starred.ensures.is;
 }
 
@@ -38,18 +38,18 @@ loop-at-preserved-in-Taken c = record {
   within = let within = c.in-Taken.ensures.is.at_within in omega (arith, within);
   knows = c.step.ensures.knows;
   keeps =
-      keeps-taken c.args.slash (seen c.args.self.now) (text_of c.args.text.now) c.loop-at.at c.loop-at.place c.in-Taken.more
+      keeps-taken c.args.slash (seen c.args.self.now) (text_of c.args.text.now) c.loop-at.at c.loop-at.offset c.in-Taken.more
       c.loop-at.retry c.loop-at.invariant.keeps c.in-Taken.ensures.is;
 }
 
 pub returns-then-not-is_free_at : goal.returns-then-not-is_free_at
 returns-then-not-is_free_at c =
-    let P : Option (ℕ × ℕ) → Type 0 = λ r. Keeps c.args.slash (seen c.args.self.now) (text_of c.args.text.now) c.loop-at.at c.loop-at.place r in
-    sym (ends-stuck c.args.slash (seen c.args.self.now) (text_of c.args.text.now) c.loop-at.at c.loop-at.place c.in-Some-retry.start c.in-Some-retry.from
+    let P : Option (ℕ × ℕ) → Type 0 = λ r. Keeps c.args.slash (seen c.args.self.now) (text_of c.args.text.now) c.loop-at.at c.loop-at.offset r in
+    sym (ends-stuck c.args.slash (seen c.args.self.now) (text_of c.args.text.now) c.loop-at.at c.loop-at.offset c.in-Some-retry.start c.in-Some-retry.from
     (subst P c.in-Some-retry.is c.loop-at.invariant.keeps) c.in-Stuck.ensures.is (sym c.is_free_at.ensures ∙ c.if-not-is_free_at.true))
 
-pub overflow_add-place-in-Stuck : goal.overflow_add-place-in-Stuck
-overflow_add-place-in-Stuck c =
+pub overflow_add-offset-in-Stuck : goal.overflow_add-offset-in-Stuck
+overflow_add-offset-in-Stuck c =
     let within = free-within c.args.slash (text_of c.args.text.now) c.in-Some-retry.from (sym c.is_free_at.ensures ∙ c.if-not-is_free_at.false) in
     omega (arith, text-short c.args.text.now, within)
 
@@ -68,13 +68,13 @@ loop-at-smaller c =
 
 pub loop-at-preserved : goal.loop-at-preserved
 loop-at-preserved c =
-    let P : Option (ℕ × ℕ) → Type 0 = λ r. Keeps c.args.slash (seen c.args.self.now) (text_of c.args.text.now) c.loop-at.at c.loop-at.place r in
-    let keeps : Retries c.args.slash (seen c.args.self.now) (text_of c.args.text.now) c.loop-at.at c.loop-at.place c.in-Some-retry.start c.in-Some-retry.from =
+    let P : Option (ℕ × ℕ) → Type 0 = λ r. Keeps c.args.slash (seen c.args.self.now) (text_of c.args.text.now) c.loop-at.at c.loop-at.offset r in
+    let keeps : Retries c.args.slash (seen c.args.self.now) (text_of c.args.text.now) c.loop-at.at c.loop-at.offset c.in-Some-retry.start c.in-Some-retry.from =
     subst P c.in-Some-retry.is c.loop-at.invariant.keeps in
     record {
       within = let before = keeps.start_within in let within = c.loop-at.invariant.within in omega (arith, before, within);
       knows = c.step.ensures.knows;
       keeps =
-          keeps-back c.args.slash (seen c.args.self.now) (text_of c.args.text.now) c.loop-at.at c.loop-at.place c.in-Some-retry.start c.in-Some-retry.from
+          keeps-back c.args.slash (seen c.args.self.now) (text_of c.args.text.now) c.loop-at.at c.loop-at.offset c.in-Some-retry.start c.in-Some-retry.from
           keeps c.in-Stuck.ensures.is (sym c.is_free_at.ensures ∙ c.if-not-is_free_at.false);
     }

@@ -1,5 +1,5 @@
 use Rattle.std.proofs.Common.{true, arith, sym, ◌∙◌, ap, refl}
-use Rattle.sudo_verdict.specs.Postings.{posted}
+use Rattle.sudo_verdict.specs.Postings.{is_in_row}
 use Rattle.sudo_verdict.proofs.Deciding.{last_silent, rest_resolves, last_resolves, rest_shallow, last_shallow, none_silent, undefined_never, alias_silent, alias_falls, alias_stands, atom_silent}
 use Rattle.sudo_verdict.proofs.Posting.{on-ok}
 use Rattle.sudo_verdict.proofs.Misses.{grows-on}
@@ -33,7 +33,7 @@ post_member-returns-in_default-clause-covers t c =
     on-ok c.post-in_default.result
     (λ there test s.
     sym (atom_silent c.args.kind c.args.checked.now test c.args.member.now c.in_default.not-Alias
-    (s.atoms c.args.member.now.atom (ap (λ k. posted c.post-in_default.new.self.rows.items k c.args.rule) (sym c.atom_number.ensures) ∙ there))))
+    (s.atoms c.args.member.now.atom (ap (λ k. is_in_row c.post-in_default.new.self.rows.items k c.args.rule) (sym c.atom_number.ensures) ∙ there))))
     c.post-in_default.ensures.posted
 
 pub post_members-loop-member-init : goal.post_members-loop-member-init

@@ -1,7 +1,7 @@
 use Rattle.std.proofs.Common.{◌≡◌, ◌+◌, ◌*◌, ◌≤◌, Bool, IsTrue, [], ◌∷◌, length}
 use Rattle.sudo_grammar.specs.declared.kind.Atom.{Atom}
 use Rattle.sudo_policy.specs.Resolving.{resolves, rank}
-use Rattle.sudo_verdict.specs.Decided.{decided}
+use Rattle.sudo_verdict.specs.Decided.{list_decision}
 use Rattle.sudo_verdict.specs.Postings.{Grows}
 use Rattle.sudo_verdict.specs.Body.Silence.{IsSilent}
 use Rattle.sudo_verdict.proofs.postings.Posting.+posting.Given as goal
@@ -20,7 +20,7 @@ invariant-post_members-loop-member l = record {
   grows : Grows l.initial.self.rows.rows.items l.self.rows.rows.items;
   resolve : IsTrue (resolves l.kind l.checked l.left);
   shallow : rank l.kind l.checked l.left ≤ rank l.kind l.checked l.members;
-  same : (test : Atom → Bool) → IsSilent l.self.rows.rows.items l.rule test → decided l.kind l.checked l.members test ≡ decided l.kind l.checked l.left test;
+  same : (test : Atom → Bool) → IsSilent l.self.rows.rows.items l.rule test → list_decision l.kind l.checked l.members test ≡ list_decision l.kind l.checked l.left test;
 }
 
 abbrev pub decreases-post_members-loop-member : goal.decreases-post_members-loop-member

@@ -3,7 +3,7 @@ use Rattle.std.specs.Prelude.{None}
 use Rattle.sudo_grammar.specs.declared.kind.Kind.TheVariants as kind
 use Rattle.sudo_grammar.specs.declared.policy.CommandSpec.{CommandSpec}
 use Rattle.sudo_policy.specs.Resolving.{command_resolves}
-use Rattle.sudo_verdict.specs.Decided.{decided}
+use Rattle.sudo_verdict.specs.Decided.{list_decision}
 use Rattle.sudo_verdict.proofs.Lasts.{back_rest}
 use Rattle.sudo_verdict.proofs.Misses.{grows-on}
 use Rattle.sudo_verdict.proofs.Silent.{silent-old, each-more}
@@ -19,6 +19,6 @@ loop-spec-preserved c =
       resolve = back_rest (command_resolves p) c.loop-spec.left.now c.in-Some.rest.now c.in-Some.spec.now is c.loop-spec.invariant.resolve;
       silent = λ test s rest.
           c.loop-spec.invariant.silent test (silent-old c.loop-spec.self.rows.rows.items c.post_member.new.self.rows.rows.items c.args.rule test c.post_member.ensures.grows s)
-          (each-more (λ (spec : CommandSpec). decided kind.Cmnd p (spec.command ∷ []) test ≡ None) c.loop-spec.left.now c.in-Some.rest.now c.in-Some.spec.now is rest
+          (each-more (λ (spec : CommandSpec). list_decision kind.Cmnd p (spec.command ∷ []) test ≡ None) c.loop-spec.left.now c.in-Some.rest.now c.in-Some.spec.now is rest
           (c.in_ok-post_member.ensures.covers test s));
     }

@@ -1,6 +1,6 @@
 use Rattle.std.proofs.Common.{ap, ◌∙◌, sym, subst}
 use Rattle.sudo_grammar.specs.declared.kind.Kind.TheVariants as kind
-use Rattle.sudo_verdict.specs.Decided.{decided}
+use Rattle.sudo_verdict.specs.Decided.{list_decision}
 use Rattle.sudo_verdict.specs.Body.Silence.{SectionsSilent}
 use Rattle.sudo_verdict.proofs.Posting.{on-ok}
 use Rattle.sudo_verdict.proofs.Silent.{rule-silent}
@@ -12,6 +12,6 @@ returns-in_ok-post_members-in-Rule-clause-covers c =
     (λ silent.
     rule-silent c.args.checked.now c.post_members.new.self.rows.rows.items c.post_sections.new.self.rows.rows.items c.args.rule c.args.entry.now
     c.in-Rule.users c.in-Rule.sections c.in-Rule.is
-    (λ test s. ap (λ ms. decided kind.User c.args.checked.now ms test) (sym c.as_slice.ensures) ∙ c.in_ok-post_members-in-Rule.ensures.covers test s)
+    (λ test s. ap (λ ms. list_decision kind.User c.args.checked.now ms test) (sym c.as_slice.ensures) ∙ c.in_ok-post_members-in-Rule.ensures.covers test s)
     (λ test s. subst (SectionsSilent c.args.checked.now test) c.as_slice-in-Rule.ensures (silent test s)))
     c.post_sections.ensures.covers
