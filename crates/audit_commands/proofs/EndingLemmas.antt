@@ -2,7 +2,7 @@
 use Rattle.std.proofs.Common.{◌≡◌, ◌<◌, ◌≤◌, ◌⊎◌, ℕ, List, length, take, Option, Result, Ok, Err, inl, inr, refl, sym, subst, ◌∙◌, arith}
 use Rattle.std.specs.Prelude.{IfErr, IfOk}
 use Rattle.audit_commands.specs.Body.Ended.{IsFault, IsPrinted}
-use Rattle.audit_commands.specs.Endings.{Written, Ends, HasWritten, HasWrittenNothing, IsFaultPrinted, IsWell, FailsToWrite, Prints, Refuses, PrintsLine}
+use Rattle.audit_commands.specs.Endings.{Written, Ends, HasWritten, HasWrittenNothing, IsFaultPrinted, IsWell, FailsToWrite, Prints, EndsInFault, PrintsLine}
 use Rattle.audit_commands.specs.FaultLines.{fault_text, error_line, printed_of}
 use Rattle.audit_commands.specs.Faults.{status_of}
 use Rattle.audit_commands.specs.declared.fault.Fault.{Fault}

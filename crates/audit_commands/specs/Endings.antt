@@ -46,7 +46,7 @@ pub record Prints (Good : List ℕ → ℕ → Type 0) (status : ℕ) (out err :
   pub quiet : HasWrittenNothing err
 
 -- a fault of this kind ended the run, and nothing was printed on `out`
-pub record Refuses (Bad : Fault → Type 0) (status : ℕ) (out err : Written) : Type 0 where
+pub record EndsInFault (Bad : Fault → Type 0) (status : ℕ) (out err : Written) : Type 0 where
   pub fault : Fault
   pub bad : Bad fault
   pub well : IsWell out
@@ -67,4 +67,4 @@ pub record FailsToWrite (Good : List ℕ → ℕ → Type 0) (status : ℕ) (out
 
 -- the end of a run that may print such a text with such a status, and may end with such a fault
 abbrev pub Ends : (List ℕ → ℕ → Type 0) → (Fault → Type 0) → ℕ → Written → Written → Type 0
-Ends Good Bad status out err = Prints Good status out err ⊎ (Refuses Bad status out err ⊎ FailsToWrite Good status out err)
+Ends Good Bad status out err = Prints Good status out err ⊎ (EndsInFault Bad status out err ⊎ FailsToWrite Good status out err)

@@ -4,7 +4,7 @@ use Rattle.sudo_grammar.specs.declared.policy.Policy.{Policy}
 use Rattle.sudo_load.specs.declared.fault.LoadFault.{LoadFault}
 use Rattle.sudo_load.specs.declared.supply.Supply.{Supply}
 use Rattle.sudo_load.specs.Load.{IsLoad}
-use Rattle.sudo_policy.specs.Checking.{Fails, Passes}
+use Rattle.sudo_policy.specs.Checking.{FailsCheck, Passes}
 use Rattle.sudo_policy.specs.declared.finding.Finding.{Finding}
 use Rattle.audit_commands.specs.FindingLines.{finding_lines}
 use Rattle.audit_commands.specs.Holding.{AreHeld, HoldsFile, Holdings, IsUnreadable}
@@ -54,7 +54,7 @@ PassesCheck held path = (policy : Policy) × IsChecked held path policy
 
 -- these are the lines of the errors that the check finds in a policy, of at least one error
 abbrev pub AreErrorsOf : Policy → List ℕ → Type 0
-AreErrorsOf policy lines = (found : List Finding) × Fails policy found × (lines ≡ finding_lines policy.files true found)
+AreErrorsOf policy lines = (found : List Finding) × FailsCheck policy found × (lines ≡ finding_lines policy.files true found)
 
 -- these are the lines of the errors of the policy that the file at a path unfolds to
 abbrev pub AreErrors : Option Holdings → List ℕ → List ℕ → Type 0

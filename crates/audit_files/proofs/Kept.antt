@@ -9,7 +9,8 @@ use Rattle.std.proofs.lemmas.List.Sums.{fold_push}
 use Rattle.std.proofs.lemmas.Slice.Eq.{bytes_eq-Decides}
 use Rattle.sudo_match.specs.declared.people.Group.{Group}
 use Rattle.sudo_match.specs.declared.people.Person.{Person}
-use Rattle.audit_files.specs.Numerals.{is_empty, numeral_value}
+use Rattle.audit_files.specs.Numerals.{numeral_value}
+use Rattle.sudo_match.specs.Matching.{is_empty}
 use Rattle.audit_files.specs.Rows.{Fields, first_fault}
 use Rattle.audit_files.specs.Users.{HaveDistinctNeighbours, AreUsersOf, followed_by, goes_after, groups_of_row, has_groups, last_of, member_of, membership_fault, row_behind, row_fault, rows_of, rows_with, users_of, users_of_rows, with_row}
 use Rattle.audit_files.specs.declared.fault.FileFault.{FileFault}

@@ -4,8 +4,10 @@ use Rattle.std.proofs.lemmas.Bool.{leb-true}
 use Rattle.sudo_match.specs.declared.people.Interface.{Interface}
 use Rattle.sudo_match.specs.declared.people.Machine.{Machine}
 use Rattle.audit_files.specs.Files.{value_in_file}
-use Rattle.audit_files.specs.Numerals.{is_empty, numeral_value}
-use Rattle.audit_files.specs.Parts.{cut_at, items_of}
+use Rattle.audit_files.specs.Numerals.{numeral_value}
+use Rattle.sudo_match.specs.Matching.{is_empty}
+use Rattle.audit_files.specs.Parts.{items_of}
+use Rattle.sudo_grammar.specs.Members.{cut_at}
 use Rattle.audit_files.specs.Rows.{Fields, records_of}
 use Rattle.audit_files.specs.Users.{row_fault}
 use Rattle.audit_files.specs.declared.fault.FileFault.{FileFault}

@@ -44,13 +44,13 @@ verdict_place files NoMatch = []
 verdict_place files (Unknown w) = []
 
 -- a tag's name at the end of those so far, after a space unless it is the first
-abbrev pub with_name : List ℕ → Tag → List ℕ
-with_name [] tag = tag_name tag
-with_name (b ∷ before) tag = (b ∷ before) ++ 32 ∷ tag_name tag
+abbrev pub with_tag_name : List ℕ → Tag → List ℕ
+with_tag_name [] tag = tag_name tag
+with_tag_name (b ∷ before) tag = (b ∷ before) ++ 32 ∷ tag_name tag
 
 -- with the tag of a pair, if a choice is made
 abbrev pub with_tag : List ℕ → TagPair × Option Bool → List ℕ
-with_tag before (p, Some on) = with_name before (record { pair = p; on = on })
+with_tag before (p, Some on) = with_tag_name before (record { pair = p; on = on })
 with_tag before (p, None) = before
 
 -- the tags that are set, in the order of the pairs, one space apart

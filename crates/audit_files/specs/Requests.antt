@@ -4,7 +4,8 @@ use Rattle.std.specs.Option.{option_map_or}
 use Rattle.std.specs.Cmp.Lexicographic.{pointwise}
 use Rattle.sudo_match.specs.declared.request.Request.{Request}
 use Rattle.audit_files.specs.Files.{value_in_file}
-use Rattle.audit_files.specs.Numerals.{is_empty, numeral_value}
+use Rattle.audit_files.specs.Numerals.{numeral_value}
+use Rattle.sudo_match.specs.Matching.{is_empty}
 use Rattle.audit_files.specs.Rows.{Fields, records_of}
 use Rattle.audit_files.specs.declared.fault.FileFault.{FileFault}
 use Rattle.audit_files.specs.declared.fault.FileFault.TheVariants.{BadRow, OutOfOrder, RowAfterClose, TooMany}

@@ -3,8 +3,10 @@ use Rattle.std.specs.Prelude.{⊤, ◌≡◌, ℕ, Bool, true, false, not, List,
 use Rattle.sudo_match.specs.declared.people.Group.{Group}
 use Rattle.sudo_match.specs.declared.people.Person.{Person}
 use Rattle.audit_files.specs.Files.{after_header, value_in_file}
-use Rattle.audit_files.specs.Numerals.{is_empty, numeral_value}
-use Rattle.audit_files.specs.Parts.{cut_at, items_of}
+use Rattle.audit_files.specs.Numerals.{numeral_value}
+use Rattle.sudo_match.specs.Matching.{is_empty}
+use Rattle.audit_files.specs.Parts.{items_of}
+use Rattle.sudo_grammar.specs.Members.{cut_at}
 use Rattle.audit_files.specs.Rows.{Fields, records_of}
 use Rattle.audit_files.specs.declared.fault.FileFault.{FileFault}
 use Rattle.audit_files.specs.declared.fault.FileFault.TheVariants.{BadRow, TooMany}

@@ -1,6 +1,6 @@
 //! The text of a report, record by record.
 ghost use Rattle.std.specs.Prelude.{◌≡◌, ◌++◌, ◌∷◌, [], IfOk, OnOk};
-ghost use Rattle.audit_files.specs.Report.{answer_fields, line, report_text as text_of, sender_text, tags_text, verdict_place, verdict_tags, verdict_word, with_name, with_tag};
+ghost use Rattle.audit_files.specs.Report.{answer_fields, line, report_text as text_of, sender_text, tags_text, verdict_place, verdict_tags, verdict_word, with_tag_name, with_tag};
 ghost use Rattle.audit_files.specs.Body.Text.{IsBetween, text_so_far};
 
 use crate::places::push_place;
@@ -40,7 +40,7 @@ fn set_place(text: &mut Vec<u8>, files: &[Seq<u8>], verdict: &Verdict) -> Result
 
 // Puts a tag's name at the end, after a space unless it is the first.
 fn put_name(text: &mut Vec<u8>, tag: Tag) -> Result<(), AllocError>
-    ensures { OnOk result (text.new.items ≡ with_name text.old.items tag) }
+    ensures { OnOk result (text.new.items ≡ with_tag_name text.old.items tag) }
 {
     if !text.is_empty() {
         text.push(b' ')?;

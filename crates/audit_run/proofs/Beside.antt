@@ -4,7 +4,7 @@ use Rattle.std.proofs.lemmas.List.{append-nil}
 use Rattle.std.proofs.lemmas.List.Concat.{flat_map-append}
 use Rattle.std.proofs.lemmas.Option.{same_Some}
 use Rattle.audit_collect.proofs.HeldLaw.{self_tested, tested}
-use Rattle.audit_run.specs.Asked.{asked_of, counts_in, counts_of, has_number, values_of_sender, requests_of}
+use Rattle.audit_run.specs.Asked.{asked_of, counts_in, counts_of, has_number, values_of_sender, requests_stated}
 use Rattle.audit_run.specs.Outcome.{AreWhole, IsWholeSender}
 use Rattle.audit_run.specs.Parts.{Stated}
 use Rattle.audit_run.proofs.Apart.{part_after}
@@ -120,20 +120,20 @@ module _ (senders others : ℕ) (parts more : List (ℕ × Stated)) (parts_by_ow
   -- all senders of both lists are whole where those of each are
   pub whole_joined : AreWhole senders parts → AreWhole others more → AreWhole (senders + others) (both senders parts more)
   whole_joined whole also sender within = elim (before_or_after senders sender) [
-    | inl before ↦ whole_same sender sender (both senders parts more) parts (of_front requests_of senders sender parts more before) (of_front counts_in senders sender parts more before) (whole sender before)
+    | inl before ↦ whole_same sender sender (both senders parts more) parts (of_front requests_stated senders sender parts more before) (of_front counts_in senders sender parts more before) (whole sender before)
     | inr after ↦
         let at = after.is in
         subst (λ s. IsWholeSender s (both senders parts more)) (sym at)
-        (whole_same (senders + after.index) after.index (both senders parts more) more (of_back requests_of senders after.index parts more parts_by_owner) (of_back counts_in senders after.index parts more parts_by_owner)
+        (whole_same (senders + after.index) after.index (both senders parts more) more (of_back requests_stated senders after.index parts more parts_by_owner) (of_back counts_in senders after.index parts more parts_by_owner)
         (also after.index (omega (arith, at, within))))
   ]
 
   pub whole_first : AreWhole (senders + others) (both senders parts more) → AreWhole senders parts
   whole_first whole sender before =
-      whole_same sender sender parts (both senders parts more) (sym (of_front requests_of senders sender parts more before)) (sym (of_front counts_in senders sender parts more before))
+      whole_same sender sender parts (both senders parts more) (sym (of_front requests_stated senders sender parts more before)) (sym (of_front counts_in senders sender parts more before))
       (whole sender (omega (arith, before)))
 
   pub whole_second : AreWhole (senders + others) (both senders parts more) → AreWhole others more
   whole_second whole sender within =
-      whole_same sender (senders + sender) more (both senders parts more) (sym (of_back requests_of senders sender parts more parts_by_owner)) (sym (of_back counts_in senders sender parts more parts_by_owner))
+      whole_same sender (senders + sender) more (both senders parts more) (sym (of_back requests_stated senders sender parts more parts_by_owner)) (sym (of_back counts_in senders sender parts more parts_by_owner))
       (whole (senders + sender) (omega (arith, within)))

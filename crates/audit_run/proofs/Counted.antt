@@ -14,7 +14,7 @@ use Rattle.audit_run.specs.declared.message.Outcome.TheVariants as outcome
 use Rattle.audit_run.specs.Names.{answer, answer_to}
 use Rattle.sudo_match.specs.declared.request.Request.{Request}
 use Rattle.audit_run.specs.Arrivals.{arrivals_of}
-use Rattle.audit_run.specs.Asked.{asked_of, count_listed, counts_in, counts_of, has_number, values_of_sender, requests_of, times_asked}
+use Rattle.audit_run.specs.Asked.{asked_of, count_listed, counts_in, counts_of, has_number, values_of_sender, requests_stated, times_asked}
 use Rattle.audit_run.specs.Parts.{Stated, close_jobs, put_by_sources, jobs_or_end, run_jobs}
 
 arrivals_append : (xs ys : List Outcome) → arrivals_of (xs ++ ys) ≡ arrivals_of xs ++ arrivals_of ys
@@ -156,7 +156,7 @@ module _ (names : Names) where
       let rest = others_replies s t n other requests in
       omega (arith, one, rest)
 
-  part_replies : (s n : ℕ) (part : ℕ × Stated) → count_by (is_reply s n) (part_arrivals part) ≡ count_by (has_number n) (values_of_sender s requests_of part)
+  part_replies : (s n : ℕ) (part : ℕ × Stated) → count_by (is_reply s n) (part_arrivals part) ≡ count_by (has_number n) (values_of_sender s requests_stated part)
   part_replies s n (t, Err fault) = by (t == s)
     where
       by : (b : Bool) → 0 ≡ count_by (has_number n) (cond b [] [])
@@ -174,7 +174,7 @@ module _ (names : Names) where
 
   -- how often a reply is among the arrivals of the sources is how often it is asked for
   pub replies_counted : (s n : ℕ) (parts : List (ℕ × Stated)) → count_by (is_reply s n) (flat_map part_arrivals parts) ≡ times_asked s n parts
-  replies_counted s n parts = count_flat (is_reply s n) part_arrivals (has_number n) (values_of_sender s requests_of) (part_replies s n) parts
+  replies_counted s n parts = count_flat (is_reply s n) part_arrivals (has_number n) (values_of_sender s requests_stated) (part_replies s n) parts
 
   -- a test of close marks: of a sender, and by the count
   module _ (p : Arrival → Bool) (s : ℕ) (q : ℕ → Bool) (reply : (t : ℕ) (r : Request) → p (Reply (answer_to names t r)) ≡ false) (close : (t c : ℕ) → p (Close t c) ≡ ((t == s) && q c)) where

@@ -15,7 +15,7 @@ use Rattle.audit_collect.proofs.HeldLaw.{self_tested}
 use Rattle.audit_collect.proofs.Members.{Among, Among-Contains, count_by-append, count_by-cons, count_by_member}
 use Rattle.audit_run.specs.declared.message.Names.{Names}
 use Rattle.audit_run.specs.Names.{answer_to}
-use Rattle.audit_run.specs.Asked.{asked_of, counts_in, counts_of, has_number, values_of_sender, requests_of, times_asked}
+use Rattle.audit_run.specs.Asked.{asked_of, counts_in, counts_of, has_number, values_of_sender, requests_stated, times_asked}
 use Rattle.audit_run.specs.Outcome.{AreWhole, AskInTwo, Asks, HaveRefused, IsPast, IsReport, IsRow, IsWholeSender, Lack}
 use Rattle.audit_run.specs.Parts.{Stated}
 use Rattle.audit_run.proofs.Refusing.{IsOwned}
@@ -35,14 +35,14 @@ within_or_past zero (suc n) = inl (omega arith)
 within_or_past (suc s) (suc n) = elim (within_or_past s n) [ inl less ↦ inl (omega (arith, less)) | inr past ↦ inr (omega (arith, past)) ]
 
 -- a source that asks is counted
-asks_counted : (s n : ℕ) (part : ℕ × Stated) → Asks s n part → 1 ≤ count_by (has_number n) (values_of_sender s requests_of part)
-asks_counted s n part asks = subst (λ b. 1 ≤ count_by (has_number n) (cond b (requests_of part.1) [])) (sym (ap (λ t. t == s) asks.of ∙ self_tested s)) asks.asks
+asks_counted : (s n : ℕ) (part : ℕ × Stated) → Asks s n part → 1 ≤ count_by (has_number n) (values_of_sender s requests_stated part)
+asks_counted s n part asks = subst (λ b. 1 ≤ count_by (has_number n) (cond b (requests_stated part.1) [])) (sym (ap (λ t. t == s) asks.of ∙ self_tested s)) asks.asks
 
 one_counted : (s n : ℕ) (parts : List (ℕ × Stated)) (i : ℕ) (part : ℕ × Stated) → slice_get parts i ≡ Some part → Asks s n part → 1 ≤ times_asked s n parts
 one_counted s n [] i part there asks = absurd (cc)
 one_counted s n (p ∷ parts) zero part there asks =
     let same = same_Some p part there in
-    let here = subst (λ q. 1 ≤ count_by (has_number n) (values_of_sender s requests_of q)) (sym same) (asks_counted s n part asks) in
+    let here = subst (λ q. 1 ≤ count_by (has_number n) (values_of_sender s requests_stated q)) (sym same) (asks_counted s n part asks) in
     let sum = here_and_rest s n p parts in
     omega (arith, here, sum)
 one_counted s n (p ∷ parts) (suc i) part there asks =
@@ -56,7 +56,7 @@ two_counted s n (p ∷ parts) zero zero a b less at bt asks bsks = absurd (omega
 two_counted s n (p ∷ parts) (suc i) zero a b less at bt asks bsks = absurd (omega (arith, less))
 two_counted s n (p ∷ parts) zero (suc j) a b less at bt asks bsks =
     let same = same_Some p a at in
-    let here = subst (λ q. 1 ≤ count_by (has_number n) (values_of_sender s requests_of q)) (sym same) (asks_counted s n a asks) in
+    let here = subst (λ q. 1 ≤ count_by (has_number n) (values_of_sender s requests_stated q)) (sym same) (asks_counted s n a asks) in
     let rest = one_counted s n parts j b bt bsks in
     let sum = here_and_rest s n p parts in
     omega (arith, here, rest, sum)
@@ -82,7 +82,7 @@ whole_not_refused senders parts (refused.Double s n) all whole h =
     let twice = two_counted s n parts h.first h.second h.first_part h.second_part h.apart h.first_there h.second_there h.first_asks h.second_asks in
     elim (within_or_past s senders) [
       | inl inside ↦ let once = once_at_most s n parts (whole s inside) in omega (arith, once, twice)
-      | inr past ↦ let none = ap (count_by (has_number n)) (none_past requests_of senders s parts all past) in omega (arith, none, twice)
+      | inr past ↦ let none = ap (count_by (has_number n)) (none_past requests_stated senders s parts all past) in omega (arith, none, twice)
     ]
 whole_not_refused senders parts (refused.ClosedTwice s) all whole h = elim (within_or_past s senders) [
   | inl inside ↦ let one = ap length (whole s inside).closed in omega (arith, one, h)
@@ -98,7 +98,7 @@ whole_not_refused senders parts (refused.PastClose s n) all whole h = elim (with
       omega (arith, none, asked)
   | inr past ↦
       let asked = h.asked in
-      let none = ap (count_by (has_number n)) (none_past requests_of senders s parts all past) in
+      let none = ap (count_by (has_number n)) (none_past requests_stated senders s parts all past) in
       omega (arith, none, asked)
 ]
 whole_not_refused senders parts (refused.Stranger s) all whole h = h

@@ -11,7 +11,7 @@ use Rattle.audit_collect.specs.declared.fault.Unfinished.{Unfinished}
 use Rattle.audit_collect.specs.declared.fault.Unfinished.TheVariants.{Open, Gap}
 use Rattle.audit_collect.proofs.Members.{count_by-append}
 use Rattle.audit_files.specs.declared.fault.FileFault.{FileFault}
-use Rattle.audit_run.specs.Asked.{asked_of, counts_in, counts_of, has_number, values_of_sender, requests_of}
+use Rattle.audit_run.specs.Asked.{asked_of, counts_in, counts_of, has_number, values_of_sender, requests_stated}
 use Rattle.audit_run.specs.IsAuditResult.{NoneRefused}
 use Rattle.audit_run.specs.Outcome.{AskInTwo, Asks, HaveRefused, IsGap, IsPast, Lack}
 use Rattle.audit_run.specs.Parts.{Stated}
@@ -75,7 +75,7 @@ refused_first parts more (refused.ClosedTwice s) h =
     omega (arith, sum, h)
 refused_first parts more (refused.PastClose s n) h = record {
   asked =
-      let sum = ap (count_by (has_number n)) (flat_map-append (values_of_sender s requests_of) parts more) ∙ count_by-append (has_number n) (asked_of s parts) (asked_of s more) in
+      let sum = ap (count_by (has_number n)) (flat_map-append (values_of_sender s requests_stated) parts more) ∙ count_by-append (has_number n) (asked_of s parts) (asked_of s more) in
       let some = h.asked in
       omega (arith, sum, some);
   count = h.count;
@@ -112,7 +112,7 @@ module _ (senders : ℕ) (parts more : List (ℕ × Stated)) (parts_by_owner : A
   asks_before : (s n : ℕ) (part part2 : ℕ × Stated) → part_after senders part ≡ part2 → Asks (senders + s) n part2 → Asks s n part
   asks_before s n part part2 same asks =
       let of : senders + part.0 ≡ senders + s = ap (λ (p : ℕ × Stated). p.0) same ∙ asks.of in
-      record { of = omega (arith, of); asks = subst (λ (p : ℕ × Stated). 1 ≤ count_by (has_number n) (requests_of p.1)) (sym same) asks.asks }
+      record { of = omega (arith, of); asks = subst (λ (p : ℕ × Stated). 1 ≤ count_by (has_number n) (requests_stated p.1)) (sym same) asks.asks }
 
   -- what the second list has, both have
   pub refused_second : (why : Refused) → HaveRefused more why → HaveRefused (both senders parts more) (refused_after senders why)
@@ -128,7 +128,7 @@ module _ (senders : ℕ) (parts more : List (ℕ × Stated)) (parts_by_owner : A
     second_asks = asks_after s n h.second_part h.second_asks;
   }
   refused_second (refused.ClosedTwice s) h = subst (λ l. 2 ≤ length l) (sym (of_back counts_in senders s parts more parts_by_owner)) h
-  refused_second (refused.PastClose s n) h = past_same (senders + s) s n (both senders parts more) more (of_back requests_of senders s parts more parts_by_owner) (of_back counts_in senders s parts more parts_by_owner) h
+  refused_second (refused.PastClose s n) h = past_same (senders + s) s n (both senders parts more) more (of_back requests_stated senders s parts more parts_by_owner) (of_back counts_in senders s parts more parts_by_owner) h
   refused_second (refused.Stranger s) h = h
   refused_second (refused.ZeroNumber s) h = h
   refused_second refused.Memory h = h
@@ -196,11 +196,11 @@ module _ (senders : ℕ) (parts more : List (ℕ × Stated)) (parts_by_owner : A
     })
   ]
   refused_either (refused.PastClose s n) h = elim (before_or_after senders s) [
-    | inl before ↦ inl (past_same s s n parts (both senders parts more) (sym (of_front requests_of senders s parts more before)) (sym (of_front counts_in senders s parts more before)) h)
+    | inl before ↦ inl (past_same s s n parts (both senders parts more) (sym (of_front requests_stated senders s parts more before)) (sym (of_front counts_in senders s parts more before)) h)
     | inr after ↦ inr (record {
       own = refused.PastClose after.index n;
       have =
-          past_same after.index (senders + after.index) n more (both senders parts more) (sym (of_back requests_of senders after.index parts more parts_by_owner)) (sym (of_back counts_in senders after.index parts more parts_by_owner))
+          past_same after.index (senders + after.index) n more (both senders parts more) (sym (of_back requests_stated senders after.index parts more parts_by_owner)) (sym (of_back counts_in senders after.index parts more parts_by_owner))
           (subst (λ t. IsPast t n (both senders parts more)) after.is h);
       is = ap (λ t. refused.PastClose t n) after.is;
     })
@@ -214,14 +214,14 @@ module _ (senders : ℕ) (parts more : List (ℕ × Stated)) (parts_by_owner : A
     lack_first (Open s) h = (let within = h.0 in omega (arith, within), of_front counts_in senders s parts more h.0 ∙ h.1)
     lack_first (Gap s n) h = (
       let within = h.0 in omega (arith, within),
-      gap_same s s n (both senders parts more) parts (of_front requests_of senders s parts more h.0) (of_front counts_in senders s parts more h.0) h.1,
+      gap_same s s n (both senders parts more) parts (of_front requests_stated senders s parts more h.0) (of_front counts_in senders s parts more h.0) h.1,
     )
 
     pub lack_second : (what : Unfinished) → Lack others more what → Lack (senders + others) (both senders parts more) (unfinished_after senders what)
     lack_second (Open s) h = (let within = h.0 in omega (arith, within), of_back counts_in senders s parts more parts_by_owner ∙ h.1)
     lack_second (Gap s n) h = (
       let within = h.0 in omega (arith, within),
-      gap_same (senders + s) s n (both senders parts more) more (of_back requests_of senders s parts more parts_by_owner) (of_back counts_in senders s parts more parts_by_owner) h.1,
+      gap_same (senders + s) s n (both senders parts more) more (of_back requests_stated senders s parts more parts_by_owner) (of_back counts_in senders s parts more parts_by_owner) h.1,
     )
 
     pub lack_either : (what : Unfinished) → Lack (senders + others) (both senders parts more) what → Lack senders parts what ⊎ LackAfter senders others more what
@@ -237,12 +237,12 @@ module _ (senders : ℕ) (parts more : List (ℕ × Stated)) (parts_by_owner : A
       })
     ]
     lack_either (Gap s n) h = elim (before_or_after senders s) [
-      | inl before ↦ inl (before, gap_same s s n parts (both senders parts more) (sym (of_front requests_of senders s parts more before)) (sym (of_front counts_in senders s parts more before)) h.1)
+      | inl before ↦ inl (before, gap_same s s n parts (both senders parts more) (sym (of_front requests_stated senders s parts more before)) (sym (of_front counts_in senders s parts more before)) h.1)
       | inr after ↦ inr (record {
         own = Gap after.index n;
         lack = (
           let within = h.0 in let at = after.is in omega (arith, within, at),
-          gap_same after.index (senders + after.index) n more (both senders parts more) (sym (of_back requests_of senders after.index parts more parts_by_owner)) (sym (of_back counts_in senders after.index parts more parts_by_owner))
+          gap_same after.index (senders + after.index) n more (both senders parts more) (sym (of_back requests_stated senders after.index parts more parts_by_owner)) (sym (of_back counts_in senders after.index parts more parts_by_owner))
               (subst (λ t. IsGap t n (both senders parts more)) after.is h.1),
         );
         is = ap (λ t. Gap t n) after.is;

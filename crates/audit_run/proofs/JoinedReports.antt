@@ -10,7 +10,7 @@ use Rattle.audit_collect.specs.declared.report.SenderReport.{SenderReport}
 use Rattle.audit_files.specs.Report.{answer_fields, header, line, report_text, sender_text}
 use Rattle.audit_run.specs.declared.message.Names.{Names}
 use Rattle.audit_run.specs.Names.{answer_to}
-use Rattle.audit_run.specs.Asked.{asked_of, counts_in, counts_of, requests_of}
+use Rattle.audit_run.specs.Asked.{asked_of, counts_in, counts_of, requests_stated}
 use Rattle.audit_run.specs.Outcome.{IsReport, IsRow}
 use Rattle.audit_run.specs.Parts.{Stated}
 use Rattle.audit_run.specs.Shards.{answer_after, joined_report, row_after}
@@ -40,12 +40,12 @@ module _ (names : Names) (first second : List (List ℕ)) (parts more : List (�
   row_front : (s : ℕ) (row : SenderReport) → s < length first → IsRow names first parts s row → IsRow names (first ++ second) (both (length first) parts more) s row
   row_front s row before is =
       row_same names first (first ++ second) parts (both (length first) parts more) s row (at_within first second s before)
-      (of_front counts_in (length first) s parts more before) (sym (of_front requests_of (length first) s parts more before)) is
+      (of_front counts_in (length first) s parts more before) (sym (of_front requests_stated (length first) s parts more before)) is
 
   row_of_front : (s : ℕ) (row : SenderReport) → s < length first → IsRow names (first ++ second) (both (length first) parts more) s row → IsRow names first parts s row
   row_of_front s row before is =
       row_same names (first ++ second) first (both (length first) parts more) parts s row (sym (at_within first second s before))
-      (sym (of_front counts_in (length first) s parts more before)) (of_front requests_of (length first) s parts more before) is
+      (sym (of_front counts_in (length first) s parts more before)) (of_front requests_stated (length first) s parts more before) is
 
   row_back : (s : ℕ) (row : SenderReport) → IsRow names second more s row → IsRow names (first ++ second) (both (length first) parts more) (length first + s) (row_after (length first) row)
   row_back s row is = record {
@@ -55,7 +55,7 @@ module _ (names : Names) (first second : List (List ℕ)) (parts more : List (�
         let made = made_of (answer_after (length first)) row.answers i answer there in
         let (request, has, number, answers) = is.answers i made.item made.there in (
           request,
-          subst (λ l. Contains l request) (sym (of_back requests_of (length first) s parts more parts_by_owner)) has,
+          subst (λ l. Contains l request) (sym (of_back requests_stated (length first) s parts more parts_by_owner)) has,
           number,
           sym made.is ∙ ap (answer_after (length first)) answers,
         );
@@ -70,7 +70,7 @@ module _ (names : Names) (first second : List (List ℕ)) (parts more : List (�
         let (request, has, number, answers) = is.answers i made.item made.there in
         let index : (length first + s) - length first ≡ s = omega arith in (
           request,
-          subst (λ l. Contains l request) (of_back requests_of (length first) s parts more parts_by_owner) has,
+          subst (λ l. Contains l request) (of_back requests_stated (length first) s parts more parts_by_owner) has,
           number,
           sym made.is ∙ ap (answer_before (length first)) answers ∙ ap (λ t. answer_to names t request) index,
         );

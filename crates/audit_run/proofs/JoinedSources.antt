@@ -6,7 +6,7 @@ use Rattle.std.proofs.lemmas.Slice.Eq.{bytes_eq-Decides}
 use Rattle.audit_collect.proofs.Members.{Among, count_by-append, count_by-cons}
 use Rattle.audit_files.specs.declared.fault.FileFault.{FileFault}
 use Rattle.audit_run.specs.IsAuditResult.{IsRefusedSource, NoneRefused}
-use Rattle.audit_run.specs.Roster.{part_at}
+use Rattle.audit_run.specs.Roster.{part_number}
 use Rattle.audit_run.proofs.Apart.{Parted}
 use Rattle.audit_run.proofs.Beside.{at_back, at_front, at_within, before_or_after}
 
@@ -30,10 +30,10 @@ take_back [] ys k = let e : 0 + k ≡ k = omega arith in ap (λ n. take n ys) e
 take_back (x ∷ xs) ys k = let e : suc (length xs) + k ≡ suc (length xs + k) = omega arith in ap (λ n. take n (x ∷ (xs ++ ys))) e ∙ ap (λ l. x ∷ l) (take_back xs ys k)
 
 -- the number of a source among those of its name
-part_first : (first second : List (List ℕ)) (index : ℕ) (name : List ℕ) → index ≤ length first → part_at (first ++ second) index name ≡ part_at first index name
+part_first : (first second : List (List ℕ)) (index : ℕ) (name : List ℕ) → index ≤ length first → part_number (first ++ second) index name ≡ part_number first index name
 part_first first second index name within = ap (λ l. 1 + count_by (λ other. bytes_eq other name) l) (take-append-le index first second within)
 
-part_second : (first second : List (List ℕ)) (index : ℕ) (name : List ℕ) → (Among name first → ⊥) → part_at (first ++ second) (length first + index) name ≡ part_at second index name
+part_second : (first second : List (List ℕ)) (index : ℕ) (name : List ℕ) → (Among name first → ⊥) → part_number (first ++ second) (length first + index) name ≡ part_number second index name
 part_second first second index name absent =
     let whole = ap (count_by (λ other. bytes_eq other name)) (take_back first second index) in
     let sum = count_by-append (λ other. bytes_eq other name) first (take index second) in
@@ -102,6 +102,6 @@ module _ (first second : List (List ℕ)) (faults more : List (Option FileFault)
           },
           of_file,
           own,
-          part_is ∙ ap (λ n. part_at (first ++ second) n name) at ∙ part_second first second after.index name (λ m. apart name m (among_at second after.index name own)),
+          part_is ∙ ap (λ n. part_number (first ++ second) n name) at ∙ part_second first second after.index name (λ m. apart name m (among_at second after.index name own)),
         )
   ]

@@ -10,7 +10,7 @@ use Rattle.audit_files.specs.Requests.{AreRising, sent}
 use Rattle.audit_files.specs.declared.fault.FileFault.{FileFault}
 use Rattle.audit_files.specs.declared.requests.Requests.{Requests}
 use Rattle.audit_files.proofs.Rising.{sent_rises}
-use Rattle.audit_run.specs.Asked.{requests_of}
+use Rattle.audit_run.specs.Asked.{requests_stated}
 use Rattle.audit_run.specs.Parts.{AreRead, Stated, parts_by_owner}
 use Rattle.audit_run.specs.Roster.{owners, index_in, roster, without}
 use Rattle.audit_run.proofs.Refusing.{IsOwned}
@@ -21,7 +21,7 @@ read_rises : (bytes : Result (List ℕ) FileFault) (requests : Requests) → sta
 read_rises (Ok text) requests e = sent_rises text requests e
 read_rises (Err fault) requests e = absurd (cc)
 
-state_rises : (readable_bytes : Option Ahead) (state : Stated) → IsStatedBy sent readable_bytes state → AreRising (requests_of state)
+state_rises : (readable_bytes : Option Ahead) (state : Stated) → IsStatedBy sent readable_bytes state → AreRising (requests_stated state)
 state_rises readable_bytes (Ok requests) states = read_rises (bytes_read states.ahead) requests states.states
 state_rises readable_bytes (Err fault) states = tt
 

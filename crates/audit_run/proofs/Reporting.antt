@@ -19,7 +19,7 @@ use Rattle.audit_run.specs.declared.message.Outcome.{Outcome}
 use Rattle.audit_run.specs.Names.{answer, answer_to}
 use Rattle.sudo_match.specs.declared.request.Request.{Request}
 use Rattle.audit_run.specs.Arrivals.{arrivals_of}
-use Rattle.audit_run.specs.Asked.{asked_of, count_listed, counts_in, counts_of, values_of_sender, requests_of}
+use Rattle.audit_run.specs.Asked.{asked_of, count_listed, counts_in, counts_of, values_of_sender, requests_stated}
 use Rattle.audit_run.specs.Outcome.{AreWhole, IsReport, IsRow}
 use Rattle.audit_run.specs.Parts.{Stated, run_jobs}
 use Rattle.audit_run.proofs.Counted.{AmongOf, among_flat, among_same, flat_among, jobs_arrivals, part_arrivals}
@@ -100,7 +100,7 @@ own : {X : Type 0} (s : ℕ) (f : Stated → List X) (part : ℕ × Stated) (x :
 own s f part x e m = subst (λ b. Among x (cond b (f part.1) [])) (sym (ap (λ t. t == s) e ∙ self_tested s)) m
 
 -- a reply that is of a source answers one of its requests
-part_replied : (names : Names) (part : ℕ × Stated) (a : Answer) → Among (Reply a) (part_arrivals names part) → Replied names part.0 (requests_of part.1) a
+part_replied : (names : Names) (part : ℕ × Stated) (a : Answer) → Among (Reply a) (part_arrivals names part) → Replied names part.0 (requests_stated part.1) a
 part_replied names (t, Err fault) a m = absurd m
 part_replied names (t, Ok requests) a m = elim (Among-append (Reply a) (map (λ r. Reply (answer_to names t r)) requests.list) (map (λ c. Close t c) (count_listed requests.close)) m) [
   | inl reply ↦ replied names t requests.list a reply
@@ -135,7 +135,7 @@ module _ (names : Names) (roster : List (List ℕ)) (workers : ℕ) (parts : Lis
       let found = arrived (Reply a) m in
       let reply = part_replied names found.item a found.of in
       let owner : found.item.0 ≡ s = sym (ap (λ (b : Answer). b.sender) reply.is) ∙ sender in
-      let listed = flat_among (values_of_sender s requests_of) parts found.item reply.request found.there (own s requests_of found.item reply.request owner reply.listed) in (
+      let listed = flat_among (values_of_sender s requests_stated) parts found.item reply.request found.there (own s requests_stated found.item reply.request owner reply.listed) in (
         reply.request,
         Contains-Among reply.request (asked_of s parts) listed,
         sym (ap (λ (b : Answer). b.request.number) reply.is) ∙ number,

@@ -34,7 +34,7 @@ use Rattle.audit_run.proofs.Owned.{all_owned, all_rise}
 use Rattle.audit_run.proofs.Refusing.{refused_of_sources}
 use Rattle.audit_run.proofs.Reporting.{reported}
 use Rattle.audit_run.specs.IsAuditResult.{IsAuditResult, IsOutcome, IsReportOfArrived, IsRunOutcome, most_parts}
-use Rattle.audit_run.specs.Body.Concluded.{Answers, RefusesSenders}
+use Rattle.audit_run.specs.Body.Concluded.{Concludes, RefusesSenders}
 use Rattle.audit_run.specs.Arrivals.{arrivals_of}
 use Rattle.audit_run.specs.Body.Gathered.{collector_after, RanOutOfMemory, Gathers, Drains}
 use Rattle.audit_run.specs.Parts.{AreRead, Stated, fault_in, faults_of, parts_by_owner, run_jobs}
@@ -99,7 +99,7 @@ faults_long names readable_bytes sources prepared ended run =
 
 -- if memory ran out while arrivals were gathered, the result does not depend on them
 any_arrivals : (sources : List (List ℕ)) (faults : List (Option FileFault)) (comes : Result (List SenderState) Refused) (result : Result Report AuditFault)
-    → Answers sources faults (Err refused.Memory) result → Answers sources faults comes result
+    → Concludes sources faults (Err refused.Memory) result → Concludes sources faults comes result
 any_arrivals sources faults comes (Ok report) a = absurd (ok_or_err _ _ a.1.1)
   where
     ok_or_err : (x : Refused) (held : List SenderState) → Err x ≡ Ok held → ⊥
@@ -119,12 +119,12 @@ any_arrivals sources faults comes (Err TooManyParts) a = a
 
 -- what was gathered decides the answer
 concluded : (sources : List (List ℕ)) (faults : List (Option FileFault)) (g h : Gathering) (outcomes : List Outcome) (result : Result Report AuditFault)
-    → Gathers g outcomes h → g.collector ≡ start (roster sources) → g.refused ≡ None → Answers sources faults (collector_after h.collector h.refused []) result
-    → Answers sources faults (after (start (roster sources)) (arrivals_of outcomes)) result
+    → Gathers g outcomes h → g.collector ≡ start (roster sources) → g.refused ≡ None → Concludes sources faults (collector_after h.collector h.refused []) result
+    → Concludes sources faults (after (start (roster sources)) (arrivals_of outcomes)) result
 concluded sources faults g h outcomes result gathers collector none answers =
-    ⊎_elim (λ (m : RanOutOfMemory h). any_arrivals sources faults _ result (subst (λ (o : Option Refused). Answers sources faults (collector_after h.collector o []) result) m answers))
+    ⊎_elim (λ (m : RanOutOfMemory h). any_arrivals sources faults _ result (subst (λ (o : Option Refused). Concludes sources faults (collector_after h.collector o []) result) m answers))
     (λ (same : (rest : List Arrival) → collector_after g.collector g.refused (arrivals_of outcomes ++ rest) ≡ collector_after h.collector h.refused rest).
-    subst (λ (comes : Result (List SenderState) Refused). Answers sources faults comes result) (sym (same []) ∙ (λ i. collector_after (collector i) (none i) (append-nil (arrivals_of outcomes) i))) answers)
+    subst (λ (comes : Result (List SenderState) Refused). Concludes sources faults comes result) (sym (same []) ∙ (λ i. collector_after (collector i) (none i) (append-nil (arrivals_of outcomes) i))) answers)
     gathers.same
 
 refused_by : (names : Names) (sources : List (List ℕ)) (readable_bytes : List (Option Ahead)) (states : List Stated) (workers : ℕ) (outcomes : List Outcome) (why : Refused)
@@ -136,7 +136,7 @@ refused_by names sources readable_bytes states workers outcomes why read all e =
 -- the result of a collector for the arrivals is the outcome of what the sources state
 come_to : (names : Names) (sources : List (List ℕ)) (readable_bytes : List (Option Ahead)) (states : List Stated) (workers : ℕ) (outcomes : List Outcome) (result : Result Report AuditFault)
     → AreRead readable_bytes states → IsPermutation (map (answer names) (run_jobs workers (parts_by_owner sources states))) outcomes
-    → Answers sources (faults_of states) (after (start (roster sources)) (arrivals_of outcomes)) result → IsOutcome names sources states result
+    → Concludes sources (faults_of states) (after (start (roster sources)) (arrivals_of outcomes)) result → IsOutcome names sources states result
 come_to names sources readable_bytes states workers outcomes (Ok report) read all (sound, (held, ran, finished, is)) = (
   sound,
   whole_sources names (roster sources) workers (parts_by_owner sources states) outcomes all held ran finished,
@@ -158,14 +158,14 @@ come_to names sources readable_bytes states workers outcomes (Err TooManyParts) 
 
 -- if there is a report, the arrivals are complete
 arrived_of : (sources : List (List ℕ)) (faults : List (Option FileFault)) (outcomes : List Outcome) (result : Result Report AuditFault)
-    → Answers sources faults (after (start (roster sources)) (arrivals_of outcomes)) result → IsReportOfArrived sources outcomes result
+    → Concludes sources faults (after (start (roster sources)) (arrivals_of outcomes)) result → IsReportOfArrived sources outcomes result
 arrived_of sources faults outcomes (Ok report) (sound, (held, ran, finished, is)) =
     subst (IsReportOf (roster sources) (arrivals_of outcomes)) (sym is) (finished_report (roster sources) (arrivals_of outcomes) held ran finished)
 arrived_of sources faults outcomes (Err fault) a = tt
 
 -- a result of a run
 audited : (names : Names) (sources : List (List ℕ)) (readable_bytes : List (Option Ahead)) (workers : ℕ) (old new : PassView) (faults : List (Option FileFault)) (comes : Result (List SenderState) Refused) (result : Result Report AuditFault)
-    → Answers sources faults comes result → IsRunOutcome names sources readable_bytes workers old new result → IsAuditResult names sources readable_bytes workers old new result
+    → Concludes sources faults comes result → IsRunOutcome names sources readable_bytes workers old new result → IsAuditResult names sources readable_bytes workers old new result
 audited names sources readable_bytes workers old new faults comes (Ok report) a ran = ran
 audited names sources readable_bytes workers old new faults comes (Err (Sender name part fault)) a ran = ran
 audited names sources readable_bytes workers old new faults comes (Err (Collect (collect.Roster roster_fault.Memory))) a ran = absurd a
@@ -195,7 +195,7 @@ pub settled : (names : Names) (sources : List (List ℕ)) (readable_bytes : List
     → IsOnlyPass p → IsEmpty p → (count + workers) + 1 < 1024
     → vec_len prepared.worker_passes ≡ workers → prepared.gathering.collector ≡ start (roster sources) → prepared.gathering.refused ≡ None → prepared.pass ≡ split_off p → p1 ≡ after_splits p ((count + workers) + 1)
     → HasRun names (zip (owners sources) readable_bytes) count prepared ended → p2 ≡ with_joined p1 ended.pass → Drains names p2 ended.gathering p3 g → (IsOnlyPass p2 → IsEmpty p3)
-    → Answers sources ended.faults.items (collector_after g.collector g.refused []) result
+    → Concludes sources ended.faults.items (collector_after g.collector g.refused []) result
     → IsAuditResult names sources readable_bytes workers p p3 result
 settled names sources readable_bytes count workers p p1 p2 p3 prepared ended g result few is_roster sources_are told_are whole empty light_enough workers_are collector unrefused mine light run merged drain left answers =
     let owners_are : length (owners sources) ≡ length sources = length_map (λ (name : List ℕ). index_in name (roster sources)) sources in
@@ -215,9 +215,9 @@ settled names sources readable_bytes count workers p p1 p2 p3 prepared ended g r
     let three : p3 ≡ with_messages p put taken (map (answer names) taken) outcomes =
     drained names p p3 put run.taken drain.jobs run.gathered drain.outcomes (drain.pass ∙ ap (λ (x : PassView). with_messages x [] drain.jobs (map (answer names) drain.jobs) drain.outcomes) two) in
     let nothing : IsEmpty p3 = left (ap (λ (x : PassView). x.weight) two ∙ whole) in
-    let decided : Answers sources (faults_of states) (after (start (roster sources)) (arrivals_of outcomes)) result =
+    let decided : Concludes sources (faults_of states) (after (start (roster sources)) (arrivals_of outcomes)) result =
     concluded sources (faults_of states) prepared.gathering g outcomes result (gathers_more prepared.gathering ended.gathering g run.gathered drain.outcomes run.gathers drain.gathered) collector unrefused
-    (subst (λ (l : List (Option FileFault)). Answers sources l (collector_after g.collector g.refused []) result) faults answers) in
+    (subst (λ (l : List (Option FileFault)). Concludes sources l (collector_after g.collector g.refused []) result) faults answers) in
     audited names sources readable_bytes workers p p3 _ _ result decided (record {
       few = few;
       is_roster = is_roster;

@@ -5,13 +5,13 @@ use Rattle.audit_collect.proofs.HeldLaw.{tested}
 use Rattle.audit_collect.proofs.Members.{count_by-append, count_by-cons}
 use Rattle.audit_files.specs.Requests.{AreRising, RiseAbove}
 use Rattle.sudo_match.specs.declared.request.Request.{Request}
-use Rattle.audit_run.specs.Asked.{asked_of, has_number, values_of_sender, requests_of, times_asked}
+use Rattle.audit_run.specs.Asked.{asked_of, has_number, values_of_sender, requests_stated, times_asked}
 use Rattle.audit_run.specs.Outcome.{AskInTwo, Asks}
 use Rattle.audit_run.specs.Parts.{Stated}
 
 -- a source states numbers that rise
 abbrev pub Rises : ℕ × Stated → Type 0
-Rises part = AreRising (requests_of part.1)
+Rises part = AreRising (requests_stated part.1)
 
 pub untested : (a b : ℕ) → a ≢ b → (a == b) ≡ false
 untested a b h = by (a == b) refl
@@ -44,29 +44,29 @@ rise_once m (r ∷ requests) rise n = by (r.number == n) refl (rise_once r.numbe
         omega (arith, one, once)
 
 -- what one source asks
-part_once : (s n : ℕ) (part : ℕ × Stated) → Rises part → count_by (has_number n) (values_of_sender s requests_of part) ≤ 1
+part_once : (s n : ℕ) (part : ℕ × Stated) → Rises part → count_by (has_number n) (values_of_sender s requests_stated part) ≤ 1
 part_once s n part rise = by (part.0 == s)
   where
-    by : (b : Bool) → count_by (has_number n) (cond b (requests_of part.1) []) ≤ 1
-    by true = rise_once 0 (requests_of part.1) rise n
+    by : (b : Bool) → count_by (has_number n) (cond b (requests_stated part.1) []) ≤ 1
+    by true = rise_once 0 (requests_stated part.1) rise n
     by false = omega arith
 
-part_no_zero : (s : ℕ) (part : ℕ × Stated) → Rises part → count_by (has_number 0) (values_of_sender s requests_of part) ≡ 0
+part_no_zero : (s : ℕ) (part : ℕ × Stated) → Rises part → count_by (has_number 0) (values_of_sender s requests_stated part) ≡ 0
 part_no_zero s part rise = by (part.0 == s)
   where
-    by : (b : Bool) → count_by (has_number 0) (cond b (requests_of part.1) []) ≡ 0
-    by true = rise_none 0 (requests_of part.1) rise 0 (omega arith)
+    by : (b : Bool) → count_by (has_number 0) (cond b (requests_stated part.1) []) ≡ 0
+    by true = rise_none 0 (requests_stated part.1) rise 0 (omega arith)
     by false = refl
 
-part_asks : (s n : ℕ) (part : ℕ × Stated) → 1 ≤ count_by (has_number n) (values_of_sender s requests_of part) → Asks s n part
+part_asks : (s n : ℕ) (part : ℕ × Stated) → 1 ≤ count_by (has_number n) (values_of_sender s requests_stated part) → Asks s n part
 part_asks s n part h = by (part.0 == s) refl h
   where
-    by : (b : Bool) → (part.0 == s) ≡ b → 1 ≤ count_by (has_number n) (cond b (requests_of part.1) []) → Asks s n part
+    by : (b : Bool) → (part.0 == s) ≡ b → 1 ≤ count_by (has_number n) (cond b (requests_stated part.1) []) → Asks s n part
     by true own asks = record { of = tested part.0 s own; asks = asks }
     by false other none = absurd (omega (arith, none))
 
-pub here_and_rest : (s n : ℕ) (part : ℕ × Stated) (parts : List (ℕ × Stated)) → times_asked s n (part ∷ parts) ≡ count_by (has_number n) (values_of_sender s requests_of part) + times_asked s n parts
-here_and_rest s n part parts = count_by-append (has_number n) (values_of_sender s requests_of part) (asked_of s parts)
+pub here_and_rest : (s n : ℕ) (part : ℕ × Stated) (parts : List (ℕ × Stated)) → times_asked s n (part ∷ parts) ≡ count_by (has_number n) (values_of_sender s requests_stated part) + times_asked s n parts
+here_and_rest s n part parts = count_by-append (has_number n) (values_of_sender s requests_stated part) (asked_of s parts)
 
 pub no_zero : (s : ℕ) (parts : List (ℕ × Stated)) → All Rises parts → times_asked s 0 parts ≡ 0
 no_zero s [] rise = refl
@@ -89,9 +89,9 @@ zero_or_more (suc k) = inr (omega arith)
 
 one_asks : (s n : ℕ) (parts : List (ℕ × Stated)) → 1 ≤ times_asked s n parts → OneAsks s n parts
 one_asks s n [] h = absurd (omega (arith, h))
-one_asks s n (part ∷ parts) h = by (zero_or_more (count_by (has_number n) (values_of_sender s requests_of part))) (one_asks s n parts)
+one_asks s n (part ∷ parts) h = by (zero_or_more (count_by (has_number n) (values_of_sender s requests_stated part))) (one_asks s n parts)
   where
-    by : (count_by (has_number n) (values_of_sender s requests_of part) ≡ 0) ⊎ (1 ≤ count_by (has_number n) (values_of_sender s requests_of part)) → (1 ≤ times_asked s n parts → OneAsks s n parts) → OneAsks s n (part ∷ parts)
+    by : (count_by (has_number n) (values_of_sender s requests_stated part) ≡ 0) ⊎ (1 ≤ count_by (has_number n) (values_of_sender s requests_stated part)) → (1 ≤ times_asked s n parts → OneAsks s n parts) → OneAsks s n (part ∷ parts)
     by (inl none) rest =
         let sum = here_and_rest s n part parts in
         let found = rest (omega (arith, sum, none, h)) in
@@ -100,9 +100,9 @@ one_asks s n (part ∷ parts) h = by (zero_or_more (count_by (has_number n) (val
 
 pub ask_in_two : (s n : ℕ) (parts : List (ℕ × Stated)) → All Rises parts → 2 ≤ times_asked s n parts → AskInTwo s n parts
 ask_in_two s n [] rise h = absurd (omega (arith, h))
-ask_in_two s n (part ∷ parts) rise h = by (zero_or_more (count_by (has_number n) (values_of_sender s requests_of part))) (ask_in_two s n parts (All-tail Rises part parts rise))
+ask_in_two s n (part ∷ parts) rise h = by (zero_or_more (count_by (has_number n) (values_of_sender s requests_stated part))) (ask_in_two s n parts (All-tail Rises part parts rise))
   where
-    by : (count_by (has_number n) (values_of_sender s requests_of part) ≡ 0) ⊎ (1 ≤ count_by (has_number n) (values_of_sender s requests_of part)) → (2 ≤ times_asked s n parts → AskInTwo s n parts) → AskInTwo s n (part ∷ parts)
+    by : (count_by (has_number n) (values_of_sender s requests_stated part) ≡ 0) ⊎ (1 ≤ count_by (has_number n) (values_of_sender s requests_stated part)) → (2 ≤ times_asked s n parts → AskInTwo s n parts) → AskInTwo s n (part ∷ parts)
     by (inl none) rest =
         let sum = here_and_rest s n part parts in
         let found = rest (omega (arith, sum, none, h)) in

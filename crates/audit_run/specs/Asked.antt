@@ -4,9 +4,9 @@ use Rattle.sudo_match.specs.declared.request.Request.{Request}
 use Rattle.audit_run.specs.Parts.{Stated}
 
 -- the requests of a source, in order
-abbrev pub requests_of : Stated → List Request
-requests_of (Ok requests) = requests.list
-requests_of (Err fault) = []
+abbrev pub requests_stated : Stated → List Request
+requests_stated (Ok requests) = requests.list
+requests_stated (Err fault) = []
 
 abbrev pub count_listed : Option ℕ → List ℕ
 count_listed None = []
@@ -23,7 +23,7 @@ values_of_sender sender f part = if part.0 == sender then f part.1 else []
 
 -- the requests of a sender, source by source
 abbrev pub asked_of : ℕ → List (ℕ × Stated) → List Request
-asked_of sender parts = flat_map (values_of_sender sender requests_of) parts
+asked_of sender parts = flat_map (values_of_sender sender requests_stated) parts
 
 -- the counts of a sender's close marks
 abbrev pub counts_of : ℕ → List (ℕ × Stated) → List ℕ

@@ -17,7 +17,7 @@ use Rattle.audit_run.specs.declared.fault.AuditFault.TheVariants.{Sender, Collec
 use Rattle.audit_run.specs.Arrivals.{arrivals_of}
 use Rattle.audit_run.specs.Outcome.{AreWhole, HaveRefused, IsReport, Lack}
 use Rattle.audit_run.specs.Parts.{AreRead, Stated, faults_of, parts_by_owner, run_jobs}
-use Rattle.audit_run.specs.Roster.{part_at, roster}
+use Rattle.audit_run.specs.Roster.{part_number, roster}
 
 -- the most sources that an audit may have
 abbrev pub most_parts : ℕ
@@ -28,7 +28,7 @@ abbrev pub NoneRefused : List (Option FileFault) → Type 0
 NoneRefused faults = (index : ℕ) (fault : FileFault) → slice_get faults index ≡ Some (Some fault) → ⊥
 
 -- the first source that is refused
-pub record IsFirstFault (faults : List (Option FileFault)) (index : ℕ) (fault : FileFault) : Type 0 where
+pub record IsFirstFileFault (faults : List (Option FileFault)) (index : ℕ) (fault : FileFault) : Type 0 where
   pub there : slice_get faults index ≡ Some (Some fault)
   pub earlier : (i : ℕ) → i < index → slice_get faults i ≡ Some None
 
@@ -36,8 +36,8 @@ pub record IsFirstFault (faults : List (Option FileFault)) (index : ℕ) (fault 
 -- and its fault
 abbrev pub IsRefusedSource : List (List ℕ) → List (Option FileFault) → List ℕ → ℕ → FileFault → Type 0
 IsRefusedSource sources faults name part fault =
-    (index : ℕ) × IsFirstFault faults index fault × IsNotOutOfMemory fault
-    × (slice_get sources index ≡ Some name) × (part ≡ part_at sources index name)
+    (index : ℕ) × IsFirstFileFault faults index fault × IsNotOutOfMemory fault
+    × (slice_get sources index ≡ Some name) × (part ≡ part_number sources index name)
 
 -- a report is that of the arrivals that the workers put, which are complete
 abbrev pub IsReportOfArrived : List (List ℕ) → List Outcome → Result Report AuditFault → Type 0

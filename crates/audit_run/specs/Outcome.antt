@@ -12,7 +12,7 @@ use Rattle.audit_collect.specs.declared.report.SenderReport.{SenderReport}
 use Rattle.audit_run.specs.declared.message.Names.{Names}
 use Rattle.audit_run.specs.Names.{answer_to}
 use Rattle.audit_run.specs.Parts.{Stated}
-use Rattle.audit_run.specs.Asked.{asked_of, counts_of, has_number, requests_of, times_asked}
+use Rattle.audit_run.specs.Asked.{asked_of, counts_of, has_number, requests_stated, times_asked}
 
 -- the sender has one close mark, and over all its sources the numbers 1 to its count, each once,
 -- and no other
@@ -30,7 +30,7 @@ AreWhole senders parts = (sender : ℕ) → sender < senders → IsWholeSender s
 -- the source is the sender's, and asks for the number
 pub record Asks (sender number : ℕ) (part : ℕ × Stated) : Type 0 where
   pub of : part.0 ≡ sender
-  pub asks : 1 ≤ count_by (has_number number) (requests_of part.1)
+  pub asks : 1 ≤ count_by (has_number number) (requests_stated part.1)
 
 -- two different sources of the sender ask for the number
 pub record AskInTwo (sender number : ℕ) (parts : List (ℕ × Stated)) : Type 0 where

@@ -24,5 +24,5 @@ abbrev pub owners : List (List ℕ) → List ℕ
 owners names = indices_in (roster names) names
 
 -- the number of the source at this index among the sources of its name, from 1
-abbrev pub part_at : List (List ℕ) → ℕ → List ℕ → ℕ
-part_at names index name = 1 + count_by (λ other. bytes_eq other name) (take index names)
+abbrev pub part_number : List (List ℕ) → ℕ → List ℕ → ℕ
+part_number names index name = 1 + count_by (λ other. bytes_eq other name) (take index names)

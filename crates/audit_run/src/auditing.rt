@@ -4,12 +4,12 @@ ghost use Rattle.std.specs.List.{zip};
 ghost use Rattle.audit_files.specs.declared.fault.FileFault.TheVariants.{Memory};
 ghost use Rattle.audit_run.specs.Names.{names_under};
 ghost use Rattle.audit_run.specs.Passes.{IsEmpty, IsOnlyPass};
-ghost use Rattle.audit_run.specs.IsAuditResult.{IsAuditResult, IsFirstFault, NoneRefused, most_parts};
-ghost use Rattle.audit_run.specs.Body.Concluded.{Answers};
+ghost use Rattle.audit_run.specs.IsAuditResult.{IsAuditResult, IsFirstFileFault, NoneRefused, most_parts};
+ghost use Rattle.audit_run.specs.Body.Concluded.{Concludes};
 ghost use Rattle.audit_run.specs.Body.Gathered.{collector_after};
 ghost use Rattle.audit_collect.specs.SenderState.{start};
 ghost use Rattle.audit_collect.specs.Roster.{IsRoster};
-ghost use Rattle.audit_run.specs.Roster.{owners, part_at, roster};
+ghost use Rattle.audit_run.specs.Roster.{owners, part_number, roster};
 ghost use Rattle.audit_run.specs.Body.Run.{HasRun, IsReady};
 ghost use Rattle.audit_run.specs.Body.Work.{part_ahead};
 ghost use Rattle.audit_run.specs.declared.fault.AuditFault.TheVariants.{TooManyParts};
@@ -141,7 +141,7 @@ fn has_memory_fault(faults: &[Option<FileFault>]) -> bool
 // Returns the first source that is refused, by its index, and its fault.
 fn first_fault(faults: &[Option<FileFault>]) -> Option<(usize, FileFault)>
     ensures { MatchOption result (NoneRefused faults.now)
-        (λ first. IsFirstFault faults.now first.0 first.1) }
+        (λ first. IsFirstFileFault faults.now first.0 first.1) }
 {
     for index in 0..faults.len() {
         if let Some(fault) = faults[index] {
@@ -154,7 +154,7 @@ fn first_fault(faults: &[Option<FileFault>]) -> Option<(usize, FileFault)>
 // Returns the number of the source at this index among the sources of this name, from 1.
 fn part_number(names: &[Seq<u8>], index: usize, name: &[u8]) -> u32
     requires { (index ≤ length names.now) × (length names.now ≤ 256) }
-    ensures { result ≡ part_at names.now index name.now }
+    ensures { result ≡ part_number names.now index name.now }
 {
     let mut part = 1;
     for earlier in 0..index {
@@ -172,7 +172,7 @@ fn conclude(
     gathering: Gathering,
 ) -> Result<Report, AuditFault>
     requires { (length faults.now ≡ vec_len names) × (vec_len names ≤ 256) }
-    ensures { Answers names.items faults.now (collector_after gathering.collector gathering.refused
+    ensures { Concludes names.items faults.now (collector_after gathering.collector gathering.refused
         [])
         result }
 {

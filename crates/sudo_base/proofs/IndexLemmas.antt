@@ -3,7 +3,7 @@ use Rattle.std.proofs.Common.{◌≡◌, ℕ, zero, suc, ◌+◌, Bool, true, fa
 use Rattle.std.specs.Prelude.{slice_get, find, is_some, bytes_eq, option_and_then}
 use Rattle.std.specs.List.{list_any}
 use Rattle.std.proofs.lemmas.Slice.Eq.{bytes_eq-Decides}
-use Rattle.sudo_base.specs.Indexes.{Indexes}
+use Rattle.sudo_base.specs.Indexes.{IndexesRows}
 use Rattle.sudo_base.specs.NameIndices.{index_of}
 
 pub take-some : {A : Type 0} (n : ℕ) (xs : List A) (x : A) → slice_get xs n ≡ Some x → take (n + 1) xs ≡ take n xs ++ x ∷ []
@@ -39,7 +39,7 @@ list_any-append p (y ∷ xs) x = ap (λ b. p y || b) (list_any-append p xs x) �
     or_assoc false b c = refl
 
 pub indexes-none :
-    {A : Type 0} (key : A → List ℕ) (rows : List A) (indices : List ℕ → Option ℕ) → ((name : List ℕ) → indices name ≡ None) → Indexes key rows 0 indices
+    {A : Type 0} (key : A → List ℕ) (rows : List A) (indices : List ℕ → Option ℕ) → ((name : List ℕ) → indices name ≡ None) → IndexesRows key rows 0 indices
 indexes-none key rows indices e = record {
   found = λ name. ap (option_and_then (slice_get rows)) (e name);
   known = λ name. ap is_some (e name);
@@ -58,9 +58,9 @@ bytes_eq-swap xs ys = go (bytes_eq xs ys) (bytes_eq ys xs) refl refl
     go false true e f = absurd (let h : bytes_eq xs ys ≡ true = (bytes_eq-Decides xs ys).1 (sym ((bytes_eq-Decides ys xs).0 f)) in cc)
 
 pub indexes-more :
-    {A : Type 0} (key : A → List ℕ) (rows : List A) (n : ℕ) (x : A) (indices more : List ℕ → Option ℕ) → Indexes key rows n indices →
+    {A : Type 0} (key : A → List ℕ) (rows : List A) (n : ℕ) (x : A) (indices more : List ℕ → Option ℕ) → IndexesRows key rows n indices →
     slice_get rows n ≡ Some x → indices (key x) ≡ None →
-    ((other : List ℕ) → more other ≡ cond (bytes_eq other (key x)) (Some n) (indices other)) → Indexes key rows (n + 1) more
+    ((other : List ℕ) → more other ≡ cond (bytes_eq other (key x)) (Some n) (indices other)) → IndexesRows key rows (n + 1) more
 indexes-more key rows n x indices more i at new e = record {
   found = λ name. found name (bytes_eq name (key x)) refl;
   known = λ name.

@@ -20,7 +20,7 @@ use Rattle.sudo_text.specs.Tokens.{fault_place}
 use Rattle.sudo_text.proofs.FaultPlace.{faults_placed}
 use Rattle.sudo_grammar.specs.declared.kind.Kind.{Kind}
 use Rattle.sudo_parser.specs.Limits.{less}
-use Rattle.sudo_parser.specs.Parsed.{AreEntriesAfter, entry_of, IsLineFault, IsFirstFaultAfter, room_after, column, fault_at, fits, over_limit_from}
+use Rattle.sudo_parser.specs.Parsed.{AreEntriesAfter, entry_of, IsLineFault, IsFirstFaultAfter, room_after, column, fault_at, fits_room, over_limit_from}
 use Rattle.sudo_load.specs.FaultFiles.{text_file, parse_file, IsBelow, IsInFiles}
 use Rattle.sudo_load.specs.declared.fault.LoadFault.TheVariants as faults
 use Rattle.sudo_load.specs.declared.fault.LoadFault.{LoadFault}
@@ -303,7 +303,7 @@ refusal_placed path text supplies start (files, fault) is loads = placed_unless 
 -- A definition past a limit stands where its entry does.
 pub over_limit_placed : (n : ℕ) (room : Kind → ℕ) (entries : List Entry) (place : Place) → placed_in n entries ≡ true → over_limit_from room entries ≡ Some place → place.file < n
 over_limit_placed n room [] place placed is = absurd cc
-over_limit_placed n room (entry ∷ entries) place placed is = go (fits room entry.body) is
+over_limit_placed n room (entry ∷ entries) place placed is = go (fits_room room entry.body) is
     (λ rest. over_limit_placed n (less room entry.body) entries place (and_second (nat_lt entry.place.file n) (placed_in n entries) placed) rest)
   where
     here : nat_lt entry.place.file n ≡ true → entry.place ≡ place → place.file < n

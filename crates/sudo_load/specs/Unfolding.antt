@@ -7,8 +7,8 @@ use Rattle.std.specs.Prelude.{◌≡◌, ℕ, zero, suc, ◌+◌, Bool, true, fa
 use Rattle.std.specs.List.Sorted.{IsPermutation, IsSorted}
 use Rattle.std.specs.Cmp.Lexicographic.{slice_cmp}
 use Rattle.std.specs.Ordering.{nat_cmp}
-use Rattle.sudo_text.specs.declared.token.Ch.{Ch}
 use Rattle.sudo_text.specs.declared.line.Place.{Place}
+use Rattle.sudo_grammar.specs.Words.{bytes_of}
 use Rattle.sudo_grammar.specs.declared.policy.Entry.{Entry}
 use Rattle.sudo_grammar.specs.declared.policy.EntryBody.{EntryBody}
 use Rattle.sudo_grammar.specs.declared.policy.EntryBody.TheVariants as bodies
@@ -88,9 +88,6 @@ abbrev pub FolderLoads : Inclusion → List Supply → LoadState → Place → L
 FolderLoads include supplies loaded place path outcome =
     IfElse (nat_lt loaded.folders reading_limit) (NamesLoad include loaded place path (supplied_folder supplies path) outcome)
     (outcome ≡ refused_with loaded (faults.TooMany place))
-
-abbrev pub bytes_of : List Ch → List ℕ
-bytes_of = map (λ c. c.byte)
 
 -- the folder or the file, by its path, that an include line of the file at a path names
 abbrev pub include_of : List ℕ → EntryBody → Option (Bool × List ℕ)

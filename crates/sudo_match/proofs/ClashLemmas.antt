@@ -4,7 +4,7 @@ use Rattle.std.specs.Prelude.{slice_get, is_some, bytes_eq, find, option_and_the
 use Rattle.std.specs.List.{list_any, range_with_len}
 use Rattle.std.proofs.lemmas.Option.{slice_get_within}
 use Rattle.std.proofs.lemmas.Bool.{cases_lt, both_ways}
-use Rattle.sudo_base.specs.Indexes.{Indexes}
+use Rattle.sudo_base.specs.Indexes.{IndexesRows}
 use Rattle.sudo_match.specs.KnownRows.{clashes_with, clashes_at, first_clash}
 
 -- the first n elements clash with none before them
@@ -31,7 +31,7 @@ clash-here clashes rows n x e = ap (clashes_with clashes (take n rows)) e
 
 -- rows with a name for a key clash where the name is known
 pub key-clash :
-    {A : Type 0} (key : A → List ℕ) (rows : List A) (n : ℕ) (x : A) (places : List ℕ → Option ℕ) → Indexes key rows n places →
+    {A : Type 0} (key : A → List ℕ) (rows : List A) (n : ℕ) (x : A) (places : List ℕ → Option ℕ) → IndexesRows key rows n places →
     slice_get rows n ≡ Some x → clashes_at (λ a b. bytes_eq (key a) (key b)) rows n ≡ is_some (places (key x))
 key-clash key rows n x places i at = clash-here (λ a b. bytes_eq (key a) (key b)) rows n x at ∙ sym (i.known (key x))
 

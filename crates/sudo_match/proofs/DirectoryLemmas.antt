@@ -6,13 +6,13 @@ use Rattle.sudo_match.specs.declared.people.Person.{Person}
 use Rattle.sudo_match.specs.declared.people.Group.{Group}
 use Rattle.sudo_match.specs.declared.people.Machine.{Machine}
 use Rattle.sudo_match.specs.Class.{lower_text}
-use Rattle.sudo_base.specs.Indexes.{Indexes}
+use Rattle.sudo_base.specs.Indexes.{IndexesRows}
 use Rattle.sudo_base.specs.NameIndices.{index_of}
 use Rattle.sudo_match.specs.KnownRows.{KnownRows, user_named, host_named, group_named, groups_of}
 
 pub user_named-is :
     (d : KnownRows) (people : List Person) (users : List (List ℕ × ℕ)) (name : List ℕ) → people ≡ d.people →
-    Indexes (λ u. u.name) people (length people) (index_of users) →
+    IndexesRows (λ u. u.name) people (length people) (index_of users) →
     user_named d name ≡ option_and_then (slice_get people) (index_of users name)
 unfolding user_named
 user_named-is d people users name e i =
@@ -20,7 +20,7 @@ user_named-is d people users name e i =
 
 pub host_named-is :
     (d : KnownRows) (machines : List Machine) (hosts : List (List ℕ × ℕ)) (name : List ℕ) → machines ≡ d.machines →
-    Indexes (λ m. lower_text m.name) machines (length machines) (index_of hosts) →
+    IndexesRows (λ m. lower_text m.name) machines (length machines) (index_of hosts) →
     host_named d name ≡ option_and_then (slice_get machines) (index_of hosts (lower_text name))
 unfolding host_named
 host_named-is d machines hosts name e i =
@@ -33,7 +33,7 @@ host_named-scanned d name = refl
 
 pub group_named-is :
     (d : KnownRows) (people : List Person) (groups : List (List ℕ × ℕ)) (name : List ℕ) → people ≡ d.people →
-    Indexes (λ g. g.name) (groups_of people) (length (groups_of people)) (index_of groups) →
+    IndexesRows (λ g. g.name) (groups_of people) (length (groups_of people)) (index_of groups) →
     group_named d name ≡ option_and_then (slice_get (groups_of people)) (index_of groups name)
 unfolding group_named
 group_named-is d people groups name e i =

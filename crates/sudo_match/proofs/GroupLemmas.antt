@@ -7,7 +7,7 @@ use Rattle.std.proofs.lemmas.Bool.{eqb-true}
 use Rattle.std.proofs.lemmas.List.{take_all}
 use Rattle.std.proofs.lemmas.List.Folds.{find-append}
 use Rattle.sudo_match.specs.declared.people.Group.{Group}
-use Rattle.sudo_base.specs.Indexes.{Indexes}
+use Rattle.sudo_base.specs.Indexes.{IndexesRows}
 use Rattle.sudo_base.specs.NameIndices.{index_of}
 use Rattle.sudo_base.proofs.IndexLemmas.{take-some, list_any-append, bytes_eq-is, indexes-none, indexes-more, index_of-append, index_of-empty, none-is}
 use Rattle.sudo_match.specs.Indexing.{AreApart, differs, with_name}
@@ -36,8 +36,8 @@ found-known None true x h = absurd (let e : false ≡ true = h refl in cc)
 found-known None false x h = refl
 
 indexes-same :
-    {A : Type 0} (key : A → List ℕ) (rows : List A) (n : ℕ) (x : A) (places : List ℕ → Option ℕ) → Indexes key rows n places →
-    slice_get rows n ≡ Some x → is_some (places (key x)) ≡ true → Indexes key rows (n + 1) places
+    {A : Type 0} (key : A → List ℕ) (rows : List A) (n : ℕ) (x : A) (places : List ℕ → Option ℕ) → IndexesRows key rows n places →
+    slice_get rows n ≡ Some x → is_some (places (key x)) ≡ true → IndexesRows key rows (n + 1) places
 indexes-same key rows n x places i at old = record {
   found = λ name.
       i.found name
@@ -58,11 +58,11 @@ indexes-same key rows n x places i at old = record {
         sym (i.known name) ∙ ap (λ k. is_some (places k)) (sym same) ∙ old
 
 pub indexes-noted :
-    {A : Type 0} (key : A → List ℕ) (rows : List A) (n : ℕ) (x : A) (names : List (List ℕ × ℕ)) → Indexes key rows n (index_of names) →
-    slice_get rows n ≡ Some x → Indexes key rows (n + 1) (index_of (with_name names (key x) n))
+    {A : Type 0} (key : A → List ℕ) (rows : List A) (n : ℕ) (x : A) (names : List (List ℕ × ℕ)) → IndexesRows key rows n (index_of names) →
+    slice_get rows n ≡ Some x → IndexesRows key rows (n + 1) (index_of (with_name names (key x) n))
 indexes-noted key rows n x names i at = go (is_some (index_of names (key x))) refl
   where
-    go : (b : Bool) → is_some (index_of names (key x)) ≡ b → Indexes key rows (n + 1) (index_of (with_name names (key x) n))
+    go : (b : Bool) → is_some (index_of names (key x)) ≡ b → IndexesRows key rows (n + 1) (index_of (with_name names (key x) n))
     go true f = rw f (indexes-same key rows n x (index_of names) i at f)
     go false f =
         let new : index_of names (key x) ≡ None = none-is (index_of names (key x)) f in
@@ -153,8 +153,8 @@ agree-by_id false false e f = cc
 
 -- the first n groups are indexed by name and by ID, and none of them clashes with one before it
 pub record GroupsRead (groups : List Group) (n : ℕ) (names ids : List (List ℕ × ℕ)) : Type 0 where
-  pub by_name : Indexes (λ g. g.name) groups n (index_of names)
-  pub by_id : Indexes (λ g. g.gid ∷ []) groups n (index_of ids)
+  pub by_name : IndexesRows (λ g. g.name) groups n (index_of names)
+  pub by_id : IndexesRows (λ g. g.gid ∷ []) groups n (index_of ids)
   pub name_decides : (name : List ℕ) (id : ℕ) → Decides (named name) (has_id id) (take n groups)
   pub id_decides : (id : ℕ) (name : List ℕ) → Decides (of_id id) (named name) (take n groups)
   pub none : NoneBefore groups_clash groups n

@@ -8,7 +8,7 @@ use Rattle.sudo_text.specs.declared.token.Ch.{Ch}
 use Rattle.sudo_match.specs.declared.patterns.Slash.{Slash}
 use Rattle.sudo_match.specs.Pattern.{is_plain, has, ByteSet, Only, AnyByte, Part, One, Star, bracket_after, bracket_or, part_at, part_of, parts, set_holds, part_holds, fits}
 use Rattle.sudo_match.specs.Reading.{is_free_byte}
-use Rattle.sudo_match.specs.Body.Step.{Takes, IsStarred}
+use Rattle.sudo_match.specs.Body.Step.{TakesPart, IsStarred}
 use Rattle.sudo_match.proofs.CharsLemmas.{drop-some, drop-none, and-then, and-no}
 use Rattle.sudo_match.proofs.PartLemmas.{part_answer, part_of-at, part-star, part-any, part-bracket, part-byte, parts-next, parts-none}
 use Rattle.sudo_match.proofs.FitsLemmas.{later, fits-star, fits-one, fits-one-empty, fits-empty-some, fits-empty-empty, Reached, reached-start, reached-one, fits-star-again, later-back, later-not_free}
@@ -79,7 +79,7 @@ one-at s b cs n answer more e f = go (slice_get cs n) refl
 pub takes :
     (s : Slash) (cs : List Ch) (t : List ℕ) (n place b more : ℕ) → has (is_plain 42) (slice_get cs n) ≡ false →
     slice_get t place ≡ Some b → option_map (part_answer s b) (part_of (drop n cs)) ≡ Some (true, more) → n + more < length cs →
-    Takes s cs t n place more
+    TakesPart s cs t n place more
 takes s cs t n place b more e f g h =
     let one = one-at s b cs n true more e g in
     record {
@@ -166,7 +166,7 @@ keeps-star s cs t at place (Some r) k i = record {
 }
 
 fits-taken :
-    (s : Slash) (cs : List Ch) (t : List ℕ) (at place more : ℕ) → Takes s cs t at place more →
+    (s : Slash) (cs : List Ch) (t : List ℕ) (at place more : ℕ) → TakesPart s cs t at place more →
     fits (parts (drop at cs)) (drop place t) s ≡ fits (parts (drop (at + 1 + more) cs)) (drop (place + 1) t) s
 fits-taken s cs t at place more k =
     ap (λ p. fits p (drop place t) s) k.parts_are
@@ -176,7 +176,7 @@ fits-taken s cs t at place more k =
 
 pub keeps-taken :
     (s : Slash) (cs : List Ch) (t : List ℕ) (at place more : ℕ) (retry : Option (ℕ × ℕ)) → Keeps s cs t at place retry →
-    Takes s cs t at place more → Keeps s cs t (at + 1 + more) (place + 1) retry
+    TakesPart s cs t at place more → Keeps s cs t (at + 1 + more) (place + 1) retry
 keeps-taken s cs t at place more None k i = k ∙ fits-taken s cs t at place more i
 keeps-taken s cs t at place more (Some r) k i = record {
   start_within = omega (arith, k.start_within);

@@ -3,7 +3,7 @@ use Rattle.std.specs.Prelude.{◌≡◌, ℕ, Bool, false, not, List, [], ◌∷
 use Rattle.sudo_match.specs.declared.people.Person.{Person}
 use Rattle.sudo_match.specs.declared.people.Group.{Group}
 use Rattle.sudo_match.specs.declared.people.Machine.{Machine}
-use Rattle.sudo_base.specs.Indexes.{Indexes}
+use Rattle.sudo_base.specs.Indexes.{IndexesRows}
 use Rattle.sudo_base.specs.NameIndices.{index_of}
 use Rattle.sudo_match.specs.declared.positions.GroupPosition.{GroupPosition}
 use Rattle.sudo_match.specs.Class.{lower_text}
@@ -12,7 +12,7 @@ use Rattle.sudo_match.specs.KnownRows.{first_clash, groups_of, directory_fault}
 -- no row clashes with an earlier one, and each name has the index of the first row that has it
 pub record AreApart {A : Type 0} (clashes : A → A → Bool) (key : A → List ℕ) (rows : List A) (names : List (List ℕ × ℕ)) : Type 0 where
   pub apart : first_clash clashes rows ≡ None
-  pub indexed : Indexes key rows (length rows) (index_of names)
+  pub indexed : IndexesRows key rows (length rows) (index_of names)
 
 -- the names with one more, unless it is already there
 abbrev pub with_name : List (List ℕ × ℕ) → List ℕ → ℕ → List (List ℕ × ℕ)
@@ -33,8 +33,8 @@ differs test (Some x) = not (test x)
 
 -- the invariant of a directory: its indexes are those of its rows, and the rows have no fault
 pub record IsKept (people : List Person) (machines : List Machine) (users hosts groups : List (List ℕ × ℕ)) (positions : List GroupPosition) : Type 0 where
-  pub users_indexed : Indexes (λ u. u.name) people (length people) (index_of users)
-  pub hosts_indexed : Indexes (λ m. lower_text m.name) machines (length machines) (index_of hosts)
-  pub groups_indexed : Indexes (λ g. g.name) (groups_of people) (length (groups_of people)) (index_of groups)
+  pub users_indexed : IndexesRows (λ u. u.name) people (length people) (index_of users)
+  pub hosts_indexed : IndexesRows (λ m. lower_text m.name) machines (length machines) (index_of hosts)
+  pub groups_indexed : IndexesRows (λ g. g.name) (groups_of people) (length (groups_of people)) (index_of groups)
   pub spots_are : ArePositions people positions
   pub faultless : directory_fault people machines ≡ None

@@ -77,8 +77,8 @@ host_fits _ m = false
 -- ---- Commands
 
 -- the characters are these bytes, none of them escaped
-abbrev pub spells : List ℕ → List Ch → Bool
-spells name chars = (length chars == length name) && begins (map is_plain name) chars
+abbrev pub spells_text : List ℕ → List Ch → Bool
+spells_text name chars = (length chars == length name) && begins (map is_plain name) chars
 
 abbrev pub is_empty : List ℕ → Bool
 is_empty [] = true
@@ -87,11 +87,11 @@ is_empty (b ∷ bs) = false
 -- a command without arguments allows any, `""` allows none, and any other text is a pattern
 abbrev pub arguments_fit : Slash → Option (List Ch) → List ℕ → Bool
 arguments_fit slash None arguments = true
-arguments_fit slash (Some chars) arguments = if spells (codes "\"\"") chars then is_empty arguments else fits (parts chars) arguments slash
+arguments_fit slash (Some chars) arguments = if spells_text (codes "\"\"") chars then is_empty arguments else fits (parts chars) arguments slash
 
 -- `*` in the arguments of a command may fit a `/`, except in the paths that `sudoedit` edits
 abbrev pub arguments_slash : List Ch → Slash
-arguments_slash path = if spells (codes "sudoedit") path then Not else Any
+arguments_slash path = if spells_text (codes "sudoedit") path then Not else Any
 
 unfoldable pub command_fits : Atom → List ℕ → List ℕ → Bool
 command_fits atom.All command arguments = true

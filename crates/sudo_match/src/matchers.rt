@@ -2,7 +2,7 @@
 ghost use Rattle.std.specs.Prelude.{◌≡◌, ◌==◌, ◌^◌, ◌-◌, ◌≤◌, bytes_eq, length};
 ghost use Rattle.std.specs.List.{list_any};
 ghost use Rattle.sudo_match.specs.Beginnings.{command_differs};
-ghost use Rattle.sudo_match.specs.Matching.{user_fits, group_fits, host_fits, command_fits, compared_name, short_name, pattern_has_dot, mask_of, is_loopback, address_fits, net_fits, spells, arguments_fit, arguments_slash};
+ghost use Rattle.sudo_match.specs.Matching.{user_fits, group_fits, host_fits, command_fits, compared_name, short_name, pattern_has_dot, mask_of, is_loopback, address_fits, net_fits, spells_text, arguments_fit, arguments_slash};
 
 use crate::beginning::{begins_otherwise, is_named_otherwise};
 use crate::{Group, Interface, Machine, Pattern, Person, Slash};
@@ -143,8 +143,8 @@ pub fn host_matches(atom: &Atom, host: &Machine) -> bool
 }
 
 // Whether the characters are these bytes, none of them escaped.
-fn spells(name: &[u8], chars: &[Ch]) -> bool
-    ensures { result ≡ spells name.now chars.now }
+fn spells_text(name: &[u8], chars: &[Ch]) -> bool
+    ensures { result ≡ spells_text name.now chars.now }
 {
     chars.len() == name.len() && crate::pattern::begins_with(chars, name)
 }
@@ -157,7 +157,7 @@ fn arguments_fit(slash: Slash, args: &Option<Seq<Ch>>, arguments: &[u8]) -> bool
     match args {
         None => true,
         Some(chars) => {
-            if spells(b"\"\"", chars.as_slice()) {
+            if spells_text(b"\"\"", chars.as_slice()) {
                 arguments.is_empty()
             } else {
                 Pattern::of(chars.as_slice()).matches(arguments, slash)
@@ -178,7 +178,7 @@ pub fn command_matches(atom: &Atom, command: &[u8], arguments: &[u8]) -> bool
             if !Pattern::of_path(path).matches(command, Slash::Not) {
                 return false;
             }
-            let slash = if spells(b"sudoedit", path) {
+            let slash = if spells_text(b"sudoedit", path) {
                 Slash::Not
             } else {
                 Slash::Any

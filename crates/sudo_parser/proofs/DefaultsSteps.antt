@@ -18,7 +18,7 @@ use Rattle.sudo_grammar.specs.declared.policy.Operator.{Operator}
 use Rattle.sudo_grammar.specs.Openings.{is_word, operator_of}
 use Rattle.sudo_grammar.specs.States.{AtParameter, AfterSwitch, AtValue, Room, at_parameter, after_switch, at_operator, at_value}
 use Rattle.sudo_parser.specs.Body.Lists.{ReadsBangs}
-use Rattle.sudo_parser.specs.Body.Defaults.{IsWordNext, IsNoWordNext, IsWordMissing, IsOperatorNext, IsPast, ReadsParameter, StopsInParameter}
+use Rattle.sudo_parser.specs.Body.Defaults.{IsWordNext, IsNoWordNext, IsWordMissing, IsOperatorNext, EndsParameter, ReadsParameter, StopsInParameter}
 
 parameter-none : (b : Option Binding) (d : List Parameter) (n : ℕ) (t : Token) (k : TokenKind)
     → (k ≡ tokens.Mark marks.Bang → ⊥) → is_word k ≡ false → at_parameter b d n t k ≡ None
@@ -55,7 +55,7 @@ switched-past : (n : ℕ) (w : Token) (b : Option Binding) (d : List Parameter) 
 switched-past n w b d (tokens.Mark marks.Comma) comma = absurd (comma refl)
 switched-past n w b d _ comma = refl
 
-past : (n : ℕ) (w : Token) (rest : List Token) → (n ≡ 0 → ⊥) → IsPast (parameters.Switch n w) rest
+past : (n : ℕ) (w : Token) (rest : List Token) → (n ≡ 0 → ⊥) → EndsParameter (parameters.Switch n w) rest
 past n w [] some = tt
 past zero w (t ∷ ts) some = absurd (some refl)
 past (suc n) w (t ∷ ts) some = λ room b d comma. switched-past n w b d t.kind comma

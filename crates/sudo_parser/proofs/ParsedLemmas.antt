@@ -16,7 +16,7 @@ use Rattle.sudo_grammar.specs.declared.fault.ParseFault.{ParseFault}
 use Rattle.sudo_grammar.specs.Kinds.{same_kind}
 use Rattle.sudo_parser.specs.Limits.{definition_count, less}
 use Rattle.sudo_grammar.specs.States.{Room}
-use Rattle.sudo_parser.specs.Parsed.{room_after, IsEntryOf, entry_of, AreEntriesAfter, AreEntries, IsLineFault, IsFirstFaultAfter, IsFirstFault, Adds, fits, over_limit_from}
+use Rattle.sudo_parser.specs.Parsed.{room_after, IsEntryOf, entry_of, AreEntriesAfter, AreEntries, IsLineFault, IsFirstFaultAfter, IsFirstFault, Adds, fits_room, over_limit_from}
 
 defined_more : (kind : Kind) (entries : List Entry) (e : Entry)
     → sum_by (λ (x : Entry). definition_count kind x.body) (entries ++ e ∷ []) ≡ sum_by (λ (x : Entry). definition_count kind x.body) entries + definition_count kind e.body
@@ -104,7 +104,7 @@ shorter left rest line short cut = All-tail (λ (x : Line). length x.text ≤ 16
 
 -- An entry that fits leaves the limit to those after it.
 pub limit_next : (room after : Kind → ℕ) (entry : Entry) (left rest : List Entry) (whole : Option Place) → whole ≡ over_limit_from room left → left ≡ entry ∷ rest
-    → fits room entry.body ≡ true → after ≡ less room entry.body → whole ≡ over_limit_from after rest
+    → fits_room room entry.body ≡ true → after ≡ less room entry.body → whole ≡ over_limit_from after rest
 limit_next room after entry left rest whole so_far cut has is =
     so_far ∙ ap (over_limit_from room) cut ∙ ap (λ b. if b then over_limit_from (less room entry.body) rest else Some entry.place) has
     ∙ ap (λ r. over_limit_from r rest) (sym is)

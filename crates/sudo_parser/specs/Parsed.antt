@@ -110,15 +110,15 @@ abbrev pub Adds : List Entry → Line → List Entry → Type 0
 Adds before line entries = (line_entry : Option EntryBody) × IsEntryOf (room_after before) line line_entry × (entries ≡ before ++ entry_of line line_entry)
 
 -- there is room for the definitions of an entry
-abbrev pub fits : Room → EntryBody → Bool
-fits room (bodies.Aliases kind definitions) = nat_le (length definitions) (room kind)
-fits room body = true
+abbrev pub fits_room : Room → EntryBody → Bool
+fits_room room (bodies.Aliases kind definitions) = nat_le (length definitions) (room kind)
+fits_room room body = true
 
 -- the place of the first entry with a definition past the room for its kind
 abbrev pub over_limit_from : Room → List Entry → Option Place
 over_limit_from room [] = None
 over_limit_from room (entry ∷ entries) =
-    if fits room entry.body then over_limit_from (less room entry.body) entries else Some entry.place
+    if fits_room room entry.body then over_limit_from (less room entry.body) entries else Some entry.place
 
 abbrev pub over_limit : List Entry → Option Place
 over_limit entries = over_limit_from (room_after []) entries

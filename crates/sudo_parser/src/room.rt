@@ -19,7 +19,7 @@ impl Room {
     ghost use Rattle.std.specs.Prelude.{[], IsTrue, ◌≤◌, ◌-◌, if◌then◌else◌};
     ghost use Rattle.sudo_grammar.specs.Kinds.{same_kind};
     ghost use Rattle.sudo_parser.specs.Limits.{room_of, less};
-    ghost use Rattle.sudo_parser.specs.Parsed.{room_after, fits};
+    ghost use Rattle.sudo_parser.specs.Parsed.{room_after, fits_room};
     ghost use Rattle.sudo_grammar.specs.Faults.{HasRoom};
 
     /// Returns the room before the first definition.
@@ -36,7 +36,7 @@ impl Room {
 
     /// Whether there is room for the definitions of an entry.
     pub(crate) fn fits(&self, body: &EntryBody) -> bool
-        ensures test { result ≡ fits (room_of self.now) body.now }
+        ensures test { result ≡ fits_room (room_of self.now) body.now }
         ensures has_room { IsTrue result → HasRoom (room_of self.now) body.now }
     {
         match body {

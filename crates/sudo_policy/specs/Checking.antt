@@ -13,11 +13,11 @@ pub record Passes (p : Policy) : Type 0 where
   pub none : has_error found ≡ false
 
 -- the findings of the policy, of which one is an error
-pub record Fails (p : Policy) (found : List Finding) : Type 0 where
+pub record FailsCheck (p : Policy) (found : List Finding) : Type 0 where
   pub are : AreFindings p found
   pub some : has_error found ≡ true
 
 -- a refusal hands the policy back, with all findings if one is an error
 abbrev pub RefusesPolicy : Policy → CheckFault → Type 0
-RefusesPolicy p (Findings back found) = (back ≡ p) × Fails p found
+RefusesPolicy p (Findings back found) = (back ≡ p) × FailsCheck p found
 RefusesPolicy p (Memory back) = back ≡ p

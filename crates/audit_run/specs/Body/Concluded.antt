@@ -10,7 +10,7 @@ use Rattle.audit_collect.specs.declared.fault.Refused.TheVariants as refused
 use Rattle.audit_collect.specs.declared.fault.RosterFault.TheVariants as roster_fault
 use Rattle.audit_collect.specs.declared.report.Report.{Report}
 use Rattle.audit_files.specs.declared.fault.FileFault.{FileFault}
-use Rattle.audit_run.specs.Roster.{part_at}
+use Rattle.audit_run.specs.Roster.{part_number}
 use Rattle.audit_run.specs.declared.fault.AuditFault.{AuditFault}
 use Rattle.audit_run.specs.declared.fault.AuditFault.TheVariants.{Sender, Collect, NoThread, Memory, TooManyParts}
 use Rattle.audit_run.specs.IsAuditResult.{IsRefusedSource, NoneRefused}
@@ -30,18 +30,18 @@ RefusesSenders senders TooManyParts = ⊥
 -- the result after the threads ran; `faults` has the fault of each source that is refused, and
 -- `comes` the state of a collector after all arrivals, or the refusal of the first that it refuses;
 -- `Memory` comes before all else, then a refused source
-abbrev pub Answers : List (List ℕ) → List (Option FileFault) → Result (List SenderState) Refused → Result Report AuditFault → Type 0
-Answers names faults comes (Ok report) = NoneRefused faults × ((held : List SenderState) × (comes ≡ Ok held) × AllFinished held × (report ≡ report_of held))
-Answers names faults comes (Err (Sender name part fault)) =
+abbrev pub Concludes : List (List ℕ) → List (Option FileFault) → Result (List SenderState) Refused → Result Report AuditFault → Type 0
+Concludes names faults comes (Ok report) = NoneRefused faults × ((held : List SenderState) × (comes ≡ Ok held) × AllFinished held × (report ≡ report_of held))
+Concludes names faults comes (Err (Sender name part fault)) =
     IsRefusedSource names faults name part fault × (comes ≡ Err refused.Memory → ⊥)
-Answers names faults comes (Err (Collect (collect.Roster why))) = ⊥
-Answers names faults comes (Err (Collect (collect.Refused refused.Memory))) = ⊥
-Answers names faults comes (Err (Collect (collect.Refused (refused.Stranger sender)))) = NoneRefused faults × (comes ≡ Err (refused.Stranger sender))
-Answers names faults comes (Err (Collect (collect.Refused (refused.ZeroNumber sender)))) = NoneRefused faults × (comes ≡ Err (refused.ZeroNumber sender))
-Answers names faults comes (Err (Collect (collect.Refused (refused.Double sender number)))) = NoneRefused faults × (comes ≡ Err (refused.Double sender number))
-Answers names faults comes (Err (Collect (collect.Refused (refused.ClosedTwice sender)))) = NoneRefused faults × (comes ≡ Err (refused.ClosedTwice sender))
-Answers names faults comes (Err (Collect (collect.Refused (refused.PastClose sender number)))) = NoneRefused faults × (comes ≡ Err (refused.PastClose sender number))
-Answers names faults comes (Err (Collect (collect.Unfinished what))) = NoneRefused faults × ((held : List SenderState) × (comes ≡ Ok held) × IsFirstMissing held what)
-Answers names faults comes (Err NoThread) = ⊤
-Answers names faults comes (Err Memory) = ⊤
-Answers names faults comes (Err TooManyParts) = ⊥
+Concludes names faults comes (Err (Collect (collect.Roster why))) = ⊥
+Concludes names faults comes (Err (Collect (collect.Refused refused.Memory))) = ⊥
+Concludes names faults comes (Err (Collect (collect.Refused (refused.Stranger sender)))) = NoneRefused faults × (comes ≡ Err (refused.Stranger sender))
+Concludes names faults comes (Err (Collect (collect.Refused (refused.ZeroNumber sender)))) = NoneRefused faults × (comes ≡ Err (refused.ZeroNumber sender))
+Concludes names faults comes (Err (Collect (collect.Refused (refused.Double sender number)))) = NoneRefused faults × (comes ≡ Err (refused.Double sender number))
+Concludes names faults comes (Err (Collect (collect.Refused (refused.ClosedTwice sender)))) = NoneRefused faults × (comes ≡ Err (refused.ClosedTwice sender))
+Concludes names faults comes (Err (Collect (collect.Refused (refused.PastClose sender number)))) = NoneRefused faults × (comes ≡ Err (refused.PastClose sender number))
+Concludes names faults comes (Err (Collect (collect.Unfinished what))) = NoneRefused faults × ((held : List SenderState) × (comes ≡ Ok held) × IsFirstMissing held what)
+Concludes names faults comes (Err NoThread) = ⊤
+Concludes names faults comes (Err Memory) = ⊤
+Concludes names faults comes (Err TooManyParts) = ⊥

@@ -8,7 +8,7 @@ use Rattle.sudo_match.specs.declared.patterns.Step.TheVariants.{Starred, Taken, 
 use Rattle.sudo_match.specs.Pattern.{ByteSet, One, Star, set_holds, parts, fits}
 
 -- a set of the pattern holds a byte of the text
-pub record Takes (s : Slash) (cs : List Ch) (t : List ℕ) (at place more : ℕ) : Type 0 where
+pub record TakesPart (s : Slash) (cs : List Ch) (t : List ℕ) (at place more : ℕ) : Type 0 where
   pub set : ByteSet
   pub byte : ℕ
   pub parts_are : parts (drop at cs) ≡ One set ∷ parts (drop (at + 1 + more) cs)
@@ -24,6 +24,6 @@ pub record IsStarred (cs : List Ch) (at : ℕ) : Type 0 where
 
 abbrev pub StepIs : Slash → List Ch → List ℕ → ℕ → ℕ → Step → Type 0
 StepIs s cs t at place Starred = IsStarred cs at
-StepIs s cs t at place (Taken more) = Takes s cs t at place more
+StepIs s cs t at place (Taken more) = TakesPart s cs t at place more
 StepIs s cs t at place Finished = fits (parts (drop at cs)) (drop place t) s ≡ true
 StepIs s cs t at place Stuck = fits (parts (drop at cs)) (drop place t) s ≡ false

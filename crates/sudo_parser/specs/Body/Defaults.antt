@@ -54,15 +54,15 @@ parameter_state b done (parameters.Switch n name) = AfterSwitch b done n name
 parameter_state b done (parameters.Assign name o v) = AfterValue b (done ++ parameters.Assign name o v ∷ [])
 
 -- after a parameter only a comma continues the line
-abbrev pub IsPast : Parameter → List Token → Type 0
-IsPast x [] = Unit {0}
-IsPast x (t ∷ ts) = (room : Room) (b : Option Binding) (done : List Parameter) → (IsMark marks.Comma t → ⊥)
+abbrev pub EndsParameter : Parameter → List Token → Type 0
+EndsParameter x [] = Unit {0}
+EndsParameter x (t ∷ ts) = (room : Room) (b : Option Binding) (done : List Parameter) → (IsMark marks.Comma t → ⊥)
     → step room (parameter_state b done x) t ≡ None
 
 -- the reading of a parameter leads to the rest, which is shorter
 pub record ReadsParameter (ts : List Token) (x : Parameter) (rest : List Token) : Type 0 where
   pub less : length rest < length ts
-  pub past : IsPast x rest
+  pub past : EndsParameter x rest
   pub reads : (room : Room) (b : Option Binding) (done : List Parameter)
       → reading room (AtParameter b done 0) ts ≡ reading room (parameter_state b done x) rest
 

@@ -21,14 +21,14 @@ use Rattle.sudo_grammar.specs.Reading.{reading}
 use Rattle.sudo_parser.specs.Body.Stops.{Stops, IsMark, IsNotNext}
 
 -- these states count exclamation marks
-abbrev pub Counts : Room → (ℕ → State) → Type 0
-Counts room place = (n : ℕ) (t : Token) → IsMark marks.Bang t → step room (place n) t ≡ Some (place (suc n))
+abbrev pub CountsBangs : Room → (ℕ → State) → Type 0
+CountsBangs room place = (n : ℕ) (t : Token) → IsMark marks.Bang t → step room (place n) t ≡ Some (place (suc n))
 
 -- wherever exclamation marks are counted, reading `count` of them leads to the rest
 pub record ReadsBangs (ts : List Token) (count : ℕ) (rest : List Token) : Type 0 where
   pub no_longer : length rest ≤ length ts
   pub none : count ≡ 0 → ts ≡ rest
-  pub reads : (room : Room) (place : ℕ → State) → Counts room place
+  pub reads : (room : Room) (place : ℕ → State) → CountsBangs room place
       → reading room (place 0) ts ≡ reading room (place count) rest
 
 -- the member, if it is a command
@@ -43,7 +43,7 @@ IsShut room place (t ∷ ts) = IsMark marks.LeftParen t → step room place t �
 
 -- the states `before`, by the number of exclamation marks, accept members of the kind, and lead to the states `after`
 pub record Takes (kind : Kind) (room : Room) (before : ℕ → State) (after : Member → State) : Type 0 where
-  pub counts : Counts room before
+  pub counts : CountsBangs room before
   pub takes : (m : Member) → atom_of kind m.token.kind ≡ Ok m.atom → step room (before m.bangs) m.token ≡ Some (after m)
   pub refuses : (n : ℕ) (t : Token) (r : Refusal) → (IsMark marks.Bang t → ⊥)
       → (IsMark marks.LeftParen t → step room (before n) t ≡ None) → atom_of kind t.kind ≡ Err r

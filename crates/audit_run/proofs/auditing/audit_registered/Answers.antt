@@ -1,6 +1,6 @@
 use Rattle.std.proofs.Common.{◌≡◌, ◌+◌, [], rules, length, map, ap, ◌∙◌, subst, arith, vec_len}
 use Rattle.audit_run.specs.Names.{names_under}
-use Rattle.audit_run.specs.Body.Concluded.{Answers}
+use Rattle.audit_run.specs.Body.Concluded.{Concludes}
 use Rattle.audit_run.specs.Body.Gathered.{collector_after}
 use Rattle.audit_run.specs.Body.FreshPasses.{after_splits}
 use Rattle.audit_run.specs.Body.Run.{HasRun}
@@ -25,7 +25,7 @@ returns g c =
     let parts = c.args.registered.parts.items in
     let readable_bytes = map (λ p. g.F.Feed.ahead p.reader) parts in
     let run = subst (λ t. HasRun (names_under policy directory) t (vec_len c.args.registered.parts) c.in_ok-prepared.prepared c.run_scoped-mine.result) c.requires.parts (c.run_scoped-mine.ensures (search rules)) in
-    let answers = subst (λ f. Answers names f (collector_after c.drain.new.gathering.collector c.drain.new.gathering.refused []) c.conclude.result) c.deref.ensures.value c.conclude.ensures in
+    let answers = subst (λ f. Concludes names f (collector_after c.drain.new.gathering.collector c.drain.new.gathering.refused []) c.conclude.result) c.deref.ensures.value c.conclude.ensures in
     let names_long : length names ≡ vec_len c.args.registered.names = search rules in
     let parts_long : length parts ≡ vec_len c.args.registered.parts = search rules in
     let ahead_long = length_map (λ p. g.F.Feed.ahead p.reader) parts in

@@ -1,4 +1,4 @@
-use Rattle.sudo_base.specs.Indexes.{Indexes}
+use Rattle.sudo_base.specs.Indexes.{IndexesRows}
 use Rattle.sudo_base.specs.NameIndices.{index_of}
 use Rattle.sudo_match.specs.Class.{lower_text}
 use Rattle.sudo_match.specs.KnownRows.{same_host}
@@ -7,6 +7,6 @@ use Rattle.sudo_match.proofs.indexing.host_names.Given as goal
 
 abbrev pub invariant-loop-at : goal.invariant-loop-at
 invariant-loop-at l = record {
-  indexed : Indexes (λ m. lower_text m.name) l.machines l.at (index_of l.names);
+  indexed : IndexesRows (λ m. lower_text m.name) l.machines l.at (index_of l.names);
   none : NoneBefore same_host l.machines l.at;
 }

@@ -2,7 +2,7 @@ use Rattle.std.proofs.Common.{◌≡◌, ℕ, true, false, sym, ap, ◌∙◌, �
 use Rattle.std.specs.Prelude.{is_some, slice_get, Some, Option, option_map}
 use Rattle.std.proofs.lemmas.Option.{slice_get_read}
 use Rattle.sudo_match.specs.declared.people.Person.{Person}
-use Rattle.sudo_base.specs.Indexes.{Indexes}
+use Rattle.sudo_base.specs.Indexes.{IndexesRows}
 use Rattle.sudo_base.specs.NameIndices.{index_of}
 use Rattle.sudo_base.proofs.IndexLemmas.{indexes-none, indexes-more, index_of-empty, index_of-append, none-is}
 use Rattle.sudo_match.specs.declared.fault.DirFault.{DirFault}
@@ -51,7 +51,7 @@ loop-at-preserved c =
 pub returns-clause-names : goal.returns-clause-names
 returns-clause-names c =
     let end : c.loop-at.at ≡ length c.args.people.now = omega (arith, c.loop-at-test.false, c.loop-at.auto.at-end) in
-    let P : ℕ → Type 0 = λ n. Indexes (λ (u : Person). u.name) c.args.people.now n (index_of c.loop-at.names) in
+    let P : ℕ → Type 0 = λ n. IndexesRows (λ (u : Person). u.name) c.args.people.now n (index_of c.loop-at.names) in
     record {
       apart = clash-none same_user c.args.people.now c.loop-at.at c.loop-at.invariant.none c.loop-at-test.false;
       indexed = subst P end c.loop-at.invariant.indexed;
