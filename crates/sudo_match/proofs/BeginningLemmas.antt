@@ -204,7 +204,7 @@ unfolding host_chars quoted_chars
 host-differs chars true name e = quoted-begun (pattern_has_dot chars) chars name e
 host-differs chars false name e = host-begun (pattern_has_dot chars) false chars name e
 
--- ---- Comparing place by place
+-- ---- Comparing index by index
 
 module _ (cs : List Ch) (t : List ℕ) (n b : ℕ) (c : Ch) (char : slice_get cs n ≡ Some c) (byte : slice_get t n ≡ Some b) where
   both : {X : Type 0} (f : List Ch → List ℕ → X) → f (drop n cs) (drop n t) ≡ f (c ∷ drop (n + 1) cs) (b ∷ drop (n + 1) t)

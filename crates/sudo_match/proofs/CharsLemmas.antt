@@ -63,7 +63,7 @@ length-read Exact cs = refl
 length-read Host cs = length-map lower_char (free_bangs false cs) ∙ length-free_bangs false cs
 length-read Quoted cs = length-map literal_char cs
 
--- the character before a place, or what stands before the first
+-- the character before an index, or what stands before the first
 before : Bool → List Ch → ℕ → Bool
 before f cs zero = f
 before f cs (suc n) = has (is_plain 91) (slice_get cs n)
@@ -197,7 +197,7 @@ and-true : (a : Bool) → (a && true) ≡ a
 and-true true = refl
 and-true false = refl
 
--- the end of a class, by places
+-- the end of a class, by indices
 pub begins-class_end :
     (n : ℕ) (cs : List Ch) →
     begins class_end (drop n cs) ≡ (has (is_byte 58) (slice_get cs n) && has (is_plain 93) (slice_get cs (n + 1)))
@@ -206,7 +206,7 @@ begins-class_end n cs =
     begins-step (is_byte 58) (is_plain 93 ∷ []) n cs
     ∙ ap (λ b. has (is_byte 58) (slice_get cs n) && b) (begins-step (is_plain 93) [] (n + 1) cs ∙ and-true (has (is_plain 93) (slice_get cs (n + 1))))
 
--- a class, by places
+-- a class, by indices
 pub begins-class_form :
     (k : Class) (n : ℕ) (cs : List Ch) →
     begins (class_form k) (drop n cs) ≡

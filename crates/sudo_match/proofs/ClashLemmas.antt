@@ -31,21 +31,21 @@ clash-here clashes rows n x e = ap (clashes_with clashes (take n rows)) e
 
 -- rows with a name for a key clash where the name is known
 pub key-clash :
-    {A : Type 0} (key : A → List ℕ) (rows : List A) (n : ℕ) (x : A) (places : List ℕ → Option ℕ) → IndexesRows key rows n places →
-    slice_get rows n ≡ Some x → clashes_at (λ a b. bytes_eq (key a) (key b)) rows n ≡ is_some (places (key x))
-key-clash key rows n x places i at = clash-here (λ a b. bytes_eq (key a) (key b)) rows n x at ∙ sym (i.known (key x))
+    {A : Type 0} (key : A → List ℕ) (rows : List A) (n : ℕ) (x : A) (indices : List ℕ → Option ℕ) → IndexesRows key rows n indices →
+    slice_get rows n ≡ Some x → clashes_at (λ a b. bytes_eq (key a) (key b)) rows n ≡ is_some (indices (key x))
+key-clash key rows n x indices i at = clash-here (λ a b. bytes_eq (key a) (key b)) rows n x at ∙ sym (i.known (key x))
 
--- ---- The first place that passes a test
+-- ---- The first index that passes a test
 
-first-place : (p : ℕ → Bool) (a i : ℕ) → a ≤ i → ((j : ℕ) → j < i → p j ≡ false) → p a ≡ true → a ≡ i
-first-place p a i h e g = go (cases_lt a i)
+first-index : (p : ℕ → Bool) (a i : ℕ) → a ≤ i → ((j : ℕ) → j < i → p j ≡ false) → p a ≡ true → a ≡ i
+first-index p a i h e g = go (cases_lt a i)
   where
     go : (a < i) ⊎ (i ≤ a) → a ≡ i
     go (inl l) = absurd (both_ways (p a) (e a l) g)
     go (inr l) = omega (arith, h, l)
 
-later-place : (p : ℕ → Bool) (a i : ℕ) → a ≤ i → p a ≡ false → p i ≡ true → a + 1 ≤ i
-later-place p a i h f g = go (cases_lt a i)
+later-index : (p : ℕ → Bool) (a i : ℕ) → a ≤ i → p a ≡ false → p i ≡ true → a + 1 ≤ i
+later-index p a i h f g = go (cases_lt a i)
   where
     go : (a < i) ⊎ (i ≤ a) → a + 1 ≤ i
     go (inl l) = omega (arith, l)
@@ -57,8 +57,8 @@ find-range p zero a i h l e f = absurd (omega (arith, h, l))
 find-range p (suc n) a i h l e f = go (p a) refl (λ next. find-range p n (a + 1) i next (omega (arith, l)) e f)
   where
     go : (b : Bool) → p a ≡ b → (a + 1 ≤ i → find p (range_with_len (a + 1) n) ≡ Some i) → find p (range_with_len a (suc n)) ≡ Some i
-    go true g more = ap (λ b. cond b (Some a) (find p (range_with_len (a + 1) n))) g ∙ ap Some (first-place p a i h e g)
-    go false g more = ap (λ b. cond b (Some a) (find p (range_with_len (a + 1) n))) g ∙ more (later-place p a i h g f)
+    go true g more = ap (λ b. cond b (Some a) (find p (range_with_len (a + 1) n))) g ∙ ap Some (first-index p a i h e g)
+    go false g more = ap (λ b. cond b (Some a) (find p (range_with_len (a + 1) n))) g ∙ more (later-index p a i h g f)
 
 find-range-none : (p : ℕ → Bool) (n a : ℕ) → ((j : ℕ) → j < a + n → p j ≡ false) → find p (range_with_len a n) ≡ None
 find-range-none p zero a e = refl

@@ -61,18 +61,18 @@ pub open-plain : (cs : List Ch) (n : ℕ) → has (is_plain 33) (slice_get cs n)
 open-plain cs n e f =
     mapped-none (λ (r : List Item × ℕ). (Bracket false r.0, r.1)) (items_after 0 true (drop n cs)) (sym (bracket-plain n cs e) ∙ f)
 
--- ---- Three places
+-- ---- Three indices
 
 pub knows-nothing : (cs : List Ch) (at : ℕ) → Knows cs (record { at = at; first = false; second = false; third = false })
 knows-nothing cs at = record { first = λ e. cc; second = λ e. cc; third = λ e. cc }
 
-same-place : (cs : List Ch) (m n : ℕ) → m ≡ n → NeverCloses cs m → NeverCloses cs n
-same-place cs m n e = subst (NeverCloses cs) e
+same-index : (cs : List Ch) (m n : ℕ) → m ≡ n → NeverCloses cs m → NeverCloses cs n
+same-index cs m n e = subst (NeverCloses cs) e
 
 pub knows-next : (cs : List Ch) (u : Unclosed) → Knows cs u → Knows cs (record { at = u.at + 1; first = u.second; second = u.third; third = false })
 knows-next cs u k = record {
   first = k.second;
-  second = λ e. let same : u.at + 2 ≡ u.at + 1 + 1 = omega arith in same-place cs (u.at + 2) (u.at + 1 + 1) same (k.third e);
+  second = λ e. let same : u.at + 2 ≡ u.at + 1 + 1 = omega arith in same-index cs (u.at + 2) (u.at + 1 + 1) same (k.third e);
   third = λ e. cc;
 }
 
@@ -82,8 +82,8 @@ knows-first cs u k e = record { first = λ f. e; second = k.second; third = k.th
 pub knows-third : (cs : List Ch) (u : Unclosed) → Knows cs u → NeverCloses cs (u.at + 2) → Knows cs (record { at = u.at; first = u.first; second = u.second; third = true })
 knows-third cs u k e = record { first = k.first; second = k.second; third = λ f. e }
 
--- the item at the first place leads on to a place
+-- the item at the first index leads on to an index
 pub led-on :
     (cs : List Ch) (u : Unclosed) (i : Item) (more to : ℕ) → Knows cs u → u.first ≡ true → item_of (drop u.at cs) ≡ Some (i, more) →
     u.at + 1 + more ≡ to → NeverCloses cs to
-led-on cs u i more to k e f same = same-place cs (u.at + 1 + more) to same (never-next cs u.at i more (k.first e) f)
+led-on cs u i more to k e f same = same-index cs (u.at + 1 + more) to same (never-next cs u.at i more (k.first e) f)

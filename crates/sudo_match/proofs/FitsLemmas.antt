@@ -127,8 +127,8 @@ head-is e = cc
 tail-is : {A : Type 0} {a b : A} {x y : List A} → a ∷ x ≡ b ∷ y → x ≡ y
 tail-is e = cc
 
--- what the sets of an earlier star's tail hold at a later place, and what follows there, is a fit for the later star at
--- its own place: `c0 ∷ c` is what the earlier star takes more than where the sets first held `w`
+-- what the sets of an earlier star's tail hold at a later index, and what follows there, is a fit for the later star at
+-- its own index: `c0 ∷ c` is what the earlier star takes more than where the sets first held `w`
 takes_over :
     (s : Slash) (p : List Part) (qs : List ByteSet) (w t : List ℕ) (c0 : ℕ) (c y : List ℕ) →
     is_free s c0 ≡ true → list_all (is_free s) c ≡ true → taken s qs w ≡ true → c0 ∷ (c ++ y) ≡ w ++ t →
@@ -183,7 +183,7 @@ later_star s p qs w t [] held joined e = cc
 later_star s p qs w t (b ∷ x) held joined e =
     later_over s p qs w t b [] x (and-left (is_free s b) _ e) refl held joined (and-right (is_free s b) _ e)
 
--- ---- The matcher's two places
+-- ---- The matcher's two indices
 
 -- from the parts `ps` and the text `ts` just after a star, sets alone have held bytes up to the parts `p` and the text `t`
 pub record Reached (s : Slash) (ps : List Part) (ts : List ℕ) (p : List Part) (t : List ℕ) : Type 0 where

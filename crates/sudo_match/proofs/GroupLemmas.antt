@@ -14,7 +14,7 @@ use Rattle.sudo_match.specs.Indexing.{AreApart, differs, with_name}
 use Rattle.sudo_match.specs.KnownRows.{groups_clash, clashes_at}
 use Rattle.sudo_match.proofs.ClashLemmas.{NoneBefore, none-first, none-more, clash-here, clash-none}
 
--- ---- A name that has a place already
+-- ---- A name that has an index already
 
 -- whether something is found, and whether something passes
 found-any : {A : Type 0} (p : A → Bool) (xs : List A) → is_some (find p xs) ≡ list_any p xs
@@ -36,9 +36,9 @@ found-known None true x h = absurd (let e : false ≡ true = h refl in cc)
 found-known None false x h = refl
 
 indexes-same :
-    {A : Type 0} (key : A → List ℕ) (rows : List A) (n : ℕ) (x : A) (places : List ℕ → Option ℕ) → IndexesRows key rows n places →
-    slice_get rows n ≡ Some x → is_some (places (key x)) ≡ true → IndexesRows key rows (n + 1) places
-indexes-same key rows n x places i at old = record {
+    {A : Type 0} (key : A → List ℕ) (rows : List A) (n : ℕ) (x : A) (indices : List ℕ → Option ℕ) → IndexesRows key rows n indices →
+    slice_get rows n ≡ Some x → is_some (indices (key x)) ≡ true → IndexesRows key rows (n + 1) indices
+indexes-same key rows n x indices i at old = record {
   found = λ name.
       i.found name
       ∙ found-known (find (λ y. bytes_eq (key y) name) (take n rows)) (bytes_eq (key x) name) x
@@ -55,7 +55,7 @@ indexes-same key rows n x places i at old = record {
     any-of : (name : List ℕ) → bytes_eq (key x) name ≡ true → list_any (λ y. bytes_eq (key y) name) (take n rows) ≡ true
     any-of name e =
         let same : key x ≡ name = bytes_eq-is (key x) name e in
-        sym (i.known name) ∙ ap (λ k. is_some (places k)) (sym same) ∙ old
+        sym (i.known name) ∙ ap (λ k. is_some (indices k)) (sym same) ∙ old
 
 pub indexes-noted :
     {A : Type 0} (key : A → List ℕ) (rows : List A) (n : ℕ) (x : A) (names : List (List ℕ × ℕ)) → IndexesRows key rows n (index_of names) →

@@ -129,7 +129,7 @@ pub parts-empty : parts [] ≡ []
 unfolding parts_after
 parts-empty = refl
 
--- the parts from a place on: the part there, and those after its characters
+-- the parts from an index on: the part there, and those after its characters
 pub parts-next :
     (n : ℕ) (cs : List Ch) (p : Part) (more : ℕ) → part_of (drop n cs) ≡ Some (p, more) →
     parts (drop n cs) ≡ p ∷ parts (drop (n + 1 + more) cs)

@@ -72,7 +72,7 @@ pub escaped_colons :
 unfolding parts_after part_at bracket_after items_after range_at begins
 escaped_colons = refl
 
--- a star goes back over several places
+-- a star goes back over several indices
 pub goes_back : both (plain (codes "*a*b")) (codes "caxab") ≡ (true, true)
 unfolding parts_after part_at bracket_after items_after range_at begins fits cuts
 goes_back = refl

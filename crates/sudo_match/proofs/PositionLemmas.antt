@@ -11,15 +11,15 @@ use Rattle.sudo_match.specs.declared.positions.GroupPosition.{GroupPosition}
 use Rattle.sudo_match.specs.Indexing.{group_there, ArePositions}
 use Rattle.sudo_match.specs.KnownRows.{groups_of}
 
-same-place : (people : List Person) (positions : List GroupPosition) (n : ℕ) → ArePositions people positions → option_map (group_there people) (slice_get positions n) ≡ option_map Some (slice_get (groups_of people) n)
-same-place people positions n e =
+same-index : (people : List Person) (positions : List GroupPosition) (n : ℕ) → ArePositions people positions → option_map (group_there people) (slice_get positions n) ≡ option_map Some (slice_get (groups_of people) n)
+same-index people positions n e =
     sym (slice_get-map (group_there people) positions n) ∙ ap (λ xs. slice_get xs n) e ∙ slice_get-map Some (groups_of people) n
 
--- the group at a place is the one that stands at its position
+-- the group at an index is the one that stands at its position
 pub position-is :
     (people : List Person) (positions : List GroupPosition) (n : ℕ) (s : GroupPosition) → ArePositions people positions → slice_get positions n ≡ Some s →
     slice_get (groups_of people) n ≡ group_there people s
-position-is people positions n s e at = go (slice_get (groups_of people) n) (sym (ap (option_map (group_there people)) at) ∙ same-place people positions n e)
+position-is people positions n s e at = go (slice_get (groups_of people) n) (sym (ap (option_map (group_there people)) at) ∙ same-index people positions n e)
   where
     go : (o : Option Group) → Some (group_there people s) ≡ option_map Some o → o ≡ group_there people s
     go None f = cc
@@ -27,7 +27,7 @@ position-is people positions n s e at = go (slice_get (groups_of people) n) (sym
 
 pub position-past :
     (people : List Person) (positions : List GroupPosition) (n : ℕ) → ArePositions people positions → slice_get positions n ≡ None → slice_get (groups_of people) n ≡ None
-position-past people positions n e at = go (slice_get (groups_of people) n) (sym (ap (option_map (group_there people)) at) ∙ same-place people positions n e)
+position-past people positions n e at = go (slice_get (groups_of people) n) (sym (ap (option_map (group_there people)) at) ∙ same-index people positions n e)
   where
     go : (o : Option Group) → None ≡ option_map Some o → o ≡ None
     go None f = refl
@@ -39,11 +39,11 @@ groups_there : Option Person → List Group
 groups_there None = []
 groups_there (Some u) = u.groups
 
--- the groups of the user at a place
+-- the groups of the user at an index
 pub groups_at : List Person → ℕ → List Group
 groups_at people user = groups_there (slice_get people user)
 
--- the positions so far are those of all groups of the users before, and of the first groups of the user at this place
+-- the positions so far are those of all groups of the users before, and of the first groups of the user at this index
 abbrev pub SpotsTo : List Person → List GroupPosition → ℕ → ℕ → Type 0
 SpotsTo people positions user at = map (group_there people) positions ≡ map Some (groups_of (take user people) ++ take at (groups_at people user))
 

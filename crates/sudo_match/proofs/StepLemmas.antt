@@ -48,7 +48,7 @@ starred n cs e = go (slice_get cs n) refl
       within = slice_get_within cs n c f;
     }
 
--- a place of the pattern where no star stands, by its answer for a byte
+-- an offset of the pattern where no star stands, by its answer for a byte
 record OneAt (s : Slash) (b : ℕ) (cs : List Ch) (n : ℕ) (answer : Bool) (more : ℕ) : Type 0 where
   set : ByteSet
   parts_are : parts (drop n cs) ≡ One set ∷ parts (drop (n + 1 + more) cs)
@@ -77,122 +77,122 @@ one-at s b cs n answer more e f = go (slice_get cs n) refl
         }
 
 pub takes :
-    (s : Slash) (cs : List Ch) (t : List ℕ) (n place b more : ℕ) → has (is_plain 42) (slice_get cs n) ≡ false →
-    slice_get t place ≡ Some b → option_map (part_answer s b) (part_of (drop n cs)) ≡ Some (true, more) → n + more < length cs →
-    TakesPart s cs t n place more
-takes s cs t n place b more e f g h =
+    (s : Slash) (cs : List Ch) (t : List ℕ) (n offset b more : ℕ) → has (is_plain 42) (slice_get cs n) ≡ false →
+    slice_get t offset ≡ Some b → option_map (part_answer s b) (part_of (drop n cs)) ≡ Some (true, more) → n + more < length cs →
+    TakesPart s cs t n offset more
+takes s cs t n offset b more e f g h =
     let one = one-at s b cs n true more e g in
     record {
       set = one.set;
       byte = b;
       parts_are = one.parts_are;
-      text_is = drop-some place t b f;
+      text_is = drop-some offset t b f;
       held = one.answered;
       at_within = h;
-      place_within = slice_get_within t place b f;
+      offset_within = slice_get_within t offset b f;
     }
 
 pub stuck-byte :
-    (s : Slash) (cs : List Ch) (t : List ℕ) (n place b more : ℕ) → has (is_plain 42) (slice_get cs n) ≡ false →
-    slice_get t place ≡ Some b → option_map (part_answer s b) (part_of (drop n cs)) ≡ Some (false, more) →
-    fits (parts (drop n cs)) (drop place t) s ≡ false
-stuck-byte s cs t n place b more e f g =
+    (s : Slash) (cs : List Ch) (t : List ℕ) (n offset b more : ℕ) → has (is_plain 42) (slice_get cs n) ≡ false →
+    slice_get t offset ≡ Some b → option_map (part_answer s b) (part_of (drop n cs)) ≡ Some (false, more) →
+    fits (parts (drop n cs)) (drop offset t) s ≡ false
+stuck-byte s cs t n offset b more e f g =
     let one = one-at s b cs n false more e g in
-    ap (λ p. fits p (drop place t) s) one.parts_are
-    ∙ ap (λ x. fits (One one.set ∷ parts (drop (n + 1 + more) cs)) x s) (drop-some place t b f)
-    ∙ fits-one s one.set (parts (drop (n + 1 + more) cs)) b (drop (place + 1) t)
+    ap (λ p. fits p (drop offset t) s) one.parts_are
+    ∙ ap (λ x. fits (One one.set ∷ parts (drop (n + 1 + more) cs)) x s) (drop-some offset t b f)
+    ∙ fits-one s one.set (parts (drop (n + 1 + more) cs)) b (drop (offset + 1) t)
     ∙ and-no (set_holds s one.set b) _ one.answered
 
 pub stuck-end :
-    (s : Slash) (cs : List Ch) (t : List ℕ) (n place b : ℕ) → slice_get t place ≡ Some b →
-    option_map (part_answer s b) (part_of (drop n cs)) ≡ None → fits (parts (drop n cs)) (drop place t) s ≡ false
-stuck-end s cs t n place b f g = go (slice_get cs n) refl
+    (s : Slash) (cs : List Ch) (t : List ℕ) (n offset b : ℕ) → slice_get t offset ≡ Some b →
+    option_map (part_answer s b) (part_of (drop n cs)) ≡ None → fits (parts (drop n cs)) (drop offset t) s ≡ false
+stuck-end s cs t n offset b f g = go (slice_get cs n) refl
   where
-    go : (o : Option Ch) → slice_get cs n ≡ o → fits (parts (drop n cs)) (drop place t) s ≡ false
+    go : (o : Option Ch) → slice_get cs n ≡ o → fits (parts (drop n cs)) (drop offset t) s ≡ false
     go None h =
-        ap (λ p. fits p (drop place t) s) (parts-none n cs h) ∙ ap (λ x. fits [] x s) (drop-some place t b f) ∙ fits-empty-some s b (drop (place + 1) t)
+        ap (λ p. fits p (drop offset t) s) (parts-none n cs h) ∙ ap (λ x. fits [] x s) (drop-some offset t b f) ∙ fits-empty-some s b (drop (offset + 1) t)
     go (Some c) h =
         let there : option_map (part_answer s b) (part_of (drop n cs)) ≡ Some (part_answer s b (part_at c (drop (n + 1) cs))) = ap (option_map (part_answer s b)) (part_of-at n cs c h) in cc
 
 pub stuck-text :
-    (s : Slash) (cs : List Ch) (t : List ℕ) (n place : ℕ) → has (is_plain 42) (slice_get cs n) ≡ false →
-    slice_get t place ≡ None → n < length cs → fits (parts (drop n cs)) (drop place t) s ≡ false
-stuck-text s cs t n place e f h = go (slice_get cs n) refl
+    (s : Slash) (cs : List Ch) (t : List ℕ) (n offset : ℕ) → has (is_plain 42) (slice_get cs n) ≡ false →
+    slice_get t offset ≡ None → n < length cs → fits (parts (drop n cs)) (drop offset t) s ≡ false
+stuck-text s cs t n offset e f h = go (slice_get cs n) refl
   where
-    go : (o : Option Ch) → slice_get cs n ≡ o → fits (parts (drop n cs)) (drop place t) s ≡ false
+    go : (o : Option Ch) → slice_get cs n ≡ o → fits (parts (drop n cs)) (drop offset t) s ≡ false
     go None g = let some = slice_get-get_or cs n (record { byte = 0; escaped = false }) h in cc
     go (Some c) g =
         let one = part-one c (drop (n + 1) cs) (ap (has (is_plain 42)) (sym g) ∙ e) in
         let part : Some (part_at c (drop (n + 1) cs)) ≡ Some (One one.0, (part_at c (drop (n + 1) cs)).1) =
         ap Some (pair-is (part_at c (drop (n + 1) cs)) (One one.0) (part_at c (drop (n + 1) cs)).1 one.1 refl) in
-        ap (λ p. fits p (drop place t) s) (parts-next n cs (One one.0) (part_at c (drop (n + 1) cs)).1 (part_of-at n cs c g ∙ part))
-        ∙ ap (λ x. fits (One one.0 ∷ parts (drop (n + 1 + (part_at c (drop (n + 1) cs)).1) cs)) x s) (drop-none place t f)
+        ap (λ p. fits p (drop offset t) s) (parts-next n cs (One one.0) (part_at c (drop (n + 1) cs)).1 (part_of-at n cs c g ∙ part))
+        ∙ ap (λ x. fits (One one.0 ∷ parts (drop (n + 1 + (part_at c (drop (n + 1) cs)).1) cs)) x s) (drop-none offset t f)
         ∙ fits-one-empty s one.0 (parts (drop (n + 1 + (part_at c (drop (n + 1) cs)).1) cs))
 
 pub finished :
-    (s : Slash) (cs : List Ch) (t : List ℕ) (n place : ℕ) → slice_get t place ≡ None → length cs ≤ n →
-    fits (parts (drop n cs)) (drop place t) s ≡ true
-finished s cs t n place f h =
-    ap (λ p. fits p (drop place t) s) (parts-none n cs (slice_get_past cs n h)) ∙ ap (λ x. fits [] x s) (drop-none place t f) ∙ fits-empty-empty s
+    (s : Slash) (cs : List Ch) (t : List ℕ) (n offset : ℕ) → slice_get t offset ≡ None → length cs ≤ n →
+    fits (parts (drop n cs)) (drop offset t) s ≡ true
+finished s cs t n offset f h =
+    ap (λ p. fits p (drop offset t) s) (parts-none n cs (slice_get_past cs n h)) ∙ ap (λ x. fits [] x s) (drop-none offset t f) ∙ fits-empty-empty s
 
 -- ---- What the loop keeps
 
 -- before the first star the rest alone decides; after it, also what the last star may still take
-pub record Retries (s : Slash) (cs : List Ch) (t : List ℕ) (at place start from : ℕ) : Type 0 where
+pub record Retries (s : Slash) (cs : List Ch) (t : List ℕ) (at offset start from : ℕ) : Type 0 where
   pub start_within : start ≤ at
-  pub same : fits (parts cs) t s ≡ (fits (parts (drop at cs)) (drop place t) s || later s (parts (drop start cs)) (drop from t))
-  pub reached : Reached s (parts (drop start cs)) (drop from t) (parts (drop at cs)) (drop place t)
+  pub same : fits (parts cs) t s ≡ (fits (parts (drop at cs)) (drop offset t) s || later s (parts (drop start cs)) (drop from t))
+  pub reached : Reached s (parts (drop start cs)) (drop from t) (parts (drop at cs)) (drop offset t)
 
 abbrev pub Keeps : Slash → List Ch → List ℕ → ℕ → ℕ → Option (ℕ × ℕ) → Type 0
-Keeps s cs t at place None = fits (parts cs) t s ≡ fits (parts (drop at cs)) (drop place t) s
-Keeps s cs t at place (Some r) = Retries s cs t at place r.0 r.1
+Keeps s cs t at offset None = fits (parts cs) t s ≡ fits (parts (drop at cs)) (drop offset t) s
+Keeps s cs t at offset (Some r) = Retries s cs t at offset r.0 r.1
 
 pub keeps-star :
-    (s : Slash) (cs : List Ch) (t : List ℕ) (at place : ℕ) (retry : Option (ℕ × ℕ)) → Keeps s cs t at place retry →
-    IsStarred cs at → Retries s cs t (at + 1) place (at + 1) place
-keeps-star s cs t at place None k i = record {
+    (s : Slash) (cs : List Ch) (t : List ℕ) (at offset : ℕ) (retry : Option (ℕ × ℕ)) → Keeps s cs t at offset retry →
+    IsStarred cs at → Retries s cs t (at + 1) offset (at + 1) offset
+keeps-star s cs t at offset None k i = record {
   start_within = omega arith;
-  same = k ∙ ap (λ p. fits p (drop place t) s) i.parts_are ∙ fits-star s (parts (drop (at + 1) cs)) (drop place t);
-  reached = reached-start s (parts (drop (at + 1) cs)) (drop place t);
+  same = k ∙ ap (λ p. fits p (drop offset t) s) i.parts_are ∙ fits-star s (parts (drop (at + 1) cs)) (drop offset t);
+  reached = reached-start s (parts (drop (at + 1) cs)) (drop offset t);
 }
-keeps-star s cs t at place (Some r) k i = record {
+keeps-star s cs t at offset (Some r) k i = record {
   start_within = omega arith;
   same =
       k.same
-      ∙ ap (λ p. fits p (drop place t) s || later s (parts (drop r.0 cs)) (drop r.1 t)) i.parts_are
-      ∙ fits-star-again s (parts (drop r.0 cs)) (drop r.1 t) (parts (drop (at + 1) cs)) (drop place t)
-      (let P : List Part → Type 0 = λ p. Reached s (parts (drop r.0 cs)) (drop r.1 t) p (drop place t) in subst P i.parts_are k.reached);
-  reached = reached-start s (parts (drop (at + 1) cs)) (drop place t);
+      ∙ ap (λ p. fits p (drop offset t) s || later s (parts (drop r.0 cs)) (drop r.1 t)) i.parts_are
+      ∙ fits-star-again s (parts (drop r.0 cs)) (drop r.1 t) (parts (drop (at + 1) cs)) (drop offset t)
+      (let P : List Part → Type 0 = λ p. Reached s (parts (drop r.0 cs)) (drop r.1 t) p (drop offset t) in subst P i.parts_are k.reached);
+  reached = reached-start s (parts (drop (at + 1) cs)) (drop offset t);
 }
 
 fits-taken :
-    (s : Slash) (cs : List Ch) (t : List ℕ) (at place more : ℕ) → TakesPart s cs t at place more →
-    fits (parts (drop at cs)) (drop place t) s ≡ fits (parts (drop (at + 1 + more) cs)) (drop (place + 1) t) s
-fits-taken s cs t at place more k =
-    ap (λ p. fits p (drop place t) s) k.parts_are
+    (s : Slash) (cs : List Ch) (t : List ℕ) (at offset more : ℕ) → TakesPart s cs t at offset more →
+    fits (parts (drop at cs)) (drop offset t) s ≡ fits (parts (drop (at + 1 + more) cs)) (drop (offset + 1) t) s
+fits-taken s cs t at offset more k =
+    ap (λ p. fits p (drop offset t) s) k.parts_are
     ∙ ap (λ x. fits (One k.set ∷ parts (drop (at + 1 + more) cs)) x s) k.text_is
-    ∙ fits-one s k.set (parts (drop (at + 1 + more) cs)) k.byte (drop (place + 1) t)
+    ∙ fits-one s k.set (parts (drop (at + 1 + more) cs)) k.byte (drop (offset + 1) t)
     ∙ and-then (set_holds s k.set k.byte) _ k.held
 
 pub keeps-taken :
-    (s : Slash) (cs : List Ch) (t : List ℕ) (at place more : ℕ) (retry : Option (ℕ × ℕ)) → Keeps s cs t at place retry →
-    TakesPart s cs t at place more → Keeps s cs t (at + 1 + more) (place + 1) retry
-keeps-taken s cs t at place more None k i = k ∙ fits-taken s cs t at place more i
-keeps-taken s cs t at place more (Some r) k i = record {
+    (s : Slash) (cs : List Ch) (t : List ℕ) (at offset more : ℕ) (retry : Option (ℕ × ℕ)) → Keeps s cs t at offset retry →
+    TakesPart s cs t at offset more → Keeps s cs t (at + 1 + more) (offset + 1) retry
+keeps-taken s cs t at offset more None k i = k ∙ fits-taken s cs t at offset more i
+keeps-taken s cs t at offset more (Some r) k i = record {
   start_within = omega (arith, k.start_within);
-  same = k.same ∙ ap (λ b. b || later s (parts (drop r.0 cs)) (drop r.1 t)) (fits-taken s cs t at place more i);
+  same = k.same ∙ ap (λ b. b || later s (parts (drop r.0 cs)) (drop r.1 t)) (fits-taken s cs t at offset more i);
   reached =
-      let P : List Part → Type 0 = λ p. Reached s (parts (drop r.0 cs)) (drop r.1 t) p (drop place t) in
+      let P : List Part → Type 0 = λ p. Reached s (parts (drop r.0 cs)) (drop r.1 t) p (drop offset t) in
       let Q : List ℕ → Type 0 = λ x. Reached s (parts (drop r.0 cs)) (drop r.1 t) (One i.set ∷ parts (drop (at + 1 + more) cs)) x in
-      reached-one s (parts (drop r.0 cs)) (drop r.1 t) i.set (parts (drop (at + 1 + more) cs)) i.byte (drop (place + 1) t)
+      reached-one s (parts (drop r.0 cs)) (drop r.1 t) i.set (parts (drop (at + 1 + more) cs)) i.byte (drop (offset + 1) t)
       (subst Q i.text_is (subst P i.parts_are k.reached)) i.held;
 }
 
 pub keeps-back :
-    (s : Slash) (cs : List Ch) (t : List ℕ) (at place start from : ℕ) → Retries s cs t at place start from →
-    fits (parts (drop at cs)) (drop place t) s ≡ false → is_free_byte s (slice_get t from) ≡ true →
+    (s : Slash) (cs : List Ch) (t : List ℕ) (at offset start from : ℕ) → Retries s cs t at offset start from →
+    fits (parts (drop at cs)) (drop offset t) s ≡ false → is_free_byte s (slice_get t from) ≡ true →
     Retries s cs t start (from + 1) start (from + 1)
-keeps-back s cs t at place start from k e f = go (slice_get t from) refl
+keeps-back s cs t at offset start from k e f = go (slice_get t from) refl
   where
     go : (o : Option ℕ) → slice_get t from ≡ o → Retries s cs t start (from + 1) start (from + 1)
     go None g = absurd (let no : is_free_byte s (slice_get t from) ≡ false = ap (is_free_byte s) g in let h : true ≡ false = sym f ∙ no in cc)
@@ -207,9 +207,9 @@ keeps-back s cs t at place start from k e f = go (slice_get t from) refl
     }
 
 pub ends-stuck :
-    (s : Slash) (cs : List Ch) (t : List ℕ) (at place start from : ℕ) → Retries s cs t at place start from →
-    fits (parts (drop at cs)) (drop place t) s ≡ false → is_free_byte s (slice_get t from) ≡ false → fits (parts cs) t s ≡ false
-ends-stuck s cs t at place start from k e f = go (slice_get t from) refl
+    (s : Slash) (cs : List Ch) (t : List ℕ) (at offset start from : ℕ) → Retries s cs t at offset start from →
+    fits (parts (drop at cs)) (drop offset t) s ≡ false → is_free_byte s (slice_get t from) ≡ false → fits (parts cs) t s ≡ false
+ends-stuck s cs t at offset start from k e f = go (slice_get t from) refl
   where
     go : (o : Option ℕ) → slice_get t from ≡ o → fits (parts cs) t s ≡ false
     go None g = k.same ∙ ap (λ x. x || later s (parts (drop start cs)) (drop from t)) e ∙ ap (later s (parts (drop start cs))) (drop-none from t g)
@@ -218,10 +218,10 @@ ends-stuck s cs t at place start from k e f = go (slice_get t from) refl
         ∙ later-not_free s (parts (drop start cs)) b (drop (from + 1) t) (ap (is_free_byte s) (sym g) ∙ f)
 
 pub ends-finished :
-    (s : Slash) (cs : List Ch) (t : List ℕ) (at place : ℕ) (retry : Option (ℕ × ℕ)) → Keeps s cs t at place retry →
-    fits (parts (drop at cs)) (drop place t) s ≡ true → fits (parts cs) t s ≡ true
-ends-finished s cs t at place None k e = k ∙ e
-ends-finished s cs t at place (Some r) k e = k.same ∙ ap (λ x. x || later s (parts (drop r.0 cs)) (drop r.1 t)) e
+    (s : Slash) (cs : List Ch) (t : List ℕ) (at offset : ℕ) (retry : Option (ℕ × ℕ)) → Keeps s cs t at offset retry →
+    fits (parts (drop at cs)) (drop offset t) s ≡ true → fits (parts cs) t s ≡ true
+ends-finished s cs t at offset None k e = k ∙ e
+ends-finished s cs t at offset (Some r) k e = k.same ∙ ap (λ x. x || later s (parts (drop r.0 cs)) (drop r.1 t)) e
 
 -- ---- Characters before the first special one
 
@@ -274,7 +274,7 @@ abbrev pub rest : ℕ → Option (ℕ × ℕ) → ℕ
 rest m None = m
 rest m (Some r) = m - r.1
 
--- by the last star's place, then by what it has taken, then by the characters that are left
+-- by the last star's offset, then by what it has taken, then by the characters that are left
 unfoldable pub work : ℕ → ℕ → ℕ → Option (ℕ × ℕ) → ℕ
 work n m at retry = (rank n retry * (m + 1) + rest m retry) * (n + 1) + (n - at)
 
@@ -282,19 +282,19 @@ falls-product : (a b m x y : ℕ) → a + 1 ≤ b → x < m → a * m + x < b * 
 falls-product a b m x y e f = let h : (a + 1) * m ≤ b * m = mul-le-mul_right m e in omega (arith, h)
 
 pub work-star :
-    (s : Slash) (cs : List Ch) (t : List ℕ) (at place : ℕ) (retry : Option (ℕ × ℕ)) → Keeps s cs t at place retry → at < length cs →
-    work (length cs) (length t) (at + 1) (Some (at + 1, place)) < work (length cs) (length t) at retry
+    (s : Slash) (cs : List Ch) (t : List ℕ) (at offset : ℕ) (retry : Option (ℕ × ℕ)) → Keeps s cs t at offset retry → at < length cs →
+    work (length cs) (length t) (at + 1) (Some (at + 1, offset)) < work (length cs) (length t) at retry
 unfolding work
-work-star s cs t at place None k h =
+work-star s cs t at offset None k h =
     let n = length cs in let m = length t in
-    let inner : (n - (at + 1)) * (m + 1) + (m - place) < (n + 1) * (m + 1) + m = falls-product (n - (at + 1)) (n + 1) (m + 1) (m - place) m (omega arith) (omega arith) in
-    falls-product ((n - (at + 1)) * (m + 1) + (m - place)) ((n + 1) * (m + 1) + m) (n + 1) (n - (at + 1)) (n - at) (omega (arith, inner)) (omega arith)
-work-star s cs t at place (Some r) k h =
+    let inner : (n - (at + 1)) * (m + 1) + (m - offset) < (n + 1) * (m + 1) + m = falls-product (n - (at + 1)) (n + 1) (m + 1) (m - offset) m (omega arith) (omega arith) in
+    falls-product ((n - (at + 1)) * (m + 1) + (m - offset)) ((n + 1) * (m + 1) + m) (n + 1) (n - (at + 1)) (n - at) (omega (arith, inner)) (omega arith)
+work-star s cs t at offset (Some r) k h =
     let n = length cs in let m = length t in
     let before = k.start_within in
-    let inner : (n - (at + 1)) * (m + 1) + (m - place) < (n - r.0) * (m + 1) + (m - r.1) =
-    falls-product (n - (at + 1)) (n - r.0) (m + 1) (m - place) (m - r.1) (omega (arith, before, h)) (omega arith) in
-    falls-product ((n - (at + 1)) * (m + 1) + (m - place)) ((n - r.0) * (m + 1) + (m - r.1)) (n + 1) (n - (at + 1)) (n - at) (omega (arith, inner)) (omega arith)
+    let inner : (n - (at + 1)) * (m + 1) + (m - offset) < (n - r.0) * (m + 1) + (m - r.1) =
+    falls-product (n - (at + 1)) (n - r.0) (m + 1) (m - offset) (m - r.1) (omega (arith, before, h)) (omega arith) in
+    falls-product ((n - (at + 1)) * (m + 1) + (m - offset)) ((n - r.0) * (m + 1) + (m - r.1)) (n + 1) (n - (at + 1)) (n - at) (omega (arith, inner)) (omega arith)
 
 pub work-taken : (n m at more : ℕ) (retry : Option (ℕ × ℕ)) → at + more < n → work n m (at + 1 + more) retry < work n m at retry
 unfolding work

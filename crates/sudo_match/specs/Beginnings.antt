@@ -16,13 +16,13 @@ is_special c = is_plain 42 c || (is_plain 63 c || is_plain 91 c)
 abbrev pub has_special : List ℕ → Bool
 has_special text = list_any (λ b. b == 42 || (b == 63 || b == 91)) text
 
--- the first character that differs from the byte at its place is not special
+-- the first character that differs from the byte at its index is not special
 unfoldable pub begins_otherwise : List Ch → List ℕ → Bool
 begins_otherwise [] t = false
 begins_otherwise (c ∷ cs) [] = false
 begins_otherwise (c ∷ cs) (b ∷ t) = if b == c.byte then begins_otherwise cs t else not (is_special c)
 
--- without regard to case, a character differs from the byte at its place before any special character and any dot
+-- without regard to case, a character differs from the byte at its index before any special character and any dot
 unfoldable pub is_named_otherwise : List Ch → List ℕ → Bool
 is_named_otherwise [] name = false
 is_named_otherwise (c ∷ cs) [] = false

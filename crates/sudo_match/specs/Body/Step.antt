@@ -8,14 +8,14 @@ use Rattle.sudo_match.specs.declared.patterns.Step.TheVariants.{Starred, Taken, 
 use Rattle.sudo_match.specs.Pattern.{ByteSet, One, Star, set_holds, parts, fits}
 
 -- a set of the pattern holds a byte of the text
-pub record TakesPart (s : Slash) (cs : List Ch) (t : List ℕ) (at place more : ℕ) : Type 0 where
+pub record TakesPart (s : Slash) (cs : List Ch) (t : List ℕ) (at offset more : ℕ) : Type 0 where
   pub set : ByteSet
   pub byte : ℕ
   pub parts_are : parts (drop at cs) ≡ One set ∷ parts (drop (at + 1 + more) cs)
-  pub text_is : drop place t ≡ byte ∷ drop (place + 1) t
+  pub text_is : drop offset t ≡ byte ∷ drop (offset + 1) t
   pub held : set_holds s set byte ≡ true
   pub at_within : at + more < length cs
-  pub place_within : place < length t
+  pub offset_within : offset < length t
 
 -- the pattern continues with a star
 pub record IsStarred (cs : List Ch) (at : ℕ) : Type 0 where
@@ -23,7 +23,7 @@ pub record IsStarred (cs : List Ch) (at : ℕ) : Type 0 where
   pub within : at < length cs
 
 abbrev pub StepIs : Slash → List Ch → List ℕ → ℕ → ℕ → Step → Type 0
-StepIs s cs t at place Starred = IsStarred cs at
-StepIs s cs t at place (Taken more) = TakesPart s cs t at place more
-StepIs s cs t at place Finished = fits (parts (drop at cs)) (drop place t) s ≡ true
-StepIs s cs t at place Stuck = fits (parts (drop at cs)) (drop place t) s ≡ false
+StepIs s cs t at offset Starred = IsStarred cs at
+StepIs s cs t at offset (Taken more) = TakesPart s cs t at offset more
+StepIs s cs t at offset Finished = fits (parts (drop at cs)) (drop offset t) s ≡ true
+StepIs s cs t at offset Stuck = fits (parts (drop at cs)) (drop offset t) s ≡ false

@@ -13,7 +13,7 @@ use Rattle.sudo_match.proofs.GroupLemmas.{GroupsRead, group-clash, groups-more, 
 use Rattle.sudo_match.proofs.PositionLemmas.{position-past, groups-past}
 use Rattle.sudo_match.proofs.indexing.group_names.Goals as goal
 
--- what the test of a group finds, from the places by name and by ID
+-- what the test of a group finds, from the indices by name and by ID
 found : List Group → Group → Option ℕ → Option ℕ → Bool
 found gs x p q = differs (λ g. g.gid == x.gid) (option_and_then (slice_get gs) p) || differs (λ g. bytes_eq g.name x.name) (option_and_then (slice_get gs) q)
 
