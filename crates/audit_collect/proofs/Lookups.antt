@@ -151,12 +151,6 @@ module _ (es fs : List (ℕ × Answer)) (n : ℕ) (gone : (q : ℕ) → waiting_
       let other : nat_eq n q ≡ false = grind (arith, nat_tests) in
       gone q ∙ ap (λ b. cond b None (waiting_at es q)) other
 
--- the answer with the next number goes to the end of the list
-pub answer_at-pushed : (xs : List Answer) (es : List (ℕ × Answer)) (a : Answer) (q : ℕ) → answer_at (xs ++ a ∷ []) es q ≡ cond (nat_eq q (length xs + 1)) (Some a) (answer_at xs es q)
-answer_at-pushed xs es a q =
-    ap (λ o. option_or o (waiting_at es q)) (released_at-push xs a q)
-    ∙ elim (nat_eq q (length xs + 1)) as (λ b. option_or (cond b (Some a) (released_at xs q)) (waiting_at es q) ≡ cond b (Some a) (answer_at xs es q)) [ true ↦ refl | false ↦ refl ]
-
 -- an answer with a later number goes to the entries
 pub answer_at-waits : (xs : List Answer) (es fs : List (ℕ × Answer)) (n : ℕ) (a : Answer) → length xs < n
     → ((q : ℕ) → waiting_at fs q ≡ cond (nat_eq n q) (Some a) (waiting_at es q)) → (q : ℕ) → answer_at xs fs q ≡ cond (nat_eq q n) (Some a) (answer_at xs es q)

@@ -88,8 +88,3 @@ a_text policy directory sources readable_bytes workers before after report text 
   text_is = is;
   status_is = refl;
 }
-
-pub low_status : (given : Given) (text : List ℕ) (status : ℕ) → IsAudited given text status → status ≤ 4
-low_status given text status audited =
-    let zero = audited.status_is in
-    omega (arith, zero)

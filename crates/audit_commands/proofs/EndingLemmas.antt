@@ -2,7 +2,7 @@
 use Rattle.std.proofs.Common.{◌≡◌, ◌<◌, ◌≤◌, ◌⊎◌, ℕ, List, length, take, Option, Result, Ok, Err, inl, inr, refl, sym, subst, ◌∙◌, arith}
 use Rattle.std.specs.Prelude.{IfErr, IfOk}
 use Rattle.audit_commands.specs.Body.Ended.{IsFault, IsPrinted}
-use Rattle.audit_commands.specs.Endings.{Written, Ends, HasWritten, HasWrittenNothing, IsFaultPrinted, IsWell, FailsToWrite, Prints, EndsInFault, PrintsLine}
+use Rattle.audit_commands.specs.Endings.{WriterStates, Ends, HasWritten, HasWrittenNothing, IsFaultPrinted, IsWell, FailsToWrite, Prints, EndsInFault, PrintsLine}
 use Rattle.audit_commands.specs.FaultLines.{fault_text, error_line, printed_of}
 use Rattle.audit_commands.specs.Faults.{status_of}
 use Rattle.audit_commands.specs.declared.fault.Fault.{Fault}
@@ -10,29 +10,29 @@ use Rattle.audit_commands.specs.declared.fault.Fault.TheVariants as faults
 use Rattle.audit_commands.specs.declared.printed.RunOutput.{RunOutput}
 use Rattle.audit_commands.proofs.Statuses.{status_low, status_most}
 
-pub says_same : (own own' status : ℕ) (line line' : List ℕ) (err : Written) → own ≡ own' → line ≡ line' → PrintsLine own line status err → PrintsLine own' line' status err
+pub says_same : (own own' status : ℕ) (line line' : List ℕ) (err : WriterStates) → own ≡ own' → line ≡ line' → PrintsLine own line status err → PrintsLine own' line' status err
 says_same own own' status line line' err e f h = (h.0 ∙ e, λ well. subst (HasWritten err) f (h.1 well))
 
-pub whole_ends : (ended : Result RunOutput Fault) (printed : RunOutput) (bytes : List ℕ) (out err : Written) → ended ≡ Ok printed → bytes ≡ printed.text.items
+pub whole_ends : (ended : Result RunOutput Fault) (printed : RunOutput) (bytes : List ℕ) (out err : WriterStates) → ended ≡ Ok printed → bytes ≡ printed.text.items
     → IsWell out → HasWritten out bytes → HasWrittenNothing err → Ends (IsPrinted ended) (IsFault ended) printed.status out err
 whole_ends ended printed bytes out err is same well got quiet = inl (
     record { text = bytes; good = (printed, is, same, refl); well = well; got = got; quiet = quiet }
     )
 
-pub refused_ends : (ended : Result RunOutput Fault) (fault : Fault) (status : ℕ) (out err : Written) → ended ≡ Err fault → IsWell out → HasWrittenNothing out
+pub refused_ends : (ended : Result RunOutput Fault) (fault : Fault) (status : ℕ) (out err : WriterStates) → ended ≡ Err fault → IsWell out → HasWrittenNothing out
     → IsFaultPrinted fault status err → Ends (IsPrinted ended) (IsFault ended) status out err
 refused_ends ended fault status out err is well nothing printed_fault = inr (inl (
     record { fault = fault; bad = is; well = well; nothing = nothing; printed_fault = printed_fault }
     ))
 
-pub lost_ends : (ended : Result RunOutput Fault) (printed : RunOutput) (bytes : List ℕ) (count status : ℕ) (out err : Written) → ended ≡ Ok printed → bytes ≡ printed.text.items
+pub lost_ends : (ended : Result RunOutput Fault) (printed : RunOutput) (bytes : List ℕ) (count status : ℕ) (out err : WriterStates) → ended ≡ Ok printed → bytes ≡ printed.text.items
     → count < length bytes → HasWritten out (take count bytes) → (IsWell out → ⊥) → IsFaultPrinted (faults.Write count) status err → Ends (IsPrinted ended) (IsFault ended) status out err
 lost_ends ended printed bytes count status out err is same part got failed printed_fault = inr (inr (
     record { text = bytes; meant = printed.status; good = (printed, is, same, refl); count = count; part = part; got = got; failed = failed; printed_fault = printed_fault }
     ))
 
 -- How a run ends, by what its text and its fault are.
-pub run_ends : (Good : List ℕ → ℕ → Type 0) (Bad : Fault → Type 0) (ended : Result RunOutput Fault) (status : ℕ) (out err : Written)
+pub run_ends : (Good : List ℕ → ℕ → Type 0) (Bad : Fault → Type 0) (ended : Result RunOutput Fault) (status : ℕ) (out err : WriterStates)
     → IfOk ended (λ p. Good p.text.items p.status) → IfErr ended Bad → Ends (IsPrinted ended) (IsFault ended) status out err → Ends Good Bad status out err
 run_ends Good Bad ended status out err good bad ends = elim ends [
   | inl prints ↦ inl (record { text = prints.text; good = good_of prints.text status prints.good; well = prints.well; got = prints.got; quiet = prints.quiet })
@@ -59,14 +59,14 @@ run_ends Good Bad ended status out err good bad ends = elim ends [
     bad_of : (fault : Fault) → IsFault ended fault → Bad fault
     bad_of fault is = subst (λ r. IfErr r Bad) is bad
 
-not_told : (fault : Fault) (status : ℕ) (err : Written) → IsFaultPrinted fault status err → status ≡ 0 → ⊥
+not_told : (fault : Fault) (status : ℕ) (err : WriterStates) → IsFaultPrinted fault status err → status ≡ 0 → ⊥
 not_told fault status err printed_fault zero = elim printed_fault [
   | inl own ↦ status_low fault (sym own.0 ∙ zero)
   | inr memory ↦ absurd (omega (arith, memory.0, zero))
 ]
 
 -- A run that ends with status 0 has printed its text.
-pub zero_prints : (Good : List ℕ → ℕ → Type 0) (Bad : Fault → Type 0) (status : ℕ) (out err : Written) → Ends Good Bad status out err → status ≡ 0 → Prints Good status out err
+pub zero_prints : (Good : List ℕ → ℕ → Type 0) (Bad : Fault → Type 0) (status : ℕ) (out err : WriterStates) → Ends Good Bad status out err → status ≡ 0 → Prints Good status out err
 zero_prints Good Bad status out err ends zero = elim ends [
   | inl prints ↦ prints
   | inr rest ↦ elim rest [
@@ -75,14 +75,14 @@ zero_prints Good Bad status out err ends zero = elim ends [
   ]
 ]
 
-told_most : (fault : Fault) (status : ℕ) (err : Written) → IsFaultPrinted fault status err → status ≤ 4
+told_most : (fault : Fault) (status : ℕ) (err : WriterStates) → IsFaultPrinted fault status err → status ≤ 4
 told_most fault status err printed_fault = elim printed_fault [
   | inl own ↦ (let most = status_most fault in omega (arith, own.0, most))
   | inr memory ↦ omega (arith, memory.0)
 ]
 
 -- Where what may be printed has a status of at most 4, so has the run.
-pub ends_most : (Good : List ℕ → ℕ → Type 0) (Bad : Fault → Type 0) (status : ℕ) (out err : Written) → ((text : List ℕ) (own : ℕ) → Good text own → own ≤ 4)
+pub ends_most : (Good : List ℕ → ℕ → Type 0) (Bad : Fault → Type 0) (status : ℕ) (out err : WriterStates) → ((text : List ℕ) (own : ℕ) → Good text own → own ≤ 4)
     → Ends Good Bad status out err → status ≤ 4
 ends_most Good Bad status out err most ends = elim ends [
   | inl prints ↦ most prints.text status prints.good

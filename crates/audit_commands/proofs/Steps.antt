@@ -4,7 +4,7 @@ use Rattle.std.specs.Prelude.{if◌then◌else◌, IfErr}
 use Rattle.sudo_policy.specs.Found.{has_error}
 use Rattle.sudo_grammar.specs.declared.kind.Kind.{Kind}
 use Rattle.sudo_grammar.specs.declared.policy.Policy.{Policy}
-use Rattle.audit_commands.specs.Endings.{Prints, Written}
+use Rattle.audit_commands.specs.Endings.{Prints, WriterStates}
 use Rattle.audit_commands.specs.Examining.{IsExamined}
 use Rattle.audit_commands.specs.Expanding.{IsExpanded, IsNotExpanded, IsNotExpandedOf}
 use Rattle.audit_commands.specs.Holding.{HoldsFile, Holdings}
@@ -18,7 +18,7 @@ none_of true status s e =
     absurd (omega (arith, one, e))
 none_of false status s e = refl
 
-pub fine_of : (held : Option Holdings) (path : List ℕ) (status : ℕ) (out err : Written) → Prints (IsExamined held path) status out err → status ≡ 0 → PassesCheck held path
+pub fine_of : (held : Option Holdings) (path : List ℕ) (status : ℕ) (out err : WriterStates) → Prints (IsExamined held path) status out err → status ≡ 0 → PassesCheck held path
 fine_of held path status out err prints e =
     let x = prints.good in
     (x.policy, record { loaded = x.loaded; passes = record { found = x.found; are = x.are; none = none_of (has_error x.found) status x.status_is e } })
@@ -38,26 +38,6 @@ pub expanded_most : (held : Option Holdings) (path : List ℕ) (kind : Kind) (na
 expanded_most held path kind name text status x =
     let zero = x.0 in
     omega (arith, zero)
-
--- The main file cannot be read.
-pub main_unread : (held : Option Holdings) (path : List ℕ) (fault : Fault) → IsUnreadPath held path path → (fault ≡ faults.Memory) ⊎ (fault ≡ faults.CannotRead path) → IsNoPolicy held path fault
-main_unread held path fault unread is = elim is [
-  | inl memory ↦ subst (IsNoPolicy held path) (sym memory) tt
-  | inr named ↦ subst (IsNoPolicy held path) (sym named) unread
-]
-
-pub no_policy : (held : Option Holdings) (path : List ℕ) (fault : Fault) → IsNoPolicy held path fault → IsNotChecked held path fault
-no_policy held path (faults.Refused files fault) h = h
-no_policy held path (faults.CannotRead unread) h = h
-no_policy held path faults.Memory h = tt
-no_policy held path (faults.Errors lines) h = absurd h
-no_policy held path (faults.NoSuchAlias name) h = absurd h
-no_policy held path (faults.BadSender word) h = absurd h
-no_policy held path (faults.Users fault) h = absurd h
-no_policy held path (faults.Hosts fault) h = absurd h
-no_policy held path (faults.Directory fault) h = absurd h
-no_policy held path (faults.Audit names fault) h = absurd h
-no_policy held path (faults.Write written) h = absurd h
 
 pub not_passed : (held : Option Holdings) (path : List ℕ) (policy : Policy) (fault : Fault) → IsLoaded held path policy → IsNotCheckedOf policy fault → IsNotChecked held path fault
 not_passed held path policy (faults.Errors lines) loaded h = (policy, loaded, h)

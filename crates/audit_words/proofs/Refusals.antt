@@ -15,11 +15,6 @@ expand_is_check e = absurd cc
 expand_is_audit : codes "expand" ≡ codes "audit" → ⊥
 expand_is_audit e = absurd cc
 
-pub no_kind : (name : Text) (rows : List Row) (word : Text) → name ≡ codes "expand" → first_of (codes "kind") rows ≡ Some word → ((k : Kind) → word ≢ kind_word k) → AsksNothing (name, rows)
-no_kind name rows word is given none (Check file) stated = absurd (expand_is_check (sym is ∙ stated.0))
-no_kind name rows word is given none (Expand file kind alias) stated = none kind (some_is word (kind_word kind) (sym given ∙ stated.2))
-no_kind name rows word is given none (Audit file users hosts workers senders) stated = absurd (expand_is_audit (sym is ∙ stated.0))
-
 pub no_name : (name : Text) (rows : List Row) → name ≢ codes "check" → name ≢ codes "expand" → name ≢ codes "audit" → AsksNothing (name, rows)
 no_name name rows check expand audit (Check file) stated = check stated.0
 no_name name rows check expand audit (Expand file kind alias) stated = expand stated.0

@@ -29,9 +29,6 @@ Each P (x ∷ xs) = P x × Each P xs
 true_false : true ≡ false → ⊥
 true_false e = absurd cc
 
-less_test : (o : Ordering) → o ≡ Less → is_lt o ≡ true
-less_test o e = ap is_lt e
-
 not_less_trans : (c b a : List ℕ) → NotLess c b → NotLess b a → NotLess c a
 not_less_trans c b a cb ba = go (order c a) refl
   where

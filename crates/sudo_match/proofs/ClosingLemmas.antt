@@ -63,9 +63,6 @@ open-plain cs n e f =
 
 -- ---- Three indices
 
-pub knows-nothing : (cs : List Ch) (at : ℕ) → Knows cs (record { at = at; first = false; second = false; third = false })
-knows-nothing cs at = record { first = λ e. cc; second = λ e. cc; third = λ e. cc }
-
 same-index : (cs : List Ch) (m n : ℕ) → m ≡ n → NeverCloses cs m → NeverCloses cs n
 same-index cs m n e = subst (NeverCloses cs) e
 

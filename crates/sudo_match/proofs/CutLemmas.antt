@@ -5,7 +5,7 @@ use Rattle.std.proofs.lemmas.Bool.{eqb-true, not-true}
 use Rattle.sudo_text.specs.declared.token.Ch.{Ch}
 use Rattle.sudo_match.specs.Class.{Class, class_name}
 use Rattle.sudo_match.specs.Pattern.{is_plain, has, begins, class_form, class_at, class_or, range_at, item_at, item_of, Item, InClass, Range, Single, items_after, ByteSet, Bracket, Only, AnyByte, Part, One, Star, bracket_after, bracket_or, part_at, parts, parts_after}
-use Rattle.sudo_match.specs.Written.{goes_to, IsRange, WritesItem, WritesItems, WritesBracket}
+use Rattle.sudo_match.specs.Brackets.{goes_to, IsRange, WritesItem, WritesItems, WritesBracket}
 use Rattle.sudo_match.proofs.CharsLemmas.{range_at-some}
 use Rattle.sudo_match.proofs.ItemLemmas.{length-class_form, class_at-within, items_after-cons, items_after-empty, items_after-next}
 use Rattle.sudo_match.proofs.PartLemmas.{bracket-complement, bracket-plain, part-star, part-any, part-bracket, part-byte, parts-cons, parts_after-skip}
@@ -246,7 +246,7 @@ written-item c cs = go (class_at (c ∷ cs)) refl
         (ap class_at (take-drop (0 + 1 + (length (class_name k) + 3)) (c ∷ cs)) ∙ e, omega (arith, long, l))
 
 -- the characters of items, the `]` after them, and the rest
-record Written (is_first : Bool) (items : List Item) (cs : List Ch) : Type 0 where
+record WrittenItems (is_first : Bool) (items : List Item) (cs : List Ch) : Type 0 where
   body : List Ch
   close : Ch
   rest : List Ch
@@ -257,10 +257,10 @@ record Written (is_first : Bool) (items : List Item) (cs : List Ch) : Type 0 whe
 some-same : {A : Type 0} (x y : A) → Some x ≡ Some y → x ≡ y
 some-same x y e = cc
 
-written-close : (is_first : Bool) (c : Ch) (cs : List Ch) (items : List Item) (n : ℕ) → (not is_first && is_plain 93 c) ≡ true → ◌≡◌ {A = Option (List Item × ℕ)} (Some ([], 1)) (Some (items, n)) → Written is_first items (c ∷ cs)
+written-close : (is_first : Bool) (c : Ch) (cs : List Ch) (items : List Item) (n : ℕ) → (not is_first && is_plain 93 c) ≡ true → ◌≡◌ {A = Option (List Item × ℕ)} (Some ([], 1)) (Some (items, n)) → WrittenItems is_first items (c ∷ cs)
 written-close is_first c cs items n test e =
     let none : [] ≡ items = ap (λ (r : List Item × ℕ). r.0) (some-same {A = List Item × ℕ} ([], 1) (items, n) e) in
-    let P : List Item → Type 0 = λ is. Written is_first is (c ∷ cs) in
+    let P : List Item → Type 0 = λ is. WrittenItems is_first is (c ∷ cs) in
     subst P none (record {
       body = [];
       close = c;
@@ -272,7 +272,7 @@ written-close is_first c cs items n test e =
 
 written-more :
     (is_first : Bool) (c : Ch) (cs : List Ch) (is : List Item) → (not is_first && is_plain 93 c) ≡ false →
-    Written false is (drop (0 + 1 + (item_at c cs).1) (c ∷ cs)) → Written is_first ((item_at c cs).0 ∷ is) (c ∷ cs)
+    WrittenItems false is (drop (0 + 1 + (item_at c cs).1) (c ∷ cs)) → WrittenItems is_first ((item_at c cs).0 ∷ is) (c ∷ cs)
 unfolding Writes
 written-more is_first c cs is test w =
     let v : List Ch = take (0 + 1 + (item_at c cs).1) (c ∷ cs) in
@@ -290,7 +290,7 @@ written-more is_first c cs is test w =
 
 written-items :
     (k : ℕ) (is_first : Bool) (cs : List Ch) (items : List Item) (n : ℕ) → length cs ≤ k → items_after 0 is_first cs ≡ Some (items, n) →
-    Written is_first items cs
+    WrittenItems is_first items cs
 written-items k is_first [] items n h e = absurd (let none = items_after-empty is_first in let no : None ≡ Some (items, n) = sym none ∙ e in cc)
 written-items zero is_first (c ∷ cs) items n h e = absurd (omega (arith, h))
 written-items (suc k) is_first (c ∷ cs) items n h e =
@@ -299,19 +299,19 @@ written-items (suc k) is_first (c ∷ cs) items n h e =
     more :
         (test : (not is_first && is_plain 93 c) ≡ false) (o : Option (List Item × ℕ)) →
         ◌≡◌ {A = Option (List Item × ℕ)} (Some (items, n)) (option_map {U = List Item × ℕ} (λ q. ((item_at c cs).0 ∷ q.0, q.1 + ((item_at c cs).1 + 1))) o) →
-        ((is : List Item) (m : ℕ) → o ≡ Some (is, m) → Written false is (drop (0 + 1 + (item_at c cs).1) (c ∷ cs))) →
-        Written is_first items (c ∷ cs)
+        ((is : List Item) (m : ℕ) → o ≡ Some (is, m) → WrittenItems false is (drop (0 + 1 + (item_at c cs).1) (c ∷ cs))) →
+        WrittenItems is_first items (c ∷ cs)
     more test None f next = cc
     more test (Some q) f next =
         let same : items ≡ (item_at c cs).0 ∷ q.0 =
         ap (λ (r : List Item × ℕ). r.0) (some-same {A = List Item × ℕ} (items, n) ((item_at c cs).0 ∷ q.0, q.1 + ((item_at c cs).1 + 1)) f) in
-        let P : List Item → Type 0 = λ is. Written is_first is (c ∷ cs) in
+        let P : List Item → Type 0 = λ is. WrittenItems is_first is (c ∷ cs) in
         subst P (sym same) (written-more is_first c cs q.0 test (next q.0 q.1 refl))
 
     go :
         (b : Bool) → (not is_first && is_plain 93 c) ≡ b →
-        ((is : List Item) (m : ℕ) → items_after 0 false (drop (0 + 1 + (item_at c cs).1) (c ∷ cs)) ≡ Some (is, m) → Written false is (drop (0 + 1 + (item_at c cs).1) (c ∷ cs))) →
-        Written is_first items (c ∷ cs)
+        ((is : List Item) (m : ℕ) → items_after 0 false (drop (0 + 1 + (item_at c cs).1) (c ∷ cs)) ≡ Some (is, m) → WrittenItems false is (drop (0 + 1 + (item_at c cs).1) (c ∷ cs))) →
+        WrittenItems is_first items (c ∷ cs)
     go true test next =
         written-close is_first c cs items n test
         (sym (items_after-cons is_first c cs
@@ -331,7 +331,7 @@ Unclosed cs = (complement : Bool) (items : List Item) (rest : List Ch) → Write
 no-complement : (c : Ch) (cs : List Ch) → is_plain 33 c ≡ true → Unclosed (c ∷ cs) → (r : List Item × ℕ) → items_after 0 true cs ≡ Some r → ⊥
 unfolding Unclosed
 no-complement c cs bang none r e =
-    let w : Written true r.0 cs = written-items (length cs) true cs r.0 r.1 (omega arith) e in
+    let w : WrittenItems true r.0 cs = written-items (length cs) true cs r.0 r.1 (omega arith) e in
     none true r.0 w.rest (record {
       sign = c ∷ [];
       body = w.body;
@@ -345,7 +345,7 @@ no-complement c cs bang none r e =
 no-plain : (cs : List Ch) → has (is_plain 33) (slice_get cs 0) ≡ false → Unclosed cs → (r : List Item × ℕ) → items_after 0 true cs ≡ Some r → ⊥
 unfolding Unclosed
 no-plain cs no_bang none r e =
-    let w : Written true r.0 cs = written-items (length cs) true cs r.0 r.1 (omega arith) e in
+    let w : WrittenItems true r.0 cs = written-items (length cs) true cs r.0 r.1 (omega arith) e in
     none false r.0 w.rest (record {
       sign = [];
       body = w.body;

@@ -100,10 +100,6 @@ opened-none cs n e =
 abbrev pub found : ℕ → Bool → ℕ → Option (List Item × ℕ) → Option (Bool × ℕ)
 found byte holds taken o = option_map (λ r. (holds || list_any (item_holds byte) r.0, taken + r.1)) o
 
-pub found-start : (byte : ℕ) (o : Option (List Item × ℕ)) → option_map (λ r. (list_any (item_holds byte) r.0, r.1)) o ≡ found byte false 0 o
-found-start byte None = refl
-found-start byte (Some r) = ap (λ n. Some (list_any (item_holds byte) r.0, n)) (sym (zero-add r.1))
-
 or_assoc : (a b c : Bool) → (a || (b || c)) ≡ ((a || b) || c)
 or_assoc true b c = refl
 or_assoc false b c = refl

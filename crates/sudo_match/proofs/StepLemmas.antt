@@ -217,12 +217,6 @@ ends-stuck s cs t at offset start from k e f = go (slice_get t from) refl
         k.same ∙ ap (λ x. x || later s (parts (drop start cs)) (drop from t)) e ∙ ap (later s (parts (drop start cs))) (drop-some from t b g)
         ∙ later-not_free s (parts (drop start cs)) b (drop (from + 1) t) (ap (is_free_byte s) (sym g) ∙ f)
 
-pub ends-finished :
-    (s : Slash) (cs : List Ch) (t : List ℕ) (at offset : ℕ) (retry : Option (ℕ × ℕ)) → Keeps s cs t at offset retry →
-    fits (parts (drop at cs)) (drop offset t) s ≡ true → fits (parts cs) t s ≡ true
-ends-finished s cs t at offset None k e = k ∙ e
-ends-finished s cs t at offset (Some r) k e = k.same ∙ ap (λ x. x || later s (parts (drop r.0 cs)) (drop r.1 t)) e
-
 -- ---- Characters before the first special one
 
 or-none : (a b : Bool) → (a || b) ≡ false → (a ≡ false) × (b ≡ false)

@@ -6,5 +6,5 @@ pub mod Matching
 pub mod Beginnings
 pub mod KnownRows
 pub mod Indexing
-pub mod Written
+pub mod Brackets
 pub mod Body

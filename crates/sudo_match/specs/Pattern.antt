@@ -1,5 +1,5 @@
 -- Patterns, as in glob(7) and sudoers(5), "Wildcards": how characters are cut into parts, and which bytes the parts fit.
--- The numbers beside items and parts count characters; Written.antt says the same by lists of characters, in the laws.
+-- The numbers beside items and parts count characters; Brackets.antt says the same by lists of characters, in the laws.
 --     parts chars             the parts of a pattern's characters
 --     fits parts text slash   some cut of the text fits the parts, one after the other
 use Rattle.std.specs.Prelude.{ℕ, zero, suc, ◌+◌, ◌-◌, slice_get, Bool, true, false, not, ◌&&◌, ◌==◌, if◌then◌else◌, List, [], ◌∷◌, ◌++◌, map, length, Option, Some, None, option_map, find}

@@ -2,7 +2,7 @@
 ghost use Rattle.std.specs.Prelude.{◌≡◌, ◌∷◌, List, Bool, true, false};
 ghost use Rattle.sudo_text.specs.declared.token.Ch.{Ch};
 ghost use Rattle.sudo_match.specs.Pattern.{is_plain, Item, One, Star, Only, AnyByte, Bracket, parts};
-ghost use Rattle.sudo_match.specs.Written.{WritesBracket};
+ghost use Rattle.sudo_match.specs.Brackets.{WritesBracket};
 
 /// `[`, an optional `!`, items, and `]` are one part: the bracket of these items.
 pub fn brackets_are_cut()

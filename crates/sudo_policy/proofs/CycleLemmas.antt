@@ -215,12 +215,3 @@ DecidesCycles-next g node done cyclic round new_cyclic mid inside d round_are c 
     returns : (i j : ℕ) → (i ≡ node) ⊎ Contains round i → Path g j i → Path g j node
     returns i j (inl same) path = subst (Path g j) same path
     returns i j (inr here) path = Path-path g j i node path ((round_are i).0 here).1
-
-pub DecidesCycles-end : (g : Links) (done cyclic : List Bool) → DecidesCycles g done cyclic → ((i : ℕ) → i < length g → IsMarked done i) → MarksOf (length g) (λ i. Path g i i) cyclic
-DecidesCycles-end g done cyclic d all = record {
-  same_length = d.cyclic_length;
-  exact = λ i mark at. (
-    (λ h. d.sound i (at ∙ ap Some h)),
-    (λ path. (let found : IsMarked cyclic i = d.found i (all i (path_inside g i i path)) path in let e : Some mark ≡ Some true = sym at ∙ found in cc)),
-  );
-}

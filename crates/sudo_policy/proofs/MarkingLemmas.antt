@@ -18,11 +18,6 @@ one_in x y h = elim (Contains-push_cases [] x y h) [ inl none ↦ absurd (none_i
 pub is_one : {X : Type 0} (x : X) → Contains (x ∷ []) x
 is_one x = Contains-push [] x
 
-pub in_at : {X : Type 0} (xs : List X) (i : ℕ) (x : X) → slice_get xs i ≡ Some x → Contains xs x
-in_at [] i x h = cc
-in_at (y ∷ xs) zero x h = let same : y ≡ x = cc in subst (λ z. Contains (z ∷ xs) x) (sym same) (Contains-append_left (x ∷ []) xs x (is_one x))
-in_at (y ∷ xs) (suc i) x h = Contains-append_right (y ∷ []) xs x (in_at xs i x h)
-
 -- ---- Marks
 
 pub marked_or_not : (marks : List Bool) (i : ℕ) (m : Bool) → slice_get marks i ≡ Some m → IsMarked marks i ⊎ (m ≡ false)
@@ -44,9 +39,6 @@ MarksRow-same row marks work known = record {
   waits = λ i h. inl h;
   falls = omega arith;
 }
-
-pub MarksRow-none : (marks : List Bool) (work : List ℕ) (link : Option ℕ) → link ≡ None → MarksRow (link ∷ []) marks work marks work
-MarksRow-none marks work link none = MarksRow-same (link ∷ []) marks work (λ i h. (let e : link ≡ Some i = one_in link (Some i) h in cc))
 
 pub MarksRow-old : (marks : List Bool) (work : List ℕ) (link : Option ℕ) (alias : ℕ) → link ≡ Some alias → IsMarked marks alias → MarksRow (link ∷ []) marks work marks work
 MarksRow-old marks work link alias is old = MarksRow-same (link ∷ []) marks work (λ i h. (let e : Some alias ≡ Some i = sym is ∙ one_in link (Some i) h in let same : alias ≡ i = cc in subst (IsMarked marks) same old))
@@ -120,9 +112,6 @@ row_of g node i row at e =
     subst (λ (r : List (Option ℕ)). Contains r (Some i)) is e.has
 
 -- ---- Marks that are set
-
-pub AreSet-none : (mark : Bool) (marks : List Bool) → AreSet mark [] marks marks
-AreSet-none mark marks = record { same_length = refl; those = λ i h. absurd (none_in i h); only = λ i m at. inl at }
 
 pub AreSet-next : (mark : Bool) (aliases : List ℕ) (at : ℕ) (old marks : List Bool) → at < length marks → AreSet mark aliases old marks → AreSet mark (aliases ++ at ∷ []) old (set marks at mark)
 AreSet-next mark aliases at old marks inside s = record {
@@ -254,12 +243,6 @@ ReversesRow-link back from to link old new is at grown =
       ];
     }
 
-pub ReversesRow-same : (back : Links) (from : ℕ) (row : List (Option ℕ)) → ((j : ℕ) → Contains row (Some j) → ⊥) → ReversesRow from row back back
-ReversesRow-same back from row none = record { same_length = refl; kept = λ i j e. e; all = λ j h. absurd (none j h); only = λ i j e. inl e }
-
-pub ReversesRow-none : (back : Links) (from : ℕ) (link : Option ℕ) → link ≡ None → ReversesRow from (link ∷ []) back back
-ReversesRow-none back from link none = ReversesRow-same back from (link ∷ []) (λ j h. (let e : link ≡ Some j = one_in link (Some j) h in cc))
-
 pub ReversesRow-append : (xs ys : List (Option ℕ)) (from : ℕ) (a b c : Links) → ReversesRow from xs a b → ReversesRow from ys b c → ReversesRow from (xs ++ ys) a c
 ReversesRow-append xs ys from a b c f g = record {
   same_length = g.same_length ∙ f.same_length;
@@ -272,14 +255,6 @@ ReversesRow-append xs ys from a b c f g = record {
     | inl old ↦ (elim (f.only i j old) [ inl older ↦ inl older | inr here ↦ inr (here.0, Contains-append_left xs ys (Some j) here.1) ])
     | inr here ↦ inr (here.0, Contains-append_right xs ys (Some j) here.1)
   ];
-}
-
--- no row has a link
-pub ReversesUpTo-none : (g back : Links) → length back ≡ length g → ((j : ℕ) (r : List (Option ℕ)) → slice_get back j ≡ Some r → r ≡ []) → ReversesUpTo g 0 back
-ReversesUpTo-none g back long empty = record {
-  same_length = long;
-  all = λ i j less e. absurd (omega (arith, less));
-  only = λ i j e. absurd (none_in (Some i) (subst (λ (r : List (Option ℕ)). Contains r (Some i)) (empty j e.row e.row_is) e.has));
 }
 
 pub ReversesUpTo-next : (g old new : Links) (at : ℕ) (row : List (Option ℕ)) → slice_get g at ≡ Some row → ReversesUpTo g at old → ReversesRow at row old new → ReversesUpTo g (at + 1) new

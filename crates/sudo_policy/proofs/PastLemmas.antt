@@ -40,12 +40,6 @@ ReachedPast-edge g roots marks i j r e there = record {
   ];
 }
 
-ReachedPast-end : (g : Links) (roots : List (Option ℕ)) (marks : List Bool) (i : ℕ) → ReachedPast g roots marks i → IsUnmarked marks i
-ReachedPast-end g roots marks i r = elim r.way [
-  | inl same ↦ subst (IsUnmarked marks) same r.free
-  | inr path ↦ PathPast-end g marks r.root i path
-]
-
 -- what an alias's row leads to is what the alias leads to
 pub row_path : (g : Links) (marks : List Bool) (node : ℕ) (row : List (Option ℕ)) → slice_get g node ≡ Some row → (i : ℕ) → ReachedPast g row marks i → PathPast g marks node i
 row_path g marks node row at i r =

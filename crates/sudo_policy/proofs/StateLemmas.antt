@@ -75,12 +75,6 @@ new_count-set [] i h = cc
 new_count-set (s ∷ ss) zero h = let e : s ≡ New = cc in rw e (omega arith)
 new_count-set (s ∷ ss) (suc i) h = let k = new_count-set ss i h in omega (arith, k)
 
-MayTurn-refl : (s : State) → (s ≡ Open → ⊥) → MayTurn s s
-MayTurn-refl New h = h
-MayTurn-refl Open h = refl
-MayTurn-refl (Done a) h = refl
-MayTurn-refl Looped h = refl
-
 MayTurn-same : (s : State) → MayTurn s s
 MayTurn-same New = λ e. cc
 MayTurn-same Open = refl
@@ -247,24 +241,11 @@ settled_stays Open t h m = absurd h
 settled_stays (Done a) t h m = subst IsSettled (sym m) tt
 settled_stays Looped t h m = subst IsSettled (sym m) tt
 
-pub settled_other : (s : State) → (s ≡ New → ⊥) → (s ≡ Open → ⊥) → IsSettled s
-settled_other New new open_s = absurd (new refl)
-settled_other Open new open_s = absurd (open_s refl)
-settled_other (Done a) new open_s = tt
-settled_other Looped new open_s = tt
-
 -- the aliases before `at` are visited, and none is open
 pub record VisitedTo (g : Links) (states : List State) (at : ℕ) : Type 0 where
   pub held : StatesHold g states
   pub calm : (i : ℕ) → slice_get states i ≡ Some Open → ⊥
   pub settled : (i : ℕ) (s : State) → i < at → slice_get states i ≡ Some s → IsSettled s
-
-pub VisitedTo-none : (g : Links) (states : List State) → ((i : ℕ) (s : State) → slice_get states i ≡ Some s → s ≡ New) → VisitedTo g states 0
-VisitedTo-none g states new = record {
-  held = λ i s at. subst (λ (x : State). StateHolds g i x) (sym (new i s at)) tt;
-  calm = λ i at. (let e = new i Open at in cc);
-  settled = λ i s less at. absurd (omega arith);
-}
 
 pub VisitedTo-next : (g : Links) (old new : List State) (at : ℕ) → length new ≡ length old → VisitedTo g old at → StatesHold g new → Turned old new → ((s : State) → slice_get new at ≡ Some s → IsSettled s) → VisitedTo g new (at + 1)
 VisitedTo-next g old new at long before held turned here = record {

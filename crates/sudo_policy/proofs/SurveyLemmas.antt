@@ -286,10 +286,6 @@ take_whole (x ∷ xs) (suc i) h = ap (λ ys. x ∷ ys) (take_whole xs i (omega a
 pub placed_push : (p : Policy) (olds news : List DefinitionRef) (n : DefinitionRef) → news ≡ olds ++ n ∷ [] → All (IsAtItsPosition p) olds → IsAtItsPosition p n → All (IsAtItsPosition p) news
 placed_push p olds news n is all here = subst (λ (ns : List DefinitionRef). All (IsAtItsPosition p) ns) (sym is) (All-push (IsAtItsPosition p) olds n all here)
 
--- the definitions of an alias line
-pub stand_at : (p : Policy) (at : ℕ) (e : Entry) (kind : Kind) (ds : List Definition) → slice_get p.entries at ≡ Some e → e.body ≡ Aliases kind ds → StandAt p at ds
-stand_at p at e kind ds is body j = ap (option_and_then (λ (x : Entry). definition_at_body x.body j)) is ∙ ap (λ (b : EntryBody). definition_at_body b j) body
-
 -- one step of a loop that appends what it goes over
 pub push_step : {X Y V : Type 0} (view : Y → V) (of : X → V) (olds news : List Y) (n : Y) (xs : List X) (i : ℕ) (x : X) (whole : List V) → news ≡ olds ++ n ∷ [] → i < length xs → x ≡ get_or xs i x → view n ≡ of x → map view olds ++ map of (drop i xs) ≡ whole → map view news ++ map of (drop (i + 1) xs) ≡ whole
 push_step view of olds news n xs i x whole grown less is same before =
