@@ -1,10 +1,9 @@
 -- Words that ask for no command.
-use Rattle.std.proofs.Common.{◌≡◌, List, Some, codes, sym, ◌∙◌}
+use Rattle.std.proofs.Common.{◌≡◌, List, Some, codes, ◌∙◌}
 use Rattle.std.specs.Prelude.{◌≢◌}
-use Rattle.clap.specs.Words.{Row, Text, first_of}
-use Rattle.sudo_grammar.specs.declared.kind.Kind.{Kind}
+use Rattle.clap.specs.Words.{Row, Text}
 use Rattle.audit_words.specs.declared.request.Asked.TheVariants.{Check, Expand, Audit}
-use Rattle.audit_words.specs.Words.{AsksNothing, kind_word}
+use Rattle.audit_words.specs.Words.{AsksNothing}
 
 some_is : (a b : Text) → Some a ≡ Some b → a ≡ b
 some_is a b e = cc

@@ -3,8 +3,8 @@
 ghost use Rattle.std.specs.Prelude.{ℕ, ◌≡◌, false, ◌+◌, ◌^◌, ◌<◌, ◌≤◌, ◌&&◌, ◌||◌, not, true, length, drop, map, slice_get, option_map, IfSome, None, if◌then◌else◌};
 ghost use Rattle.std.specs.List.{list_any};
 ghost use Rattle.sudo_match.specs.Class as class;
-ghost use Rattle.sudo_match.specs.Class.{class_holds, class_name, lower_text, is_between, is_alpha, is_alnum};
-ghost use Rattle.sudo_match.specs.Pattern.{is_byte, is_plain, has, begins, item_holds, class_form, class_end, range_at, item_of, items_after, bracket_after, part_of, is_free, set_holds, part_holds, parts, path_chars, any_name, fits};
+ghost use Rattle.sudo_match.specs.Class.{class_holds, class_name, is_between, is_alpha, is_alnum};
+ghost use Rattle.sudo_match.specs.Pattern.{is_byte, is_plain, has, begins, item_holds, class_form, class_end, range_at, item_of, items_after, bracket_after, part_of, is_free, set_holds, part_holds, parts, any_name, fits};
 ghost use Rattle.sudo_match.specs.Body.Closing.{Knows};
 
 use crate::unclosed::Unclosed;

@@ -1,5 +1,5 @@
 //! Users, with their groups, and hosts, with their interfaces.
-ghost use Rattle.std.specs.Prelude.{◌≡◌, ◌≤◌, bytes_eq, nat_eq, ◌==◌};
+ghost use Rattle.std.specs.Prelude.{◌≡◌, ◌≤◌, bytes_eq, ◌==◌};
 ghost use Rattle.std.specs.List.{list_any};
 
 use sudo_text::Seq;

@@ -15,14 +15,10 @@ use Rattle.std.proofs.lemmas.List.Elements.{All-push}
 use Rattle.std.specs.Prelude.{All, flat_map}
 use Rattle.std.proofs.lemmas.List.{map_push, drop_more}
 use Rattle.sudo_text.specs.declared.line.Place.{Place}
-use Rattle.sudo_grammar.specs.declared.policy.Definition.{Definition}
-use Rattle.sudo_grammar.specs.declared.policy.Entry.{Entry}
-use Rattle.sudo_grammar.specs.declared.policy.EntryBody.{EntryBody}
-use Rattle.sudo_grammar.specs.declared.policy.EntryBody.TheVariants.{Aliases}
 use Rattle.sudo_policy.specs.declared.survey.DefinitionRef.{DefinitionRef}
-use Rattle.sudo_policy.specs.Body.DefinitionRef.{IsIndexed, IsAtItsPosition, StandAt}
+use Rattle.sudo_policy.specs.Body.DefinitionRef.{IsIndexed, IsAtItsPosition}
 use Rattle.sudo_policy.proofs.StateLemmas.{get_within}
-use Rattle.sudo_policy.specs.Positions.{members_at, definition_at_body}
+use Rattle.sudo_policy.specs.Positions.{members_at}
 use Rattle.sudo_base.specs.NameIndices.{index_of}
 
 -- a definition that comes last

@@ -1,5 +1,5 @@
 //! The findings on a policy's aliases.
-ghost use Rattle.std.specs.Prelude.{◌≡◌, ◌++◌, List, false, map, flat_map, not, option_copied, IfOk, OnOk};
+ghost use Rattle.std.specs.Prelude.{◌≡◌, ◌++◌, false, map, flat_map, not, option_copied, IfOk, OnOk};
 ghost use Rattle.std.specs.List.{items_where_true};
 ghost use Rattle.sudo_grammar.specs.declared.policy.Policy.{Policy};
 ghost use Rattle.sudo_policy.specs.Definitions as policies;

@@ -1,7 +1,7 @@
 //! Aliases written out.
-ghost use Rattle.std.specs.Prelude.{◌≡◌, Bool, Some, None, List, ◌++◌, map, option_copied, OnOk, IfOk, IfErr, IsTrue};
+ghost use Rattle.std.specs.Prelude.{◌≡◌, Some, None, List, ◌++◌, map, OnOk, IfOk, IfErr, IsTrue};
 ghost use Rattle.std.specs.declared.result.Result.TheVariants.{Err};
-ghost use Rattle.sudo_policy.specs.Definitions.{in_force, alias_named};
+ghost use Rattle.sudo_policy.specs.Definitions.{in_force};
 ghost use Rattle.sudo_policy.specs.Resolving.{resolves};
 ghost use Rattle.sudo_policy.specs.Written.{differ, negated_if, written_form, IsWrittenOut};
 

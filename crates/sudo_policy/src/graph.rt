@@ -1,8 +1,8 @@
 //! Aliases as a graph of numbers: the aliases that reach a cycle, and the depth and width of the others.
-ghost use Rattle.std.specs.Prelude.{◌≡◌, ◌<◌, ℕ, IfOk, OnOk, Some, List, Option, length, option_map, slice_get};
+ghost use Rattle.std.specs.Prelude.{◌≡◌, ◌<◌, ℕ, IfOk, OnOk, Some, Option, length, slice_get};
 ghost use Rattle.sudo_policy.specs.declared.graph.State.{State};
 ghost use Rattle.sudo_policy.specs.Following.{option_join};
-ghost use Rattle.sudo_policy.specs.Body.Graph.{Edge, IsClosed, StatesHold, OpenLead, OpenNear, NoneOpen, Turned, IsSettled, measure_of_both, deeper, measure_of_one, measure_of_none, link_measure, done_measure};
+ghost use Rattle.sudo_policy.specs.Body.Graph.{Edge, IsClosed, StatesHold, OpenLead, OpenNear, NoneOpen, Turned, IsSettled, measure_of_both, deeper, link_measure, done_measure};
 
 use std::alloc::{AllocError, Global};
 use sudo_text::Seq;

@@ -1,4 +1,4 @@
-use Rattle.std.proofs.Common.{false, sym, ◌∙◌, ap, arith, get_or}
+use Rattle.std.proofs.Common.{false, ◌∙◌, ap, arith, get_or}
 use Rattle.std.proofs.lemmas.Option.{slice_get-get_or}
 use Rattle.sudo_match.specs.Class.{lower}
 use Rattle.sudo_match.proofs.BeginningLemmas.{named-more, letter}
