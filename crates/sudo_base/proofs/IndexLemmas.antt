@@ -38,9 +38,9 @@ list_any-append p (y ∷ xs) x = ap (λ b. p y || b) (list_any-append p xs x) �
     or_assoc true b c = refl
     or_assoc false b c = refl
 
-pub indexes-none :
+pub indexes_rows-none :
     {A : Type 0} (key : A → List ℕ) (rows : List A) (indices : List ℕ → Option ℕ) → ((name : List ℕ) → indices name ≡ None) → IndexesRows key rows 0 indices
-indexes-none key rows indices e = record {
+indexes_rows-none key rows indices e = record {
   found = λ name. ap (option_and_then (slice_get rows)) (e name);
   known = λ name. ap is_some (e name);
 }
@@ -57,11 +57,11 @@ bytes_eq-swap xs ys = go (bytes_eq xs ys) (bytes_eq ys xs) refl refl
     go true false e f = absurd (let h : bytes_eq ys xs ≡ true = (bytes_eq-Decides ys xs).1 (sym ((bytes_eq-Decides xs ys).0 e)) in cc)
     go false true e f = absurd (let h : bytes_eq xs ys ≡ true = (bytes_eq-Decides xs ys).1 (sym ((bytes_eq-Decides ys xs).0 f)) in cc)
 
-pub indexes-more :
+pub indexes_rows-more :
     {A : Type 0} (key : A → List ℕ) (rows : List A) (n : ℕ) (x : A) (indices more : List ℕ → Option ℕ) → IndexesRows key rows n indices →
     slice_get rows n ≡ Some x → indices (key x) ≡ None →
     ((other : List ℕ) → more other ≡ cond (bytes_eq other (key x)) (Some n) (indices other)) → IndexesRows key rows (n + 1) more
-indexes-more key rows n x indices more i at new e = record {
+indexes_rows-more key rows n x indices more i at new e = record {
   found = λ name. found name (bytes_eq name (key x)) refl;
   known = λ name.
       ap is_some (e name) ∙ is_some-cond (bytes_eq name (key x)) (indices name)

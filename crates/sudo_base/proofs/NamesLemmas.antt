@@ -8,9 +8,9 @@ use Rattle.sudo_base.specs.NameEntry.{entry_by_list}
 use Rattle.sudo_base.specs.NameIndices.{index_of}
 
 -- a look-up among the entries is one among the names
-pub lookup_bare : (name : List ℕ) (es : List (Vec ℕ Global × ℕ)) → lookup (λ k. bytes_eq name k.items) es ≡ index_of (map entry_by_list es) name
-lookup_bare name [] = refl
-lookup_bare name (e ∷ es) = ap (λ r. cond (bytes_eq name e.0.items) (Some e.1) r) (lookup_bare name es)
+pub lookup-entry_by_list : (name : List ℕ) (es : List (Vec ℕ Global × ℕ)) → lookup (λ k. bytes_eq name k.items) es ≡ index_of (map entry_by_list es) name
+lookup-entry_by_list name [] = refl
+lookup-entry_by_list name (e ∷ es) = ap (λ r. cond (bytes_eq name e.0.items) (Some e.1) r) (lookup-entry_by_list name es)
 
 abbrev same_key : Vec ℕ Global → Vec ℕ Global → Bool
 same_key k l = bytes_eq k.items l.items
@@ -20,7 +20,7 @@ insert_step true e es xs ys i v r none rest = cc
 insert_step false e es xs ys i v r none rest = ap (λ zs. entry_by_list e ∷ zs) (rest none)
 
 -- a new name goes last
-pub insert_bare : (key : Vec ℕ Global) (v : ℕ) (es : List (Vec ℕ Global × ℕ)) → index_of (map entry_by_list es) key.items ≡ None → map entry_by_list (insert_entry same_key es key v) ≡ map entry_by_list es ++ (key.items, v) ∷ []
-insert_bare key v [] none = refl
-insert_bare key v (e ∷ es) none =
-    insert_step (bytes_eq key.items e.0.items) e es (insert_entry same_key es key v) (map entry_by_list es ++ (key.items, v) ∷ []) e.1 v (index_of (map entry_by_list es) key.items) none (insert_bare key v es)
+pub insert-entry_by_list : (key : Vec ℕ Global) (v : ℕ) (es : List (Vec ℕ Global × ℕ)) → index_of (map entry_by_list es) key.items ≡ None → map entry_by_list (insert_entry same_key es key v) ≡ map entry_by_list es ++ (key.items, v) ∷ []
+insert-entry_by_list key v [] none = refl
+insert-entry_by_list key v (e ∷ es) none =
+    insert_step (bytes_eq key.items e.0.items) e es (insert_entry same_key es key v) (map entry_by_list es ++ (key.items, v) ∷ []) e.1 v (index_of (map entry_by_list es) key.items) none (insert-entry_by_list key v es)

@@ -31,9 +31,9 @@ ok_err r a b is other = absurd cc
 one_lines : (file : ℕ) (text : List ℕ) (a b : List Line) → lines_of file text ≡ Ok a → lines_of file text ≡ Ok b → a ≡ b
 one_lines file text a b is other = ok_is (lines_of file text) a b is other
 
-reads_apart : (file : ℕ) (text : List ℕ) (entries : List Entry) (fault : ParseFault) → HasContent file text (Ok entries) → HasContent file text (Err fault) → ⊥
-reads_apart file text entries fault (lines, is, are) (inl (why, other, same)) = ok_err (lines_of file text) lines why is other
-reads_apart file text entries fault (lines, is, are) (inr (lines2, other, first)) =
+has_content-apart : (file : ℕ) (text : List ℕ) (entries : List Entry) (fault : ParseFault) → HasContent file text (Ok entries) → HasContent file text (Err fault) → ⊥
+has_content-apart file text entries fault (lines, is, are) (inl (why, other, same)) = ok_err (lines_of file text) lines why is other
+has_content-apart file text entries fault (lines, is, are) (inr (lines2, other, first)) =
     entries_no_fault [] lines entries fault are (subst (λ ls. IsFirstFault ls fault) (sym (one_lines file text lines lines2 is other)) first)
 
 one_fault_read : (file : ℕ) (text : List ℕ) (a b : ParseFault) → HasContent file text (Err a) → HasContent file text (Err b) → a ≡ b
@@ -46,8 +46,8 @@ one_fault_read file text a b (inr (lines, is, first)) (inr (lines2, is2, first2)
 one_read : (file : ℕ) (text : List ℕ) (a b : Result (List Entry) ParseFault) → HasContent file text a → HasContent file text b → a ≡ b
 one_read file text (Ok a) (Ok b) (lines, is, are) (lines2, is2, are2) =
     ap Ok (one_entries [] lines a b are (subst (λ ls. AreEntries ls b) (sym (one_lines file text lines lines2 is is2)) are2))
-one_read file text (Ok a) (Err b) reads other = absurd (reads_apart file text a b reads other)
-one_read file text (Err a) (Ok b) reads other = absurd (reads_apart file text b a other reads)
+one_read file text (Ok a) (Err b) reads other = absurd (has_content-apart file text a b reads other)
+one_read file text (Err a) (Ok b) reads other = absurd (has_content-apart file text b a other reads)
 one_read file text (Err a) (Err b) reads other = ap Err (one_fault_read file text a b reads other)
 
 -- An inclusion has one outcome.

@@ -9,7 +9,7 @@ use Rattle.std.proofs.lemmas.List.Folds.{find-append}
 use Rattle.sudo_match.specs.declared.people.Group.{Group}
 use Rattle.sudo_base.specs.Indexes.{IndexesRows}
 use Rattle.sudo_base.specs.NameIndices.{index_of}
-use Rattle.sudo_base.proofs.IndexLemmas.{take-some, list_any-append, bytes_eq-is, indexes-none, indexes-more, index_of-append, index_of-empty, none-is}
+use Rattle.sudo_base.proofs.IndexLemmas.{take-some, list_any-append, bytes_eq-is, indexes_rows-none, indexes_rows-more, index_of-append, index_of-empty, none-is}
 use Rattle.sudo_match.specs.Indexing.{AreApart, differs, with_name}
 use Rattle.sudo_match.specs.KnownRows.{groups_clash, clashes_at}
 use Rattle.sudo_match.proofs.ClashLemmas.{NoneBefore, none-first, none-more, clash-here, clash-none}
@@ -57,16 +57,16 @@ indexes-same key rows n x indices i at old = record {
         let same : key x ≡ name = bytes_eq-is (key x) name e in
         sym (i.known name) ∙ ap (λ k. is_some (indices k)) (sym same) ∙ old
 
-pub indexes-noted :
+pub indexes_rows-with_name :
     {A : Type 0} (key : A → List ℕ) (rows : List A) (n : ℕ) (x : A) (names : List (List ℕ × ℕ)) → IndexesRows key rows n (index_of names) →
     slice_get rows n ≡ Some x → IndexesRows key rows (n + 1) (index_of (with_name names (key x) n))
-indexes-noted key rows n x names i at = go (is_some (index_of names (key x))) refl
+indexes_rows-with_name key rows n x names i at = go (is_some (index_of names (key x))) refl
   where
     go : (b : Bool) → is_some (index_of names (key x)) ≡ b → IndexesRows key rows (n + 1) (index_of (with_name names (key x) n))
     go true f = rw f (indexes-same key rows n x (index_of names) i at f)
     go false f =
         let new : index_of names (key x) ≡ None = none-is (index_of names (key x)) f in
-        rw f (indexes-more key rows n x (index_of names) (index_of (names ++ (key x, n) ∷ [])) i at new (λ other. index_of-append names (key x) n other new))
+        rw f (indexes_rows-more key rows n x (index_of names) (index_of (names ++ (key x, n) ∷ [])) i at new (λ other. index_of-append names (key x) n other new))
 
 -- ---- The first that passes one test decides another
 
@@ -161,8 +161,8 @@ pub record GroupsRead (groups : List Group) (n : ℕ) (names ids : List (List �
 
 pub groups-first : (groups : List Group) (names ids : List (List ℕ × ℕ)) → names ≡ [] → ids ≡ [] → GroupsRead groups 0 names ids
 groups-first groups names ids e f = record {
-  by_name = indexes-none (λ g. g.name) groups (index_of names) (λ name. ap (λ es. index_of es name) e ∙ index_of-empty name);
-  by_id = indexes-none (λ g. g.gid ∷ []) groups (index_of ids) (λ name. ap (λ es. index_of es name) f ∙ index_of-empty name);
+  by_name = indexes_rows-none (λ g. g.name) groups (index_of names) (λ name. ap (λ es. index_of es name) e ∙ index_of-empty name);
+  by_id = indexes_rows-none (λ g. g.gid ∷ []) groups (index_of ids) (λ name. ap (λ es. index_of es name) f ∙ index_of-empty name);
   name_decides = λ name id. refl;
   id_decides = λ id name. refl;
   none = none-first groups_clash groups;
@@ -198,8 +198,8 @@ pub groups-more :
     (groups : List Group) (n : ℕ) (names ids : List (List ℕ × ℕ)) (x : Group) → GroupsRead groups n names ids → slice_get groups n ≡ Some x →
     clashes_at groups_clash groups n ≡ false → GroupsRead groups (n + 1) (with_name names x.name n) (with_name ids (x.gid ∷ []) n)
 groups-more groups n names ids x r at apart = record {
-  by_name = indexes-noted (λ g. g.name) groups n x names r.by_name at;
-  by_id = indexes-noted (λ g. g.gid ∷ []) groups n x ids r.by_id at;
+  by_name = indexes_rows-with_name (λ g. g.name) groups n x names r.by_name at;
+  by_id = indexes_rows-with_name (λ g. g.gid ∷ []) groups n x ids r.by_id at;
   name_decides = λ name id.
       rw (take-some n groups x at)
       (decides-more (named name) (has_id id) (take n groups) x (r.name_decides name id) (λ f e passes. ap (λ k. k == id) (same-id name f e passes)));

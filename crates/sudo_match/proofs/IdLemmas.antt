@@ -11,11 +11,11 @@ and-true true = refl
 and-true false = refl
 
 -- a look-up among the entries is one among the IDs
-pub lookup_bare : (id : ℕ) (es : List (ℕ × ℕ)) → lookup (nat_eq id) es ≡ index_of (map entry_by_id es) (id ∷ [])
-lookup_bare id [] = refl
-lookup_bare id (e ∷ es) =
+pub lookup-entry_by_id : (id : ℕ) (es : List (ℕ × ℕ)) → lookup (nat_eq id) es ≡ index_of (map entry_by_id es) (id ∷ [])
+lookup-entry_by_id id [] = refl
+lookup-entry_by_id id (e ∷ es) =
     ap (λ b. cond b (Some e.1) (lookup (nat_eq id) es)) (sym (and-true (nat_eq id e.0)))
-    ∙ ap (λ r. cond (nat_eq id e.0 && true) (Some e.1) r) (lookup_bare id es)
+    ∙ ap (λ r. cond (nat_eq id e.0 && true) (Some e.1) r) (lookup-entry_by_id id es)
 
 insert_step :
     (b : Bool) (e : ℕ × ℕ) (es xs : List (ℕ × ℕ)) (ys : List (List ℕ × ℕ)) (i v : ℕ) (r : Option ℕ) → cond (b && true) (Some i) r ≡ None →
@@ -24,9 +24,9 @@ insert_step true e es xs ys i v r none rest = cc
 insert_step false e es xs ys i v r none rest = ap (λ zs. entry_by_id e ∷ zs) (rest none)
 
 -- a new ID goes last
-pub insert_bare :
+pub insert-entry_by_id :
     (id v : ℕ) (es : List (ℕ × ℕ)) → index_of (map entry_by_id es) (id ∷ []) ≡ None →
     map entry_by_id (insert_entry nat_eq es id v) ≡ map entry_by_id es ++ (id ∷ [], v) ∷ []
-insert_bare id v [] none = refl
-insert_bare id v (e ∷ es) none =
-    insert_step (nat_eq id e.0) e es (insert_entry nat_eq es id v) (map entry_by_id es ++ (id ∷ [], v) ∷ []) e.1 v (index_of (map entry_by_id es) (id ∷ [])) none (insert_bare id v es)
+insert-entry_by_id id v [] none = refl
+insert-entry_by_id id v (e ∷ es) none =
+    insert_step (nat_eq id e.0) e es (insert_entry nat_eq es id v) (map entry_by_id es ++ (id ∷ [], v) ∷ []) e.1 v (index_of (map entry_by_id es) (id ∷ [])) none (insert-entry_by_id id v es)

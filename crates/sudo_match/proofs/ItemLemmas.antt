@@ -76,8 +76,8 @@ find-map p f (x ∷ xs) = go (p (f x)) (find-map p f xs)
     go false e = e
 
 -- the private class that opens is the class there
-pub class_at-opened : (cs : List Ch) (o : Option shown.Class) → o ≡ class_at_start cs → class_at cs ≡ option_map class_of o
-class_at-opened cs o e = sym (ap (option_map class_of) e ∙ find-map (λ k. begins (class_form k) cs) class_of known_classes)
+pub class_at-class_at_start : (cs : List Ch) (o : Option shown.Class) → o ≡ class_at_start cs → class_at cs ≡ option_map class_of o
+class_at-class_at_start cs o e = sym (ap (option_map class_of) e ∙ find-map (λ k. begins (class_form k) cs) class_of known_classes)
 
 find-none : {A : Type 0} (p : A → Bool) (xs : List A) → ((x : A) → p x ≡ false) → find p xs ≡ None
 find-none p [] none = refl
@@ -89,8 +89,8 @@ no-class [] k e = refl
 no-class (c ∷ cs) k e = ap (λ b. b && begins (is_byte 58 ∷ (map is_plain (class_name k) ++ class_end)) cs) e
 
 -- where no unescaped `[` stands, no class does
-pub opened-none : (cs : List Ch) (n : ℕ) → has (is_plain 91) (slice_get cs n) ≡ false → class_at_start (drop n cs) ≡ None
-opened-none cs n e =
+pub class_at_start-none : (cs : List Ch) (n : ℕ) → has (is_plain 91) (slice_get cs n) ≡ false → class_at_start (drop n cs) ≡ None
+class_at_start-none cs n e =
     find-none (λ k. begins (class_form (class_of k)) (drop n cs)) known_classes
     (λ k. no-class (drop n cs) (class_of k) (ap (has (is_plain 91)) (slice_get-drop n 0 cs ∙ ap (slice_get cs) (add-zero n)) ∙ e))
 

@@ -9,7 +9,7 @@ use Rattle.sudo_policy.specs.declared.graph.State.{State}
 use Rattle.sudo_policy.specs.declared.graph.State.TheVariants.{New, Open, Done, Looped}
 use Rattle.sudo_policy.specs.Body.Graph.{Links, Edge, Path, step, more, ReachesCycle, measure_of_both, deeper, link_measure, row_measure, measure_within, MarksOf, StateHolds, StatesHold, IsSettled, is_looped}
 use Rattle.sudo_policy.specs.Body.Marking.{IsMarked, IsUnmarked, AreSet, PathPast, ReversesUpTo, IsClosedOverCycles, DecidesCycles}
-use Rattle.sudo_policy.proofs.FollowingLemmas.{joined_parts, option_map_some}
+use Rattle.sudo_policy.proofs.FollowingLemmas.{option_join-parts, option_map_some}
 use Rattle.sudo_policy.proofs.GraphLemmas.{Path-edge, Path-path}
 use Rattle.sudo_policy.proofs.MarkingLemmas.{one_in, none_in, marked_or_not, marked_more, AreSet-kept, AreSet-cases}
 use Rattle.sudo_policy.proofs.PastLemmas.{PathPast-path, PathPast-end, path_past}
@@ -35,7 +35,7 @@ ReachesCycle-next g i r = by r.way
 link_has : (inner : ℕ → Option Measure) (row : List (Option ℕ)) (a : Measure) (j : ℕ) → row_measure inner row ≡ Some a → Contains row (Some j) → (b : Measure) × (inner j ≡ Some b)
 link_has inner [] a j is has = absurd (none_in (Some j) has)
 link_has inner (l ∷ ls) a j is has =
-    let k = joined_parts measure_of_both (link_measure inner l) (row_measure inner ls) a is in
+    let k = option_join-parts measure_of_both (link_measure inner l) (row_measure inner ls) a is in
     elim (Contains-append_cases (l ∷ []) ls (Some j) has) [
       | inl first ↦
           (let same : l ≡ Some j = one_in l (Some j) first in

@@ -14,13 +14,13 @@ pub record Parts {R : Type 0} (join : R → R → R) (x y : Option R) (r : R) : 
   pub second_is : y ≡ Some second
   pub whole : r ≡ join first second
 
-pub joined_parts : {R : Type 0} (join : R → R → R) (x y : Option R) (r : R) → option_join join x y ≡ Some r → Parts join x y r
-joined_parts join None y r h = cc
-joined_parts join (Some x) None r h = cc
-joined_parts join (Some x) (Some y) r h = record { first = x; second = y; first_is = refl; second_is = refl; whole = cc }
+pub option_join-parts : {R : Type 0} (join : R → R → R) (x y : Option R) (r : R) → option_join join x y ≡ Some r → Parts join x y r
+option_join-parts join None y r h = cc
+option_join-parts join (Some x) None r h = cc
+option_join-parts join (Some x) (Some y) r h = record { first = x; second = y; first_is = refl; second_is = refl; whole = cc }
 
-pub joined_from : {R : Type 0} (join : R → R → R) (x y : Option R) (a b r : R) → x ≡ Some a → y ≡ Some b → r ≡ join a b → option_join join x y ≡ Some r
-joined_from join x y a b r at_x at_y whole = rw (at_x, at_y, whole) refl
+pub option_join-from : {R : Type 0} (join : R → R → R) (x y : Option R) (a b r : R) → x ≡ Some a → y ≡ Some b → r ≡ join a b → option_join join x y ≡ Some r
+option_join-from join x y a b r at_x at_y whole = rw (at_x, at_y, whole) refl
 
 -- the value under a map is there
 pub option_map_some : {A B : Type 0} (f : A → B) (o : Option A) (b : B) → option_map f o ≡ Some b → (a : A) × (o ≡ Some a) × (b ≡ f a)
@@ -46,8 +46,8 @@ module _ {R : Type 0} (g : Reading R) (kind : Kind) (p : Policy) where
   pub list_reading_more : (inner more : List Member → Option R) → ((ms : List Member) (r : R) → inner ms ≡ Some r → more ms ≡ Some r) → (ms : List Member) (r : R) → list_reading g kind p inner ms ≡ Some r → list_reading g kind p more ms ≡ Some r
   list_reading_more inner more up [] r h = h
   list_reading_more inner more up (m ∷ ms) r h =
-      let k = joined_parts g.join _ _ r h in
-      joined_from g.join _ _ k.first k.second r
+      let k = option_join-parts g.join _ _ r h in
+      option_join-from g.join _ _ k.first k.second r
       (member_reading_more inner more up m (definition_of_member kind p m) k.first k.first_is)
       (list_reading_more inner more up ms k.second k.second_is)
       k.whole
@@ -64,7 +64,7 @@ module _ {R : Type 0} (g : Reading R) (kind : Kind) (p : Policy) where
 
   pub reading_parts : (n : ℕ) (m : Member) (rest : List Member) (r : R) → reading_within g kind p (suc n) (m ∷ rest) ≡ Some r → Parts g.join (member_reading g (reading_within g kind p n) m (definition_of_member kind p m)) (reading_within g kind p (suc n) rest) r
   unfolding reading_within
-  reading_parts n m rest r h = joined_parts g.join _ _ r h
+  reading_parts n m rest r h = option_join-parts g.join _ _ r h
 
   pub inner_parts : (n : ℕ) (m : Member) (ds rest : List Member) (r : R) → definition_of_member kind p m ≡ Some ds → reading_within g kind p (suc n) (m ∷ rest) ≡ Some r → InnerParts g kind p (suc n) m ds rest r
   inner_parts n m ds rest r is h =

@@ -3,7 +3,7 @@ use Rattle.std.proofs.Common.{◌≡◌, ℕ, zero, suc, ◌+◌, List, [], ◌�
 use Rattle.std.specs.Prelude.{option_and_then, option_map, slice_get}
 use Rattle.sudo_policy.specs.declared.graph.Measure.{Measure}
 use Rattle.sudo_policy.specs.Body.Graph.{Links, Edge, Path, step, more, ReachesCycle, measure_of_both, deeper, measure_of_one, measure_of_none, link_measure, row_measure, measure_within, Measures}
-use Rattle.sudo_policy.proofs.FollowingLemmas.{joined_parts, joined_from, option_map_some}
+use Rattle.sudo_policy.proofs.FollowingLemmas.{option_join-parts, option_join-from, option_map_some}
 
 -- a measure stays, where definitions have as much and more
 link_more : (inner up : ℕ → Option Measure) → ((i : ℕ) (a : Measure) → inner i ≡ Some a → up i ≡ Some a) → (l : Option ℕ) (a : Measure) → link_measure inner l ≡ Some a → link_measure up l ≡ Some a
@@ -15,8 +15,8 @@ link_more inner up all (Some j) a h =
 row_more : (inner up : ℕ → Option Measure) → ((i : ℕ) (a : Measure) → inner i ≡ Some a → up i ≡ Some a) → (ls : List (Option ℕ)) (a : Measure) → row_measure inner ls ≡ Some a → row_measure up ls ≡ Some a
 row_more inner up all [] a h = h
 row_more inner up all (l ∷ ls) a h =
-    let k = joined_parts measure_of_both _ _ a h in
-    joined_from measure_of_both _ _ k.first k.second a (link_more inner up all l k.first k.first_is) (row_more inner up all ls k.second k.second_is) k.whole
+    let k = option_join-parts measure_of_both _ _ a h in
+    option_join-from measure_of_both _ _ k.first k.second a (link_more inner up all l k.first k.first_is) (row_more inner up all ls k.second k.second_is) k.whole
 
 -- the value that an option leads to is there
 pub and_then_some : {A B : Type 0} (f : A → Option B) (o : Option A) (b : B) → option_and_then f o ≡ Some b → (a : A) × (o ≡ Some a) × (f a ≡ Some b)
@@ -45,7 +45,7 @@ pub RowMeasures-none : (g : Links) → RowMeasures g [] measure_of_none
 RowMeasures-none g = record { steps = 0; reads = refl }
 
 pub RowMeasures-alone : (g : Links) (row : List (Option ℕ)) (a : Measure) → RowMeasures g row a → RowMeasures g (None ∷ row) (measure_of_both measure_of_one a)
-RowMeasures-alone g row a r = record { steps = r.steps; reads = joined_from measure_of_both _ _ measure_of_one a _ refl r.reads refl }
+RowMeasures-alone g row a r = record { steps = r.steps; reads = option_join-from measure_of_both _ _ measure_of_one a _ refl r.reads refl }
 
 pub RowMeasures-link : (g : Links) (j : ℕ) (row : List (Option ℕ)) (a b : Measure) → Measures g j b → RowMeasures g row a → RowMeasures g (Some j ∷ row) (measure_of_both (deeper b) a)
 RowMeasures-link g j row a b one r =
@@ -55,7 +55,7 @@ RowMeasures-link g j row a b one r =
     λ i x h. subst (λ (n : ℕ). measure_within g n i ≡ Some x) e (measure_more g one.steps r.steps i x h) in
     record {
       steps = r.steps + one.steps;
-      reads = joined_from measure_of_both _ _ (deeper b) a _ (ap (option_map deeper) here) (row_more _ _ up row a r.reads) refl;
+      reads = option_join-from measure_of_both _ _ (deeper b) a _ (ap (option_map deeper) here) (row_more _ _ up row a r.reads) refl;
     }
 
 pub Measures-row : (g : Links) (i : ℕ) (row : List (Option ℕ)) (a : Measure) → slice_get g i ≡ Some row → RowMeasures g row a → Measures g i a

@@ -19,7 +19,7 @@ use Rattle.sudo_policy.proofs.CycleLemmas.{no_measure, on_cycle_inside}
 use Rattle.sudo_policy.proofs.FollowingLemmas.{reading_same, option_map_some}
 use Rattle.sudo_policy.proofs.LinkLemmas.{graph, roots, cyclic_is, reached_used, used_reached}
 use Rattle.sudo_policy.proofs.MeasureLemmas.{measure_is}
-use Rattle.sudo_policy.proofs.ReadingMaps.{depth_measured, width_measured, measured_deep, measured_wide}
+use Rattle.sudo_policy.proofs.ReadingMaps.{depth_measured, width_measured, list_measure-deep, list_measure-wide}
 use Rattle.sudo_policy.proofs.StateLemmas.{get_within, within_get}
 
 -- marks that say of each number what T says of the definition there
@@ -64,12 +64,12 @@ module _ (p : Policy) (aliases : List AliasDefinition) (names : Kind → List (L
 
   looped_depth : (i : ℕ) (d : AliasDefinition) (n : ℕ) → slice_get aliases i ≡ Some d → ReachesCycle g i → ReadsAs depth d.kind p d.members n → ⊥
   looped_depth i d n at r reads =
-      let a = measured_deep d.kind p reads.steps d.members n reads.reads in
+      let a = list_measure-deep d.kind p reads.steps d.members n reads.reads in
       no_measure g reads.steps i a.0 r (sym (measure_is p aliases names positions x reads.steps i d at) ∙ a.1)
 
   looped_width : (i : ℕ) (d : AliasDefinition) (n : ℕ) → slice_get aliases i ≡ Some d → ReachesCycle g i → ReadsAs width d.kind p d.members n → ⊥
   looped_width i d n at r reads =
-      let a = measured_wide d.kind p reads.steps d.members n reads.reads in
+      let a = list_measure-wide d.kind p reads.steps d.members n reads.reads in
       no_measure g reads.steps i a.0 r (sym (measure_is p aliases names positions x reads.steps i d at) ∙ a.1)
 
   pub deep_is : (i : ℕ) (d : AliasDefinition) (s : State) → slice_get aliases i ≡ Some d → StateHolds g i s → IsSettled s → (is_deep s ≡ true → IsTooDeep p d) × (IsTooDeep p d → is_deep s ≡ true)

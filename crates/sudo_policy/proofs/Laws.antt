@@ -14,7 +14,7 @@ use Rattle.sudo_policy.specs.Following.{option_join, depth, reading_within, memb
 use Rattle.sudo_policy.specs.Resolving.{resolves, rank, greatest}
 use Rattle.sudo_policy.specs.Written.{IsWrittenOut, writing, written_form, member_written, alone_written, negated_if, differ, is_negated}
 use Rattle.sudo_policy.proofs.AppendLemmas.{reading_append}
-use Rattle.sudo_policy.proofs.FollowingLemmas.{joined_parts, inner_parts}
+use Rattle.sudo_policy.proofs.FollowingLemmas.{option_join-parts, inner_parts}
 
 -- the value of an option that is there
 pub some_value : {X : Type 0} (o : Option X) → is_some o ≡ true → (x : X) × (o ≡ Some x)
@@ -73,7 +73,7 @@ module _ (kind : Kind) (p : Policy) where
   unfolding reading_within
   written_reads n [] ws h = cc
   written_reads n (m ∷ ms) ws h =
-      let k = joined_parts ◌++◌ _ _ ws (sym (writing_append (suc n) (m ∷ []) ms) ∙ h) in
+      let k = option_join-parts ◌++◌ _ _ ws (sym (writing_append (suc n) (m ∷ []) ms) ∙ h) in
       ap (λ (o : Option (List Signed)). unwrap_or o [] ++ written_at (suc n) ms) k.first_is ∙ ap (λ us. k.first ++ us) (written_reads n ms k.second k.second_is) ∙ sym k.whole
 
   pub written_from : (ms : List Member) (ws : List Signed) → reading_within writing kind p 64 ms ≡ Some ws → written_form kind p ms ≡ ws
@@ -159,7 +159,7 @@ module _ (kind : Kind) (p : Policy) where
   unfolding reading_within
   rank_reads n [] d h = cc
   rank_reads n (m ∷ ms) d h =
-      let k = joined_parts max _ _ d (sym (reading_depth_append (suc n) (m ∷ []) ms) ∙ h) in
+      let k = option_join-parts max _ _ d (sym (reading_depth_append (suc n) (m ∷ []) ms) ∙ h) in
       ap (λ (o : Option ℕ). max (unwrap_or o 0) (rank_at (suc n) ms)) k.first_is ∙ ap (λ us. max k.first us) (rank_reads n ms k.second k.second_is) ∙ sym k.whole
 
   pub rank_from : (ms : List Member) (d : ℕ) → reading_within depth kind p 64 ms ≡ Some d → rank kind p ms ≡ d

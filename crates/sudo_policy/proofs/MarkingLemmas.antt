@@ -24,10 +24,10 @@ pub marked_or_not : (marks : List Bool) (i : ℕ) (m : Bool) → slice_get marks
 marked_or_not marks i true h = inl h
 marked_or_not marks i false h = inr refl
 
-unmarked_set : (marks : List Bool) (i : ℕ) → slice_get marks i ≡ Some false → unmarked_count (set marks i true) + 1 ≡ unmarked_count marks
-unmarked_set [] i h = cc
-unmarked_set (m ∷ ms) zero h = let e : m ≡ false = cc in rw e (omega arith)
-unmarked_set (m ∷ ms) (suc i) h = let k = unmarked_set ms i h in omega (arith, k)
+unmarked_count-set : (marks : List Bool) (i : ℕ) → slice_get marks i ≡ Some false → unmarked_count (set marks i true) + 1 ≡ unmarked_count marks
+unmarked_count-set [] i h = cc
+unmarked_count-set (m ∷ ms) zero h = let e : m ≡ false = cc in rw e (omega arith)
+unmarked_count-set (m ∷ ms) (suc i) h = let k = unmarked_count-set ms i h in omega (arith, k)
 
 pub MarksRow-same : (row : List (Option ℕ)) (marks : List Bool) (work : List ℕ) → ((i : ℕ) → Contains row (Some i) → IsMarked marks i) → MarksRow row marks work marks work
 MarksRow-same row marks work known = record {
@@ -47,7 +47,7 @@ pub MarksRow-new : (marks : List Bool) (work : List ℕ) (link : Option ℕ) (al
 MarksRow-new marks work link alias is new =
     let inside = within_get marks alias false new in
     let here : IsMarked (set marks alias true) alias = get_set_same marks alias true inside in
-    let fewer = unmarked_set marks alias new in
+    let fewer = unmarked_count-set marks alias new in
     let long : length (work ++ alias ∷ []) ≡ length work + 1 = length-append work (alias ∷ []) in
     record {
       same_length = length_set marks alias true;

@@ -82,12 +82,12 @@ module _ (kind : Kind) (p : Policy) (n : ℕ) (ms : List Member) (a : Measure) (
   width_measured = (full.0.1, sym (reading_map both width (λ b. b.1) refl (λ x y. refl) (λ m. refl) (λ m b. refl) kind p n ms) ∙ ap (option_map (λ b. b.1)) full.1, ap (λ (m : Measure). m.width) full.2)
 
 -- a list with a depth has a measure, and so has one with a width
-pub measured_deep : (kind : Kind) (p : Policy) (n : ℕ) (ms : List Member) (d : ℕ) → reading_within depth kind p n ms ≡ Some d → (a : Measure) × (reading_within list_measure kind p n ms ≡ Some a)
-measured_deep kind p n ms d is =
+pub list_measure-deep : (kind : Kind) (p : Policy) (n : ℕ) (ms : List Member) (d : ℕ) → reading_within depth kind p n ms ≡ Some d → (a : Measure) × (reading_within list_measure kind p n ms ≡ Some a)
+list_measure-deep kind p n ms d is =
     let k = option_map_some (λ (b : ℕ × ℕ). b.0) (reading_within both kind p n ms) d (reading_map both depth (λ b. b.0) refl (λ x y. refl) (λ m. refl) (λ m b. refl) kind p n ms ∙ is) in
     (cap k.0, sym (reading_map both list_measure cap refl cap-join (λ m. refl) (λ m b. cap-deeper b) kind p n ms) ∙ ap (option_map cap) k.1)
 
-pub measured_wide : (kind : Kind) (p : Policy) (n : ℕ) (ms : List Member) (w : ℕ) → reading_within width kind p n ms ≡ Some w → (a : Measure) × (reading_within list_measure kind p n ms ≡ Some a)
-measured_wide kind p n ms w is =
+pub list_measure-wide : (kind : Kind) (p : Policy) (n : ℕ) (ms : List Member) (w : ℕ) → reading_within width kind p n ms ≡ Some w → (a : Measure) × (reading_within list_measure kind p n ms ≡ Some a)
+list_measure-wide kind p n ms w is =
     let k = option_map_some (λ (b : ℕ × ℕ). b.1) (reading_within both kind p n ms) w (reading_map both width (λ b. b.1) refl (λ x y. refl) (λ m. refl) (λ m b. refl) kind p n ms ∙ is) in
     (cap k.0, sym (reading_map both list_measure cap refl cap-join (λ m. refl) (λ m b. cap-deeper b) kind p n ms) ∙ ap (option_map cap) k.1)

@@ -15,7 +15,7 @@ use Rattle.sudo_policy.specs.Following.{ReadsAs, reading_within, list_reading, m
 use Rattle.sudo_policy.specs.Found.{AreFindings, found_by, finding_on, undefined_in, has_error, is_error, IsTooDeep}
 use Rattle.sudo_policy.specs.Resolving.{resolves, IsSound}
 use Rattle.sudo_policy.specs.Written.{writing, alone_written}
-use Rattle.sudo_policy.proofs.FollowingLemmas.{joined_parts, joined_from, reading_more, option_map_some}
+use Rattle.sudo_policy.proofs.FollowingLemmas.{option_join-parts, option_join-from, reading_more, option_map_some}
 use Rattle.sudo_policy.proofs.Laws.{both_there}
 use Rattle.sudo_policy.proofs.SoundLemmas.{all_weaker, in_force_passes}
 use Rattle.sudo_policy.proofs.StateLemmas.{get_within, within_get}
@@ -84,9 +84,9 @@ module _ (kind : Kind) (p : Policy) where
   fewer : (inner less : List Member → Option ℕ) (bound : ℕ) → ((ms : List Member) (d : ℕ) → suc d ≤ bound → inner ms ≡ Some d → less ms ≡ Some d) → (ms : List Member) (d : ℕ) → d ≤ bound → list_reading depth kind p inner ms ≡ Some d → list_reading depth kind p less ms ≡ Some d
   fewer inner less bound agree [] d h is = is
   fewer inner less bound agree (m ∷ ms) d h is =
-      let k = joined_parts max (member_reading depth inner m (definition_of_member kind p m)) (list_reading depth kind p inner ms) d is in
+      let k = option_join-parts max (member_reading depth inner m (definition_of_member kind p m)) (list_reading depth kind p inner ms) d is in
       let whole : d ≡ max k.first k.second = k.whole in
-      joined_from max (member_reading depth less m (definition_of_member kind p m)) (list_reading depth kind p less ms) k.first k.second d
+      option_join-from max (member_reading depth less m (definition_of_member kind p m)) (list_reading depth kind p less ms) k.first k.second d
       (member (definition_of_member kind p m) k.first (omega (arith, whole, h)) k.first_is)
       (fewer inner less bound agree ms k.second (omega (arith, whole, h)) k.second_is)
       k.whole

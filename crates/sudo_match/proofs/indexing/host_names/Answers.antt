@@ -4,7 +4,7 @@ use Rattle.std.proofs.lemmas.Option.{slice_get_read}
 use Rattle.sudo_match.specs.declared.people.Machine.{Machine}
 use Rattle.sudo_base.specs.Indexes.{IndexesRows}
 use Rattle.sudo_base.specs.NameIndices.{index_of}
-use Rattle.sudo_base.proofs.IndexLemmas.{indexes-none, indexes-more, index_of-empty, index_of-append, none-is}
+use Rattle.sudo_base.proofs.IndexLemmas.{indexes_rows-none, indexes_rows-more, index_of-empty, index_of-append, none-is}
 use Rattle.sudo_match.specs.declared.fault.DirFault.{DirFault}
 use Rattle.sudo_match.specs.declared.fault.DirFault.TheVariants.{HostTwice}
 use Rattle.sudo_match.specs.Class.{lower_text}
@@ -14,7 +14,7 @@ use Rattle.sudo_match.proofs.indexing.host_names.Goals as goal
 
 pub loop-at-init : goal.loop-at-init
 loop-at-init c = record {
-  indexed = indexes-none (λ m. lower_text m.name) c.args.machines.now (index_of c.new-names.result)
+  indexed = indexes_rows-none (λ m. lower_text m.name) c.args.machines.now (index_of c.new-names.result)
       (λ name. ap (λ es. index_of es name) c.new-names.ensures ∙ index_of-empty name);
   none = none-first same_host c.args.machines.now;
 }
@@ -46,7 +46,7 @@ loop-at-preserved c =
     let added : c.insert.new.self ≡ c.loop-at.names ++ (lower_text c.index-machines-at.result.name, c.loop-at.at) ∷ [] =
     c.in_ok-insert.ensures.ok ∙ ap (λ n. c.loop-at.names ++ (n, c.loop-at.at) ∷ []) (c.as_slice-in-loop-at-2.ensures.value ∙ c.in_ok-name.ensures ∙ ap lower_text c.as_slice.ensures) in
     record {
-      indexed = indexes-more (λ m. lower_text m.name) c.args.machines.now c.loop-at.at c.index-machines-at.result (index_of c.loop-at.names) (index_of c.insert.new.self)
+      indexed = indexes_rows-more (λ m. lower_text m.name) c.args.machines.now c.loop-at.at c.index-machines-at.result (index_of c.loop-at.names) (index_of c.insert.new.self)
           c.loop-at.invariant.indexed row (none-is _ fresh)
           (λ other. ap (λ es. index_of es other) added ∙ index_of-append c.loop-at.names (lower_text c.index-machines-at.result.name) c.loop-at.at other (none-is _ fresh));
       none = none-more same_host c.args.machines.now c.loop-at.at c.loop-at.invariant.none
