@@ -13,6 +13,8 @@ mod fixtures;
 #[cfg(test)]
 mod growth_trials;
 #[cfg(test)]
+mod growths;
+#[cfg(test)]
 mod order_trials;
 #[cfg(test)]
 mod queue_trials;

@@ -10,6 +10,8 @@ mod grammar_trials;
 #[cfg(test)]
 mod growth_trials;
 #[cfg(test)]
+mod growths;
+#[cfg(test)]
 mod include_trials;
 #[cfg(test)]
 mod parser_trials;

@@ -7,6 +7,8 @@ mod fixtures;
 #[cfg(test)]
 mod growth_trials;
 #[cfg(test)]
+mod growths;
+#[cfg(test)]
 mod match_trials;
 #[cfg(test)]
 mod oracle;

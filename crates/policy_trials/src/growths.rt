@@ -2,14 +2,13 @@
 //!
 //! What is taken is never written to, so it costs addresses and little memory. It takes an allocator that runs out of them:
 //! that of `rt test` does, and that of `rt try` does not, so a test that needs a budget fails there.
-#![tactic(auto)]
 
 use std::alloc::{AllocError, Global};
 use std::test::Fail;
 
 /// How a call ended.
 #[derive(Clone, Copy)]
-pub enum End {
+pub(crate) enum End {
     /// Memory was refused, and what was handed in is as before.
     Refused,
     /// The answer came that comes with memory.
@@ -20,19 +19,13 @@ pub enum End {
 
 impl End {
     /// Returns how a call ended that returned an answer, by whether it is the right one.
-    pub fn of(is_right: bool) -> End {
+    pub(crate) fn of(is_right: bool) -> End {
         if is_right { End::Answered } else { End::Wrong }
     }
 }
 
-/// The bytes of memory beside the budget of a call.
-pub const ROOM: usize = 1 << 22;
-
-/// The bytes of memory beside the budget of a call that starts threads: their stacks too.
-pub const ROOM_WITH_THREADS: usize = 1 << 28;
-
-/// The largest block that is taken during a call.
-const LARGEST: usize = 1 << 28;
+/// The bytes of memory beside the budget, which are there before and after a call.
+const ROOM: usize = 1 << 22;
 
 const UNLIMITED: &str = "memory is not limited here";
 
@@ -61,7 +54,7 @@ fn fill(alloc: Global, blocks: &mut Vec<Vec<u8>>, largest: usize, last: usize) -
 
 /// The memory of a call.
 #[derive(Drop)]
-pub struct Memory {
+pub(crate) struct Memory {
     alloc: Global,
     /// The bytes that the call may use; `None` for all that there are.
     budget: Option<usize>,
@@ -83,10 +76,10 @@ impl Memory {
     }
 
     /// Takes all memory but the budget.
-    pub fn take(&mut self) {
+    pub(crate) fn take(&mut self) {
         if let Some(budget) = self.budget {
             let held = Vec::<u8>::with_capacity(self.alloc, budget);
-            if !fill(self.alloc, &mut self.taken, LARGEST, 8) {
+            if !fill(self.alloc, &mut self.taken, ROOM, 8) {
                 self.is_limited = false;
             }
             drop(held);
@@ -94,7 +87,7 @@ impl Memory {
     }
 
     /// Gives back what was taken.
-    pub fn give_back(&mut self) {
+    pub(crate) fn give_back(&mut self) {
         self.taken.clear();
     }
 
@@ -107,7 +100,7 @@ impl Memory {
 }
 
 /// A call that memory may be refused to.
-pub trait Trial {
+pub(crate) trait Trial {
     /// Makes the call between `take` and `give_back`, and returns how it ended.
     fn once(&self, memory: &mut Memory) -> Result<End, Fail>;
 }
@@ -131,12 +124,11 @@ fn grown<T: Trial>(trial: &T, memory: &mut Memory) -> Result<(), Fail> {
     Err(Fail::new("each budget is refused"))
 }
 
-/// Makes each call with larger and larger budgets until one is not refused, and then with all memory. `room` is the number of
-/// bytes beside the budget, which are there before and after a call. Fails if an answer is another than with memory, or if no
-/// budget of a call is refused, or each.
-pub fn swept<T: Trial>(alloc: Global, room: usize, trials: &[T]) -> Result<(), Fail> {
+/// Makes each call with larger and larger budgets until one is not refused, and then with all memory. Fails if an answer is
+/// another than with memory, or if no budget of a call is refused, or each.
+pub(crate) fn swept<T: Trial>(alloc: Global, trials: &[T]) -> Result<(), Fail> {
     let mut memory = Memory::new(alloc)?;
-    let room = Vec::<u8>::with_capacity(alloc, room)?;
+    let room = Vec::<u8>::with_capacity(alloc, ROOM)?;
     let mut blocks = Vec::with_capacity(alloc, 100_000)?;
     if !fill(alloc, &mut blocks, 1 << 46, 1 << 20) {
         return Err(Fail::new(UNLIMITED));
