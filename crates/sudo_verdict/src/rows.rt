@@ -13,8 +13,8 @@ pub(crate) struct Rows {
     pub(crate) rows: Vec<Vec<u64>>,
 }
 
-// Sets the bit of a rule, which is within the words.
-fn set_bit(words: &mut [u64], rule: usize)
+/// Sets the bit of a rule, which is within the words.
+pub(crate) fn set_bit(words: &mut [u64], rule: usize)
     requires { rule < 64 * length words.old }
     ensures count { length words.new ≡ length words.old }
     ensures sets { bit words.new rule ≡ 1 }
