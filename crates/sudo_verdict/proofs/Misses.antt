@@ -1,6 +1,6 @@
 -- Rows of rules: rows with one more rule, blocks with the rules of a number, and rules in no row of a user or of a
 -- command, whose atoms the user cannot match.
-use Rattle.std.proofs.Common.{◌≡◌, ℕ, zero, suc, ◌+◌, ◌-◌, ◌*◌, ◌/◌, ◌%◌, ◌<◌, ◌≤◌, Bool, true, false, not, ◌&&◌, ◌||◌, List, [], ◌∷◌, length, get_or, drop, take, Some, refl, sym, ◌∙◌, ap, subst, arith, ◌⊎◌, inl, inr, Vec, Global}
+use Rattle.std.proofs.Common.{◌≡◌, ℕ, zero, suc, ◌+◌, ◌-◌, ◌*◌, ◌/◌, ◌%◌, ◌<◌, ◌≤◌, Bool, true, false, not, ◌&&◌, ◌||◌, List, [], ◌∷◌, length, get_or, drop, take, Option, Some, None, refl, sym, ◌∙◌, ap, subst, arith, ◌⊎◌, inl, inr, Vec, Global}
 use Rattle.std.specs.Prelude.{slice_get, ◌==◌, bytes_eq}
 use Rattle.std.specs.List.{list_any, list_all}
 use Rattle.std.proofs.Math.ListN.{set}
@@ -17,6 +17,7 @@ use Rattle.sudo_grammar.specs.declared.kind.Atom.TheVariants as atom
 use Rattle.sudo_match.specs.declared.people.Person.{Person}
 use Rattle.sudo_match.specs.declared.people.Group.{Group}
 use Rattle.sudo_match.specs.Matching.{user_fits}
+use Rattle.sudo_verdict.specs.Body.Blocks.{StartsAt}
 use Rattle.sudo_verdict.specs.Postings.{bit, row_words, Rows, is_in_row, Grows, next_number, bucket_of, user_bucket, group_number, uid_number, gid_number, whole_seed, beginning_seed, atom_number, misses_group, misses_user, misses_beginnings, misses_command}
 
 -- ---- The row of a number
@@ -266,3 +267,44 @@ command-missed rows rule command e f h =
 
 pub grows-on : (a b c : Rows) → Grows a b → Grows b c → Grows a c
 grows-on a b c f g number rule e = g number rule (f number rule e)
+
+-- ---- Rules before the first in a row
+
+-- a bit past the words is not set
+pub bit-outside : (ws : List ℕ) (i : ℕ) → length ws ≤ i / 64 → bit ws i ≡ 0
+bit-outside ws i h = ap (λ w. bit_at w (i % 64)) (past-zero ws (i / 64) h) ∙ bit_at-zero (i % 64)
+
+-- a word that is zero has no bit
+pub bit-zero_word : (ws : List ℕ) (i : ℕ) → get_or ws (i / 64) 0 ≡ 0 → bit ws i ≡ 0
+bit-zero_word ws i e = ap (λ w. bit_at w (i % 64)) e ∙ bit_at-zero (i % 64)
+
+pub starts-none :
+    (rows : Rows) (start : ℕ) → ((k : ℕ) (row : Vec ℕ Global) → slice_get rows k ≡ Some row → (i : ℕ) → i < 64 * start → bit row.items i ≡ 0) →
+    StartsAt rows start
+starts-none rows start h number rule before = go (slice_get rows (number % length rows)) refl
+  where
+    go : (o : Option (Vec ℕ Global)) → slice_get rows (number % length rows) ≡ o → is_in_row rows number rule ≡ false
+    go None e =
+        posted-is rows number rule (number % length rows) refl
+        ∙ ap (λ o. bit (row_words o) rule == 1) e
+        ∙ ne_eqb (bit [] rule) 1 (λ f. let no : ◌≡◌ {A = ℕ} 0 1 = sym (bit-outside [] rule (omega arith)) ∙ f in omega (arith, no))
+    go (Some row) e = posted-none rows number rule row e (h (number % length rows) row e rule before)
+
+groups-before : (rows : Rows) (start rule : ℕ) → StartsAt rows start → rule < 64 * start → (gs : List Group) → list_all (misses_group rows rule) gs ≡ true
+groups-before rows start rule starts before [] = refl
+groups-before rows start rule starts before (g ∷ gs) =
+    both (misses_group rows rule g) (list_all (misses_group rows rule) gs)
+    (both (not (is_in_row rows (group_number g.name) rule)) (not (is_in_row rows (gid_number g.gid) rule))
+    (ap not (starts (group_number g.name) rule before)) (ap not (starts (gid_number g.gid) rule before)))
+    (groups-before rows start rule starts before gs)
+
+pub misses-before : (rows : Rows) (start rule : ℕ) (u : Person) → StartsAt rows start → rule < 64 * start → misses_user rows rule u ≡ true
+misses-before rows start rule u starts before =
+    misses-all rows rule u (ap not (starts 0 rule before)) (ap not (starts (user_bucket u.name) rule before)) (ap not (starts (uid_number u.uid) rule before))
+    (groups-before rows start rule starts before u.groups)
+
+pub get-within : {X : Type 0} (xs : List X) (k : ℕ) (x : X) → slice_get xs k ≡ Some x → k < length xs
+get-within [] zero x e = cc
+get-within [] (suc k) x e = cc
+get-within (y ∷ ys) zero x e = omega arith
+get-within (y ∷ ys) (suc k) x e = let h = get-within ys k x e in omega (arith, h)

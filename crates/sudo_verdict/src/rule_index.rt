@@ -4,7 +4,7 @@ ghost use Rattle.std.specs.Prelude.{ℕ, ◌≡◌, ◌+◌, ◌-◌, ◌*◌, �
 ghost use Rattle.std.specs.Option.{option_or};
 ghost use Rattle.sudo_grammar.specs.declared.policy.Entry.{Entry};
 ghost use Rattle.sudo_verdict.specs.Last.{last_set};
-ghost use Rattle.sudo_verdict.specs.Body.Blocks.{both_have};
+ghost use Rattle.sudo_verdict.specs.Body.Blocks.{StartsAt, both_have};
 ghost use Rattle.sudo_verdict.specs.Body.Queries.{question};
 ghost use Rattle.sudo_verdict.specs.Verdicts.{verdict_of};
 ghost use Rattle.sudo_verdict.specs.Found.{entry_found};
@@ -31,16 +31,21 @@ const BLOCK: usize = 64;
 pub struct RuleIndex {
     users: Rows,
     commands: Rows,
+    // The number of words before the first with a rule.
+    start: usize,
     keys: Keys,
     aliases: Option<Aliases>,
 }
 
 impl Model for RuleIndex {
     ghost use Rattle.sudo_verdict.specs.Postings.{Index};
+    ghost use Rattle.sudo_verdict.specs.Body.Blocks.{StartsAt};
 
     ghost Value = { Index };
 
     ghost view = { λ i. (i.users.rows.items, (i.commands.rows.items, i.keys.rows)) };
+
+    ghost invariant = { λ i. StartsAt i.users.rows.items i.start };
 }
 
 impl RuleIndex {
@@ -61,12 +66,24 @@ impl RuleIndex {
         ensures { IfOk result (Indexes checked.now) }
     {
         let postings = Postings::of(alloc, checked, budget)?;
+        let start = postings
+            .users
+            .rows
+            .start(checked.policy().entries.len() / 64);
         Ok(RuleIndex {
+            start,
             users: postings.users.rows,
             commands: postings.commands.rows,
             keys: Keys::of(alloc, checked)?,
             aliases: Aliases::of(alloc, checked)?,
         })
+    }
+
+    // Returns the number of words before the first with a rule.
+    fn start(&self) -> usize
+        ensures { StartsAt self.now.0 result }
+    {
+        self.start
     }
 
     /// Returns the verdict on the request, as [`crate::verdict`] does, under the policy of this index. Searches only
@@ -99,7 +116,12 @@ fn search_indexed(lists: Lists<'_>, index: &RuleIndex, query: &Query<'_>) -> Opt
 {
     let mut end = lists.checked.policy().entries.len();
     while end > 0 {
-        let first = (end - 1) / (64 * BLOCK) * BLOCK;
+        let last = (end - 1) / 64;
+        let start = index.start();
+        if last < start {
+            return None;
+        }
+        let first = (last / BLOCK * BLOCK).max(start);
         let found = search_block(lists, index, query, first, end);
         if found.is_some() {
             return found;
