@@ -9,6 +9,7 @@ pub mod VerdictVectors
 pub mod Numbering
 pub mod Bits
 pub mod Marking
+pub mod UserMarking
 pub mod Misses
 pub mod Paths
 pub mod Silent

@@ -1,11 +1,15 @@
--- Sets of numbers as bits, and numbers that a command lacks; only proofs of bodies need these definitions.
+-- Sets of numbers as bits, and numbers that a command or a user lacks; only proofs of bodies need these definitions.
 use Rattle.std.specs.Prelude.{◌≡◌, ℕ, ◌%◌, Bool, true, false, not, ◌&&◌, ◌==◌, List, [], ◌∷◌, Option, Some, None, slice_get}
 use Rattle.sudo_grammar.specs.declared.kind.Atom.{Atom}
 use Rattle.sudo_grammar.specs.declared.kind.Member.{Member}
 use Rattle.sudo_grammar.specs.declared.policy.Policy.{Policy}
+use Rattle.std.specs.List.{list_all}
+use Rattle.sudo_match.specs.declared.people.Person.{Person}
+use Rattle.sudo_match.specs.declared.people.Group.{Group}
 use Rattle.sudo_policy.specs.Definitions.{alias_named}
+use Rattle.sudo_verdict.specs.declared.marks.Marks.{Marks}
 use Rattle.sudo_verdict.specs.declared.keys.Keys.{Keys as TheKeys}
-use Rattle.sudo_verdict.specs.Postings.{bit, next_number, bucket_of, whole_seed, beginning_seed, atom_number, policy_keys}
+use Rattle.sudo_verdict.specs.Postings.{bit, next_number, bucket_of, whole_seed, beginning_seed, user_bucket, group_number, uid_number, gid_number, atom_number, policy_keys}
 
 -- the set has the number
 abbrev pub marked : List ℕ → ℕ → Bool
@@ -20,6 +24,22 @@ lacks_beginnings has number (b ∷ bs) = not (has number) && lacks_beginnings ha
 unfoldable pub lacks_command : (ℕ → Bool) → List ℕ → Bool
 lacks_command has command =
     not (has 0) && (not (has (bucket_of whole_seed command)) && lacks_beginnings has beginning_seed command)
+
+-- no number of a group is one of those
+abbrev pub lacks_group : (ℕ → Bool) → Group → Bool
+lacks_group has g = not (has (group_number g.name)) && not (has (gid_number g.gid))
+
+-- no number of a user is one of those
+unfoldable pub lacks_user : (ℕ → Bool) → Person → Bool
+lacks_user has u =
+    not (has 0)
+    && (not (has (user_bucket u.name))
+    && (not (has (uid_number u.uid))
+    && list_all (lacks_group has) u.groups))
+
+-- the set, if there is one, has the numbers of the atoms that match the user
+abbrev pub AreMarksOf : Person → Option Marks → Type 0
+AreMarksOf u marks = (m : Marks) → marks ≡ Some m → lacks_user (λ n. not (marked m.words n)) u ≡ true
 
 -- each atom of the number is no alias, and fails the test
 abbrev pub IsPassed : (Atom → Bool) → ℕ → Type 0

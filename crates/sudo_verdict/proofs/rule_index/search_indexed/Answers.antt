@@ -1,4 +1,4 @@
-use Rattle.std.proofs.Common.{◌≡◌, sym, ◌∙◌, ap, arith}
+use Rattle.std.proofs.Common.{sym, ◌∙◌, ap, arith}
 use Rattle.std.specs.Prelude.{◌||◌}
 use Rattle.sudo_verdict.specs.Body.Queries.{question}
 use Rattle.sudo_verdict.specs.Found.{entry_found}

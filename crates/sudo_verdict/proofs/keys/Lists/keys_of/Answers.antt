@@ -1,4 +1,4 @@
-use Rattle.std.proofs.Common.{sym, ◌∙◌, ap, option_copied}
+use Rattle.std.proofs.Common.{◌∙◌, ap, option_copied}
 use Rattle.sudo_verdict.specs.Postings.{keys_at}
 use Rattle.sudo_verdict.proofs.Keying.{keys-known, have-keys, have-none}
 use Rattle.sudo_verdict.proofs.keys.Lists.keys_of.Goals as goal

@@ -1,4 +1,4 @@
-use Rattle.std.proofs.Common.{◌≡◌, ℕ, Bool, true, false, not, refl, sym, ◌∙◌, ap, arith}
+use Rattle.std.proofs.Common.{◌≡◌, ℕ, Bool, true, false, not, sym, ◌∙◌, ap, arith}
 use Rattle.sudo_verdict.specs.Body.Marking.{marked, lacks_beginnings}
 use Rattle.sudo_verdict.proofs.Marking.{lacks-all, lacks-more, lacks-end}
 use Rattle.sudo_verdict.proofs.marks.Marks.of_command.Goals as goal
@@ -6,11 +6,11 @@ use Rattle.sudo_verdict.proofs.marks.Marks.of_command.Goals as goal
 pub loop-byte-init : goal.loop-byte-init
 loop-byte-init c = record {
   below = omega arith;
-  here = c.add-3.ensures.adds;
+  here = c.add-2.ensures.adds;
   none = λ has out begins.
       lacks-all has c.args.command.now
-      (out 0 (c.add-3.ensures.keeps 0 (c.add-2.ensures.keeps 0 c.add.ensures.adds)))
-      (ap has (sym c.command_number.ensures) ∙ out c.command_number.result (c.add-3.ensures.keeps c.command_number.result c.add-2.ensures.adds))
+      (out 0 (c.add-2.ensures.keeps 0 (c.add.ensures.keeps 0 c.new-marks.ensures)))
+      (ap has (sym c.command_number.ensures) ∙ out c.command_number.result (c.add-2.ensures.keeps c.command_number.result c.add.ensures.adds))
       begins;
 }
 
