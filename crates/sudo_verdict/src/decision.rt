@@ -209,7 +209,8 @@ pub(crate) fn decide_one<S: Subject>(
     aliases: Option<&Aliases>,
 ) -> Option<Decision>
     requires { IsTrue (resolves kind lists.checked.now (member.now ∷ [])) }
-    ensures { result ≡ list_decision kind lists.entry.checked.now (member.now ∷ []) (S.fits subject.now) }
+    ensures { result ≡ list_decision kind lists.entry.checked.now (member.now ∷ [])
+        (S.fits subject.now) }
 {
     match aliases {
         None => decide_member(lists, kind, member, subject, None, &mut []),
@@ -254,7 +255,8 @@ fn decide<S: Subject>(
     requires keys { HaveKeys keys.now members.now }
     requires recalls { Recalls kind lists.checked.now (option_copied numbers) (S.fits subject.now)
         slots.old }
-    ensures value { result ≡ list_decision kind lists.entry.checked.now members.now (S.fits subject.now) }
+    ensures value { result
+        ≡ list_decision kind lists.entry.checked.now members.now (S.fits subject.now) }
     ensures recalls { Recalls kind lists.entry.checked.now (option_copied numbers.entry)
         (S.fits subject.now) slots.new }
 {
@@ -285,8 +287,10 @@ fn decide_member<S: Subject>(
     requires resolves { IsTrue (resolves kind lists.checked.now (member.now ∷ [])) }
     requires recalls { Recalls kind lists.checked.now (option_copied numbers) (S.fits subject.now)
         slots.old }
-    ensures value { result ≡ list_decision kind lists.entry.checked.now (member.now ∷ []) (S.fits subject.now) }
-    ensures recalls { Recalls kind lists.entry.checked.now (option_copied numbers.entry) (S.fits subject.now)
+    ensures value { result
+        ≡ list_decision kind lists.entry.checked.now (member.now ∷ []) (S.fits subject.now) }
+    ensures recalls { Recalls kind lists.entry.checked.now (option_copied numbers.entry)
+        (S.fits subject.now)
         slots.new }
 {
     match &member.atom {

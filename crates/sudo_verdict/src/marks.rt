@@ -4,8 +4,7 @@ ghost use Rattle.std.specs.Prelude.{ℕ, ◌≡◌, ◌<◌, true, not};
 ghost use Rattle.sudo_verdict.specs.Body.Marking.{lacks_command, lacks_user, marked};
 
 use crate::numbers::{
-    BEGINNING, EVERYONE, command_number, gid_number, group_number, next_number, uid_number,
-    user_bucket,
+    BEGINNING, EVERYONE, WHOLE, gid_number, group_number, next_number, uid_number, user_bucket,
 };
 use crate::rows::set_bit;
 use sudo_match::Person;
@@ -53,15 +52,17 @@ impl Marks {
         ensures { lacks_command (λ n. not (marked result.words n)) command.now ≡ true }
     {
         let mut marks = Marks::new();
-        marks.add(command_number(command));
         marks.add(BEGINNING);
         let mut number = BEGINNING;
+        let mut whole = WHOLE;
         let mut left = command;
         while let Some((byte, rest)) = left.split_first() {
             number = next_number(number, *byte);
+            whole = next_number(whole, *byte);
             marks.add(number);
             left = rest;
         }
+        marks.add(whole);
         marks
     }
 

@@ -109,7 +109,8 @@ impl Query<'_> {
     /// Whether a rule's user list allows the invoking user.
     pub(crate) fn user_listed(&self, lists: Lists<'_>, users: &[Member]) -> bool
         requires { IsTrue (resolves kind.User lists.checked.now users.now) }
-        ensures { result ≡ values.user_listed lists.entry.checked.now users.now (question self.now) }
+        ensures { result ≡ values.user_listed lists.entry.checked.now users.now
+            (question self.now) }
     {
         if !name_alias(users) {
             let user = AsUser {
@@ -128,7 +129,8 @@ impl Query<'_> {
     /// Whether a section's host list allows the host.
     pub(crate) fn host_listed(&self, lists: Lists<'_>, hosts: &[Member]) -> bool
         requires { IsTrue (resolves kind.Host lists.checked.now hosts.now) }
-        ensures { result ≡ values.host_listed lists.entry.checked.now hosts.now (question self.now) }
+        ensures { result ≡ values.host_listed lists.entry.checked.now hosts.now
+            (question self.now) }
     {
         let host = AsHost { host: self.host };
         value(lists, Kind::Host, hosts, &host, self.aliases).unwrap_or(false)
@@ -156,7 +158,8 @@ impl Query<'_> {
     ) -> bool
         requires users { IsTrue (list_resolves lists.checked.now users.now) }
         requires groups { IsTrue (list_resolves lists.checked.now groups.now) }
-        ensures { result ≡ form.form_allows lists.entry.checked.now (question self.now) users.now groups.now }
+        ensures { result ≡ form.form_allows lists.entry.checked.now
+            (question self.now) users.now groups.now }
     {
         match (users, groups) {
             (Some(users), Some(groups)) => self.users_and_groups_allow(
@@ -202,7 +205,8 @@ impl Query<'_> {
     // Whether the form `(:groups)` allows it.
     fn groups_allow(&self, lists: Lists<'_>, groups: &[Member]) -> bool
         requires { IsTrue (resolves kind.Runas lists.checked.now groups.now) }
-        ensures { result ≡ form.groups_allow lists.entry.checked.now (question self.now) groups.now }
+        ensures { result ≡ form.groups_allow lists.entry.checked.now
+            (question self.now) groups.now }
     {
         is_own(self.user, self.asked) && self.group_allowed(lists, self.user, groups)
     }

@@ -106,7 +106,8 @@ fn search_sections(
     sections: &[Section],
 ) -> Option<Verdict>
     requires { IsTrue (list_all (section_resolves lists.checked.now) sections.now) }
-    ensures { result ≡ last_set (map (section_found lists.entry.checked.now (question query.now) place)
+    ensures { result ≡ last_set (map (section_found lists.entry.checked.now
+        (question query.now) place)
         sections.now) }
 {
     let mut left = sections;
@@ -127,7 +128,8 @@ fn search_section(
     section: &Section,
 ) -> Option<Verdict>
     requires { IsTrue (section_resolves lists.checked.now section.now) }
-    ensures { result ≡ section_found lists.entry.checked.now (question query.now) place section.now }
+    ensures { result ≡ section_found lists.entry.checked.now
+        (question query.now) place section.now }
 {
     if query.host_listed(lists, section.hosts.as_slice()) {
         search_places(lists, query, place, section.commands.as_slice())
@@ -143,7 +145,8 @@ fn search_places(
     commands: &[CommandSpec],
 ) -> Option<Verdict>
     requires { IsTrue (list_all (command_resolves lists.checked.now) commands.now) }
-    ensures { result ≡ commands_found lists.entry.checked.now (question query.now) place commands.now
+    ensures { result ≡ commands_found lists.entry.checked.now
+        (question query.now) place commands.now
         (length commands.now) }
 {
     let mut refused = false;
@@ -184,7 +187,8 @@ fn search_command(
         (runas_before commands.now) ≡ false }
     ensures verdict { result.verdict ≡ command_found lists.entry.checked.now
         (question query.now) place commands.now spec.now }
-    ensures refused { result.refused ≡ true → runas_allows lists.entry.checked.now (question query.now)
+    ensures refused { result.refused
+        ≡ true → runas_allows lists.entry.checked.now (question query.now)
         (runas_before commands.now) ≡ false }
 {
     if refused {
