@@ -1,11 +1,11 @@
 //! Checked policies.
-ghost use Rattle.std.specs.Prelude.{◌≡◌, Some, None, List, option_copied, IfOk, IfErr, IfSome, IsTrue};
+ghost use Rattle.std.specs.Prelude.{◌≡◌, Some, None, List, option_copied, option_and_then, IfOk, IfErr, IfSome, IsTrue};
 ghost use Rattle.sudo_policy.specs.Checking.{Passes};
 ghost use Rattle.sudo_policy.specs.Definitions.{in_force};
-ghost use Rattle.sudo_policy.specs.Positions.{IsIndex};
+ghost use Rattle.sudo_policy.specs.Positions.{IsIndex, members_at};
 ghost use Rattle.sudo_policy.specs.Resolving.{resolves, IsSound};
 
-use crate::index::{Index, members_at};
+use crate::index::{Index, Position, members_at};
 use std::marker::Model;
 use sudo_grammar::{Kind, Member, Policy};
 
@@ -55,6 +55,20 @@ impl Checked {
         ensures resolves { IfSome result (λ members. IsTrue (resolves kind self.now members.now)) }
     {
         let position = self.index.position(kind, name)?;
+        members_at(&self.policy, position)
+    }
+
+    /// Returns the position of the alias's definition in force, or `None` if there is none. Does not allocate.
+    pub fn position(&self, kind: Kind, name: &[u8]) -> Option<Position>
+        ensures { in_force kind self.now name.now ≡ option_and_then (members_at self.now) result }
+    {
+        self.index.position(kind, name)
+    }
+
+    /// Returns the list of the definition at a position, or `None` if there is none. Does not allocate.
+    pub fn members_at(&self, position: Position) -> Option<&[Member]>
+        ensures { option_copied result ≡ members_at self.now position }
+    {
         members_at(&self.policy, position)
     }
 }

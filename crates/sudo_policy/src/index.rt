@@ -11,9 +11,11 @@ use sudo_grammar::{EntryBody, Kind, Member, Policy};
 
 /// The position of a definition: the index of the entry, and the index of the definition in it.
 #[derive(Clone, Copy, Debug)]
-pub(crate) struct Position {
-    pub(crate) entry: usize,
-    pub(crate) definition: usize,
+pub struct Position {
+    /// The index of the entry in the policy.
+    pub entry: usize,
+    /// The index of the definition in the entry.
+    pub definition: usize,
 }
 
 /// The definitions in force: for each kind, the number of each name's definition, and the position of each definition.

@@ -21,6 +21,7 @@ pub use checking::{CheckFault, check, has_error};
 pub use examination::findings;
 pub use expansion::{ExpandFault, expand};
 pub use finding::{Class, Finding};
+pub use index::Position;
 pub use law::{findings_are_one_list, lists_are_written, written_form_is_one};
 pub use member::{alias_name, is_negated};
 pub use sudo_grammar::{

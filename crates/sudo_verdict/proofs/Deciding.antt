@@ -1,7 +1,7 @@
 -- The decision of a list, by the decisions of its parts: that of the last part that decides at all.
 use Rattle.std.proofs.Common.{◌≡◌, ℕ, ◌<◌, ◌≤◌, Bool, true, false, not, cond, List, [], ◌∷◌, ◌++◌, map, Option, Some, None, refl, sym, ◌∙◌, ap, arith}
 use Rattle.std.specs.Option.{option_or, option_map, is_some}
-use Rattle.std.proofs.Common.{length}
+use Rattle.std.proofs.Common.{length, take}
 use Rattle.std.proofs.lemmas.Bool.{and_parts, both_ways}
 use Rattle.sudo_grammar.specs.declared.kind.Kind.{Kind}
 use Rattle.sudo_grammar.specs.declared.kind.Atom.{Atom}
@@ -19,7 +19,12 @@ use Rattle.sudo_verdict.specs.Values.{value}
 use Rattle.sudo_verdict.specs.Last.{last_that}
 use Rattle.sudo_verdict.specs.Decided.{list_decision, decided_in, decision_of, negated_once}
 use Rattle.sudo_verdict.specs.declared.decision.Decision.{Decision}
-use Rattle.sudo_verdict.proofs.Lasts.{last_that_append, last_that_map, option_map_or, option_map_map}
+use Rattle.sudo_policy.specs.Definitions.{alias_named}
+use Rattle.sudo_policy.specs.Positions.{members_at}
+use Rattle.sudo_policy.specs.declared.index.Position.{Position}
+use Rattle.sudo_verdict.specs.Body.Marking.{HaveKeys, IsPassedAt}
+use Rattle.std.specs.Prelude.{slice_get, option_and_then}
+use Rattle.sudo_verdict.proofs.Lasts.{last-at, last_that_append, last_that_map, option_map_or, option_map_map}
 
 one : (s : Signed) (b : Bool) → option_map decision_of (cond b (Some s) None) ≡ cond b (Some (decision_of s)) None
 one s true = refl
@@ -130,3 +135,22 @@ last_is k p test left rest m is None e some = cc
 pub none-is : {X : Type 0} (o : Option X) → is_some o ≡ false → o ≡ None
 none-is None e = refl
 none-is (Some x) e = cc
+
+-- The definition in force, by its position.
+pub found-at :
+    (k : Kind) (p : Policy) (name read : List ℕ) (o : Option Position) (at : Position) (ds : List Member) → read ≡ name →
+    in_force k p read ≡ option_and_then (members_at p) o → o ≡ Some at → members_at p at ≡ Some ds → Some ds ≡ in_force k p name
+found-at k p name read o at ds same known is there =
+    sym (ap (in_force k p) (sym same) ∙ known ∙ ap (option_and_then (members_at p)) is ∙ there)
+
+-- A member whose key is passed over is silent.
+pub passed-silent :
+    (k : Kind) (p : Policy) (test : Atom → Bool) (keys : List ℕ) (members left rest : List Member) (m : Member) → left ≡ rest ++ m ∷ [] →
+    left ≡ take (length left) members → HaveKeys keys members → IsPassedAt test (slice_get keys (length rest)) → list_decision k p (m ∷ []) test ≡ None
+passed-silent k p test keys members left rest m is front have passed = go (slice_get keys (length rest)) refl passed
+  where
+    go : (o : Option ℕ) → slice_get keys (length rest) ≡ o → IsPassedAt test o → list_decision k p (m ∷ []) test ≡ None
+    go None e h = absurd h
+    go (Some n) e h =
+        let both = h m.atom (have (length rest) n m e (last-at members left rest m is front)) in
+        sym (atom_silent k p test m (λ name alias. let no : None ≡ Some name = sym both.0 ∙ ap alias_named alias in cc) both.1)

@@ -1,5 +1,6 @@
 -- The last item that passes, in appended and in mapped lists.
-use Rattle.std.proofs.Common.{◌≡◌, Bool, true, false, cond, ◌&&◌, List, [], ◌∷◌, ◌++◌, map, Option, Some, None, refl, sym, ◌∙◌, ap}
+use Rattle.std.proofs.Common.{◌≡◌, Bool, true, false, cond, ◌&&◌, List, [], ◌∷◌, ◌++◌, map, Option, Some, None, refl, sym, ◌∙◌, ap, ℕ, zero, suc, take, length-append, arith}
+use Rattle.std.specs.Prelude.{slice_get}
 use Rattle.std.specs.Option.{option_or, option_map}
 use Rattle.std.specs.List.{list_all}
 use Rattle.std.proofs.Common.{length}
@@ -81,3 +82,37 @@ module _ {X : Type 0} (t : X → Bool) (left rest : List X) (m : X) (is : left �
 
   pub back_last : t m ≡ true
   back_last = (and_parts (t m) true back_parts.1).0
+
+-- ---- The first items of a list, and the last of them
+
+pub end-there : {X : Type 0} (rest : List X) (x : X) → slice_get (rest ++ x ∷ []) (length rest) ≡ Some x
+end-there [] x = refl
+end-there (y ∷ rest) x = end-there rest x
+
+pub take-there : {X : Type 0} (n : ℕ) (xs : List X) → slice_get (take (suc n) xs) n ≡ slice_get xs n
+take-there n [] = refl
+take-there zero (x ∷ xs) = refl
+take-there (suc n) (x ∷ xs) = take-there n xs
+
+pub front-shorter : {X : Type 0} (rest : List X) (x : X) (xs : List X) → rest ++ x ∷ [] ≡ take (suc (length rest)) xs → rest ≡ take (length rest) xs
+front-shorter [] x xs h = refl
+front-shorter (y ∷ rest) x [] h = cc
+front-shorter (y ∷ rest) x (z ∷ xs) h =
+    let t : rest ++ x ∷ [] ≡ take (suc (length rest)) xs = cc
+    in let ih : rest ≡ take (length rest) xs = front-shorter rest x xs t
+    in let e : y ≡ z = cc
+    in let one : y ∷ rest ≡ y ∷ take (length rest) xs = ap (λ l. y ∷ l) ih
+    in one ∙ ap (λ a. a ∷ take (length rest) xs) e
+
+front-suc : {X : Type 0} (xs left rest : List X) (x : X) → left ≡ rest ++ x ∷ [] → left ≡ take (length left) xs → left ≡ take (suc (length rest)) xs
+front-suc xs left rest x is front =
+    let longer : length left ≡ suc (length rest) = rw is (omega (arith, length-append rest (x ∷ []))) in
+    front ∙ ap (λ n. take n xs) longer
+
+-- the last of the first items is where the items before it end
+pub last-at : {X : Type 0} (xs left rest : List X) (x : X) → left ≡ rest ++ x ∷ [] → left ≡ take (length left) xs → slice_get xs (length rest) ≡ Some x
+last-at xs left rest x is front =
+    sym (take-there (length rest) xs) ∙ ap (λ l. slice_get l (length rest)) (sym (front-suc xs left rest x is front) ∙ is) ∙ end-there rest x
+
+pub front-rest : {X : Type 0} (xs left rest : List X) (x : X) → left ≡ rest ++ x ∷ [] → left ≡ take (length left) xs → rest ≡ take (length rest) xs
+front-rest xs left rest x is front = front-shorter rest x xs (sym is ∙ front-suc xs left rest x is front)

@@ -1,3 +1,4 @@
+pub mod Keying
 pub mod Lasts
 pub mod Recalling
 pub mod Deciding
@@ -7,6 +8,8 @@ pub mod Resolving
 pub mod VerdictVectors
 pub mod Numbering
 pub mod Bits
+pub mod Marking
+pub mod UserMarking
 pub mod Misses
 pub mod Paths
 pub mod Silent

@@ -1,22 +1,23 @@
 -- Rows of rules: rows with one more rule, blocks with the rules of a number, and rules in no row of a user or of a
 -- command, whose atoms the user cannot match.
-use Rattle.std.proofs.Common.{◌≡◌, ℕ, zero, suc, ◌+◌, ◌-◌, ◌*◌, ◌/◌, ◌%◌, ◌<◌, ◌≤◌, Bool, true, false, not, ◌&&◌, ◌||◌, List, [], ◌∷◌, length, get_or, drop, take, Some, refl, sym, ◌∙◌, ap, subst, arith, ◌⊎◌, inl, inr, Vec, Global}
-use Rattle.std.specs.Prelude.{slice_get, ◌==◌, bytes_eq}
-use Rattle.std.specs.List.{list_any, list_all}
+use Rattle.std.proofs.Common.{◌≡◌, ℕ, zero, suc, ◌+◌, ◌-◌, ◌*◌, ◌/◌, ◌%◌, ◌<◌, ◌≤◌, Bool, true, false, not, ◌&&◌, List, [], ◌∷◌, length, get_or, drop, take, Option, Some, None, refl, sym, ◌∙◌, ap, subst, arith, ◌⊎◌, inl, inr, Vec, Global}
+use Rattle.std.specs.Prelude.{slice_get, ◌==◌}
+use Rattle.std.specs.List.{list_all}
 use Rattle.std.proofs.Math.ListN.{set}
 use Rattle.std.proofs.Math.Nat.{mod-lt}
 use Rattle.std.proofs.lemmas.Bool.{cases_eq, and_parts, eqb-true, eq-eqb, ne_eqb}
 use Rattle.std.proofs.lemmas.List.{length-set}
-use Rattle.std.proofs.lemmas.Slice.Eq.{bytes_eq-Decides}
 use Rattle.std.specs.Int.{bit_at}
 use Rattle.std.proofs.lemmas.Nat.Bits.{bit_at-zero}
 use Rattle.sudo_verdict.proofs.Bits.{past-zero}
 use Rattle.sudo_policy.proofs.StateLemmas.{get_set_same, get_set_other}
 use Rattle.sudo_grammar.specs.declared.kind.Atom.{Atom}
-use Rattle.sudo_grammar.specs.declared.kind.Atom.TheVariants as atom
 use Rattle.sudo_match.specs.declared.people.Person.{Person}
 use Rattle.sudo_match.specs.declared.people.Group.{Group}
 use Rattle.sudo_match.specs.Matching.{user_fits}
+use Rattle.sudo_verdict.specs.Body.Blocks.{StartsAt}
+use Rattle.sudo_verdict.specs.Body.Marking.{lacks_user}
+use Rattle.sudo_verdict.proofs.UserMarking.{lacked-user_atom}
 use Rattle.sudo_verdict.specs.Postings.{bit, row_words, Rows, is_in_row, Grows, next_number, bucket_of, user_bucket, group_number, uid_number, gid_number, whole_seed, beginning_seed, atom_number, misses_group, misses_user, misses_beginnings, misses_command}
 
 -- ---- The row of a number
@@ -161,71 +162,14 @@ misses-old old new grows rule u e =
     (keeps-not (is_in_row old (uid_number u.uid) rule) (is_in_row new (uid_number u.uid) rule) (grows (uid_number u.uid) rule) parts.1.1.0)
     (groups-old old new grows rule u.groups parts.1.1.1)
 
--- no group of the user has a name, or an ID, under which the rule is found
-
-named-none :
-    (rows : Rows) (rule : ℕ) (name : List ℕ) (gs : List Group) → list_all (misses_group rows rule) gs ≡ true →
-    is_in_row rows (group_number name) rule ≡ true → list_any (λ (g : Group). bytes_eq g.name name) gs ≡ false
-named-none rows rule name [] e there = refl
-named-none rows rule name (g ∷ gs) e there =
-    let here = and_parts (misses_group rows rule g) (list_all (misses_group rows rule) gs) e in
-    let two = and_parts (not (is_in_row rows (group_number g.name) rule)) (not (is_in_row rows (gid_number g.gid) rule)) here.0 in
-    test (bytes_eq g.name name) refl two.0 (named-none rows rule name gs here.1 there)
-  where
-    test : (b : Bool) → bytes_eq g.name name ≡ b → not (is_in_row rows (group_number g.name) rule) ≡ true → list_any (λ (x : Group). bytes_eq x.name name) gs ≡ false
-        → (b || list_any (λ (x : Group). bytes_eq x.name name) gs) ≡ false
-    test true f missed rest =
-        let same : g.name ≡ name = (bytes_eq-Decides g.name name).0 f in
-        absurd (never (is_in_row rows (group_number g.name) rule) (ap (λ n. is_in_row rows (group_number n) rule) same ∙ there) missed)
-    test false f missed rest = rest
-
-bucket_of-none :
-    (rows : Rows) (rule gid : ℕ) (gs : List Group) → list_all (misses_group rows rule) gs ≡ true →
-    is_in_row rows (gid_number gid) rule ≡ true → list_any (λ (g : Group). g.gid == gid) gs ≡ false
-bucket_of-none rows rule gid [] e there = refl
-bucket_of-none rows rule gid (g ∷ gs) e there =
-    let here = and_parts (misses_group rows rule g) (list_all (misses_group rows rule) gs) e in
-    let two = and_parts (not (is_in_row rows (group_number g.name) rule)) (not (is_in_row rows (gid_number g.gid) rule)) here.0 in
-    test (g.gid == gid) refl two.1 (bucket_of-none rows rule gid gs here.1 there)
-  where
-    test : (b : Bool) → (g.gid == gid) ≡ b → not (is_in_row rows (gid_number g.gid) rule) ≡ true → list_any (λ (x : Group). x.gid == gid) gs ≡ false
-        → (b || list_any (λ (x : Group). x.gid == gid) gs) ≡ false
-    test true f missed rest =
-        let same : g.gid ≡ gid = eqb-true g.gid gid f in
-        absurd (never (is_in_row rows (gid_number g.gid) rule) (ap (λ n. is_in_row rows (gid_number n) rule) same ∙ there) missed)
-    test false f missed rest = rest
-
-named-other :
-    (rows : Rows) (rule : ℕ) (name other : List ℕ) → not (is_in_row rows (user_bucket other) rule) ≡ true → is_in_row rows (user_bucket name) rule ≡ true →
-    bytes_eq name other ≡ false
-named-other rows rule name other missed there = test (bytes_eq name other) refl
-  where
-    test : (b : Bool) → bytes_eq name other ≡ b → b ≡ false
-    test false f = refl
-    test true f =
-        let same : name ≡ other = (bytes_eq-Decides name other).0 f in
-        absurd (never (is_in_row rows (user_bucket other) rule) (ap (λ n. is_in_row rows (user_bucket n) rule) (sym same) ∙ there) missed)
-
-bucket_of-other :
-    (rows : Rows) (rule uid other : ℕ) → not (is_in_row rows (uid_number other) rule) ≡ true → is_in_row rows (uid_number uid) rule ≡ true →
-    (uid == other) ≡ false
-bucket_of-other rows rule uid other missed there = test (uid == other) refl
-  where
-    test : (b : Bool) → (uid == other) ≡ b → b ≡ false
-    test false f = refl
-    test true f =
-        let same : uid ≡ other = eqb-true uid other f in
-        absurd (never (is_in_row rows (uid_number other) rule) (ap (λ n. is_in_row rows (uid_number n) rule) (sym same) ∙ there) missed)
+-- the numbers whose rows have the rule are numbers that the user lacks
+lacks-rows : (rows : Rows) (rule : ℕ) (u : Person) → misses_user rows rule u ≡ lacks_user (λ n. is_in_row rows n rule) u
+unfolding misses_user lacks_user
+lacks-rows rows rule u = refl
 
 -- an atom under which the rule is found does not fit the user
 pub misses-atom : (rows : Rows) (rule : ℕ) (u : Person) (a : Atom) → misses_user rows rule u ≡ true → is_in_row rows (atom_number a) rule ≡ true → user_fits a u ≡ false
-unfolding atom_number user_fits
-misses-atom rows rule u (atom.Name name) e there = named-other rows rule name u.name (misses-parts rows rule u e).1.0 there
-misses-atom rows rule u (atom.Uid uid) e there = bucket_of-other rows rule uid u.uid (misses-parts rows rule u e).1.1.0 there
-misses-atom rows rule u (atom.Group name) e there = named-none rows rule name u.groups (misses-parts rows rule u e).1.1.1 there
-misses-atom rows rule u (atom.Gid gid) e there = bucket_of-none rows rule gid u.groups (misses-parts rows rule u e).1.1.1 there
-misses-atom rows rule u (atom.Command path args) e there = refl
-misses-atom rows rule u _ e there = absurd (never (is_in_row rows 0 rule) there (misses-parts rows rule u e).0)
+misses-atom rows rule u a e there = (lacked-user_atom (λ n. is_in_row rows n rule) u a (sym (lacks-rows rows rule u) ∙ e) there).1
 
 -- a rule that every user finds
 pub misses-never : (rows : Rows) (rule : ℕ) (u : Person) → is_in_row rows 0 rule ≡ true → misses_user rows rule u ≡ true → ⊥
@@ -266,3 +210,44 @@ command-missed rows rule command e f h =
 
 pub grows-on : (a b c : Rows) → Grows a b → Grows b c → Grows a c
 grows-on a b c f g number rule e = g number rule (f number rule e)
+
+-- ---- Rules before the first in a row
+
+-- a bit past the words is not set
+pub bit-outside : (ws : List ℕ) (i : ℕ) → length ws ≤ i / 64 → bit ws i ≡ 0
+bit-outside ws i h = ap (λ w. bit_at w (i % 64)) (past-zero ws (i / 64) h) ∙ bit_at-zero (i % 64)
+
+-- a word that is zero has no bit
+pub bit-zero_word : (ws : List ℕ) (i : ℕ) → get_or ws (i / 64) 0 ≡ 0 → bit ws i ≡ 0
+bit-zero_word ws i e = ap (λ w. bit_at w (i % 64)) e ∙ bit_at-zero (i % 64)
+
+pub starts-none :
+    (rows : Rows) (start : ℕ) → ((k : ℕ) (row : Vec ℕ Global) → slice_get rows k ≡ Some row → (i : ℕ) → i < 64 * start → bit row.items i ≡ 0) →
+    StartsAt rows start
+starts-none rows start h number rule before = go (slice_get rows (number % length rows)) refl
+  where
+    go : (o : Option (Vec ℕ Global)) → slice_get rows (number % length rows) ≡ o → is_in_row rows number rule ≡ false
+    go None e =
+        posted-is rows number rule (number % length rows) refl
+        ∙ ap (λ o. bit (row_words o) rule == 1) e
+        ∙ ne_eqb (bit [] rule) 1 (λ f. let no : ◌≡◌ {A = ℕ} 0 1 = sym (bit-outside [] rule (omega arith)) ∙ f in omega (arith, no))
+    go (Some row) e = posted-none rows number rule row e (h (number % length rows) row e rule before)
+
+groups-before : (rows : Rows) (start rule : ℕ) → StartsAt rows start → rule < 64 * start → (gs : List Group) → list_all (misses_group rows rule) gs ≡ true
+groups-before rows start rule starts before [] = refl
+groups-before rows start rule starts before (g ∷ gs) =
+    both (misses_group rows rule g) (list_all (misses_group rows rule) gs)
+    (both (not (is_in_row rows (group_number g.name) rule)) (not (is_in_row rows (gid_number g.gid) rule))
+    (ap not (starts (group_number g.name) rule before)) (ap not (starts (gid_number g.gid) rule before)))
+    (groups-before rows start rule starts before gs)
+
+pub misses-before : (rows : Rows) (start rule : ℕ) (u : Person) → StartsAt rows start → rule < 64 * start → misses_user rows rule u ≡ true
+misses-before rows start rule u starts before =
+    misses-all rows rule u (ap not (starts 0 rule before)) (ap not (starts (user_bucket u.name) rule before)) (ap not (starts (uid_number u.uid) rule before))
+    (groups-before rows start rule starts before u.groups)
+
+pub get-within : {X : Type 0} (xs : List X) (k : ℕ) (x : X) → slice_get xs k ≡ Some x → k < length xs
+get-within [] zero x e = cc
+get-within [] (suc k) x e = cc
+get-within (y ∷ ys) zero x e = omega arith
+get-within (y ∷ ys) (suc k) x e = let h = get-within ys k x e in omega (arith, h)

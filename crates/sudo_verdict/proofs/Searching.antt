@@ -39,7 +39,7 @@ use Rattle.sudo_verdict.specs.Verdicts.{verdict_by, verdict_on, verdict_if_any, 
 use Rattle.sudo_verdict.specs.Questions.{question_of}
 use Rattle.sudo_verdict.specs.Found.{found, verdict_from, command_found, found_if_any, commands_found, section_found, rule_found, body_found, entry_found}
 use Rattle.std.specs.Prelude.{is_some}
-use Rattle.sudo_verdict.proofs.Lasts.{last_set_map_push, last_that_append, last_that_map, option_map_or, option_map_map}
+use Rattle.sudo_verdict.proofs.Lasts.{last_set_map_push, last_that_append, last_that_map, option_map_or, option_map_map, end-there, take-there, front-shorter}
 
 option_map_cond : {X Y : Type 0} (b : Bool) (f : X → Y) (o : Option X) → option_map f (cond b o None) ≡ cond b (option_map f o) None
 option_map_cond true f o = refl
@@ -167,24 +167,6 @@ verdict_found p q =
     ∙ ap (λ o. unwrap_or o NoMatch) (found_flat_map p q (entry_grants p) p.entries ∙ found_entries p q p.entries)
 
 -- The last place of the first n of a section.
-get_end : (rest : List CommandSpec) (c : CommandSpec) → slice_get (rest ++ c ∷ []) (length rest) ≡ Some c
-get_end [] c = refl
-get_end (x ∷ rest) c = get_end rest c
-
-get_take : (n : ℕ) (cs : List CommandSpec) → slice_get (take (suc n) cs) n ≡ slice_get cs n
-get_take n [] = refl
-get_take zero (x ∷ cs) = refl
-get_take (suc n) (x ∷ cs) = get_take n cs
-
-front_shorter : (rest : List CommandSpec) (c : CommandSpec) (cs : List CommandSpec) → rest ++ c ∷ [] ≡ take (suc (length rest)) cs → rest ≡ take (length rest) cs
-front_shorter [] c cs h = refl
-front_shorter (x ∷ rest) c [] h = cc
-front_shorter (x ∷ rest) c (y ∷ cs) h =
-    let t : rest ++ c ∷ [] ≡ take (suc (length rest)) cs = cc
-    in let ih : rest ≡ take (length rest) cs = front_shorter rest c cs t
-    in let e : x ≡ y = cc
-    in ap2 (λ a b. a ∷ b) e ih
-
 module _ (p : Policy) (q : Question) (place : Place) (cs left rest : List CommandSpec) (c : CommandSpec)
     (is : left ≡ rest ++ c ∷ []) (front : left ≡ take (length left) cs) where
   one_longer : length left ≡ suc (length rest)
@@ -194,10 +176,10 @@ module _ (p : Policy) (q : Question) (place : Place) (cs left rest : List Comman
   front_suc = front ∙ ap (λ n. take n cs) one_longer
 
   last_there : slice_get cs (length rest) ≡ Some c
-  last_there = sym (get_take (length rest) cs) ∙ ap (λ l. slice_get l (length rest)) (sym front_suc ∙ is) ∙ get_end rest c
+  last_there = sym (take-there (length rest) cs) ∙ ap (λ l. slice_get l (length rest)) (sym front_suc ∙ is) ∙ end-there rest c
 
   pub places_rest : rest ≡ take (length rest) cs
-  places_rest = front_shorter rest c cs (sym is ∙ front_suc)
+  places_rest = front-shorter rest c cs (sym is ∙ front_suc)
 
   places_step : commands_found p q place cs (length left) ≡ option_or (command_found p q place left c) (commands_found p q place cs (length rest))
   unfolding commands_found

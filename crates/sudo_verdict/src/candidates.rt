@@ -53,6 +53,9 @@ fn last_bit_before(word: u64, end: usize) -> usize
     ensures within { result ≤ end }
     ensures none { (i : ℕ) → result ≤ i → i < end → bit_at word i ≡ 0 }
 {
+    if word == 0 {
+        return 0;
+    }
     let low = if end < 64 { word % (1 << end) } else { word };
     64 - low.leading_zeros() as usize
 }

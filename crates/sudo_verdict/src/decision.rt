@@ -1,20 +1,23 @@
 //! The decision of a list on a user, a group, a host or a command.
 
-ghost use Rattle.std.specs.Prelude.{◌≡◌, ◌∷◌, [], Bool, IsTrue, option_copied, option_map};
+ghost use Rattle.std.specs.Prelude.{ℕ, ◌≡◌, ◌∷◌, [], Bool, true, not, IsTrue, Some, option_copied, option_map, slice_get};
 ghost use Rattle.sudo_grammar.specs.declared.kind.Atom.{Atom};
 ghost use Rattle.sudo_policy.specs.Resolving.{resolves};
 ghost use Rattle.sudo_match.specs.Beginnings.{has_special};
 ghost use Rattle.sudo_match.specs.Matching.{user_fits, group_fits, host_fits, command_fits};
 ghost use Rattle.sudo_verdict.specs.Values as values;
+ghost use Rattle.sudo_verdict.specs.Body.Marking.{AreMarksOf, HaveKeys, IsPassed, IsPassedAt, lacks_command, marked};
 ghost use Rattle.sudo_verdict.specs.Body.Recalling.{Recalls};
 ghost use Rattle.sudo_verdict.specs.Decided.{list_decision, negated_once};
 
 use crate::aliases::{Aliases, Numbers, REMEMBERED, Slot, number_of, recall, remember};
+use crate::keys::Lists;
+use crate::marks::Marks;
 use sudo_match::{
     Group, Machine, Person, command_differs, command_matches, group_matches, host_matches,
     user_matches,
 };
-use sudo_policy::{Atom, Checked, Kind, Member, is_negated};
+use sudo_policy::{Atom, Kind, Member, is_negated};
 
 /// A user, a group, a host or a command, with which the members of a list are matched.
 pub(crate) trait Subject {
@@ -23,12 +26,20 @@ pub(crate) trait Subject {
     /// Whether the atom matches the subject.
     fn matches(&self, atom: &Atom) -> bool
         ensures { result ≡ fits self.now atom.now };
+
+    /// Whether no atom with this number matches the subject. False where that is not known, and for the number of
+    /// aliases.
+    fn misses(&self, number: usize) -> bool
+        ensures { result ≡ true → IsPassed (fits self.now) number };
 }
 
 /// A user, matched with the members of a user list or of a runas user list.
 #[derive(Clone, Copy)]
 pub(crate) struct AsUser<'a> {
     pub(crate) user: &'a Person,
+    /// The numbers of the atoms that may match the user, if they are known.
+    pub(crate) marks: Option<Marks>,
+    ghost marked: { AreMarksOf user.now marks },
 }
 
 impl Subject for AsUser<'_> {
@@ -36,6 +47,13 @@ impl Subject for AsUser<'_> {
 
     fn matches(&self, atom: &Atom) -> bool {
         user_matches(atom, self.user)
+    }
+
+    fn misses(&self, number: usize) -> bool {
+        match &self.marks {
+            Some(marks) => !marks.has(number),
+            None => false,
+        }
     }
 }
 
@@ -51,6 +69,10 @@ impl Subject for AsGroup<'_> {
     fn matches(&self, atom: &Atom) -> bool {
         group_matches(atom, self.group)
     }
+
+    fn misses(&self, _number: usize) -> bool {
+        false
+    }
 }
 
 /// A host, matched with the members of a host list.
@@ -65,6 +87,10 @@ impl Subject for AsHost<'_> {
     fn matches(&self, atom: &Atom) -> bool {
         host_matches(atom, self.host)
     }
+
+    fn misses(&self, _number: usize) -> bool {
+        false
+    }
 }
 
 /// A command with its arguments, matched with the members of a command list.
@@ -74,7 +100,10 @@ pub(crate) struct AsCommand<'a> {
     pub(crate) arguments: &'a [u8],
     /// Whether the command has a byte that is special in patterns.
     pub(crate) special: bool,
+    /// The numbers of the atoms that may match the command.
+    pub(crate) marks: Marks,
     ghost known: { special ≡ has_special command.now },
+    ghost marked: { lacks_command (λ n. not (marked marks.words n)) command.now ≡ true },
 }
 
 impl Subject for AsCommand<'_> {
@@ -85,6 +114,10 @@ impl Subject for AsCommand<'_> {
             return false;
         }
         command_matches(atom, self.command, self.arguments)
+    }
+
+    fn misses(&self, number: usize) -> bool {
+        !self.marks.has(number)
     }
 }
 
@@ -123,16 +156,16 @@ pub(crate) fn is_all(atom: &Atom) -> bool
 /// Returns the sign of the last member of the written-out list that matches (true for allow), or `None` if none
 /// matches.
 pub(crate) fn value<S: Subject>(
-    checked: &Checked,
+    lists: Lists<'_>,
     kind: Kind,
     members: &[Member],
     subject: &S,
     aliases: Option<&Aliases>,
 ) -> Option<bool>
-    requires { IsTrue (resolves kind checked.now members.now) }
-    ensures { result ≡ values.value kind checked.now members.now (S.fits subject.now) }
+    requires { IsTrue (resolves kind lists.checked.now members.now) }
+    ensures { result ≡ values.value kind lists.entry.checked.now members.now (S.fits subject.now) }
 {
-    match decide_list(checked, kind, members, subject, aliases) {
+    match decide_list(lists, kind, members, subject, aliases) {
         Some(decision) => Some(!decision.negated),
         None => None,
     }
@@ -140,23 +173,24 @@ pub(crate) fn value<S: Subject>(
 
 /// Returns the decision of a list, or `None` if no member matches. Decides each of `aliases` at most once.
 pub(crate) fn decide_list<S: Subject>(
-    checked: &Checked,
+    lists: Lists<'_>,
     kind: Kind,
     members: &[Member],
     subject: &S,
     aliases: Option<&Aliases>,
 ) -> Option<Decision>
-    requires { IsTrue (resolves kind checked.now members.now) }
-    ensures { result ≡ list_decision kind checked.now members.now (S.fits subject.now) }
+    requires { IsTrue (resolves kind lists.checked.now members.now) }
+    ensures { result ≡ list_decision kind lists.entry.checked.now members.now (S.fits subject.now) }
 {
     match aliases {
-        None => decide(checked, kind, members, subject, None, &mut []),
+        None => decide(lists, kind, members, &[], subject, None, &mut []),
         Some(aliases) => {
             let mut slots = [None; REMEMBERED];
             decide(
-                checked,
+                lists,
                 kind,
                 members,
+                &[],
                 subject,
                 Some(aliases.of_kind(kind)),
                 &mut slots,
@@ -168,21 +202,22 @@ pub(crate) fn decide_list<S: Subject>(
 /// Returns the decision of a list of one member, or `None` if it does not match. Decides each of `aliases` at most
 /// once.
 pub(crate) fn decide_one<S: Subject>(
-    checked: &Checked,
+    lists: Lists<'_>,
     kind: Kind,
     member: &Member,
     subject: &S,
     aliases: Option<&Aliases>,
 ) -> Option<Decision>
-    requires { IsTrue (resolves kind checked.now (member.now ∷ [])) }
-    ensures { result ≡ list_decision kind checked.now (member.now ∷ []) (S.fits subject.now) }
+    requires { IsTrue (resolves kind lists.checked.now (member.now ∷ [])) }
+    ensures { result ≡ list_decision kind lists.entry.checked.now (member.now ∷ [])
+        (S.fits subject.now) }
 {
     match aliases {
-        None => decide_member(checked, kind, member, subject, None, &mut []),
+        None => decide_member(lists, kind, member, subject, None, &mut []),
         Some(aliases) => {
             let mut slots = [None; REMEMBERED];
             decide_member(
-                checked,
+                lists,
                 kind,
                 member,
                 subject,
@@ -193,31 +228,48 @@ pub(crate) fn decide_one<S: Subject>(
     }
 }
 
+// Whether the key of the member at an index is known, and no atom with it matches the subject.
+fn is_passed<S: Subject>(subject: &S, keys: &[usize], index: usize) -> bool
+    ensures { result ≡ true → IsPassedAt (S.fits subject.now) (slice_get keys.now index) }
+{
+    match keys.get(index) {
+        Some(key) => subject.misses(*key),
+        None => false,
+    }
+}
+
 // Returns the decision of the list: tries its members from the last to the first and stops at the first that matches.
-// `slots` holds the known decisions of aliases, by the numbers of the aliases.
+// `keys` holds the keys of the members, if they are known, and `slots` the known decisions of aliases, by the numbers of
+// the aliases.
 #[cycle(deciding)]
 fn decide<S: Subject>(
-    checked: &Checked,
+    lists: Lists<'_>,
     kind: Kind,
     members: &[Member],
+    keys: &[usize],
     subject: &S,
     numbers: Option<&Numbers>,
     slots: &mut [Slot],
 ) -> Option<Decision>
-    requires resolves { IsTrue (resolves kind checked.now members.now) }
-    requires recalls { Recalls kind checked.now (option_copied numbers) (S.fits subject.now)
+    requires resolves { IsTrue (resolves kind lists.checked.now members.now) }
+    requires keys { HaveKeys keys.now members.now }
+    requires recalls { Recalls kind lists.checked.now (option_copied numbers) (S.fits subject.now)
         slots.old }
-    ensures value { result ≡ list_decision kind checked.now members.now (S.fits subject.now) }
-    ensures recalls { Recalls kind checked.now (option_copied numbers.entry) (S.fits subject.now)
-        slots.new }
+    ensures value { result
+        ≡ list_decision kind lists.entry.checked.now members.now (S.fits subject.now) }
+    ensures recalls { Recalls kind lists.entry.checked.now (option_copied numbers.entry)
+        (S.fits subject.now) slots.new }
 {
     let mut left = members;
     while let Some((member, rest)) = left.split_last() {
-        let decided = decide_member(checked, kind, member, subject, numbers, slots);
+        left = rest;
+        if is_passed(subject, keys, rest.len()) {
+            continue;
+        }
+        let decided = decide_member(lists, kind, member, subject, numbers, slots);
         if decided.is_some() {
             return decided;
         }
-        left = rest;
     }
     None
 }
@@ -225,28 +277,32 @@ fn decide<S: Subject>(
 // Returns the decision of one member: its own, or that of its alias with the sign of the member.
 #[cycle(deciding)]
 fn decide_member<S: Subject>(
-    checked: &Checked,
+    lists: Lists<'_>,
     kind: Kind,
     member: &Member,
     subject: &S,
     numbers: Option<&Numbers>,
     slots: &mut [Slot],
 ) -> Option<Decision>
-    requires resolves { IsTrue (resolves kind checked.now (member.now ∷ [])) }
-    requires recalls { Recalls kind checked.now (option_copied numbers) (S.fits subject.now)
+    requires resolves { IsTrue (resolves kind lists.checked.now (member.now ∷ [])) }
+    requires recalls { Recalls kind lists.checked.now (option_copied numbers) (S.fits subject.now)
         slots.old }
-    ensures value { result ≡ list_decision kind checked.now (member.now ∷ []) (S.fits subject.now) }
-    ensures recalls { Recalls kind checked.now (option_copied numbers.entry) (S.fits subject.now)
+    ensures value { result
+        ≡ list_decision kind lists.entry.checked.now (member.now ∷ []) (S.fits subject.now) }
+    ensures recalls { Recalls kind lists.entry.checked.now (option_copied numbers.entry)
+        (S.fits subject.now)
         slots.new }
 {
     match &member.atom {
         Atom::Alias(name) => {
-            let members = checked.definition(kind, name.as_slice())?;
+            let position = lists.checked.position(kind, name.as_slice())?;
+            let members = lists.checked.members_at(position)?;
+            let keys = lists.keys_of(position);
             let number = number_of(numbers, name.as_slice());
             if let Some(known) = recall(slots, number) {
                 return with_sign(known, is_negated(member));
             }
-            let found = decide(checked, kind, members, subject, numbers, slots);
+            let found = decide(lists, kind, members, keys, subject, numbers, slots);
             remember(slots, number, found);
             with_sign(found, is_negated(member))
         }

@@ -6,6 +6,8 @@
 mod aliases;
 mod candidates;
 mod decision;
+mod keys;
+mod marks;
 mod numbers;
 mod postings;
 mod query;

@@ -20,8 +20,8 @@ pub(crate) const EVERYONE: usize = 0;
 /// The number of the empty beginning of a command, from which those of longer beginnings are computed.
 pub(crate) const BEGINNING: usize = 3;
 
-// The number of an empty command, from which those of other whole commands are computed.
-const WHOLE: usize = 4;
+/// The number of an empty command, from which those of other whole commands are computed.
+pub(crate) const WHOLE: usize = 4;
 
 /// Extends the number of some bytes by one more byte.
 pub(crate) fn next_number(number: usize, byte: u8) -> usize

@@ -11,8 +11,10 @@ ghost use Rattle.sudo_verdict.specs.Body.Queries.{question};
 
 use crate::aliases::Aliases;
 use crate::decision::{AsCommand, AsGroup, AsHost, AsUser, value};
+use crate::keys::Lists;
+use crate::marks::Marks;
 use sudo_match::{Directory, Group, Machine, Person, Request, What, has_special};
-use sudo_policy::{Checked, Kind, Member, Runas};
+use sudo_policy::{Atom, Kind, Member, Runas};
 use sudo_text::Seq;
 
 /// A request whose names have been looked up.
@@ -72,6 +74,7 @@ pub(crate) fn query_of<'a>(
             command: request.command.as_slice(),
             arguments: request.arguments.as_slice(),
             special: has_special(request.command.as_slice()),
+            marks: Marks::of_command(request.command.as_slice()),
         },
         aliases,
     })
@@ -95,118 +98,142 @@ fn target<'a>(
     }
 }
 
+// Whether one of the members is an alias.
+fn name_alias(members: &[Member]) -> bool {
+    members
+        .iter()
+        .any(|member| matches!(&member.atom, Atom::Alias(_)))
+}
+
 impl Query<'_> {
     /// Whether a rule's user list allows the invoking user.
-    pub(crate) fn user_listed(&self, checked: &Checked, users: &[Member]) -> bool
-        requires { IsTrue (resolves kind.User checked.now users.now) }
-        ensures { result ≡ values.user_listed checked.now users.now (question self.now) }
+    pub(crate) fn user_listed(&self, lists: Lists<'_>, users: &[Member]) -> bool
+        requires { IsTrue (resolves kind.User lists.checked.now users.now) }
+        ensures { result ≡ values.user_listed lists.entry.checked.now users.now
+            (question self.now) }
     {
-        let user = AsUser { user: self.user };
-        value(checked, Kind::User, users, &user, self.aliases).unwrap_or(false)
+        if !name_alias(users) {
+            let user = AsUser {
+                user: self.user,
+                marks: None,
+            };
+            return value(lists, Kind::User, users, &user, self.aliases).unwrap_or(false);
+        }
+        let user = AsUser {
+            user: self.user,
+            marks: Some(Marks::of_user(self.user)),
+        };
+        value(lists, Kind::User, users, &user, self.aliases).unwrap_or(false)
     }
 
     /// Whether a section's host list allows the host.
-    pub(crate) fn host_listed(&self, checked: &Checked, hosts: &[Member]) -> bool
-        requires { IsTrue (resolves kind.Host checked.now hosts.now) }
-        ensures { result ≡ values.host_listed checked.now hosts.now (question self.now) }
+    pub(crate) fn host_listed(&self, lists: Lists<'_>, hosts: &[Member]) -> bool
+        requires { IsTrue (resolves kind.Host lists.checked.now hosts.now) }
+        ensures { result ≡ values.host_listed lists.entry.checked.now hosts.now
+            (question self.now) }
     {
         let host = AsHost { host: self.host };
-        value(checked, Kind::Host, hosts, &host, self.aliases).unwrap_or(false)
+        value(lists, Kind::Host, hosts, &host, self.aliases).unwrap_or(false)
     }
 
     /// Whether a runas, or its absence, allows the command to run as the target and the group asked for.
     #[tactic(auto, unfolding(crate::specs::RunasForms::runas_allows))]
-    pub(crate) fn runas_allows(&self, checked: &Checked, runas: Option<&Runas>) -> bool
-        requires { IsTrue (runas_resolves checked.now (option_copied runas)) }
-        ensures { result ≡ form.runas_allows checked.now (question self.now)
+    pub(crate) fn runas_allows(&self, lists: Lists<'_>, runas: Option<&Runas>) -> bool
+        requires { IsTrue (runas_resolves lists.checked.now (option_copied runas)) }
+        ensures { result ≡ form.runas_allows lists.entry.checked.now (question self.now)
             (option_copied runas.entry) }
     {
         match runas {
             None => self.root_allowed(),
-            Some(runas) => self.form_allows(checked, &runas.users, &runas.groups),
+            Some(runas) => self.form_allows(lists, &runas.users, &runas.groups),
         }
     }
 
     #[tactic(auto, unfolding(crate::specs::RunasForms::form_allows))]
     fn form_allows(
         &self,
-        checked: &Checked,
+        lists: Lists<'_>,
         users: &Option<Seq<Member>>,
         groups: &Option<Seq<Member>>,
     ) -> bool
-        requires users { IsTrue (list_resolves checked.now users.now) }
-        requires groups { IsTrue (list_resolves checked.now groups.now) }
-        ensures { result ≡ form.form_allows checked.now (question self.now) users.now groups.now }
+        requires users { IsTrue (list_resolves lists.checked.now users.now) }
+        requires groups { IsTrue (list_resolves lists.checked.now groups.now) }
+        ensures { result ≡ form.form_allows lists.entry.checked.now
+            (question self.now) users.now groups.now }
     {
         match (users, groups) {
             (Some(users), Some(groups)) => self.users_and_groups_allow(
-                checked,
+                lists,
                 users.as_slice(),
                 groups.as_slice(),
             ),
-            (Some(users), None) => self.users_allow(checked, users.as_slice()),
-            (None, Some(groups)) => self.groups_allow(checked, groups.as_slice()),
+            (Some(users), None) => self.users_allow(lists, users.as_slice()),
+            (None, Some(groups)) => self.groups_allow(lists, groups.as_slice()),
             (None, None) => self.self_allowed(),
         }
     }
 
     // Whether the form `(users:groups)` allows it.
-    fn users_and_groups_allow(&self, checked: &Checked, users: &[Member], groups: &[Member]) -> bool
-        requires users { IsTrue (resolves kind.Runas checked.now users.now) }
-        requires groups { IsTrue (resolves kind.Runas checked.now groups.now) }
-        ensures { result ≡ form.users_and_groups_allow checked.now
+    fn users_and_groups_allow(&self, lists: Lists<'_>, users: &[Member], groups: &[Member]) -> bool
+        requires users { IsTrue (resolves kind.Runas lists.checked.now users.now) }
+        requires groups { IsTrue (resolves kind.Runas lists.checked.now groups.now) }
+        ensures { result ≡ form.users_and_groups_allow lists.entry.checked.now
             (question self.now) users.now groups.now (question self.now).target }
     {
         let Some(target) = self.target else {
             return false;
         };
-        let allowed = match self.target_value(checked, users, target) {
+        let allowed = match self.target_value(lists, users, target) {
             Some(allowed) => allowed,
             None => self.group.is_some() && is_same_user(target, self.user),
         };
-        allowed && self.group_allowed(checked, target, groups)
+        allowed && self.group_allowed(lists, target, groups)
     }
 
     // Whether the form `(users)` allows it.
-    fn users_allow(&self, checked: &Checked, users: &[Member]) -> bool
-        requires { IsTrue (resolves kind.Runas checked.now users.now) }
-        ensures { result ≡ form.users_allow checked.now (question self.now) users.now
+    fn users_allow(&self, lists: Lists<'_>, users: &[Member]) -> bool
+        requires { IsTrue (resolves kind.Runas lists.checked.now users.now) }
+        ensures { result ≡ form.users_allow lists.entry.checked.now (question self.now) users.now
             (question self.now).target }
     {
         let Some(target) = self.target else {
             return false;
         };
-        self.target_value(checked, users, target).unwrap_or(false) && has_asked(target, self.group)
+        self.target_value(lists, users, target).unwrap_or(false) && has_asked(target, self.group)
     }
 
     // Whether the form `(:groups)` allows it.
-    fn groups_allow(&self, checked: &Checked, groups: &[Member]) -> bool
-        requires { IsTrue (resolves kind.Runas checked.now groups.now) }
-        ensures { result ≡ form.groups_allow checked.now (question self.now) groups.now }
+    fn groups_allow(&self, lists: Lists<'_>, groups: &[Member]) -> bool
+        requires { IsTrue (resolves kind.Runas lists.checked.now groups.now) }
+        ensures { result ≡ form.groups_allow lists.entry.checked.now
+            (question self.now) groups.now }
     {
-        is_own(self.user, self.asked) && self.group_allowed(checked, self.user, groups)
+        is_own(self.user, self.asked) && self.group_allowed(lists, self.user, groups)
     }
 
     // Returns the value of a runas user list for a target.
-    fn target_value(&self, checked: &Checked, users: &[Member], target: &Person) -> Option<bool>
-        requires { IsTrue (resolves kind.Runas checked.now users.now) }
-        ensures { result ≡ form.target_value checked.now users.now target.now }
+    fn target_value(&self, lists: Lists<'_>, users: &[Member], target: &Person) -> Option<bool>
+        requires { IsTrue (resolves kind.Runas lists.checked.now users.now) }
+        ensures { result ≡ form.target_value lists.entry.checked.now users.now target.now }
     {
-        let target = AsUser { user: target };
-        value(checked, Kind::Runas, users, &target, self.aliases)
+        let target = AsUser {
+            user: target,
+            marks: None,
+        };
+        value(lists, Kind::Runas, users, &target, self.aliases)
     }
 
     // Whether a runas group list, or else the person's own groups, allow the group asked for.
-    fn group_allowed(&self, checked: &Checked, person: &Person, groups: &[Member]) -> bool
-        requires { IsTrue (resolves kind.Runas checked.now groups.now) }
-        ensures { result ≡ form.group_allowed checked.now groups.now person.now
+    fn group_allowed(&self, lists: Lists<'_>, person: &Person, groups: &[Member]) -> bool
+        requires { IsTrue (resolves kind.Runas lists.checked.now groups.now) }
+        ensures { result ≡ form.group_allowed lists.entry.checked.now groups.now person.now
             (question self.now).group }
     {
         let Some(group) = self.group else {
             return true;
         };
         let subject = AsGroup { group };
-        match value(checked, Kind::Runas, groups, &subject, self.aliases) {
+        match value(lists, Kind::Runas, groups, &subject, self.aliases) {
             Some(allowed) => allowed,
             None => person.has_gid(group.gid),
         }

@@ -1,8 +1,8 @@
 //! Rules by number, as rows of bits.
 
-ghost use Rattle.std.specs.Prelude.{ℕ, ◌≡◌, ◌+◌, ◌*◌, ◌<◌, true, IfOk, OnOk, length};
+ghost use Rattle.std.specs.Prelude.{ℕ, ◌≡◌, ◌+◌, ◌*◌, ◌<◌, ◌≤◌, true, IfOk, OnOk, length};
 ghost use Rattle.sudo_verdict.specs.Postings.{Grows, bit, is_in_row};
-ghost use Rattle.sudo_verdict.specs.Body.Blocks.{UnitesRow, AddsWords};
+ghost use Rattle.sudo_verdict.specs.Body.Blocks.{AddsWords, StartsAt, UnitesRow};
 
 use crate::numbers::NUMBERS;
 use std::alloc::{AllocError, Global};
@@ -13,8 +13,8 @@ pub(crate) struct Rows {
     pub(crate) rows: Vec<Vec<u64>>,
 }
 
-// Sets the bit of a rule, which is within the words.
-fn set_bit(words: &mut [u64], rule: usize)
+/// Sets the bit of a rule, which is within the words.
+pub(crate) fn set_bit(words: &mut [u64], rule: usize)
     requires { rule < 64 * length words.old }
     ensures count { length words.new ≡ length words.old }
     ensures sets { bit words.new rule ≡ 1 }
@@ -44,6 +44,20 @@ fn or_words(block: &mut [u64], words: &[u64])
     for index in 0..count {
         block[index] |= words[index];
     }
+}
+
+// Returns the number of words before the first that is not zero, or `limit` if that is less.
+fn zeros_before(words: &[u64], limit: usize) -> usize
+    ensures zeros { (i : ℕ) → i < 64 * result → bit words.now i ≡ 0 }
+    ensures within { result ≤ limit }
+{
+    let count = words.len().min(limit);
+    for at in 0..count {
+        if words[at] != 0 {
+            return at;
+        }
+    }
+    limit
 }
 
 impl Rows {
@@ -81,5 +95,16 @@ impl Rows {
         if first < row.len() {
             or_words(block, &row[first..]);
         }
+    }
+
+    /// Returns a number of words before which no row has a rule, at most `limit`.
+    pub(crate) fn start(&self, limit: usize) -> usize
+        ensures { StartsAt self.now.rows.items result }
+    {
+        let mut start = limit;
+        for row in self.rows.as_slice() {
+            start = zeros_before(row.as_slice(), start);
+        }
+        start
     }
 }

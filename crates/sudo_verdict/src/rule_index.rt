@@ -4,7 +4,7 @@ ghost use Rattle.std.specs.Prelude.{ℕ, ◌≡◌, ◌+◌, ◌-◌, ◌*◌, �
 ghost use Rattle.std.specs.Option.{option_or};
 ghost use Rattle.sudo_grammar.specs.declared.policy.Entry.{Entry};
 ghost use Rattle.sudo_verdict.specs.Last.{last_set};
-ghost use Rattle.sudo_verdict.specs.Body.Blocks.{both_have};
+ghost use Rattle.sudo_verdict.specs.Body.Blocks.{StartsAt, both_have};
 ghost use Rattle.sudo_verdict.specs.Body.Queries.{question};
 ghost use Rattle.sudo_verdict.specs.Verdicts.{verdict_of};
 ghost use Rattle.sudo_verdict.specs.Found.{entry_found};
@@ -12,6 +12,7 @@ ghost use Rattle.sudo_verdict.specs.Postings.{Indexes};
 
 use crate::aliases::Aliases;
 use crate::candidates::{add_command, add_user, last_in_both_before};
+use crate::keys::{Keys, Lists};
 use crate::postings::{Budget, Postings};
 use crate::query::{Query, query_of};
 use crate::rows::Rows;
@@ -30,15 +31,21 @@ const BLOCK: usize = 64;
 pub struct RuleIndex {
     users: Rows,
     commands: Rows,
+    // The number of words before the first with a rule.
+    start: usize,
+    keys: Keys,
     aliases: Option<Aliases>,
 }
 
 impl Model for RuleIndex {
     ghost use Rattle.sudo_verdict.specs.Postings.{Index};
+    ghost use Rattle.sudo_verdict.specs.Body.Blocks.{StartsAt};
 
     ghost Value = { Index };
 
-    ghost view = { λ i. (i.users.rows.items, i.commands.rows.items) };
+    ghost view = { λ i. (i.users.rows.items, (i.commands.rows.items, i.keys.rows)) };
+
+    ghost invariant = { λ i. StartsAt i.users.rows.items i.start };
 }
 
 impl RuleIndex {
@@ -59,11 +66,24 @@ impl RuleIndex {
         ensures { IfOk result (Indexes checked.now) }
     {
         let postings = Postings::of(alloc, checked, budget)?;
+        let start = postings
+            .users
+            .rows
+            .start(checked.policy().entries.len() / 64);
         Ok(RuleIndex {
+            start,
             users: postings.users.rows,
             commands: postings.commands.rows,
+            keys: Keys::of(alloc, checked)?,
             aliases: Aliases::of(alloc, checked)?,
         })
+    }
+
+    // Returns the number of words before the first with a rule.
+    fn start(&self) -> usize
+        ensures { StartsAt self.now.0 result }
+    {
+        self.start
     }
 
     /// Returns the verdict on the request, as [`crate::verdict`] does, under the policy of this index. Searches only
@@ -73,25 +93,36 @@ impl RuleIndex {
         ensures { result ≡ verdict_of checked.now directory.now request.now }
     {
         match query_of(directory, request, self.aliases.as_ref()) {
-            Ok(query) => match search_indexed(checked, self, &query) {
-                Some(verdict) => verdict,
-                None => Verdict::NoMatch,
-            },
+            Ok(query) => {
+                let lists = Lists {
+                    checked,
+                    keys: Some(&self.keys),
+                };
+                match search_indexed(lists, self, &query) {
+                    Some(verdict) => verdict,
+                    None => Verdict::NoMatch,
+                }
+            }
             Err(what) => Verdict::Unknown(what),
         }
     }
 }
 
 // Returns the verdict of the last entry that decides, searching block by block from the end back.
-fn search_indexed(checked: &Checked, index: &RuleIndex, query: &Query<'_>) -> Option<Verdict>
-    requires { Indexes checked.now index.now }
-    ensures { result ≡ last_set (map (entry_found checked.now (question query.now))
-        checked.now.entries) }
+fn search_indexed(lists: Lists<'_>, index: &RuleIndex, query: &Query<'_>) -> Option<Verdict>
+    requires { Indexes lists.checked.now index.now }
+    ensures { result ≡ last_set (map (entry_found lists.entry.checked.now (question query.now))
+        lists.entry.checked.now.entries) }
 {
-    let mut end = checked.policy().entries.len();
+    let mut end = lists.checked.policy().entries.len();
     while end > 0 {
-        let first = (end - 1) / (64 * BLOCK) * BLOCK;
-        let found = search_block(checked, index, query, first, end);
+        let last = (end - 1) / 64;
+        let start = index.start();
+        if last < start {
+            return None;
+        }
+        let first = (last / BLOCK * BLOCK).max(start);
+        let found = search_block(lists, index, query, first, end);
         if found.is_some() {
             return found;
         }
@@ -102,20 +133,20 @@ fn search_indexed(checked: &Checked, index: &RuleIndex, query: &Query<'_>) -> Op
 
 // Returns the verdict of the last entry that decides, of those before `end` in the block that begins at word `first`.
 fn search_block(
-    checked: &Checked,
+    lists: Lists<'_>,
     index: &RuleIndex,
     query: &Query<'_>,
     first: usize,
     end: usize,
 ) -> Option<Verdict>
-    requires index { Indexes checked.now index.now }
+    requires index { Indexes lists.checked.now index.now }
     requires begins { 64 * first < end }
     requires block { end ≤ 64 * first + 4096 }
-    requires within { end ≤ length checked.now.entries }
-    ensures { last_set (map (entry_found checked.now (question query.now))
-        (take end checked.now.entries))
-        ≡ option_or result (last_set (map (entry_found checked.now (question query.now))
-        (take (64 * first) checked.now.entries))) }
+    requires within { end ≤ length lists.checked.now.entries }
+    ensures { last_set (map (entry_found lists.entry.checked.now (question query.now))
+        (take end lists.entry.checked.now.entries))
+        ≡ option_or result (last_set (map (entry_found lists.entry.checked.now (question query.now))
+        (take (64 * first) lists.entry.checked.now.entries))) }
 {
     let words = (end - 1) / 64 + 1 - first;
     let mut users = [0u64; BLOCK];
@@ -128,7 +159,7 @@ fn search_block(
         &mut commands[..words],
     );
     search_candidates(
-        checked,
+        lists,
         query,
         &users[..words],
         &commands[..words],
@@ -139,7 +170,7 @@ fn search_block(
 
 // Returns the verdict of the last entry that decides, of those from `start` to before `end` that are in both blocks.
 fn search_candidates(
-    checked: &Checked,
+    lists: Lists<'_>,
     query: &Query<'_>,
     users: &[u64],
     commands: &[u64],
@@ -147,19 +178,19 @@ fn search_candidates(
     end: usize,
 ) -> Option<Verdict>
     requires begins { start < end }
-    requires within { end ≤ length checked.now.entries }
+    requires within { end ≤ length lists.checked.now.entries }
     requires users { end ≤ start + 64 * length users.now }
     requires commands { end ≤ start + 64 * length commands.now }
     requires silent { (i : ℕ) (e : Entry) → start + i < end
-        → slice_get checked.now.entries (start + i) ≡ Some e
+        → slice_get lists.checked.now.entries (start + i) ≡ Some e
         → both_have users.now commands.now i ≡ false
-        → entry_found checked.now (question query.now) e ≡ None }
-    ensures { last_set (map (entry_found checked.now (question query.now))
-        (take end checked.now.entries))
-        ≡ option_or result (last_set (map (entry_found checked.now (question query.now))
-        (take start checked.now.entries))) }
+        → entry_found lists.checked.now (question query.now) e ≡ None }
+    ensures { last_set (map (entry_found lists.entry.checked.now (question query.now))
+        (take end lists.entry.checked.now.entries))
+        ≡ option_or result (last_set (map (entry_found lists.entry.checked.now (question query.now))
+        (take start lists.entry.checked.now.entries))) }
 {
-    let entries = checked.policy().entries.as_slice();
+    let entries = lists.checked.policy().entries.as_slice();
     let mut left = end - start;
     loop {
         left = last_in_both_before(users, commands, left);
@@ -167,7 +198,7 @@ fn search_candidates(
             return None;
         }
         left -= 1;
-        let found = search_candidate(checked, query, &entries[start + left]);
+        let found = search_candidate(lists, query, &entries[start + left]);
         if found.is_some() {
             return found;
         }

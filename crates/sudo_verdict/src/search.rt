@@ -12,6 +12,7 @@ ghost use Rattle.sudo_verdict.specs.Body.Resolved.{body_resolves};
 ghost use Rattle.sudo_verdict.specs.Found.{verdict_from, command_found, commands_found, section_found, entry_found};
 
 use crate::decision::{Decision, decide_one};
+use crate::keys::Lists;
 use crate::query::{Query, query_of};
 use crate::tags::{tags_before_end, tags_given};
 use sudo_match::{Directory, Request, Verdict};
@@ -27,22 +28,28 @@ pub fn verdict<'a>(checked: &Checked, directory: &'a Directory, request: &'a Req
     ensures { result ≡ verdict_of checked.now directory.now request.now }
 {
     match query_of(directory, request, None) {
-        Ok(query) => match search(checked, &query) {
-            Some(verdict) => verdict,
-            None => Verdict::NoMatch,
-        },
+        Ok(query) => {
+            let lists = Lists {
+                checked,
+                keys: None,
+            };
+            match search(lists, &query) {
+                Some(verdict) => verdict,
+                None => Verdict::NoMatch,
+            }
+        }
         Err(what) => Verdict::Unknown(what),
     }
 }
 
-fn search(checked: &Checked, query: &Query<'_>) -> Option<Verdict>
-    ensures { result ≡ last_set (map (entry_found checked.now (question query.now))
-        checked.now.entries) }
+fn search(lists: Lists<'_>, query: &Query<'_>) -> Option<Verdict>
+    ensures { result ≡ last_set (map (entry_found lists.entry.checked.now (question query.now))
+        lists.entry.checked.now.entries) }
 {
-    let policy = checked.policy();
+    let policy = lists.checked.policy();
     let mut left = policy.entries.as_slice();
     while let Some((entry, rest)) = left.split_last() {
-        if let Some(verdict) = search_entry(checked, query, entry) {
+        if let Some(verdict) = search_entry(lists, query, entry) {
             return Some(verdict);
         }
         left = rest;
@@ -52,14 +59,14 @@ fn search(checked: &Checked, query: &Query<'_>) -> Option<Verdict>
 
 /// Returns the verdict of the last grant of the entry that applies, or `None`.
 #[tactic(auto, unfolding(crate::specs::Found::rule_found))]
-pub(crate) fn search_entry(checked: &Checked, query: &Query<'_>, entry: &Entry) -> Option<Verdict>
-    requires { IsTrue (body_resolves checked.now entry.now.body) }
-    ensures { result ≡ entry_found checked.now (question query.now) entry.now }
+pub(crate) fn search_entry(lists: Lists<'_>, query: &Query<'_>, entry: &Entry) -> Option<Verdict>
+    requires { IsTrue (body_resolves lists.checked.now entry.now.body) }
+    ensures { result ≡ entry_found lists.entry.checked.now (question query.now) entry.now }
 {
     match &entry.body {
         EntryBody::Rule { users, sections } => {
-            if query.user_listed(checked, users.as_slice()) {
-                search_sections(checked, query, entry.place, sections.as_slice())
+            if query.user_listed(lists, users.as_slice()) {
+                search_sections(lists, query, entry.place, sections.as_slice())
             } else {
                 None
             }
@@ -72,17 +79,17 @@ pub(crate) fn search_entry(checked: &Checked, query: &Query<'_>, entry: &Entry) 
 /// then mostly allows the user.
 #[tactic(auto, unfolding(crate::specs::Found::rule_found))]
 pub(crate) fn search_candidate(
-    checked: &Checked,
+    lists: Lists<'_>,
     query: &Query<'_>,
     entry: &Entry,
 ) -> Option<Verdict>
-    requires { IsTrue (body_resolves checked.now entry.now.body) }
-    ensures { result ≡ entry_found checked.now (question query.now) entry.now }
+    requires { IsTrue (body_resolves lists.checked.now entry.now.body) }
+    ensures { result ≡ entry_found lists.entry.checked.now (question query.now) entry.now }
 {
     match &entry.body {
         EntryBody::Rule { users, sections } => {
-            let found = search_sections(checked, query, entry.place, sections.as_slice())?;
-            if query.user_listed(checked, users.as_slice()) {
+            let found = search_sections(lists, query, entry.place, sections.as_slice())?;
+            if query.user_listed(lists, users.as_slice()) {
                 Some(found)
             } else {
                 None
@@ -93,18 +100,19 @@ pub(crate) fn search_candidate(
 }
 
 fn search_sections(
-    checked: &Checked,
+    lists: Lists<'_>,
     query: &Query<'_>,
     place: Place,
     sections: &[Section],
 ) -> Option<Verdict>
-    requires { IsTrue (list_all (section_resolves checked.now) sections.now) }
-    ensures { result ≡ last_set (map (section_found checked.now (question query.now) place)
+    requires { IsTrue (list_all (section_resolves lists.checked.now) sections.now) }
+    ensures { result ≡ last_set (map (section_found lists.entry.checked.now
+        (question query.now) place)
         sections.now) }
 {
     let mut left = sections;
     while let Some((section, rest)) = left.split_last() {
-        if let Some(verdict) = search_section(checked, query, place, section) {
+        if let Some(verdict) = search_section(lists, query, place, section) {
             return Some(verdict);
         }
         left = rest;
@@ -114,35 +122,37 @@ fn search_sections(
 
 #[tactic(auto, unfolding(crate::specs::Found::section_found))]
 fn search_section(
-    checked: &Checked,
+    lists: Lists<'_>,
     query: &Query<'_>,
     place: Place,
     section: &Section,
 ) -> Option<Verdict>
-    requires { IsTrue (section_resolves checked.now section.now) }
-    ensures { result ≡ section_found checked.now (question query.now) place section.now }
+    requires { IsTrue (section_resolves lists.checked.now section.now) }
+    ensures { result ≡ section_found lists.entry.checked.now
+        (question query.now) place section.now }
 {
-    if query.host_listed(checked, section.hosts.as_slice()) {
-        search_places(checked, query, place, section.commands.as_slice())
+    if query.host_listed(lists, section.hosts.as_slice()) {
+        search_places(lists, query, place, section.commands.as_slice())
     } else {
         None
     }
 }
 
 fn search_places(
-    checked: &Checked,
+    lists: Lists<'_>,
     query: &Query<'_>,
     place: Place,
     commands: &[CommandSpec],
 ) -> Option<Verdict>
-    requires { IsTrue (list_all (command_resolves checked.now) commands.now) }
-    ensures { result ≡ commands_found checked.now (question query.now) place commands.now
+    requires { IsTrue (list_all (command_resolves lists.checked.now) commands.now) }
+    ensures { result ≡ commands_found lists.entry.checked.now
+        (question query.now) place commands.now
         (length commands.now) }
 {
     let mut refused = false;
     let mut left = commands;
     while let Some((spec, rest)) = left.split_last() {
-        let examined = search_command(checked, query, place, left, spec, refused);
+        let examined = search_command(lists, query, place, left, spec, refused);
         if let Some(verdict) = examined.verdict {
             return Some(verdict);
         }
@@ -164,20 +174,21 @@ struct Examined {
 // Judges `spec`, the last of `commands`. `refused`: its runas is known not to allow the request.
 #[tactic(auto, unfolding(crate::specs::Found::command_found))]
 fn search_command(
-    checked: &Checked,
+    lists: Lists<'_>,
     query: &Query<'_>,
     place: Place,
     commands: &[CommandSpec],
     spec: &CommandSpec,
     refused: bool,
 ) -> Examined
-    requires all { IsTrue (list_all (command_resolves checked.now) commands.now) }
-    requires last { IsTrue (command_resolves checked.now spec.now) }
-    requires refused { refused ≡ true → runas_allows checked.now (question query.now)
+    requires all { IsTrue (list_all (command_resolves lists.checked.now) commands.now) }
+    requires last { IsTrue (command_resolves lists.checked.now spec.now) }
+    requires refused { refused ≡ true → runas_allows lists.checked.now (question query.now)
         (runas_before commands.now) ≡ false }
-    ensures verdict { result.verdict ≡ command_found checked.now
+    ensures verdict { result.verdict ≡ command_found lists.entry.checked.now
         (question query.now) place commands.now spec.now }
-    ensures refused { result.refused ≡ true → runas_allows checked.now (question query.now)
+    ensures refused { result.refused
+        ≡ true → runas_allows lists.entry.checked.now (question query.now)
         (runas_before commands.now) ≡ false }
 {
     if refused {
@@ -187,7 +198,7 @@ fn search_command(
         };
     }
     let Some(decision) = decide_one(
-        checked,
+        lists,
         Kind::Cmnd,
         &spec.command,
         &query.command,
@@ -198,7 +209,7 @@ fn search_command(
             refused,
         };
     };
-    if query.runas_allows(checked, runas_before_end(commands)) {
+    if query.runas_allows(lists, runas_before_end(commands)) {
         Examined {
             verdict: Some(verdict_at(place, commands, decision)),
             refused,

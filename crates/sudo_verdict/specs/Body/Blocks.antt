@@ -25,3 +25,7 @@ HasCommand rows first command block =
 -- both blocks have the bit
 abbrev pub both_have : List ℕ → List ℕ → ℕ → Bool
 both_have users commands i = (bit users i == 1) && (bit commands i == 1)
+
+-- no row has a rule before the word `start`
+abbrev pub StartsAt : Rows → ℕ → Type 0
+StartsAt rows start = (number rule : ℕ) → rule < 64 * start → is_in_row rows number rule ≡ false

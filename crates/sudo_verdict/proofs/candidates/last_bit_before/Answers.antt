@@ -1,6 +1,12 @@
+use Rattle.std.proofs.Common.{ap, ◌∙◌}
+use Rattle.std.specs.Int.{bit_at}
+use Rattle.std.proofs.lemmas.Nat.Bits.{bit_at-zero}
 use Rattle.sudo_verdict.proofs.Bits.{cut-within, cut-none, whole-within, whole-bits}
 use Rattle.sudo_verdict.proofs.candidates.last_bit_before.Goals as goal
 use Rattle.sudo_verdict.proofs.candidates.last_bit_before.Goals.{then-end-lt64, else-end-lt64}
+
+pub returns-then-word-eq0-clause-none : goal.returns-then-word-eq0-clause-none
+returns-then-word-eq0-clause-none c i from before = ap (λ w. bit_at w i) c.if-word-eq0.true ∙ bit_at-zero i
 
 pub returns-clause-within : goal.returns-clause-within
 returns-clause-within c = elim c.if-end-lt64.branch [

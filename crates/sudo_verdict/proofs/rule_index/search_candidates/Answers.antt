@@ -14,7 +14,7 @@ use Rattle.sudo_verdict.proofs.rule_index.search_candidates.Goals as goal
 
 pub returns-then-left-eq0 : goal.returns-then-left-eq0
 returns-then-left-eq0 c =
-    let p = c.args.checked.now in
+    let p = c.args.lists.checked.now in
     let q = question c.args.query.now in
     let first = c.if-left-eq0.true in
     let within = c.loop-left.invariant.within in
@@ -36,12 +36,12 @@ search_candidate-found-requires c =
     let whole = c.requires.within in
     let at = c.args.start + (c.last_in_both_before-left.result - 1) in
     let there = slice_get_read c.as_slice-entries.result.now (length c.as_slice-entries.result.now) at c.index-entries-start.result refl (omega (arith, count, positive, up, within, whole)) c.index-entries-start.is in
-    all-at (λ (e : Entry). body_resolves c.args.checked.now e.body) c.args.checked.now.entries at c.index-entries-start.result
-    (bodies_resolve c.args.checked.now c.policy.ensures.sound) (ap (λ l. slice_get l at) (sym same) ∙ there)
+    all-at (λ (e : Entry). body_resolves c.args.lists.checked.now e.body) c.args.lists.checked.now.entries at c.index-entries-start.result
+    (bodies_resolve c.args.lists.checked.now c.policy.ensures.sound) (ap (λ l. slice_get l at) (sym same) ∙ there)
 
 pub returns-then-is_some : goal.returns-then-is_some
 returns-then-is_some c =
-    let p = c.args.checked.now in
+    let p = c.args.lists.checked.now in
     let q = question c.args.query.now in
     let policy = c.policy.ensures.value in
     let same = c.as_slice-entries.ensures ∙ ap (λ (p : Policy). p.entries) policy in
@@ -67,7 +67,7 @@ returns-then-is_some c =
 
 pub loop-left-preserved : goal.loop-left-preserved
 loop-left-preserved c =
-    let p = c.args.checked.now in
+    let p = c.args.lists.checked.now in
     let q = question c.args.query.now in
     let policy = c.policy.ensures.value in
     let same = c.as_slice-entries.ensures ∙ ap (λ (p : Policy). p.entries) policy in

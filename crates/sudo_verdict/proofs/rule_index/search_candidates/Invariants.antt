@@ -8,8 +8,8 @@ use Rattle.sudo_verdict.proofs.rule_index.search_candidates.Given as goal
 abbrev pub invariant-loop-left : goal.invariant-loop-left
 invariant-loop-left l = record {
   within : l.start + l.left ≤ l.end;
-  same : last_set (map (entry_found l.checked (question l.query)) (take l.end l.checked.entries))
-      ≡ last_set (map (entry_found l.checked (question l.query)) (take (l.start + l.left) l.checked.entries));
+  same : last_set (map (entry_found l.lists.checked.now (question l.query)) (take l.end l.lists.checked.now.entries))
+      ≡ last_set (map (entry_found l.lists.checked.now (question l.query)) (take (l.start + l.left) l.lists.checked.now.entries));
 }
 
 abbrev pub decreases-loop-left : goal.decreases-loop-left

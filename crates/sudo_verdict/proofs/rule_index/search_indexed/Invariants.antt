@@ -7,8 +7,8 @@ use Rattle.sudo_verdict.proofs.rule_index.search_indexed.Given as goal
 -- the entries from the end on decide nothing
 abbrev pub invariant-loop-end : goal.invariant-loop-end
 invariant-loop-end l = record {
-  within : l.end ≤ length l.checked.entries;
-  same : last_set (map (entry_found l.checked (question l.query)) l.checked.entries) ≡ last_set (map (entry_found l.checked (question l.query)) (take l.end l.checked.entries));
+  within : l.end ≤ length l.lists.checked.now.entries;
+  same : last_set (map (entry_found l.lists.checked.now (question l.query)) l.lists.checked.now.entries) ≡ last_set (map (entry_found l.lists.checked.now (question l.query)) (take l.end l.lists.checked.now.entries));
 }
 
 abbrev pub decreases-loop-end : goal.decreases-loop-end

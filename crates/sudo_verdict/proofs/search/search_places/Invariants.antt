@@ -10,10 +10,10 @@ use Rattle.sudo_verdict.proofs.search.search_places.Given as goal
 -- the places passed decide nothing
 abbrev pub invariant-loop-spec : goal.invariant-loop-spec
 invariant-loop-spec l = record {
-  refused : l.refused ≡ true → runas_allows l.checked (question l.query) (runas_before l.left) ≡ false;
+  refused : l.refused ≡ true → runas_allows l.lists.checked.now (question l.query) (runas_before l.left) ≡ false;
   front : l.left ≡ take (length l.left) l.commands;
-  resolve : IsTrue (list_all (command_resolves l.checked) l.left);
-  same : commands_found l.checked (question l.query) l.place l.commands (length l.commands) ≡ commands_found l.checked (question l.query) l.place l.commands (length l.left);
+  resolve : IsTrue (list_all (command_resolves l.lists.checked.now) l.left);
+  same : commands_found l.lists.checked.now (question l.query) l.place l.commands (length l.commands) ≡ commands_found l.lists.checked.now (question l.query) l.place l.commands (length l.left);
 }
 
 abbrev pub decreases-loop-spec : goal.decreases-loop-spec

@@ -9,13 +9,13 @@ pub returns-in-Some-search_section : goal.returns-in-Some-search_section
 returns-in-Some-search_section c =
     sym
     (c.loop-section.invariant.same
-    ∙ back_found (section_found c.args.checked.now (question c.args.query.now) c.args.place) c.loop-section.left.now c.in-Some.rest.now c.in-Some.section.now
+    ∙ back_found (section_found c.args.lists.checked.now (question c.args.query.now) c.args.place) c.loop-section.left.now c.in-Some.rest.now c.in-Some.section.now
     c.in-Some.ensures.cases.0 c.in-Some-search_section.verdict c.in-Some-search_section.ensures)
 
 pub loop-section-preserved : goal.loop-section-preserved
 loop-section-preserved c = record {
-  resolve = back_rest (section_resolves c.args.checked.now) c.loop-section.left.now c.in-Some.rest.now c.in-Some.section.now c.in-Some.ensures.cases.0 c.loop-section.invariant.resolve;
+  resolve = back_rest (section_resolves c.args.lists.checked.now) c.loop-section.left.now c.in-Some.rest.now c.in-Some.section.now c.in-Some.ensures.cases.0 c.loop-section.invariant.resolve;
   same = c.loop-section.invariant.same
-      ∙ back_none (section_found c.args.checked.now (question c.args.query.now) c.args.place) c.loop-section.left.now c.in-Some.rest.now c.in-Some.section.now
+      ∙ back_none (section_found c.args.lists.checked.now (question c.args.query.now) c.args.place) c.loop-section.left.now c.in-Some.rest.now c.in-Some.section.now
       c.in-Some.ensures.cases.0 c.in_default-search_section.ensures;
 }

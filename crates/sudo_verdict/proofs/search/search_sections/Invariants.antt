@@ -9,8 +9,8 @@ use Rattle.sudo_verdict.proofs.search.search_sections.Given as goal
 -- the sections passed decide nothing
 abbrev pub invariant-loop-section : goal.invariant-loop-section
 invariant-loop-section l = record {
-  resolve : IsTrue (list_all (section_resolves l.checked) l.left);
-  same : last_set (map (section_found l.checked (question l.query) l.place) l.sections) ≡ last_set (map (section_found l.checked (question l.query) l.place) l.left);
+  resolve : IsTrue (list_all (section_resolves l.lists.checked.now) l.left);
+  same : last_set (map (section_found l.lists.checked.now (question l.query) l.place) l.sections) ≡ last_set (map (section_found l.lists.checked.now (question l.query) l.place) l.left);
 }
 
 abbrev pub decreases-loop-section : goal.decreases-loop-section

@@ -1,0 +1,60 @@
+-- Sets of numbers as bits, and numbers that a command or a user lacks; only proofs of bodies need these definitions.
+use Rattle.std.specs.Prelude.{◌≡◌, ℕ, ◌%◌, Bool, true, false, not, ◌&&◌, ◌==◌, List, [], ◌∷◌, Option, Some, None, slice_get}
+use Rattle.sudo_grammar.specs.declared.kind.Atom.{Atom}
+use Rattle.sudo_grammar.specs.declared.kind.Member.{Member}
+use Rattle.sudo_grammar.specs.declared.policy.Policy.{Policy}
+use Rattle.std.specs.List.{list_all}
+use Rattle.sudo_match.specs.declared.people.Person.{Person}
+use Rattle.sudo_match.specs.declared.people.Group.{Group}
+use Rattle.sudo_policy.specs.Definitions.{alias_named}
+use Rattle.sudo_verdict.specs.declared.marks.Marks.{Marks}
+use Rattle.sudo_verdict.specs.declared.keys.Keys.{Keys as TheKeys}
+use Rattle.sudo_verdict.specs.Postings.{bit, next_number, bucket_of, whole_seed, beginning_seed, user_bucket, group_number, uid_number, gid_number, atom_number, policy_keys}
+
+-- the set has the number
+abbrev pub marked : List ℕ → ℕ → Bool
+marked words number = bit words (number % 1024) == 1
+
+-- no number of a beginning of the bytes is one of those; `number` is that of the bytes before them
+unfoldable pub lacks_beginnings : (ℕ → Bool) → ℕ → List ℕ → Bool
+lacks_beginnings has number [] = not (has number)
+lacks_beginnings has number (b ∷ bs) = not (has number) && lacks_beginnings has (next_number number b) bs
+
+-- no number of a command is one of those
+unfoldable pub lacks_command : (ℕ → Bool) → List ℕ → Bool
+lacks_command has command =
+    not (has 0) && (not (has (bucket_of whole_seed command)) && lacks_beginnings has beginning_seed command)
+
+-- no number of a group is one of those
+abbrev pub lacks_group : (ℕ → Bool) → Group → Bool
+lacks_group has g = not (has (group_number g.name)) && not (has (gid_number g.gid))
+
+-- no number of a user is one of those
+unfoldable pub lacks_user : (ℕ → Bool) → Person → Bool
+lacks_user has u =
+    not (has 0)
+    && (not (has (user_bucket u.name))
+    && (not (has (uid_number u.uid))
+    && list_all (lacks_group has) u.groups))
+
+-- the set, if there is one, has the numbers of the atoms that match the user
+abbrev pub AreMarksOf : Person → Option Marks → Type 0
+AreMarksOf u marks = (m : Marks) → marks ≡ Some m → lacks_user (λ n. not (marked m.words n)) u ≡ true
+
+-- each atom of the number is no alias, and fails the test
+abbrev pub IsPassed : (Atom → Bool) → ℕ → Type 0
+IsPassed test number = (a : Atom) → atom_number a ≡ number → (alias_named a ≡ None) × (test a ≡ false)
+
+-- there is a number, and each atom of it is no alias, and fails the test
+abbrev pub IsPassedAt : (Atom → Bool) → Option ℕ → Type 0
+IsPassedAt test None = ⊥
+IsPassedAt test (Some number) = IsPassed test number
+
+-- each key is that of the member at its index
+abbrev pub HaveKeys : List ℕ → List Member → Type 0
+HaveKeys keys members =
+    (i n : ℕ) (m : Member) → slice_get keys i ≡ Some n → slice_get members i ≡ Some m → atom_number m.atom ≡ n
+
+-- the keys, if there are any, are those of the policy
+abbrev pub AreKeysOf : Policy → Option TheKeys → Type 0
+AreKeysOf p keys = (k : TheKeys) → keys ≡ Some k → k.rows ≡ policy_keys p
