@@ -11,7 +11,7 @@ use Rattle.audit_collect.specs.Faults.{is_close, is_reply}
 use Rattle.audit_collect.specs.SenderState.{SenderState, after, empty_sender, start}
 use Rattle.audit_collect.proofs.Arrived.{arrivals_of, runs}
 use Rattle.audit_collect.proofs.Counts.{both_true, close_held, closes_once, replies_once, reply_held}
-use Rattle.audit_collect.proofs.FaultLaw.{arrivals_of-start, close_in_part, part_in_all, reply_in_part, well_at}
+use Rattle.audit_collect.proofs.FaultLaw.{arrivals_of-start, close-in-part, part-in-all, reply_in_part, well_at}
 use Rattle.audit_collect.proofs.Members.{Among, Among-permutation, count_by-permutation, count_by_member, found_counted}
 use Rattle.audit_collect.proofs.Well.{AllWell, AllWell-start, named_at}
 use Rattle.std.proofs.lemmas.List.Sorted.{IsPermutation-sym}
@@ -22,7 +22,7 @@ tested a b e = grind (arith, nat_tests)
 pub self_tested : (a : ℕ) → (a == a) ≡ true
 self_tested a = grind (arith, nat_tests)
 
-zero_or_some : (k : ℕ) → (k ≡ 0) ⊎ (1 ≤ k)
+pub zero_or_some : (k : ℕ) → (k ≡ 0) ⊎ (1 ≤ k)
 zero_or_some zero = inl refl
 zero_or_some (suc k) = inr (omega arith)
 
@@ -69,7 +69,7 @@ module _ (names : List (List ℕ)) (arrivals : List Arrival) (held : List Sender
     pub close_arrived : (count : ℕ) → h.close ≡ Some count → Among (Close s count) arrivals
     close_arrived count closed =
         Among-permutation (Close s count) (arrivals_of 0 held) arrivals (IsPermutation-sym arrivals (arrivals_of 0 held) same)
-        (part_in_all (Close s count) s 0 s held h (omega arith) there (close_in_part s count h closed))
+        (part-in-all (Close s count) s 0 s held h (omega arith) there (close-in-part s count h closed))
 
     -- as many close marks of a sender have arrived as are held
     pub close_counted : (o : Option ℕ) → h.close ≡ o → count_by (is_close s) arrivals ≡ (if is_some o then 1 else 0)
@@ -97,7 +97,7 @@ module _ (names : List (List ℕ)) (arrivals : List Arrival) (held : List Sender
             absurd (no_reply n none found.item found.member found.passes)
     reply_counted n (Some a) got =
         let named = named_at s n a h (well_at s 0 s held h (omega arith) there well) got in
-        let member = part_in_all (Reply a) s 0 s held h (omega arith) there (reply_in_part s n a h got) in
+        let member = part-in-all (Reply a) s 0 s held h (omega arith) there (reply_in_part s n a h got) in
         let own : (a.sender == s) ≡ true = ap (λ t. t == s) named.0 ∙ self_tested s in
         let number : (a.request.number == n) ≡ true = ap (λ t. t == n) named.1 ∙ self_tested n in
         let some = count_by_member (is_reply s n) (Reply a) (arrivals_of 0 held) member (ap (λ b. b && (a.request.number == n)) own ∙ number) in

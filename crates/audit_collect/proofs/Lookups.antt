@@ -30,9 +30,9 @@ find-append q (e ∷ xs) ys =
     ]
 
 -- a scan of a hash map's entries finds the same
-find_is_lookup : (q : ℕ) (es : List (ℕ × Answer)) → find nat_cmp q es ≡ waiting_at es q
-find_is_lookup q [] = refl
-find_is_lookup q (e ∷ es) = ap (λ b. cond b (Some e.1) (find nat_cmp q es)) (ties q e.0) ∙ ap (cond (nat_eq q e.0) (Some e.1)) (find_is_lookup q es)
+find-is-lookup : (q : ℕ) (es : List (ℕ × Answer)) → find nat_cmp q es ≡ waiting_at es q
+find-is-lookup q [] = refl
+find-is-lookup q (e ∷ es) = ap (λ b. cond b (Some e.1) (find nat_cmp q es)) (ties q e.0) ∙ ap (cond (nat_eq q e.0) (Some e.1)) (find-is-lookup q es)
 
 find-enumerate_from_below : (q n : ℕ) (xs : List Answer) → q < n → find nat_cmp q (enumerate_from n xs) ≡ None
 find-enumerate_from_below q n [] h = refl
@@ -57,7 +57,7 @@ find-numbered xs (suc i) = find-enumerate_from 1 xs (suc i) i (omega arith)
 pub get-answers_of : (xs : List Answer) (es : List (ℕ × Answer)) (q : ℕ) → get (answers_of xs es) q ≡ answer_at xs es q
 get-answers_of xs es q =
     get-from_entries nat_cmp_total (enumerate_from 1 xs ++ es) q ∙ find-append q (enumerate_from 1 xs) es
-    ∙ (λ j. option_or (find-numbered xs q j) (find_is_lookup q es j))
+    ∙ (λ j. option_or (find-numbered xs q j) (find-is-lookup q es j))
 
 pub slice_get_within : (ys : List Answer) (i : ℕ) → i < length ys → is_some (slice_get ys i) ≡ true
 slice_get_within [] i k = absurd (omega arith)
@@ -69,13 +69,13 @@ slice_get_past [] i k = refl
 slice_get_past (y ∷ ys) zero k = absurd (omega arith)
 slice_get_past (y ∷ ys) (suc i) k = slice_get_past ys i (omega arith)
 
-pub released_at_within : (xs : List Answer) (q : ℕ) → 1 ≤ q → q ≤ length xs → is_some (released_at xs q) ≡ true
-released_at_within xs zero h k = absurd (omega arith)
-released_at_within xs (suc i) h k = slice_get_within xs i (omega arith)
+pub released_at-within : (xs : List Answer) (q : ℕ) → 1 ≤ q → q ≤ length xs → is_some (released_at xs q) ≡ true
+released_at-within xs zero h k = absurd (omega arith)
+released_at-within xs (suc i) h k = slice_get_within xs i (omega arith)
 
-pub released_at_past : (xs : List Answer) (q : ℕ) → length xs < q → released_at xs q ≡ None
-released_at_past xs zero h = absurd (omega arith)
-released_at_past xs (suc i) h = slice_get_past xs i (omega arith)
+pub released_at-past : (xs : List Answer) (q : ℕ) → length xs < q → released_at xs q ≡ None
+released_at-past xs zero h = absurd (omega arith)
+released_at-past xs (suc i) h = slice_get_past xs i (omega arith)
 
 is_some-option_or : {A : Type 0} (o p : Option A) → is_some o ≡ true → is_some (option_or o p) ≡ true
 is_some-option_or None p h = absurd (false≢true h)
@@ -83,11 +83,11 @@ is_some-option_or (Some x) p h = refl
 
 -- a number up to the length of the released list was accepted
 pub contains_key-released : (xs : List Answer) (es : List (ℕ × Answer)) (q : ℕ) → 1 ≤ q → q ≤ length xs → contains_key (answers_of xs es) q ≡ true
-contains_key-released xs es q h k = ap is_some (get-answers_of xs es q) ∙ is_some-option_or (released_at xs q) (waiting_at es q) (released_at_within xs q h k)
+contains_key-released xs es q h k = ap is_some (get-answers_of xs es q) ∙ is_some-option_or (released_at xs q) (waiting_at es q) (released_at-within xs q h k)
 
 -- another one was accepted where it waits
 pub contains_key-waiting : (xs : List Answer) (es : List (ℕ × Answer)) (q : ℕ) → length xs < q → contains_key (answers_of xs es) q ≡ is_some (waiting_at es q)
-contains_key-waiting xs es q h = ap is_some (get-answers_of xs es q) ∙ ap (λ o. is_some (option_or o (waiting_at es q))) (released_at_past xs q h)
+contains_key-waiting xs es q h = ap is_some (get-answers_of xs es q) ∙ ap (λ o. is_some (option_or o (waiting_at es q))) (released_at-past xs q h)
 
 slice_get-push : (xs : List Answer) (a : Answer) (i : ℕ) → slice_get (xs ++ a ∷ []) i ≡ cond (nat_eq i (length xs)) (Some a) (slice_get xs i)
 slice_get-push [] a zero = refl
@@ -127,7 +127,7 @@ answer_at-moved xs es fs n a next there gone q =
     by : (b : Bool) → nat_eq q (length xs + 1) ≡ b → option_or (cond (nat_eq q (length xs + 1)) (Some a) (released_at xs q)) (cond (nat_eq n q) None (waiting_at es q)) ≡ answer_at xs es q
     by true e =
         let same : q ≡ n = grind (arith, nat_tests) in
-        let past = released_at_past xs q (omega arith) in
+        let past = released_at-past xs q (omega arith) in
         let back : nat_eq n q ≡ true = grind (arith, nat_tests) in
         (λ j. option_or (cond (e j) (Some a) (released_at xs q)) (cond (back j) None (waiting_at es q)))
         ∙ sym (ap (λ o. option_or o (waiting_at es q)) past ∙ ap (waiting_at es) same ∙ there)
@@ -160,7 +160,7 @@ answer_at-waits xs es fs n a past put q = ap (option_or (released_at xs q)) (put
     by true e =
         let same : q ≡ n = grind (arith, nat_tests) in
         let back : nat_eq n q ≡ true = grind (arith, nat_tests) in
-        (λ j. option_or (released_at_past xs q (omega arith) j) (cond (back j) (Some a) (waiting_at es q))) ∙ sym (ap (λ b. cond b (Some a) (answer_at xs es q)) e)
+        (λ j. option_or (released_at-past xs q (omega arith) j) (cond (back j) (Some a) (waiting_at es q))) ∙ sym (ap (λ b. cond b (Some a) (answer_at xs es q)) e)
     by false e =
         let back : nat_eq n q ≡ false = grind (arith, nat_tests) in
         (λ j. option_or (released_at xs q) (cond (back j) (Some a) (waiting_at es q))) ∙ sym (ap (λ b. cond b (Some a) (answer_at xs es q)) e)

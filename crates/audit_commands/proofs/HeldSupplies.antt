@@ -4,6 +4,6 @@ use Rattle.sudo_load.specs.declared.supply.Supply.{Supply}
 use Rattle.audit_commands.specs.Holding.{AreHeld, Holdings, IsHeld}
 
 -- One more that may be there.
-pub held_push : (held : Option Holdings) (handed : List Supply) (supply : Supply) → AreHeld held handed → IsHeld held supply → AreHeld held (handed ++ supply ∷ [])
-held_push held [] supply are is = (is, tt)
-held_push held (first ∷ rest) supply are is = (are.0, held_push held rest supply are.1 is)
+pub held-push : (held : Option Holdings) (handed : List Supply) (supply : Supply) → AreHeld held handed → IsHeld held supply → AreHeld held (handed ++ supply ∷ [])
+held-push held [] supply are is = (is, tt)
+held-push held (first ∷ rest) supply are is = (are.0, held-push held rest supply are.1 is)

@@ -181,5 +181,5 @@ all_kept (fields ∷ rest) before e kept =
     by None later h = (refl, h)
     by (Some f) later h = cc
 
-pub records_are_kept : (records : List Fields) → first_fault membership_fault [] records ≡ None → AreUsersOf records (users_of records)
-records_are_kept records faultless = (users_are_apart (filter_map member_of records) [] tt, all_kept records [] faultless refl)
+pub records-are-kept : (records : List Fields) → first_fault membership_fault [] records ≡ None → AreUsersOf records (users_of records)
+records-are-kept records faultless = (users_are_apart (filter_map member_of records) [] tt, all_kept records [] faultless refl)

@@ -11,3 +11,6 @@ pub mod InterfaceLemmas
 pub mod Members
 pub mod Kept
 pub mod UsersVectors
+pub mod PlainRows
+pub mod Progress
+pub mod QuotedRows

@@ -9,10 +9,10 @@ use Rattle.audit_files.specs.Users.{followed_by, last_of, member_of, membership_
 use Rattle.audit_files.proofs.Gathered.{gathers_some}
 
 -- a row behind the rows of the last of these users
-pub with_row_last : (front : List Person) (p row : Person) → with_row (front ++ p ∷ []) row ≡ front ++ followed_by p row
-with_row_last [] p row = refl
-with_row_last (a ∷ []) p row = refl
-with_row_last (a ∷ b ∷ front) p row = ap (λ (l : List Person). a ∷ l) (with_row_last (b ∷ front) p row)
+pub with_row-last : (front : List Person) (p row : Person) → with_row (front ++ p ∷ []) row ≡ front ++ followed_by p row
+with_row-last [] p row = refl
+with_row-last (a ∷ []) p row = refl
+with_row-last (a ∷ b ∷ front) p row = ap (λ (l : List Person). a ∷ l) (with_row-last (b ∷ front) p row)
 
 -- a row that may follow, below the limit
 pub following_row : (before : List Fields) (fields : Fields) (row : Person) → member_of fields ≡ Some row
@@ -32,10 +32,10 @@ following_row before fields row e follows below =
 -- a row of the last user adds its group
 pub same_user : (people front : List Person) (p row : Person) → people ≡ front ++ p ∷ [] → bytes_eq p.name row.name ≡ true
     → with_row people row ≡ front ++ record p { groups = p.groups ++ row.groups } ∷ []
-same_user people front p row is same = ap (λ (l : List Person). with_row l row) is ∙ with_row_last front p row ∙ rw same refl
+same_user people front p row is same = ap (λ (l : List Person). with_row l row) is ∙ with_row-last front p row ∙ rw same refl
 
 -- a row of another user is a further user
 pub other_user : (people front : List Person) (p row : Person) → people ≡ front ++ p ∷ [] → bytes_eq p.name row.name ≡ false
     → with_row people row ≡ (front ++ p ∷ []) ++ row ∷ []
 other_user people front p row is other =
-    ap (λ (l : List Person). with_row l row) is ∙ with_row_last front p row ∙ rw other (sym (append_assoc front (p ∷ []) (row ∷ [])))
+    ap (λ (l : List Person). with_row l row) is ∙ with_row-last front p row ∙ rw other (sym (append_assoc front (p ∷ []) (row ∷ [])))

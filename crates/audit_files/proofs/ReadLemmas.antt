@@ -86,24 +86,24 @@ failed_is_read readable_bytes e = known readable_bytes (record { bytes = []; fai
     given (Some b) e a h = let same : b ≡ a = cc in rw (← same) (whole_failed b e)
 
 -- what a text states is what is read, where the text is
-pub text_is_read : {T : Type 0} (meaning : List ℕ → Result T FileFault) (readable_bytes : Option Ahead) (text : List ℕ) (r : Result T FileFault)
+pub text-is-read : {T : Type 0} (meaning : List ℕ → Result T FileFault) (readable_bytes : Option Ahead) (text : List ℕ) (r : Result T FileFault)
     → IsRead itself readable_bytes (Ok text) → meaning text ≡ r → IsRead meaning readable_bytes r
-text_is_read {T} meaning readable_bytes text r i e = record { ahead = i.ahead; gives = i.gives; states = by (bytes_read i.ahead) i.states }
+text-is-read {T} meaning readable_bytes text r i e = record { ahead = i.ahead; gives = i.gives; states = by (bytes_read i.ahead) i.states }
   where
     by : (o : Result (List ℕ) FileFault) → stated_in itself o ≡ Ok text → stated_in meaning o ≡ r
     by (Ok bytes) h = let same : bytes ≡ text = cc in rw same e
     by (Err f) h = cc
 
 -- a fault of reading is what is read, whatever the bytes would state
-pub fault_is_read : {T : Type 0} (meaning : List ℕ → Result T FileFault) (readable_bytes : Option Ahead) (fault : FileFault)
+pub fault-is-read : {T : Type 0} (meaning : List ℕ → Result T FileFault) (readable_bytes : Option Ahead) (fault : FileFault)
     → IsRead itself readable_bytes (Err fault) → IsRead meaning readable_bytes (Err fault)
-fault_is_read {T} meaning readable_bytes fault i = record { ahead = i.ahead; gives = i.gives; states = by (bytes_read i.ahead) i.states }
+fault-is-read {T} meaning readable_bytes fault i = record { ahead = i.ahead; gives = i.gives; states = by (bytes_read i.ahead) i.states }
   where
     by : (o : Result (List ℕ) FileFault) → stated_in itself o ≡ Err fault → stated_in meaning o ≡ Err fault
     by (Ok bytes) h = cc
     by (Err f) h = let same : f ≡ fault = cc in rw same refl
 
-pub text_states : {T : Type 0} (meaning : List ℕ → Result T FileFault) (readable_bytes : Option Ahead) (text : List ℕ) (r : Result T FileFault)
+pub text-states : {T : Type 0} (meaning : List ℕ → Result T FileFault) (readable_bytes : Option Ahead) (text : List ℕ) (r : Result T FileFault)
     → IsRead itself readable_bytes (Ok text) → IfOk r (λ x. meaning text ≡ Ok x) → IfErr r (λ e. IsNotOutOfMemory e → meaning text ≡ Err e) → IsStatedBy meaning readable_bytes r
-text_states meaning readable_bytes text (Ok x) i ok err = text_is_read meaning readable_bytes text (Ok x) i ok
-text_states meaning readable_bytes text (Err e) i ok err = λ no_memory. text_is_read meaning readable_bytes text (Err e) i (err no_memory)
+text-states meaning readable_bytes text (Ok x) i ok err = text-is-read meaning readable_bytes text (Ok x) i ok
+text-states meaning readable_bytes text (Err e) i ok err = λ no_memory. text-is-read meaning readable_bytes text (Err e) i (err no_memory)

@@ -5,7 +5,7 @@ use Rattle.std.specs.Option.{option_map_or, option_or}
 use Rattle.std.proofs.lemmas.Bool.{leb-false}
 use Rattle.sudo_match.specs.declared.request.Request.{Request}
 use Rattle.audit_files.specs.Files.{after_header, stated_by}
-use Rattle.audit_files.specs.Requests.{AreRising, RiseAbove, close_of, closes_in, last_number, request_fault, request_limit, request_of, requests_header, requests_in, requests_of, sent, shape_fault}
+use Rattle.audit_files.specs.Requests.{AreRising, RiseAbove, close_of, closes_in, last_number, request_fault, request_limit, request_of, requests_header, requests_in, requests_of, requests_of_file, shape_fault}
 use Rattle.audit_files.specs.Rows.{Fields, first_fault, records_of}
 use Rattle.audit_files.specs.declared.fault.FileFault.{FileFault}
 use Rattle.audit_files.specs.declared.fault.FileFault.TheVariants.{BadRow, OutOfOrder, RowAfterClose, TooMany}
@@ -70,7 +70,7 @@ all_rise (fields ∷ rest) before e rise =
     by None later h = (refl, h)
     by (Some f) later h = cc
 
-pub sent_rises : (text : List ℕ) (requests : Requests) → sent text ≡ Ok requests → AreRising requests.list
+pub sent_rises : (text : List ℕ) (requests : Requests) → requests_of_file text ≡ Ok requests → AreRising requests.list
 sent_rises text requests e = by (after_header requests_header (records_of text)) e
   where
     stated : (rest : List Fields) (o : Option FileFault) → first_fault request_fault [] rest ≡ o → Rattle.audit_files.specs.Faults.unless o (requests_of rest) ≡ Ok requests → AreRising requests.list

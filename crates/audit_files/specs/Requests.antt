@@ -108,8 +108,8 @@ abbrev pub requests_of : List Fields → Requests
 requests_of all = record { list = requests_in all; close = slice_get (closes_in all) 0 }
 
 -- the content of a requests file, from its bytes, or its first fault
-abbrev pub sent : List ℕ → Result Requests FileFault
-sent text = value_in_file requests_header request_fault requests_of (records_of text)
+abbrev pub requests_of_file : List ℕ → Result Requests FileFault
+requests_of_file text = value_in_file requests_header request_fault requests_of (records_of text)
 
 -- the numbers of the requests rise, from above this one on
 abbrev pub RiseAbove : ℕ → List Request → Type 0

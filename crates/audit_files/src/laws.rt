@@ -1,6 +1,6 @@
 //! Laws of the files of an audit.
 ghost use Rattle.std.specs.Prelude.{◌≡◌, [], List, None, ℕ, Ok};
-ghost use Rattle.audit_files.specs.Requests.{AreRising, sent};
+ghost use Rattle.audit_files.specs.Requests.{AreRising, requests_of_file};
 ghost use Rattle.audit_files.specs.Rows.{Fields, first_fault};
 ghost use Rattle.audit_files.specs.Users.{AreUsersOf, membership_fault, users_of};
 ghost use Rattle.audit_files.specs.declared.requests.Requests.{Requests};
@@ -8,7 +8,7 @@ ghost use Rattle.audit_files.specs.declared.requests.Requests.{Requests};
 /// The numbers of the requests that a file states are at least 1, and each is greater than the
 /// previous one.
 pub fn numbers_rise()
-    ensures { (text : List ℕ) (requests : Requests) → sent text ≡ Ok requests
+    ensures { (text : List ℕ) (requests : Requests) → requests_of_file text ≡ Ok requests
         → AreRising requests.list }
 {}
 

@@ -1,10 +1,10 @@
 //! The text of a report, record by record.
-ghost use Rattle.std.specs.Prelude.{◌≡◌, ◌++◌, ◌∷◌, [], IfOk, OnOk};
-ghost use Rattle.audit_files.specs.Report.{answer_fields, line, report_text as text_of, sender_text, tags_text, verdict_place, verdict_tags, verdict_word, with_tag_name, with_tag};
-ghost use Rattle.audit_files.specs.Body.Text.{IsBetween, text_so_far};
+ghost use Rattle.std.specs.Prelude.{◌≡◌, ◌++◌, ◌∷◌, [], ℕ, List, IfOk, OnOk};
+ghost use Rattle.csv.specs.Writing.{default_writer, field_text};
+ghost use Rattle.audit_files.specs.Report.{answer_fields, header, line, report_text as text_of, sender_text, tags_text, verdict_place, verdict_tags, verdict_word, with_tag_name, with_tag};
 
 use crate::places::push_place;
-use crate::records::Text;
+use crate::quoting::{push_field, push_four};
 use audit_collect::{Answer, Report, SenderReport};
 use itoa::Buffer;
 use std::alloc::{AllocError, Global};
@@ -84,50 +84,33 @@ fn set_tags(text: &mut Vec<u8>, verdict: &Verdict) -> Result<(), AllocError>
     }
 }
 
-// Appends a record of five fields.
-fn put_five<'a>(
-    text: &mut Text,
-    first: &'a [u8],
-    second: &'a [u8],
-    third: &'a [u8],
-    fourth: &'a [u8],
-    fifth: &'a [u8],
-) -> Result<(), AllocError>
-    requires { IsBetween text.old }
-    ensures between { OnOk result (IsBetween text.new) }
-    ensures text { OnOk result (text_so_far text.new
-        ≡ text_so_far text.old ++ line (first.entry.now ∷ second.entry.now ∷ third.entry.now ∷
-        fourth.entry.now ∷ fifth.entry.now ∷ [])) }
-{
-    text.put(&[first, second, third, fourth, fifth])
-}
-
-// The fields of a record that each answer overwrites.
+// The parts of a record that many records share or overwrite.
 #[derive(Drop)]
 struct Scratch {
+    // The first field, as it is written.
+    sender: Vec<u8>,
     place: Vec<u8>,
     tags: Vec<u8>,
 }
 
-// Appends the record of an answer.
+// Appends the record of an answer of the sender whose field is in `scratch`.
 fn put_answer(
-    text: &mut Text,
+    text: &mut Vec<u8>,
     scratch: &mut Scratch,
     files: &[Seq<u8>],
-    sender: &[u8],
     answer: &Answer,
 ) -> Result<(), AllocError>
-    requires { IsBetween text.old }
-    ensures between { OnOk result (IsBetween text.new) }
-    ensures text { OnOk result (text_so_far text.new
-        ≡ text_so_far text.old ++ line (answer_fields files.now sender.now answer.now)) }
+    ensures text { OnOk result ((sender : List ℕ)
+        → scratch.old.sender.items ≡ field_text default_writer sender → text.new.items
+        ≡ text.old.items ++ line (answer_fields files.now sender answer.now)) }
+    ensures sender { OnOk result (scratch.new.sender.items ≡ scratch.old.sender.items) }
 {
     let mut number = Buffer::new();
     set_place(&mut scratch.place, files, &answer.verdict)?;
     set_tags(&mut scratch.tags, &answer.verdict)?;
-    put_five(
+    text.extend_from_slice(scratch.sender.as_slice())?;
+    push_four(
         text,
-        sender,
         number.format(answer.request.number).as_bytes(),
         word(&answer.verdict),
         scratch.place.as_slice(),
@@ -137,20 +120,28 @@ fn put_answer(
 
 // Appends the records of a sender.
 fn put_sender(
-    text: &mut Text,
+    text: &mut Vec<u8>,
     scratch: &mut Scratch,
     files: &[Seq<u8>],
     sender: &SenderReport,
 ) -> Result<(), AllocError>
-    requires { IsBetween text.old }
-    ensures between { OnOk result (IsBetween text.new) }
-    ensures text { OnOk result (text_so_far text.new
-        ≡ text_so_far text.old ++ sender_text files.now sender.now) }
+    ensures { OnOk result (text.new.items
+        ≡ text.old.items ++ sender_text files.now sender.now) }
 {
+    scratch.sender.clear();
+    push_field(&mut scratch.sender, sender.name.as_slice())?;
     for answer in sender.answers.as_slice() {
-        put_answer(text, scratch, files, sender.name.as_slice(), answer)?;
+        put_answer(text, scratch, files, answer)?;
     }
     Ok(())
+}
+
+// Appends the record of the names of the columns.
+fn put_header(text: &mut Vec<u8>) -> Result<(), AllocError>
+    ensures { OnOk result (text.new.items ≡ text.old.items ++ line header) }
+{
+    push_field(text, b"sender")?;
+    push_four(text, b"number", b"verdict", b"line", b"tags")
 }
 
 /// Returns the report as CSV: the header `sender,number,verdict,line,tags`, then for each sender a record for
@@ -162,14 +153,15 @@ fn put_sender(
 pub fn report_text(alloc: Global, report: &Report, files: &[Seq<u8>]) -> Result<Vec<u8>, AllocError>
     ensures { IfOk result (λ text. text.items ≡ text_of files.now report.now) }
 {
-    let mut text = Text::new(alloc);
+    let mut text = Vec::new(alloc);
     let mut scratch = Scratch {
+        sender: Vec::new(alloc),
         place: Vec::new(alloc),
         tags: Vec::new(alloc),
     };
-    text.put(&[b"sender", b"number", b"verdict", b"line", b"tags"])?;
+    put_header(&mut text)?;
     for sender in report.senders.as_slice() {
         put_sender(&mut text, &mut scratch, files, sender)?;
     }
-    text.finish()
+    Ok(text)
 }

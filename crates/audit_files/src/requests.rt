@@ -2,18 +2,24 @@
 ghost use Rattle.std.specs.Prelude.{◌≡◌, ◌≢◌, ◌+◌, ◌∷◌, ◌++◌, [], Some, Ok, Err, List, ℕ, IfOk, OnOk, IfErr, IfSome, IfNone, length, slice_get};
 ghost use Rattle.csv.specs.Records.{fields_of};
 ghost use Rattle.audit_files.specs.Faults.{IsNotOutOfMemory, failures_in, read_failures};
-ghost use Rattle.audit_files.specs.Files.{IsStatedBy, same_fields};
-ghost use Rattle.audit_files.specs.Requests.{asked_for, asked_number as number_asked, close_of, fields_in, requests_header, sent, is_command as command_test, last_number as number_of_last, order_fault as fault_of_order, request_of};
+ghost use Rattle.audit_files.specs.Body.Gathering.{HoldsRecords};
+ghost use Rattle.audit_files.specs.Files.{IsStatedBy, after_header, first_record_fault, same_fields};
+ghost use Rattle.audit_files.specs.Rows.{Fields, first_fault, records_of};
+ghost use Rattle.audit_files.specs.Requests.{asked_for, asked_number as number_asked, close_of, fields_in, request_fault, requests_header, requests_of_file, is_command as command_test, last_number as number_of_last, order_fault as fault_of_order, request_of};
 
 use crate::fields::field;
 use crate::number::number;
-use crate::table::{Table, gather};
+use crate::plain::{first_row, next_row};
+use crate::table::{Table, gather, gather_from};
 use crate::text::read_text;
 use crate::{Feed, FileFault};
 use csv::ByteRecord;
 use std::alloc::{AllocError, Global};
 use sudo_match::Request;
 use sudo_text::Seq;
+
+// A row has about as many bytes, or more: a list begins with room for so many requests.
+const BYTES_OF_A_ROW: usize = 32;
 
 /// The content of a requests file: its requests in order, and the count of its close row, if it has
 /// one.
@@ -23,16 +29,16 @@ pub struct Requests {
     pub close: Option<u32>,
 }
 
-// The fields of a row.
+/// The fields of a row.
 #[derive(Clone, Copy)]
-struct RequestRow<'a> {
-    number: &'a [u8],
-    user: &'a [u8],
-    host: &'a [u8],
-    runas_user: &'a [u8],
-    runas_group: &'a [u8],
-    command: &'a [u8],
-    arguments: &'a [u8],
+pub(crate) struct RequestRow<'a> {
+    pub(crate) number: &'a [u8],
+    pub(crate) user: &'a [u8],
+    pub(crate) host: &'a [u8],
+    pub(crate) runas_user: &'a [u8],
+    pub(crate) runas_group: &'a [u8],
+    pub(crate) command: &'a [u8],
+    pub(crate) arguments: &'a [u8],
 }
 
 impl<'a> RequestRow<'a> {
@@ -165,14 +171,14 @@ struct RequestList {
 }
 
 impl Table for RequestList {
-    ghost use Rattle.audit_files.specs.Requests.{closes_in, request_fault, requests_header, requests_in};
+    ghost use Rattle.audit_files.specs.Body.Gathering.{HoldsRecords};
+    ghost use Rattle.audit_files.specs.Requests.{request_fault, requests_header};
 
     ghost header = { requests_header };
 
     ghost fault = { request_fault };
 
-    ghost holds = { λ sent before. (sent.list.items ≡ requests_in before) × (sent.close
-        ≡ slice_get (closes_in before) 0) };
+    ghost holds = { HoldsRecords };
 
     #[tactic(auto, using(crate::proofs::FieldLemmas::no_header))]
     fn is_header(&self, record: &ByteRecord) -> bool {
@@ -183,9 +189,25 @@ impl Table for RequestList {
     }
 
     fn add(&mut self, row: u32, record: &ByteRecord) -> Result<(), FileFault> {
-        let Some(fields) = RequestRow::of(record) else {
-            return Err(FileFault::BadRow { row });
-        };
+        match RequestRow::of(record) {
+            Some(fields) => self.add_row(row, fields),
+            None => Err(FileFault::BadRow { row }),
+        }
+    }
+}
+
+impl RequestList {
+    // Adds a row of seven fields, which has the number `row`.
+    fn add_row(&mut self, row: u32, fields: RequestRow<'_>) -> Result<(), FileFault>
+        ensures ok { OnOk result ((before : List Fields) → HoldsRecords self.old before
+            → row ≡ length before + 2
+            → (request_fault before (fields_in fields.entry) ≡ None)
+            × HoldsRecords self.new (before ++ fields_in fields.entry ∷ [])) }
+        ensures err { IfErr result (λ e. IsNotOutOfMemory e → (before : List Fields)
+            → HoldsRecords self.old before → row ≡ length before + 2
+            → request_fault before (fields_in fields.entry) ≡ Some e) }
+        ensures no_read { IfErr result (λ e. failures_in e ≡ 0) }
+    {
         if self.close.is_some() {
             return Err(FileFault::RowAfterClose { row });
         }
@@ -204,9 +226,7 @@ impl Table for RequestList {
             Err(_) => Err(FileFault::Memory),
         }
     }
-}
 
-impl RequestList {
     // Keeps the request of this row, whose number is `number`.
     fn keep(&mut self, fields: RequestRow<'_>, number: u32) -> Result<(), AllocError>
         requires { number_asked fields.number.now fields.user.now fields.host.now fields.command.now
@@ -222,19 +242,59 @@ impl RequestList {
     }
 }
 
+// Adds the rows of a text that begins with the end of a line, and stops at the first fault. Reads
+// rows without quotes in place; the first other row and those after it are read as CSV.
+fn gather_rows(alloc: Global, text: &[u8], table: &mut RequestList) -> Result<(), FileFault>
+    requires { HoldsRecords table.old [] }
+    ensures ok { OnOk result ((first_fault request_fault [] (records_of text.now) ≡ None)
+        × HoldsRecords table.new (records_of text.now)) }
+    ensures err { IfErr result (λ e. IsNotOutOfMemory e
+        → first_fault request_fault [] (records_of text.now) ≡ Some e) }
+    ensures no_read { IfErr result (λ e. failures_in e ≡ 0) }
+{
+    let mut rest = text;
+    for row in 2..u32::MAX {
+        let Some((fields, after)) = next_row(rest) else {
+            return gather_from(alloc, rest, table, row);
+        };
+        table.add_row(row, fields)?;
+        rest = after;
+    }
+    Err(FileFault::Memory)
+}
+
+// Adds the rows of a requests file, and stops at the first fault. Returns `Header` if the first
+// record is not the header.
+fn gather_requests(alloc: Global, text: &[u8], table: &mut RequestList) -> Result<(), FileFault>
+    requires { HoldsRecords table.old [] }
+    ensures ok { OnOk result ((rest : List Fields)
+        × (after_header requests_header (records_of text.now) ≡ Some rest)
+        × (first_fault request_fault [] rest ≡ None) × HoldsRecords table.new rest) }
+    ensures err { IfErr result (λ e. IsNotOutOfMemory e
+        → first_record_fault request_fault (after_header requests_header (records_of text.now))
+        ≡ Some e) }
+    ensures no_read { IfErr result (λ e. failures_in e ≡ 0) }
+{
+    match first_row(text) {
+        Some((first, rest)) if first.is_header() => gather_rows(alloc, rest, table),
+        _ => gather(alloc, text, table),
+    }
+}
+
 /// Returns the content of a requests file from its bytes, or its first fault. Otherwise fails only
 /// with `Memory`.
 pub(crate) fn requests_of_text(alloc: Global, text: &[u8]) -> Result<Requests, FileFault>
-    ensures stated { IfOk result (λ requests. sent text.now ≡ Ok requests) }
-    ensures fault { IfErr result (λ e. IsNotOutOfMemory e → sent text.now ≡ Err e) }
+    ensures stated { IfOk result (λ requests. requests_of_file text.now ≡ Ok requests) }
+    ensures fault { IfErr result (λ e. IsNotOutOfMemory e → requests_of_file text.now ≡ Err e) }
     ensures no_read { IfErr result (λ e. failures_in e ≡ 0) }
 {
+    let room = (text.len() / BYTES_OF_A_ROW).min(1_000_000);
     let mut table = RequestList {
         alloc,
-        list: Vec::new(alloc),
+        list: Vec::with_capacity(alloc, room)?,
         close: None,
     };
-    gather(alloc, text, &mut table)?;
+    gather_requests(alloc, text, &mut table)?;
     Ok(Requests {
         list: Seq::from_vec(table.list),
         close: table.close,
@@ -255,7 +315,7 @@ pub(crate) fn requests_of_text(alloc: Global, text: &[u8]) -> Result<Requests, F
 /// also for more than 268,435,456 bytes, before any row is read, `Read` if a read failed, and
 /// `Memory` if allocation failed.
 pub fn read_requests<R: Feed>(alloc: Global, reader: &mut R) -> Result<Requests, FileFault>
-    ensures states { IsStatedBy sent (R.ahead reader.old) result }
+    ensures states { IsStatedBy requests_of_file (R.ahead reader.old) result }
     ensures failures { R.failed_reads reader.new
         ≡ R.failed_reads reader.old + read_failures result }
 {

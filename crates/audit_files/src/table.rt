@@ -37,23 +37,47 @@ pub(crate) trait Table {
         ensures no_read { IfErr result (λ e. failures_in e ≡ 0) };
 }
 
-// Adds all records that are left, and stops at the first fault.
-fn fill<T: Table>(rows: &mut Rows<'_>, table: &mut T) -> Result<(), FileFault>
-    requires reading { IsReading rows.old }
-    requires empty { T.holds table.old [] }
-    ensures ok { OnOk result ((first_fault T.fault [] (rows_left rows.old) ≡ None)
-        × T.holds table.new (rows_left rows.old)) }
-    ensures err { IfErr result (λ e. IsNotOutOfMemory e
-        → first_fault T.fault [] (rows_left rows.old) ≡ Some e) }
+// Adds all records that are left, the first of which has the number `first`, and stops at the first
+// fault.
+fn fill<T: Table>(rows: &mut Rows<'_>, table: &mut T, first: u32) -> Result<(), FileFault>
+    requires { IsReading rows.old }
+    ensures ok { OnOk result ((before : List Fields) → T.holds table.old before
+        → first ≡ length before + 2
+        → (first_fault T.fault before (rows_left rows.old) ≡ None)
+        × T.holds table.new (before ++ rows_left rows.old)) }
+    ensures err { IfErr result (λ e. IsNotOutOfMemory e → (before : List Fields)
+        → T.holds table.old before → first ≡ length before + 2
+        → first_fault T.fault before (rows_left rows.old) ≡ Some e) }
     ensures no_read { IfErr result (λ e. failures_in e ≡ 0) }
 {
-    for row in 2..u32::MAX {
+    for row in first..u32::MAX {
         if !rows.next()? {
             return Ok(());
         }
         table.add(row, &rows.record)?;
     }
     Err(FileFault::Memory)
+}
+
+/// Adds the records of a text, the first of which has the number `first`, and stops at the first
+/// fault.
+pub(crate) fn gather_from<T: Table>(
+    alloc: Global,
+    text: &[u8],
+    table: &mut T,
+    first: u32,
+) -> Result<(), FileFault>
+    ensures ok { OnOk result ((before : List Fields) → T.holds table.old before
+        → first ≡ length before + 2
+        → (first_fault T.fault before (records_of text.now) ≡ None)
+        × T.holds table.new (before ++ records_of text.now)) }
+    ensures err { IfErr result (λ e. IsNotOutOfMemory e → (before : List Fields)
+        → T.holds table.old before → first ≡ length before + 2
+        → first_fault T.fault before (records_of text.now) ≡ Some e) }
+    ensures no_read { IfErr result (λ e. failures_in e ≡ 0) }
+{
+    let mut rows = Rows::new(alloc, text);
+    fill(&mut rows, table, first)
 }
 
 /// Adds the records of a text after its header, and stops at the first fault. Returns `Header` if
@@ -74,5 +98,5 @@ pub(crate) fn gather<T: Table>(alloc: Global, text: &[u8], table: &mut T) -> Res
     if !table.is_header(&rows.record) {
         return Err(FileFault::Header);
     }
-    fill(&mut rows, table)
+    fill(&mut rows, table, 2)
 }

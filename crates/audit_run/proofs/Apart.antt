@@ -16,18 +16,18 @@ Parted first second = (name : List ℕ) → Among name first → Among name seco
 pub parted : (first second : List (List ℕ)) → AreDisjoint first second → Parted first second
 parted first second apart name there also = apart name (Contains-Among name first there) (Contains-Among name second also)
 
-filter_append : {X : Type 0} (test : X → Bool) (xs ys : List X) → filter test (xs ++ ys) ≡ filter test xs ++ filter test ys
-filter_append test [] ys = refl
-filter_append {X} test (x ∷ xs) ys = by (test x) (filter_append test xs ys)
+filter-append : {X : Type 0} (test : X → Bool) (xs ys : List X) → filter test (xs ++ ys) ≡ filter test xs ++ filter test ys
+filter-append test [] ys = refl
+filter-append {X} test (x ∷ xs) ys = by (test x) (filter-append test xs ys)
   where
     by : (b : Bool) → filter test (xs ++ ys) ≡ filter test xs ++ filter test ys → cond b (x ∷ filter test (xs ++ ys)) (filter test (xs ++ ys)) ≡ cond b (x ∷ filter test xs) (filter test xs) ++ filter test ys
     by true rest = ap (λ l. x ∷ l) rest
     by false rest = rest
 
 -- a name that does not stand there takes nothing away
-without_absent : (name : List ℕ) (names : List (List ℕ)) → (Among name names → ⊥) → without name names ≡ names
-without_absent name [] absent = refl
-without_absent name (n ∷ names) absent = by (bytes_eq name n) refl (without_absent name names (λ m. absent (inr m)))
+without-absent : (name : List ℕ) (names : List (List ℕ)) → (Among name names → ⊥) → without name names ≡ names
+without-absent name [] absent = refl
+without-absent name (n ∷ names) absent = by (bytes_eq name n) refl (without-absent name names (λ m. absent (inr m)))
   where
     by : (b : Bool) → bytes_eq name n ≡ b → without name names ≡ names → cond (not b) (n ∷ without name names) (without name names) ≡ n ∷ names
     by true e rest = absurd (absent (inl (sym ((bytes_eq-Decides name n).0 e))))
@@ -43,17 +43,17 @@ among_more gone name (n ∷ names) m = by (bytes_eq gone n) m (among_more gone n
     by false (inr m) rest = inr (rest m)
 
 -- a roster has no name but those of its sources
-pub roster_among : (name : List ℕ) (names : List (List ℕ)) → Among name (roster names) → Among name names
-roster_among name [] m = absurd m
-roster_among name (n ∷ names) (inl e) = inl e
-roster_among name (n ∷ names) (inr m) = inr (roster_among name names (among_more n name (roster names) m))
+pub roster-among : (name : List ℕ) (names : List (List ℕ)) → Among name (roster names) → Among name names
+roster-among name [] m = absurd m
+roster-among name (n ∷ names) (inl e) = inl e
+roster-among name (n ∷ names) (inr m) = inr (roster-among name names (among_more n name (roster names) m))
 
-pub roster_joined : (first second : List (List ℕ)) → Parted first second → roster (first ++ second) ≡ roster first ++ roster second
-roster_joined [] second apart = refl
-roster_joined (n ∷ first) second apart =
-    ap (λ l. n ∷ without n l) (roster_joined first second (λ name m. apart name (inr m)))
-    ∙ ap (λ l. n ∷ l) (filter_append (λ other. not (bytes_eq n other)) (roster first) (roster second))
-    ∙ ap (λ l. n ∷ (without n (roster first) ++ l)) (without_absent n (roster second) (λ m. apart n (inl refl) (roster_among n second m)))
+pub roster-joined : (first second : List (List ℕ)) → Parted first second → roster (first ++ second) ≡ roster first ++ roster second
+roster-joined [] second apart = refl
+roster-joined (n ∷ first) second apart =
+    ap (λ l. n ∷ without n l) (roster-joined first second (λ name m. apart name (inr m)))
+    ∙ ap (λ l. n ∷ l) (filter-append (λ other. not (bytes_eq n other)) (roster first) (roster second))
+    ∙ ap (λ l. n ∷ (without n (roster first) ++ l)) (without-absent n (roster second) (λ m. apart n (inl refl) (roster-among n second m)))
 
 -- a name's index in two rosters
 place_front : (name : List ℕ) (xs ys : List (List ℕ)) → Among name xs → index_in name (xs ++ ys) ≡ index_in name xs
@@ -81,33 +81,33 @@ places_back : (names xs ys : List (List ℕ)) → ((name : List ℕ) → Among n
 places_back [] xs ys absent = refl
 places_back (n ∷ names) xs ys absent = λ i. place_back n xs ys (absent n (inl refl)) i ∷ places_back names xs ys (λ name m. absent name (inr m)) i
 
-owners_joined : (first second : List (List ℕ)) → Parted first second → owners (first ++ second) ≡ owners first ++ map (λ k. length (roster first) + k) (owners second)
-owners_joined first second apart =
-    ap (λ r. map (λ name. index_in name r) (first ++ second)) (roster_joined first second apart)
+owners-joined : (first second : List (List ℕ)) → Parted first second → owners (first ++ second) ≡ owners first ++ map (λ k. length (roster first) + k) (owners second)
+owners-joined first second apart =
+    ap (λ r. map (λ name. index_in name r) (first ++ second)) (roster-joined first second apart)
     ∙ map-append (λ name. index_in name (roster first ++ roster second)) first second
     ∙ ap (λ l. l ++ map (λ name. index_in name (roster first ++ roster second)) second) (places_front first (roster first) (roster second) (λ name m. among_roster name first m))
-    ∙ ap (λ l. owners first ++ l) (places_back second (roster first) (roster second) (λ name m r. apart name (roster_among name first r) m))
+    ∙ ap (λ l. owners first ++ l) (places_back second (roster first) (roster second) (λ name m r. apart name (roster-among name first r) m))
 
 -- a source whose owner stands so many places further
 abbrev pub part_after : ℕ → ℕ × Stated → ℕ × Stated
 part_after senders part = (senders + part.0, part.1)
 
-zip_append : (os : List ℕ) (ps : List ℕ) (states more : List Stated) → length states ≡ length os → zip (os ++ ps) (states ++ more) ≡ zip os states ++ zip ps more
-zip_append [] ps [] more e = refl
-zip_append [] ps (s ∷ states) more e = absurd (omega (arith, e))
-zip_append (o ∷ os) ps [] more e = absurd (omega (arith, e))
-zip_append (o ∷ os) ps (s ∷ states) more e = ap (λ l. (o, s) ∷ l) (zip_append os ps states more (omega (arith, e)))
+zip-append : (os : List ℕ) (ps : List ℕ) (states more : List Stated) → length states ≡ length os → zip (os ++ ps) (states ++ more) ≡ zip os states ++ zip ps more
+zip-append [] ps [] more e = refl
+zip-append [] ps (s ∷ states) more e = absurd (omega (arith, e))
+zip-append (o ∷ os) ps [] more e = absurd (omega (arith, e))
+zip-append (o ∷ os) ps (s ∷ states) more e = ap (λ l. (o, s) ∷ l) (zip-append os ps states more (omega (arith, e)))
 
-zip_after : (senders : ℕ) (os : List ℕ) (states : List Stated) → zip (map (λ k. senders + k) os) states ≡ map (part_after senders) (zip os states)
-zip_after senders [] states = refl
-zip_after senders (o ∷ os) [] = refl
-zip_after senders (o ∷ os) (s ∷ states) = ap (λ l. (senders + o, s) ∷ l) (zip_after senders os states)
+zip-after : (senders : ℕ) (os : List ℕ) (states : List Stated) → zip (map (λ k. senders + k) os) states ≡ map (part_after senders) (zip os states)
+zip-after senders [] states = refl
+zip-after senders (o ∷ os) [] = refl
+zip-after senders (o ∷ os) (s ∷ states) = ap (λ l. (senders + o, s) ∷ l) (zip-after senders os states)
 
 -- the sources of both lists by their owners
 pub owned_joined : (first second : List (List ℕ)) (states more : List Stated) → Parted first second → length states ≡ length first
     → parts_by_owner (first ++ second) (states ++ more) ≡ parts_by_owner first states ++ map (part_after (length (roster first))) (parts_by_owner second more)
 owned_joined first second states more apart stated =
     let long : length states ≡ length (owners first) = stated ∙ sym (length-map first (λ name. index_in name (roster first))) in
-    ap (λ os. zip os (states ++ more)) (owners_joined first second apart)
-    ∙ zip_append (owners first) (map (λ k. length (roster first) + k) (owners second)) states more long
-    ∙ ap (λ l. parts_by_owner first states ++ l) (zip_after (length (roster first)) (owners second) more)
+    ap (λ os. zip os (states ++ more)) (owners-joined first second apart)
+    ∙ zip-append (owners first) (map (λ k. length (roster first) + k) (owners second)) states more long
+    ∙ ap (λ l. parts_by_owner first states ++ l) (zip-after (length (roster first)) (owners second) more)

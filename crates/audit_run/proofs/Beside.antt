@@ -12,12 +12,6 @@ use Rattle.audit_run.proofs.Excluding.{none_past, within_or_past}
 use Rattle.audit_run.proofs.Refusing.{IsOwned}
 use Rattle.audit_run.proofs.Twice.{untested}
 
--- places of two lists put together, and of a list that is mapped
-pub at_within : {X : Type 0} (xs ys : List X) (i : ℕ) → i < length xs → slice_get (xs ++ ys) i ≡ slice_get xs i
-at_within [] ys i within = absurd (omega (arith, within))
-at_within (x ∷ xs) ys zero within = refl
-at_within (x ∷ xs) ys (suc i) within = at_within xs ys i (omega (arith, within))
-
 pub at_front : {X : Type 0} (xs ys : List X) (i : ℕ) (x : X) → slice_get xs i ≡ Some x → slice_get (xs ++ ys) i ≡ Some x
 at_front [] ys i x there = absurd (cc)
 at_front (z ∷ xs) ys zero x there = there

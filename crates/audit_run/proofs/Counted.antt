@@ -16,12 +16,7 @@ use Rattle.sudo_match.specs.declared.request.Request.{Request}
 use Rattle.audit_run.specs.Arrivals.{arrivals_of}
 use Rattle.audit_run.specs.Asked.{asked_of, count_listed, counts_in, counts_of, has_number, values_of_sender, requests_stated, times_asked}
 use Rattle.audit_run.specs.Parts.{Stated, close_jobs, put_by_sources, jobs_or_end, run_jobs}
-
-arrivals_append : (xs ys : List Outcome) → arrivals_of (xs ++ ys) ≡ arrivals_of xs ++ arrivals_of ys
-arrivals_append [] ys = refl
-arrivals_append (outcome.Arrived a ∷ xs) ys = ap (λ l. a ∷ l) (arrivals_append xs ys)
-arrivals_append (outcome.End s ∷ xs) ys = arrivals_append xs ys
-arrivals_append (outcome.Stopped ∷ xs) ys = arrivals_append xs ys
+use Rattle.audit_run.proofs.Gains.{arrivals_of-append}
 
 -- the test, of the arrivals among outcomes
 abbrev passes : (Arrival → Bool) → Outcome → Bool
@@ -121,7 +116,7 @@ module _ (names : Names) where
   sources_arrivals [] = refl
   sources_arrivals (part ∷ parts) =
       ap arrivals_of (map-append (answer names) (jobs_or_end part.0 part.1) (put_by_sources parts))
-      ∙ arrivals_append (map (answer names) (jobs_or_end part.0 part.1)) (map (answer names) (put_by_sources parts))
+      ∙ arrivals_of-append (map (answer names) (jobs_or_end part.0 part.1)) (map (answer names) (put_by_sources parts))
       ∙ ap (λ l. l ++ arrivals_of (map (answer names) (put_by_sources parts))) (put_arrivals part.0 part.1)
       ∙ ap (λ l. part_arrivals part ++ l) (sources_arrivals parts)
 

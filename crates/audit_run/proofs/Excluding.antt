@@ -20,6 +20,7 @@ use Rattle.audit_run.specs.Outcome.{AreWhole, AskInTwo, Asks, HaveRefused, IsPas
 use Rattle.audit_run.specs.Parts.{Stated}
 use Rattle.audit_run.proofs.Refusing.{IsOwned}
 use Rattle.audit_run.proofs.Twice.{here_and_rest, untested}
+use Rattle.sudo_policy.proofs.FoundLemmas.{same_lists}
 
 -- a sender past the roster has no source
 pub none_past : {X : Type 0} (f : Stated → List X) (senders s : ℕ) (parts : List (ℕ × Stated)) → All (IsOwned senders) parts → senders ≤ s → flat_map (values_of_sender s f) parts ≡ []
@@ -139,13 +140,6 @@ one_request n (x ∷ requests) q r once (inr mq) (inl er) nq nr =
 one_request n (x ∷ requests) q r once (inr mq) (inr mr) nq nr =
     let counted = count_by-cons (has_number n) x requests in
     one_request n requests q r (omega (arith, counted, once)) mq mr nq nr
-
--- lists with the same elements at each index
-same_lists : {X : Type 0} (xs ys : List X) → length xs ≡ length ys → ((i : ℕ) (x y : X) → slice_get xs i ≡ Some x → slice_get ys i ≡ Some y → x ≡ y) → xs ≡ ys
-same_lists [] [] e at = refl
-same_lists [] (y ∷ ys) e at = absurd (omega (arith, e))
-same_lists (x ∷ xs) [] e at = absurd (omega (arith, e))
-same_lists (x ∷ xs) (y ∷ ys) e at = λ i. at 0 x y refl refl i ∷ same_lists xs ys (omega (arith, e)) (λ k. at (suc k)) i
 
 module _ (names : Names) (roster : List (List ℕ)) (parts : List (ℕ × Stated)) (whole : AreWhole (length roster) parts) where
   same_answer : (s i : ℕ) (v w : SenderReport) → IsWholeSender s parts → IsRow names roster parts s v → IsRow names roster parts s w → (a b : Answer) → slice_get v.answers i ≡ Some a → slice_get w.answers i ≡ Some b → a ≡ b

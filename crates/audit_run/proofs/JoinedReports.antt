@@ -14,14 +14,15 @@ use Rattle.audit_run.specs.Asked.{asked_of, counts_in, counts_of, requests_state
 use Rattle.audit_run.specs.Outcome.{IsReport, IsRow}
 use Rattle.audit_run.specs.Parts.{Stated}
 use Rattle.audit_run.specs.Shards.{answer_after, joined_report, row_after}
-use Rattle.audit_run.proofs.Beside.{at_back, at_cases, at_front, at_within, both, made_of, of_back, of_front}
+use Rattle.audit_run.proofs.Beside.{at_back, at_cases, at_front, both, made_of, of_back, of_front}
 use Rattle.audit_run.proofs.Refusing.{IsOwned}
+use Rattle.sudo_match.proofs.CharsLemmas.{slice_get-append-left}
 
 -- a row of a sender that asks the same
-row_same : (names : Names) (roster roster2 : List (List ℕ)) (parts parts2 : List (ℕ × Stated)) (s : ℕ) (row : SenderReport)
+row-same : (names : Names) (roster roster2 : List (List ℕ)) (parts parts2 : List (ℕ × Stated)) (s : ℕ) (row : SenderReport)
     → slice_get roster2 s ≡ slice_get roster s → counts_of s parts2 ≡ counts_of s parts → asked_of s parts ≡ asked_of s parts2
     → IsRow names roster parts s row → IsRow names roster2 parts2 s row
-row_same names roster roster2 parts parts2 s row index counts asked is = record {
+row-same names roster roster2 parts parts2 s row index counts asked is = record {
   name = index ∙ is.name;
   closed = counts ∙ is.closed;
   answers = λ i answer there.
@@ -39,12 +40,12 @@ row_before senders row = record row { answers = map (answer_before senders) row.
 module _ (names : Names) (first second : List (List ℕ)) (parts more : List (ℕ × Stated)) (parts_by_owner : All (IsOwned (length first)) parts) where
   row_front : (s : ℕ) (row : SenderReport) → s < length first → IsRow names first parts s row → IsRow names (first ++ second) (both (length first) parts more) s row
   row_front s row before is =
-      row_same names first (first ++ second) parts (both (length first) parts more) s row (at_within first second s before)
+      row-same names first (first ++ second) parts (both (length first) parts more) s row (slice_get-append-left first second s before)
       (of_front counts_in (length first) s parts more before) (sym (of_front requests_stated (length first) s parts more before)) is
 
   row_of_front : (s : ℕ) (row : SenderReport) → s < length first → IsRow names (first ++ second) (both (length first) parts more) s row → IsRow names first parts s row
   row_of_front s row before is =
-      row_same names (first ++ second) first (both (length first) parts more) parts s row (sym (at_within first second s before))
+      row-same names (first ++ second) first (both (length first) parts more) parts s row (sym (slice_get-append-left first second s before))
       (sym (of_front counts_in (length first) s parts more before)) (of_front requests_stated (length first) s parts more before) is
 
   row_back : (s : ℕ) (row : SenderReport) → IsRow names second more s row → IsRow names (first ++ second) (both (length first) parts more) (length first + s) (row_after (length first) row)
@@ -131,14 +132,14 @@ module _ (names : Names) (first second : List (List ℕ)) (parts more : List (�
   }
 
 -- the text has no sender's index
-answers_text : (files : List (List ℕ)) (name : List ℕ) (senders : ℕ) (answers : List Answer)
+answers-text : (files : List (List ℕ)) (name : List ℕ) (senders : ℕ) (answers : List Answer)
     → flat_map (λ a. line (answer_fields files name a)) (map (answer_after senders) answers) ≡ flat_map (λ a. line (answer_fields files name a)) answers
-answers_text files name senders [] = refl
-answers_text files name senders (a ∷ answers) = ap (λ l. line (answer_fields files name a) ++ l) (answers_text files name senders answers)
+answers-text files name senders [] = refl
+answers-text files name senders (a ∷ answers) = ap (λ l. line (answer_fields files name a) ++ l) (answers-text files name senders answers)
 
-rows_text : (files : List (List ℕ)) (senders : ℕ) (rows : List SenderReport) → flat_map (sender_text files) (map (row_after senders) rows) ≡ flat_map (sender_text files) rows
-rows_text files senders [] = refl
-rows_text files senders (row ∷ rows) = λ i. answers_text files row.name senders row.answers i ++ rows_text files senders rows i
+rows-text : (files : List (List ℕ)) (senders : ℕ) (rows : List SenderReport) → flat_map (sender_text files) (map (row_after senders) rows) ≡ flat_map (sender_text files) rows
+rows-text files senders [] = refl
+rows-text files senders (row ∷ rows) = λ i. answers-text files row.name senders row.answers i ++ rows-text files senders rows i
 
 -- what follows the same front is the same
 same_rest : (front xs ys : List ℕ) → front ++ xs ≡ front ++ ys → xs ≡ ys
@@ -149,5 +150,5 @@ same_rest (b ∷ front) xs ys e = let rest : front ++ xs ≡ front ++ ys = cc in
 pub text_joined : (files : List (List ℕ)) (report other : Report) (records : List ℕ) → report_text files other ≡ line header ++ records → report_text files (joined_report report other) ≡ report_text files report ++ records
 text_joined files report other records e =
     ap (λ l. line header ++ l) (flat_map-append (sender_text files) report.senders (map (row_after (length report.senders)) other.senders)
-    ∙ ap (λ l. flat_map (sender_text files) report.senders ++ l) (rows_text files (length report.senders) other.senders ∙ same_rest (line header) (flat_map (sender_text files) other.senders) records e))
+    ∙ ap (λ l. flat_map (sender_text files) report.senders ++ l) (rows-text files (length report.senders) other.senders ∙ same_rest (line header) (flat_map (sender_text files) other.senders) records e))
     ∙ sym (append_assoc (line header) (flat_map (sender_text files) report.senders) records)

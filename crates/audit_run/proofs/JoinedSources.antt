@@ -8,7 +8,8 @@ use Rattle.audit_files.specs.declared.fault.FileFault.{FileFault}
 use Rattle.audit_run.specs.IsAuditResult.{IsRefusedSource, NoneRefused}
 use Rattle.audit_run.specs.Roster.{part_number}
 use Rattle.audit_run.proofs.Apart.{Parted}
-use Rattle.audit_run.proofs.Beside.{at_back, at_front, at_within, before_or_after}
+use Rattle.audit_run.proofs.Beside.{at_back, at_front, before_or_after}
+use Rattle.sudo_match.proofs.CharsLemmas.{slice_get-append-left}
 
 among_at : (names : List (List ℕ)) (i : ℕ) (name : List ℕ) → slice_get names i ≡ Some name → Among name names
 among_at [] i name there = absurd (cc)
@@ -25,9 +26,9 @@ none_named name (n ∷ names) absent = by (bytes_eq n name) refl (none_named nam
         let counted = count_by-cons (λ other. bytes_eq other name) n names ∙ ap (λ b. cond b 1 0 + count_by (λ other. bytes_eq other name) names) e in
         omega (arith, counted, rest)
 
-take_back : {X : Type 0} (xs ys : List X) (k : ℕ) → take (length xs + k) (xs ++ ys) ≡ xs ++ take k ys
-take_back [] ys k = let e : 0 + k ≡ k = omega arith in ap (λ n. take n ys) e
-take_back (x ∷ xs) ys k = let e : suc (length xs) + k ≡ suc (length xs + k) = omega arith in ap (λ n. take n (x ∷ (xs ++ ys))) e ∙ ap (λ l. x ∷ l) (take_back xs ys k)
+take-back : {X : Type 0} (xs ys : List X) (k : ℕ) → take (length xs + k) (xs ++ ys) ≡ xs ++ take k ys
+take-back [] ys k = let e : 0 + k ≡ k = omega arith in ap (λ n. take n ys) e
+take-back (x ∷ xs) ys k = let e : suc (length xs) + k ≡ suc (length xs + k) = omega arith in ap (λ n. take n (x ∷ (xs ++ ys))) e ∙ ap (λ l. x ∷ l) (take-back xs ys k)
 
 -- the number of a source among those of its name
 part_first : (first second : List (List ℕ)) (index : ℕ) (name : List ℕ) → index ≤ length first → part_number (first ++ second) index name ≡ part_number first index name
@@ -35,7 +36,7 @@ part_first first second index name within = ap (λ l. 1 + count_by (λ other. by
 
 part_second : (first second : List (List ℕ)) (index : ℕ) (name : List ℕ) → (Among name first → ⊥) → part_number (first ++ second) (length first + index) name ≡ part_number second index name
 part_second first second index name absent =
-    let whole = ap (count_by (λ other. bytes_eq other name)) (take_back first second index) in
+    let whole = ap (count_by (λ other. bytes_eq other name)) (take-back first second index) in
     let sum = count_by-append (λ other. bytes_eq other name) first (take index second) in
     let none = none_named name first absent in
     omega (arith, whole, sum, none)
@@ -66,7 +67,7 @@ module _ (first second : List (List ℕ)) (faults more : List (Option FileFault)
         record {
           there = ap (λ n. slice_get (faults ++ more) (n + index)) (sym long) ∙ at_back faults more index ∙ is.there;
           earlier = λ i less. elim (before_or_after (length faults) i) [
-            | inl before ↦ at_within faults more i before ∙ none_at faults i none before
+            | inl before ↦ slice_get-append-left faults more i before ∙ none_at faults i none before
             | inr after ↦
                 let at = after.is in
                 ap (slice_get (faults ++ more)) at ∙ at_back faults more after.index ∙ is.earlier after.index (omega (arith, at, less, long))
@@ -80,12 +81,12 @@ module _ (first second : List (List ℕ)) (faults more : List (Option FileFault)
   pub source_either : IsRefusedSource (first ++ second) (faults ++ more) name part fault → IsRefusedSource first faults name part fault ⊎ IsRefusedSource second more name part fault
   source_either h = let (index, is, of_file, named, part_is) = h in elim (before_or_after (length first) index) [
     | inl before ↦
-        let own = sym (at_within first second index before) ∙ named in
+        let own = sym (slice_get-append-left first second index before) ∙ named in
         inl (
           index,
           record {
-            there = sym (at_within faults more index (omega (arith, before, long))) ∙ is.there;
-            earlier = λ i less. sym (at_within faults more i (omega (arith, before, long, less))) ∙ is.earlier i less;
+            there = sym (slice_get-append-left faults more index (omega (arith, before, long))) ∙ is.there;
+            earlier = λ i less. sym (slice_get-append-left faults more i (omega (arith, before, long, less))) ∙ is.earlier i less;
           },
           of_file,
           own,

@@ -66,9 +66,9 @@ told_more readable_bytes done all h items rest step was = append_assoc done (rea
 pub put_more : (parts : List (ℕ × Stated)) (part : ℕ × Stated) → put_by_sources (parts ++ part ∷ []) ≡ put_by_sources parts ++ jobs_or_end part.0 part.1
 put_more parts part = flat_map-append (λ (x : ℕ × Stated). jobs_or_end x.0 x.1) parts (part ∷ []) ∙ ap (λ l. put_by_sources parts ++ l) (append-nil (jobs_or_end part.0 part.1))
 
-pub faults_more : (parts : List (ℕ × Stated)) (part : ℕ × Stated) (faults after : List (Option FileFault)) (fault : Option FileFault)
+pub faults-more : (parts : List (ℕ × Stated)) (part : ℕ × Stated) (faults after : List (Option FileFault)) (fault : Option FileFault)
     → after ≡ faults ++ fault ∷ [] → faults ≡ map (λ x. fault_in x.1) parts → fault ≡ fault_in part.1 → after ≡ map (λ x. fault_in x.1) (parts ++ part ∷ [])
-faults_more parts part faults after fault pushed was is = pushed ∙ ((λ i. was i ++ is i ∷ []) ∙ sym (map-append (λ (x : ℕ × Stated). fault_in x.1) parts (part ∷ [])))
+faults-more parts part faults after fault pushed was is = pushed ∙ ((λ i. was i ++ is i ∷ []) ∙ sym (map-append (λ (x : ℕ × Stated). fault_in x.1) parts (part ∷ [])))
 
 pub joined_none : (p : PassView) → p ≡ joined_sources p 0 []
 joined_none p =

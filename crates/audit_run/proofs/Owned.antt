@@ -6,7 +6,7 @@ use Rattle.std.proofs.lemmas.Slice.Eq.{bytes_eq-Decides}
 use Rattle.audit_collect.proofs.Members.{Among}
 use Rattle.audit_files.specs.Feeding.{Ahead}
 use Rattle.audit_files.specs.Files.{IsStatedBy, bytes_read, stated_in}
-use Rattle.audit_files.specs.Requests.{AreRising, sent}
+use Rattle.audit_files.specs.Requests.{AreRising, requests_of_file}
 use Rattle.audit_files.specs.declared.fault.FileFault.{FileFault}
 use Rattle.audit_files.specs.declared.requests.Requests.{Requests}
 use Rattle.audit_files.proofs.Rising.{sent_rises}
@@ -17,20 +17,20 @@ use Rattle.audit_run.proofs.Refusing.{IsOwned}
 use Rattle.audit_run.proofs.Twice.{Rises}
 
 -- what is read rises, whatever the bytes
-read_rises : (bytes : Result (List ℕ) FileFault) (requests : Requests) → stated_in sent bytes ≡ Ok requests → AreRising requests.list
+read_rises : (bytes : Result (List ℕ) FileFault) (requests : Requests) → stated_in requests_of_file bytes ≡ Ok requests → AreRising requests.list
 read_rises (Ok text) requests e = sent_rises text requests e
 read_rises (Err fault) requests e = absurd (cc)
 
-state_rises : (readable_bytes : Option Ahead) (state : Stated) → IsStatedBy sent readable_bytes state → AreRising (requests_stated state)
-state_rises readable_bytes (Ok requests) states = read_rises (bytes_read states.ahead) requests states.states
-state_rises readable_bytes (Err fault) states = tt
+state-rises : (readable_bytes : Option Ahead) (state : Stated) → IsStatedBy requests_of_file readable_bytes state → AreRising (requests_stated state)
+state-rises readable_bytes (Ok requests) states = read_rises (bytes_read states.ahead) requests states.states
+state-rises readable_bytes (Err fault) states = tt
 
 rise_zip : (os : List ℕ) (readable_bytes : List (Option Ahead)) (states : List Stated) → AreRead readable_bytes states → All Rises (zip os states)
 rise_zip [] readable_bytes states read = All-nil Rises
 rise_zip (o ∷ os) [] [] read = All-nil Rises
 rise_zip (o ∷ os) [] (s ∷ states) read = absurd read
 rise_zip (o ∷ os) (t ∷ readable_bytes) [] read = absurd read
-rise_zip (o ∷ os) (t ∷ readable_bytes) (s ∷ states) read = All-cons Rises (o, s) (zip os states) (state_rises t s read.0) (rise_zip os readable_bytes states read.1)
+rise_zip (o ∷ os) (t ∷ readable_bytes) (s ∷ states) read = All-cons Rises (o, s) (zip os states) (state-rises t s read.0) (rise_zip os readable_bytes states read.1)
 
 -- the numbers of each source rise
 pub all_rise : (sources : List (List ℕ)) (readable_bytes : List (Option Ahead)) (states : List Stated) → AreRead readable_bytes states → All Rises (parts_by_owner sources states)

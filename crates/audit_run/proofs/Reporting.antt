@@ -42,10 +42,10 @@ row_at (name ∷ roster) (answers ∷ lists) zero row e = record { name = ap (λ
     same = same_Some made row e
 row_at (name ∷ roster) (answers ∷ lists) (suc s) row e = let found = row_at roster lists s row e in record { name = found.name; answers = found.answers }
 
-length_rows : (roster : List (List ℕ)) (lists : List (List Answer)) → length lists ≡ length roster → length (report_rows roster lists) ≡ length roster
-length_rows [] lists e = refl
-length_rows (name ∷ roster) [] e = absurd (omega (arith, e))
-length_rows (name ∷ roster) (answers ∷ lists) e = ap suc (length_rows roster lists (omega (arith, e)))
+length-rows : (roster : List (List ℕ)) (lists : List (List Answer)) → length lists ≡ length roster → length (report_rows roster lists) ≡ length roster
+length-rows [] lists e = refl
+length-rows (name ∷ roster) [] e = absurd (omega (arith, e))
+length-rows (name ∷ roster) (answers ∷ lists) e = ap suc (length-rows roster lists (omega (arith, e)))
 
 -- a list's replies and close mark are among the arrivals of all lists
 list_in_all : (x : Arrival) (s k i : ℕ) (lists : List (List Answer)) (answers : List Answer) → s ≡ k + i → slice_get lists i ≡ Some answers
@@ -100,16 +100,16 @@ own : {X : Type 0} (s : ℕ) (f : Stated → List X) (part : ℕ × Stated) (x :
 own s f part x e m = subst (λ b. Among x (cond b (f part.1) [])) (sym (ap (λ t. t == s) e ∙ self_tested s)) m
 
 -- a reply that is of a source answers one of its requests
-part_replied : (names : Names) (part : ℕ × Stated) (a : Answer) → Among (Reply a) (part_arrivals names part) → Replied names part.0 (requests_stated part.1) a
-part_replied names (t, Err fault) a m = absurd m
-part_replied names (t, Ok requests) a m = elim (Among-append (Reply a) (map (λ r. Reply (answer_to names t r)) requests.list) (map (λ c. Close t c) (count_listed requests.close)) m) [
+part-replied : (names : Names) (part : ℕ × Stated) (a : Answer) → Among (Reply a) (part_arrivals names part) → Replied names part.0 (requests_stated part.1) a
+part-replied names (t, Err fault) a m = absurd m
+part-replied names (t, Ok requests) a m = elim (Among-append (Reply a) (map (λ r. Reply (answer_to names t r)) requests.list) (map (λ c. Close t c) (count_listed requests.close)) m) [
   | inl reply ↦ replied names t requests.list a reply
   | inr close ↦ absurd (no_reply_among t a (count_listed requests.close) close)
 ]
 
-part_closed : (names : Names) (part : ℕ × Stated) (s c : ℕ) → Among (Close s c) (part_arrivals names part) → (part.0 ≡ s) × Among c (counts_in part.1)
-part_closed names (t, Err fault) s c m = absurd m
-part_closed names (t, Ok requests) s c m = elim (Among-append (Close s c) (map (λ r. Reply (answer_to names t r)) requests.list) (map (λ n. Close t n) (count_listed requests.close)) m) [
+part-closed : (names : Names) (part : ℕ × Stated) (s c : ℕ) → Among (Close s c) (part_arrivals names part) → (part.0 ≡ s) × Among c (counts_in part.1)
+part-closed names (t, Err fault) s c m = absurd m
+part-closed names (t, Ok requests) s c m = elim (Among-append (Close s c) (map (λ r. Reply (answer_to names t r)) requests.list) (map (λ n. Close t n) (count_listed requests.close)) m) [
   | inl reply ↦ absurd (no_close_among names t s c requests.list reply)
   | inr close ↦ close_listed t s c (count_listed requests.close) close
 ]
@@ -126,14 +126,14 @@ module _ (names : Names) (roster : List (List ℕ)) (workers : ℕ) (parts : Lis
   closed : (s c : ℕ) → Among (Close s c) (arrivals_of outcomes) → Among c (counts_of s parts)
   closed s c m =
       let found = arrived (Close s c) m in
-      let close = part_closed names found.item s c found.of in
+      let close = part-closed names found.item s c found.of in
       flat_among (values_of_sender s counts_in) parts found.item c found.there (own s counts_in found.item c close.0 close.1)
 
   row_answer : (s i : ℕ) (a : Answer) → a.sender ≡ s → a.request.number ≡ i + 1 → Among (Reply a) (arrivals_of outcomes)
       → (request : Request) × Contains (asked_of s parts) request × (request.number ≡ i + 1) × (a ≡ answer_to names s request)
   row_answer s i a sender number m =
       let found = arrived (Reply a) m in
-      let reply = part_replied names found.item a found.of in
+      let reply = part-replied names found.item a found.of in
       let owner : found.item.0 ≡ s = sym (ap (λ (b : Answer). b.sender) reply.is) ∙ sender in
       let listed = flat_among (values_of_sender s requests_stated) parts found.item reply.request found.there (own s requests_stated found.item reply.request owner reply.listed) in (
         reply.request,
@@ -145,7 +145,7 @@ module _ (names : Names) (roster : List (List ℕ)) (workers : ℕ) (parts : Lis
   -- where all are finished, what is reported is the report of the sources
   pub reported : AllFinished held → IsReport names roster parts (report_of held)
   reported finished = subst (IsReport names roster parts) (sym made.is) (record {
-    one_each = length_rows roster made.lists made.complete.senders;
+    one_each = length-rows roster made.lists made.complete.senders;
     rows = λ s row there. rows s row (row_at roster made.lists s row there);
   })
     where

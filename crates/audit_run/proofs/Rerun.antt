@@ -6,7 +6,7 @@ use Rattle.audit_collect.specs.declared.report.Report.{Report}
 use Rattle.audit_files.specs.Faults.{IsNotOutOfMemory}
 use Rattle.audit_files.specs.Feeding.{Ahead}
 use Rattle.audit_files.specs.Files.{IsRead, read_as}
-use Rattle.audit_files.specs.Requests.{sent}
+use Rattle.audit_files.specs.Requests.{requests_of_file}
 use Rattle.audit_files.specs.declared.fault.FileFault.{FileFault}
 use Rattle.audit_run.specs.declared.fault.AuditFault.{AuditFault}
 use Rattle.audit_run.specs.declared.fault.AuditFault.TheVariants.{Sender, Collect, NoThread, Memory, TooManyParts}
@@ -21,10 +21,10 @@ use Rattle.audit_run.proofs.Owned.{all_owned}
 use Rattle.audit_run.proofs.Sharded.{outcome_cut, outcome_joined}
 
 -- the bytes ahead state one thing
-reads : (a : Ahead) (state : Stated) → IsRead sent (Some a) state → read_as sent a ≡ state
-reads a state is = ap (read_as sent) (sym is.gives) ∙ is.states
+reads : (a : Ahead) (state : Stated) → IsRead requests_of_file (Some a) state → read_as requests_of_file a ≡ state
+reads a state is = ap (read_as requests_of_file) (sym is.gives) ∙ is.states
 
-same_state : (a : Ahead) (one other : Stated) → IsRead sent (Some a) one → IsRead sent (Some a) other → one ≡ other
+same_state : (a : Ahead) (one other : Stated) → IsRead requests_of_file (Some a) one → IsRead requests_of_file (Some a) other → one ≡ other
 same_state a one other is also = sym (reads a one is) ∙ reads a other also
 
 same_states : (sources : List (List ℕ × Ahead)) (states more : List Stated) → AreRead (told_of sources) states → AreRead (told_of sources) more → NoneRefused (faults_of states) → NoneRefused (faults_of more) → states ≡ more

@@ -58,9 +58,9 @@ with_one found (o ∷ os) name = go (bytes_eq name o) (stands found o) refl refl
         ∙ (ap (λ l. o ∷ l) (more) ∙ sym (ap (λ x. cond (not x) (o ∷ y) y) (d false false eb ec))))
 
 -- a name that was found before is none of the others
-without_one : (found names : List (List ℕ)) (name : List ℕ) → stands found name ≡ true → others found (without name names) ≡ others found names
-without_one found [] name there = refl
-without_one found (o ∷ os) name there = go (bytes_eq name o) refl (without_one found os name there)
+without-one : (found names : List (List ℕ)) (name : List ℕ) → stands found name ≡ true → others found (without name names) ≡ others found names
+without-one found [] name there = refl
+without-one found (o ∷ os) name there = go (bytes_eq name o) refl (without-one found os name there)
   where
     w : List (List ℕ)
     w = without name os
@@ -85,7 +85,7 @@ one_new found after left rest all name pushed step new was =
 pub one_old : (found left rest all : List (List ℕ)) (name : List ℕ) → left ≡ name ∷ rest → index_in name found ≢ length found
     → found ++ others found (roster left) ≡ all → found ++ others found (roster rest) ≡ all
 one_old found left rest all name step old was =
-    ap (λ l. found ++ l) (sym (without_one found (roster rest) name (present name found old)))
+    ap (λ l. found ++ l) (sym (without-one found (roster rest) name (present name found old)))
     ∙ (ap (λ x. found ++ cond (not x) (name ∷ others found (without name (roster rest))) (others found (without name (roster rest)))) (sym (present name found old))
     ∙ (ap (λ l. found ++ others found (roster l)) (sym step) ∙ was))
 

@@ -3,7 +3,7 @@ use Rattle.std.proofs.Common.{◌≡◌, ℕ, suc, ◌+◌, ◌-◌, ◌<◌, �
 use Rattle.std.specs.List.{zip}
 use Rattle.std.proofs.lemmas.Slice.Zip.{AllZip-long}
 use Rattle.audit_files.specs.Files.{IsStatedBy}
-use Rattle.audit_files.specs.Requests.{sent}
+use Rattle.audit_files.specs.Requests.{requests_of_file}
 use Rattle.std.proofs.lemmas.List.{map-append}
 use Rattle.std.proofs.lemmas.List.Sorted.{IsPermutation-map, IsPermutation-trans}
 use Rattle.audit_collect.specs.Complete.{IsReportOf}
@@ -44,10 +44,7 @@ use Rattle.audit_run.specs.Body.Run.{HasRun}
 use Rattle.audit_run.specs.Body.Work.{AreParts, IsPart, after_run}
 use Rattle.audit_run.proofs.Gains.{gaining_more, gathers_more}
 use Rattle.audit_run.proofs.Permuted.{cancel}
-
-pub length_map : {A B : Type 0} (f : A → B) (xs : List A) → length (map f xs) ≡ length xs
-length_map f [] = refl
-length_map f (x ∷ xs) = ap suc (length_map f xs)
+use Rattle.sudo_match.proofs.CharsLemmas.{length-map}
 
 -- the caller's pass takes the run's in
 pub back : (names : Names) (p : PassView) (sources workers : ℕ) (put taken : List Job) (gathered : List Outcome) → (sources + workers) + 1 < p.weight
@@ -93,9 +90,9 @@ faults_are [] (s ∷ ss) same = absurd (omega (arith, same))
 faults_are (o ∷ os) [] same = absurd (omega (arith, same))
 faults_are (o ∷ os) (s ∷ ss) same = ap (λ l. fault_in s ∷ l) (faults_are os ss (omega (arith, same)))
 
-pub faults_long : (names : Names) (readable_bytes : List (ℕ × Option Ahead)) (sources : ℕ) (prepared : PreparedRun) (ended : EndedRun) → HasRun names readable_bytes sources prepared ended → length ended.faults.items ≡ length readable_bytes
-faults_long names readable_bytes sources prepared ended run =
-    ap (λ l. length l) run.faults ∙ (length_map (λ (part : ℕ × Stated). fault_in part.1) run.parts ∙ AllZip-long IsPart readable_bytes run.parts run.read)
+pub faults-long : (names : Names) (readable_bytes : List (ℕ × Option Ahead)) (sources : ℕ) (prepared : PreparedRun) (ended : EndedRun) → HasRun names readable_bytes sources prepared ended → length ended.faults.items ≡ length readable_bytes
+faults-long names readable_bytes sources prepared ended run =
+    ap (λ l. length l) run.faults ∙ (length-map (λ (part : ℕ × Stated). fault_in part.1) run.parts ∙ AllZip-long IsPart readable_bytes run.parts run.read)
 
 -- if memory ran out while arrivals were gathered, the result does not depend on them
 any_arrivals : (sources : List (List ℕ)) (faults : List (Option FileFault)) (comes : Result (List SenderState) Refused) (result : Result Report AuditFault)
@@ -198,10 +195,10 @@ pub settled : (names : Names) (sources : List (List ℕ)) (readable_bytes : List
     → Concludes sources ended.faults.items (collector_after g.collector g.refused []) result
     → IsAuditResult names sources readable_bytes workers p p3 result
 settled names sources readable_bytes count workers p p1 p2 p3 prepared ended g result few is_roster sources_are told_are whole empty light_enough workers_are collector unrefused mine light run merged drain left answers =
-    let owners_are : length (owners sources) ≡ length sources = length_map (λ (name : List ℕ). index_in name (roster sources)) sources in
+    let owners_are : length (owners sources) ≡ length sources = length-map (λ (name : List ℕ). index_in name (roster sources)) sources in
     let stated = parts_are (owners sources) readable_bytes run.parts (omega (arith, owners_are, sources_are, told_are)) run.read in
     let states : List Stated = stated.0 in
-    let long : length states ≡ length readable_bytes = AllZip-long (IsStatedBy sent) readable_bytes states stated.1 in
+    let long : length states ≡ length readable_bytes = AllZip-long (IsStatedBy requests_of_file) readable_bytes states stated.1 in
     let faults : ended.faults.items ≡ faults_of states =
     run.faults ∙ (ap (map (λ (part : ℕ × Stated). fault_in part.1)) stated.2 ∙ faults_are (owners sources) states (omega (arith, long, owners_are, sources_are, told_are))) in
     let put : List Job = run_jobs workers (parts_by_owner sources states) in

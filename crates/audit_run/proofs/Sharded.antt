@@ -14,7 +14,7 @@ use Rattle.audit_run.specs.Outcome.{AreWhole, HaveRefused, IsReport, Lack}
 use Rattle.audit_run.specs.Parts.{Stated, fault_in, faults_of, parts_by_owner}
 use Rattle.audit_run.specs.Roster.{roster}
 use Rattle.audit_run.specs.Shards.{AreShards, IsJoined, IsOfEither, fault_after, joined_report, refused_after, unfinished_after}
-use Rattle.audit_run.proofs.Apart.{Parted, owned_joined, parted, roster_joined}
+use Rattle.audit_run.proofs.Apart.{Parted, owned_joined, parted, roster-joined}
 use Rattle.audit_run.proofs.Beside.{both, whole_first, whole_joined, whole_second}
 use Rattle.audit_run.proofs.Excluding.{one_report}
 use Rattle.audit_run.proofs.JoinedFaults.{lack_either, lack_first, lack_second, none_first, none_joined, none_second, refused_either, refused_first, refused_second}
@@ -49,7 +49,7 @@ module _ (names : Names) (first second : List (List ℕ)) (states more : List St
   sources = owned_joined first second states more apart shards.stated
 
   rosters : roster (first ++ second) ≡ roster first ++ roster second
-  rosters = roster_joined first second apart
+  rosters = roster-joined first second apart
 
   counted : length (roster (first ++ second)) ≡ length (roster first) + length (roster second)
   counted = ap length rosters ∙ length-append (roster first) (roster second)

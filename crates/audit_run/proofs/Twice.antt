@@ -1,7 +1,7 @@
 -- A number that is asked for twice is asked for by two sources.
 use Rattle.std.proofs.Common.{◌≡◌, ◌≢◌, ◌⊎◌, ℕ, zero, suc, ◌+◌, ◌≤◌, ◌<◌, Bool, true, false, cond, ◌==◌, List, [], ◌∷◌, ◌++◌, length, Option, None, Some, Ok, Err, slice_get, nat_eq, count_by, All, sym, ap, subst, ◌∙◌, refl, inl, inr, arith}
 use Rattle.std.proofs.lemmas.List.Elements.{All-head, All-tail}
-use Rattle.audit_collect.proofs.HeldLaw.{tested}
+use Rattle.audit_collect.proofs.HeldLaw.{tested, zero_or_some}
 use Rattle.audit_collect.proofs.Members.{count_by-append, count_by-cons}
 use Rattle.audit_files.specs.Requests.{AreRising, RiseAbove}
 use Rattle.sudo_match.specs.declared.request.Request.{Request}
@@ -44,22 +44,22 @@ rise_once m (r ∷ requests) rise n = by (r.number == n) refl (rise_once r.numbe
         omega (arith, one, once)
 
 -- what one source asks
-part_once : (s n : ℕ) (part : ℕ × Stated) → Rises part → count_by (has_number n) (values_of_sender s requests_stated part) ≤ 1
-part_once s n part rise = by (part.0 == s)
+part-once : (s n : ℕ) (part : ℕ × Stated) → Rises part → count_by (has_number n) (values_of_sender s requests_stated part) ≤ 1
+part-once s n part rise = by (part.0 == s)
   where
     by : (b : Bool) → count_by (has_number n) (cond b (requests_stated part.1) []) ≤ 1
     by true = rise_once 0 (requests_stated part.1) rise n
     by false = omega arith
 
-part_no_zero : (s : ℕ) (part : ℕ × Stated) → Rises part → count_by (has_number 0) (values_of_sender s requests_stated part) ≡ 0
-part_no_zero s part rise = by (part.0 == s)
+part-no-zero : (s : ℕ) (part : ℕ × Stated) → Rises part → count_by (has_number 0) (values_of_sender s requests_stated part) ≡ 0
+part-no-zero s part rise = by (part.0 == s)
   where
     by : (b : Bool) → count_by (has_number 0) (cond b (requests_stated part.1) []) ≡ 0
     by true = rise_none 0 (requests_stated part.1) rise 0 (omega arith)
     by false = refl
 
-part_asks : (s n : ℕ) (part : ℕ × Stated) → 1 ≤ count_by (has_number n) (values_of_sender s requests_stated part) → Asks s n part
-part_asks s n part h = by (part.0 == s) refl h
+part-asks : (s n : ℕ) (part : ℕ × Stated) → 1 ≤ count_by (has_number n) (values_of_sender s requests_stated part) → Asks s n part
+part-asks s n part h = by (part.0 == s) refl h
   where
     by : (b : Bool) → (part.0 == s) ≡ b → 1 ≤ count_by (has_number n) (cond b (requests_stated part.1) []) → Asks s n part
     by true own asks = record { of = tested part.0 s own; asks = asks }
@@ -72,7 +72,7 @@ pub no_zero : (s : ℕ) (parts : List (ℕ × Stated)) → All Rises parts → t
 no_zero s [] rise = refl
 no_zero s (part ∷ parts) rise =
     let sum = here_and_rest s 0 part parts in
-    let here = part_no_zero s part (All-head Rises part parts rise) in
+    let here = part-no-zero s part (All-head Rises part parts rise) in
     let rest = no_zero s parts (All-tail Rises part parts rise) in
     omega (arith, sum, here, rest)
 
@@ -83,24 +83,20 @@ record OneAsks (s n : ℕ) (parts : List (ℕ × Stated)) : Type 0 where
   pub there : slice_get parts index ≡ Some part
   pub asks : Asks s n part
 
-zero_or_more : (k : ℕ) → (k ≡ 0) ⊎ (1 ≤ k)
-zero_or_more zero = inl refl
-zero_or_more (suc k) = inr (omega arith)
-
 one_asks : (s n : ℕ) (parts : List (ℕ × Stated)) → 1 ≤ times_asked s n parts → OneAsks s n parts
 one_asks s n [] h = absurd (omega (arith, h))
-one_asks s n (part ∷ parts) h = by (zero_or_more (count_by (has_number n) (values_of_sender s requests_stated part))) (one_asks s n parts)
+one_asks s n (part ∷ parts) h = by (zero_or_some (count_by (has_number n) (values_of_sender s requests_stated part))) (one_asks s n parts)
   where
     by : (count_by (has_number n) (values_of_sender s requests_stated part) ≡ 0) ⊎ (1 ≤ count_by (has_number n) (values_of_sender s requests_stated part)) → (1 ≤ times_asked s n parts → OneAsks s n parts) → OneAsks s n (part ∷ parts)
     by (inl none) rest =
         let sum = here_and_rest s n part parts in
         let found = rest (omega (arith, sum, none, h)) in
         record { index = suc found.index; part = found.part; there = found.there; asks = found.asks }
-    by (inr some) rest = record { index = 0; part = part; there = refl; asks = part_asks s n part some }
+    by (inr some) rest = record { index = 0; part = part; there = refl; asks = part-asks s n part some }
 
 pub ask_in_two : (s n : ℕ) (parts : List (ℕ × Stated)) → All Rises parts → 2 ≤ times_asked s n parts → AskInTwo s n parts
 ask_in_two s n [] rise h = absurd (omega (arith, h))
-ask_in_two s n (part ∷ parts) rise h = by (zero_or_more (count_by (has_number n) (values_of_sender s requests_stated part))) (ask_in_two s n parts (All-tail Rises part parts rise))
+ask_in_two s n (part ∷ parts) rise h = by (zero_or_some (count_by (has_number n) (values_of_sender s requests_stated part))) (ask_in_two s n parts (All-tail Rises part parts rise))
   where
     by : (count_by (has_number n) (values_of_sender s requests_stated part) ≡ 0) ⊎ (1 ≤ count_by (has_number n) (values_of_sender s requests_stated part)) → (2 ≤ times_asked s n parts → AskInTwo s n parts) → AskInTwo s n (part ∷ parts)
     by (inl none) rest =
@@ -120,7 +116,7 @@ ask_in_two s n (part ∷ parts) rise h = by (zero_or_more (count_by (has_number 
         }
     by (inr some) rest =
         let sum = here_and_rest s n part parts in
-        let once = part_once s n part (All-head Rises part parts rise) in
+        let once = part-once s n part (All-head Rises part parts rise) in
         let found = one_asks s n parts (omega (arith, sum, once, h)) in
         record {
           first = 0;
@@ -130,6 +126,6 @@ ask_in_two s n (part ∷ parts) rise h = by (zero_or_more (count_by (has_number 
           second_part = found.part;
           first_there = refl;
           second_there = found.there;
-          first_asks = part_asks s n part some;
+          first_asks = part-asks s n part some;
           second_asks = found.asks;
         }

@@ -3,7 +3,7 @@ use Rattle.std.specs.Prelude.{ℕ, List, [], ◌∷◌, ◌++◌, Option, Some, 
 use Rattle.std.specs.List.{AllZip, zip}
 use Rattle.audit_files.specs.Feeding.{Ahead}
 use Rattle.audit_files.specs.Files.{IsStatedBy}
-use Rattle.audit_files.specs.Requests.{sent}
+use Rattle.audit_files.specs.Requests.{requests_of_file}
 use Rattle.audit_files.specs.declared.fault.FileFault.{FileFault}
 use Rattle.audit_files.specs.declared.requests.Requests.{Requests}
 use Rattle.audit_run.specs.declared.message.Job.{Job}
@@ -17,7 +17,7 @@ Stated = Result Requests FileFault
 -- the content of sources, from the bytes ahead of their readers; if a reader specifies none, the
 -- content of some bytes
 abbrev pub AreRead : List (Option Ahead) → List Stated → Type 0
-AreRead readable_bytes states = AllZip (IsStatedBy sent) readable_bytes states
+AreRead readable_bytes states = AllZip (IsStatedBy requests_of_file) readable_bytes states
 
 -- each source by its owner, the index of its sender in the roster, and by its content
 abbrev pub parts_by_owner : List (List ℕ) → List Stated → List (ℕ × Stated)

@@ -1,5 +1,6 @@
 //! The two queues between the threads of an audit, and the passes with which threads use them.
-ghost use Rattle.std.specs.Prelude.{◌≡◌, ◌<◌, ◌≤◌, List, Some, IfOk, IfSome, MatchResult, MatchOption, length, [], ◌∷◌};
+ghost use Rattle.std.specs.Prelude.{◌≡◌, ◌<◌, ◌≤◌, List, Some, None, true, IfOk, IfSome, MatchResult, MatchOption, length, [], ◌∷◌};
+ghost use Rattle.std.specs.Bool.{MatchBool};
 ghost use Rattle.audit_run.specs.Names.{names_under, IsRight};
 ghost use Rattle.audit_run.specs.Passes.{new_pass, with_job_put, with_job_taken, with_outcome_put, with_outcome_taken, after_split, split_off, with_joined, IsEmpty, IsOnlyPass, JobsLeft, OutcomesLeft};
 ghost use Rattle.audit_run.specs.declared.message.Job.{Job};
@@ -126,6 +127,59 @@ impl Handoff {
             (λ job. (rest : List Job) × JobsLeft pass.old (job ∷ rest)) }
     {
         rule::take(rt, &self.jobs, &mut pass.jobs)
+    }
+
+    /// Puts the job of the slot, as `put_job` does, and returns whether the slot is then empty.
+    pub(crate) fn put_job_from<R: Wait>(
+        &self,
+        rt: &R,
+        pass: &mut Pass,
+        slot: &mut Option<Job>,
+    ) -> bool
+        requires pass { pass.old.handoff ≡ self.now }
+        ensures none { slot.old ≡ None → (result ≡ true) × (slot.new ≡ None)
+            × (pass.new ≡ pass.old) }
+        ensures answer { IfSome slot.old (λ job. MatchBool result
+            ((slot.new ≡ None) × (pass.new ≡ with_job_put pass.old job))
+            ((slot.new ≡ slot.old) × (pass.new ≡ pass.old))) }
+        ensures whole { IfSome slot.old (λ _. IsOnlyPass pass.old
+            → (left : List Job) × JobsLeft pass.old left
+            × MatchBool result (length left < 256) (length left ≡ 256)) }
+    {
+        rule::put_from(rt, &self.jobs, &mut pass.jobs, slot)
+    }
+
+    /// Takes a job into the slot, as `take_job` does, in place of what it held.
+    pub(crate) fn take_job_into<R: Wait>(&self, rt: &R, pass: &mut Pass, slot: &mut Option<Job>)
+        requires pass { pass.old.handoff ≡ self.now }
+        ensures answer { MatchOption slot.new (pass.new ≡ pass.old)
+            (λ job. pass.new ≡ with_job_taken pass.old job) }
+        ensures whole { IsOnlyPass pass.old → MatchOption slot.new (JobsLeft pass.old [])
+            (λ job. (rest : List Job) × JobsLeft pass.old (job ∷ rest)) }
+    {
+        rule::take_into(rt, &self.jobs, &mut pass.jobs, slot);
+    }
+
+    /// Puts the outcome of the slot, as `put_outcome` does, and returns whether the slot is then
+    /// empty.
+    pub(crate) fn put_outcome_from<R: Wait>(
+        &self,
+        rt: &R,
+        pass: &mut Pass,
+        slot: &mut Option<Outcome>,
+    ) -> bool
+        requires pass { pass.old.handoff ≡ self.now }
+        requires verdict { IfSome slot.old (IsRight pass.old.names) }
+        ensures none { slot.old ≡ None → (result ≡ true) × (slot.new ≡ None)
+            × (pass.new ≡ pass.old) }
+        ensures answer { IfSome slot.old (λ outcome. MatchBool result
+            ((slot.new ≡ None) × (pass.new ≡ with_outcome_put pass.old outcome))
+            ((slot.new ≡ slot.old) × (pass.new ≡ pass.old))) }
+        ensures whole { IfSome slot.old (λ _. IsOnlyPass pass.old
+            → (left : List Outcome) × OutcomesLeft pass.old left
+            × MatchBool result (length left < 256) (length left ≡ 256)) }
+    {
+        rule::put_from(rt, &self.outcomes, &mut pass.outcomes, slot)
     }
 
     /// Puts an outcome, as `put_job` puts a job. A reply must have the verdict of the pass's policy

@@ -4,7 +4,8 @@
 //! The rule is in `specs/Body/Rule.antt`. Each kind of step (a queue created with its first pass, a
 //! pass split, a push with or without success, a pop with or without a message, passes joined)
 //! keeps it, whichever threads take the steps and in whatever order.
-ghost use Rattle.std.specs.Prelude.{◌≡◌, ◌<◌, ◌≤◌, List, Option, Some, None, Ok, Err, IfOk, MatchResult, MatchOption, length, [], ◌∷◌};
+ghost use Rattle.std.specs.Prelude.{◌≡◌, ◌<◌, ◌≤◌, List, Option, Some, None, Ok, Err, true, IfOk, IfSome, MatchResult, MatchOption, length, [], ◌∷◌};
+ghost use Rattle.std.specs.Bool.{MatchBool};
 ghost use Rattle.crossbeam_queue.specs.Passes.{view, IsPassOf, IsSamePass, ruled_capacity};
 ghost use Rattle.audit_run.specs.Body.Rule.{tally, putting, taking, kept_by_split, given_by_split, joined, Leaves, Suits, PutsMessage, TakesMessage};
 
@@ -167,6 +168,59 @@ pub fn take<T: Message<N>, N, R: Wait>(
         (λ x. (rest : List T) × Leaves (view seat.old) (x ∷ rest)) }
 {
     line.pop_as::<Takes, R>(rt, seat)
+}
+
+/// Puts the message of the slot, and returns whether the slot is then empty. If it is not, the queue
+/// was full at some moment of the call, and the slot keeps its message.
+pub fn put_from<T: Message<N> + Drop, N, R: Wait>(
+    rt: &R,
+    line: &RuledQueue<T, N>,
+    seat: &mut QueuePass<T, N>,
+    slot: &mut Option<T>,
+) -> bool
+    requires line { IsPassOf line.now seat.old × (ruled_capacity line.now ≡ 256) }
+    requires weight { 0 < (view seat.old).weight }
+    requires fits { IfSome slot.old (Suits T.fits (view seat.old).names) }
+    ensures line { IsSamePass seat.old seat.new }
+    ensures none { slot.old ≡ None → (result ≡ true) × (slot.new ≡ None)
+        × (view seat.new ≡ view seat.old) }
+    ensures answer { IfSome slot.old (λ message. MatchBool result
+        ((slot.new ≡ None) × (view seat.new ≡ putting (view seat.old) message))
+        ((slot.new ≡ slot.old) × (view seat.new ≡ view seat.old))) }
+    ensures whole { IfSome slot.old (λ _. (view seat.old).weight ≡ 1024
+        → (left : List T) × Leaves (view seat.old) left
+        × MatchBool result (length left < 256) (length left ≡ 256)) }
+{
+    let Some(message) = slot.take() else {
+        return true;
+    };
+    match put(rt, line, seat, message) {
+        Ok(()) => true,
+        Err(back) => {
+            *slot = Some(back);
+            false
+        }
+    }
+}
+
+/// Takes a message into the slot, in place of what it held. Leaves it empty only if the queue was
+/// empty at some moment of the call.
+pub fn take_into<T: Message<N> + Drop, N, R: Wait>(
+    rt: &R,
+    line: &RuledQueue<T, N>,
+    seat: &mut QueuePass<T, N>,
+    slot: &mut Option<T>,
+)
+    requires line { IsPassOf line.now seat.old × (ruled_capacity line.now ≡ 256) }
+    requires weight { 0 < (view seat.old).weight }
+    ensures line { IsSamePass seat.old seat.new }
+    ensures answer { MatchOption slot.new (view seat.new ≡ view seat.old)
+        (λ x. (view seat.new ≡ taking (view seat.old) x) × Suits T.fits (view seat.old).names x) }
+    ensures whole { (view seat.old).weight ≡ 1024
+        → MatchOption slot.new (Leaves (view seat.old) [])
+        (λ x. (rest : List T) × Leaves (view seat.old) (x ∷ rest)) }
+{
+    *slot = take(rt, line, seat);
 }
 
 /// Splits off another pass of the queue, with 1 of the weight.

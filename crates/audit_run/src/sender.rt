@@ -1,5 +1,5 @@
 //! What the thread of a source does: puts the jobs of one requests file.
-ghost use Rattle.std.specs.Prelude.{◌≡◌};
+ghost use Rattle.std.specs.Prelude.{◌≡◌, IfSome};
 ghost use Rattle.audit_run.specs.Passes.{with_job_put};
 ghost use Rattle.audit_run.specs.Parts.{jobs_of};
 ghost use Rattle.audit_run.specs.declared.message.Job.TheVariants.{End};
@@ -9,21 +9,27 @@ use crate::wakes::{Need, Tries, Wakes};
 use crate::{Handoff, Job, Pass};
 use audit_files::Requests;
 use std::sync::Wait;
+use sudo_match::Request;
 
-// Puts a job. Waits while the queue is full.
-fn put_waiting<R: Wait>(rt: &R, handoff: &Handoff, tries: &mut Tries<'_>, pass: &mut Pass, job: Job)
+// The number of messages after which a sender gives back the room of its requests.
+const GIVEN_BACK: u32 = 32_768;
+
+// Puts the job of the slot. Waits while the queue is full.
+fn put_waiting<R: Wait>(
+    rt: &R,
+    handoff: &Handoff,
+    tries: &mut Tries<'_>,
+    pass: &mut Pass,
+    slot: &mut Option<Job>,
+)
     requires { pass.old.handoff ≡ handoff.now }
-    ensures { pass.new ≡ with_job_put pass.old job }
+    ensures { IfSome slot.old (λ job. pass.new ≡ with_job_put pass.old job) }
 {
-    let mut waiting = job;
     for _ in rt.forever() {
-        match handoff.put_job(rt, pass, waiting) {
-            Ok(()) => return,
-            Err(back) => {
-                waiting = back;
-                tries.failed(rt);
-            }
+        if handoff.put_job_from(rt, pass, slot) {
+            return;
         }
+        tries.failed(rt);
     }
     unreachable!()
 }
@@ -34,7 +40,8 @@ fn put_job<R: Wait>(rt: &R, handoff: &Handoff, wakes: &Wakes, pass: &mut Pass, j
     ensures { pass.new ≡ with_job_put pass.old job }
 {
     let mut tries = Tries::new(wakes, Need::JobRoom);
-    put_waiting(rt, handoff, &mut tries, pass, job);
+    let mut slot = Some(job);
+    put_waiting(rt, handoff, &mut tries, pass, &mut slot);
 }
 
 /// Puts `End`, and wakes all workers that sleep: the sender puts no further job.
@@ -44,6 +51,15 @@ pub fn put_end<R: Wait>(rt: &R, handoff: &Handoff, wakes: &Wakes, pass: &mut Pas
 {
     put_job(rt, handoff, wakes, pass, Job::End { sender });
     wakes.wake_all(Need::JobRoom);
+}
+
+// Gives back the room of the requests that were put, after each batch of messages.
+fn give_back(left: &mut Vec<Request>, messages: u32)
+    ensures { left.new.items ≡ left.old.items }
+{
+    if messages % GIVEN_BACK == 0 {
+        left.shrink_to_fit();
+    }
 }
 
 /// Puts the requests in order, the close mark if there is one, and `End`.
@@ -59,11 +75,14 @@ pub fn send<R: Wait>(
     ensures { result ≡ putting_jobs pass (jobs_of sender requests) }
 {
     let Requests { list, close } = requests;
+    let mut left = list.into_vec();
+    left.reverse();
     let mut messages = 0u32;
-    for request in list.into_vec() {
+    while let Some(request) = left.pop() {
         put_job(rt, handoff, wakes, &mut pass, Job::Ask { sender, request });
         messages = messages.wrapping_add(1);
         wakes.count(Need::JobRoom, messages);
+        give_back(&mut left, messages);
     }
     if let Some(count) = close {
         put_job(rt, handoff, wakes, &mut pass, Job::Close { sender, count });

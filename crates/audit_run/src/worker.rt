@@ -1,5 +1,5 @@
 //! A worker, which takes jobs and puts their outcomes.
-ghost use Rattle.std.specs.Prelude.{◌≡◌, ◌∷◌, ◌++◌, [], List};
+ghost use Rattle.std.specs.Prelude.{◌≡◌, ◌∷◌, ◌++◌, [], List, IfSome, MatchOption};
 ghost use Rattle.audit_run.specs.Names.{names_under, answer, IsRight};
 ghost use Rattle.audit_run.specs.Passes.{with_job_taken, with_outcome_put};
 ghost use Rattle.audit_run.specs.declared.message.Job.{Job};
@@ -14,27 +14,23 @@ use audit_collect::{Answer, Arrival};
 use std::sync::Wait;
 use sudo_match::Request;
 
-// Puts an outcome. Waits while the queue is full.
+// Puts the outcome of the slot. Waits while the queue is full.
 fn put_trying<R: Wait>(
     rt: &R,
     handoff: &Handoff,
     tries: &mut Tries<'_>,
     pass: &mut Pass,
-    outcome: Outcome,
+    slot: &mut Option<Outcome>,
 )
     requires pass { pass.old.handoff ≡ handoff.now }
-    requires verdict { IsRight pass.old.names outcome }
-    ensures { pass.new ≡ with_outcome_put pass.old outcome }
+    requires verdict { IfSome slot.old (IsRight pass.old.names) }
+    ensures { IfSome slot.old (λ outcome. pass.new ≡ with_outcome_put pass.old outcome) }
 {
-    let mut waiting = outcome;
     for _ in rt.forever() {
-        match handoff.put_outcome(rt, pass, waiting) {
-            Ok(()) => return,
-            Err(back) => {
-                waiting = back;
-                tries.failed(rt);
-            }
+        if handoff.put_outcome_from(rt, pass, slot) {
+            return;
         }
+        tries.failed(rt);
     }
     unreachable!()
 }
@@ -46,30 +42,38 @@ fn put_outcome_waiting<R: Wait>(rt: &R, shared: Shared<'_>, pass: &mut Pass, out
     ensures { pass.new ≡ with_outcome_put pass.old outcome }
 {
     let mut tries = Tries::new(shared.wakes, Need::OutcomeRoom);
-    put_trying(rt, shared.handoff, &mut tries, pass, outcome);
+    let mut slot = Some(outcome);
+    put_trying(rt, shared.handoff, &mut tries, pass, &mut slot);
 }
 
-// Takes a job. Waits while there is none.
-fn take_trying<R: Wait>(rt: &R, handoff: &Handoff, tries: &mut Tries<'_>, pass: &mut Pass) -> Job
+// Takes a job into the slot. Waits while there is none.
+fn take_trying<R: Wait>(
+    rt: &R,
+    handoff: &Handoff,
+    tries: &mut Tries<'_>,
+    pass: &mut Pass,
+    slot: &mut Option<Job>,
+)
     requires { pass.old.handoff ≡ handoff.now }
-    ensures { pass.new ≡ with_job_taken pass.old result }
+    ensures { MatchOption slot.new ⊥ (λ job. pass.new ≡ with_job_taken pass.old job) }
 {
     for _ in rt.forever() {
-        match handoff.take_job(rt, pass) {
-            Some(job) => return job,
-            None => tries.failed(rt),
+        handoff.take_job_into(rt, pass, slot);
+        if slot.is_some() {
+            return;
         }
+        tries.failed(rt);
     }
     unreachable!()
 }
 
-// Takes a job.
-fn take_job_waiting<R: Wait>(rt: &R, shared: Shared<'_>, pass: &mut Pass) -> Job
+// Takes a job into the slot.
+fn take_job_waiting<R: Wait>(rt: &R, shared: Shared<'_>, pass: &mut Pass, slot: &mut Option<Job>)
     requires { pass.old.handoff ≡ shared.handoff.now }
-    ensures { pass.new ≡ with_job_taken pass.old result }
+    ensures { MatchOption slot.new ⊥ (λ job. pass.new ≡ with_job_taken pass.old job) }
 {
     let mut tries = Tries::new(shared.wakes, Need::Job);
-    take_trying(rt, shared.handoff, &mut tries, pass)
+    take_trying(rt, shared.handoff, &mut tries, pass, slot);
 }
 
 // Judges a request and puts the answer, between the two calls of the gate.
@@ -135,15 +139,18 @@ pub fn work<R: Wait, G: Gate>(rt: &R, shared: Shared<'_>, gate: &G, mut pass: Pa
         (jobs ++ Job.Stop ∷ [])) }
 {
     let mut messages = 0u32;
+    let mut slot = None;
     for _ in rt.forever() {
         messages = messages.wrapping_add(1);
-        match take_job_waiting(rt, shared, &mut pass) {
-            Job::Stop => {
+        take_job_waiting(rt, shared, &mut pass, &mut slot);
+        match slot.take() {
+            Some(Job::Stop) => {
                 put_outcome_waiting(rt, shared, &mut pass, Outcome::Stopped);
                 shared.wakes.wake_all(Need::Job);
                 return pass;
             }
-            job => answer_job(rt, shared, gate, &mut pass, job),
+            Some(job) => answer_job(rt, shared, gate, &mut pass, job),
+            None => unreachable!(),
         }
         shared.wakes.count(Need::Job, messages);
     }

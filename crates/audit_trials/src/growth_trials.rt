@@ -1,7 +1,6 @@
 //! Calls that memory is refused to: each returns that memory or a thread was refused, or what it returns with memory.
 
 use crate::fixtures::{Ground, make_ground, requests_file, shown};
-use crate::growths::{End, Memory, Trial, swept};
 use crate::order_trials::{Step, in_order, roster, two_and_one};
 use crate::queue_trials::used;
 use crate::report_trials::{TWO_ANSWERS, two_answers, two_files};
@@ -12,6 +11,7 @@ use audit_files::{
     FileFault, Requests, Script, read_hosts, read_requests, read_users, report_text, write_all_of,
 };
 use audit_run::{AuditFault, Handoff, Open, audit};
+use limited_memory::{End, Memory, ROOM, ROOM_WITH_THREADS, Trial, swept};
 use std::alloc::{AllocError, Global};
 use std::sync::Wait;
 use std::test::Fail;
@@ -94,7 +94,7 @@ fn arrived(
 }
 
 impl Trial for Arrivals<'_> {
-    fn once<R: Threads + Wait + Sync>(&self, _rt: &R, memory: &mut Memory) -> Result<End, Fail> {
+    fn once(&self, memory: &mut Memory) -> Result<End, Fail> {
         let arrivals = self.arrivals()?;
         let collector = Collector::new(self.alloc, roster(self.alloc, b"ab")?)?;
         Ok(arrived(collector, arrivals, memory, self.wanted))
@@ -122,7 +122,7 @@ fn orders<'a>(
 fn memory_for_arrivals_in_any_of_120_orders(rt: HostRuntime) -> Result<(), Fail> {
     let wanted = two_and_one(rt.alloc())?;
     let orders = orders(rt.alloc(), 120, &wanted)?;
-    swept(rt.alloc(), &rt, &orders)
+    swept(rt.alloc(), ROOM, &orders)
 }
 
 const USERS: &[u8] = b"user,uid,groups\nroot,0,root:0\nalice,1000,alice:1000 adm:4\n";
@@ -218,7 +218,7 @@ struct Reading {
 }
 
 impl Trial for Reading {
-    fn once<R: Threads + Wait + Sync>(&self, _rt: &R, memory: &mut Memory) -> Result<End, Fail> {
+    fn once(&self, memory: &mut Memory) -> Result<End, Fail> {
         match self.kind {
             Kind::Users => read_users_once(self.alloc, USERS, memory),
             Kind::Memberships => read_users_once(self.alloc, MEMBERSHIPS, memory),
@@ -234,7 +234,7 @@ fn memory_for_files(rt: HostRuntime) -> Result<(), Fail> {
     let reading = |kind: Kind| -> Reading { Reading { alloc, kind } };
     swept(
         alloc,
-        &rt,
+        ROOM,
         &[
             reading(Kind::Users),
             reading(Kind::Memberships),
@@ -274,7 +274,7 @@ struct Writing<'a> {
 }
 
 impl Trial for Writing<'_> {
-    fn once<R: Threads + Wait + Sync>(&self, _rt: &R, memory: &mut Memory) -> Result<End, Fail> {
+    fn once(&self, memory: &mut Memory) -> Result<End, Fail> {
         let mut writer = Script::of(self.alloc, b"", 16)?;
         memory.take();
         let end = end_of_text(self.alloc, self.report, self.files, &mut writer);
@@ -290,7 +290,7 @@ fn memory_for_a_report(rt: HostRuntime) -> Result<(), Fail> {
     let files = two_files(alloc)?;
     swept(
         alloc,
-        &rt,
+        ROOM,
         &[Writing {
             alloc,
             report: &report,
@@ -301,19 +301,20 @@ fn memory_for_a_report(rt: HostRuntime) -> Result<(), Fail> {
 
 /// The queues of an audit, made.
 #[derive(Drop)]
-struct Queues<'a> {
+struct Queues<'a, R> {
     alloc: Global,
+    rt: &'a R,
     ground: &'a Ground,
 }
 
-impl Trial for Queues<'_> {
-    fn once<R: Threads + Wait + Sync>(&self, rt: &R, memory: &mut Memory) -> Result<End, Fail> {
+impl<R: Wait> Trial for Queues<'_, R> {
+    fn once(&self, memory: &mut Memory) -> Result<End, Fail> {
         memory.take();
         let answer = Handoff::new(self.alloc, &self.ground.policy, &self.ground.directory);
         memory.give_back();
         match answer {
             Ok((handoff, mut pass)) => {
-                let (put, is_back, first) = used(rt, &handoff, &mut pass);
+                let (put, is_back, first) = used(self.rt, &handoff, &mut pass);
                 Ok(End::of(put == 256 && is_back && first == Some(0)))
             }
             Err(_) => Ok(End::Refused),
@@ -327,43 +328,41 @@ fn memory_for_queues(rt: HostRuntime) -> Result<(), Fail> {
     let ground = make_ground(alloc)?;
     swept(
         alloc,
-        &rt,
+        ROOM_WITH_THREADS,
         &[Queues {
             alloc,
+            rt: &rt,
             ground: &ground,
         }],
     )
 }
 
 /// An audit of three sources by two workers.
-#[derive(Clone, Copy)]
-struct Auditing<'a> {
+#[derive(Drop)]
+struct Auditing<'a, R> {
     alloc: Global,
+    rt: &'a R,
     ground: &'a Ground,
 }
 
-impl Auditing<'_> {
+impl<R: Threads + Wait + Sync> Auditing<'_, R> {
     /// Returns the answer of the audit.
-    fn answer<R: Threads + Wait + Sync>(
-        &self,
-        rt: &R,
-        memory: &mut Memory,
-    ) -> Result<Result<Report, AuditFault>, Fail> {
+    fn answer(&self, memory: &mut Memory) -> Result<Result<Report, AuditFault>, Fail> {
         let Ground { policy, directory } = self.ground;
         let sources = sources(self.alloc, SOURCES)?;
         let (handoff, mut pass) = Handoff::new(self.alloc, policy, directory)?;
         memory.take();
         let answer = audit(
-            self.alloc, rt, policy, directory, &handoff, &mut pass, sources, 2, &Open,
+            self.alloc, self.rt, policy, directory, &handoff, &mut pass, sources, 2, &Open,
         );
         memory.give_back();
         Ok(answer)
     }
 }
 
-impl Trial for Auditing<'_> {
-    fn once<R: Threads + Wait + Sync>(&self, rt: &R, memory: &mut Memory) -> Result<End, Fail> {
-        let answer = self.answer(rt, memory)?;
+impl<R: Threads + Wait + Sync> Trial for Auditing<'_, R> {
+    fn once(&self, memory: &mut Memory) -> Result<End, Fail> {
+        let answer = self.answer(memory)?;
         if matches!(&answer, Err(AuditFault::Memory | AuditFault::NoThread)) {
             return Ok(End::Refused);
         }
@@ -378,8 +377,8 @@ fn two_audits<R: Threads + Wait + Sync>(
     rt: &R,
     ground: &Ground,
 ) -> Result<(), Fail> {
-    let audit = Auditing { alloc, ground };
-    swept(alloc, rt, &[audit, audit])
+    let audit = || Auditing { alloc, rt, ground };
+    swept(alloc, ROOM_WITH_THREADS, &[audit(), audit()])
 }
 
 #[test]

@@ -13,8 +13,6 @@ mod fixtures;
 #[cfg(test)]
 mod growth_trials;
 #[cfg(test)]
-mod growths;
-#[cfg(test)]
 mod order_trials;
 #[cfg(test)]
 mod queue_trials;

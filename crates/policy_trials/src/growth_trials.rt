@@ -1,7 +1,7 @@
 //! Calls that memory is refused to: each returns that memory was refused, or what it returns with memory.
 
 use crate::fixtures::{file, folder, policy};
-use crate::growths::{End, Memory, Trial, swept};
+use limited_memory::{End, Memory, ROOM, Trial, swept};
 use std::alloc::{AllocError, Global};
 use std::test::Fail;
 use sudo_load::{LoadFault, Supply, load};
@@ -65,7 +65,7 @@ impl Trial for Expanding {
 
 #[test]
 fn memory_for_an_alias_written_out(rt: HostRuntime) -> Result<(), Fail> {
-    swept(rt.alloc(), &[Expanding::new(rt.alloc())?])
+    swept(rt.alloc(), ROOM, &[Expanding::new(rt.alloc())?])
 }
 
 /// The findings on a policy.
@@ -110,7 +110,7 @@ impl Finds {
 
 #[test]
 fn memory_for_findings(rt: HostRuntime) -> Result<(), Fail> {
-    swept(rt.alloc(), &[Finds::new(rt.alloc())?])
+    swept(rt.alloc(), ROOM, &[Finds::new(rt.alloc())?])
 }
 
 /// The check of a policy.
@@ -155,7 +155,7 @@ impl Checking {
 
 #[test]
 fn memory_for_a_check(rt: HostRuntime) -> Result<(), Fail> {
-    swept(rt.alloc(), &[Checking::new(rt.alloc())?])
+    swept(rt.alloc(), ROOM, &[Checking::new(rt.alloc())?])
 }
 
 /// What a policy includes.
@@ -220,5 +220,5 @@ impl Loading {
 
 #[test]
 fn memory_for_includes(rt: HostRuntime) -> Result<(), Fail> {
-    swept(rt.alloc(), &[Loading::new(rt.alloc())?])
+    swept(rt.alloc(), ROOM, &[Loading::new(rt.alloc())?])
 }

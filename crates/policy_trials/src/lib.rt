@@ -10,8 +10,6 @@ mod grammar_trials;
 #[cfg(test)]
 mod growth_trials;
 #[cfg(test)]
-mod growths;
-#[cfg(test)]
 mod include_trials;
 #[cfg(test)]
 mod parser_trials;

@@ -36,7 +36,7 @@ use Rattle.sudo_grammar.specs.Reading.{reading}
 use Rattle.sudo_grammar.specs.Faults.{HasRoom}
 
 -- a token that stands for an atom is no exclamation mark
-at_item-member : (p : Purpose) (n : ℕ) (d : List Member) (t : Token) (kind : TokenKind) (a : Atom)
+pub at_item-member : (p : Purpose) (n : ℕ) (d : List Member) (t : Token) (kind : TokenKind) (a : Atom)
     → atom_of (kind_for p) kind ≡ Ok a → at_item p n d t kind ≡ after_member p n d t
 at_item-member p n d t (tokens.Mark marks.Bang) a h = cc
 at_item-member p n d t _ a h = refl
@@ -48,9 +48,9 @@ pub at_item-takes : (p : Purpose) (n : ℕ) (d : List Member) (t : Token) (a : A
 at_item-takes p n d t a h = at_item-member p n d t t.kind a h ∙ ap (member_state p n d t) h
 
 -- one token is read by one step
-pub reading-step : (room : Room) (place next : State) (t : Token) (ts : List Token) → step room place t ≡ Some next
-    → reading room place (t ∷ ts) ≡ reading room next ts
-reading-step room place next t ts h = rw (h, reading) refl
+pub reading-step : (room : Room) (state next : State) (t : Token) (ts : List Token) → step room state t ≡ Some next
+    → reading room state (t ∷ ts) ≡ reading room next ts
+reading-step room state next t ts h = rw (h, reading) refl
 
 -- a mark that is no exclamation mark stands for no member
 mark-none : (p : Purpose) (n : ℕ) (d : List Member) (t : Token) (m : Mark) → t.kind ≡ tokens.Mark m
@@ -87,7 +87,7 @@ tag-alias kind x h = go (plain_word kind) refl h
         )
 
 -- a command is taken as that member
-at_command-member : (g : Granting) (r : Option Runas) (d : List Tag) (n : ℕ) (t : Token) (kind : TokenKind) (a : Atom)
+pub at_command-member : (g : Granting) (r : Option Runas) (d : List Tag) (n : ℕ) (t : Token) (kind : TokenKind) (a : Atom)
     → atom_of kinds.Cmnd kind ≡ Ok a → at_command g r d n t kind ≡ command_state g r d n t (atom_of kinds.Cmnd t.kind)
 at_command-member g r d n t (tokens.Mark marks.Bang) a h = cc
 at_command-member g r d n t (tokens.Mark marks.LeftParen) a h = cc
@@ -98,7 +98,7 @@ pub at_command-takes : (g : Granting) (r : Option Runas) (d : List Tag) (n : ℕ
     → at_command g r d n t t.kind ≡ Some (AfterCommand g (record { runas = r; tags = d; command = record { bangs = n; token = t; atom = a } }))
 at_command-takes g r d n t a h = at_command-member g r d n t t.kind a h ∙ ap (command_state g r d n t) h
 
--- the place after a command and further ones
+-- the state after a command and further ones
 abbrev last_place : Granting → CommandSpec → List CommandSpec → State
 last_place g c [] = AfterCommand g c
 last_place g c (x ∷ xs) = last_place (record g { commands = g.commands ++ c ∷ [] }) x xs
@@ -114,12 +114,12 @@ pub word-value : (b : Option Binding) (d : List Parameter) (name : Token) (o : O
 word-value b d name o t (tokens.Word quoted chars) h = refl
 word-value b d name o t _ h = cc
 
-operator-value : (b : Option Binding) (d : List Parameter) (name : Token) (o : Operator) (k : TokenKind) → operator_of k ≡ Some o
+pub operator-value : (b : Option Binding) (d : List Parameter) (name : Token) (o : Operator) (k : TokenKind) → operator_of k ≡ Some o
     → after_switch b d 0 name k ≡ Some (AtValue b d name o)
 operator-value b d name o (tokens.Mark marks.Comma) h = cc
 operator-value b d name o k h = ap (at_operator b d 0 name) h
 
--- the place after a parameter
+-- the state after a parameter
 abbrev parameter_state : Option Binding → List Parameter → Parameter → State
 parameter_state b d (parameters.Switch n name) = AfterSwitch b d n name
 parameter_state b d (parameters.Assign name o v) = AfterValue b (d ++ parameters.Assign name o v ∷ [])
@@ -226,7 +226,7 @@ module _ (room : Room) where
       member-first p m t ts rest (subst (λ x. member (kind_for p) m x rest) (sym none) stands)
   item-first p m t ts rest (suc b) middle (rest', (bang, more)) stands = (Item p 1 [], rw bang.0 refl)
 
-  -- a place whose steps are those of a list's first item leads to the end of the list
+  -- a state whose steps are those of a list's first item leads to the end of the list
   enter : (p : Purpose) (q : State) (ms : List Member) (t : Token) (ts rest : List Token)
       → ((next : State) → at_item p 0 [] t t.kind ≡ Some next → step room q t ≡ Some next)
       → list (kind_for p) ms (t ∷ ts) rest → reading room q (t ∷ ts) ≡ reading room (AfterItem p ms) rest
@@ -319,7 +319,7 @@ module _ (room : Room) where
       let none : after_member (Hosts us []) 0 [] t ≡ None = mark-none (Hosts us []) 0 [] t marks.Comma is in cc
   hosts-first us t next _ is h = h
 
-  -- the place after the users of a runas
+  -- the state after the users of a runas
   abbrev users_state : Granting → Option (List Member) → State
   users_state g None = RunasStart g
   users_state g (Some us) = AfterItem (RunasUsers g) us
@@ -519,7 +519,7 @@ module _ (room : Room) where
   parameter-some (parameters.Switch (suc n) w) rest (a, ((c, (bang, more)), named)) = bang
   parameter-some (parameters.Assign w o v) rest (a, (named, more)) = named
 
-  -- the parameters, from a place whose steps are those of a parameter's first token
+  -- the parameters, from a state whose steps are those of a parameter's first token
   parameters-read : (b : Option Binding) (q : State) (xs : List Parameter) (ts : List Token)
       → ((t : Token) (us : List Token) (next : State) → ts ≡ t ∷ us → at_parameter b [] 0 t t.kind ≡ Some next → step room q t ≡ Some next)
       → parameter_list xs ts [] → reading room q ts ≡ Ok (entries.Defaults b xs)

@@ -12,9 +12,9 @@ use Rattle.sudo_grammar.specs.Faults.{HasRoom}
 use Rattle.sudo_grammar.proofs.Complete.{definition-read, colon-read, keyword-read}
 
 -- where no step leads on, reading stops
-pub reading-stops : (room : Room) (place : State) (t : Token) (ts : List Token) → step room place t ≡ None
-    → reading room place (t ∷ ts) ≡ Err (stop_at place (t ∷ ts))
-reading-stops room place t ts h = rw (h, reading) refl
+pub reading-stops : (room : Room) (state : State) (t : Token) (ts : List Token) → step room state t ≡ None
+    → reading room state (t ∷ ts) ≡ Err (stop_at state (t ∷ ts))
+reading-stops room state t ts h = rw (h, reading) refl
 
 module _ (room : Room) where
   -- a name that was read was not one too many

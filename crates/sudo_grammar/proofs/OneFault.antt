@@ -13,59 +13,59 @@ use Rattle.sudo_grammar.proofs.Sound.{sound, some-injective}
 use Rattle.sudo_grammar.proofs.Stops.{begins, reading-front, form-front, with_room, completes-back, leftmost, IsHalted, err-injective}
 
 -- one token more
-pub state_after-step : (room : Room) (place q next : State) (front : List Token) (t : Token)
-    → state_after room place front ≡ Some q → step room q t ≡ Some next → state_after room place (front ++ t ∷ []) ≡ Some next
-state_after-step room place q next [] t reached is = rw (some-injective reached, is, state_after) refl
-state_after-step room place q next (u ∷ us) t reached is =
-    go (step room place u) refl reached (λ later. state_after-step room later q next us t)
+pub state_after-step : (room : Room) (state q next : State) (front : List Token) (t : Token)
+    → state_after room state front ≡ Some q → step room q t ≡ Some next → state_after room state (front ++ t ∷ []) ≡ Some next
+state_after-step room state q next [] t reached is = rw (some-injective reached, is, state_after) refl
+state_after-step room state q next (u ∷ us) t reached is =
+    go (step room state u) refl reached (λ later. state_after-step room later q next us t)
   where
-    go : (r : Option State) → step room place u ≡ r
+    go : (r : Option State) → step room state u ≡ r
         → elim r as (λ _. Option State) [ Some later ↦ state_after room later us | None ↦ None ] ≡ Some q
         → ((later : State) → state_after room later us ≡ Some q → step room q t ≡ Some next
         → state_after room later (us ++ t ∷ []) ≡ Some next)
-        → state_after room place (u ∷ us ++ t ∷ []) ≡ Some next
+        → state_after room state (u ∷ us ++ t ∷ []) ≡ Some next
     go (Some later) taken h hyp = rw (taken, state_after) (hyp later h is)
     go None taken h hyp = cc
 
 -- a name one too many is not taken
-full-stops : (room : Room) (place : State) (front : List Token) (t : Token) → state_after room Start front ≡ Some place
-    → IsOneTooMany room front t → step room place t ≡ None
-full-stops room place front t reached (k, (d, (w, (named, is, full)))) =
-    let here : place ≡ AliasName k d = some-injective (sym reached ∙ named) in
+full-stops : (room : Room) (state : State) (front : List Token) (t : Token) → state_after room Start front ≡ Some state
+    → IsOneTooMany room front t → step room state t ≡ None
+full-stops room state front t reached (k, (d, (w, (named, is, full)))) =
+    let here : state ≡ AliasName k d = some-injective (sym reached ∙ named) in
     let over : ltb (length d) (room k) ≡ false = le-ltb (length d) (room k) full in
     ap (λ p. step room p t) here ∙ ap (at_alias_name room k d) is ∙ ap (λ b. cond b (Some (AfterName k d w)) None) over
 
 -- where a line is stuck, no step leads on
-stuck-halted : (room : Room) (place : State) (front rest : List Token) → state_after room Start front ≡ Some place
-    → IsStuck room front rest → IsHalted room place rest
-stuck-halted room place front [] reached stuck = go (entry_after_list place) refl
+stuck-halted : (room : Room) (state : State) (front rest : List Token) → state_after room Start front ≡ Some state
+    → IsStuck room front rest → IsHalted room state rest
+stuck-halted room state front [] reached stuck = go (entry_after_list state) refl
   where
-    go : (r : Option EntryBody) → entry_after_list place ≡ r → entry_after_list place ≡ None
+    go : (r : Option EntryBody) → entry_after_list state ≡ r → entry_after_list state ≡ None
     go None is = is
     go (Some e) is =
         let read : reading room Start (front ++ []) ≡ Ok e =
-        reading-front room Start place front [] reached ∙ ap (entry_or_stop place) is in
+        reading-front room Start state front [] reached ∙ ap (entry_or_stop state) is in
         absurd (stuck e (sound room Start front e (ap (reading room Start) (sym (append-nil front)) ∙ read)))
-stuck-halted room place front (t ∷ ts) reached stuck = go (step room place t) refl stuck
+stuck-halted room state front (t ∷ ts) reached stuck = go (step room state t) refl stuck
   where
-    go : (r : Option State) → step room place t ≡ r → (BeginsEntry (front ++ t ∷ []) → ⊥) ⊎ IsOneTooMany room front t
-        → step room place t ≡ None
+    go : (r : Option State) → step room state t ≡ r → (BeginsEntry (front ++ t ∷ []) → ⊥) ⊎ IsOneTooMany room front t
+        → step room state t ≡ None
     go None is h = is
-    go (Some next) is (inl dead) = absurd (dead (begins room (front ++ t ∷ []) next (state_after-step room Start place next front t reached is)))
-    go (Some next) is (inr full) = full-stops room place front t reached full
+    go (Some next) is (inl dead) = absurd (dead (begins room (front ++ t ∷ []) next (state_after-step room Start state next front t reached is)))
+    go (Some next) is (inr full) = full-stops room state front t reached full
 
-halted-stops : (room : Room) (place : State) (rest : List Token) → IsHalted room place rest
-    → reading room place rest ≡ Err (stop_at place rest)
-halted-stops room place [] h = ap (entry_or_stop place) h
-halted-stops room place (t ∷ ts) h = reading-stops room place t ts h
+halted-stops : (room : Room) (state : State) (rest : List Token) → IsHalted room state rest
+    → reading room state rest ≡ Err (stop_at state rest)
+halted-stops room state [] h = ap (entry_or_stop state) h
+halted-stops room state (t ∷ ts) h = reading-stops room state t ts h
 
 -- the reading stops at a line's fault
 pub fault-read : (room : Room) (ts : List Token) (stop : Stop) → IsGrammarFault room ts stop → reading room Start ts ≡ Err stop
 fault-read room ts stop f =
-    let halted : IsHalted room f.place stop.rest = stuck-halted room f.place f.front stop.rest f.reached f.stuck in
-    let same : ◌≡◌ {A = Stop} (stop_at f.place stop.rest) stop = ap (λ r. record { rest = stop.rest; refusal = r }) (sym f.refusal) in
-    ap (reading room Start) f.whole ∙ reading-front room Start f.place f.front stop.rest f.reached
-    ∙ halted-stops room f.place stop.rest halted ∙ ap Err same
+    let halted : IsHalted room f.state stop.rest = stuck-halted room f.state f.front stop.rest f.reached f.stuck in
+    let same : ◌≡◌ {A = Stop} (stop_at f.state stop.rest) stop = ap (λ r. record { rest = stop.rest; refusal = r }) (sym f.refusal) in
+    ap (reading room Start) f.whole ∙ reading-front room Start f.state f.front stop.rest f.reached
+    ∙ halted-stops room f.state stop.rest halted ∙ ap Err same
 
 pub one-fault : (room : Room) (ts : List Token) (x y : Stop) → IsGrammarFault room ts x → IsGrammarFault room ts y → x ≡ y
 one-fault room ts x y f g = err-injective (sym (fault-read room ts x f) ∙ fault-read room ts y g)
@@ -91,11 +91,11 @@ faulty-or-written room ts = go (reading room Start ts) refl
     go (Ok e) is = inl (e, read-within room ts e is)
     go (Err stop) is = inr (stop, leftmost room ts stop is)
 
--- the forms that are left at a place are those of the entries that begin so
-pub place-left : (room : Room) (front : List Token) (place : State) (e : EntryBody) (ts : List Token)
-    → state_after room Start front ≡ Some place → Writes e (front ++ ts) → Completes place e ts
-place-left room front place e ts reached w = sound (with_room room e) place ts e (form-front room place front ts e reached w)
+-- the forms that are left at a state are those of the entries that begin so
+pub state-left : (room : Room) (front : List Token) (state : State) (e : EntryBody) (ts : List Token)
+    → state_after room Start front ≡ Some state → Writes e (front ++ ts) → Completes state e ts
+state-left room front state e ts reached w = sound (with_room room e) state ts e (form-front room state front ts e reached w)
 
-pub place-whole : (room : Room) (front : List Token) (place : State) (e : EntryBody) (ts : List Token)
-    → state_after room Start front ≡ Some place → Completes place e ts → Writes e (front ++ ts)
-place-whole room front place e ts reached g = completes-back room Start place front ts e reached g
+pub state-whole : (room : Room) (front : List Token) (state : State) (e : EntryBody) (ts : List Token)
+    → state_after room Start front ≡ Some state → Completes state e ts → Writes e (front ++ ts)
+state-whole room front state e ts reached g = completes-back room Start state front ts e reached g

@@ -37,12 +37,12 @@ none-some h = cc
 pub ok-injective : {A B : Type 0} {x y : A} → ◌≡◌ {A = Result A B} (Ok x) (Ok y) → x ≡ y
 ok-injective h = cc
 
--- what goes on from the next place
-on : (place next : State) (e : EntryBody) (ts : List Token) → Some place ≡ Some next → Completes next e ts → Completes place e ts
-on place next e ts h g = subst (λ x. Completes x e ts) (sym (some-injective h)) g
+-- what goes on from the next state
+on : (state next : State) (e : EntryBody) (ts : List Token) → Some state ≡ Some next → Completes next e ts → Completes state e ts
+on state next e ts h g = subst (λ x. Completes x e ts) (sym (some-injective h)) g
 
 -- where a line may end, it goes on with no token
-ends : (place : State) (e : EntryBody) → entry_after_list place ≡ Some e → Completes place e []
+ends : (state : State) (e : EntryBody) → entry_after_list state ≡ Some e → Completes state e []
 ends (AfterItem (Defines k done w) d) e h = ([], ([], (refl, ([], (refl, rw append-nil (sym (some-injective h)))))))
 ends (AfterCommand g s) e h = inl ([], ([], (([], (refl, refl)), sym (some-injective h))))
 ends (AfterSwitch b d n name) e h = inl ([], (refl, sym (some-injective h)))
@@ -491,8 +491,8 @@ back-start t ts e next Other is h g = go (whole_list Users e (t ∷ ts) (back-it
     go (us, (after, (listed, (ss, (sections, is_e))))) =
         subst (λ x. Writes x (t ∷ ts)) (sym is_e) (t ∷ ts, ((is, refl), (after, (listed, sections))))
 
-pub backward : (room : Room) (place next : State) (t : Token) (ts : List Token) (e : EntryBody)
-    → step room place t ≡ Some next → Completes next e ts → Completes place e (t ∷ ts)
+pub backward : (room : Room) (state next : State) (t : Token) (ts : List Token) (e : EntryBody)
+    → step room state t ≡ Some next → Completes next e ts → Completes state e (t ∷ ts)
 backward room Start next t ts e h g = back-start t ts e next (opening_of t.kind) refl h g
 backward room (AliasName k d) next t ts e h g = back-name room k d t ts e next (name_of t.kind) refl h g
 backward room (AfterName k d w) next t ts e h g = back-equals k d w t ts e next t.kind refl h g
@@ -509,18 +509,18 @@ backward room (AtValue b d name operator) next t ts e h g = back-value b d name 
 backward room (AfterValue b d) next t ts e h g = back-after_value b d t ts e next t.kind refl h g
 backward room (Included folder hash path) next t ts e h g = cc
 
--- from a place on, what is read goes on so
-pub sound : (room : Room) (place : State) (ts : List Token) (e : EntryBody) → reading room place ts ≡ Ok e → Completes place e ts
-sound room place [] e h = go (entry_after_list place) refl h
+-- from a state on, what is read goes on so
+pub sound : (room : Room) (state : State) (ts : List Token) (e : EntryBody) → reading room state ts ≡ Ok e → Completes state e ts
+sound room state [] e h = go (entry_after_list state) refl h
   where
-    go : (r : Option EntryBody) → entry_after_list place ≡ r → entry_or_stop place r ≡ Ok e → Completes place e []
-    go (Some x) is h = ends place e (is ∙ ap Some (ok-injective h))
+    go : (r : Option EntryBody) → entry_after_list state ≡ r → entry_or_stop state r ≡ Ok e → Completes state e []
+    go (Some x) is h = ends state e (is ∙ ap Some (ok-injective h))
     go None is h = cc
-sound room place (t ∷ ts) e h = go (step room place t) refl h (λ next. sound room next ts e)
+sound room state (t ∷ ts) e h = go (step room state t) refl h (λ next. sound room next ts e)
   where
-    go : (r : Option State) → step room place t ≡ r
-        → elim r as (λ _. Result EntryBody Stop) [ Some next ↦ reading room next ts | None ↦ Err (stop_at place (t ∷ ts)) ] ≡ Ok e
+    go : (r : Option State) → step room state t ≡ r
+        → elim r as (λ _. Result EntryBody Stop) [ Some next ↦ reading room next ts | None ↦ Err (stop_at state (t ∷ ts)) ] ≡ Ok e
         → ((next : State) → reading room next ts ≡ Ok e → Completes next e ts)
-        → Completes place e (t ∷ ts)
-    go (Some next) is h hyp = backward room place next t ts e is (hyp next h)
+        → Completes state e (t ∷ ts)
+    go (Some next) is h hyp = backward room state next t ts e is (hyp next h)
     go None is h hyp = cc

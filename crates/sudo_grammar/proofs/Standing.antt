@@ -116,16 +116,16 @@ start-takes t a (BadDirective path) is h = absurd (user-first t.kind a path h is
 start-takes t a Other is h = (AfterItem Users (record { bangs = 0; token = t; atom = a } ∷ []), at_item-takes Users 0 [] t a h)
 
 module _ (room : Room) (front : List Token) where
-  step-begins : (place next : State) (t : Token) → state_after room Start front ≡ Some place → step room place t ≡ Some next
+  step-begins : (state next : State) (t : Token) → state_after room Start front ≡ Some state → step room state t ≡ Some next
       → BeginsEntry (front ++ t ∷ [])
-  step-begins place next t reached is = begins room (front ++ t ∷ []) next (state_after-step room Start place next front t reached is)
+  step-begins state next t reached is = begins room (front ++ t ∷ []) next (state_after-step room Start state next front t reached is)
 
-  may-end : (place : State) (e : EntryBody) → state_after room Start front ≡ Some place → entry_after_list place ≡ Some e
+  may-end : (state : State) (e : EntryBody) → state_after room Start front ≡ Some state → entry_after_list state ≡ Some e
       → CanStand wants.EndOfLine front
-  may-end place e reached is = (
+  may-end state e reached is = (
     e,
     sound room Start front e
-        (ap (reading room Start) (sym (append-nil front)) ∙ reading-front room Start place front [] reached ∙ ap (entry_or_stop place) is),
+        (ap (reading room Start) (sym (append-nil front)) ∙ reading-front room Start state front [] reached ∙ ap (entry_or_stop state) is),
   )
 
   name-stands : (k : Kind) (d : List Definition) → state_after room Start front ≡ Some (AliasName k d)
@@ -184,37 +184,37 @@ module _ (room : Room) (front : List Token) where
       (λ t word apart. step-begins (AfterItem (Binds k) d) _ t reached
       (binds-first k d t _ t.kind (word-parameter (Some (bound_to k d)) [] 0 t t.kind word)))
 
-  place-stands : (place : State) (ts : List Token) (x : Expected) → state_after room Start front ≡ Some place
-      → refused_at place ts ≡ refusals.Syntax x → CanStand x front
-  place-stands Start [] x reached h = start-stands [] Other x reached h
-  place-stands Start (t ∷ ts) x reached h = start-stands (t ∷ ts) (opening_of t.kind) x reached h
-  place-stands (AliasName k d) ts x reached h = subst (λ y. CanStand y front) (name-word ts x h) (name-stands k d reached)
-  place-stands (AfterName k d w) ts x reached h = fixed wants.Equals x h
+  state-stands : (state : State) (ts : List Token) (x : Expected) → state_after room Start front ≡ Some state
+      → refused_at state ts ≡ refusals.Syntax x → CanStand x front
+  state-stands Start [] x reached h = start-stands [] Other x reached h
+  state-stands Start (t ∷ ts) x reached h = start-stands (t ∷ ts) (opening_of t.kind) x reached h
+  state-stands (AliasName k d) ts x reached h = subst (λ y. CanStand y front) (name-word ts x h) (name-stands k d reached)
+  state-stands (AfterName k d w) ts x reached h = fixed wants.Equals x h
       (λ t is. step-begins (AfterName k d w) _ t reached (ap (after_name k d w) is))
-  place-stands (Item p n d) ts x reached h = member-stands (kind_for p) ts x h
+  state-stands (Item p n d) ts x reached h = member-stands (kind_for p) ts x h
       (λ t a is. step-begins (Item p n d) _ t reached (at_item-takes p n d t a is))
-  place-stands (AfterItem p d) ts x reached h =
+  state-stands (AfterItem p d) ts x reached h =
       after-stands p d ts x reached (no-option (last_command (kind_for p) d) ts (refusal_after_list p ts) x h)
-  place-stands (Command g r d n) ts x reached h = member-stands kinds.Cmnd ts x h
+  state-stands (Command g r d n) ts x reached h = member-stands kinds.Cmnd ts x h
       (λ t a is. step-begins (Command g r d n) _ t reached (at_command-takes g r d n t a is))
-  place-stands (AfterCommand g s) ts x reached h =
+  state-stands (AfterCommand g s) ts x reached h =
       fixed wants.EndOfLine x (no-option (Some s.command) ts (refusals.Syntax wants.EndOfLine) x h) (may-end (AfterCommand g s) _ reached refl)
-  place-stands (RunasStart g) ts x reached h = member-stands kinds.Runas ts x h
+  state-stands (RunasStart g) ts x reached h = member-stands kinds.Runas ts x h
       (λ t a is. step-begins (RunasStart g) _ t reached (runas-first room g t _ t.kind refl (at_item-takes (RunasUsers g) 0 [] t a is)))
-  place-stands (GroupsStart g us) ts x reached h = member-stands kinds.Runas ts x h
+  state-stands (GroupsStart g us) ts x reached h = member-stands kinds.Runas ts x h
       (λ t a is. step-begins (GroupsStart g us) _ t reached (groups-first room g us t _ t.kind refl (at_item-takes (RunasGroups g us) 0 [] t a is)))
-  place-stands DefaultsStart ts x reached h = fixed wants.Parameter x h
+  state-stands DefaultsStart ts x reached h = fixed wants.Parameter x h
       (λ t word apart. step-begins DefaultsStart _ t reached (ap (λ b. after_defaults b t) apart ∙ word-parameter None [] 0 t t.kind word))
-  place-stands (AtParameter b d n) ts x reached h = fixed wants.Parameter x h
+  state-stands (AtParameter b d n) ts x reached h = fixed wants.Parameter x h
       (λ t word apart. step-begins (AtParameter b d n) _ t reached (word-parameter b d n t t.kind word))
-  place-stands (AfterSwitch b d n name) ts x reached h =
+  state-stands (AfterSwitch b d n name) ts x reached h =
       fixed wants.EndOfLine x h (may-end (AfterSwitch b d n name) _ reached refl)
-  place-stands (AtValue b d name operator) ts x reached h = fixed wants.Value x h
+  state-stands (AtValue b d name operator) ts x reached h = fixed wants.Value x h
       (λ t word. step-begins (AtValue b d name operator) _ t reached (word-value b d name operator t t.kind word))
-  place-stands (AfterValue b d) ts x reached h = fixed wants.EndOfLine x h (may-end (AfterValue b d) _ reached refl)
-  place-stands (Included folder hash path) ts x reached h =
+  state-stands (AfterValue b d) ts x reached h = fixed wants.EndOfLine x h (may-end (AfterValue b d) _ reached refl)
+  state-stands (Included folder hash path) ts x reached h =
       fixed wants.EndOfLine x h (may-end (Included folder hash path) _ reached refl)
 
 pub stands : (room : Room) (ts : List Token) (stop : Stop) (f : IsGrammarFault room ts stop) (x : Expected)
     → stop.refusal ≡ refusals.Syntax x → CanStand x f.front
-stands room ts stop f x h = place-stands room f.front f.place stop.rest x f.reached (sym f.refusal ∙ h)
+stands room ts stop f x h = state-stands room f.front f.state stop.rest x f.reached (sym f.refusal ∙ h)

@@ -35,7 +35,7 @@ a = record { kind = tokens.Word false (record { byte = 65; escaped = false } ∷
 abbrev the_mark : Mark → Token
 the_mark m = record { kind = tokens.Mark m; start = 0; end = 1 }
 
--- tokens by which a line can go on to its end, after a list and from a place
+-- tokens by which a line can go on to its end, after a list and from a state
 abbrev finish_list : Purpose → List Token
 finish_list (Defines k d w) = []
 finish_list Users = all ∷ the_mark marks.Equals ∷ all ∷ []
@@ -63,7 +63,7 @@ finish (Included folder hash path) = []
 
 -- some entry goes on so
 abbrev IsLive : State → List Token → Type 0
-IsLive place ts = (room : Room) × ((e : EntryBody) × (reading room place ts ≡ Ok e))
+IsLive state ts = (room : Room) × ((e : EntryBody) × (reading room state ts ≡ Ok e))
 
 abbrev none : Room
 none k = 0
@@ -84,8 +84,8 @@ live-after (RunasUsers g) d = (none, (_, refl))
 live-after (RunasGroups g us) d = (none, (_, refl))
 live-after (Binds k) d = (none, (_, refl))
 
--- from each place a line can go on
-live : (place : State) → IsLive place (finish place)
+-- from each state a line can go on
+live : (state : State) → IsLive state (finish state)
 live Start = (none, (_, refl))
 live (AliasName k d) =
     let wide : Room = λ k. suc (length d) in
@@ -106,37 +106,37 @@ live (AtValue b d name operator) = (none, (_, refl))
 live (AfterValue b d) = (none, (_, refl))
 live (Included folder hash path) = (none, (_, refl))
 
--- what goes on from a place that was reached goes on from the place before
-pub completes-back : (room : Room) (place q : State) (front more : List Token) (e : EntryBody)
-    → state_after room place front ≡ Some q → Completes q e more → Completes place e (front ++ more)
-completes-back room place q [] more e h g = subst (λ x. Completes x e more) (sym (some-injective h)) g
-completes-back room place q (t ∷ ts) more e h g = go (step room place t) refl h (λ next h. completes-back room next q ts more e h g)
+-- what goes on from a state that was reached goes on from the state before
+pub completes-back : (room : Room) (state q : State) (front more : List Token) (e : EntryBody)
+    → state_after room state front ≡ Some q → Completes q e more → Completes state e (front ++ more)
+completes-back room state q [] more e h g = subst (λ x. Completes x e more) (sym (some-injective h)) g
+completes-back room state q (t ∷ ts) more e h g = go (step room state t) refl h (λ next h. completes-back room next q ts more e h g)
   where
-    go : (r : Option State) → step room place t ≡ r
+    go : (r : Option State) → step room state t ≡ r
         → elim r as (λ _. Option State) [ Some next ↦ state_after room next ts | None ↦ None ] ≡ Some q
         → ((next : State) → state_after room next ts ≡ Some q → Completes next e (ts ++ more))
-        → Completes place e (t ∷ ts ++ more)
-    go (Some next) is h hyp = backward room place next t (ts ++ more) e is (hyp next h)
+        → Completes state e (t ∷ ts ++ more)
+    go (Some next) is h hyp = backward room state next t (ts ++ more) e is (hyp next h)
     go None is h hyp = cc
 
--- a form begins with the tokens that lead to a place
+-- a form begins with the tokens that lead to a state
 pub begins : (room : Room) (front : List Token) (q : State) → state_after room Start front ≡ Some q → BeginsEntry front
 begins room front q h = go (live q)
   where
     go : IsLive q (finish q) → BeginsEntry front
     go (wide, (e, read)) = (e, finish q, completes-back room Start q front (finish q) e h (sound wide q (finish q) e read))
 
--- the reading of a front and more is that of what is left, from the place after the front
-pub reading-front : (room : Room) (place q : State) (front more : List Token) → state_after room place front ≡ Some q
-    → reading room place (front ++ more) ≡ reading room q more
-reading-front room place q [] more h = rw (some-injective h) refl
-reading-front room place q (t ∷ ts) more h = go (step room place t) refl h (λ next. reading-front room next q ts more)
+-- the reading of a front and more is that of what is left, from the state after the front
+pub reading-front : (room : Room) (state q : State) (front more : List Token) → state_after room state front ≡ Some q
+    → reading room state (front ++ more) ≡ reading room q more
+reading-front room state q [] more h = rw (some-injective h) refl
+reading-front room state q (t ∷ ts) more h = go (step room state t) refl h (λ next. reading-front room next q ts more)
   where
-    go : (r : Option State) → step room place t ≡ r
+    go : (r : Option State) → step room state t ≡ r
         → elim r as (λ _. Option State) [ Some next ↦ state_after room next ts | None ↦ None ] ≡ Some q
         → ((next : State) → state_after room next ts ≡ Some q → reading room next (ts ++ more) ≡ reading room q more)
-        → reading room place (t ∷ ts ++ more) ≡ reading room q more
-    go (Some next) is h hyp = reading-step room place next t (ts ++ more) is ∙ hyp next h
+        → reading room state (t ∷ ts ++ more) ≡ reading room q more
+    go (Some next) is h hyp = reading-step room state next t (ts ++ more) is ∙ hyp next h
     go None is h hyp = cc
 
 -- one room has all that another has
@@ -157,27 +157,27 @@ name-wide room wide covers k d (Some w) next h = go (ltb (length d) (room k)) re
         let still : length d < wide k = omega arith in
         rw (lt-ltb (length d) (wide k) still) h
 
-step-wide : (room wide : Room) → Covers room wide → (place next : State) (t : Token)
-    → step room place t ≡ Some next → step wide place t ≡ Some next
+step-wide : (room wide : Room) → Covers room wide → (state next : State) (t : Token)
+    → step room state t ≡ Some next → step wide state t ≡ Some next
 step-wide room wide covers (AliasName k d) next t h = name-wide room wide covers k d (name_of t.kind) next h
 step-wide room wide covers _ next t h = h
 
-pub state_after-wide : (room wide : Room) → Covers room wide → (place q : State) (ts : List Token)
-    → state_after room place ts ≡ Some q → state_after wide place ts ≡ Some q
-state_after-wide room wide covers place q [] h = h
-state_after-wide room wide covers place q (t ∷ ts) h =
-    go (step room place t) refl h (λ next. state_after-wide room wide covers next q ts)
+pub state_after-wide : (room wide : Room) → Covers room wide → (state q : State) (ts : List Token)
+    → state_after room state ts ≡ Some q → state_after wide state ts ≡ Some q
+state_after-wide room wide covers state q [] h = h
+state_after-wide room wide covers state q (t ∷ ts) h =
+    go (step room state t) refl h (λ next. state_after-wide room wide covers next q ts)
   where
-    go : (r : Option State) → step room place t ≡ r
+    go : (r : Option State) → step room state t ≡ r
         → elim r as (λ _. Option State) [ Some next ↦ state_after room next ts | None ↦ None ] ≡ Some q
         → ((next : State) → state_after room next ts ≡ Some q → state_after wide next ts ≡ Some q)
-        → state_after wide place (t ∷ ts) ≡ Some q
-    go (Some next) is h hyp = rw (step-wide room wide covers place next t is, state_after) (hyp next h)
+        → state_after wide state (t ∷ ts) ≡ Some q
+    go (Some next) is h hyp = rw (step-wide room wide covers state next t is, state_after) (hyp next h)
     go None is h hyp = cc
 
 -- no room makes the step
 abbrev NoStep : Room → State → Token → Type 0
-NoStep room place t = (wide : Room) → Covers room wide → step wide place t ≡ None
+NoStep room state t = (wide : Room) → Covers room wide → step wide state t ≡ None
 
 name-none : (room : Room) (k : Kind) (d : List Definition) (w : Option (List ℕ))
     → at_alias_name room k d w ≡ None
@@ -200,39 +200,39 @@ has_room : (room : Room) (e : EntryBody) → HasRoom (with_room room e) e
 has_room room (entries.Aliases k ds) = omega arith
 has_room room _ = tt
 
--- a form that begins with tokens that lead to a place is read on from there
-pub form-front : (room : Room) (place : State) (front more : List Token) (e : EntryBody)
-    → state_after room Start front ≡ Some place → Writes e (front ++ more) → reading (with_room room e) place more ≡ Ok e
-form-front room place front more e reached w =
+-- a form that begins with tokens that lead to a state is read on from there
+pub form-front : (room : Room) (state : State) (front more : List Token) (e : EntryBody)
+    → state_after room Start front ≡ Some state → Writes e (front ++ more) → reading (with_room room e) state more ≡ Ok e
+form-front room state front more e reached w =
     let wide : Room = with_room room e in
     let covers : Covers room wide = λ k. omega arith in
-    sym (reading-front wide Start place front more (state_after-wide room wide covers Start place front reached))
+    sym (reading-front wide Start state front more (state_after-wide room wide covers Start state front reached))
     ∙ entry-read wide e (front ++ more) w (has_room room e)
 
 -- no form begins with a front and a token that no step takes
-dead : (room : Room) (place : State) (t : Token) (front : List Token) → state_after room Start front ≡ Some place
-    → NoStep room place t → BeginsEntry (front ++ t ∷ []) → ⊥
-dead room place t front reached none (e, rest, w) =
+dead : (room : Room) (state : State) (t : Token) (front : List Token) → state_after room Start front ≡ Some state
+    → NoStep room state t → BeginsEntry (front ++ t ∷ []) → ⊥
+dead room state t front reached none (e, rest, w) =
     let covers : Covers room (with_room room e) = λ k. omega arith in
     let whole : (front ++ t ∷ []) ++ rest ≡ front ++ t ∷ rest = rw append_assoc refl in
-    let read : reading (with_room room e) place (t ∷ rest) ≡ Ok e =
-    form-front room place front (t ∷ rest) e reached (subst (λ x. Writes e x) whole w) in
-    let same : ◌≡◌ {A = Result EntryBody Stop} (Ok e) (Err (stop_at place (t ∷ rest))) =
-    sym read ∙ reading-stops (with_room room e) place t rest (none (with_room room e) covers) in
+    let read : reading (with_room room e) state (t ∷ rest) ≡ Ok e =
+    form-front room state front (t ∷ rest) e reached (subst (λ x. Writes e x) whole w) in
+    let same : ◌≡◌ {A = Result EntryBody Stop} (Ok e) (Err (stop_at state (t ∷ rest))) =
+    sym read ∙ reading-stops (with_room room e) state t rest (none (with_room room e) covers) in
     cc
 
 -- nor is a front a form where the line can't end
-dead-end : (room : Room) (place : State) (front : List Token) → state_after room Start front ≡ Some place
-    → entry_after_list place ≡ None → (e : EntryBody) → Writes e front → ⊥
-dead-end room place front reached none e w =
-    let read : reading (with_room room e) place [] ≡ Ok e =
-    form-front room place front [] e reached (subst (λ x. Writes e x) (sym (append-nil front)) w) in
-    let stops : reading (with_room room e) place [] ≡ Err (stop_at place []) = ap (entry_or_stop place) none in
-    let same : ◌≡◌ {A = Result EntryBody Stop} (Ok e) (Err (stop_at place [])) = sym read ∙ stops in
+dead-end : (room : Room) (state : State) (front : List Token) → state_after room Start front ≡ Some state
+    → entry_after_list state ≡ None → (e : EntryBody) → Writes e front → ⊥
+dead-end room state front reached none e w =
+    let read : reading (with_room room e) state [] ≡ Ok e =
+    form-front room state front [] e reached (subst (λ x. Writes e x) (sym (append-nil front)) w) in
+    let stops : reading (with_room room e) state [] ≡ Err (stop_at state []) = ap (entry_or_stop state) none in
+    let same : ◌≡◌ {A = Result EntryBody Stop} (Ok e) (Err (stop_at state [])) = sym read ∙ stops in
     cc
 
-stuck : (room : Room) (place : State) (t : Token) (front ts : List Token) → state_after room Start front ≡ Some place
-    → step room place t ≡ None → IsStuck room front (t ∷ ts)
+stuck : (room : Room) (state : State) (t : Token) (front ts : List Token) → state_after room Start front ≡ Some state
+    → step room state t ≡ None → IsStuck room front (t ∷ ts)
 stuck room (AliasName k d) t front ts reached none = go (name-none room k d (name_of t.kind) none)
   where
     go : ((wide : Room) → Covers room wide → at_alias_name wide k d (name_of t.kind) ≡ None)
@@ -240,19 +240,19 @@ stuck room (AliasName k d) t front ts reached none = go (name-none room k d (nam
         → IsStuck room front (t ∷ ts)
     go (inl all) = inl (dead room (AliasName k d) t front reached all)
     go (inr (v, (is, full))) = inr (k, (d, (v, (reached, is, full))))
-stuck room place t front ts reached none = inl (dead room place t front reached (λ wide covers. none))
+stuck room state t front ts reached none = inl (dead room state t front reached (λ wide covers. none))
 
 -- no step leads on, or the line can't end
 abbrev pub IsHalted : Room → State → List Token → Type 0
-IsHalted room place [] = entry_after_list place ≡ None
-IsHalted room place (t ∷ ts) = step room place t ≡ None
+IsHalted room state [] = entry_after_list state ≡ None
+IsHalted room state (t ∷ ts) = step room state t ≡ None
 
--- Reading stops at a place that the tokens before lead to, and from which no step leads on.
-record Halts (room : Room) (place : State) (ts : List Token) (stop : Stop) : Type 0 where
+-- Reading stops at a state that the tokens before lead to, and from which no step leads on.
+record Halts (room : Room) (state : State) (ts : List Token) (stop : Stop) : Type 0 where
   front : List Token
   whole : ts ≡ front ++ stop.rest
   last : State
-  reached : state_after room place front ≡ Some last
+  reached : state_after room state front ≡ Some last
   refusal : stop.refusal ≡ refused_at last stop.rest
   halted : IsHalted room last stop.rest
 
@@ -260,9 +260,9 @@ pub err-injective : {A B : Type 0} {x y : B} → ◌≡◌ {A = Result A B} (Err
 err-injective h = cc
 
 -- a halt one token on
-halts-back : (room : Room) (place next : State) (t : Token) (ts : List Token) (stop : Stop)
-    → step room place t ≡ Some next → Halts room next ts stop → Halts room place (t ∷ ts) stop
-halts-back room place next t ts stop is h = record {
+halts-back : (room : Room) (state next : State) (t : Token) (ts : List Token) (stop : Stop)
+    → step room state t ≡ Some next → Halts room next ts stop → Halts room state (t ∷ ts) stop
+halts-back room state next t ts stop is h = record {
   front = t ∷ h.front;
   whole = ap (λ x. t ∷ x) h.whole;
   last = h.last;
@@ -271,28 +271,28 @@ halts-back room place next t ts stop is h = record {
   halted = h.halted;
 }
 
-halts : (room : Room) (place : State) (ts : List Token) (stop : Stop) → reading room place ts ≡ Err stop
-    → Halts room place ts stop
-halts room place [] stop h = go (entry_after_list place) refl h
+halts : (room : Room) (state : State) (ts : List Token) (stop : Stop) → reading room state ts ≡ Err stop
+    → Halts room state ts stop
+halts room state [] stop h = go (entry_after_list state) refl h
   where
-    go : (r : Option EntryBody) → entry_after_list place ≡ r → entry_or_stop place r ≡ Err stop → Halts room place [] stop
+    go : (r : Option EntryBody) → entry_after_list state ≡ r → entry_or_stop state r ≡ Err stop → Halts room state [] stop
     go (Some x) is h = cc
-    go None is h = subst (λ x. Halts room place [] x) (err-injective h)
-        (record { front = []; whole = refl; last = place; reached = refl; refusal = refl; halted = is })
-halts room place (t ∷ ts) stop h = go (step room place t) refl h (λ next. halts room next ts stop)
+    go None is h = subst (λ x. Halts room state [] x) (err-injective h)
+        (record { front = []; whole = refl; last = state; reached = refl; refusal = refl; halted = is })
+halts room state (t ∷ ts) stop h = go (step room state t) refl h (λ next. halts room next ts stop)
   where
-    go : (r : Option State) → step room place t ≡ r
-        → elim r as (λ _. Result EntryBody Stop) [ Some next ↦ reading room next ts | None ↦ Err (stop_at place (t ∷ ts)) ] ≡ Err stop
+    go : (r : Option State) → step room state t ≡ r
+        → elim r as (λ _. Result EntryBody Stop) [ Some next ↦ reading room next ts | None ↦ Err (stop_at state (t ∷ ts)) ] ≡ Err stop
         → ((next : State) → reading room next ts ≡ Err stop → Halts room next ts stop)
-        → Halts room place (t ∷ ts) stop
-    go (Some next) is h hyp = halts-back room place next t ts stop is (hyp next h)
-    go None is h hyp = subst (λ x. Halts room place (t ∷ ts) x) (err-injective h)
-        (record { front = []; whole = refl; last = place; reached = refl; refusal = refl; halted = is })
+        → Halts room state (t ∷ ts) stop
+    go (Some next) is h hyp = halts-back room state next t ts stop is (hyp next h)
+    go None is h hyp = subst (λ x. Halts room state (t ∷ ts) x) (err-injective h)
+        (record { front = []; whole = refl; last = state; reached = refl; refusal = refl; halted = is })
 
-halted-stuck : (room : Room) (front rest : List Token) (place : State) → state_after room Start front ≡ Some place
-    → IsHalted room place rest → IsStuck room front rest
-halted-stuck room front [] place reached none = dead-end room place front reached none
-halted-stuck room front (t ∷ ts) place reached none = stuck room place t front ts reached none
+halted-stuck : (room : Room) (front rest : List Token) (state : State) → state_after room Start front ≡ Some state
+    → IsHalted room state rest → IsStuck room front rest
+halted-stuck room front [] state reached none = dead-end room state front reached none
+halted-stuck room front (t ∷ ts) state reached none = stuck room state t front ts reached none
 
 pub leftmost : (room : Room) (ts : List Token) (stop : Stop) → reading room Start ts ≡ Err stop
     → IsGrammarFault room ts stop
@@ -304,7 +304,7 @@ leftmost room ts stop h = go (halts room Start ts stop h)
       whole = x.whole;
       begins = begins room x.front x.last x.reached;
       stuck = halted-stuck room x.front stop.rest x.last x.reached x.halted;
-      place = x.last;
+      state = x.last;
       reached = x.reached;
       refusal = x.refusal;
     }

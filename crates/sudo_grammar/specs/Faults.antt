@@ -43,6 +43,6 @@ pub record IsGrammarFault (room : Room) (ts : List Token) (stop : Stop) : Type 0
   pub whole : ts ≡ front ++ stop.rest
   pub begins : BeginsEntry front
   pub stuck : IsStuck room front stop.rest
-  pub place : State
-  pub reached : state_after room Start front ≡ Some place
-  pub refusal : stop.refusal ≡ refused_at place stop.rest
+  pub state : State
+  pub reached : state_after room Start front ≡ Some state
+  pub refusal : stop.refusal ≡ refused_at state stop.rest

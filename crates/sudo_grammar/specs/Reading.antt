@@ -13,14 +13,14 @@ pub record Stop : Type 0 where
   pub refusal : Refusal
 
 abbrev pub stop_at : State → List Token → Stop
-stop_at place ts = record { rest = ts; refusal = refused_at place ts }
+stop_at state ts = record { rest = ts; refusal = refused_at state ts }
 
 abbrev pub entry_or_stop : State → Option EntryBody → Result EntryBody Stop
-entry_or_stop place (Some e) = Ok e
-entry_or_stop place None = Err (stop_at place [])
+entry_or_stop state (Some e) = Ok e
+entry_or_stop state None = Err (stop_at state [])
 
 -- the entry of the tokens from a state on, or the refusal of the first of them that cannot continue the line
 abbrev pub reading : Room → State → List Token → Result EntryBody Stop
-reading room place [] = entry_or_stop place (entry_after_list place)
-reading room place (t ∷ ts) = elim (step room place t)
-    [ Some next ↦ reading room next ts | None ↦ Err (stop_at place (t ∷ ts)) ]
+reading room state [] = entry_or_stop state (entry_after_list state)
+reading room state (t ∷ ts) = elim (step room state t)
+    [ Some next ↦ reading room next ts | None ↦ Err (stop_at state (t ∷ ts)) ]

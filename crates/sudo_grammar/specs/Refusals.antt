@@ -36,8 +36,8 @@ is_next m [] = false
 is_next m (t ∷ ts) = is_mark m t.kind
 
 abbrev pub is_next_at : ℕ → Mark → List Token → Bool
-is_next_at place m [] = false
-is_next_at place m (t ∷ ts) = is_mark m t.kind && (t.start == place)
+is_next_at offset m [] = false
+is_next_at offset m (t ∷ ts) = is_mark m t.kind && (t.start == offset)
 
 -- a refusal, or the one that the next token decides: `%` with a colon directly after it is a non-Unix group, and the
 -- name of a digest with a colon after it is a digest

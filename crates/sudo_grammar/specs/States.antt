@@ -279,5 +279,5 @@ entry_after_list _ = None
 
 -- the state after tokens, if a line can begin with them
 abbrev pub state_after : Room → State → List Token → Option State
-state_after room place [] = Some place
-state_after room place (t ∷ ts) = elim (step room place t) [ Some next ↦ state_after room next ts | None ↦ None ]
+state_after room state [] = Some state
+state_after room state (t ∷ ts) = elim (step room state t) [ Some next ↦ state_after room next ts | None ↦ None ]

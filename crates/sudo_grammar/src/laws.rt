@@ -59,10 +59,10 @@ pub fn expected_could_stand()
 /// Each parser state accepts exactly the remaining forms: after the tokens that lead to it, further tokens complete an
 /// entry exactly if they have one of these forms.
 pub fn states_mean_forms()
-    ensures completes { (room : Room) (front : List Token) (place : State) (e : EntryBody)
-        (ts : List Token) → state_after room Start front ≡ Some place → Writes e (front ++ ts)
-        → Completes place e ts }
-    ensures is_written { (room : Room) (front : List Token) (place : State) (e : EntryBody)
-        (ts : List Token) → state_after room Start front ≡ Some place → Completes place e ts
+    ensures completes { (room : Room) (front : List Token) (state : State) (e : EntryBody)
+        (ts : List Token) → state_after room Start front ≡ Some state → Writes e (front ++ ts)
+        → Completes state e ts }
+    ensures is_written { (room : Room) (front : List Token) (state : State) (e : EntryBody)
+        (ts : List Token) → state_after room Start front ≡ Some state → Completes state e ts
         → Writes e (front ++ ts) }
 {}

@@ -50,10 +50,10 @@ pub gives : (P Q : Outcome → Type 0) (result : Result LoadState Refusal) → G
 gives P Q (Ok loaded) given follows = follows (Ok loaded) given
 gives P Q (Err refusal) given follows = (λ no_memory. follows (Err refusal) (given.0 no_memory), given.1)
 
-pub names_load : (include : Inclusion) (loaded : LoadState) (place : Place) (path p : List ℕ) (names n : List (List ℕ)) (paths : List (List ℕ)) (outcome : Outcome)
+pub names-load : (include : Inclusion) (loaded : LoadState) (place : Place) (path p : List ℕ) (names n : List (List ℕ)) (paths : List (List ℕ)) (outcome : Outcome)
     → p ≡ path → n ≡ names → (ordered : List (List ℕ)) × IsFolderOrder n ordered × (paths ≡ map (in_folder p) ordered)
     → FilesLoad include (with_folder loaded) place paths outcome → NamesLoad include loaded place path (Some names) outcome
-names_load include loaded place path p names n paths outcome same_path same_names (ordered, is, eq) loads = (
+names-load include loaded place path p names n paths outcome same_path same_names (ordered, is, eq) loads = (
   ordered,
   subst (λ m. IsFolderOrder m ordered) same_names is,
   subst (λ q. FilesLoad include (with_folder loaded) place q outcome) (eq ∙ ap (λ q. map (in_folder q) ordered) same_path) loads,

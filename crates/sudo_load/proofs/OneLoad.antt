@@ -9,7 +9,7 @@ use Rattle.sudo_grammar.specs.declared.policy.Policy.{Policy}
 use Rattle.sudo_grammar.specs.declared.fault.ParseFault.{ParseFault}
 use Rattle.sudo_grammar.specs.declared.fault.ParseFault.TheVariants as parses
 use Rattle.sudo_parser.specs.Parsed.{AreEntries, IsFirstFault, over_limit}
-use Rattle.sudo_parser.proofs.OneReading.{one_entries, one_first_fault, entries_no_fault}
+use Rattle.sudo_parser.proofs.OneReading.{one_entries, one_first_fault, entries-no-fault}
 use Rattle.sudo_load.specs.declared.loading.LoadState.{LoadState}
 use Rattle.sudo_load.specs.declared.supply.Supply.{Supply}
 use Rattle.sudo_load.specs.Files.{HasContent}
@@ -34,7 +34,7 @@ one_lines file text a b is other = ok_is (lines_of file text) a b is other
 has_content-apart : (file : ℕ) (text : List ℕ) (entries : List Entry) (fault : ParseFault) → HasContent file text (Ok entries) → HasContent file text (Err fault) → ⊥
 has_content-apart file text entries fault (lines, is, are) (inl (why, other, same)) = ok_err (lines_of file text) lines why is other
 has_content-apart file text entries fault (lines, is, are) (inr (lines2, other, first)) =
-    entries_no_fault [] lines entries fault are (subst (λ ls. IsFirstFault ls fault) (sym (one_lines file text lines lines2 is other)) first)
+    entries-no-fault [] lines entries fault are (subst (λ ls. IsFirstFault ls fault) (sym (one_lines file text lines lines2 is other)) first)
 
 one_fault_read : (file : ℕ) (text : List ℕ) (a b : ParseFault) → HasContent file text (Err a) → HasContent file text (Err b) → a ≡ b
 one_fault_read file text a b (inl (why, is, same)) (inl (why2, is2, same2)) = same ∙ (ap parses.Text (err_is (lines_of file text) why why2 is is2) ∙ sym same2)
@@ -71,10 +71,10 @@ files_one include one loaded place (path ∷ paths) a b (first, loads, onward) (
 order_one : (names a b : List (List ℕ)) → IsFolderOrder names a → IsFolderOrder names b → a ≡ b
 order_one names a b is other = one_sorted (filter is_kept names) a b is.0 is.1 other.0 other.1
 
-names_one : (include : Inclusion) → IsOne include → (loaded : LoadState) (place : Place) (path : List ℕ) (names : Option (List (List ℕ))) (a b : Outcome)
+names-one : (include : Inclusion) → IsOne include → (loaded : LoadState) (place : Place) (path : List ℕ) (names : Option (List (List ℕ))) (a b : Outcome)
     → NamesLoad include loaded place path names a → NamesLoad include loaded place path names b → a ≡ b
-names_one include one loaded place path None a b loads other = one_is _ a b loads other
-names_one include one loaded place path (Some names) a b (ordered, order, loads) (ordered2, order2, other) =
+names-one include one loaded place path None a b loads other = one_is _ a b loads other
+names-one include one loaded place path (Some names) a b (ordered, order, loads) (ordered2, order2, other) =
     files_one include one (with_folder loaded) place (map (in_folder path) ordered) a b loads
     (subst (λ o. FilesLoad include (with_folder loaded) place (map (in_folder path) o) b) (sym (order_one names ordered ordered2 order order2)) other)
 
@@ -86,34 +86,34 @@ folder_one : (include : Inclusion) → IsOne include → (supplies : List Supply
     → FolderLoads include supplies loaded place path a → FolderLoads include supplies loaded place path b → a ≡ b
 folder_one include one supplies loaded place path a b loads other =
     if_one (nat_lt loaded.folders 1024) (NamesLoad include loaded place path (supplied_folder supplies path) a) (NamesLoad include loaded place path (supplied_folder supplies path) b) _ _ a b loads other
-    (λ x y. names_one include one loaded place path (supplied_folder supplies path) a b x y) (λ x y. one_is _ a b x y)
+    (λ x y. names-one include one loaded place path (supplied_folder supplies path) a b x y) (λ x y. one_is _ a b x y)
 
-include_one : (include : Inclusion) → IsOne include → (supplies : List Supply) (loaded : LoadState) (place : Place) (folder : Bool) (path : List ℕ) (a b : Outcome)
+include-one : (include : Inclusion) → IsOne include → (supplies : List Supply) (loaded : LoadState) (place : Place) (folder : Bool) (path : List ℕ) (a b : Outcome)
     → IncludeLoads include supplies loaded place folder path a → IncludeLoads include supplies loaded place folder path b → a ≡ b
-include_one include one supplies loaded place true path a b loads other = folder_one include one supplies loaded place path a b loads other
-include_one include one supplies loaded place false path a b loads other = one loaded place path a b loads other
+include-one include one supplies loaded place true path a b loads other = folder_one include one supplies loaded place path a b loads other
+include-one include one supplies loaded place false path a b loads other = one loaded place path a b loads other
 
-entry_one : (include : Inclusion) → IsOne include → (supplies : List Supply) (loaded : LoadState) (entry : Entry) (named : Option (Bool × List ℕ)) (a b : Outcome)
+entry-one : (include : Inclusion) → IsOne include → (supplies : List Supply) (loaded : LoadState) (entry : Entry) (named : Option (Bool × List ℕ)) (a b : Outcome)
     → EntryLoadsBy include supplies loaded entry named a → EntryLoadsBy include supplies loaded entry named b → a ≡ b
-entry_one include one supplies loaded entry None a b loads other = one_is (Ok (with_entry loaded entry)) a b loads other
-entry_one include one supplies loaded entry (Some named) a b loads other = include_one include one supplies loaded entry.place named.0 named.1 a b loads other
+entry-one include one supplies loaded entry None a b loads other = one_is (Ok (with_entry loaded entry)) a b loads other
+entry-one include one supplies loaded entry (Some named) a b loads other = include-one include one supplies loaded entry.place named.0 named.1 a b loads other
 
-entries_one : (include : Inclusion) → IsOne include → (supplies : List Supply) (file : List ℕ) (loaded : LoadState) (entries : List Entry) (a b : Outcome)
+entries-one : (include : Inclusion) → IsOne include → (supplies : List Supply) (file : List ℕ) (loaded : LoadState) (entries : List Entry) (a b : Outcome)
     → EntriesLoad include supplies file loaded entries a → EntriesLoad include supplies file loaded entries b → a ≡ b
-entries_one include one supplies file loaded [] a b loads other = one_is (Ok loaded) a b loads other
-entries_one include one supplies file loaded (entry ∷ entries) a b (first, loads, onward) (second, other, later) =
+entries-one include one supplies file loaded [] a b loads other = one_is (Ok loaded) a b loads other
+entries-one include one supplies file loaded (entry ∷ entries) a b (first, loads, onward) (second, other, later) =
     then_one (λ after. EntriesLoad include supplies file after entries) first second a b
-    (entry_one include one supplies loaded entry (include_of file entry.body) first second loads other) onward later
-    (λ after x y. entries_one include one supplies file after entries a b x y)
+    (entry-one include one supplies loaded entry (include_of file entry.body) first second loads other) onward later
+    (λ after x y. entries-one include one supplies file after entries a b x y)
 
 lines_one : (include : Inclusion) → IsOne include → (supplies : List Supply) (file : List ℕ) (loaded : LoadState) (read : Result (List Entry) ParseFault) (a b : Outcome)
     → LinesLoad include supplies file loaded read a → LinesLoad include supplies file loaded read b → a ≡ b
-lines_one include one supplies file loaded (Ok entries) a b loads other = entries_one include one supplies file loaded entries a b loads other
+lines_one include one supplies file loaded (Ok entries) a b loads other = entries-one include one supplies file loaded entries a b loads other
 lines_one include one supplies file loaded (Err fault) a b loads other = one_is _ a b loads other
 
-text_one : (include : Inclusion) → IsOne include → (supplies : List Supply) (loaded : LoadState) (path text : List ℕ) (a b : Outcome)
+text-one : (include : Inclusion) → IsOne include → (supplies : List Supply) (loaded : LoadState) (path text : List ℕ) (a b : Outcome)
     → TextLoads include supplies loaded path text a → TextLoads include supplies loaded path text b → a ≡ b
-text_one include one supplies loaded path text a b (read, reads, loads) (read2, reads2, other) =
+text-one include one supplies loaded path text a b (read, reads, loads) (read2, reads2, other) =
     lines_one include one supplies path (with_file loaded path) read a b loads
     (subst (λ r. LinesLoad include supplies path (with_file loaded path) r b) (sym (one_read (length loaded.files) text read read2 reads reads2)) other)
 
@@ -121,7 +121,7 @@ supplied_one : (include : Inclusion) → IsOne include → (supplies : List Supp
     → SuppliedLoads include supplies loaded place path found a → SuppliedLoads include supplies loaded place path found b → a ≡ b
 supplied_one include one supplies loaded place path None a b loads other = one_is _ a b loads other
 supplied_one include one supplies loaded place path (Some None) a b loads other = one_is _ a b loads other
-supplied_one include one supplies loaded place path (Some (Some text)) a b loads other = text_one include one supplies loaded path text a b loads other
+supplied_one include one supplies loaded place path (Some (Some text)) a b loads other = text-one include one supplies loaded path text a b loads other
 
 file_one : (levels : ℕ) (supplies : List Supply) → IsOne (FileLoads levels supplies)
 unfolding FileLoads
@@ -150,5 +150,5 @@ closes_by_one (Err refusal) a b is other = refused_both refusal a b is other
 
 pub one_load : (path text : List ℕ) (supplies : List Supply) (a b : Result Policy Refusal) → IsLoad path text supplies a → IsLoad path text supplies b → SameLoad a b
 one_load path text supplies a b (outcome, unfolds, closes) (outcome2, unfolds2, closes2) =
-    let same : outcome ≡ outcome2 = text_one (FileLoads 128 supplies) (file_one 128 supplies) supplies (record { files = []; folders = 0; entries = [] }) path text outcome outcome2 unfolds unfolds2 in
+    let same : outcome ≡ outcome2 = text-one (FileLoads 128 supplies) (file_one 128 supplies) supplies (record { files = []; folders = 0; entries = [] }) path text outcome outcome2 unfolds unfolds2 in
     closes_by_one outcome a b closes (subst (λ o. ClosesBy o b) (sym same) closes2)

@@ -4,6 +4,7 @@ use Rattle.std.proofs.Common.{◌≡◌, ℕ, zero, suc, ◌+◌, ◌<◌, ◌�
 use Rattle.std.specs.Prelude.{⊤, ◌≢◌, not, nat_lt, map, ◌&&◌, if◌then◌else◌}
 use Rattle.std.specs.List.{list_all}
 use Rattle.std.proofs.lemmas.Bool.Decides.{nat_tests}
+use Rattle.std.proofs.lemmas.Bool.{and_from}
 use Rattle.sudo_text.specs.declared.line.Line.{Line}
 use Rattle.sudo_text.specs.declared.line.Place.{Place}
 use Rattle.sudo_text.specs.declared.fault.TextFault.{TextFault}
@@ -83,39 +84,39 @@ said_in : (file : ℕ) (line : Line) (said : Option EntryBody) (rest : List Entr
 said_in file line None rest at more = more
 said_in file line (Some body) rest at more = (at, more)
 
-entries_in : (file : ℕ) (before : List Entry) (lines : List Line) (entries : List Entry) → InFile file lines → AreEntriesAfter before lines entries → EntriesIn file entries
-entries_in file before [] entries at are = subst (EntriesIn file) (sym are) tt
-entries_in file before (line ∷ lines) entries at (said, rest, says, are, whole) =
-    subst (EntriesIn file) (sym whole) (said_in file line said rest at.0 (entries_in file (before ++ entry_of line said) lines rest at.1 are))
+entries-in : (file : ℕ) (before : List Entry) (lines : List Line) (entries : List Entry) → InFile file lines → AreEntriesAfter before lines entries → EntriesIn file entries
+entries-in file before [] entries at are = subst (EntriesIn file) (sym are) tt
+entries-in file before (line ∷ lines) entries at (said, rest, says, are, whole) =
+    subst (EntriesIn file) (sym whole) (said_in file line said rest at.0 (entries-in file (before ++ entry_of line said) lines rest at.1 are))
 
 -- What the file of this number says stands in it.
 pub read_in : (file : ℕ) (text : List ℕ) (entries : List Entry) → HasContent file text (Ok entries) → EntriesIn file entries
-read_in file text entries (lines, is, are) = entries_in file [] lines entries (lines_in file text lines is) are
+read_in file text entries (lines, is, are) = entries-in file [] lines entries (lines_in file text lines is) are
 
-text_file_of : (fault : TextFault) (place : Place) → fault_place fault ≡ Some place → text_file fault ≡ Some place.file
-text_file_of (texts.BadQuote found col) place is = cc
-text_file_of (texts.BadHex found col) place is = cc
-text_file_of (texts.BadEscape found col) place is = cc
-text_file_of (texts.NotPrintable found col) place is = cc
-text_file_of (texts.TooLong file) place is = absurd cc
-text_file_of texts.Memory place is = absurd cc
+text_file-of : (fault : TextFault) (place : Place) → fault_place fault ≡ Some place → text_file fault ≡ Some place.file
+text_file-of (texts.BadQuote found col) place is = cc
+text_file-of (texts.BadHex found col) place is = cc
+text_file-of (texts.BadEscape found col) place is = cc
+text_file-of (texts.NotPrintable found col) place is = cc
+text_file-of (texts.TooLong file) place is = absurd cc
+text_file-of texts.Memory place is = absurd cc
 
-refusal_in : (first : Place) (col : ℕ) (refusal : GrammarRefusal) → parse_file (fault_at first col refusal) ≡ Some first.file
-refusal_in first col (refusals.Syntax expected) = refl
-refusal_in first col (refusals.Unsupported what) = refl
-refusal_in first col refusals.NotCommand = refl
-refusal_in first col refusals.BadNumber = refl
-refusal_in first col refusals.TooMany = refl
+refusal-in : (first : Place) (col : ℕ) (refusal : GrammarRefusal) → parse_file (fault_at first col refusal) ≡ Some first.file
+refusal-in first col (refusals.Syntax expected) = refl
+refusal-in first col (refusals.Unsupported what) = refl
+refusal-in first col refusals.NotCommand = refl
+refusal-in first col refusals.BadNumber = refl
+refusal-in first col refusals.TooMany = refl
 
-line_fault_in : (file : ℕ) (room : Kind → ℕ) (line : Line) (fault : ParseFault) → line.first.file ≡ file → IsLineFault room line fault → StandsIn file (parse_file fault)
-line_fault_in file room line fault at (inl text) =
-    subst (StandsIn file) (sym (ap parse_file text.is ∙ text_file_of text.text line.first (faults_placed line text.text text.leftmost))) at
-line_fault_in file room line fault at (inr grammar) =
-    subst (StandsIn file) (sym (ap parse_file grammar.is ∙ refusal_in line.first (column line grammar.stop.rest) grammar.stop.refusal)) at
+line-fault-in : (file : ℕ) (room : Kind → ℕ) (line : Line) (fault : ParseFault) → line.first.file ≡ file → IsLineFault room line fault → StandsIn file (parse_file fault)
+line-fault-in file room line fault at (inl text) =
+    subst (StandsIn file) (sym (ap parse_file text.is ∙ text_file-of text.text line.first (faults_placed line text.text text.leftmost))) at
+line-fault-in file room line fault at (inr grammar) =
+    subst (StandsIn file) (sym (ap parse_file grammar.is ∙ refusal-in line.first (column line grammar.stop.rest) grammar.stop.refusal)) at
 
 first_fault_in : (file : ℕ) (before : List Entry) (lines : List Line) (fault : ParseFault) → InFile file lines → IsFirstFaultAfter before lines fault → StandsIn file (parse_file fault)
 first_fault_in file before [] fault at is = absurd is
-first_fault_in file before (line ∷ lines) fault at (inl here) = line_fault_in file (room_after before) line fault at.0 here
+first_fault_in file before (line ∷ lines) fault at (inl here) = line-fault-in file (room_after before) line fault at.0 here
 first_fault_in file before (line ∷ lines) fault at (inr (said, says, later)) = first_fault_in file (before ++ entry_of line said) lines fault at.1 later
 
 -- A fault of the file of this number stands in it.
@@ -130,10 +131,6 @@ stands_below file n (Some found) below at = omega (arith, below, at)
 lt_more : (n m k : ℕ) → n ≤ m → nat_lt k n ≡ true → nat_lt k m ≡ true
 lt_more n m k le h = grind (arith, nat_tests)
 
-and_both : (a b : Bool) → a ≡ true → b ≡ true → (a && b) ≡ true
-and_both true b x y = y
-and_both false b x y = absurd cc
-
 and_first : (a b : Bool) → (a && b) ≡ true → a ≡ true
 and_first true b x = refl
 and_first false b x = x
@@ -145,12 +142,12 @@ and_second false b x = absurd cc
 placed_more : (n m : ℕ) (entries : List Entry) → n ≤ m → placed_in n entries ≡ true → placed_in m entries ≡ true
 placed_more n m [] le h = refl
 placed_more n m (e ∷ es) le h =
-    and_both (nat_lt e.place.file m) (placed_in m es) (lt_more n m e.place.file le (and_first (nat_lt e.place.file n) (placed_in n es) h))
+    and_from (nat_lt e.place.file m) (placed_in m es) (lt_more n m e.place.file le (and_first (nat_lt e.place.file n) (placed_in n es) h))
     (placed_more n m es le (and_second (nat_lt e.place.file n) (placed_in n es) h))
 
 all_push : (p : Entry → Bool) (entries : List Entry) (entry : Entry) → list_all p entries ≡ true → p entry ≡ true → list_all p (entries ++ entry ∷ []) ≡ true
-all_push p [] entry h k = and_both (p entry) true k refl
-all_push p (e ∷ es) entry h k = and_both (p e) (list_all p (es ++ entry ∷ [])) (and_first (p e) (list_all p es) h) (all_push p es entry (and_second (p e) (list_all p es) h) k)
+all_push p [] entry h k = and_from (p entry) true k refl
+all_push p (e ∷ es) entry h k = and_from (p e) (list_all p (es ++ entry ∷ [])) (and_first (p e) (list_all p es) h) (all_push p es entry (and_second (p e) (list_all p es) h) k)
 
 fine_file : (loaded : LoadState) (path : List ℕ) → IsConsistent loaded → IsConsistent (with_file loaded path)
 fine_file loaded path fine = record {
@@ -200,10 +197,10 @@ files_keep include keeps loaded place (path ∷ paths) outcome fine at (first, l
     then_fine (length loaded.files) first (λ after. FilesLoad include after place paths) outcome (keeps loaded place path first fine at loads) onward
     (λ after good more goes. files_keep include keeps after place paths outcome good (omega (arith, at, more)) goes)
 
-names_keep : (include : Inclusion) → Keeps include → (loaded : LoadState) (place : Place) (path : List ℕ) (names : Option (List (List ℕ))) (outcome : Outcome) → IsConsistent loaded → place.file < length loaded.files
+names-keep : (include : Inclusion) → Keeps include → (loaded : LoadState) (place : Place) (path : List ℕ) (names : Option (List (List ℕ))) (outcome : Outcome) → IsConsistent loaded → place.file < length loaded.files
     → NamesLoad include loaded place path names outcome → FineAfter (length loaded.files) outcome
-names_keep include keeps loaded place path None outcome fine at loads = refused_fine (length loaded.files) _ outcome tt loads
-names_keep include keeps loaded place path (Some names) outcome fine at (ordered, order, loads) =
+names-keep include keeps loaded place path None outcome fine at loads = refused_fine (length loaded.files) _ outcome tt loads
+names-keep include keeps loaded place path (Some names) outcome fine at (ordered, order, loads) =
     files_keep include keeps (with_folder loaded) place (map (in_folder path) ordered) outcome (fine_folder loaded fine) at loads
 
 if_fine : (n : ℕ) (b : Bool) (A B : Type 0) (outcome : Outcome) → IfElse b A B → (A → FineAfter n outcome) → (B → FineAfter n outcome) → FineAfter n outcome
@@ -214,12 +211,12 @@ folder_keeps : (include : Inclusion) → Keeps include → (supplies : List Supp
     → FolderLoads include supplies loaded place path outcome → FineAfter (length loaded.files) outcome
 folder_keeps include keeps supplies loaded place path outcome fine at loads =
     if_fine (length loaded.files) (nat_lt loaded.folders 1024) (NamesLoad include loaded place path (supplied_folder supplies path) outcome) _ outcome loads
-    (λ h. names_keep include keeps loaded place path (supplied_folder supplies path) outcome fine at h) (λ h. refused_fine (length loaded.files) _ outcome at h)
+    (λ h. names-keep include keeps loaded place path (supplied_folder supplies path) outcome fine at h) (λ h. refused_fine (length loaded.files) _ outcome at h)
 
-include_keeps : (include : Inclusion) → Keeps include → (supplies : List Supply) (loaded : LoadState) (place : Place) (folder : Bool) (path : List ℕ) (outcome : Outcome) → IsConsistent loaded → place.file < length loaded.files
+include-keeps : (include : Inclusion) → Keeps include → (supplies : List Supply) (loaded : LoadState) (place : Place) (folder : Bool) (path : List ℕ) (outcome : Outcome) → IsConsistent loaded → place.file < length loaded.files
     → IncludeLoads include supplies loaded place folder path outcome → FineAfter (length loaded.files) outcome
-include_keeps include keeps supplies loaded place true path outcome fine at loads = folder_keeps include keeps supplies loaded place path outcome fine at loads
-include_keeps include keeps supplies loaded place false path outcome fine at loads = keeps loaded place path outcome fine at loads
+include-keeps include keeps supplies loaded place true path outcome fine at loads = folder_keeps include keeps supplies loaded place path outcome fine at loads
+include-keeps include keeps supplies loaded place false path outcome fine at loads = keeps loaded place path outcome fine at loads
 
 entry_keeps : (include : Inclusion) → Keeps include → (supplies : List Supply) (file : List ℕ) (loaded : LoadState) (place : Place) (body : EntryBody) (outcome : Outcome) → IsConsistent loaded
     → place.file < length loaded.files → EntryLoadsBy include supplies loaded (record { place = place; body = body }) (include_of file body) outcome → FineAfter (length loaded.files) outcome
@@ -227,26 +224,26 @@ entry_keeps include keeps supplies file loaded place (bodies.Aliases kind ds) ou
 entry_keeps include keeps supplies file loaded place (bodies.Defaults b ps) outcome fine at loads = ends_fine (with_entry loaded (record { place = place; body = bodies.Defaults b ps })) outcome (fine_entry loaded _ fine at refl) loads
 entry_keeps include keeps supplies file loaded place (bodies.Rule us ss) outcome fine at loads = ends_fine (with_entry loaded (record { place = place; body = bodies.Rule us ss })) outcome (fine_entry loaded _ fine at refl) loads
 entry_keeps include keeps supplies file loaded place (bodies.Include folder hash path) outcome fine at loads =
-    include_keeps include keeps supplies loaded place folder _ outcome fine at loads
+    include-keeps include keeps supplies loaded place folder _ outcome fine at loads
 
-entries_keep : (include : Inclusion) → Keeps include → (supplies : List Supply) (file : List ℕ) (number : ℕ) (loaded : LoadState) (entries : List Entry) (outcome : Outcome) → IsConsistent loaded
+entries-keep : (include : Inclusion) → Keeps include → (supplies : List Supply) (file : List ℕ) (number : ℕ) (loaded : LoadState) (entries : List Entry) (outcome : Outcome) → IsConsistent loaded
     → number < length loaded.files → EntriesIn number entries → EntriesLoad include supplies file loaded entries outcome → FineAfter (length loaded.files) outcome
-entries_keep include keeps supplies file number loaded [] outcome fine at ins loads = ends_fine loaded outcome fine loads
-entries_keep include keeps supplies file number loaded (entry ∷ entries) outcome fine at ins (first, loads, onward) =
+entries-keep include keeps supplies file number loaded [] outcome fine at ins loads = ends_fine loaded outcome fine loads
+entries-keep include keeps supplies file number loaded (entry ∷ entries) outcome fine at ins (first, loads, onward) =
     then_fine (length loaded.files) first (λ after. EntriesLoad include supplies file after entries) outcome
     (entry_keeps include keeps supplies file loaded entry.place entry.body first fine (omega (arith, ins.0, at)) loads) onward
-    (λ after good more goes. entries_keep include keeps supplies file number after entries outcome good (omega (arith, at, more)) ins.1 goes)
+    (λ after good more goes. entries-keep include keeps supplies file number after entries outcome good (omega (arith, at, more)) ins.1 goes)
 
 lines_keep : (include : Inclusion) → Keeps include → (supplies : List Supply) (file : List ℕ) (number : ℕ) (text : List ℕ) (loaded : LoadState) (read : Result (List Entry) ParseFault) (outcome : Outcome) → IsConsistent loaded
     → number < length loaded.files → HasContent number text read → LinesLoad include supplies file loaded read outcome → FineAfter (length loaded.files) outcome
 lines_keep include keeps supplies file number text loaded (Ok entries) outcome fine at reads loads =
-    entries_keep include keeps supplies file number loaded entries outcome fine at (read_in number text entries reads) loads
+    entries-keep include keeps supplies file number loaded entries outcome fine at (read_in number text entries reads) loads
 lines_keep include keeps supplies file number text loaded (Err fault) outcome fine at reads loads =
     refused_fine (length loaded.files) _ outcome (stands_below number (length loaded.files) (parse_file fault) at (read_fault_in number text fault reads)) loads
 
-pub text_keeps : (include : Inclusion) → Keeps include → (supplies : List Supply) (loaded : LoadState) (path text : List ℕ) (outcome : Outcome) → IsConsistent loaded
+pub text-keeps : (include : Inclusion) → Keeps include → (supplies : List Supply) (loaded : LoadState) (path text : List ℕ) (outcome : Outcome) → IsConsistent loaded
     → TextLoads include supplies loaded path text outcome → FineAfter (length loaded.files) outcome
-text_keeps include keeps supplies loaded path text outcome fine (read, reads, loads) =
+text-keeps include keeps supplies loaded path text outcome fine (read, reads, loads) =
     let more : length (loaded.files ++ path ∷ []) ≡ length loaded.files + 1 = omega (arith, length-append loaded.files (path ∷ [])) in
     fine_later (length loaded.files) (length (loaded.files ++ path ∷ [])) outcome (omega (arith, more))
     (lines_keep include keeps supplies path (length loaded.files) text (with_file loaded path) read outcome (fine_file loaded path fine) (omega (arith, more)) reads loads)
@@ -255,7 +252,7 @@ supplied_keeps : (include : Inclusion) → Keeps include → (supplies : List Su
     → SuppliedLoads include supplies loaded place path found outcome → FineAfter (length loaded.files) outcome
 supplied_keeps include keeps supplies loaded place path None outcome fine at loads = refused_fine (length loaded.files) _ outcome tt loads
 supplied_keeps include keeps supplies loaded place path (Some None) outcome fine at loads = refused_fine (length loaded.files) _ outcome at loads
-supplied_keeps include keeps supplies loaded place path (Some (Some text)) outcome fine at loads = text_keeps include keeps supplies loaded path text outcome fine loads
+supplied_keeps include keeps supplies loaded place path (Some (Some text)) outcome fine at loads = text-keeps include keeps supplies loaded path text outcome fine loads
 
 pub file_keeps : (levels : ℕ) (supplies : List Supply) → Keeps (FileLoads levels supplies)
 unfolding FileLoads
@@ -269,16 +266,16 @@ file_keeps (suc levels) supplies = λ loaded place path outcome fine at loads.
 pub unfolded_fine : (levels : ℕ) (path text : List ℕ) (supplies : List Supply) (loaded : LoadState)
     → TextLoads (FileLoads levels supplies) supplies nothing_loaded path text (Ok loaded) → IsConsistent loaded
 unfolded_fine levels path text supplies loaded loads =
-    (text_keeps (FileLoads levels supplies) (file_keeps levels supplies) supplies nothing_loaded path text (Ok loaded) (record { placed = refl; unfolded = refl }) loads).0
+    (text-keeps (FileLoads levels supplies) (file_keeps levels supplies) supplies nothing_loaded path text (Ok loaded) (record { placed = refl; unfolded = refl }) loads).0
 
-pub start_fine : (levels : ℕ) (path text : List ℕ) (supplies : List Supply) (start loaded : LoadState) → start ≡ nothing_loaded
+pub start-fine : (levels : ℕ) (path text : List ℕ) (supplies : List Supply) (start loaded : LoadState) → start ≡ nothing_loaded
     → TextLoads (FileLoads levels supplies) supplies start path text (Ok loaded) → IsConsistent loaded
-start_fine levels path text supplies start loaded is loads =
+start-fine levels path text supplies start loaded is loads =
     unfolded_fine levels path text supplies loaded (subst (λ s. TextLoads (FileLoads levels supplies) supplies s path text (Ok loaded)) is loads)
 
-pub start_refused : (path p text : List ℕ) (supplies : List Supply) (start : LoadState) (refusal : Refusal) → start ≡ nothing_loaded → p ≡ path
+pub start-refused : (path p text : List ℕ) (supplies : List Supply) (start : LoadState) (refusal : Refusal) → start ≡ nothing_loaded → p ≡ path
     → TextLoads (FileLoads 128 supplies) supplies start p text (Err refusal) → IsLoad path text supplies (Err refusal)
-start_refused path p text supplies start refusal is same loads = (
+start-refused path p text supplies start refusal is same loads = (
   Err refusal,
   subst (λ q. TextLoads (FileLoads 128 supplies) supplies nothing_loaded q text (Err refusal)) same
       (subst (λ s. TextLoads (FileLoads 128 supplies) supplies s p text (Err refusal)) is loads),
@@ -286,10 +283,10 @@ start_refused path p text supplies start refusal is same loads = (
 )
 
 -- So is a refusal's fault, where memory was not refused.
-pub refusal_placed : (path text : List ℕ) (supplies : List Supply) (start : LoadState) (refusal : Refusal) → start ≡ nothing_loaded
+pub refusal-placed : (path text : List ℕ) (supplies : List Supply) (start : LoadState) (refusal : Refusal) → start ≡ nothing_loaded
     → (refusal.1 ≢ faults.Memory → TextLoads (FileLoads 128 supplies) supplies start path text (Err refusal)) → IsInFiles refusal
-refusal_placed path text supplies start (files, fault) is loads = placed_unless files fault
-    (λ no_memory. text_keeps (FileLoads 128 supplies) (file_keeps 128 supplies) supplies nothing_loaded path text (Err (files, fault)) (record { placed = refl; unfolded = refl })
+refusal-placed path text supplies start (files, fault) is loads = placed_unless files fault
+    (λ no_memory. text-keeps (FileLoads 128 supplies) (file_keeps 128 supplies) supplies nothing_loaded path text (Err (files, fault)) (record { placed = refl; unfolded = refl })
     (subst (λ s. TextLoads (FileLoads 128 supplies) supplies s path text (Err (files, fault))) is (loads no_memory)))
   where
     placed_unless : (files : List (List ℕ)) (fault : LoadFault) → (fault ≢ faults.Memory → IsInFiles (files, fault)) → IsInFiles (files, fault)

@@ -12,6 +12,7 @@ use Rattle.std.proofs.lemmas.Cmp.{nat_list_cmp_total}
 use Rattle.std.proofs.lemmas.List.Sums.{sum_by-cons}
 use Rattle.std.proofs.lemmas.List.Sorted.{sum_by-IsPermutation}
 use Rattle.std.proofs.lemmas.Slice.Eq.{bytes_eq-Decides}
+use Rattle.sudo_text.proofs.Unique.{true_false}
 
 -- by bytes
 abbrev order : List ℕ → List ℕ → Ordering
@@ -25,9 +26,6 @@ NotLess a b = is_lt (order a b) ≡ false
 abbrev Each : (List ℕ → Type 0) → List (List ℕ) → Type 0
 Each P [] = ⊤
 Each P (x ∷ xs) = P x × Each P xs
-
-true_false : true ≡ false → ⊥
-true_false e = absurd cc
 
 not_less_trans : (c b a : List ℕ) → NotLess c b → NotLess b a → NotLess c a
 not_less_trans c b a cb ba = go (order c a) refl

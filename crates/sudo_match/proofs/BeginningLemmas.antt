@@ -2,7 +2,7 @@
 use Rattle.std.proofs.Common.{◌≡◌, ℕ, suc, ◌+◌, ◌<◌, ◌≤◌, Bool, true, false, ◌&&◌, ◌||◌, not, cond, List, [], ◌∷◌, ◌++◌, map, length, drop, take, refl, ap, sym, ◌∙◌, Some, arith, ◌⊎◌, inl, inr}
 use Rattle.std.specs.Prelude.{slice_get, ◌==◌}
 use Rattle.std.specs.List.{position_or_len}
-use Rattle.std.proofs.lemmas.Bool.{eqb-true, eq-eqb, ne_eqb, cases_lt, leb-false}
+use Rattle.std.proofs.lemmas.Bool.{eqb-true, eq-eqb, ne_eqb, cases_lt, leb-false, and_left, or_parts}
 use Rattle.std.proofs.Math.Dec.{leb}
 use Rattle.std.proofs.lemmas.Str.Ascii.{lowercase_is}
 use Rattle.sudo_text.specs.declared.token.Ch.{Ch}
@@ -15,25 +15,11 @@ use Rattle.sudo_match.specs.HostNames.{lower_char, literal_char, free_bang, free
 use Rattle.sudo_match.specs.Pattern.{is_plain, is_byte, Only, Part, One, parts, parts_after, any_name, is_folder_path, path_chars, fits}
 use Rattle.sudo_match.specs.Matching.{pattern_has_dot, short_name, compared_name, host_pattern, arguments_fit, arguments_slash, command_fits}
 use Rattle.sudo_match.specs.Beginnings.{is_special, has_special, begins_otherwise, is_named_otherwise, command_differs}
-use Rattle.sudo_match.proofs.CharsLemmas.{drop-some, drop-all, and-no}
+use Rattle.sudo_match.proofs.CharsLemmas.{drop-some, drop-all, and-right}
 use Rattle.sudo_match.proofs.PartLemmas.{part-byte}
 use Rattle.sudo_match.proofs.FitsLemmas.{fits-one}
-
-or-none : (a b : Bool) → (a || b) ≡ false → (a ≡ false) × (b ≡ false)
-or-none true b e = cc
-or-none false b e = (refl, e)
-
-and-false : (b : Bool) → (b && false) ≡ false
-and-false true = refl
-and-false false = refl
-
-and-right : (a b : Bool) → (a && b) ≡ true → b ≡ true
-and-right true b e = e
-and-right false b e = cc
-
-not-true : (b : Bool) → not b ≡ true → b ≡ false
-not-true true e = cc
-not-true false e = refl
+use Rattle.sudo_text.proofs.Beginnings.{not_true}
+use Rattle.sudo_text.proofs.CommonRuns.{and_false}
 
 not-false : (b : Bool) → not b ≡ false → b ≡ true
 not-false true e = refl
@@ -44,8 +30,8 @@ not-false false e = cc
 parts-literal : (c : Ch) (cs : List Ch) → is_special c ≡ false → parts (c ∷ cs) ≡ One (Only c.byte) ∷ parts cs
 unfolding parts_after
 parts-literal c cs e =
-    let star = or-none (is_plain 42 c) (is_plain 63 c || is_plain 91 c) e in
-    let others = or-none (is_plain 63 c) (is_plain 91 c) star.1 in
+    let star = or_parts (is_plain 42 c) (is_plain 63 c || is_plain 91 c) e in
+    let others = or_parts (is_plain 63 c) (is_plain 91 c) star.1 in
     ap (λ (r : Part × ℕ). r.0 ∷ parts_after r.1 cs) (part-byte c cs star.0 others.0 others.1)
 
 fits-literal :
@@ -57,14 +43,14 @@ fits-literal s c cs b t same e f =
 -- ---- Commands
 
 no-plain : (k : ℕ) (c : Ch) → (c.byte == k) ≡ false → is_plain k c ≡ false
-no-plain k c e = ap (λ x. not c.escaped && x) e ∙ and-false (not c.escaped)
+no-plain k c e = ap (λ x. not c.escaped && x) e ∙ and_false (not c.escaped)
 
 -- a character whose byte is not special is not special
 ordinary : (b : ℕ) (c : Ch) → (b == c.byte) ≡ true → (b == 42 || (b == 63 || b == 91)) ≡ false → is_special c ≡ false
 ordinary b c same e =
     let byte : b ≡ c.byte = eqb-true b c.byte same in
-    let one = or-none (b == 42) (b == 63 || b == 91) e in
-    let two = or-none (b == 63) (b == 91) one.1 in
+    let one = or_parts (b == 42) (b == 63 || b == 91) e in
+    let two = or_parts (b == 63) (b == 91) one.1 in
     ap (λ x. x || (is_plain 63 c || is_plain 91 c)) (no-plain 42 c (ap (λ x. x == 42) (sym byte) ∙ one.0))
     ∙ ap (λ x. x || is_plain 91 c) (no-plain 63 c (ap (λ x. x == 63) (sym byte) ∙ two.0))
     ∙ no-plain 91 c (ap (λ x. x == 91) (sym byte) ∙ two.1)
@@ -85,16 +71,16 @@ begun-otherwise s more (c ∷ cs) (b ∷ t) h e = go (λ i f. begun-otherwise s 
     go : (has_special t ≡ false → begins_otherwise cs t ≡ true → fits (parts (cs ++ more)) t s ≡ false) →
         (x : Bool) → (b == c.byte) ≡ x → cond x (begins_otherwise cs t) (not (is_special c)) ≡ true → fits (parts (c ∷ (cs ++ more))) (b ∷ t) s ≡ false
     go again true f g =
-        let here = or-none (b == 42 || (b == 63 || b == 91)) (has_special t) h in
+        let here = or_parts (b == 42 || (b == 63 || b == 91)) (has_special t) h in
         fits-literal s c (cs ++ more) b t true (ordinary b c f here.0) f ∙ again here.1 g
-    go again false f g = fits-literal s c (cs ++ more) b t false (not-true (is_special c) g) f
+    go again false f g = fits-literal s c (cs ++ more) b t false (not_true (is_special c) g) f
 
 -- a command without special bytes, from which an atom differs, is not matched by it
 pub command-differs :
     (a : Atom) (command arguments : List ℕ) → has_special command ≡ false → command_differs a command ≡ true → command_fits a command arguments ≡ false
 unfolding command_fits
 command-differs (atom.Command path args) command arguments h e =
-    and-no (fits (parts (path_chars path)) command Not) (arguments_fit (arguments_slash path) args arguments)
+    and_left (fits (parts (path_chars path)) command Not) (arguments_fit (arguments_slash path) args arguments)
     (begun-otherwise Not (any_name (is_folder_path path)) path command h e)
 command-differs _ command arguments h e = cc
 
@@ -167,7 +153,7 @@ host-begun whole f (c ∷ cs) (b ∷ name) e = go (λ h. host-begun whole (is_pl
         fits (parts (lower_char (free_bang f c) ∷ map lower_char (free_bangs (is_plain 91 c) cs))) (lower_text (compared whole (b ∷ name))) Any ≡ false
     go again true g h = cc
     go again false g h =
-        let two = or-none (is_special c) (b == 46) g in
+        let two = or_parts (is_special c) (b == 46) g in
         ap (λ t. fits (parts (lower_char (free_bang f c) ∷ map lower_char (free_bangs (is_plain 91 c) cs))) (lower_text t) Any) (compared-more whole b name two.1)
         ∙ next again two.0 (lower b == lower c.byte) refl h
 
@@ -192,7 +178,7 @@ quoted-begun whole (c ∷ cs) (b ∷ name) e = go (λ h. quoted-begun whole cs n
         fits (parts (literal_char c ∷ map literal_char cs)) (lower_text (compared whole (b ∷ name))) Any ≡ false
     go again true g h = cc
     go again false g h =
-        let two = or-none (is_special c) (b == 46) g in
+        let two = or_parts (is_special c) (b == 46) g in
         ap (λ t. fits (parts (literal_char c ∷ map literal_char cs)) (lower_text t) Any) (compared-more whole b name two.1)
         ∙ next again (lower b == lower c.byte) refl h
 
@@ -246,7 +232,7 @@ module _ (cs : List Ch) (t : List ℕ) (n b : ℕ) (c : Ch) (char : slice_get cs
 -- a letter that both have is no special character and no dot
 pub letter : (b : ℕ) (c : Ch) → (leb b 91 || not (b == c.byte)) ≡ false → ((is_special c || b == 46) ≡ false) × (b ≡ c.byte)
 letter b c e =
-    let parts_of = or-none (leb b 91) (not (b == c.byte)) e in
+    let parts_of = or_parts (leb b 91) (not (b == c.byte)) e in
     let more = leb-false b 91 parts_of.0 in
     let same = not-false (b == c.byte) parts_of.1 in (
       ap (λ x. x || b == 46) (ordinary b c same (plain-letter b more)) ∙ ne_eqb b 46 (λ f. omega (arith, f, more)),

@@ -32,7 +32,7 @@ drop-some zero (y ∷ xs) x e = let same : y ≡ x = cc in ap (λ z. z ∷ xs) s
 drop-some (suc n) [] x e = cc
 drop-some (suc n) (y ∷ xs) x e = drop-some n xs x e ∙ ap (λ z. x ∷ z) (sym (drop-next n y xs))
 
-and-right : (a b : Bool) → (a && b) ≡ true → b ≡ true
+pub and-right : (a b : Bool) → (a && b) ≡ true → b ≡ true
 and-right true b e = e
 and-right false b e = cc
 
@@ -163,7 +163,7 @@ seen-short c =
     let e = length-seen c in let f = length-any_name c.is_folder in
     let h : length c.chars.now < 2 ^ 62 = c.short in omega (arith, e, f, h)
 
-slice_get-append-left : {A : Type 0} (xs ys : List A) (n : ℕ) → n < length xs → slice_get (xs ++ ys) n ≡ slice_get xs n
+pub slice_get-append-left : {A : Type 0} (xs ys : List A) (n : ℕ) → n < length xs → slice_get (xs ++ ys) n ≡ slice_get xs n
 slice_get-append-left [] ys n h = absurd (omega (arith, h))
 slice_get-append-left (x ∷ xs) ys zero h = refl
 slice_get-append-left (x ∷ xs) ys (suc n) h = slice_get-append-left xs ys n (omega (arith, h))
@@ -193,7 +193,7 @@ and-then a b e = cc
 pub and-else : (a b : Bool) → a ≡ false → (a && b) ≡ a
 and-else a b e = cc
 
-and-true : (a : Bool) → (a && true) ≡ a
+pub and-true : (a : Bool) → (a && true) ≡ a
 and-true true = refl
 and-true false = refl
 
@@ -259,9 +259,6 @@ class_name-short Punct = omega arith
 class_name-short Space = omega arith
 class_name-short Upper = omega arith
 class_name-short Xdigit = omega arith
-
-pub and-no : (a b : Bool) → a ≡ false → (a && b) ≡ false
-and-no a b e = cc
 
 pub drop-all : {A : Type 0} (n : ℕ) (xs : List A) → length xs ≤ n → drop n xs ≡ []
 drop-all n xs h = drop-none n xs (slice_get_past xs n h)

@@ -6,23 +6,15 @@ use Rattle.sudo_text.specs.declared.token.Ch.{Ch}
 use Rattle.sudo_match.specs.Class.{Class, class_name}
 use Rattle.sudo_match.specs.Pattern.{is_plain, has, begins, class_form, class_at, class_or, range_at, item_at, item_of, Item, InClass, Range, Single, items_after, ByteSet, Bracket, Only, AnyByte, Part, One, Star, bracket_after, bracket_or, part_at, parts, parts_after}
 use Rattle.sudo_match.specs.Brackets.{goes_to, IsRange, WritesItem, WritesItems, WritesBracket}
-use Rattle.sudo_match.proofs.CharsLemmas.{range_at-some}
+use Rattle.sudo_match.proofs.CharsLemmas.{range_at-some, and-right}
 use Rattle.sudo_match.proofs.ItemLemmas.{length-class_form, class_at-within, items_after-cons, items_after-empty, items_after-next}
 use Rattle.sudo_match.proofs.PartLemmas.{bracket-complement, bracket-plain, part-star, part-any, part-bracket, part-byte, parts-cons, parts_after-skip}
+use Rattle.sudo_match.proofs.FitsLemmas.{and-left}
+use Rattle.sudo_match.proofs.PositionLemmas.{append_assoc}
+use Rattle.sudo_match.proofs.StepLemmas.{some-is}
+use Rattle.sudo_text.proofs.CommonRuns.{and_false}
 
 -- ---- Bools and lists
-
-and-false : (b : Bool) → (b && false) ≡ false
-and-false true = refl
-and-false false = refl
-
-and-left : (a b : Bool) → (a && b) ≡ true → a ≡ true
-and-left true b e = refl
-and-left false b e = e
-
-and-right : (a b : Bool) → (a && b) ≡ true → b ≡ true
-and-right true b e = e
-and-right false b e = cc
 
 drop-true : (a b : Bool) → (a && (b && true)) ≡ false → (a && b) ≡ false
 drop-true true true e = e
@@ -33,10 +25,6 @@ put-true : (a b : Bool) → (a && b) ≡ false → (a && (b && true)) ≡ false
 put-true true true e = e
 put-true true false e = refl
 put-true false b e = refl
-
-append_assoc : {A : Type 0} (xs ys zs : List A) → (xs ++ ys) ++ zs ≡ xs ++ (ys ++ zs)
-append_assoc [] ys zs = refl
-append_assoc (x ∷ xs) ys zs = ap (λ l. x ∷ l) (append_assoc xs ys zs)
 
 drop-append : {A : Type 0} (xs ys : List A) → drop (length xs) (xs ++ ys) ≡ ys
 drop-append [] ys = refl
@@ -132,7 +120,7 @@ read-items is_first (i ∷ is) w close rest e closes =
 no-other : (a b : ℕ) (c : Ch) → is_plain a c ≡ true → (a == b) ≡ false → is_plain b c ≡ false
 no-other a b c e f =
     let byte : c.byte ≡ a = eqb-true c.byte a (and-right (not c.escaped) (c.byte == a) e) in
-    ap (λ x. not c.escaped && (x == b)) byte ∙ ap (λ x. not c.escaped && x) f ∙ and-false (not c.escaped)
+    ap (λ x. not c.escaped && (x == b)) byte ∙ ap (λ x. not c.escaped && x) f ∙ and_false (not c.escaped)
 
 bracket-part : (c : Ch) (cs : List Ch) → is_plain 91 c ≡ true → part_at c cs ≡ bracket_or (bracket_after cs) c.byte
 bracket-part c cs e = part-bracket c cs (no-other 91 42 c e refl) (no-other 91 63 c e refl) e
@@ -211,7 +199,7 @@ Writes r cs = WritesItem r.0 (take (0 + 1 + r.1) cs) (drop (0 + 1 + r.1) cs)
 written-range : (c : Ch) (cs : List Ch) → class_at (c ∷ cs) ≡ None → Writes (range_at c cs) (c ∷ cs)
 unfolding Writes range_at begins
 written-range c [] none = (none, refl, c, refl, refl)
-written-range c (d ∷ []) none = (none, and-false (is_plain 45 d), c, refl, refl)
+written-range c (d ∷ []) none = (none, and_false (is_plain 45 d), c, refl, refl)
 written-range c (d ∷ x ∷ cs) none = go (is_plain 45 d && not (is_plain 93 x)) refl
   where
     go :
@@ -254,12 +242,9 @@ record WrittenItems (is_first : Bool) (items : List Item) (cs : List Ch) : Type 
   closes : is_plain 93 close ≡ true
   items_are : WritesItems is_first items body (close ∷ rest)
 
-some-same : {A : Type 0} (x y : A) → Some x ≡ Some y → x ≡ y
-some-same x y e = cc
-
 written-close : (is_first : Bool) (c : Ch) (cs : List Ch) (items : List Item) (n : ℕ) → (not is_first && is_plain 93 c) ≡ true → ◌≡◌ {A = Option (List Item × ℕ)} (Some ([], 1)) (Some (items, n)) → WrittenItems is_first items (c ∷ cs)
 written-close is_first c cs items n test e =
-    let none : [] ≡ items = ap (λ (r : List Item × ℕ). r.0) (some-same {A = List Item × ℕ} ([], 1) (items, n) e) in
+    let none : [] ≡ items = ap (λ (r : List Item × ℕ). r.0) (some-is {A = List Item × ℕ} ([], 1) (items, n) e) in
     let P : List Item → Type 0 = λ is. WrittenItems is_first is (c ∷ cs) in
     subst P none (record {
       body = [];
@@ -304,7 +289,7 @@ written-items (suc k) is_first (c ∷ cs) items n h e =
     more test None f next = cc
     more test (Some q) f next =
         let same : items ≡ (item_at c cs).0 ∷ q.0 =
-        ap (λ (r : List Item × ℕ). r.0) (some-same {A = List Item × ℕ} (items, n) ((item_at c cs).0 ∷ q.0, q.1 + ((item_at c cs).1 + 1)) f) in
+        ap (λ (r : List Item × ℕ). r.0) (some-is {A = List Item × ℕ} (items, n) ((item_at c cs).0 ∷ q.0, q.1 + ((item_at c cs).1 + 1)) f) in
         let P : List Item → Type 0 = λ is. WrittenItems is_first is (c ∷ cs) in
         subst P (sym same) (written-more is_first c cs q.0 test (next q.0 q.1 refl))
 

@@ -1,9 +1,10 @@
 -- Lemmas on `fits`: what a star adds, and why going back to the last star alone loses no fit.
 use Rattle.std.proofs.Common.{◌≡◌, ℕ, Bool, true, false, ◌&&◌, ◌||◌, List, [], ◌∷◌, ◌++◌, map, refl, ap, sym, ◌∙◌, append_assoc, subst}
 use Rattle.std.specs.List.{list_any, list_all}
-use Rattle.std.proofs.lemmas.Bool.{eqb-true}
+use Rattle.std.proofs.lemmas.Bool.{eqb-true, or_right, and_from}
 use Rattle.sudo_match.specs.declared.patterns.Slash.{Slash}
 use Rattle.sudo_match.specs.Pattern.{ByteSet, Only, AnyByte, Bracket, Part, One, Star, is_free, set_holds, cuts, fits}
+use Rattle.sudo_match.proofs.CharsLemmas.{and-right}
 
 -- ---- Tests on lists
 
@@ -21,25 +22,14 @@ list_any-factor :
 list_any-factor true p q xs = refl
 list_any-factor false p q xs = list_any-none xs
 
-and-left : (a b : Bool) → (a && b) ≡ true → a ≡ true
+pub and-left : (a b : Bool) → (a && b) ≡ true → a ≡ true
 and-left true b e = refl
 and-left false b e = e
-
-and-right : (a b : Bool) → (a && b) ≡ true → b ≡ true
-and-right true b e = e
-and-right false b e = cc
-
-and-both : (a b : Bool) → a ≡ true → b ≡ true → (a && b) ≡ true
-and-both a b e f = cc
 
 -- what follows from either of two tests
 or-cases : (a b : Bool) {P : Type 0} → (a || b) ≡ true → (a ≡ true → P) → (b ≡ true → P) → P
 or-cases true b e f g = f refl
 or-cases false b e f g = g e
-
-or-right : (a b : Bool) → b ≡ true → (a || b) ≡ true
-or-right true b e = refl
-or-right false b e = e
 
 -- a test that gives what another gives already adds nothing
 or-absorbs : (a b : Bool) → (b ≡ true → a ≡ true) → (a || b) ≡ a
@@ -84,7 +74,7 @@ fits-star-more :
     (s : Slash) (p : List Part) (b : ℕ) (t : List ℕ) → is_free s b ≡ true → fits (Star ∷ p) t s ≡ true →
     fits (Star ∷ p) (b ∷ t) s ≡ true
 fits-star-more s p b t free e =
-    fits-star s p (b ∷ t) ∙ or-right (fits p (b ∷ t) s) _ (and-both (is_free s b) (fits (Star ∷ p) t s) free e)
+    fits-star s p (b ∷ t) ∙ or_right (fits p (b ∷ t) s) _ (and_from (is_free s b) (fits (Star ∷ p) t s) free e)
 
 -- and a run of bytes
 fits-star-run :
@@ -117,9 +107,9 @@ taken s (q ∷ qs) (b ∷ t) = set_holds s q b && taken s qs t
 
 list_all-snoc :
     {A : Type 0} (p : A → Bool) (c : List A) (b : A) → list_all p c ≡ true → p b ≡ true → list_all p (c ++ b ∷ []) ≡ true
-list_all-snoc p [] b e f = and-both (p b) true f refl
+list_all-snoc p [] b e f = and_from (p b) true f refl
 list_all-snoc p (x ∷ c) b e f =
-    and-both (p x) _ (and-left (p x) (list_all p c) e) (list_all-snoc p c b (and-right (p x) (list_all p c) e) f)
+    and_from (p x) _ (and-left (p x) (list_all p c) e) (list_all-snoc p c b (and-right (p x) (list_all p c) e) f)
 
 head-is : {A : Type 0} {a b : A} {x y : List A} → a ∷ x ≡ b ∷ y → a ≡ b
 head-is e = cc
@@ -176,11 +166,11 @@ later_over s p qs w t c0 c (d ∷ x) free0 free held joined e =
 
 -- where the sets of an earlier star's tail have held the text up to a later star, whatever fits by giving the earlier
 -- star more fits by giving it no more
-later_star :
+later-star :
     (s : Slash) (p : List Part) (qs : List ByteSet) (w t x : List ℕ) → taken s qs w ≡ true → x ≡ w ++ t →
     later s (map One qs ++ (Star ∷ p)) x ≡ true → fits (Star ∷ p) t s ≡ true
-later_star s p qs w t [] held joined e = cc
-later_star s p qs w t (b ∷ x) held joined e =
+later-star s p qs w t [] held joined e = cc
+later-star s p qs w t (b ∷ x) held joined e =
     later_over s p qs w t b [] x (and-left (is_free s b) _ e) refl held joined (and-right (is_free s b) _ e)
 
 -- ---- The matcher's two indices
@@ -205,11 +195,11 @@ taken-snoc :
     (s : Slash) (qs : List ByteSet) (w : List ℕ) (q : ByteSet) (b : ℕ) → taken s qs w ≡ true → set_holds s q b ≡ true →
     taken s (qs ++ q ∷ []) (w ++ b ∷ []) ≡ true
 unfolding taken
-taken-snoc s [] [] q b held e = and-both (set_holds s q b) true e refl
+taken-snoc s [] [] q b held e = and_from (set_holds s q b) true e refl
 taken-snoc s [] (a ∷ w) q b held e = cc
 taken-snoc s (x ∷ qs) [] q b held e = cc
 taken-snoc s (x ∷ qs) (a ∷ w) q b held e =
-    and-both (set_holds s x a) _ (and-left (set_holds s x a) _ held) (taken-snoc s qs w q b (and-right (set_holds s x a) _ held) e)
+    and_from (set_holds s x a) _ (and-left (set_holds s x a) _ held) (taken-snoc s qs w q b (and-right (set_holds s x a) _ held) e)
 
 -- one set more
 pub reached-one :
@@ -229,7 +219,7 @@ pub fits-star-again :
     (fits (Star ∷ p) t s || later s ps ts) ≡ (fits p t s || later s p t)
 fits-star-again s ps ts p t r =
     or-absorbs (fits (Star ∷ p) t s) (later s ps ts)
-    (λ h. later_star s p r.sets r.bytes t ts r.held r.text_is (rw r.parts_are at h))
+    (λ h. later-star s p r.sets r.bytes t ts r.held r.text_is (rw r.parts_are at h))
     ∙ fits-star s p t
 
 -- going back: the star takes one byte more

@@ -13,6 +13,8 @@ use Rattle.sudo_base.proofs.IndexLemmas.{take-some, list_any-append, bytes_eq-is
 use Rattle.sudo_match.specs.Indexing.{AreApart, differs, with_name}
 use Rattle.sudo_match.specs.KnownRows.{groups_clash, clashes_at}
 use Rattle.sudo_match.proofs.ClashLemmas.{NoneBefore, none-first, none-more, clash-here, clash-none}
+use Rattle.sudo_match.proofs.CharsLemmas.{and-true}
+use Rattle.sudo_match.proofs.ItemLemmas.{find-holds}
 
 -- ---- A name that has an index already
 
@@ -97,15 +99,6 @@ decides-more {A} p q xs x e h =
     step (Some f) true k = ap (λ b. not (q f) || not b) (sym (k f refl refl)) ∙ or-same (not (q f))
     step (Some f) false k = or-false (not (q f))
 
--- what is found passes, and is one of the elements
-found-passes : {A : Type 0} (p : A → Bool) (xs : List A) (f : A) → find p xs ≡ Some f → p f ≡ true
-found-passes p [] f e = cc
-found-passes p (x ∷ xs) f e = go (p x) refl (λ h. found-passes p xs f h)
-  where
-    go : (b : Bool) → p x ≡ b → (find p xs ≡ Some f → p f ≡ true) → p f ≡ true
-    go true g more = let same : Some x ≡ Some f = sym (ap (λ b. cond b (Some x) (find p xs)) g) ∙ e in let is : x ≡ f = cc in ap p (sym is) ∙ g
-    go false g more = more (sym (ap (λ b. cond b (Some x) (find p xs)) g) ∙ e)
-
 or-left : (a b : Bool) → (a || b) ≡ false → a ≡ false
 or-left true b e = e
 or-left false b e = refl
@@ -133,10 +126,6 @@ of_id id g = bytes_eq (g.gid ∷ []) (id ∷ [])
 
 abbrev has_id : ℕ → Group → Bool
 has_id id g = g.gid == id
-
-and-true : (b : Bool) → (b && true) ≡ b
-and-true true = refl
-and-true false = refl
 
 id-same : (id : ℕ) (g : Group) → of_id id g ≡ has_id id g
 id-same id g = and-true (g.gid == id)
@@ -214,17 +203,17 @@ groups-more groups n names ids x r at apart = record {
 
     same-id : (name : List ℕ) (f : Group) → find (named name) (take n groups) ≡ Some f → named name x ≡ true → f.gid ≡ x.gid
     same-id name f e passes =
-        let mine : f.name ≡ name = bytes_eq-is f.name name (found-passes (named name) (take n groups) f e) in
+        let mine : f.name ≡ name = bytes_eq-is f.name name (find-holds (named name) (take n groups) f e) in
         let theirs : x.name ≡ name = bytes_eq-is x.name name passes in
-        let together : named x.name f ≡ true = ap (λ k. bytes_eq f.name k) theirs ∙ found-passes (named name) (take n groups) f e in
+        let together : named x.name f ≡ true = ap (λ k. bytes_eq f.name k) theirs ∙ find-holds (named name) (take n groups) f e in
         eqb-true f.gid x.gid
         (agree-by_name (named x.name f) (has_id x.gid f) (found-fails (named name) (λ y. groups_clash y x) (take n groups) f e no-clash) together)
 
     same-name : (id : ℕ) (f : Group) → find (of_id id) (take n groups) ≡ Some f → of_id id x ≡ true → f.name ≡ x.name
     same-name id f e passes =
-        let mine : f.gid ≡ id = eqb-true f.gid id (sym (id-same id f) ∙ found-passes (of_id id) (take n groups) f e) in
+        let mine : f.gid ≡ id = eqb-true f.gid id (sym (id-same id f) ∙ find-holds (of_id id) (take n groups) f e) in
         let theirs : x.gid ≡ id = eqb-true x.gid id (sym (id-same id x) ∙ passes) in
-        let together : has_id x.gid f ≡ true = ap (λ k. f.gid == k) theirs ∙ sym (id-same id f) ∙ found-passes (of_id id) (take n groups) f e in
+        let together : has_id x.gid f ≡ true = ap (λ k. f.gid == k) theirs ∙ sym (id-same id f) ∙ find-holds (of_id id) (take n groups) f e in
         bytes_eq-is f.name x.name
         (agree-by_id (named x.name f) (has_id x.gid f) (found-fails (of_id id) (λ y. groups_clash y x) (take n groups) f e no-clash) together)
 

@@ -5,10 +5,7 @@ use Rattle.std.specs.Map.{lookup}
 use Rattle.indexmap.specs.IndexMap.{insert_entry}
 use Rattle.sudo_base.specs.NameIndices.{index_of}
 use Rattle.sudo_match.specs.Body.IdEntry.{entry_by_id}
-
-and-true : (b : Bool) → (b && true) ≡ b
-and-true true = refl
-and-true false = refl
+use Rattle.sudo_match.proofs.CharsLemmas.{and-true}
 
 -- a look-up among the entries is one among the IDs
 pub lookup-entry_by_id : (id : ℕ) (es : List (ℕ × ℕ)) → lookup (nat_eq id) es ≡ index_of (map entry_by_id es) (id ∷ [])

@@ -10,7 +10,7 @@ use Rattle.sudo_match.specs.Body.Shown.{class_of, class_at_start, known_classes,
 use Rattle.sudo_match.specs.declared.patterns.Class as shown
 use Rattle.sudo_match.specs.Class.{class_name, classes}
 use Rattle.sudo_match.specs.Pattern.{is_byte, is_plain, has, begins, class_form, class_end, class_at, class_or, range_at, item_at, item_of, item_holds, items_after}
-use Rattle.sudo_match.proofs.CharsLemmas.{drop-some, drop-none, begins-length, length-map, slice_get-drop}
+use Rattle.sudo_match.proofs.CharsLemmas.{drop-some, drop-none, begins-length, length-map, slice_get-drop, and-right}
 
 -- ---- One item
 
@@ -20,7 +20,7 @@ find-step :
 find-step p y o x more true py f = let same : y ≡ x = cc in ap p (sym same) ∙ py
 find-step p y o x more false py f = more f
 
-find-holds : {A : Type 0} (p : A → Bool) (xs : List A) (x : A) → find p xs ≡ Some x → p x ≡ true
+pub find-holds : {A : Type 0} (p : A → Bool) (xs : List A) (x : A) → find p xs ≡ Some x → p x ≡ true
 find-holds p [] x e = cc
 find-holds p (y ∷ xs) x e = find-step p y (find p xs) x (λ f. find-holds p xs x f) (p y) refl e
 
@@ -147,10 +147,6 @@ items_after-none is_first n cs e = go (drop n cs) e
     go : (xs : List Ch) → item_of xs ≡ None → items_after 0 is_first xs ≡ None
     go [] f = items_after-empty is_first
     go (x ∷ xs) f = cc
-
-and-right : (a b : Bool) → (a && b) ≡ true → b ≡ true
-and-right true b e = e
-and-right false b e = cc
 
 pub items_after-close :
     (is_first : Bool) (n : ℕ) (cs : List Ch) → (not is_first && has (is_plain 93) (slice_get cs n)) ≡ true →

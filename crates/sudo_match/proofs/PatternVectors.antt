@@ -66,11 +66,11 @@ unfolding parts_after part_at bracket_after items_after range_at begins
 cut_of_parts = refl
 
 -- a class whose colons are escaped
-pub escaped_colons :
+pub escaped-colons :
     parts (plain (codes "[[") ++ escaped (codes ":") ++ plain (codes "alpha") ++ escaped (codes ":") ++ plain (codes "]]")) ≡
     One (Bracket false (InClass Alpha ∷ [])) ∷ []
 unfolding parts_after part_at bracket_after items_after range_at begins
-escaped_colons = refl
+escaped-colons = refl
 
 -- a star goes back over several indices
 pub goes_back : both (plain (codes "*a*b")) (codes "caxab") ≡ (true, true)

@@ -1,7 +1,7 @@
 -- Lemmas on the steps of matching, and on the invariant of its loop.
 use Rattle.std.proofs.Common.{◌≡◌, ℕ, ◌+◌, ◌-◌, ◌*◌, ◌<◌, ◌≤◌, Bool, true, false, ◌||◌, List, [], ◌∷◌, length, drop, refl, ap, sym, ◌∙◌, subst, Some, None, Option, arith, add-zero}
 use Rattle.std.specs.Prelude.{slice_get, option_map, ◌==◌}
-use Rattle.std.proofs.lemmas.Bool.{eq-eqb, ne_eqb}
+use Rattle.std.proofs.lemmas.Bool.{eq-eqb, ne_eqb, and_left, or_parts}
 use Rattle.std.proofs.lemmas.Option.{slice_get_within, slice_get_past, slice_get-get_or}
 use Rattle.std.proofs.Math.Nat.{mul-le-mul_right}
 use Rattle.sudo_text.specs.declared.token.Ch.{Ch}
@@ -9,13 +9,13 @@ use Rattle.sudo_match.specs.declared.patterns.Slash.{Slash}
 use Rattle.sudo_match.specs.Pattern.{is_plain, has, ByteSet, Only, AnyByte, Part, One, Star, bracket_after, bracket_or, part_at, part_of, parts, set_holds, part_holds, fits}
 use Rattle.sudo_match.specs.Reading.{is_free_byte}
 use Rattle.sudo_match.specs.Body.Step.{TakesPart, IsStarred}
-use Rattle.sudo_match.proofs.CharsLemmas.{drop-some, drop-none, and-then, and-no}
+use Rattle.sudo_match.proofs.CharsLemmas.{drop-some, drop-none, and-then}
 use Rattle.sudo_match.proofs.PartLemmas.{part_answer, part_of-at, part-star, part-any, part-bracket, part-byte, parts-next, parts-none}
 use Rattle.sudo_match.proofs.FitsLemmas.{later, fits-star, fits-one, fits-one-empty, fits-empty-some, fits-empty-empty, Reached, reached-start, reached-one, fits-star-again, later-back, later-not_free}
 
 -- ---- One step
 
-some-is : {A : Type 0} (x y : A) → Some x ≡ Some y → x ≡ y
+pub some-is : {A : Type 0} (x y : A) → Some x ≡ Some y → x ≡ y
 some-is x y e = cc
 
 pair-is : {A : Type 0} (r : A × ℕ) (p : A) (m : ℕ) → r.0 ≡ p → r.1 ≡ m → r ≡ (p, m)
@@ -101,7 +101,7 @@ stuck-byte s cs t n offset b more e f g =
     ap (λ p. fits p (drop offset t) s) one.parts_are
     ∙ ap (λ x. fits (One one.set ∷ parts (drop (n + 1 + more) cs)) x s) (drop-some offset t b f)
     ∙ fits-one s one.set (parts (drop (n + 1 + more) cs)) b (drop (offset + 1) t)
-    ∙ and-no (set_holds s one.set b) _ one.answered
+    ∙ and_left (set_holds s one.set b) _ one.answered
 
 pub stuck-end :
     (s : Slash) (cs : List Ch) (t : List ℕ) (n offset b : ℕ) → slice_get t offset ≡ Some b →
@@ -219,22 +219,18 @@ ends-stuck s cs t at offset start from k e f = go (slice_get t from) refl
 
 -- ---- Characters before the first special one
 
-or-none : (a b : Bool) → (a || b) ≡ false → (a ≡ false) × (b ≡ false)
-or-none true b e = cc
-or-none false b e = (refl, e)
-
 -- the answer of a character that is not special
 literal-answer :
     (s : Slash) (cs : List Ch) (n b : ℕ) (c : Ch) → slice_get cs n ≡ Some c → (is_plain 42 c || (is_plain 63 c || is_plain 91 c)) ≡ false →
     option_map (part_answer s b) (part_of (drop n cs)) ≡ Some (b == c.byte, 0)
 literal-answer s cs n b c e special =
-    let star = or-none (is_plain 42 c) (is_plain 63 c || is_plain 91 c) special in
-    let others = or-none (is_plain 63 c) (is_plain 91 c) star.1 in
+    let star = or_parts (is_plain 42 c) (is_plain 63 c || is_plain 91 c) special in
+    let others = or_parts (is_plain 63 c) (is_plain 91 c) star.1 in
     ap (option_map (part_answer s b)) (part_of-at n cs c e ∙ ap Some (part-byte c (drop (n + 1) cs) star.0 others.0 others.1))
 
 no-star : (cs : List Ch) (n : ℕ) (c : Ch) → slice_get cs n ≡ Some c → (is_plain 42 c || (is_plain 63 c || is_plain 91 c)) ≡ false →
     has (is_plain 42) (slice_get cs n) ≡ false
-no-star cs n c e special = ap (has (is_plain 42)) e ∙ (or-none (is_plain 42 c) (is_plain 63 c || is_plain 91 c) special).0
+no-star cs n c e special = ap (has (is_plain 42)) e ∙ (or_parts (is_plain 42 c) (is_plain 63 c || is_plain 91 c) special).0
 
 pub literal-kept :
     (s : Slash) (cs : List Ch) (t : List ℕ) (n b : ℕ) (c : Ch) → Keeps s cs t n n None → slice_get cs n ≡ Some c →

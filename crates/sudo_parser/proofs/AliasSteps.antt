@@ -15,12 +15,13 @@ use Rattle.sudo_grammar.specs.declared.fault.Unsupported.TheVariants as forms
 use Rattle.sudo_parser.specs.declared.stops.ParserStop.TheVariants as stops
 use Rattle.sudo_parser.specs.Body.Stops.{Stops, IsNotNext}
 use Rattle.sudo_grammar.specs.Reading.{reading}
-use Rattle.sudo_parser.proofs.Steps.{reading-stuck, stops-here, stops-same}
+use Rattle.sudo_parser.proofs.Steps.{stops-here, stops-same}
 use Rattle.std.proofs.lemmas.Bool.Decides.{nat_tests}
 use Rattle.sudo_grammar.specs.Words.{name_of}
 use Rattle.sudo_grammar.specs.States.{Defines, AliasName, AfterName, AfterItem, Room, at_alias_name, after_item}
 use Rattle.sudo_grammar.specs.Refusals.{refused_name}
 use Rattle.sudo_parser.specs.Body.Aliases.{IsFull, StopsInName, ReadsDefinition, ReadsToDefinition}
+use Rattle.sudo_grammar.proofs.Limits.{reading-stops}
 
 -- no token where the name of a definition must stand
 pub name-missing : (full : Bool) (whole : List Token) → whole ≡ []
@@ -33,7 +34,7 @@ name-stops : (full : Bool) (t : Token) (ts : List Token) (r : Refusal)
     → at_alias_name room kind done (name_of t.kind) ≡ None)
     → refused_name (t ∷ ts) ≡ r → StopsInName full (t ∷ ts) (stops.At r (length (t ∷ ts)))
 name-stops full t ts r none is = λ room kind done same.
-    stops-here room (AliasName kind done) (t ∷ ts) r (reading-stuck room (AliasName kind done) t ts (none room kind done same)) is
+    stops-here room (AliasName kind done) (t ∷ ts) r (reading-stops room (AliasName kind done) t ts (none room kind done same)) is
 
 -- another token there
 pub name-other : (full : Bool) (whole : List Token) (t : Token) (ts : List Token) → whole ≡ t ∷ ts
@@ -70,7 +71,7 @@ definitions-stop room kind limit ts ds rest d [] full same so_far r fits colon s
 definitions-stop room kind limit ts ds rest d (t ∷ after) full same so_far r fits colon some =
     stops-same (stops.At (refusals.Syntax wants.EndOfLine) (length (t ∷ after))) _ _ (so_far room same ∙ r.reads room ds fits)
     (stops-here room (AfterItem (Defines kind ds d.name) d.members) (t ∷ after) _
-    (reading-stuck room (AfterItem (Defines kind ds d.name) d.members) t after
+    (reading-stops room (AfterItem (Defines kind ds d.name) d.members) t after
     (list-stuck kind ds d.name d.members t t.kind r.no_more colon))
     (ap (λ b. cond b (refusals.Unsupported forms.CommandOption) (refusals.Syntax wants.EndOfLine)) r.no_option))
 

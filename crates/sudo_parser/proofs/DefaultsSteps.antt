@@ -13,12 +13,14 @@ use Rattle.sudo_parser.specs.declared.stops.ParserStop.{ParserStop}
 use Rattle.sudo_parser.specs.declared.stops.ParserStop.TheVariants as stops
 use Rattle.sudo_parser.specs.Body.Stops.{Stops, IsNotNext}
 use Rattle.sudo_grammar.specs.Reading.{reading}
-use Rattle.sudo_parser.proofs.Steps.{reading-step, reading-stuck, stops-here, stops-same}
+use Rattle.sudo_parser.proofs.Steps.{stops-here, stops-same}
 use Rattle.sudo_grammar.specs.declared.policy.Operator.{Operator}
 use Rattle.sudo_grammar.specs.Openings.{is_word, operator_of}
 use Rattle.sudo_grammar.specs.States.{AtParameter, AfterSwitch, AtValue, Room, at_parameter, after_switch, at_operator, at_value}
 use Rattle.sudo_parser.specs.Body.Lists.{ReadsBangs}
 use Rattle.sudo_parser.specs.Body.Defaults.{IsWordNext, IsNoWordNext, IsWordMissing, IsOperatorNext, EndsParameter, ReadsParameter, StopsInParameter}
+use Rattle.sudo_grammar.proofs.Complete.{operator-value, word-parameter, reading-step}
+use Rattle.sudo_grammar.proofs.Limits.{reading-stops}
 
 parameter-none : (b : Option Binding) (d : List Parameter) (n : ℕ) (t : Token) (k : TokenKind)
     → (k ≡ tokens.Mark marks.Bang → ⊥) → is_word k ≡ false → at_parameter b d n t k ≡ None
@@ -34,7 +36,7 @@ missing-here : (room : Room) (b : Option Binding) (d : List Parameter) (n : ℕ)
     → IsNoWordNext ts → Stops (stops.At (refusals.Syntax wants.Parameter) (length ts)) (reading room (AtParameter b d n) ts)
 missing-here room b d n [] bang none = stops-here room (AtParameter b d n) [] _ refl refl
 missing-here room b d n (t ∷ ts) bang none = stops-here room (AtParameter b d n) (t ∷ ts) _
-    (reading-stuck room (AtParameter b d n) t ts (parameter-none b d n t t.kind bang none)) refl
+    (reading-stops room (AtParameter b d n) t ts (parameter-none b d n t t.kind bang none)) refl
 
 -- no word where the name of a parameter must stand
 pub name-missing : (ts : List Token) (n : ℕ) (named : List Token) (e : ParserStop) → ReadsBangs ts n named
@@ -44,11 +46,6 @@ name-missing ts n named (stops.At refusal left) r bang (is, (count, none)) = λ 
     (subst (λ x. Stops (stops.At (refusals.Syntax wants.Parameter) x) (reading room (AtParameter b d 0) ts)) (sym count)
     (stops-same (stops.At (refusals.Syntax wants.Parameter) (length named)) _ _ (bangs-read ts n named r room b d) (missing-here room b d n named bang none)))
 name-missing ts n named stops.Memory r bang h = λ room b d. tt
-
-word-taken : (b : Option Binding) (d : List Parameter) (n : ℕ) (t : Token) (k : TokenKind) → is_word k ≡ true
-    → at_parameter b d n t k ≡ Some (AfterSwitch b d n t)
-word-taken b d n t (tokens.Word quoted chars) h = refl
-word-taken b d n t _ h = cc
 
 switched-past : (n : ℕ) (w : Token) (b : Option Binding) (d : List Parameter) (k : TokenKind) → (k ≡ tokens.Mark marks.Comma → ⊥)
     → after_switch b d (suc n) w k ≡ None
@@ -67,7 +64,7 @@ switched-reads ts n named w rest r (is, word) some = record {
   less = omega (arith, r.no_longer, ap length is);
   past = past n w rest some;
   reads = λ room b d. bangs-read ts n named r room b d ∙ ap (reading room (AtParameter b d n)) is
-      ∙ reading-step room (AtParameter b d n) (AfterSwitch b d n w) w rest (word-taken b d n w w.kind word);
+      ∙ reading-step room (AtParameter b d n) (AfterSwitch b d n w) w rest (word-parameter b d n w w.kind word);
 }
 
 value-none : (b : Option Binding) (d : List Parameter) (w : Token) (o : Operator) (t : Token) (k : TokenKind) → is_word k ≡ false
@@ -79,25 +76,20 @@ no-value : (room : Room) (b : Option Binding) (d : List Parameter) (w : Token) (
     → Stops (stops.At (refusals.Syntax wants.Value) (length ts)) (reading room (AtValue b d w o) ts)
 no-value room b d w o [] none = stops-here room (AtValue b d w o) [] _ refl refl
 no-value room b d w o (t ∷ ts) none = stops-here room (AtValue b d w o) (t ∷ ts) _
-    (reading-stuck room (AtValue b d w o) t ts (value-none b d w o t t.kind none)) refl
-
-operator-taken : (b : Option Binding) (d : List Parameter) (w : Token) (o : Operator) (k : TokenKind) → operator_of k ≡ Some o
-    → after_switch b d 0 w k ≡ Some (AtValue b d w o)
-operator-taken b d w o (tokens.Mark marks.Comma) h = cc
-operator-taken b d w o k h = ap (at_operator b d 0 w) h
+    (reading-stops room (AtValue b d w o) t ts (value-none b d w o t t.kind none)) refl
 
 operator-read : (room : Room) (b : Option Binding) (d : List Parameter) (w : Token) (o : Operator) (ts rest : List Token)
     → IsOperatorNext ts o rest → reading room (AfterSwitch b d 0 w) ts ≡ reading room (AtValue b d w o) rest
 operator-read room b d w o [] rest h = absurd h
 operator-read room b d w o (t ∷ ts) rest h =
-    reading-step room (AfterSwitch b d 0 w) (AtValue b d w o) t ts (operator-taken b d w o t.kind h.0) ∙ ap (reading room (AtValue b d w o)) h.1
+    reading-step room (AfterSwitch b d 0 w) (AtValue b d w o) t ts (operator-value b d w o t.kind h.0) ∙ ap (reading room (AtValue b d w o)) h.1
 
 name-read : (room : Room) (b : Option Binding) (d : List Parameter) (ts : List Token) (n : ℕ) (named : List Token) (w : Token)
     (after : List Token) → ReadsBangs ts n named → n ≡ 0 → IsWordNext named w after
     → reading room (AtParameter b d 0) ts ≡ reading room (AfterSwitch b d 0 w) after
 name-read room b d ts n named w after r none (is, word) = bangs-read ts n named r room b d
     ∙ ap (λ k. reading room (AtParameter b d k) named) none ∙ ap (reading room (AtParameter b d 0)) is
-    ∙ reading-step room (AtParameter b d 0) (AfterSwitch b d 0 w) w after (word-taken b d 0 w w.kind word)
+    ∙ reading-step room (AtParameter b d 0) (AfterSwitch b d 0 w) w after (word-parameter b d 0 w w.kind word)
 
 -- no word where the value of a parameter must stand
 pub value-missing : (ts : List Token) (n : ℕ) (named : List Token) (w : Token) (after : List Token) (o : Operator) (valued : List Token)

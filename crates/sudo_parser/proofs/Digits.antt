@@ -16,7 +16,7 @@ pub decimal_after-grows : (value : ℕ) (bytes : List ℕ) → value ≤ decimal
 decimal_after-grows value [] = omega arith
 decimal_after-grows value (b ∷ bs) = omega (arith, decimal_after-grows (10 * value + (b - 48)) bs)
 
--- the bytes from a place on begin with the one there
+-- the bytes from an index on begin with the one there
 from_place : (bytes : List ℕ) (i : ℕ) → i < length bytes → drop i bytes ≡ get_or bytes i 0 ∷ drop (i + 1) bytes
 from_place bytes i h = rw (add-one, drop-cons bytes i 0)
 

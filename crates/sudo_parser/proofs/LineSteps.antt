@@ -14,10 +14,12 @@ use Rattle.sudo_parser.specs.declared.stops.ParserStop.{ParserStop}
 use Rattle.sudo_parser.specs.declared.stops.ParserStop.TheVariants as stops
 use Rattle.sudo_parser.specs.Body.Stops.{Stops, GivesEntry}
 use Rattle.sudo_grammar.specs.Reading.{reading}
-use Rattle.sudo_parser.proofs.Steps.{reading-step, reading-stuck, reading-same, stops-here, stops-same}
+use Rattle.sudo_parser.proofs.Steps.{reading-same, stops-here, stops-same}
 use Rattle.sudo_grammar.specs.Openings.{Directive, BadDirective, Other, opening_of, has_host_escape}
 use Rattle.sudo_grammar.specs.States.{Start, Users, Item, Included, State, Room, at_start, step}
 use Rattle.sudo_grammar.specs.Refusals.{refused_start}
+use Rattle.sudo_grammar.proofs.Complete.{reading-step}
+use Rattle.sudo_grammar.proofs.Limits.{reading-stops}
 
 bad-opening : (folder hash : Bool) (path : List Ch) → has_host_escape path ≡ true
     → opening_of (tokens.Include folder hash path) ≡ BadDirective path
@@ -41,7 +43,7 @@ include-escaped room t rest folder hash path left h is count =
     let bad : opening_of t.kind ≡ BadDirective path = ap opening_of is ∙ bad-opening folder hash path h in
     let long : left ≡ length (t ∷ rest) = omega (arith, count) in
     subst (λ x. Stops (stops.At (refusals.Unsupported forms.HostEscape) x) (reading room Start (t ∷ rest))) (sym long)
-    (stops-here room Start (t ∷ rest) _ (reading-stuck room Start t rest (ap (λ o. at_start o t) bad))
+    (stops-here room Start (t ∷ rest) _ (reading-stops room Start t rest (ap (λ o. at_start o t) bad))
     (ap (refused_start (t ∷ rest)) bad ∙ bad-refused (t ∷ rest) path h))
 
 pub include-more : (room : Room) (t : Token) (rest : List Token) (folder hash : Bool) (path : List Ch) → (path ≡ [] → ⊥)

@@ -28,13 +28,15 @@ use Rattle.sudo_grammar.specs.Reading.{reading}
 use Rattle.sudo_parser.specs.Body.Gives.{Declines}
 use Rattle.sudo_parser.specs.Body.Stops.{IsMark, IsNext, IsNotNext}
 use Rattle.sudo_parser.specs.Body.Lists.{ReadsBangs, command_in, IsShut, Takes, stop_of_member, option_begins, StopsAtMember, StopsInItem, ReadsItem, ReadsToItem, ReadsItems, StopsInItems}
-use Rattle.sudo_parser.proofs.Steps.{reading-step, reading-stuck, reading-mark, stops-here, stops-same, IsNext-less}
+use Rattle.sudo_parser.proofs.Steps.{reading-mark, stops-here, stops-same, IsNext-less}
+use Rattle.sudo_grammar.proofs.Complete.{at_item-member, reading-step}
+use Rattle.sudo_grammar.proofs.Limits.{reading-stops}
 
 member_stop-here : (kind : Kind) (bangs : ℕ) (t : Token) (ts : List Token) (e : MemberFault) → (IsMark marks.Bang t → ⊥)
     → Declines e (atom_of kind t.kind) → StopsAtMember kind bangs (t ∷ ts) (stop_of_member kind t ts e (length (t ∷ ts)))
 member_stop-here kind bangs t ts (declines.Refused r) other h = λ room before after takes shut.
     stops-here room (before bangs) (t ∷ ts) _
-    (reading-stuck room (before bangs) t ts (takes.refuses bangs t r other shut h))
+    (reading-stops room (before bangs) t ts (takes.refuses bangs t r other shut h))
     (takes.refusal bangs (t ∷ ts) ∙ ap (refused_atom kind t ts) h)
 member_stop-here kind bangs t ts declines.Memory other h = λ room before after takes shut. tt
 
@@ -92,12 +94,6 @@ at_item-none : (p : Purpose) (n : ℕ) (d : List Member) (t : Token) (r : Refusa
     → (kind ≡ tokens.Mark marks.Bang → ⊥) → atom_of (kind_for p) t.kind ≡ Err r → at_item p n d t kind ≡ None
 at_item-none p n d t r (tokens.Mark marks.Bang) other h = absurd (other refl)
 at_item-none p n d t r _ other h = ap (member_state p n d t) h
-
--- a token that stands for an atom is taken as that member
-at_item-member : (p : Purpose) (n : ℕ) (d : List Member) (t : Token) (kind : TokenKind) (a : Atom)
-    → atom_of (kind_for p) kind ≡ Ok a → at_item p n d t kind ≡ after_member p n d t
-at_item-member p n d t (tokens.Mark marks.Bang) a h = cc
-at_item-member p n d t _ a h = refl
 
 item-taken : (p : Purpose) (d : List Member) (m : Member) → atom_of (kind_for p) m.token.kind ≡ Ok m.atom
     → at_item p m.bangs d m.token m.token.kind ≡ Some (AfterItem p (d ++ m ∷ []))
@@ -172,12 +168,12 @@ option-stuck : (room : Room) (p : Purpose) (d : List Member) (m : Member) (ts : 
 option-stuck room p d m [] h = absurd (option-some m (option-in (kind_for p) m [] h))
 option-stuck room p d m (t ∷ ts) h =
     let equals : IsMark marks.Equals t = option-equals m t ts (option-in (kind_for p) m (t ∷ ts) h) in
-    reading-stuck room (AfterItem p (d ++ m ∷ [])) t ts
+    reading-stops room (AfterItem p (d ++ m ∷ [])) t ts
     (ap (after_item p (d ++ m ∷ []) t) equals ∙ commands-stuck p (d ++ m ∷ []) t (option-kind (kind_for p) m (t ∷ ts) h))
     ∙ ap (λ o. Err (record { rest = t ∷ ts; refusal = or_option o (t ∷ ts) (refusal_after_list p (t ∷ ts)) })) (last_command-snoc (kind_for p) d m)
     ∙ ap (λ b. Err (record { rest = t ∷ ts; refusal = cond b (refusals.Unsupported forms.CommandOption) (refusal_after_list p (t ∷ ts)) })) h
 
--- the places of a list's item
+-- the states of a list's item
 pub item-takes : (room : Room) (p : Purpose) (d : List Member) (kind : Kind) → kind_for p ≡ kind
     → Takes kind room (λ n. Item p n d) (λ m. AfterItem p (d ++ m ∷ []))
 item-takes room p d kind same = subst (λ k. Takes k room (λ n. Item p n d) (λ m. AfterItem p (d ++ m ∷ []))) same (record {

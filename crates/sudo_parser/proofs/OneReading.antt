@@ -66,9 +66,9 @@ one_first_fault before (line ∷ lines) a b (inr (line_entry, says, later)) (inr
     one_first_fault (before ++ entry_of line line_entry) lines a b later (subst (λ s. IsFirstFaultAfter (before ++ entry_of line s) lines b) (sym same) later2)
 
 -- Lines that have entries have no fault.
-pub entries_no_fault : (before : List Entry) (lines : List Line) (entries : List Entry) (fault : ParseFault) → AreEntriesAfter before lines entries → IsFirstFaultAfter before lines fault → ⊥
-entries_no_fault before [] entries fault are is = is
-entries_no_fault before (line ∷ lines) entries fault (line_entry, rest, says, are, whole) (inl here) = says_no_fault (room_after before) line line_entry fault says here
-entries_no_fault before (line ∷ lines) entries fault (line_entry, rest, says, are, whole) (inr (said2, says2, later)) =
+pub entries-no-fault : (before : List Entry) (lines : List Line) (entries : List Entry) (fault : ParseFault) → AreEntriesAfter before lines entries → IsFirstFaultAfter before lines fault → ⊥
+entries-no-fault before [] entries fault are is = is
+entries-no-fault before (line ∷ lines) entries fault (line_entry, rest, says, are, whole) (inl here) = says_no_fault (room_after before) line line_entry fault says here
+entries-no-fault before (line ∷ lines) entries fault (line_entry, rest, says, are, whole) (inr (said2, says2, later)) =
     let same : line_entry ≡ said2 = one_said (room_after before) line line_entry said2 says says2 in
-    entries_no_fault (before ++ entry_of line line_entry) lines rest fault are (subst (λ s. IsFirstFaultAfter (before ++ entry_of line s) lines fault) (sym same) later)
+    entries-no-fault (before ++ entry_of line line_entry) lines rest fault are (subst (λ s. IsFirstFaultAfter (before ++ entry_of line s) lines fault) (sym same) later)

@@ -21,7 +21,7 @@ use Rattle.sudo_grammar.specs.declared.fault.Unsupported.TheVariants as forms
 use Rattle.sudo_parser.specs.declared.stops.ParserStop.{ParserStop}
 use Rattle.sudo_parser.specs.Body.Stops.{Stops, IsNext, IsNotNext}
 use Rattle.sudo_grammar.specs.Reading.{reading}
-use Rattle.sudo_parser.proofs.Steps.{reading-stuck, reading-same, stops-same, not-head}
+use Rattle.sudo_parser.proofs.Steps.{reading-same, stops-same, not-head}
 use Rattle.sudo_grammar.specs.Words.{tag_of}
 use Rattle.sudo_grammar.specs.Members.{atom_of}
 use Rattle.sudo_grammar.specs.Forms.{as_tag}
@@ -31,13 +31,8 @@ use Rattle.sudo_parser.specs.Body.Lists.{Takes, IsShut, ReadsItem, StopsInItem, 
 use Rattle.sudo_parser.specs.Body.Runas.{ReadsRunas}
 use Rattle.sudo_parser.specs.Body.Rules.{IsNoTagNext, ReadsTags, ReadsSpec, StopsInSpec, ReadsSections, StopsInSections}
 use Rattle.sudo_parser.proofs.ListSteps.{option-equals, option-some}
-
--- a token that stands for an atom is taken as that command
-command-member : (g : Granting) (r : Option Runas) (d : List Tag) (n : ℕ) (t : Token) (kind : TokenKind) (a : Atom)
-    → atom_of kinds.Cmnd kind ≡ Ok a → at_command g r d n t kind ≡ command_state g r d n t (atom_of kinds.Cmnd t.kind)
-command-member g r d n t (tokens.Mark marks.Bang) a h = cc
-command-member g r d n t (tokens.Mark marks.LeftParen) a h = cc
-command-member g r d n t _ a h = refl
+use Rattle.sudo_grammar.proofs.Complete.{at_command-member}
+use Rattle.sudo_grammar.proofs.Limits.{reading-stops}
 
 command-none : (g : Granting) (r : Option Runas) (d : List Tag) (n : ℕ) (t : Token) (e : Refusal) (kind : TokenKind)
     → (kind ≡ tokens.Mark marks.Bang → ⊥) → (kind ≡ tokens.Mark marks.LeftParen → at_command g r d n t kind ≡ None)
@@ -55,15 +50,15 @@ command-option : (room : Room) (g : Granting) (s : CommandSpec) (ts : List Token
     → reading room (AfterCommand g s) ts ≡ Err (record { rest = ts; refusal = refusals.Unsupported forms.CommandOption })
 command-option room g s [] h = absurd (option-some s.command h)
 command-option room g s (t ∷ ts) h =
-    reading-stuck room (AfterCommand g s) t ts (ap (after_command g s) (option-equals s.command t ts h))
+    reading-stops room (AfterCommand g s) t ts (ap (after_command g s) (option-equals s.command t ts h))
     ∙ ap (λ b. Err (record { rest = t ∷ ts; refusal = cond b (refusals.Unsupported forms.CommandOption) (refusals.Syntax wants.EndOfLine) })) h
 
--- the places of a command
+-- the states of a command
 pub command-takes : (room : Room) (g : Granting) (r : Option Runas) (d : List Tag)
     → Takes kinds.Cmnd room (λ n. Command g r d n) (λ m. AfterCommand g (record { runas = r; tags = d; command = m }))
 command-takes room g r d = record {
   counts = λ n t is. ap (at_command g r d n t) is;
-  takes = λ m h. command-member g r d m.bangs m.token m.token.kind m.atom h ∙ ap (command_state g r d m.bangs m.token) h;
+  takes = λ m h. at_command-member g r d m.bangs m.token m.token.kind m.atom h ∙ ap (command_state g r d m.bangs m.token) h;
   refuses = λ n t e other shut h. command-none g r d n t e t.kind other shut h;
   shut = λ n t is. ap (at_command g r d (suc n) t) is ∙ paren-none g r d n;
   unfinished = λ n. refl;

@@ -5,7 +5,7 @@ ghost use Rattle.sudo_grammar.specs.Members.{is_bare};
 ghost use Rattle.sudo_text.specs.declared.token.Token.{Token};
 ghost use Rattle.sudo_text.specs.declared.token.TokenKind.TheVariants as tokens;
 ghost use Rattle.sudo_grammar.specs.Openings as grammar;
-ghost use Rattle.sudo_grammar.specs.States as places;
+ghost use Rattle.sudo_grammar.specs.States as states;
 ghost use Rattle.sudo_grammar.specs.States.{Start};
 ghost use Rattle.sudo_grammar.specs.Reading.{reading};
 ghost use Rattle.sudo_grammar.specs.Faults.{WritesWithin};
@@ -106,7 +106,7 @@ fn include(
     rest: &[Token],
 ) -> Result<EntryBody, ParserStop>
     requires { left ≡ length rest.now + 1 }
-    ensures { (room : places.Room) (t : Token) → t.kind ≡ tokens.Include folder hash path.now
+    ensures { (room : states.Room) (t : Token) → t.kind ≡ tokens.Include folder hash path.now
         → GivesEntry result (reading room Start (t ∷ rest.now)) }
 {
     if path.is_empty() {

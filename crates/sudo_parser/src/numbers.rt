@@ -25,8 +25,8 @@ pub(crate) fn number(bytes: &[u8]) -> Option<u32>
 }
 
 // Returns the index of the first separator.
-fn place_of(bytes: &[u8], separator: u8) -> Option<usize>
-    ensures place { result ≡ position (λ b. b == separator) bytes.now }
+fn index_of(bytes: &[u8], separator: u8) -> Option<usize>
+    ensures index { result ≡ position (λ b. b == separator) bytes.now }
     ensures inside { IfSome result (λ at. at < length bytes.now) }
 {
     bytes.iter().position(|b| *b == separator)
@@ -36,7 +36,7 @@ fn place_of(bytes: &[u8], separator: u8) -> Option<usize>
 pub(crate) fn cut(bytes: &[u8], separator: u8) -> Option<(&[u8], &[u8])>
     ensures { option_map (λ parts. (parts.0.now, parts.1.now)) result ≡ cut_at separator bytes.now }
 {
-    match place_of(bytes, separator) {
+    match index_of(bytes, separator) {
         Some(at) => {
             let (front, _) = bytes.split_at(at);
             let (_, rest) = bytes.split_at(at + 1);

@@ -9,7 +9,7 @@ use Rattle.sudo_policy.specs.declared.graph.State.{State}
 use Rattle.sudo_policy.specs.declared.graph.State.TheVariants.{New, Open, Done, Looped}
 use Rattle.sudo_policy.specs.Body.Graph.{Links, Edge, Path, step, more, ReachesCycle, measure_of_both, deeper, link_measure, row_measure, measure_within, MarksOf, StateHolds, StatesHold, IsSettled, is_looped}
 use Rattle.sudo_policy.specs.Body.Marking.{IsMarked, IsUnmarked, AreSet, PathPast, ReversesUpTo, IsClosedOverCycles, DecidesCycles}
-use Rattle.sudo_policy.proofs.FollowingLemmas.{option_join-parts, option_map_some}
+use Rattle.sudo_policy.proofs.FollowingLemmas.{option_join-parts, option_map-some}
 use Rattle.sudo_policy.proofs.GraphLemmas.{Path-edge, Path-path}
 use Rattle.sudo_policy.proofs.MarkingLemmas.{one_in, none_in, marked_or_not, marked_more, AreSet-kept, AreSet-cases}
 use Rattle.sudo_policy.proofs.PastLemmas.{PathPast-path, PathPast-end, path_past}
@@ -40,7 +40,7 @@ link_has inner (l ∷ ls) a j is has =
       | inl first ↦
           (let same : l ≡ Some j = one_in l (Some j) first in
           let at : option_map deeper (inner j) ≡ Some k.first = subst (λ (x : Option ℕ). link_measure inner x ≡ Some k.first) same k.first_is in
-          let m = option_map_some deeper (inner j) k.first at in
+          let m = option_map-some deeper (inner j) k.first at in
           (m.0, m.1))
       | inr rest ↦ link_has inner ls k.second j k.second_is rest
     ]

@@ -19,11 +19,11 @@ use Rattle.sudo_policy.specs.Body.Judgement.{is_deep, is_wide, AreAliasMarks, fo
 use Rattle.sudo_policy.specs.Body.DefinitionRef.{alias_view, row_of, row_of_alias, granting_row, link_of, IsSurvey, LeadsInside}
 use Rattle.sudo_policy.specs.Positions.{names_of_kind}
 use Rattle.std.proofs.lemmas.Option.{slice_get-map}
-use Rattle.sudo_policy.proofs.FollowingLemmas.{option_map_some}
+use Rattle.sudo_policy.proofs.FollowingLemmas.{option_map-some}
 use Rattle.sudo_policy.proofs.JudgeLemmas.{cyclic_are, deep_are, wide_are, unused_are, have_depths}
 use Rattle.sudo_policy.proofs.LinkLemmas.{in_map, in_flat}
 use Rattle.sudo_policy.proofs.MarkingLemmas.{none_in}
-use Rattle.sudo_policy.proofs.MeasureLemmas.{find_passes}
+use Rattle.sudo_policy.proofs.MeasureLemmas.{find-passes}
 use Rattle.sudo_policy.specs.Resolving.{IsSound}
 use Rattle.sudo_policy.proofs.SoundnessLemmas.{sound_from}
 use Rattle.sudo_policy.proofs.StateLemmas.{get_within}
@@ -46,7 +46,7 @@ row_leads index n kind ms inside j h =
 
 pub links_closed : (index : Index) (ds : List AliasDefinition) → ((kind : Kind) (name : List ℕ) (i : ℕ) → index_of (names_of_kind index kind) name ≡ Some i → i < length ds) → IsClosed (map (row_of_alias index) ds)
 links_closed index ds inside i j e =
-    let k = option_map_some (row_of_alias index) (slice_get ds i) e.row (sym (slice_get-map (row_of_alias index) ds i) ∙ e.row_is) in
+    let k = option_map-some (row_of_alias index) (slice_get ds i) e.row (sym (slice_get-map (row_of_alias index) ds i) ∙ e.row_is) in
     let less = row_leads index (length ds) k.0.kind k.0.members inside j (subst (λ (r : List (Option ℕ)). Contains r (Some j)) k.2 e.has) in
     let long = length_mapped (row_of_alias index) ds in
     omega (arith, less, long)
@@ -188,7 +188,7 @@ module _ (p : Policy) (survey : Survey) (s : IsSurvey p (definitions p) survey) 
       by (Some i) e =
           let d = get_within (map alias_view survey.aliases.items) i (s.indexed.inside kind name i e) in
           let found : find (defines kind name) (definitions p) ≡ Some d.0 = sym (s.indexed.lookup kind name) ∙ ap (option_and_then (slice_get (map alias_view survey.aliases.items))) e ∙ d.1 in
-          let same = defines-same kind name d.0 (find_passes (defines kind name) (definitions p) d.0 found) in
+          let same = defines-same kind name d.0 (find-passes (defines kind name) (definitions p) d.0 found) in
           let both : Some d.0.members ≡ Some ms = sym (ap (option_map (λ (d : AliasDefinition). d.members)) found) ∙ is in
           (i, d.0, sym (ap (λ (xs : List AliasDefinition). slice_get xs i) s.aliases_are) ∙ d.1, sym same.0, (let e : d.0.members ≡ ms = cc in e))
 

@@ -23,9 +23,9 @@ pub option_join-from : {R : Type 0} (join : R → R → R) (x y : Option R) (a b
 option_join-from join x y a b r at_x at_y whole = rw (at_x, at_y, whole) refl
 
 -- the value under a map is there
-pub option_map_some : {A B : Type 0} (f : A → B) (o : Option A) (b : B) → option_map f o ≡ Some b → (a : A) × (o ≡ Some a) × (b ≡ f a)
-option_map_some f None b h = cc
-option_map_some f (Some a) b h = (a, refl, cc)
+pub option_map-some : {A B : Type 0} (f : A → B) (o : Option A) (b : B) → option_map f o ≡ Some b → (a : A) × (o ≡ Some a) × (b ≡ f a)
+option_map-some f None b h = cc
+option_map-some f (Some a) b h = (a, refl, cc)
 
 -- a member whose definition has the members ds, and the others, come to r
 pub record InnerParts {R : Type 0} (g : Reading R) (kind : Kind) (p : Policy) (n : ℕ) (m : Member) (ds rest : List Member) (r : R) : Type 0 where
@@ -40,7 +40,7 @@ module _ {R : Type 0} (g : Reading R) (kind : Kind) (p : Policy) where
   pub member_reading_more : (inner more : List Member → Option R) → ((ms : List Member) (r : R) → inner ms ≡ Some r → more ms ≡ Some r) → (m : Member) (ds : Option (List Member)) (r : R) → member_reading g inner m ds ≡ Some r → member_reading g more m ds ≡ Some r
   member_reading_more inner more up m None r h = h
   member_reading_more inner more up m (Some ms) r h =
-      let k = option_map_some (g.through m) (inner ms) r h in
+      let k = option_map-some (g.through m) (inner ms) r h in
       ap (option_map (g.through m)) (up ms k.0 k.1) ∙ ap Some (sym k.2)
 
   pub list_reading_more : (inner more : List Member → Option R) → ((ms : List Member) (r : R) → inner ms ≡ Some r → more ms ≡ Some r) → (ms : List Member) (r : R) → list_reading g kind p inner ms ≡ Some r → list_reading g kind p more ms ≡ Some r
@@ -70,7 +70,7 @@ module _ {R : Type 0} (g : Reading R) (kind : Kind) (p : Policy) where
   inner_parts n m ds rest r is h =
       let k = reading_parts n m rest r h in
       let first : member_reading g (reading_within g kind p n) m (Some ds) ≡ Some k.first = subst (λ (o : Option (List Member)). member_reading g (reading_within g kind p n) m o ≡ Some k.first) is k.first_is in
-      let i = option_map_some (g.through m) (reading_within g kind p n ds) k.first first in
+      let i = option_map-some (g.through m) (reading_within g kind p n ds) k.first first in
       record { inner = i.0; others = k.second; inner_is = reading_step n ds i.0 i.1; others_is = k.second_is; whole = k.whole ∙ ap (λ x. g.join x k.second) i.2 }
 
   -- the value of a list is one, however many steps show it

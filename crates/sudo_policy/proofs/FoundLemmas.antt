@@ -9,7 +9,7 @@ use Rattle.sudo_policy.specs.Found.{Marks, AreFindings, found_by}
 use Rattle.sudo_policy.proofs.StateLemmas.{get_within, within_get}
 
 -- two lists with the same elements
-same_lists : {X : Type 0} (xs ys : List X) → length xs ≡ length ys → ((i : ℕ) (x y : X) → slice_get xs i ≡ Some x → slice_get ys i ≡ Some y → x ≡ y) → xs ≡ ys
+pub same_lists : {X : Type 0} (xs ys : List X) → length xs ≡ length ys → ((i : ℕ) (x y : X) → slice_get xs i ≡ Some x → slice_get ys i ≡ Some y → x ≡ y) → xs ≡ ys
 same_lists [] [] long same = refl
 same_lists [] (y ∷ ys) long same = absurd (omega (arith, long))
 same_lists (x ∷ xs) [] long same = absurd (omega (arith, long))

@@ -3,13 +3,13 @@ use Rattle.std.proofs.Common.{◌≡◌, ℕ, zero, suc, ◌+◌, List, [], ◌�
 use Rattle.std.specs.Prelude.{option_and_then, option_map, slice_get}
 use Rattle.sudo_policy.specs.declared.graph.Measure.{Measure}
 use Rattle.sudo_policy.specs.Body.Graph.{Links, Edge, Path, step, more, ReachesCycle, measure_of_both, deeper, measure_of_one, measure_of_none, link_measure, row_measure, measure_within, Measures}
-use Rattle.sudo_policy.proofs.FollowingLemmas.{option_join-parts, option_join-from, option_map_some}
+use Rattle.sudo_policy.proofs.FollowingLemmas.{option_join-parts, option_join-from, option_map-some}
 
 -- a measure stays, where definitions have as much and more
 link_more : (inner up : ℕ → Option Measure) → ((i : ℕ) (a : Measure) → inner i ≡ Some a → up i ≡ Some a) → (l : Option ℕ) (a : Measure) → link_measure inner l ≡ Some a → link_measure up l ≡ Some a
 link_more inner up all None a h = h
 link_more inner up all (Some j) a h =
-    let k = option_map_some deeper (inner j) a h in
+    let k = option_map-some deeper (inner j) a h in
     ap (option_map deeper) (all j k.0 k.1) ∙ ap Some (sym k.2)
 
 row_more : (inner up : ℕ → Option Measure) → ((i : ℕ) (a : Measure) → inner i ≡ Some a → up i ≡ Some a) → (ls : List (Option ℕ)) (a : Measure) → row_measure inner ls ≡ Some a → row_measure up ls ≡ Some a

@@ -16,7 +16,7 @@ use Rattle.sudo_policy.specs.Body.Graph.{Links, Path, ReachesCycle, Measures, St
 use Rattle.sudo_policy.specs.Body.Judgement.{is_deep, is_wide}
 use Rattle.sudo_policy.specs.Body.DefinitionRef.{IsIndexed}
 use Rattle.sudo_policy.proofs.CycleLemmas.{no_measure, on_cycle_inside}
-use Rattle.sudo_policy.proofs.FollowingLemmas.{reading_same, option_map_some}
+use Rattle.sudo_policy.proofs.FollowingLemmas.{reading_same, option_map-some}
 use Rattle.sudo_policy.proofs.LinkLemmas.{graph, roots, cyclic_is, reached_used, used_reached}
 use Rattle.sudo_policy.proofs.MeasureLemmas.{measure_is}
 use Rattle.sudo_policy.proofs.ReadingMaps.{depth_measured, width_measured, list_measure-deep, list_measure-wide}
@@ -37,7 +37,7 @@ pub Marks-tested : {X : Type 0} (T : AliasDefinition → Type 0) (ds : List Alia
 Marks-tested T ds xs test long agree = record {
   same_length = length_mapped test xs ∙ long;
   exact = λ i d mark at_d at. (
-      let k = option_map_some test (slice_get xs i) mark (sym (slice_get-map test xs i) ∙ at) in (
+      let k = option_map-some test (slice_get xs i) mark (sym (slice_get-map test xs i) ∙ at) in (
         (λ h. (agree i d k.0 at_d k.1).0 (sym k.2 ∙ h)),
         (λ t. k.2 ∙ (agree i d k.0 at_d k.1).1 t),
       ));

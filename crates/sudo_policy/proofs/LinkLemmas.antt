@@ -13,7 +13,7 @@ use Rattle.sudo_policy.specs.Found.{IsCyclic, IsUsed}
 use Rattle.sudo_policy.specs.Body.Graph.{Links, Edge, Path, step, more, IsReached, IsInside}
 use Rattle.sudo_policy.specs.Body.DefinitionRef.{IsIndexed, link_among}
 use Rattle.sudo_policy.proofs.MarkingLemmas.{none_in, one_in, is_one}
-use Rattle.sudo_policy.proofs.MeasureLemmas.{find_passes}
+use Rattle.sudo_policy.proofs.MeasureLemmas.{find-passes}
 use Rattle.sudo_policy.proofs.StateLemmas.{get_within, within_get}
 use Rattle.sudo_policy.proofs.SurveyLemmas.{defines-same}
 
@@ -26,11 +26,11 @@ in_map f (x ∷ xs) y h = elim (Contains-append_cases (f x ∷ []) (map f xs) y 
   | inr rest ↦ (let k = in_map f xs y rest in (k.0, Contains-append_right (x ∷ []) xs k.0 k.1, k.2))
 ]
 
-map_in : {X Y : Type 0} (f : X → Y) (xs : List X) (x : X) → Contains xs x → Contains (map f xs) (f x)
-map_in f [] x h = absurd (none_in x h)
-map_in f (y ∷ ys) x h = elim (Contains-append_cases (y ∷ []) ys x h) [
+map-in : {X Y : Type 0} (f : X → Y) (xs : List X) (x : X) → Contains xs x → Contains (map f xs) (f x)
+map-in f [] x h = absurd (none_in x h)
+map-in f (y ∷ ys) x h = elim (Contains-append_cases (y ∷ []) ys x h) [
   | inl first ↦ Contains-append_left (f y ∷ []) (map f ys) (f x) (subst (λ z. Contains (f z ∷ []) (f x)) (sym (one_in y x first)) (is_one (f x)))
-  | inr rest ↦ Contains-append_right (f y ∷ []) (map f ys) (f x) (map_in f ys x rest)
+  | inr rest ↦ Contains-append_right (f y ∷ []) (map f ys) (f x) (map-in f ys x rest)
 ]
 
 pub in_flat : {X Y : Type 0} (f : X → List Y) (xs : List X) (y : Y) → Contains (flat_map f xs) y → (x : X) × Contains xs x × Contains (f x) y
@@ -82,7 +82,7 @@ module _ (p : Policy) (aliases : List AliasDefinition) (names : Kind → List (L
   pub at_place : (kind : Kind) (name : List ℕ) (i : ℕ) (d : AliasDefinition) → index_of (names kind) name ≡ Some i → slice_get aliases i ≡ Some d → (kind ≡ d.kind) × (name ≡ d.name) × (in_force kind p name ≡ Some d.members)
   at_place kind name i d is at =
       let found : find (defines kind name) (definitions p) ≡ Some d = sym (x.lookup kind name) ∙ ap (option_and_then (slice_get aliases)) is ∙ at in
-      let same = defines-same kind name d (find_passes (defines kind name) (definitions p) d found) in
+      let same = defines-same kind name d (find-passes (defines kind name) (definitions p) d found) in
       (same.0, same.1, ap (option_map (λ (d : AliasDefinition). d.members)) found)
 
   pub in_force_alias : (i : ℕ) (d : AliasDefinition) → slice_get aliases i ≡ Some d → in_force d.kind p d.name ≡ Some d.members
@@ -112,7 +112,7 @@ module _ (p : Policy) (aliases : List AliasDefinition) (names : Kind → List (L
   names_row kind ms name j h is =
       let k = of_used ms name h in
       let link : link_among (names kind) k.0 ≡ Some j = ap (option_and_then (λ n. index_of (names kind) n)) k.2 ∙ is in
-      subst (λ (l : Option ℕ). Contains (row kind ms) l) link (map_in (link_among (names kind)) ms k.0 k.1)
+      subst (λ (l : Option ℕ). Contains (row kind ms) l) link (map-in (link_among (names kind)) ms k.0 k.1)
 
   -- every link leads to an alias
   pub row_closed : (kind : Kind) (ms : List Member) → IsInside (row kind ms) (length aliases)

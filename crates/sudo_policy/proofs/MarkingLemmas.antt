@@ -184,14 +184,14 @@ inside_link link n alias inside is = inside alias (subst (λ (l : Option ℕ). C
 pub inside_row : (row : List (Option ℕ)) (n k : ℕ) (d : Option ℕ) → IsInside row n → k < length row → IsInside (get_or row k d ∷ []) n
 inside_row row n k d inside less i h = inside i (subst (λ (l : Option ℕ). Contains row l) (one_in (get_or row k d) (Some i) h) (Contains-get_or row k d less))
 
-take_front : {X : Type 0} (xs zs : List X) → take (length xs) (xs ++ zs) ≡ xs
-take_front [] [] = refl
-take_front [] (z ∷ zs) = refl
-take_front (x ∷ xs) zs = ap (λ ys. x ∷ ys) (take_front xs zs)
+take-front : {X : Type 0} (xs zs : List X) → take (length xs) (xs ++ zs) ≡ xs
+take-front [] [] = refl
+take-front [] (z ∷ zs) = refl
+take-front (x ∷ xs) zs = ap (λ ys. x ∷ ys) (take-front xs zs)
 
 -- what a slice wrote back into its vector
 pub written_back : {X : Type 0} (n : ℕ) (xs zs : List X) → length xs ≡ n → take n (xs ++ zs) ≡ xs
-written_back n xs zs long = ap (λ k. take k (xs ++ zs)) (sym long) ∙ take_front xs zs
+written_back n xs zs long = ap (λ k. take k (xs ++ zs)) (sym long) ∙ take-front xs zs
 
 -- one value over and over
 all_same : {X : Type 0} (n i : ℕ) (v x : X) → slice_get (replicate n v) i ≡ Some x → x ≡ v
@@ -279,5 +279,5 @@ IsClosed-turned g back t i j e =
 
 -- ---- Rows
 
-pub row_inside : (g : Links) (at : ℕ) (row : List (Option ℕ)) → IsClosed g → slice_get g at ≡ Some row → IsInside row (length g)
-row_inside g at row closed is i h = closed at i (record { row = row; row_is = is; has = h })
+pub row-inside : (g : Links) (at : ℕ) (row : List (Option ℕ)) → IsClosed g → slice_get g at ≡ Some row → IsInside row (length g)
+row-inside g at row closed is i h = closed at i (record { row = row; row_is = is; has = h })

@@ -16,9 +16,9 @@ use Rattle.sudo_policy.proofs.StateLemmas.{get_within}
 use Rattle.sudo_policy.proofs.SurveyLemmas.{defines-same}
 
 -- what a look-up finds passes the test
-pub find_passes : {X : Type 0} (test : X → Bool) (xs : List X) (x : X) → find test xs ≡ Some x → test x ≡ true
-find_passes test [] x h = cc
-find_passes test (y ∷ xs) x h = by (test y) (λ k. find_passes test xs x k) refl h
+pub find-passes : {X : Type 0} (test : X → Bool) (xs : List X) (x : X) → find test xs ≡ Some x → test x ≡ true
+find-passes test [] x h = cc
+find-passes test (y ∷ xs) x h = by (test y) (λ k. find-passes test xs x k) refl h
   where
     by : (b : Bool) → (find test xs ≡ Some x → test x ≡ true) → test y ≡ b → cond b (Some y) (find test xs) ≡ Some x → test x ≡ true
     by true rest e k = let same : y ≡ x = cc in subst (λ z. test z ≡ true) same e
@@ -52,7 +52,7 @@ module _ (p : Policy) (aliases : List AliasDefinition) (names : Kind → List (L
       by (Some name) e h =
           let a = get_within aliases j (x.inside kind name j h) in
           let found : find (defines kind name) (definitions p) ≡ Some a.0 = sym (x.lookup kind name) ∙ ap (option_and_then (slice_get aliases)) h ∙ a.1 in
-          let same = defines-same kind name a.0 (find_passes (defines kind name) (definitions p) a.0 found) in
+          let same = defines-same kind name a.0 (find-passes (defines kind name) (definitions p) a.0 found) in
           (a.0, a.1, sym same.0, ap (option_and_then (in_force kind p)) e ∙ ap (option_map (λ (d : AliasDefinition). d.members)) found)
 
   -- a member without a link has no definition

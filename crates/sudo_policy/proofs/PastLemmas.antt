@@ -41,8 +41,8 @@ ReachedPast-edge g roots marks i j r e there = record {
 }
 
 -- what an alias's row leads to is what the alias leads to
-pub row_path : (g : Links) (marks : List Bool) (node : ℕ) (row : List (Option ℕ)) → slice_get g node ≡ Some row → (i : ℕ) → ReachedPast g row marks i → PathPast g marks node i
-row_path g marks node row at i r =
+pub row-path : (g : Links) (marks : List Bool) (node : ℕ) (row : List (Option ℕ)) → slice_get g node ≡ Some row → (i : ℕ) → ReachedPast g row marks i → PathPast g marks node i
+row-path g marks node row at i r =
     let e : Edge g node r.root = record { row = row; row_is = at; has = r.among } in
     elim r.way [
       | inl same ↦ subst (PathPast g marks node) same (last e r.free)

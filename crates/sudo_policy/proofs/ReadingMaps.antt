@@ -7,7 +7,7 @@ use Rattle.sudo_grammar.specs.declared.kind.Member.{Member}
 use Rattle.sudo_grammar.specs.declared.policy.Policy.{Policy}
 use Rattle.sudo_policy.specs.Following.{Reading, option_join, member_reading, list_reading, reading_within, definition_of_member, depth, width}
 use Rattle.sudo_policy.specs.Body.Graph.{measure_of_both, deeper, list_measure}
-use Rattle.sudo_policy.proofs.FollowingLemmas.{option_map_some}
+use Rattle.sudo_policy.proofs.FollowingLemmas.{option_map-some}
 
 module _ {R S : Type 0} (g : Reading R) (k : Reading S) (h : R → S)
     (nothing : h g.nothing ≡ k.nothing)
@@ -71,7 +71,7 @@ cap-deeper a = same_measure _ _ _ _ (deep a.0) refl
 
 module _ (kind : Kind) (p : Policy) (n : ℕ) (ms : List Member) (a : Measure) (is : reading_within list_measure kind p n ms ≡ Some a) where
   full : (b : ℕ × ℕ) × (reading_within both kind p n ms ≡ Some b) × (a ≡ cap b)
-  full = option_map_some cap (reading_within both kind p n ms) a (reading_map both list_measure cap refl cap-join (λ m. refl) (λ m b. cap-deeper b) kind p n ms ∙ is)
+  full = option_map-some cap (reading_within both kind p n ms) a (reading_map both list_measure cap refl cap-join (λ m. refl) (λ m b. cap-deeper b) kind p n ms ∙ is)
 
   -- the depth of a list whose measure is known
   pub depth_measured : (d : ℕ) × (reading_within depth kind p n ms ≡ Some d) × (a.depth ≡ min d 65)
@@ -84,10 +84,10 @@ module _ (kind : Kind) (p : Policy) (n : ℕ) (ms : List Member) (a : Measure) (
 -- a list with a depth has a measure, and so has one with a width
 pub list_measure-deep : (kind : Kind) (p : Policy) (n : ℕ) (ms : List Member) (d : ℕ) → reading_within depth kind p n ms ≡ Some d → (a : Measure) × (reading_within list_measure kind p n ms ≡ Some a)
 list_measure-deep kind p n ms d is =
-    let k = option_map_some (λ (b : ℕ × ℕ). b.0) (reading_within both kind p n ms) d (reading_map both depth (λ b. b.0) refl (λ x y. refl) (λ m. refl) (λ m b. refl) kind p n ms ∙ is) in
+    let k = option_map-some (λ (b : ℕ × ℕ). b.0) (reading_within both kind p n ms) d (reading_map both depth (λ b. b.0) refl (λ x y. refl) (λ m. refl) (λ m b. refl) kind p n ms ∙ is) in
     (cap k.0, sym (reading_map both list_measure cap refl cap-join (λ m. refl) (λ m b. cap-deeper b) kind p n ms) ∙ ap (option_map cap) k.1)
 
 pub list_measure-wide : (kind : Kind) (p : Policy) (n : ℕ) (ms : List Member) (w : ℕ) → reading_within width kind p n ms ≡ Some w → (a : Measure) × (reading_within list_measure kind p n ms ≡ Some a)
 list_measure-wide kind p n ms w is =
-    let k = option_map_some (λ (b : ℕ × ℕ). b.1) (reading_within both kind p n ms) w (reading_map both width (λ b. b.1) refl (λ x y. refl) (λ m. refl) (λ m b. refl) kind p n ms ∙ is) in
+    let k = option_map-some (λ (b : ℕ × ℕ). b.1) (reading_within both kind p n ms) w (reading_map both width (λ b. b.1) refl (λ x y. refl) (λ m. refl) (λ m b. refl) kind p n ms ∙ is) in
     (cap k.0, sym (reading_map both list_measure cap refl cap-join (λ m. refl) (λ m b. cap-deeper b) kind p n ms) ∙ ap (option_map cap) k.1)

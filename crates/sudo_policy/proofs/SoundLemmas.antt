@@ -20,13 +20,13 @@ use Rattle.sudo_policy.specs.Resolving.{resolves, IsSound, AreWritten, list_reso
 use Rattle.std.proofs.lemmas.List.Elements.{Contains-append_cases}
 use Rattle.sudo_policy.proofs.Laws.{is_written}
 use Rattle.sudo_policy.proofs.MarkingLemmas.{none_in, one_in}
-use Rattle.sudo_policy.proofs.MeasureLemmas.{find_passes}
+use Rattle.sudo_policy.proofs.MeasureLemmas.{find-passes}
 use Rattle.sudo_policy.proofs.SurveyLemmas.{defines-same}
 
 abbrev pub holds : Policy → MemberList → Bool
 holds p l = resolves l.kind p l.members
 
-all_append : {X : Type 0} (f : X → Bool) (xs ys : List X) → list_all f (xs ++ ys) ≡ (list_all f xs && list_all f ys)
+pub all_append : {X : Type 0} (f : X → Bool) (xs ys : List X) → list_all f (xs ++ ys) ≡ (list_all f xs && list_all f ys)
 all_append f [] ys = refl
 all_append f (x ∷ xs) ys = by (f x) (all_append f xs ys)
   where
@@ -39,9 +39,9 @@ all_flat f g [] = refl
 all_flat f g (x ∷ xs) = all_append f (g x) (flat_map g xs) ∙ ap (λ b. list_all f (g x) && b) (all_flat f g xs)
 
 -- the lists of each entry resolve
-pub entries_resolve : (p : Policy) → IsSound p → list_all (λ (e : Entry). list_all (holds p) (lists_of e)) p.entries ≡ true
+pub entries-resolve : (p : Policy) → IsSound p → list_all (λ (e : Entry). list_all (holds p) (lists_of e)) p.entries ≡ true
 unfolding IsSound
-entries_resolve p sound = sym (all_flat (holds p) lists_of p.entries) ∙ sound
+entries-resolve p sound = sym (all_flat (holds p) lists_of p.entries) ∙ sound
 
 found_holds : {X : Type 0} (f test : X → Bool) (xs : List X) (x : X) → list_all f xs ≡ true → find test xs ≡ Some x → f x ≡ true
 found_holds f test [] x h is = cc
@@ -78,18 +78,18 @@ module _ (p : Policy) (test : Kind → List Member → Bool) where
       by None e h = cc
       by (Some d) e h =
           let holds_d = found_holds (λ (d : AliasDefinition). test d.kind d.members) (defines kind name) (definitions p) d (all_definitions p.entries all) e in
-          let same = defines-same kind name d (find_passes (defines kind name) (definitions p) d e) in
+          let same = defines-same kind name d (find-passes (defines kind name) (definitions p) d e) in
           let members : d.members ≡ ms = cc in
           subst (λ (k : Kind). test k ms ≡ true) (sym same.0) (subst (λ (xs : List Member). test d.kind xs ≡ true) members holds_d)
 
 -- the definition in force of a name resolves
-pub in_force_resolves : (kind : Kind) (p : Policy) (name : List ℕ) (ms : List Member) → IsSound p → in_force kind p name ≡ Some ms → resolves kind p ms ≡ true
+pub in_force-resolves : (kind : Kind) (p : Policy) (name : List ℕ) (ms : List Member) → IsSound p → in_force kind p name ≡ Some ms → resolves kind p ms ≡ true
 unfolding IsSound
-in_force_resolves kind p name ms sound is = in_force_passes p (λ k xs. resolves k p xs) kind name ms sound is
+in_force-resolves kind p name ms sound is = in_force_passes p (λ k xs. resolves k p xs) kind name ms sound is
 
 pub found_resolves : (kind : Kind) (p : Policy) (name : List ℕ) (o : Option (Bor (List Member))) → IsSound p → option_copied o ≡ in_force kind p name → IfSome o (λ members. IsTrue (resolves kind p members.now))
 found_resolves kind p name None sound is = tt
-found_resolves kind p name (Some members) sound is = in_force_resolves kind p name members.now sound (sym is)
+found_resolves kind p name (Some members) sound is = in_force-resolves kind p name members.now sound (sym is)
 
 -- ---- The lists of a rule
 
@@ -112,8 +112,8 @@ pub all_weaker : {X : Type 0} (f g : X → Bool) → ((x : X) → f x ≡ true �
 all_weaker f g w [] h = refl
 all_weaker f g w (x ∷ xs) h = let k = and_parts (f x) (list_all f xs) h in and_from (g x) (list_all g xs) (w x k.0) (all_weaker f g w xs k.1)
 
-section_holds : (p : Policy) (place : Place) (section : Section) → list_all (holds p) (section_lists place section) ≡ true → section_resolves p section ≡ true
-section_holds p place section h =
+section-holds : (p : Policy) (place : Place) (section : Section) → list_all (holds p) (section_lists place section) ≡ true → section_resolves p section ≡ true
+section-holds p place section h =
     let k = and_parts (resolves Host p section.hosts) _ h in
     and_from _ _ k.0 (all_weaker (λ c. list_all (holds p) (command_lists place c)) (command_resolves p) (command_holds p place) section.commands (sym (all_flat (holds p) (command_lists place) section.commands) ∙ k.1))
 
@@ -121,7 +121,7 @@ section_holds p place section h =
 pub rule_holds : (p : Policy) (place : Place) (users : List Member) (sections : List Section) → list_all (holds p) (lists_of_body place (Rule users sections)) ≡ true → rule_resolves p users sections ≡ true
 rule_holds p place users sections h =
     let k = and_parts (resolves User p users) _ h in
-    and_from _ _ k.0 (all_weaker (λ s. list_all (holds p) (section_lists place s)) (section_resolves p) (section_holds p place) sections (sym (all_flat (holds p) (section_lists place) sections) ∙ k.1))
+    and_from _ _ k.0 (all_weaker (λ s. list_all (holds p) (section_lists place s)) (section_resolves p) (section-holds p place) sections (sym (all_flat (holds p) (section_lists place) sections) ∙ k.1))
 
 -- ---- Written forms
 

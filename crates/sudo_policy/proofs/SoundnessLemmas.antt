@@ -15,7 +15,7 @@ use Rattle.sudo_policy.specs.Following.{ReadsAs, reading_within, list_reading, m
 use Rattle.sudo_policy.specs.Found.{AreFindings, found_by, finding_on, undefined_in, has_error, is_error, IsTooDeep}
 use Rattle.sudo_policy.specs.Resolving.{resolves, IsSound}
 use Rattle.sudo_policy.specs.Written.{writing, alone_written}
-use Rattle.sudo_policy.proofs.FollowingLemmas.{option_join-parts, option_join-from, reading_more, option_map_some}
+use Rattle.sudo_policy.proofs.FollowingLemmas.{option_join-parts, option_join-from, reading_more, option_map-some}
 use Rattle.sudo_policy.proofs.Laws.{both_there}
 use Rattle.sudo_policy.proofs.SoundLemmas.{all_weaker, in_force_passes}
 use Rattle.sudo_policy.proofs.StateLemmas.{get_within, within_get}
@@ -94,7 +94,7 @@ module _ (kind : Kind) (p : Policy) where
       member : (ds : Option (List Member)) (e : ℕ) → e ≤ bound → member_reading depth inner m ds ≡ Some e → member_reading depth less m ds ≡ Some e
       member None e le is = is
       member (Some ds) e le is =
-          let k = option_map_some suc (inner ds) e is in
+          let k = option_map-some suc (inner ds) e is in
           let up : e ≡ suc k.0 = k.2 in
           ap (option_map suc) (agree ds k.0 (omega (arith, up, le)) k.1) ∙ ap Some (sym up)
 

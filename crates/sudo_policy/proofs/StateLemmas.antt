@@ -175,8 +175,8 @@ get_set_cases xs i j v x inside h =
     ]
 
 -- the alias is open at the start
-pub start_holds : (g : Links) (start : List State) (node : ℕ) → node < length start → StatesHold g start → StatesHold g (set start node Open)
-start_holds g start node inside held i s at =
+pub start-holds : (g : Links) (start : List State) (node : ℕ) → node < length start → StatesHold g start → StatesHold g (set start node Open)
+start-holds g start node inside held i s at =
     elim (get_set_cases start node i Open s inside at) [
       | inl here ↦ subst (λ (x : State). StateHolds g i x) (sym here.1) tt
       | inr other ↦ held i s other.1
@@ -219,8 +219,8 @@ end_settled states node m inside s at =
     subst IsSettled e (IsSettled-as m)
 
 -- a link of a row is an edge
-pub row_edge : (g : Links) (node at next : ℕ) (row : List (Option ℕ)) (link : Option ℕ) → slice_get g node ≡ Some row → at < length row → link ≡ get_or row at None → link ≡ Some next → Edge g node next
-row_edge g node at next row link is inside link_is named =
+pub row-edge : (g : Links) (node at next : ℕ) (row : List (Option ℕ)) (link : Option ℕ) → slice_get g node ≡ Some row → at < length row → link ≡ get_or row at None → link ≡ Some next → Edge g node next
+row-edge g node at next row link is inside link_is named =
     record {
       row = row;
       row_is = is;

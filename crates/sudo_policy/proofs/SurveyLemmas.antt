@@ -20,6 +20,7 @@ use Rattle.sudo_policy.specs.Body.DefinitionRef.{IsIndexed, IsAtItsPosition}
 use Rattle.sudo_policy.proofs.StateLemmas.{get_within}
 use Rattle.sudo_policy.specs.Positions.{members_at}
 use Rattle.sudo_base.specs.NameIndices.{index_of}
+use Rattle.sudo_text.proofs.Reaching.{both}
 
 -- a definition that comes last
 definitions_in_force-last : (before ds : List AliasDefinition) (d : AliasDefinition) → definitions_in_force before (ds ++ d ∷ []) ≡ definitions_in_force before ds ++ (if is_defined_in (before ++ ds) d then [] else d ∷ [])
@@ -111,10 +112,6 @@ kind_same Cmnd Runas h = cc
 kind_same Cmnd Host h = cc
 kind_same Cmnd Cmnd h = refl
 
-and_parts : (a b : Bool) → (a && b) ≡ true → (a ≡ true) × (b ≡ true)
-and_parts true b h = (refl, h)
-and_parts false b h = cc
-
 true_or_false : (b : Bool) → (b ≡ true) ⊎ (b ≡ false)
 true_or_false true = inl refl
 true_or_false false = inr refl
@@ -122,18 +119,18 @@ true_or_false false = inr refl
 -- a definition of this name and kind
 pub defines-same : (kind : Kind) (name : List ℕ) (d : AliasDefinition) → defines kind name d ≡ true → (kind ≡ d.kind) × (name ≡ d.name)
 defines-same kind name d h =
-    let k = and_parts (same_kind kind d.kind) (bytes_eq name d.name) h in
+    let k = both (same_kind kind d.kind) (bytes_eq name d.name) h in
     (kind_same kind d.kind k.0, (bytes_decides name d.name).0 k.1)
 
 -- a look-up among definitions with one more at the end
 find-last : (kind : Kind) (name : List ℕ) (ds : List AliasDefinition) (d : AliasDefinition) → find (defines kind name) (ds ++ d ∷ []) ≡ option_or (find (defines kind name) ds) (cond (defines kind name d) (Some d) None)
 find-last kind name ds d = find-append (defines kind name) ds (d ∷ [])
 
-option_or_none : {X : Type 0} (o : Option X) → option_or o None ≡ o
-option_or_none None = refl
-option_or_none (Some x) = refl
+pub option_or-none : {X : Type 0} (o : Option X) → option_or o None ≡ o
+option_or-none None = refl
+option_or-none (Some x) = refl
 
-option_or_some : {X : Type 0} (o q : Option X) → is_some o ≡ true → option_or o q ≡ o
+pub option_or_some : {X : Type 0} (o q : Option X) → is_some o ≡ true → option_or o q ≡ o
 option_or_some None q h = cc
 option_or_some (Some x) q h = refl
 
@@ -144,7 +141,7 @@ find-known kind name ds d known = find-last kind name ds d ∙ elim (true_or_fal
       (let s = defines-same kind name d holds in
       let here : is_some (find (defines kind name) ds) ≡ true = subst (λ (n : List ℕ). is_some (find (defines kind n) ds) ≡ true) (sym s.1) (subst (λ (k : Kind). is_some (find (defines k d.name) ds) ≡ true) (sym s.0) known) in
       option_or_some (find (defines kind name) ds) (cond (defines kind name d) (Some d) None) here)
-  | inr fails ↦ ap (λ b. option_or (find (defines kind name) ds) (cond b (Some d) None)) fails ∙ option_or_none (find (defines kind name) ds)
+  | inr fails ↦ ap (λ b. option_or (find (defines kind name) ds) (cond b (Some d) None)) fails ∙ option_or-none (find (defines kind name) ds)
 ]
 
 -- a name with a position has a definition, and one without has none
@@ -178,7 +175,7 @@ and_then_new : (aliases : List AliasDefinition) (d : AliasDefinition) (o : Optio
 and_then_new aliases d None true q inside is new = get_append_end aliases d ∙ ap (λ o. option_or o (Some d)) is
 and_then_new aliases d None false q inside is new = ap (λ o. option_or o None) is
 and_then_new aliases d (Some i) true q inside is new = let e = new refl in cc
-and_then_new aliases d (Some i) false q inside is new = get_append_before aliases d i (inside i refl) ∙ is ∙ sym (option_or_none q)
+and_then_new aliases d (Some i) false q inside is new = get_append_before aliases d i (inside i refl) ∙ is ∙ sym (option_or-none q)
 
 one_more : (o : Option ℕ) (b : Bool) (i n : ℕ) → ((j : ℕ) → o ≡ Some j → j < n) → option_or o (if b then Some n else None) ≡ Some i → i < n + 1
 one_more None true i n inside is = let e : n ≡ i = cc in omega (arith, e)
@@ -218,7 +215,7 @@ module _ (p : Policy) (done aliases : List AliasDefinition) (names more : Kind �
         (ap (λ es. option_and_then (slice_get (aliases ++ d ∷ [])) (index_of es name)) (others kind fails)
         ∙ and_then_before aliases d (index_of (names kind) name) (before.inside kind name)
         ∙ before.lookup kind name
-        ∙ sym (option_or_none (find (defines kind name) done))
+        ∙ sym (option_or-none (find (defines kind name) done))
         ∙ ap (λ b. option_or (find (defines kind name) done) (cond (b && bytes_eq name d.name) (Some d) None)) (sym fails)
         ∙ sym (find-last kind name done d))
   ]
@@ -272,11 +269,11 @@ module _ (p : Policy) (done aliases : List AliasDefinition) (names more : Kind �
         placed = more_placed;
       }
 
-pub take_whole : {X : Type 0} (xs : List X) (i : ℕ) → length xs ≤ i → take i xs ≡ xs
-take_whole [] zero h = refl
-take_whole [] (suc i) h = refl
-take_whole (x ∷ xs) zero h = absurd (omega arith)
-take_whole (x ∷ xs) (suc i) h = ap (λ ys. x ∷ ys) (take_whole xs i (omega arith))
+pub take-whole : {X : Type 0} (xs : List X) (i : ℕ) → length xs ≤ i → take i xs ≡ xs
+take-whole [] zero h = refl
+take-whole [] (suc i) h = refl
+take-whole (x ∷ xs) zero h = absurd (omega arith)
+take-whole (x ∷ xs) (suc i) h = ap (λ ys. x ∷ ys) (take-whole xs i (omega arith))
 
 -- one more definition is where it is said to be
 pub placed_push : (p : Policy) (olds news : List DefinitionRef) (n : DefinitionRef) → news ≡ olds ++ n ∷ [] → All (IsAtItsPosition p) olds → IsAtItsPosition p n → All (IsAtItsPosition p) news

@@ -58,7 +58,8 @@ impl Checked {
         members_at(&self.policy, position)
     }
 
-    /// Returns the position of the alias's definition in force, or `None` if there is none. Does not allocate.
+    /// Returns the position of the alias's definition in force. If there is none, returns `None` or a position at which
+    /// [`Checked::members_at`] finds none. Does not allocate.
     pub fn position(&self, kind: Kind, name: &[u8]) -> Option<Position>
         ensures { in_force kind self.now name.now ≡ option_and_then (members_at self.now) result }
     {

@@ -1,6 +1,6 @@
 -- The first bytes of a run, by the rule that reads it.
 use Rattle.std.proofs.Common.{◌≡◌, ◌≢◌, ℕ, ◌+◌, Bool, List, length, drop, get_or, true, false, refl, sym, ◌∙◌, inl, inr, Option, Some, None}
-use Rattle.std.proofs.lemmas.Bool.{eqb-true, eq-eqb}
+use Rattle.std.proofs.lemmas.Bool.{eqb-true, eq-eqb, or_from, or_parts}
 use Rattle.std.specs.Prelude.{◌==◌, ◌&&◌, ◌||◌, ◌⊎◌, not, if◌then◌else◌, nat_le, nat_lt, nat_eq, IsTrue, codes}
 use Rattle.std.specs.List.{starts_with}
 use Rattle.sudo_text.specs.declared.token.Mark.{Mark}
@@ -12,12 +12,13 @@ use Rattle.sudo_text.specs.declared.rules.Rule.{Rule}
 use Rattle.sudo_text.specs.declared.rules.Rule.TheVariants as rules
 use Rattle.sudo_text.specs.Bytes.{is_blank, is_digit}
 use Rattle.sudo_text.specs.Pieces.{skip, is_mark_byte, is_assignment, is_end, piece_at}
-use Rattle.sudo_text.specs.Places.{opens, wants_value, is_defaults, word_style, directive_len, defaults_mark_at, mark_at, is_sudoedit, mark_or_word, general_rule_at, first_rule, rule_at}
+use Rattle.sudo_text.specs.Rules.{opens, wants_value, is_defaults, word_style, directive_len, defaults_mark_at, mark_at, is_sudoedit, mark_or_word, general_rule_at, first_rule, rule_at}
 use Rattle.sudo_text.specs.Runs.{OnlyNumbers, BeginsWord, Begins}
 use Rattle.sudo_text.proofs.Reaching.{choose, both}
 use Rattle.sudo_text.proofs.Closing.{false_true}
 use Rattle.sudo_text.proofs.Unique.{true_false}
-use Rattle.sudo_text.proofs.Spacing.{skip_no_blank}
+use Rattle.sudo_text.proofs.Spacing.{skip-no-blank}
+use Rattle.sudo_text.proofs.OneList.{either}
 
 -- What holds either way.
 pick : {A : Type 0} (P : A → Type 0) (b : Bool) (x y : A) → (b ≡ true → P x) → (b ≡ false → P y) → P (if b then x else y)
@@ -30,21 +31,9 @@ some_none mark e = cc
 differs : (a b : ℕ) → (a == b) ≡ false → a ≢ b
 differs a b h e = true_false (sym (eq-eqb a b e) ∙ h)
 
-not_true : (b : Bool) → not b ≡ true → b ≡ false
+pub not_true : (b : Bool) → not b ≡ true → b ≡ false
 not_true true h = absurd (false_true h)
 not_true false h = refl
-
-either : (a b : Bool) → (a || b) ≡ true → (a ≡ true) ⊎ (b ≡ true)
-either true b h = inl refl
-either false b h = inr h
-
-neither : (a b : Bool) → (a || b) ≡ false → (a ≡ false) × (b ≡ false)
-neither true b h = absurd (true_false h)
-neither false b h = (refl, h)
-
-none : (a b : Bool) → a ≡ false → b ≡ false → (a || b) ≡ false
-none true b h k = absurd (true_false h)
-none false b h k = k
 
 saved : (a b c : Bool) → (a && not (b && c)) ≡ false → a ≡ true → (b ≡ true) × (c ≡ true)
 saved true true true h e = (refl, refl)
@@ -114,7 +103,7 @@ no_mark_at kind text at h =
     (λ w4 h4. choose (byte == 40) (Some marks.LeftParen) sixth None h4 (λ w e. absurd (some_none _ e))
     (λ w5 h5. choose (byte == 41) (Some marks.RightParen) seventh None h5 (λ w e. absurd (some_none _ e))
     (λ w6 h6. record {
-      no_mark = none _ _ (none _ _ (none _ _ (none _ _ (none (byte == 33) (byte == 61) w1 w2) w3) w4) w5) w6;
+      no_mark = or_from _ _ (or_from _ _ (or_from _ _ (or_from _ _ (or_from (byte == 33) (byte == 61) w1 w2) w3) w4) w5) w6;
       of_defaults = λ on. choose (is_defaults kind) (defaults_mark_at text at) None None h6 (λ w e. no_defaults_mark text at e) (λ w e. absurd (true_false (sym on ∙ w)));
     }))))))
 
@@ -124,10 +113,10 @@ sudoedit_begins kind text at h =
     let front = both (nat_le (at + 8) (length text) && starts_with nat_eq (drop at text) (codes "sudoedit")) (is_end (piece_at (word_style kind) text at (at + 8))) h in
     (both (nat_le (at + 8) (length text)) (starts_with nat_eq (drop at text) (codes "sudoedit")) front.0).1
 
-mark_begins : (kind : LineKind) (before : Before) (text : List ℕ) (at : ℕ) (mark : Option Mark) → mark_at kind text at ≡ mark → (NoMark kind text at → BeginsWord kind before text at)
+mark-begins : (kind : LineKind) (before : Before) (text : List ℕ) (at : ℕ) (mark : Option Mark) → mark_at kind text at ≡ mark → (NoMark kind text at → BeginsWord kind before text at)
     → Begins (mark_or_word mark) kind before text at
-mark_begins kind before text at (Some mark) is word = tt
-mark_begins kind before text at None is word = word (no_mark_at kind text at is)
+mark-begins kind before text at (Some mark) is word = tt
+mark-begins kind before text at None is word = word (no_mark_at kind text at is)
 
 general_begins : (kind : LineKind) (before : Before) (text : List ℕ) (at : ℕ) → is_blank (get_or text at 0) ≡ false → Begins (general_rule_at kind before text at) kind before text at
 unfolding general_rule_at
@@ -156,12 +145,12 @@ general_begins kind before text at no_blank =
       | inl h ↦ inl (eqb-true byte 47 h)
       | inr h ↦ inr (sudoedit_begins kind text at h)
     ])
-    (λ p. mark_begins kind before text at (mark_at kind text at) refl (λ unmarked. record {
+    (λ p. mark-begins kind before text at (mark_at kind text at) refl (λ unmarked. record {
       no_blank = no_blank;
       no_mark = unmarked.no_mark;
       no_quote = differs byte 34 q;
       number = numbers before text at w;
-      no_path = differs byte 47 (neither (byte == 47) (is_sudoedit kind text at) p).0;
+      no_path = differs byte 47 (or_parts (byte == 47) (is_sudoedit kind text at) p).0;
       no_assignment = λ on. (unmarked.of_defaults on).no_assignment;
       no_binding = λ on. (unmarked.of_defaults on).no_binding;
     })))))
@@ -169,12 +158,12 @@ general_begins kind before text at no_blank =
 first_begins : (kind : LineKind) (before : Before) (text : List ℕ) (at : ℕ) (rule : Rule) → Begins rule kind before text at → Begins (first_rule kind rule) kind before text at
 first_begins lines.General before text at rule h = h
 first_begins lines.Defaults before text at rule h = tt
-first_begins (lines.Include folder hash) before text at rule h = skip_no_blank text (at + directive_len folder)
+first_begins (lines.Include folder hash) before text at rule h = skip-no-blank text (at + directive_len folder)
 
 pub runs_begin : (kind : LineKind) (before : Before) (text : List ℕ) (from : ℕ) → Begins (rule_at kind before text (skip text from)) kind before text (skip text from)
 unfolding rule_at
 runs_begin kind before text from =
     let at : ℕ = skip text from in
-    let general = general_begins kind before text at (skip_no_blank text from) in
+    let general = general_begins kind before text at (skip-no-blank text from) in
     pick (λ rule. Begins rule kind before text at) (nat_lt 0 at) (general_rule_at kind before text at) (first_rule kind (general_rule_at kind before text at))
     (λ w. general) (λ w. first_begins kind before text at (general_rule_at kind before text at) general)

@@ -11,9 +11,9 @@ use Rattle.sudo_text.specs.declared.piece.Style.{Style}
 use Rattle.sudo_text.specs.declared.piece.Style.TheVariants as styles
 use Rattle.sudo_text.specs.declared.piece.Piece.TheVariants.{Char}
 use Rattle.sudo_text.specs.Bytes.{is_blank, is_control}
-use Rattle.sudo_text.specs.Common.{is_common, is_defaults_word, common_bytes}
+use Rattle.sudo_text.specs.Body.Common.{is_common, is_defaults_word, common_bytes}
 use Rattle.sudo_text.specs.Pieces.{plain, ends_word, ends_run, is_arguments, piece_at, reach}
-use Rattle.sudo_text.proofs.Reaching.{reach_push}
+use Rattle.sudo_text.proofs.Reaching.{reach-push}
 
 -- What a common byte is not.
 record IsBare (b : ℕ) : Type 0 where
@@ -48,7 +48,7 @@ bare b h = record {
   right = grind (arith, nat_tests);
 }
 
-and_false : (b : Bool) → (b && false) ≡ false
+pub and_false : (b : Bool) → (b && false) ≡ false
 and_false true = refl
 and_false false = refl
 
@@ -85,22 +85,22 @@ common_case false P on_true on_false = on_false refl
 
 common_byte : (text : List ℕ) (at b : ℕ) (rest : List ℕ) → drop at text ≡ b ∷ rest → get_or text at 0 ≡ b
 common_byte text at b rest is =
-    let place : at + 0 ≡ at = omega arith in
-    ap (λ n. get_or text n 0) (sym place) ∙ sym (get_or-drop at text 0 0) ∙ ap (λ xs. get_or xs 0 0) is
+    let moved : at + 0 ≡ at = omega arith in
+    ap (λ n. get_or text n 0) (sym moved) ∙ sym (get_or-drop at text 0 0) ∙ ap (λ xs. get_or xs 0 0) is
 
 common_rest : (text : List ℕ) (at b : ℕ) (rest : List ℕ) → drop at text ≡ b ∷ rest → at < length text → drop (suc at) text ≡ rest
 common_rest text at b rest is there = ap (λ xs. drop 1 xs) (sym (drop-cons text at 0 there) ∙ is)
 
-reach_none : (style : Style) (text : List ℕ) (start at : ℕ) (cs : List Ch) → reach style text start start cs ≡ Some at
+reach-none : (style : Style) (text : List ℕ) (start at : ℕ) (cs : List Ch) → reach style text start start cs ≡ Some at
     → reach style text start start (cs ++ []) ≡ Some (at + 0)
-reach_none style text start at cs h =
+reach-none style text start at cs h =
     let none : at ≡ at + 0 = omega arith in
     ap (reach style text start start) (append-nil cs) ∙ h ∙ ap Some none
 
 common_reach : (style : Style) (text : List ℕ) (start at : ℕ) (cs : List Ch) (bs : List ℕ) → is_defaults_word style ≡ false → drop at text ≡ bs
     → reach style text start start cs ≡ Some at
     → reach style text start start (cs ++ map plain (take_while is_common bs)) ≡ Some (at + length (take_while is_common bs))
-common_reach style text start at cs [] other bs h = reach_none style text start at cs h
+common_reach style text start at cs [] other bs h = reach-none style text start at cs h
 common_reach style text start at cs (b ∷ rest) other bs h =
     let there : at < length text = omega (arith, length-drop at text, ap length bs) in
     let byte : get_or text at 0 ≡ b = common_byte text at b rest bs in
@@ -112,18 +112,18 @@ common_reach style text start at cs (b ∷ rest) other bs h =
     let piece : piece_at style text start at ≡ Char (plain b) (suc at) =
     subst (λ x. piece_at style text start at ≡ Char (plain x) (suc at)) byte
     (common_piece style text start at other there (ap is_common byte ∙ common) ∙ ap (λ n. Char (plain (get_or text at 0)) n) (add-one at)) in
-    let on = common_reach style text start (suc at) (cs ++ plain b ∷ []) rest other behind (reach_push style text start start at (suc at) cs (plain b) h piece) in
+    let on = common_reach style text start (suc at) (cs ++ plain b ∷ []) rest other behind (reach-push style text start start at (suc at) cs (plain b) h piece) in
     let count : suc at + length (take_while is_common rest) ≡ at + suc (length (take_while is_common rest)) = omega arith in
     ap (reach style text start start) (sym (append_assoc cs (plain b ∷ []) (map plain (take_while is_common rest)))) ∙ on ∙ ap Some count)
-    (λ other_byte. reach_none style text start at cs h))
+    (λ other_byte. reach-none style text start at cs h))
 
 -- The common bytes from an offset on are the next characters of the run.
-pub reach_common : (style : Style) (text : List ℕ) (start at : ℕ) (cs : List Ch) → reach style text start start cs ≡ Some at
+pub reach-common : (style : Style) (text : List ℕ) (start at : ℕ) (cs : List Ch) → reach style text start start cs ≡ Some at
     → reach style text start start (cs ++ map plain (common_bytes style text at)) ≡ Some (at + length (common_bytes style text at))
-reach_common style text start at cs h =
+reach-common style text start at cs h =
     common_case (is_defaults_word style)
     (λ t. reach style text start start (cs ++ map plain (if t then [] else take_while is_common (drop at text))) ≡ Some (at + length (if t then [] else take_while is_common (drop at text))))
-    (λ word. reach_none style text start at cs h)
+    (λ word. reach-none style text start at cs h)
     (λ other. common_reach style text start at cs (drop at text) other refl h)
 
 -- They are cut out of the text by their length.
@@ -138,9 +138,9 @@ common_cut style text at end is =
     (λ other. ap (λ n. take n (drop at text)) (length-prefix_len is_common (drop at text)))
 
 -- The characters that are reached once the common bytes are appended.
-pub reach_pushed : (style : Style) (text : List ℕ) (start at end : ℕ) (cs ds : List Ch) → end ≡ at + length (common_bytes style text at)
+pub reach-pushed : (style : Style) (text : List ℕ) (start at end : ℕ) (cs ds : List Ch) → end ≡ at + length (common_bytes style text at)
     → ds ≡ cs ++ map plain (take (end - at) (drop at text)) → reach style text start start cs ≡ Some at
     → reach style text start start ds ≡ Some end
-reach_pushed style text start at end cs ds is pushed h =
+reach-pushed style text start at end cs ds is pushed h =
     ap (reach style text start start) (pushed ∙ ap (λ bs. cs ++ map plain bs) (common_cut style text at end is))
-    ∙ reach_common style text start at cs h ∙ ap Some (sym is)
+    ∙ reach-common style text start at cs h ∙ ap Some (sym is)

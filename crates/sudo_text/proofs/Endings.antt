@@ -16,14 +16,11 @@ use Rattle.sudo_text.specs.Bytes.{is_blank, is_hex, is_control, hex_value}
 use Rattle.sudo_text.specs.Pieces.{plain, escaped, skip, is_mark_byte, is_assignment, ends_word, ends_run, has_hex, is_arguments, hex_at, escape_at, blanks_at, piece_at, reach, run_end}
 use Rattle.sudo_text.specs.Tokens.{takes_next, quoted_end}
 use Rattle.sudo_text.specs.Runs.{IsFirstClosingQuote, IsBehindFirstQuote, LeadsOut, IsWholeRun}
-use Rattle.sudo_text.proofs.Reaching.{choose, both, bad_char, bad_end, end_char, none_some, follow_parts, run_parts}
-use Rattle.sudo_text.proofs.Closing.{false_true, next_is}
+use Rattle.sudo_text.proofs.Reaching.{choose, both, bad_char, bad_end, end_char, none_some, follow-parts, run_parts}
+use Rattle.sudo_text.proofs.Closing.{false_true, next_is, hex_not_escape}
 use Rattle.sudo_text.proofs.Unique.{true_false, then_parts}
 use Rattle.sudo_text.proofs.Quotes.{taken_from, taken_start, taken_next, one_if, taken_by_pairs, untaken}
-
-and_false : (b : Bool) → (b && false) ≡ false
-and_false true = refl
-and_false false = refl
+use Rattle.sudo_text.proofs.CommonRuns.{and_false}
 
 -- A backslash ends no run.
 backslash_stays : (style : Style) (text : List ℕ) (start at : ℕ) → get_or text at 0 ≡ 92 → ends_run style text start at ≡ false
@@ -56,9 +53,6 @@ hex_no_ender b h = record {
   plus = grind (arith, nat_tests);
   minus = grind (arith, nat_tests);
 }
-
-hex_no_backslash : (b : ℕ) → is_hex b ≡ true → (b == 92) ≡ false
-hex_no_backslash b h = grind (arith, nat_tests)
 
 no_word_end : (text : List ℕ) (start at : ℕ) → NoEnder (get_or text at 0) → ends_word text start at ≡ false
 unfolding ends_word
@@ -163,8 +157,8 @@ escape_moves style text start at c n from slash is =
     subst (λ m. Moves style text start at m false false) (next_is _ _ _ _ e)
     (move_on style text start at (at + 2) (at + 4) false false false two
     (move_on style text start (at + 2) (at + 3) (at + 4) false false false
-    (move_one style text start (at + 2) (at + 3) false false (omega arith) (omega arith) (λ u. hex_stays style text start (at + 2) on room.1) (hex_no_backslash high room.1))
-    (move_one style text start (at + 3) (at + 4) false false (omega arith) (omega arith) (λ u. hex_stays style text start (at + 3) on front.1) (hex_no_backslash low front.1)))))
+    (move_one style text start (at + 2) (at + 3) false false (omega arith) (omega arith) (λ u. hex_stays style text start (at + 2) on room.1) (hex_not_escape high room.1))
+    (move_one style text start (at + 3) (at + 4) false false (omega arith) (omega arith) (λ u. hex_stays style text start (at + 3) on front.1) (hex_not_escape low front.1)))))
     (λ fits e. absurd (bad_char _ _ _ _ e)))
     (λ x others. choose (is_control next) (Bad flaws.NotPrintable (at + 1)) (Char (escaped next) (at + 2)) (Char c n) others
     (λ w2 e. absurd (bad_char _ _ _ _ e))
@@ -199,8 +193,8 @@ blanks_move style text start at (suc left) on from blank =
     let here : is_blank (get_or text at 0) ≡ true = ap (λ n. is_blank (get_or text n 0)) (sym none) ∙ blank 0 (omega arith) in
     let end : at + 1 + left ≡ at + suc left = omega arith in
     let rest = blanks_move style text start (at + 1) left on (omega arith) (λ i h.
-    let place : at + 1 + i ≡ at + suc i = omega arith in
-    ap (λ n. is_blank (get_or text n 0)) place ∙ blank (suc i) (omega arith)) in
+    let moved : at + 1 + i ≡ at + suc i = omega arith in
+    ap (λ n. is_blank (get_or text n 0)) moved ∙ blank (suc i) (omega arith)) in
     move_on style text start at (at + 1) (at + suc left) false false false
     (move_one style text start at (at + 1) false false refl from (λ u. blank_stays style text start at on here) (blank_no_backslash (get_or text at 0) here))
     (subst (λ m. Moves style text start (at + 1) m false false) end rest)
@@ -234,14 +228,14 @@ piece_moves style text start at c n from is =
     (λ v e. skip_moves style text start at c n (both (is_arguments style) (is_blank byte) v).0 from e)
     (λ v e. subst (λ m. Moves style text start at m false false) (next_is _ _ _ _ e) (move_one style text start at (at + 1) false false refl from (λ u. ends) slash))))))
 
-pub reach_moves : (style : Style) (text : List ℕ) (start at end : ℕ) (cs : List Ch) → start ≤ at → reach style text start at cs ≡ Some end → Moves style text start at end false false
+pub reach-moves : (style : Style) (text : List ℕ) (start at end : ℕ) (cs : List Ch) → start ≤ at → reach style text start at cs ≡ Some end → Moves style text start at end false false
 unfolding reach
-reach_moves style text start at end [] from h = stay style text start at end cc
-reach_moves style text start at end (c ∷ cs) from h =
-    let step = follow_parts (piece_at style text start at) c _ end h in
+reach-moves style text start at end [] from h = stay style text start at end cc
+reach-moves style text start at end (c ∷ cs) from h =
+    let step = follow-parts (piece_at style text start at) c _ end h in
     let first = piece_moves style text start at c step.0 from step.1 in
     let after = first.after in
-    move_on style text start at step.0 end false false false first (reach_moves style text start step.0 end cs (omega arith) step.2)
+    move_on style text start at step.0 end false false false first (reach-moves style text start step.0 end cs (omega arith) step.2)
 
 -- Where a run stops.
 pub escape_goes_on : (style : Style) (text : List ℕ) (at : ℕ) → escape_at style text at ≡ End → ⊥
@@ -308,7 +302,7 @@ record Reached (style : Style) (text : List ℕ) (start end : ℕ) : Type 0 wher
 reached : (style : Style) (text : List ℕ) (start end : ℕ) (cs : List Ch) → run_end style text start cs ≡ Some end → Reached style text start end
 reached style text start end cs run =
     let parts = run_parts style text start end cs run in
-    let moves = reach_moves style text start start end cs (omega arith) parts.0 in
+    let moves = reach-moves style text start start end cs (omega arith) parts.0 in
     let begins = taken_start text start in
     record { after = moves.after; free = moves.leaves begins; none = moves.none begins; stops = parts.1 }
 

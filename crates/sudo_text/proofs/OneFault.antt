@@ -15,15 +15,15 @@ use Rattle.sudo_text.specs.declared.piece.Style.TheVariants as styles
 use Rattle.sudo_text.specs.declared.piece.Piece.TheVariants.{Char, Bad}
 use Rattle.sudo_text.specs.declared.piece.Flaw.{Flaw}
 use Rattle.sudo_text.specs.Pieces.{piece_at, skip, reach, Breaks}
-use Rattle.sudo_text.specs.Places.{word_style, directive_len, rule_at, before_of, line_kind}
+use Rattle.sudo_text.specs.Rules.{word_style, directive_len, rule_at, before_of, line_kind}
 use Rattle.sudo_text.specs.Tokens.{stands, has_closing, QuotedFlaw, ArgumentsFlaw, CommandFlaw, PathFlaw, FlawBy, FlawAfter, LeftmostFault, fault_of}
-use Rattle.sudo_text.proofs.Reaching.{bad_char, follow_parts}
+use Rattle.sudo_text.proofs.Reaching.{bad_char, follow-parts}
 use Rattle.sudo_text.proofs.Closing.{false_true}
 use Rattle.sudo_text.proofs.Unique.{run_unique}
 use Rattle.sudo_text.proofs.OneList.{stand_parts, stands_unique}
-use Rattle.sudo_text.proofs.NoFault.{breaks_no_run, flaw_no_token}
+use Rattle.sudo_text.proofs.NoFault.{breaks_no_run, flaw-no-token}
 
--- The same flaw at the same place.
+-- The same flaw at the same offset.
 Same : Flaw → Flaw → ℕ → ℕ → Type 0
 Same a b p q = (a ≡ b) × (p ≡ q)
 
@@ -34,31 +34,31 @@ same_flaw a b p q e =
     let n : p ≡ q = cc e in
     (f, n)
 
-reach_breaks_once : (style : Style) (text : List ℕ) (start at e f : ℕ) (a b : Flaw) (p q : ℕ) (xs ys : List Ch)
+reach-breaks-once : (style : Style) (text : List ℕ) (start at e f : ℕ) (a b : Flaw) (p q : ℕ) (xs ys : List Ch)
     → reach style text start at xs ≡ Some e → piece_at style text start e ≡ Bad a p
     → reach style text start at ys ≡ Some f → piece_at style text start f ≡ Bad b q → Same a b p q
 unfolding reach
-reach_breaks_once style text start at e f a b p q [] [] h he k kf =
+reach-breaks-once style text start at e f a b p q [] [] h he k kf =
     let s : e ≡ f = cc in
     same_flaw a b p q (sym he ∙ ap (λ n. piece_at style text start n) s ∙ kf)
-reach_breaks_once style text start at e f a b p q [] (y ∷ ys) h he k kf =
-    let step = follow_parts (piece_at style text start at) y _ f k in
+reach-breaks-once style text start at e f a b p q [] (y ∷ ys) h he k kf =
+    let step = follow-parts (piece_at style text start at) y _ f k in
     let same : at ≡ e = cc h in
     absurd (bad_char _ _ _ _ (sym he ∙ ap (λ n. piece_at style text start n) (sym same) ∙ step.1))
-reach_breaks_once style text start at e f a b p q (x ∷ xs) [] h he k kf =
-    let step = follow_parts (piece_at style text start at) x _ e h in
+reach-breaks-once style text start at e f a b p q (x ∷ xs) [] h he k kf =
+    let step = follow-parts (piece_at style text start at) x _ e h in
     let same : at ≡ f = cc k in
     absurd (bad_char _ _ _ _ (sym kf ∙ ap (λ n. piece_at style text start n) (sym same) ∙ step.1))
-reach_breaks_once style text start at e f a b p q (x ∷ xs) (y ∷ ys) h he k kf =
-    let m = follow_parts (piece_at style text start at) x _ e h in
-    let n = follow_parts (piece_at style text start at) y _ f k in
+reach-breaks-once style text start at e f a b p q (x ∷ xs) (y ∷ ys) h he k kf =
+    let m = follow-parts (piece_at style text start at) x _ e h in
+    let n = follow-parts (piece_at style text start at) y _ f k in
     let same : Char x m.0 ≡ Char y n.0 = sym m.1 ∙ n.1 in
     let i : m.0 ≡ n.0 = cc same in
-    reach_breaks_once style text start n.0 e f a b p q xs ys (subst (λ j. reach style text start j xs ≡ Some e) i m.2) he n.2 kf
+    reach-breaks-once style text start n.0 e f a b p q xs ys (subst (λ j. reach style text start j xs ≡ Some e) i m.2) he n.2 kf
 
 breaks_once : (style : Style) (text : List ℕ) (start : ℕ) (a b : Flaw) (p q : ℕ) → Breaks style text start a p → Breaks style text start b q → Same a b p q
 breaks_once style text start a b p q l r =
-    reach_breaks_once style text start start l.end r.end a b p q l.chars r.chars l.reached l.broken r.reached r.broken
+    reach-breaks-once style text start start l.end r.end a b p q l.chars r.chars l.reached l.broken r.reached r.broken
 
 -- A double quote closes or does not.
 closes_or_not : (b : Bool) → IsTrue b → IsTrue (not b) → ⊥
@@ -104,12 +104,12 @@ rule_once rules.Command kind text joins at a b p q l r = command_once kind text 
 rule_once (rules.Mark mark) kind text joins at a b p q l r = absurd l
 rule_once rules.Word kind text joins at a b p q l r = breaks_once (word_style kind) text at a b p q l r
 
--- A token that stands and a flaw at its place exclude each other.
+-- A token that stands and a flaw at its offset exclude each other.
 stands_or_fails : (kind : LineKind) (text joins : List ℕ) (from : ℕ) (before : Before) (u : Token) (a : Flaw) (p : ℕ)
     → FlawBy (rule_at kind before text (skip text from)) kind text joins (skip text from) a p → stands kind text from before u ≡ true → ⊥
 stands_or_fails kind text joins from before u a p f h =
     let r = stand_parts kind text from before u h in
-    flaw_no_token (rule_at kind before text (skip text from)) kind text joins (skip text from) a p u.kind u.end f r.2
+    flaw-no-token (rule_at kind before text (skip text from)) kind text joins (skip text from) a p u.kind u.end f r.2
 
 after_once : (kind : LineKind) (text joins : List ℕ) (from : ℕ) (before : Before) (ts us : List Token) (a b : Flaw) (p q : ℕ)
     → FlawAfter kind text joins from before ts a p → FlawAfter kind text joins from before us b q → Same a b p q
@@ -124,5 +124,5 @@ after_once kind text joins from before (t ∷ ts) (u ∷ us) a b p q l r =
 pub one_fault : (line : Line) (f g : TextFault) → LeftmostFault line f → LeftmostFault line g → f ≡ g
 unfolding Same
 one_fault line f g l r =
-    let same = after_once (line_kind line.text) line.text line.joins 0 befores.Nothing l.before r.before l.flaw r.flaw l.place r.place l.after r.after in
+    let same = after_once (line_kind line.text) line.text line.joins 0 befores.Nothing l.before r.before l.flaw r.flaw l.offset r.offset l.after r.after in
     l.is ∙ (λ i. fault_of line.first (same.0 i) (same.1 i)) ∙ sym r.is

@@ -15,9 +15,9 @@ use Rattle.sudo_text.specs.declared.rules.Rule.TheVariants as rules
 use Rattle.sudo_text.specs.declared.line.Line.{Line}
 use Rattle.sudo_text.specs.declared.piece.Style.TheVariants as styles
 use Rattle.sudo_text.specs.Pieces.{skip, run_end, same_bool}
-use Rattle.sudo_text.specs.Places.{word_style, mark_len, directive_len, rule_at, before_of, line_kind}
+use Rattle.sudo_text.specs.Rules.{word_style, mark_len, directive_len, rule_at, before_of, line_kind}
 use Rattle.sudo_text.specs.Tokens.{defaults_word, quoted_end, command_end, mark_code, path_end, token_by, token_end, is_comment, has_join_after, is_offset, stands, closes_line, spells_from, spells}
-use Rattle.sudo_text.proofs.Reaching.{choose, both, none_some, same_bool_true}
+use Rattle.sudo_text.proofs.Reaching.{choose, both, none_some, same_bool-true}
 use Rattle.sudo_text.proofs.Unique.{true_false, run_unique, quoted_unique, keyword_parts, command_unique, path_unique, same_mark}
 
 -- What a rule reads at an offset, up to an end.
@@ -52,8 +52,8 @@ reads (rules.Include f g) kind text at (kinds.Include folder hash path) end h =
     choose (same_bool f folder && same_bool g hash) (path_end text (at + directive_len f) path) None (Some end) h
     (λ w e.
     let parts = both (same_bool f folder) (same_bool g hash) w in
-    let a : folder ≡ f = sym (same_bool_true f folder parts.0) in
-    let b : hash ≡ g = sym (same_bool_true g hash parts.1) in
+    let a : folder ≡ f = sym (same_bool-true f folder parts.0) in
+    let b : hash ≡ g = sym (same_bool-true g hash parts.1) in
     (path, (λ i. kinds.Include (a i) (b i) path), e))
     (λ w e. absurd (none_some end e))
 reads rule kind text at token end h = absurd (none_some end h)
@@ -78,9 +78,9 @@ read_unique rules.Word kind text at t u e f a b =
     let s = run_unique (word_style kind) text at e f a.0 b.0 a.2 b.2 in
     (a.1 ∙ ap (kinds.Word false) s.0 ∙ sym b.1, s.1)
 
-is_offset_true : (o : Option ℕ) (n : ℕ) → is_offset o n ≡ true → o ≡ Some n
-is_offset_true None n h = absurd (true_false (sym h))
-is_offset_true (Some m) n h = ap Some (eqb-true m n h)
+is_offset-true : (o : Option ℕ) (n : ℕ) → is_offset o n ≡ true → o ≡ Some n
+is_offset-true None n h = absurd (true_false (sym h))
+is_offset-true (Some m) n h = ap Some (eqb-true m n h)
 
 -- Where a token stands, and what it is.
 pub stand_parts : (kind : LineKind) (text : List ℕ) (from : ℕ) (before : Before) (t : Token) → stands kind text from before t ≡ true
@@ -90,7 +90,7 @@ stand_parts kind text from before t h =
     let outer = both ((t.start == skip text from) && nat_lt t.start (length text)) (is_offset (token_by (rule_at kind before text t.start) kind text t.start t.kind) t.end) h in
     let inner = both (t.start == skip text from) (nat_lt t.start (length text)) outer.0 in
     let start : t.start ≡ skip text from = eqb-true t.start (skip text from) inner.0 in
-    let read : Reads (rule_at kind before text t.start) kind text t.start t.kind t.end = reads (rule_at kind before text t.start) kind text t.start t.kind t.end (is_offset_true _ t.end outer.1) in
+    let read : Reads (rule_at kind before text t.start) kind text t.start t.kind t.end = reads (rule_at kind before text t.start) kind text t.start t.kind t.end (is_offset-true _ t.end outer.1) in
     (start, inner.1, subst (λ n. Reads (rule_at kind before text n) kind text n t.kind t.end) start read)
 
 pub stands_unique : (kind : LineKind) (text : List ℕ) (from : ℕ) (before : Before) (t u : Token) → stands kind text from before t ≡ true → stands kind text from before u ≡ true → t ≡ u
@@ -101,7 +101,7 @@ stands_unique kind text from before t u h k =
     let start : t.start ≡ u.start = a.0 ∙ sym b.0 in
     λ i. record { kind = same.0 i; start = start i; end = same.1 i }
 
-either : (a b : Bool) → (a || b) ≡ true → (a ≡ true) ⊎ (b ≡ true)
+pub either : (a b : Bool) → (a || b) ≡ true → (a ≡ true) ⊎ (b ≡ true)
 either true b h = inl refl
 either false b h = inr h
 
@@ -115,7 +115,7 @@ past_end a b h k = true_false (sym k ∙ not_less a b h)
     not_less : (a b : ℕ) → nat_le a b ≡ true → nat_lt b a ≡ false
     not_less a b h = grind (arith, nat_tests)
 
--- A line that may end at a place has no token there.
+-- A line that may end at an offset has no token there.
 pub closed_no_token : (kind : LineKind) (text joins : List ℕ) (from : ℕ) (before : Before) (t : Token) → closes_line kind text joins from before ≡ true → stands kind text from before t ≡ true → ⊥
 unfolding closes_line
 closed_no_token kind text joins from before t h k =

@@ -9,11 +9,11 @@ use Rattle.sudo_text.specs.declared.piece.Piece.TheVariants.{Char, End, Bad}
 use Rattle.sudo_text.specs.declared.piece.Flaw.TheVariants as flaws
 use Rattle.sudo_text.specs.Bytes.{is_blank, is_hex, is_control, hex_value}
 use Rattle.sudo_text.specs.Pieces.{plain, escaped, ends_run, has_hex, is_arguments, hex_at, escape_at, blanks_at, piece_at, reach, run_end}
-use Rattle.sudo_text.proofs.Reaching.{choose, both, bad_char, end_char, follow_parts, run_parts}
+use Rattle.sudo_text.proofs.Reaching.{choose, both, bad_char, end_char, follow-parts, run_parts}
 use Rattle.sudo_text.proofs.Closing.{short, next_is}
 use Rattle.sudo_text.proofs.Unique.{true_false}
 use Rattle.sudo_text.proofs.Spacing.{same_char}
-use Rattle.sudo_text.proofs.Endings.{piece_moves, reach_moves}
+use Rattle.sudo_text.proofs.Endings.{piece_moves, reach-moves}
 
 escape_after : (style : Style) (text : List ℕ) (at : ℕ) (c : Ch) (n : ℕ) → escape_at style text at ≡ Char c n → at < n
 unfolding escape_at hex_at
@@ -57,18 +57,18 @@ plain_piece style text start at end c n off none before is =
     (λ v e. absurd (true_false (sym (both (is_arguments style) (is_blank byte) v).0 ∙ off)))
     (λ v e. record { within = short _ _ w; next = sym (next_is _ _ _ _ e); char = sym (same_char _ _ _ _ e) })))))
 
-plain_reach : (style : Style) (text : List ℕ) (start at len : ℕ) (cs : List Ch) → is_arguments style ≡ false → start ≤ at → ((i : ℕ) → i < len → get_or text (at + i) 0 ≢ 92)
+plain-reach : (style : Style) (text : List ℕ) (start at len : ℕ) (cs : List Ch) → is_arguments style ≡ false → start ≤ at → ((i : ℕ) → i < len → get_or text (at + i) 0 ≢ 92)
     → reach style text start at cs ≡ Some (at + len) → cs ≡ map plain (take len (drop at text))
 unfolding reach
-plain_reach style text start at zero [] off from none h = refl
-plain_reach style text start at (suc len) [] off from none h =
+plain-reach style text start at zero [] off from none h = refl
+plain-reach style text start at (suc len) [] off from none h =
     let same : at ≡ at + suc len = cc h in
     absurd (omega arith)
-plain_reach style text start at len (c ∷ cs) off from none h =
-    let step = follow_parts (piece_at style text start at) c _ (at + len) h in
+plain-reach style text start at len (c ∷ cs) off from none h =
+    let step = follow-parts (piece_at style text start at) c _ (at + len) h in
     let next : ℕ = step.0 in
     let first = (piece_moves style text start at c next from step.1).after in
-    let before = (reach_moves style text start next (at + len) cs (omega arith) step.2).after in
+    let before = (reach-moves style text start next (at + len) cs (omega arith) step.2).after in
     let zero_more : at + 0 ≡ at = omega arith in
     let one = plain_piece style text start at (at + len) c next off (λ lt e. none 0 (omega arith) (ap (λ n. get_or text n 0) zero_more ∙ e)) before step.1 in
     let after = one.next in
@@ -76,8 +76,8 @@ plain_reach style text start at len (c ∷ cs) off from none h =
     let less : suc left ≡ len = omega arith in
     let there : next ≡ suc at = omega arith in
     let end : at + len ≡ next + left = omega arith in
-    let tail = plain_reach style text start next left cs off (omega arith)
-    (λ i lt e. let place : at + suc i ≡ next + i = omega arith in none (suc i) (omega arith) (ap (λ n. get_or text n 0) place ∙ e))
+    let tail = plain-reach style text start next left cs off (omega arith)
+    (λ i lt e. let moved : at + suc i ≡ next + i = omega arith in none (suc i) (omega arith) (ap (λ n. get_or text n 0) moved ∙ e))
     (step.2 ∙ ap Some end) in
     let byte : ℕ = get_or text at 0 in
     (λ i. one.char i ∷ tail i)
@@ -85,8 +85,8 @@ plain_reach style text start at len (c ∷ cs) off from none h =
     ∙ ap (λ xs. map plain (take (suc left) xs)) (sym (drop-cons text at 0 one.within))
     ∙ ap (λ k. map plain (take k (drop at text))) less
 
-pub plain_run : (style : Style) (text : List ℕ) (start len : ℕ) (cs : List Ch) → is_arguments style ≡ false → ((i : ℕ) → i < len → get_or text (start + i) 0 ≢ 92)
+pub plain-run : (style : Style) (text : List ℕ) (start len : ℕ) (cs : List Ch) → is_arguments style ≡ false → ((i : ℕ) → i < len → get_or text (start + i) 0 ≢ 92)
     → run_end style text start cs ≡ Some (start + len) → cs ≡ map plain (take len (drop start text))
-plain_run style text start len cs off none run =
+plain-run style text start len cs off none run =
     let parts = run_parts style text start (start + len) cs run in
-    plain_reach style text start start len cs off (omega arith) none parts.0
+    plain-reach style text start start len cs off (omega arith) none parts.0

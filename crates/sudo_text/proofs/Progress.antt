@@ -64,10 +64,10 @@ unfolding progress
 cut_short file first at text joins line = refl
 
 -- One more line goes to the run.
-line_more : (file first : ℕ) (text joins line next : List ℕ) (more : List (List ℕ))
+line-more : (file first : ℕ) (text joins line next : List ℕ) (more : List (List ℕ))
     → line_onto file first text joins (line ∷ next ∷ more)
     ≡ line_onto file first (text ++ without_escape line) (joins ++ length (text ++ without_escape line) ∷ []) (next ∷ more)
-line_more file first text joins line next more =
+line-more file first text joins line next more =
     let front : List ℕ = without_escape line in
     let back : List ℕ = logical_text (next ∷ more) in
     let n : length text + length front ≡ length (text ++ front) = sym (length-append text front) in
@@ -79,12 +79,12 @@ one_more : (file : ℕ) (short : Bool) (first at : ℕ) (text joins line next : 
     → onto file short first at text joins ((line ∷ next ∷ more) ∷ others)
     ≡ onto file short first (at + 1) (text ++ without_escape line) (joins ++ length (text ++ without_escape line) ∷ []) ((next ∷ more) ∷ others)
 one_more file short first at text joins line next more [] =
-    let l = line_more file first text joins line next more in
+    let l = line-more file first text joins line next more in
     let n : length text + length (without_escape line ++ logical_text (next ∷ more)) ≡ length (text ++ without_escape line) + length (logical_text (next ∷ more))
     = omega (arith, length-append text (without_escape line), length-append (without_escape line) (logical_text (next ∷ more))) in
     λ i. if short then Err (BadEscape (place file first) (n i)) else Ok (l i ∷ [])
 one_more file short first at text joins line next more (other ∷ others) =
-    let l = line_more file first text joins line next more in
+    let l = line-more file first text joins line next more in
     let n : at + suc (suc (length more)) ≡ at + 1 + suc (length more) = omega arith in
     λ i. with_front (l i ∷ []) (lines_of_runs file short (n i) (other ∷ others))
 
@@ -109,9 +109,9 @@ continued_some [] ends = cc
 continued_some (b ∷ line) ends = omega arith
 
 -- Front by front.
-pub with_front_again : (xs ys : List Line) (r : Result (List Line) TextFault) → with_front xs (with_front ys r) ≡ with_front (xs ++ ys) r
-with_front_again xs ys (Ok zs) = ap Ok (sym (append_assoc xs ys zs))
-with_front_again xs ys (Err f) = refl
+pub with_front-again : (xs ys : List Line) (r : Result (List Line) TextFault) → with_front xs (with_front ys r) ≡ with_front (xs ++ ys) r
+with_front-again xs ys (Ok zs) = ap Ok (sym (append_assoc xs ys zs))
+with_front-again xs ys (Err f) = refl
 
 -- What one turn of the loop keeps: `front` is the bytes of the text after `line`, and `after` those after `next`.
 pub turn : (file first at : ℕ) (text text' joins joins' line next front after : List ℕ) (continued ends : Bool) (total : Result (List Line) TextFault)

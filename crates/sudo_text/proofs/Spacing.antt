@@ -14,10 +14,10 @@ use Rattle.sudo_text.specs.declared.piece.Piece.TheVariants.{Char, End, Bad}
 use Rattle.sudo_text.specs.declared.piece.Flaw.TheVariants as flaws
 use Rattle.sudo_text.specs.Bytes.{is_blank, is_control}
 use Rattle.sudo_text.specs.Pieces.{plain, escaped, skip, piece_at, escape_at, blanks_at, ends_run, reach, run_end}
-use Rattle.sudo_text.specs.Places.{is_defaults}
+use Rattle.sudo_text.specs.Rules.{is_defaults}
 use Rattle.sudo_text.specs.Tokens.{has_arguments, command_end}
 use Rattle.sudo_text.specs.Runs.{is_plain_blank, HasNoBlankAt, AreSpaced}
-use Rattle.sudo_text.proofs.Reaching.{choose, both, bad_char, bad_end, end_char, none_some, follow_parts, run_parts}
+use Rattle.sudo_text.proofs.Reaching.{choose, both, bad_char, bad_end, end_char, none_some, follow-parts, run_parts}
 use Rattle.sudo_text.proofs.Closing.{false_true, next_is, less}
 use Rattle.sudo_text.proofs.Endings.{escape_goes_on}
 use Rattle.sudo_text.proofs.Unique.{true_false, then_parts}
@@ -34,8 +34,8 @@ after_blanks (x ∷ xs) = by (is_blank x) refl (after_blanks xs)
         ap (λ k. is_blank (get_or (x ∷ xs) k 0)) more ∙ rest
     by false e rest = ap (λ b. is_blank (get_or (x ∷ xs) (cond b (1 + prefix_len is_blank xs) 0) 0)) e ∙ e
 
-pub skip_no_blank : (text : List ℕ) (at : ℕ) → is_blank (get_or text (skip text at) 0) ≡ false
-skip_no_blank text at =
+pub skip-no-blank : (text : List ℕ) (at : ℕ) → is_blank (get_or text (skip text at) 0) ≡ false
+skip-no-blank text at =
     let n : ℕ = length (take_while is_blank (drop at text)) in
     ap is_blank (sym (get_or-drop at text n 0) ∙ ap (λ k. get_or (drop at text) k 0) (length-prefix_len is_blank (drop at text))) ∙ after_blanks (drop at text)
 
@@ -68,7 +68,7 @@ blanks_open text at c n is =
     (λ w e.
     let parts = both (nat_lt next (length text)) (not (ends_run styles.Arguments text next next)) w in
     let there = next_is _ _ _ _ e in
-    (ap (λ (d : Ch). d.byte) (sym (same_char _ _ _ _ e)), subst (Opens text) there (record { within = less _ _ parts.0; goes_on = not_true _ parts.1; no_blank = skip_no_blank text at })))
+    (ap (λ (d : Ch). d.byte) (sym (same_char _ _ _ _ e)), subst (Opens text) there (record { within = less _ _ parts.0; goes_on = not_true _ parts.1; no_blank = skip-no-blank text at })))
     (λ w e. absurd (end_char _ _ e))
   where
     not_true : (b : Bool) → not b ≡ true → b ≡ false
@@ -146,21 +146,21 @@ first_opens text start at end [] o h is =
     let same : end ≡ at = cc in
     absurd (opens_goes_on text start at o (ap (piece_at styles.Arguments text start) (sym same) ∙ is))
 first_opens text start at end (c ∷ cs) o h is =
-    let step = follow_parts (piece_at styles.Arguments text start at) c _ end h in
+    let step = follow-parts (piece_at styles.Arguments text start at) c _ end h in
     record { char = c; there = refl; no_blank = opens_char text start at c step.0 o step.1 }
 
 one_later : (c : Ch) (cs : List Ch) (at : ℕ) → HasNoBlankAt cs at → HasNoBlankAt (c ∷ cs) (suc at)
 one_later c cs at h = record { char = h.char; there = h.there; no_blank = h.no_blank }
 
-reach_spaced : (text : List ℕ) (start at end : ℕ) (cs : List Ch) → reach styles.Arguments text start at cs ≡ Some end → piece_at styles.Arguments text start end ≡ End → AreSpaced cs
+reach-spaced : (text : List ℕ) (start at end : ℕ) (cs : List Ch) → reach styles.Arguments text start at cs ≡ Some end → piece_at styles.Arguments text start end ≡ End → AreSpaced cs
 unfolding reach
-reach_spaced text start at end [] h is = record { space = λ i c there blank. absurd (none_char c there); followed = λ i c there blank. absurd (none_char c there) }
+reach-spaced text start at end [] h is = record { space = λ i c there blank. absurd (none_char c there); followed = λ i c there blank. absurd (none_char c there) }
   where
     none_char : (c : Ch) → None ≡ Some c → ⊥
     none_char c e = cc
-reach_spaced text start at end (x ∷ xs) h is =
-    let step = follow_parts (piece_at styles.Arguments text start at) x _ end h in
-    let rest = reach_spaced text start step.0 end xs step.2 is in
+reach-spaced text start at end (x ∷ xs) h is =
+    let step = follow-parts (piece_at styles.Arguments text start at) x _ end h in
+    let rest = reach-spaced text start step.0 end xs step.2 is in
     record { space = space step rest; followed = followed step rest }
   where
     Step : Type 0
@@ -182,7 +182,7 @@ reach_spaced text start at end (x ∷ xs) h is =
 pub blanks_spaced : (text : List ℕ) (start end : ℕ) (cs : List Ch) → run_end styles.Arguments text start cs ≡ Some end → AreSpaced cs
 blanks_spaced text start end cs run =
     let parts = run_parts styles.Arguments text start end cs run in
-    reach_spaced text start start end cs parts.0 parts.1
+    reach-spaced text start start end cs parts.0 parts.1
 
 -- Arguments open after the path of a command that has them.
 arguments_open : (kind : LineKind) (text : List ℕ) (end : ℕ) → has_arguments kind text end ≡ true → Opens text (skip text end)
@@ -191,7 +191,7 @@ arguments_open kind text end h =
     let next : ℕ = skip text end in
     let outer = both (not (is_defaults kind) && nat_lt end next && nat_lt next (length text)) (not (ends_run styles.Arguments text next next)) h in
     let inner = both (not (is_defaults kind) && nat_lt end next) (nat_lt next (length text)) outer.0 in
-    record { within = less _ _ inner.1; goes_on = not_true _ outer.1; no_blank = skip_no_blank text end }
+    record { within = less _ _ inner.1; goes_on = not_true _ outer.1; no_blank = skip-no-blank text end }
   where
     not_true : (b : Bool) → not b ≡ true → b ≡ false
     not_true true h = absurd (false_true h)

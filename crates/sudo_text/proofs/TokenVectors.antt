@@ -10,7 +10,7 @@ use Rattle.sudo_text.specs.declared.fault.TextFault.TheVariants as faults
 use Rattle.sudo_text.specs.declared.piece.Flaw.TheVariants as flaws
 use Rattle.sudo_text.specs.Lines.{place}
 use Rattle.sudo_text.specs.Pieces.{plain, escaped, piece_at, escape_at, hex_at, blanks_at, ends_run, ends_word, reach, run_end}
-use Rattle.sudo_text.specs.Places.{begins_defaults, line_kind, defaults_mark_at, mark_at, is_sudoedit, general_rule_at, rule_at}
+use Rattle.sudo_text.specs.Rules.{begins_defaults, line_kind, defaults_mark_at, mark_at, is_sudoedit, general_rule_at, rule_at}
 use Rattle.sudo_text.specs.Runs.{backslashes_before}
 use Rattle.sudo_text.specs.Tokens.{quoted_end, keyword_end, has_arguments, command_end, path_end, token_end, stands, closes_line, spells, LeftmostFault}
 
@@ -113,14 +113,14 @@ unfolding piece_at escape_at hex_at blanks_at ends_run ends_word reach run_end b
 include_folder = refl
 
 -- an include line with a quoted path and a comment
-include_quoted : spells (line_of (codes "#include \"a b\" # c")) (token 0 14 (Include false true (map plain (codes "a b"))) ∷ []) ≡ true
+include-quoted : spells (line_of (codes "#include \"a b\" # c")) (token 0 14 (Include false true (map plain (codes "a b"))) ∷ []) ≡ true
 unfolding piece_at escape_at hex_at blanks_at ends_run ends_word reach run_end begins_defaults line_kind defaults_mark_at mark_at is_sudoedit general_rule_at rule_at quoted_end keyword_end has_arguments command_end path_end token_end stands closes_line spells
-include_quoted = refl
+include-quoted = refl
 
 -- an include line without a path
-include_none : spells (line_of (codes "@include  ")) (token 0 8 (Include false false []) ∷ []) ≡ true
+include-none : spells (line_of (codes "@include  ")) (token 0 8 (Include false false []) ∷ []) ≡ true
 unfolding piece_at escape_at hex_at blanks_at ends_run ends_word reach run_end begins_defaults line_kind defaults_mark_at mark_at is_sudoedit general_rule_at rule_at quoted_end keyword_end has_arguments command_end path_end token_end stands closes_line spells
-include_none = refl
+include-none = refl
 
 -- escapes of a word
 escapes : spells (line_of (codes "a\\,\\x4a")) (token 0 7 (Word false (plain 97 ∷ escaped 44 ∷ escaped 74 ∷ [])) ∷ []) ≡ true
@@ -133,9 +133,9 @@ unfolding piece_at escape_at hex_at blanks_at ends_run ends_word reach run_end b
 arguments = refl
 
 -- an escaped comma goes on
-escaped_argument : spells (line_of (codes "/a b\\,c")) (token 0 7 (Command (map plain (codes "/a")) (Some (plain 98 ∷ escaped 44 ∷ plain 99 ∷ []))) ∷ []) ≡ true
+escaped-argument : spells (line_of (codes "/a b\\,c")) (token 0 7 (Command (map plain (codes "/a")) (Some (plain 98 ∷ escaped 44 ∷ plain 99 ∷ []))) ∷ []) ≡ true
 unfolding piece_at escape_at hex_at blanks_at ends_run ends_word reach run_end begins_defaults line_kind defaults_mark_at mark_at is_sudoedit general_rule_at rule_at quoted_end keyword_end has_arguments command_end path_end token_end stands closes_line spells
-escaped_argument = refl
+escaped-argument = refl
 
 -- blanks and no argument
 no_arguments : spells (line_of (codes "/a , b")) (token 0 2 (Command (map plain (codes "/a")) None) ∷ token 3 4 (Mark marks.Comma) ∷ token 5 6 (word (codes "b")) ∷ []) ≡ true
@@ -170,27 +170,27 @@ all_tokens = refl
 -- an unclosed double quote
 bad_quote : LeftmostFault (line_of (codes "\"alice ALL")) (faults.BadQuote (place 0 1) 1)
 unfolding piece_at escape_at hex_at blanks_at ends_run ends_word reach run_end begins_defaults line_kind defaults_mark_at mark_at is_sudoedit general_rule_at rule_at quoted_end keyword_end has_arguments command_end path_end token_end stands closes_line spells
-bad_quote = record { before = []; flaw = flaws.BadQuote; place = 0; after = (lit< tt, inr (refl, refl, refl)); is = refl }
+bad_quote = record { before = []; flaw = flaws.BadQuote; offset = 0; after = (lit< tt, inr (refl, refl, refl)); is = refl }
 
 -- no two hexadecimal digits
 bad_hex : LeftmostFault (line_of (codes "a\\xg0 ALL")) (faults.BadHex (place 0 1) 2)
 unfolding piece_at escape_at hex_at blanks_at ends_run ends_word reach run_end begins_defaults line_kind defaults_mark_at mark_at is_sudoedit general_rule_at rule_at quoted_end keyword_end has_arguments command_end path_end token_end stands closes_line spells
-bad_hex = record { before = []; flaw = flaws.BadHex; place = 1; after = (lit< tt, record { chars = plain 97 ∷ []; end = 1; reached = refl; broken = refl }); is = refl }
+bad_hex = record { before = []; flaw = flaws.BadHex; offset = 1; after = (lit< tt, record { chars = plain 97 ∷ []; end = 1; reached = refl; broken = refl }); is = refl }
 
 -- a control byte after a word
 not_printable : LeftmostFault (line_of (97 ∷ 32 ∷ 98 ∷ 7 ∷ [])) (faults.NotPrintable (place 0 1) 4)
 unfolding piece_at escape_at hex_at blanks_at ends_run ends_word reach run_end begins_defaults line_kind defaults_mark_at mark_at is_sudoedit general_rule_at rule_at quoted_end keyword_end has_arguments command_end path_end token_end stands closes_line spells
-not_printable = record { before = token 0 1 (word (97 ∷ [])) ∷ []; flaw = flaws.NotPrintable; place = 3; after = (refl, (lit< tt, record { chars = plain 98 ∷ []; end = 3; reached = refl; broken = refl })); is = refl }
+not_printable = record { before = token 0 1 (word (97 ∷ [])) ∷ []; flaw = flaws.NotPrintable; offset = 3; after = (refl, (lit< tt, record { chars = plain 98 ∷ []; end = 3; reached = refl; broken = refl })); is = refl }
 
 -- a comment that goes on over a join
 bad_comment : LeftmostFault (joined_at 3 (codes "a # b")) (faults.BadEscape (place 0 1) 3)
 unfolding piece_at escape_at hex_at blanks_at ends_run ends_word reach run_end begins_defaults line_kind defaults_mark_at mark_at is_sudoedit general_rule_at rule_at quoted_end keyword_end has_arguments command_end path_end token_end stands closes_line spells
-bad_comment = record { before = token 0 1 (word (97 ∷ [])) ∷ []; flaw = flaws.BadEscape; place = 2; after = (refl, (lit< tt, (refl, refl, refl))); is = refl }
+bad_comment = record { before = token 0 1 (word (97 ∷ [])) ∷ []; flaw = flaws.BadEscape; offset = 2; after = (refl, (lit< tt, (refl, refl, refl))); is = refl }
 
 -- a backslash in a command's arguments with nothing after it
 bad_escape : LeftmostFault (line_of (codes "/a b\\")) (faults.BadEscape (place 0 1) 5)
 unfolding piece_at escape_at hex_at blanks_at ends_run ends_word reach run_end begins_defaults line_kind defaults_mark_at mark_at is_sudoedit general_rule_at rule_at quoted_end keyword_end has_arguments command_end path_end token_end stands closes_line spells
-bad_escape = record { before = []; flaw = flaws.BadEscape; place = 4; after = (lit< tt, inr (record { path = map plain (codes "/a"); end = 2; path_ends = refl; goes_on = refl; breaks = record { chars = plain 98 ∷ []; end = 4; reached = refl; broken = refl } })); is = refl }
+bad_escape = record { before = []; flaw = flaws.BadEscape; offset = 4; after = (lit< tt, inr (record { path = map plain (codes "/a"); end = 2; path_ends = refl; goes_on = refl; breaks = record { chars = plain 98 ∷ []; end = 4; reached = refl; broken = refl } })); is = refl }
 
 -- three backslashes directly before the quote, of which the first two take each other
 before_quote : backslashes_before (codes "\\x\\\\\\\"") 5 ≡ 3

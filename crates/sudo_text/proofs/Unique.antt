@@ -12,33 +12,33 @@ use Rattle.sudo_text.specs.declared.piece.Style.TheVariants as styles
 use Rattle.sudo_text.specs.declared.piece.Piece.TheVariants.{Char, End}
 use Rattle.sudo_text.specs.Pieces.{piece_at, skip, reach, run_end, same_ch}
 use Rattle.sudo_text.specs.Tokens.{same_chars, defaults_word, quoted_end, keyword_end, has_arguments, arguments_end, command_end, mark_code, path_end}
-use Rattle.sudo_text.proofs.Reaching.{choose, both, end_char, none_some, follow_parts, run_parts, same_ch_true}
+use Rattle.sudo_text.proofs.Reaching.{choose, both, end_char, none_some, follow-parts, run_parts, same_ch-true}
 
 pub true_false : true ≡ false → ⊥
 true_false e = cc
 
 -- Runs.
 
-reach_unique : (style : Style) (text : List ℕ) (start at e f : ℕ) (xs ys : List Ch)
+reach-unique : (style : Style) (text : List ℕ) (start at e f : ℕ) (xs ys : List Ch)
     → reach style text start at xs ≡ Some e → piece_at style text start e ≡ End
     → reach style text start at ys ≡ Some f → piece_at style text start f ≡ End → (xs ≡ ys) × (e ≡ f)
 unfolding reach
-reach_unique style text start at e f [] [] h he k kf = let s : e ≡ f = cc in (refl, s)
-reach_unique style text start at e f [] (y ∷ ys) h he k kf =
-    let step = follow_parts (piece_at style text start at) y _ f k in
+reach-unique style text start at e f [] [] h he k kf = let s : e ≡ f = cc in (refl, s)
+reach-unique style text start at e f [] (y ∷ ys) h he k kf =
+    let step = follow-parts (piece_at style text start at) y _ f k in
     let same : at ≡ e = cc h in
     absurd (end_char _ _ (sym he ∙ ap (λ n. piece_at style text start n) (sym same) ∙ step.1))
-reach_unique style text start at e f (x ∷ xs) [] h he k kf =
-    let step = follow_parts (piece_at style text start at) x _ e h in
+reach-unique style text start at e f (x ∷ xs) [] h he k kf =
+    let step = follow-parts (piece_at style text start at) x _ e h in
     let same : at ≡ f = cc k in
     absurd (end_char _ _ (sym kf ∙ ap (λ n. piece_at style text start n) (sym same) ∙ step.1))
-reach_unique style text start at e f (x ∷ xs) (y ∷ ys) h he k kf =
-    let a = follow_parts (piece_at style text start at) x _ e h in
-    let b = follow_parts (piece_at style text start at) y _ f k in
+reach-unique style text start at e f (x ∷ xs) (y ∷ ys) h he k kf =
+    let a = follow-parts (piece_at style text start at) x _ e h in
+    let b = follow-parts (piece_at style text start at) y _ f k in
     let same : Char x a.0 ≡ Char y b.0 = sym a.1 ∙ b.1 in
     let c : x ≡ y = cc same in
     let n : a.0 ≡ b.0 = cc same in
-    let rest = reach_unique style text start b.0 e f xs ys (subst (λ m. reach style text start m xs ≡ Some e) n a.2) he b.2 kf in
+    let rest = reach-unique style text start b.0 e f xs ys (subst (λ m. reach style text start m xs ≡ Some e) n a.2) he b.2 kf in
     ((λ i. c i ∷ rest.0 i), rest.1)
 
 pub run_unique : (style : Style) (text : List ℕ) (start e f : ℕ) (xs ys : List Ch)
@@ -46,7 +46,7 @@ pub run_unique : (style : Style) (text : List ℕ) (start e f : ℕ) (xs ys : Li
 run_unique style text start e f xs ys h k =
     let a = run_parts style text start e xs h in
     let b = run_parts style text start f ys k in
-    reach_unique style text start start e f xs ys a.0 a.1 b.0 b.1
+    reach-unique style text start start e f xs ys a.0 a.1 b.0 b.1
 
 -- Steps that may fail.
 pub then_parts : {A B : Type 0} (r : Option A) (on : A → Option B) (y : B) → option_and_then on r ≡ Some y → (x : A) × (r ≡ Some x) × (on x ≡ Some y)
@@ -64,19 +64,19 @@ quoted_unique text at e f xs ys h k =
     let s : e ≡ f = cc ends in
     (same.0, s)
 
-same_chars_true : (cs ds : List Ch) → same_chars cs ds ≡ true → cs ≡ ds
-same_chars_true [] [] h = refl
-same_chars_true [] (d ∷ ds) h = cc h
-same_chars_true (c ∷ cs) [] h = cc h
-same_chars_true (c ∷ cs) (d ∷ ds) h =
+same_chars-true : (cs ds : List Ch) → same_chars cs ds ≡ true → cs ≡ ds
+same_chars-true [] [] h = refl
+same_chars-true [] (d ∷ ds) h = cc h
+same_chars-true (c ∷ cs) [] h = cc h
+same_chars-true (c ∷ cs) (d ∷ ds) h =
     let parts = both (same_ch c d) (same_chars cs ds) h in
-    λ i. same_ch_true c d parts.0 i ∷ same_chars_true cs ds parts.1 i
+    λ i. same_ch-true c d parts.0 i ∷ same_chars-true cs ds parts.1 i
 
 pub keyword_parts : (at e : ℕ) (cs : List Ch) → keyword_end at cs ≡ Some e → (cs ≡ defaults_word) × (at + 8 ≡ e)
 unfolding keyword_end
 keyword_parts at e cs h =
     choose (same_chars cs defaults_word) (Some (at + 8)) None (Some e) h
-    (λ w k. let s : at + 8 ≡ e = cc k in (same_chars_true cs defaults_word w, s))
+    (λ w k. let s : at + 8 ≡ e = cc k in (same_chars-true cs defaults_word w, s))
     (λ w k. absurd (none_some e k))
 
 pub arguments_unique : (kind : LineKind) (text : List ℕ) (at e f : ℕ) (xs ys : Option (List Ch))
@@ -119,7 +119,7 @@ path_unique text at e f xs ys h k =
     (λ v n.
     choose (same_chars xs []) (Some at) None (Some e) m
     (λ a o. choose (same_chars ys []) (Some at) None (Some f) n
-    (λ b p. let s : Some e ≡ Some f = sym o ∙ p in let t : e ≡ f = cc s in (same_chars_true xs [] a ∙ sym (same_chars_true ys [] b), t))
+    (λ b p. let s : Some e ≡ Some f = sym o ∙ p in let t : e ≡ f = cc s in (same_chars-true xs [] a ∙ sym (same_chars-true ys [] b), t))
     (λ b p. absurd (none_some f p)))
     (λ a o. absurd (none_some e o)))
     (λ v n. absurd (true_false (sym w ∙ v))))

@@ -11,7 +11,7 @@ use Rattle.sudo_text.specs.declared.piece.Style.{Style}
 use Rattle.sudo_text.specs.declared.piece.Style.TheVariants as styles
 use Rattle.sudo_text.specs.Bytes.{is_blank, is_digit}
 use Rattle.sudo_text.specs.Pieces.{plain, skip, IsBlankAt, is_mark_byte, is_assignment, ends_run, is_arguments, run_end}
-use Rattle.sudo_text.specs.Places.{opens, is_defaults, directive_len, rule_at}
+use Rattle.sudo_text.specs.Rules.{opens, is_defaults, directive_len, rule_at}
 use Rattle.sudo_text.specs.Tokens.{has_closing, quoted_end, command_end}
 
 -- the number of consecutive backslashes directly before an offset

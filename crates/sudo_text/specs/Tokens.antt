@@ -29,7 +29,7 @@ use Rattle.sudo_text.specs.declared.piece.Style.TheVariants as styles
 use Rattle.sudo_text.specs.declared.piece.Flaw.{Flaw}
 use Rattle.sudo_text.specs.declared.piece.Flaw.TheVariants as flaws
 use Rattle.sudo_text.specs.Pieces.{plain, skip, ends_run, same_bool, same_ch, run_end, Breaks}
-use Rattle.sudo_text.specs.Places.{is_defaults, word_style, mark_len, directive_len, rule_at, before_of, line_kind}
+use Rattle.sudo_text.specs.Rules.{is_defaults, word_style, mark_len, directive_len, rule_at, before_of, line_kind}
 
 abbrev pub same_chars : List Ch → List Ch → Bool
 same_chars [] [] = true
@@ -169,72 +169,72 @@ has_closing taken (b ∷ bs) = if closes taken b then true else has_closing (tak
 
 -- the flaw of a quoted word that begins at an offset
 abbrev pub QuotedFlaw : List ℕ → ℕ → Flaw → ℕ → Type 0
-QuotedFlaw text at flaw place =
-    (IsTrue (has_closing false (drop (at + 1) text)) × Breaks styles.Quoted text (at + 1) flaw place)
-    ⊎ (IsTrue (not (has_closing false (drop (at + 1) text))) × (flaw ≡ flaws.BadQuote) × (place ≡ at))
+QuotedFlaw text at flaw offset =
+    (IsTrue (has_closing false (drop (at + 1) text)) × Breaks styles.Quoted text (at + 1) flaw offset)
+    ⊎ (IsTrue (not (has_closing false (drop (at + 1) text))) × (flaw ≡ flaws.BadQuote) × (offset ≡ at))
 
 -- the flaw of a command's arguments, after a path without a flaw
-pub record ArgumentsFlaw (kind : LineKind) (text : List ℕ) (at : ℕ) (flaw : Flaw) (place : ℕ) : Type 0 where
+pub record ArgumentsFlaw (kind : LineKind) (text : List ℕ) (at : ℕ) (flaw : Flaw) (offset : ℕ) : Type 0 where
   pub path : List Ch
   pub end : ℕ
   pub path_ends : run_end styles.Path text at path ≡ Some end
   pub goes_on : has_arguments kind text end ≡ true
-  pub breaks : Breaks styles.Arguments text (skip text end) flaw place
+  pub breaks : Breaks styles.Arguments text (skip text end) flaw offset
 
 -- the flaw of a command
 abbrev pub CommandFlaw : LineKind → List ℕ → ℕ → Flaw → ℕ → Type 0
-CommandFlaw kind text at flaw place = Breaks styles.Path text at flaw place ⊎ ArgumentsFlaw kind text at flaw place
+CommandFlaw kind text at flaw offset = Breaks styles.Path text at flaw offset ⊎ ArgumentsFlaw kind text at flaw offset
 
 -- the flaw of the path of an include line, after a directive that ends at an offset
 abbrev pub PathFlaw : List ℕ → ℕ → Flaw → ℕ → Type 0
-PathFlaw text directive flaw place =
+PathFlaw text directive flaw offset =
     (skip text directive < length text)
-    × ((IsTrue (slice_index text (skip text directive) == 34) × QuotedFlaw text (skip text directive) flaw place)
-    ⊎ (IsTrue (not (slice_index text (skip text directive) == 34)) × Breaks styles.Include text (skip text directive) flaw place))
+    × ((IsTrue (slice_index text (skip text directive) == 34) × QuotedFlaw text (skip text directive) flaw offset)
+    ⊎ (IsTrue (not (slice_index text (skip text directive) == 34)) × Breaks styles.Include text (skip text directive) flaw offset))
 
 -- reading by the given rule at an offset fails with a flaw
 abbrev pub FlawBy : Rule → LineKind → List ℕ → List ℕ → ℕ → Flaw → ℕ → Type 0
-FlawBy (rules.Include folder hash) kind text joins at flaw place = PathFlaw text (at + directive_len folder) flaw place
-FlawBy rules.Keyword kind text joins at flaw place = ⊥
-FlawBy rules.Comment kind text joins at flaw place =
-    IsTrue (has_join_after joins at) × (flaw ≡ flaws.BadEscape) × (place ≡ at)
-FlawBy rules.Quoted kind text joins at flaw place = QuotedFlaw text at flaw place
-FlawBy rules.Value kind text joins at flaw place = Breaks styles.Value text at flaw place
-FlawBy rules.Command kind text joins at flaw place = CommandFlaw kind text at flaw place
-FlawBy (rules.Mark mark) kind text joins at flaw place = ⊥
-FlawBy rules.Word kind text joins at flaw place = Breaks (word_style kind) text at flaw place
+FlawBy (rules.Include folder hash) kind text joins at flaw offset = PathFlaw text (at + directive_len folder) flaw offset
+FlawBy rules.Keyword kind text joins at flaw offset = ⊥
+FlawBy rules.Comment kind text joins at flaw offset =
+    IsTrue (has_join_after joins at) × (flaw ≡ flaws.BadEscape) × (offset ≡ at)
+FlawBy rules.Quoted kind text joins at flaw offset = QuotedFlaw text at flaw offset
+FlawBy rules.Value kind text joins at flaw offset = Breaks styles.Value text at flaw offset
+FlawBy rules.Command kind text joins at flaw offset = CommandFlaw kind text at flaw offset
+FlawBy (rules.Mark mark) kind text joins at flaw offset = ⊥
+FlawBy rules.Word kind text joins at flaw offset = Breaks (word_style kind) text at flaw offset
 
 -- reading fails with a flaw after the tokens that the text spells from an offset on
 abbrev pub FlawAfter : LineKind → List ℕ → List ℕ → ℕ → Before → List Token → Flaw → ℕ → Type 0
-FlawAfter kind text joins from before [] flaw place =
+FlawAfter kind text joins from before [] flaw offset =
     (skip text from < length text)
-    × FlawBy (rule_at kind before text (skip text from)) kind text joins (skip text from) flaw place
-FlawAfter kind text joins from before (token ∷ rest) flaw place =
+    × FlawBy (rule_at kind before text (skip text from)) kind text joins (skip text from) flaw offset
+FlawAfter kind text joins from before (token ∷ rest) flaw offset =
     IsTrue (stands kind text from before token)
-    × FlawAfter kind text joins token.end (before_of token.kind) rest flaw place
+    × FlawAfter kind text joins token.end (before_of token.kind) rest flaw offset
 
 abbrev pub fault_of : Place → Flaw → ℕ → TextFault
-fault_of first flaws.BadQuote place = faults.BadQuote first (place + 1)
-fault_of first flaws.BadHex place = faults.BadHex first (place + 1)
-fault_of first flaws.BadEscape place = faults.BadEscape first (place + 1)
-fault_of first flaws.NotPrintable place = faults.NotPrintable first (place + 1)
+fault_of first flaws.BadQuote offset = faults.BadQuote first (offset + 1)
+fault_of first flaws.BadHex offset = faults.BadHex first (offset + 1)
+fault_of first flaws.BadEscape offset = faults.BadEscape first (offset + 1)
+fault_of first flaws.NotPrintable offset = faults.NotPrintable first (offset + 1)
 
 -- the leftmost fault of a line, with the tokens before it
 pub record LeftmostFault (line : Line) (fault : TextFault) : Type 0 where
   pub before : List Token
   pub flaw : Flaw
-  pub place : ℕ
-  pub after : FlawAfter (line_kind line.text) line.text line.joins 0 befores.Nothing before flaw place
-  pub is : fault ≡ fault_of line.first flaw place
+  pub offset : ℕ
+  pub after : FlawAfter (line_kind line.text) line.text line.joins 0 befores.Nothing before flaw offset
+  pub is : fault ≡ fault_of line.first flaw offset
 
 -- the text after an offset has a flaw before any further token
 abbrev pub FlawNext : LineKind → List ℕ → List ℕ → ℕ → Before → Flaw → ℕ → Type 0
-FlawNext kind text joins from before flaw place = FlawAfter kind text joins from before [] flaw place
+FlawNext kind text joins from before flaw offset = FlawAfter kind text joins from before [] flaw offset
 
 -- the fault of a line that begins at this place, for a refusal of one of its tokens
 abbrev pub IsFaultOf : Place → Refusal → TextFault → Type 0
 IsFaultOf first refusals.Memory fault = fault ≡ faults.Memory
-IsFaultOf first (refusals.Wrong flaw place) fault = fault ≡ fault_of first flaw place
+IsFaultOf first (refusals.Wrong flaw offset) fault = fault ≡ fault_of first flaw offset
 
 -- the end of the line was reached; `IfToken`: a token was read, and a fact holds of it
 abbrev pub IsDone : Result (Option Token) Refusal → Type 0

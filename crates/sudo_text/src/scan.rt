@@ -1,7 +1,7 @@
 //! The tokens of a line.
 ghost use Rattle.std.specs.Prelude.{◌≡◌, ◌+◌, ◌<◌, ◌≤◌, ◌^◌, ◌≢◌, length, drop, Some, true, false, [], ◌-◌, IsTrue, IfOk, IfErr, All};
 ghost use Rattle.sudo_text.specs.Pieces.{takes_first, Breaks};
-ghost use Rattle.sudo_text.specs.Places.{RuleFits, KindFits};
+ghost use Rattle.sudo_text.specs.Rules.{RuleFits, KindFits};
 ghost use Rattle.sudo_text.specs.Refusals.{Refuses};
 ghost use Rattle.sudo_text.specs.Tokens as spec;
 ghost use Rattle.sudo_text.specs.Tokens.{quoted_end, command_end, path_end, token_by, token_end, WordEnds, QuotedFlaw, CommandFlaw, PathFlaw, FlawBy, FlawNext, IsDone, IfToken, IsFaultOf, closes_line, stands, spells, LeftmostFault};
@@ -56,7 +56,7 @@ fn quoted(alloc: Global, text: &[u8], at: usize) -> Result<(Seq<Ch>, usize), Ref
     ensures end { IfOk result (λ x. quoted_end text.now at x.0 ≡ Some x.1) }
     ensures within { IfOk result (λ x. (at < x.1) × (x.1 ≤ length text.now)) }
     ensures flaw { IfErr result (Refuses (QuotedFlaw text.now at)) }
-    ensures inside { IfErr result (Refuses (λ _ place. place < length text.now)) }
+    ensures inside { IfErr result (Refuses (λ _ offset. offset < length text.now)) }
 {
     if !has_closing(&text[at + 1..]) {
         return Err(Refusal::Wrong(Flaw::BadQuote, at));
@@ -96,7 +96,7 @@ fn command(
     ensures end { IfOk result (λ x. command_end kind text.now at x.0 x.1 ≡ Some x.2) }
     ensures within { IfOk result (λ x. (at < x.2) × (x.2 ≤ length text.now)) }
     ensures flaw { IfErr result (Refuses (CommandFlaw kind text.now at)) }
-    ensures inside { IfErr result (Refuses (λ _ place. place < length text.now)) }
+    ensures inside { IfErr result (Refuses (λ _ offset. offset < length text.now)) }
 {
     let (path, end) = run(alloc, Style::Path, text, at)?;
     if !has_arguments(kind, text, end) {
@@ -114,7 +114,7 @@ fn include_path(alloc: Global, text: &[u8], directive: usize) -> Result<(Seq<Ch>
     ensures end { IfOk result (λ x. path_end text.now directive x.0 ≡ Some x.1) }
     ensures within { IfOk result (λ x. (directive ≤ x.1) × (x.1 ≤ length text.now)) }
     ensures flaw { IfErr result (Refuses (PathFlaw text.now directive)) }
-    ensures inside { IfErr result (Refuses (λ _ place. place < length text.now)) }
+    ensures inside { IfErr result (Refuses (λ _ offset. offset < length text.now)) }
 {
     let at = skip_blanks(text, directive);
     if text.len() <= at {
@@ -151,7 +151,7 @@ fn word(alloc: Global, style: Style, text: &[u8], at: usize) -> Result<(TokenKin
     ensures end { IfOk result (λ x. WordEnds style text.now at x.0 x.1) }
     ensures within { IfOk result (λ x. (at < x.1) × (x.1 ≤ length text.now)) }
     ensures flaw { IfErr result (Refuses (Breaks style text.now at)) }
-    ensures inside { IfErr result (Refuses (λ _ place. place < length text.now)) }
+    ensures inside { IfErr result (Refuses (λ _ offset. offset < length text.now)) }
 {
     let (chars, end) = run(alloc, style, text, at)?;
     let quoted = false;
@@ -174,7 +174,7 @@ fn token_at(
     ensures end { IfOk result (λ x. token_by rule kind text.now at x.0 ≡ Some x.1) }
     ensures within { IfOk result (λ x. (at < x.1) × (x.1 ≤ length text.now)) }
     ensures flaw { IfErr result (Refuses (FlawBy rule kind text.now [] at)) }
-    ensures inside { IfErr result (Refuses (λ _ place. place < length text.now)) }
+    ensures inside { IfErr result (Refuses (λ _ offset. offset < length text.now)) }
 {
     match rule {
         Rule::Include { folder, hash } => {
@@ -227,7 +227,7 @@ fn next_token(
     ensures within { IfToken result (λ t. (from < t.end) × (t.end ≤ length line.now.text)) }
     ensures inside_text { IfToken result (λ t. t.start < length line.now.text) }
     ensures flaw { IfErr result (Refuses (FlawNext kind line.now.text line.now.joins from before)) }
-    ensures inside { IfErr result (Refuses (λ _ place. place < length line.now.text)) }
+    ensures inside { IfErr result (Refuses (λ _ offset. offset < length line.now.text)) }
 {
     let text = line.text.as_slice();
     let at = skip_blanks(text, from);
@@ -251,13 +251,13 @@ fn next_token(
 
 // Returns the fault of a line for a refusal.
 fn fault_of(first: Place, refusal: Refusal) -> TextFault
-    requires { Refuses (λ _ place. place + 1 < 2 ^ 32) refusal }
+    requires { Refuses (λ _ offset. offset + 1 < 2 ^ 32) refusal }
     ensures { IsFaultOf first refusal result }
 {
     match refusal {
         Refusal::Memory => TextFault::Memory,
-        Refusal::Wrong(flaw, place) => {
-            let (place, col) = (first, (place + 1) as u32);
+        Refusal::Wrong(flaw, offset) => {
+            let (place, col) = (first, (offset + 1) as u32);
             match flaw {
                 Flaw::BadQuote => TextFault::BadQuote { place, col },
                 Flaw::BadHex => TextFault::BadHex { place, col },

@@ -24,7 +24,7 @@ use Rattle.sudo_policy.specs.Positions.{members_at}
 use Rattle.sudo_policy.specs.declared.index.Position.{Position}
 use Rattle.sudo_verdict.specs.Body.Marking.{HaveKeys, IsPassedAt}
 use Rattle.std.specs.Prelude.{slice_get, option_and_then}
-use Rattle.sudo_verdict.proofs.Lasts.{last-at, last_that_append, last_that_map, option_map_or, option_map_map}
+use Rattle.sudo_verdict.proofs.Lasts.{last-at, last_that-append, last_that-map, option_map_or, option_map_map}
 
 one : (s : Signed) (b : Bool) → option_map decision_of (cond b (Some s) None) ≡ cond b (Some (decision_of s)) None
 one s true = refl
@@ -34,13 +34,13 @@ module _ (test : Atom → Bool) where
   decided_in_append : (xs ys : List Signed) → decided_in test (xs ++ ys) ≡ option_or (decided_in test ys) (decided_in test xs)
   unfolding decided_in
   decided_in_append xs ys =
-      ap (option_map decision_of) (last_that_append (λ s. test s.atom) xs ys) ∙ option_map_or decision_of _ _
+      ap (option_map decision_of) (last_that-append (λ s. test s.atom) xs ys) ∙ option_map_or decision_of _ _
 
   -- A negated list decides with the other sign.
   decided_in_negated : (b : Bool) (xs : List Signed) → decided_in test (map (negated_if b) xs) ≡ option_map (negated_once b) (decided_in test xs)
   unfolding decided_in
   decided_in_negated b xs =
-      ap (option_map decision_of) (last_that_map true (λ s. test s.atom) (λ s. test s.atom) (negated_if b) (λ s. refl) xs)
+      ap (option_map decision_of) (last_that-map true (λ s. test s.atom) (λ s. test s.atom) (negated_if b) (λ s. refl) xs)
       ∙ option_map_map (negated_if b) decision_of (last_that (λ s. test s.atom) xs)
       ∙ sym (option_map_map decision_of (negated_once b) (last_that (λ s. test s.atom) xs))
 

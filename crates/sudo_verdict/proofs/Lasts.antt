@@ -7,22 +7,12 @@ use Rattle.std.proofs.Common.{length}
 use Rattle.std.proofs.lemmas.Bool.{and_parts}
 use Rattle.std.proofs.lemmas.List.{map-append}
 use Rattle.sudo_verdict.specs.Last.{last_that, last_set}
+use Rattle.sudo_policy.proofs.SoundLemmas.{all_append}
+use Rattle.sudo_policy.proofs.SurveyLemmas.{get_append_end, option_or-none}
 
-list_all_append : {X : Type 0} (t : X → Bool) (xs ys : List X) → list_all t (xs ++ ys) ≡ (list_all t xs && list_all t ys)
-list_all_append t [] ys = refl
-list_all_append t (x ∷ xs) ys = by (t x) (list_all_append t xs ys)
-  where
-    by : (b : Bool) → list_all t (xs ++ ys) ≡ (list_all t xs && list_all t ys) → (b && list_all t (xs ++ ys)) ≡ ((b && list_all t xs) && list_all t ys)
-    by true h = h
-    by false h = refl
-
-pub option_or_assoc : {X : Type 0} (a b c : Option X) → option_or (option_or a b) c ≡ option_or a (option_or b c)
-option_or_assoc None b c = refl
-option_or_assoc (Some x) b c = refl
-
-pub option_or_none : {X : Type 0} (a : Option X) → option_or a None ≡ a
-option_or_none None = refl
-option_or_none (Some x) = refl
+pub option_or-assoc : {X : Type 0} (a b c : Option X) → option_or (option_or a b) c ≡ option_or a (option_or b c)
+option_or-assoc None b c = refl
+option_or-assoc (Some x) b c = refl
 
 pub option_map_or : {X Y : Type 0} (f : X → Y) (a b : Option X) → option_map f (option_or a b) ≡ option_or (option_map f a) (option_map f b)
 option_map_or f None b = refl
@@ -32,11 +22,11 @@ pub option_map_map : {X Y Z : Type 0} (f : X → Y) (g : Y → Z) (a : Option X)
 option_map_map f g None = refl
 option_map_map f g (Some x) = refl
 
-pub last_that_append : {X : Type 0} (f : X → Bool) (xs ys : List X) → last_that f (xs ++ ys) ≡ option_or (last_that f ys) (last_that f xs)
-last_that_append f [] ys = sym (option_or_none (last_that f ys))
-last_that_append f (x ∷ xs) ys =
-    ap (λ o. option_or o (cond (f x) (Some x) None)) (last_that_append f xs ys)
-    ∙ option_or_assoc (last_that f ys) (last_that f xs) (cond (f x) (Some x) None)
+pub last_that-append : {X : Type 0} (f : X → Bool) (xs ys : List X) → last_that f (xs ++ ys) ≡ option_or (last_that f ys) (last_that f xs)
+last_that-append f [] ys = sym (option_or-none (last_that f ys))
+last_that-append f (x ∷ xs) ys =
+    ap (λ o. option_or o (cond (f x) (Some x) None)) (last_that-append f xs ys)
+    ∙ option_or-assoc (last_that f ys) (last_that f xs) (cond (f x) (Some x) None)
 
 one_more : {X Y : Type 0} (g : X → Y) (b : Bool) (o : Option X) (x : X) → option_or (option_map g o) (cond b (Some (g x)) None) ≡ option_map g (option_or o (cond b (Some x) None))
 one_more g b (Some y) x = refl
@@ -44,30 +34,30 @@ one_more g true None x = refl
 one_more g false None x = refl
 
 -- Each item of the map passes where the condition holds and its source passes.
-pub last_that_map : {X Y : Type 0} (c : Bool) (f : X → Bool) (h : Y → Bool) (g : X → Y) → ((x : X) → h (g x) ≡ (c && f x)) → (xs : List X) → last_that h (map g xs) ≡ cond c (option_map g (last_that f xs)) None
-last_that_map true f h g e [] = refl
-last_that_map false f h g e [] = refl
-last_that_map true f h g e (x ∷ xs) =
-    let ih : last_that h (map g xs) ≡ option_map g (last_that f xs) = last_that_map true f h g e xs
+pub last_that-map : {X Y : Type 0} (c : Bool) (f : X → Bool) (h : Y → Bool) (g : X → Y) → ((x : X) → h (g x) ≡ (c && f x)) → (xs : List X) → last_that h (map g xs) ≡ cond c (option_map g (last_that f xs)) None
+last_that-map true f h g e [] = refl
+last_that-map false f h g e [] = refl
+last_that-map true f h g e (x ∷ xs) =
+    let ih : last_that h (map g xs) ≡ option_map g (last_that f xs) = last_that-map true f h g e xs
     in rw (ih, e x) (one_more g (f x) (last_that f xs) x)
-last_that_map false f h g e (x ∷ xs) =
-    let ih : last_that h (map g xs) ≡ None = last_that_map false f h g e xs
+last_that-map false f h g e (x ∷ xs) =
+    let ih : last_that h (map g xs) ≡ None = last_that-map false f h g e xs
     in rw (ih, e x) refl
 
-pub last_set_push : {X : Type 0} (xs : List (Option X)) (o : Option X) → last_set (xs ++ o ∷ []) ≡ option_or o (last_set xs)
-last_set_push [] o = sym (option_or_none o)
-last_set_push (x ∷ xs) o = ap (λ r. option_or r x) (last_set_push xs o) ∙ option_or_assoc o (last_set xs) x
+pub last_set-push : {X : Type 0} (xs : List (Option X)) (o : Option X) → last_set (xs ++ o ∷ []) ≡ option_or o (last_set xs)
+last_set-push [] o = sym (option_or-none o)
+last_set-push (x ∷ xs) o = ap (λ r. option_or r x) (last_set-push xs o) ∙ option_or-assoc o (last_set xs) x
 
-pub last_set_map_push : {X Y : Type 0} (f : X → Option Y) (rest : List X) (m : X) → last_set (map f (rest ++ m ∷ [])) ≡ option_or (f m) (last_set (map f rest))
-last_set_map_push f rest m = rw map-append (last_set_push (map f rest) (f m))
+pub last_set-map-push : {X Y : Type 0} (f : X → Option Y) (rest : List X) (m : X) → last_set (map f (rest ++ m ∷ [])) ≡ option_or (f m) (last_set (map f rest))
+last_set-map-push f rest m = rw map-append (last_set-push (map f rest) (f m))
 
 -- A search from the end of a list back.
 module _ {X Y : Type 0} (f : X → Option Y) (left rest : List X) (m : X) (is : left ≡ rest ++ m ∷ []) where
   pub back_found : (y : Y) → Some y ≡ f m → last_set (map f left) ≡ Some y
-  back_found y e = rw (is, last_set_map_push f rest m, ← e) refl
+  back_found y e = rw (is, last_set-map-push f rest m, ← e) refl
 
   pub back_none : None ≡ f m → last_set (map f left) ≡ last_set (map f rest)
-  back_none e = rw (is, last_set_map_push f rest m, ← e) refl
+  back_none e = rw (is, last_set-map-push f rest m, ← e) refl
 
 pub back_end : {X Y : Type 0} (f : X → Option Y) (left : List X) → length left ≡ 0 → last_set (map f left) ≡ None
 back_end f [] h = refl
@@ -75,7 +65,7 @@ back_end f (x ∷ xs) h = cc
 
 module _ {X : Type 0} (t : X → Bool) (left rest : List X) (m : X) (is : left ≡ rest ++ m ∷ []) (h : list_all t left ≡ true) where
   back_parts : (list_all t rest ≡ true) × (list_all t (m ∷ []) ≡ true)
-  back_parts = and_parts (list_all t rest) (list_all t (m ∷ [])) (rw (is, list_all_append t rest (m ∷ [])) at h)
+  back_parts = and_parts (list_all t rest) (list_all t (m ∷ [])) (rw (is, all_append t rest (m ∷ [])) at h)
 
   pub back_rest : list_all t rest ≡ true
   back_rest = back_parts.0
@@ -84,10 +74,6 @@ module _ {X : Type 0} (t : X → Bool) (left rest : List X) (m : X) (is : left �
   back_last = (and_parts (t m) true back_parts.1).0
 
 -- ---- The first items of a list, and the last of them
-
-pub end-there : {X : Type 0} (rest : List X) (x : X) → slice_get (rest ++ x ∷ []) (length rest) ≡ Some x
-end-there [] x = refl
-end-there (y ∷ rest) x = end-there rest x
 
 pub take-there : {X : Type 0} (n : ℕ) (xs : List X) → slice_get (take (suc n) xs) n ≡ slice_get xs n
 take-there n [] = refl
@@ -112,7 +98,7 @@ front-suc xs left rest x is front =
 -- the last of the first items is where the items before it end
 pub last-at : {X : Type 0} (xs left rest : List X) (x : X) → left ≡ rest ++ x ∷ [] → left ≡ take (length left) xs → slice_get xs (length rest) ≡ Some x
 last-at xs left rest x is front =
-    sym (take-there (length rest) xs) ∙ ap (λ l. slice_get l (length rest)) (sym (front-suc xs left rest x is front) ∙ is) ∙ end-there rest x
+    sym (take-there (length rest) xs) ∙ ap (λ l. slice_get l (length rest)) (sym (front-suc xs left rest x is front) ∙ is) ∙ get_append_end rest x
 
 pub front-rest : {X : Type 0} (xs left rest : List X) (x : X) → left ≡ rest ++ x ∷ [] → left ≡ take (length left) xs → rest ≡ take (length rest) xs
 front-rest xs left rest x is front = front-shorter rest x xs (sym is ∙ front-suc xs left rest x is front)

@@ -1,7 +1,7 @@
 -- Numbers that a command lacks: no atom with one of them matches the command.
 use Rattle.std.proofs.Common.{◌≡◌, ℕ, Bool, true, false, not, ◌&&◌, ◌||◌, List, [], ◌∷◌, ◌++◌, None, length, refl, sym, ◌∙◌, ap}
 use Rattle.std.specs.Prelude.{◌==◌}
-use Rattle.std.proofs.lemmas.Bool.{and_parts, eqb-true}
+use Rattle.std.proofs.lemmas.Bool.{and_parts, eqb-true, and_left, or_parts, and_from}
 use Rattle.sudo_text.specs.declared.token.Ch.{Ch}
 use Rattle.sudo_grammar.specs.declared.kind.Atom.{Atom}
 use Rattle.sudo_grammar.specs.declared.kind.Atom.TheVariants as atom
@@ -14,26 +14,15 @@ use Rattle.sudo_verdict.specs.Postings.{next_number, bucket_of, whole_seed, begi
 use Rattle.sudo_verdict.specs.Body.Marking.{lacks_beginnings, lacks_command}
 use Rattle.sudo_verdict.proofs.Numbering.{path-special, path-more, path-end, numbered_next}
 use Rattle.sudo_match.proofs.PartLemmas.{part-byte}
-
-never : (b : Bool) → b ≡ true → not b ≡ true → ⊥
-never true e f = cc
-never false e f = cc
-
-or-none : (a b : Bool) → (a || b) ≡ false → (a ≡ false) × (b ≡ false)
-or-none true b e = cc
-or-none false b e = (refl, e)
+use Rattle.sudo_verdict.proofs.UserMarking.{never}
 
 -- a character that is not special is a part of its own, which fits its byte
 parts-literal : (c : Ch) (cs : List Ch) → (is_plain 42 c || (is_plain 63 c || is_plain 91 c)) ≡ false → parts (c ∷ cs) ≡ One (Only c.byte) ∷ parts cs
 unfolding parts_after
 parts-literal c cs e =
-    let star = or-none (is_plain 42 c) (is_plain 63 c || is_plain 91 c) e in
-    let others = or-none (is_plain 63 c) (is_plain 91 c) star.1 in
+    let star = or_parts (is_plain 42 c) (is_plain 63 c || is_plain 91 c) e in
+    let others = or_parts (is_plain 63 c) (is_plain 91 c) star.1 in
     ap (λ (r : Part × ℕ). r.0 ∷ parts_after r.1 cs) (part-byte c cs star.0 others.0 others.1)
-
-and-false : (a b : Bool) → a ≡ false → (a && b) ≡ false
-and-false true b e = cc
-and-false false b e = refl
 
 beginnings-here : (has : ℕ → Bool) (number : ℕ) (t : List ℕ) → lacks_beginnings has number t ≡ true → not (has number) ≡ true
 unfolding lacks_beginnings
@@ -104,7 +93,7 @@ unfolding atom_number command_fits
 lacked-atom has command arguments (atom.Command path args) e there =
     let parts_of = command-parts has command e in (
       refl,
-      and-false (fits (parts (path_chars path)) command Not) (arguments_fit (arguments_slash path) args arguments)
+      and_left (fits (parts (path_chars path)) command Not) (arguments_fit (arguments_slash path) args arguments)
           (path-lacked has (is_folder_path path) beginning_seed whole_seed path command parts_of.1.1 parts_of.1.0 there),
     )
 lacked-atom has command arguments (atom.Name name) e there = (refl, refl)
@@ -113,14 +102,10 @@ lacked-atom has command arguments (atom.Group name) e there = (refl, refl)
 lacked-atom has command arguments (atom.Gid gid) e there = (refl, refl)
 lacked-atom has command arguments _ e there = absurd (never (has 0) there (command-parts has command e).0)
 
-both : (a b : Bool) → a ≡ true → b ≡ true → (a && b) ≡ true
-both true b e f = f
-both false b e f = e
-
 pub lacks-more : (has : ℕ → Bool) (number b : ℕ) (bs : List ℕ) → has number ≡ false → lacks_beginnings has (next_number number b) bs ≡ true →
     lacks_beginnings has number (b ∷ bs) ≡ true
 unfolding lacks_beginnings
-lacks-more has number b bs e h = both (not (has number)) _ (ap not e) h
+lacks-more has number b bs e h = and_from (not (has number)) _ (ap not e) h
 
 pub lacks-end : (has : ℕ → Bool) (number : ℕ) (left : List ℕ) → has number ≡ false → length left ≡ 0 → lacks_beginnings has number left ≡ true
 unfolding lacks_beginnings
@@ -131,4 +116,4 @@ pub lacks-all : (has : ℕ → Bool) (command : List ℕ) → has 0 ≡ false �
     lacks_beginnings has beginning_seed command ≡ true → lacks_command has command ≡ true
 unfolding lacks_command
 lacks-all has command e f h =
-    both (not (has 0)) _ (ap not e) (both (not (has (bucket_of whole_seed command))) _ (ap not f) h)
+    and_from (not (has 0)) _ (ap not e) (and_from (not (has (bucket_of whole_seed command))) _ (ap not f) h)

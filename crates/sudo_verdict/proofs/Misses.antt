@@ -5,7 +5,7 @@ use Rattle.std.specs.Prelude.{slice_get, ◌==◌}
 use Rattle.std.specs.List.{list_all}
 use Rattle.std.proofs.Math.ListN.{set}
 use Rattle.std.proofs.Math.Nat.{mod-lt}
-use Rattle.std.proofs.lemmas.Bool.{cases_eq, and_parts, eqb-true, eq-eqb, ne_eqb}
+use Rattle.std.proofs.lemmas.Bool.{cases_eq, and_parts, eqb-true, eq-eqb, ne_eqb, and_from}
 use Rattle.std.proofs.lemmas.List.{length-set}
 use Rattle.std.specs.Int.{bit_at}
 use Rattle.std.proofs.lemmas.Nat.Bits.{bit_at-zero}
@@ -17,17 +17,17 @@ use Rattle.sudo_match.specs.declared.people.Group.{Group}
 use Rattle.sudo_match.specs.Matching.{user_fits}
 use Rattle.sudo_verdict.specs.Body.Blocks.{StartsAt}
 use Rattle.sudo_verdict.specs.Body.Marking.{lacks_user}
-use Rattle.sudo_verdict.proofs.UserMarking.{lacked-user_atom}
+use Rattle.sudo_verdict.proofs.UserMarking.{lacked-user_atom, never}
 use Rattle.sudo_verdict.specs.Postings.{bit, row_words, Rows, is_in_row, Grows, next_number, bucket_of, user_bucket, group_number, uid_number, gid_number, whole_seed, beginning_seed, atom_number, misses_group, misses_user, misses_beginnings, misses_command}
 
 -- ---- The row of a number
 
-pub row-within : (rows : Rows) (number n : ℕ) → n ≡ length rows → 0 < length rows → number % n < length rows
-row-within rows number n same some = subst (λ k. number % k < length rows) (sym same) (mod-lt number some)
+pub row-within : (rows : Rows) (number at : ℕ) → at ≡ number % length rows → 0 < length rows → at < length rows
+row-within rows number at is some = subst (λ k. k < length rows) (sym is) (mod-lt number some)
 
-pub row-there : (rows : Rows) (number n : ℕ) (row : Vec ℕ Global) → n ≡ length rows → slice_get rows (number % n) ≡ Some row →
+pub row-there : (rows : Rows) (number at : ℕ) (row : Vec ℕ Global) → at ≡ number % length rows → slice_get rows at ≡ Some row →
     slice_get rows (number % length rows) ≡ Some row
-row-there rows number n row same e = ap (λ k. slice_get rows (number % k)) (sym same) ∙ e
+row-there rows number at row is e = ap (slice_get rows) (sym is) ∙ e
 
 -- ---- One more rule
 
@@ -111,15 +111,7 @@ posted-none rows number rule row e none =
 
 -- ---- Rules in no row of a user
 
-both : (a b : Bool) → a ≡ true → b ≡ true → (a && b) ≡ true
-both true b e f = f
-both false b e f = e
-
-never : (b : Bool) → b ≡ true → not b ≡ true → ⊥
-never true e f = cc
-never false e f = cc
-
-keeps-not : (a b : Bool) → (a ≡ true → b ≡ true) → not b ≡ true → not a ≡ true
+pub keeps-not : (a b : Bool) → (a ≡ true → b ≡ true) → not b ≡ true → not a ≡ true
 keeps-not true b h e = absurd (never b (h refl) e)
 keeps-not false b h e = refl
 
@@ -128,8 +120,8 @@ groups-old old new grows rule [] e = refl
 groups-old old new grows rule (g ∷ gs) e =
     let here = and_parts (misses_group new rule g) (list_all (misses_group new rule) gs) e in
     let two = and_parts (not (is_in_row new (group_number g.name) rule)) (not (is_in_row new (gid_number g.gid) rule)) here.0 in
-    both (misses_group old rule g) (list_all (misses_group old rule) gs)
-    (both (not (is_in_row old (group_number g.name) rule)) (not (is_in_row old (gid_number g.gid) rule))
+    and_from (misses_group old rule g) (list_all (misses_group old rule) gs)
+    (and_from (not (is_in_row old (group_number g.name) rule)) (not (is_in_row old (gid_number g.gid) rule))
     (keeps-not (is_in_row old (group_number g.name) rule) (is_in_row new (group_number g.name) rule) (grows (group_number g.name) rule) two.0)
     (keeps-not (is_in_row old (gid_number g.gid) rule) (is_in_row new (gid_number g.gid) rule) (grows (gid_number g.gid) rule) two.1))
     (groups-old old new grows rule gs here.1)
@@ -150,8 +142,8 @@ pub misses-all :
     not (is_in_row rows (uid_number u.uid) rule) ≡ true → list_all (misses_group rows rule) u.groups ≡ true → misses_user rows rule u ≡ true
 unfolding misses_user
 misses-all rows rule u e f g h =
-    both (not (is_in_row rows 0 rule)) _ e
-    (both (not (is_in_row rows (user_bucket u.name) rule)) _ f (both (not (is_in_row rows (uid_number u.uid) rule)) (list_all (misses_group rows rule) u.groups) g h))
+    and_from (not (is_in_row rows 0 rule)) _ e
+    (and_from (not (is_in_row rows (user_bucket u.name) rule)) _ f (and_from (not (is_in_row rows (uid_number u.uid) rule)) (list_all (misses_group rows rule) u.groups) g h))
 
 pub misses-old : (old new : Rows) → Grows old new → (rule : ℕ) (u : Person) → misses_user new rule u ≡ true → misses_user old rule u ≡ true
 misses-old old new grows rule u e =
@@ -180,8 +172,8 @@ pub group-missed :
     is_in_row rows (gid_number g.gid) rule ≡ false → list_all (misses_group rows rule) rest ≡ true → list_all (misses_group rows rule) left ≡ true
 group-missed rows rule left rest g is e f h =
     ap (list_all (misses_group rows rule)) is
-    ∙ both (misses_group rows rule g) (list_all (misses_group rows rule) rest)
-    (both (not (is_in_row rows (group_number g.name) rule)) (not (is_in_row rows (gid_number g.gid) rule)) (ap not e) (ap not f)) h
+    ∙ and_from (misses_group rows rule g) (list_all (misses_group rows rule) rest)
+    (and_from (not (is_in_row rows (group_number g.name) rule)) (not (is_in_row rows (gid_number g.gid) rule)) (ap not e) (ap not f)) h
 
 pub no-groups : (rows : Rows) (rule : ℕ) (left : List Group) → length left ≡ 0 → list_all (misses_group rows rule) left ≡ true
 no-groups rows rule [] e = refl
@@ -192,7 +184,7 @@ no-groups rows rule (g ∷ gs) e = cc
 pub begins-more : (rows : Rows) (rule number b : ℕ) (bs : List ℕ) → is_in_row rows number rule ≡ false →
     misses_beginnings rows rule (next_number number b) bs ≡ true → misses_beginnings rows rule number (b ∷ bs) ≡ true
 unfolding misses_beginnings
-begins-more rows rule number b bs e h = both (not (is_in_row rows number rule)) _ (ap not e) h
+begins-more rows rule number b bs e h = and_from (not (is_in_row rows number rule)) _ (ap not e) h
 
 pub begins-end : (rows : Rows) (rule number : ℕ) (left : List ℕ) → is_in_row rows number rule ≡ false → length left ≡ 0 →
     misses_beginnings rows rule number left ≡ true
@@ -204,7 +196,7 @@ pub command-missed : (rows : Rows) (rule : ℕ) (command : List ℕ) → is_in_r
     misses_beginnings rows rule beginning_seed command ≡ true → misses_command rows rule command ≡ true
 unfolding misses_command
 command-missed rows rule command e f h =
-    both (not (is_in_row rows 0 rule)) _ (ap not e) (both (not (is_in_row rows (bucket_of whole_seed command) rule)) _ (ap not f) h)
+    and_from (not (is_in_row rows 0 rule)) _ (ap not e) (and_from (not (is_in_row rows (bucket_of whole_seed command) rule)) _ (ap not f) h)
 
 -- ---- Rows that grow
 
@@ -236,8 +228,8 @@ starts-none rows start h number rule before = go (slice_get rows (number % lengt
 groups-before : (rows : Rows) (start rule : ℕ) → StartsAt rows start → rule < 64 * start → (gs : List Group) → list_all (misses_group rows rule) gs ≡ true
 groups-before rows start rule starts before [] = refl
 groups-before rows start rule starts before (g ∷ gs) =
-    both (misses_group rows rule g) (list_all (misses_group rows rule) gs)
-    (both (not (is_in_row rows (group_number g.name) rule)) (not (is_in_row rows (gid_number g.gid) rule))
+    and_from (misses_group rows rule g) (list_all (misses_group rows rule) gs)
+    (and_from (not (is_in_row rows (group_number g.name) rule)) (not (is_in_row rows (gid_number g.gid) rule))
     (ap not (starts (group_number g.name) rule before)) (ap not (starts (gid_number g.gid) rule before)))
     (groups-before rows start rule starts before gs)
 
@@ -245,9 +237,3 @@ pub misses-before : (rows : Rows) (start rule : ℕ) (u : Person) → StartsAt r
 misses-before rows start rule u starts before =
     misses-all rows rule u (ap not (starts 0 rule before)) (ap not (starts (user_bucket u.name) rule before)) (ap not (starts (uid_number u.uid) rule before))
     (groups-before rows start rule starts before u.groups)
-
-pub get-within : {X : Type 0} (xs : List X) (k : ℕ) (x : X) → slice_get xs k ≡ Some x → k < length xs
-get-within [] zero x e = cc
-get-within [] (suc k) x e = cc
-get-within (y ∷ ys) zero x e = omega arith
-get-within (y ∷ ys) (suc k) x e = let h = get-within ys k x e in omega (arith, h)

@@ -1,15 +1,13 @@
 -- The rows of a command: a rule in none of them has no atom that fits the command.
 use Rattle.std.proofs.Common.{◌≡◌, ℕ, Bool, true, false, not, ◌&&◌, List, [], ◌∷◌, refl, sym, ◌∙◌, ap}
-use Rattle.std.proofs.lemmas.Bool.{and_parts}
+use Rattle.std.proofs.lemmas.Bool.{and_parts, and_from}
 use Rattle.sudo_grammar.specs.declared.kind.Atom.{Atom}
 use Rattle.sudo_match.specs.Matching.{command_fits}
 use Rattle.sudo_verdict.specs.Body.Marking.{lacks_beginnings, lacks_command}
 use Rattle.sudo_verdict.proofs.Marking.{lacked-atom}
 use Rattle.sudo_verdict.specs.Postings.{Rows, is_in_row, next_number, Grows, bucket_of, whole_seed, beginning_seed, atom_number, misses_beginnings, misses_command}
-
-never : (b : Bool) → b ≡ true → not b ≡ true → ⊥
-never true e f = cc
-never false e f = cc
+use Rattle.sudo_verdict.proofs.Misses.{keeps-not}
+use Rattle.sudo_verdict.proofs.UserMarking.{never}
 
 command-parts :
     (rows : Rows) (rule : ℕ) (command : List ℕ) → misses_command rows rule command ≡ true →
@@ -48,20 +46,12 @@ misses-everyone rows rule command e = go (is_in_row rows 0 rule) refl
 
 -- ---- Rows with fewer rules
 
-keeps-not : (a b : Bool) → (a ≡ true → b ≡ true) → not b ≡ true → not a ≡ true
-keeps-not true b h e = absurd (never b (h refl) e)
-keeps-not false b h e = refl
-
-both : (a b : Bool) → a ≡ true → b ≡ true → (a && b) ≡ true
-both true b e f = f
-both false b e f = e
-
 beginnings-old : (old new : Rows) → Grows old new → (rule number : ℕ) (t : List ℕ) → misses_beginnings new rule number t ≡ true → misses_beginnings old rule number t ≡ true
 unfolding misses_beginnings
 beginnings-old old new grows rule number [] e = keeps-not (is_in_row old number rule) (is_in_row new number rule) (grows number rule) e
 beginnings-old old new grows rule number (b ∷ bs) e =
     let parts_of = and_parts (not (is_in_row new number rule)) (misses_beginnings new rule (next_number number b) bs) e in
-    both (not (is_in_row old number rule)) _ (keeps-not (is_in_row old number rule) (is_in_row new number rule) (grows number rule) parts_of.0)
+    and_from (not (is_in_row old number rule)) _ (keeps-not (is_in_row old number rule) (is_in_row new number rule) (grows number rule) parts_of.0)
     (beginnings-old old new grows rule (next_number number b) bs parts_of.1)
 
 pub misses-command_old : (old new : Rows) → Grows old new → (rule : ℕ) (command : List ℕ) → misses_command new rule command ≡ true → misses_command old rule command ≡ true
@@ -69,7 +59,7 @@ unfolding misses_command
 misses-command_old old new grows rule command e =
     let a = and_parts (not (is_in_row new 0 rule)) _ e in
     let b = and_parts (not (is_in_row new (bucket_of whole_seed command) rule)) (misses_beginnings new rule beginning_seed command) a.1 in
-    both (not (is_in_row old 0 rule)) _ (keeps-not (is_in_row old 0 rule) (is_in_row new 0 rule) (grows 0 rule) a.0)
-    (both (not (is_in_row old (bucket_of whole_seed command) rule)) _
+    and_from (not (is_in_row old 0 rule)) _ (keeps-not (is_in_row old 0 rule) (is_in_row new 0 rule) (grows 0 rule) a.0)
+    (and_from (not (is_in_row old (bucket_of whole_seed command) rule)) _
     (keeps-not (is_in_row old (bucket_of whole_seed command) rule) (is_in_row new (bucket_of whole_seed command) rule) (grows (bucket_of whole_seed command) rule) b.0)
     (beginnings-old old new grows rule beginning_seed command b.1))

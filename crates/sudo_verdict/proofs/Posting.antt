@@ -6,23 +6,18 @@ use Rattle.std.specs.List.{list_all}
 use Rattle.std.proofs.lemmas.Bool.{and_parts}
 use Rattle.std.proofs.lemmas.List.{append-nil}
 use Rattle.sudo_verdict.specs.Last.{last_set}
-use Rattle.sudo_verdict.proofs.Lasts.{last_set_map_push}
+use Rattle.sudo_verdict.proofs.Lasts.{last_set-map-push}
+use Rattle.sudo_verdict.proofs.Searching.{take_more}
 
 -- ---- The entries that a search passes over
 
-take-more : {X : Type 0} (n : ℕ) (xs : List X) → take (suc n) xs ≡ take n xs ++ option_to_list (slice_get xs n)
-take-more zero [] = refl
-take-more zero (x ∷ xs) = refl
-take-more (suc n) [] = refl
-take-more (suc n) (x ∷ xs) = ap (λ l. x ∷ l) (take-more n xs)
-
 one-silent : {X Y : Type 0} (f : X → Option Y) (xs : List X) (n : ℕ) → ((x : X) → slice_get xs n ≡ Some x → f x ≡ None)
     → last_set (map f (take (suc n) xs)) ≡ last_set (map f (take n xs))
-one-silent f xs n silent = ap (λ l. last_set (map f l)) (take-more n xs) ∙ go (slice_get xs n) refl
+one-silent f xs n silent = ap (λ l. last_set (map f l)) (take_more n xs) ∙ go (slice_get xs n) refl
   where
     go : (o : Option _) → slice_get xs n ≡ o → last_set (map f (take n xs ++ option_to_list o)) ≡ last_set (map f (take n xs))
     go None e = ap (λ l. last_set (map f l)) (append-nil (take n xs))
-    go (Some x) e = last_set_map_push f (take n xs) x ∙ ap (λ o. option_or o (last_set (map f (take n xs)))) (silent x e)
+    go (Some x) e = last_set-map-push f (take n xs) x ∙ ap (λ o. option_or o (last_set (map f (take n xs)))) (silent x e)
 
 pub passed-over : {X Y : Type 0} (f : X → Option Y) (xs : List X) (from more : ℕ) → ((k : ℕ) (x : X) → from ≤ k → k < from + more → slice_get xs k ≡ Some x → f x ≡ None)
     → last_set (map f (take (from + more) xs)) ≡ last_set (map f (take from xs))
@@ -34,8 +29,8 @@ passed-over f xs from (suc more) silent =
 
 pub last-there : {X Y : Type 0} (f : X → Option Y) (xs : List X) (n : ℕ) (x : X) → slice_get xs n ≡ Some x → last_set (map f (take (n + 1) xs)) ≡ option_or (f x) (last_set (map f (take n xs)))
 last-there f xs n x e =
-    ap (λ l. last_set (map f l)) (ap (λ k. take k xs) (add-one n) ∙ take-more n xs ∙ ap (λ o. take n xs ++ option_to_list o) e)
-    ∙ last_set_map_push f (take n xs) x
+    ap (λ l. last_set (map f l)) (ap (λ k. take k xs) (add-one n) ∙ take_more n xs ∙ ap (λ o. take n xs ++ option_to_list o) e)
+    ∙ last_set-map-push f (take n xs) x
 
 pub on-ok : {T E : Type 0} {P Q : Type 0} (r : Result T E) → (P → Q) → OnOk r P → OnOk r Q
 on-ok (Ok x) f h = f h
@@ -45,10 +40,6 @@ pub all-at : {X : Type 0} (p : X → Bool) (xs : List X) (k : ℕ) (x : X) → l
 all-at p [] k x e f = cc
 all-at p (y ∷ ys) zero x e f = let same : y ≡ x = cc in ap p (sym same) ∙ (and_parts (p y) (list_all p ys) e).0
 all-at p (y ∷ ys) (suc k) x e f = all-at p ys k x (and_parts (p y) (list_all p ys) e).1 f
-
-pub or-some : {X : Type 0} (o x : Option X) → is_some o ≡ true → option_or o x ≡ o
-or-some (Some y) x e = refl
-or-some None x e = cc
 
 pub or-none : {X : Type 0} (o x : Option X) → is_some o ≡ false → option_or o x ≡ x
 or-none (Some y) x e = cc

@@ -12,11 +12,9 @@ use Rattle.sudo_policy.specs.Definitions.{in_force}
 use Rattle.sudo_verdict.specs.declared.decision.Decision.{Decision}
 use Rattle.sudo_verdict.specs.Decided.{list_decision}
 use Rattle.sudo_verdict.specs.Body.Recalling.{IsNumbering, number_in, Recalls, HasOneNamePerNumber}
+use Rattle.sudo_grammar.proofs.Sound.{some-injective}
 
 -- ---- Numbers
-
-some-is : {X : Type 0} {x y : X} → Some x ≡ Some y → x ≡ y
-some-is e = cc
 
 pub numbering-none : IsNumbering [] 0
 numbering-none = record { below = λ a n e. absurd (cc); apart = λ a b n e f. absurd (cc) }
@@ -27,7 +25,7 @@ added :
 added names count name a n none e = go (bytes_eq a name) refl (sym (index_of-append names name count a none) ∙ e)
   where
     go : (b : Bool) → bytes_eq a name ≡ b → cond (bytes_eq a name) (Some count) (index_of names a) ≡ Some n → ((a ≡ name) × (n ≡ count)) ⊎ (index_of names a ≡ Some n)
-    go true f g = inl ((bytes_eq-Decides a name).0 f, sym (some-is (sym (ap (λ b. cond b (Some count) (index_of names a)) f) ∙ g)))
+    go true f g = inl ((bytes_eq-Decides a name).0 f, sym (some-injective (sym (ap (λ b. cond b (Some count) (index_of names a)) f) ∙ g)))
     go false f g = inr (sym (ap (λ b. cond b (Some count) (index_of names a)) f) ∙ g)
 
 pub numbering-more :
@@ -67,7 +65,7 @@ recalls-more k p names test old new name ds found apart recalls is same kept oth
     go (inr here) =
         let one : other ≡ name = apart other name n e here.0 in
         let list : Some others ≡ Some ds = sym g ∙ ap (in_force k p) one ∙ is in
-        here.1 ∙ same ∙ ap (λ l. list_decision k p l test) (sym (some-is list))
+        here.1 ∙ same ∙ ap (λ l. list_decision k p l test) (sym (some-injective list))
 
 pub recalled :
     (k : Kind) (p : Policy) (names : Option (List (List ℕ × ℕ))) (test : Atom → Bool) (slots : List (Option (Option Decision))) (name : List ℕ) (ds : List Member)

@@ -39,16 +39,17 @@ use Rattle.sudo_verdict.specs.Verdicts.{verdict_by, verdict_on, verdict_if_any, 
 use Rattle.sudo_verdict.specs.Questions.{question_of}
 use Rattle.sudo_verdict.specs.Found.{found, verdict_from, command_found, found_if_any, commands_found, section_found, rule_found, body_found, entry_found}
 use Rattle.std.specs.Prelude.{is_some}
-use Rattle.sudo_verdict.proofs.Lasts.{last_set_map_push, last_that_append, last_that_map, option_map_or, option_map_map, end-there, take-there, front-shorter}
+use Rattle.sudo_verdict.proofs.Lasts.{last_set-map-push, last_that-append, last_that-map, option_map_or, option_map_map, take-there, front-shorter}
+use Rattle.sudo_policy.proofs.SurveyLemmas.{get_append_end}
 
-option_map_cond : {X Y : Type 0} (b : Bool) (f : X → Y) (o : Option X) → option_map f (cond b o None) ≡ cond b (option_map f o) None
-option_map_cond true f o = refl
-option_map_cond false f o = refl
+option_map-cond : {X Y : Type 0} (b : Bool) (f : X → Y) (o : Option X) → option_map f (cond b o None) ≡ cond b (option_map f o) None
+option_map-cond true f o = refl
+option_map-cond false f o = refl
 
 module _ (p : Policy) (q : Question) where
   pub found_append : (xs ys : List Grant) → found p q (xs ++ ys) ≡ option_or (found p q ys) (found p q xs)
   unfolding found
-  found_append xs ys = ap (option_map verdict_by) (last_that_append (applies p q) xs ys) ∙ option_map_or verdict_by _ _
+  found_append xs ys = ap (option_map verdict_by) (last_that-append (applies p q) xs ys) ∙ option_map_or verdict_by _ _
 
   pub found_none : found p q [] ≡ None
   unfolding found
@@ -71,8 +72,8 @@ module _ (p : Policy) (q : Question) where
     unfolding found place_grants list_decision decided_in
     found_at i c =
         ap (option_map verdict_by)
-        (last_that_map ((user_listed p users q && host_listed p s.hosts q) && runas_allows p q (runas_at s.commands i)) (λ w. command_fits w.atom q.command q.arguments) (applies p q) (grant_of place users s i) (place_applies i) (written_form kind.Cmnd p (c.command ∷ [])))
-        ∙ option_map_cond ((user_listed p users q && host_listed p s.hosts q) && runas_allows p q (runas_at s.commands i)) verdict_by _
+        (last_that-map ((user_listed p users q && host_listed p s.hosts q) && runas_allows p q (runas_at s.commands i)) (λ w. command_fits w.atom q.command q.arguments) (applies p q) (grant_of place users s i) (place_applies i) (written_form kind.Cmnd p (c.command ∷ [])))
+        ∙ option_map-cond ((user_listed p users q && host_listed p s.hosts q) && runas_allows p q (runas_at s.commands i)) verdict_by _
         ∙ ap (λ o. cond ((user_listed p users q && host_listed p s.hosts q) && runas_allows p q (runas_at s.commands i)) o None)
         (option_map_map (grant_of place users s i) verdict_by _ ∙ sym (option_map_map decision_of (verdict_from place (tags_at s.commands i)) _))
 
@@ -92,7 +93,7 @@ ap2 : {X Y Z : Type 0} (f : X → Y → Z) {a b : X} {c d : Y} → a ≡ b → c
 ap2 f e h = cc
 
 -- bucket_of commands, one by one
-take_more : {X : Type 0} (n : ℕ) (xs : List X) → take (suc n) xs ≡ take n xs ++ option_to_list (slice_get xs n)
+pub take_more : {X : Type 0} (n : ℕ) (xs : List X) → take (suc n) xs ≡ take n xs ++ option_to_list (slice_get xs n)
 take_more zero [] = refl
 take_more zero (x ∷ xs) = refl
 take_more (suc n) [] = refl
@@ -176,7 +177,7 @@ module _ (p : Policy) (q : Question) (place : Place) (cs left rest : List Comman
   front_suc = front ∙ ap (λ n. take n cs) one_longer
 
   last_there : slice_get cs (length rest) ≡ Some c
-  last_there = sym (take-there (length rest) cs) ∙ ap (λ l. slice_get l (length rest)) (sym front_suc ∙ is) ∙ end-there rest c
+  last_there = sym (take-there (length rest) cs) ∙ ap (λ l. slice_get l (length rest)) (sym front_suc ∙ is) ∙ get_append_end rest c
 
   pub places_rest : rest ≡ take (length rest) cs
   places_rest = front-shorter rest c cs (sym is ∙ front_suc)
@@ -203,7 +204,7 @@ refused_rest p q left rest c is refused shared own h known =
     let parts = and_parts refused shared h in
     ap (runas_allows p q)
     (sym (ap (λ l. last_set (map (λ (s : CommandSpec). s.runas) l)) is
-    ∙ last_set_map_push (λ (s : CommandSpec). s.runas) rest c
+    ∙ last_set-map-push (λ (s : CommandSpec). s.runas) rest c
     ∙ ap (λ o. option_or o (last_set (map (λ (s : CommandSpec). s.runas) rest))) (none_there c.runas shared own parts.1)))
     ∙ known parts.0
   where
@@ -215,10 +216,10 @@ pub places_end : (p : Policy) (q : Question) (place : Place) (cs left : List Com
 unfolding commands_found
 places_end p q place cs left h = ap (commands_found p q place cs) h
 
-pub place_silent : (p : Policy) (q : Question) (place : Place) (cs : List CommandSpec) (c : CommandSpec)
+pub place-silent : (p : Policy) (q : Question) (place : Place) (cs : List CommandSpec) (c : CommandSpec)
     → None ≡ list_decision kind.Cmnd p (c.command ∷ []) (λ a. command_fits a q.command q.arguments) → None ≡ command_found p q place cs c
 unfolding command_found
-place_silent p q place cs c e =
+place-silent p q place cs c e =
     nothing (runas_allows p q (runas_before cs))
     ∙ ap (λ o. cond (runas_allows p q (runas_before cs)) (option_map (verdict_from place (tags_before cs)) o) None) e
 
@@ -226,19 +227,19 @@ either_resolves : (p : Policy) (a b : Option Runas) → runas_resolves p a ≡ t
 either_resolves p None b h k = k
 either_resolves p (Some r) b h k = h
 
-pub runas_before_resolves : (p : Policy) (cs : List CommandSpec) → list_all (command_resolves p) cs ≡ true → runas_resolves p (runas_before cs) ≡ true
+pub runas_before-resolves : (p : Policy) (cs : List CommandSpec) → list_all (command_resolves p) cs ≡ true → runas_resolves p (runas_before cs) ≡ true
 unfolding runas_before
-runas_before_resolves p [] h = refl
-runas_before_resolves p (c ∷ cs) h =
+runas_before-resolves p [] h = refl
+runas_before-resolves p (c ∷ cs) h =
     let t : (command_resolves p c ≡ true) × (list_all (command_resolves p) cs ≡ true) = and_parts (command_resolves p c) (list_all (command_resolves p) cs) h
-    in either_resolves p _ c.runas (runas_before_resolves p cs t.1) (and_parts (resolves kind.Cmnd p (c.command ∷ [])) (runas_resolves p c.runas) t.0).1
+    in either_resolves p _ c.runas (runas_before-resolves p cs t.1) (and_parts (resolves kind.Cmnd p (c.command ∷ [])) (runas_resolves p c.runas) t.0).1
 
 -- The verdict by the search, where the names are known, and where one is not.
-pub verdict_of_found : (p : Policy) (d : KnownRows) (r : Request) (q : Question) (o : Option Verdict) → question_of d r ≡ Ok q → o ≡ last_set (map (entry_found p q) p.entries) → unwrap_or o NoMatch ≡ verdict_of p d r
+pub verdict_of-found : (p : Policy) (d : KnownRows) (r : Request) (q : Question) (o : Option Verdict) → question_of d r ≡ Ok q → o ≡ last_set (map (entry_found p q) p.entries) → unwrap_or o NoMatch ≡ verdict_of p d r
 unfolding verdict_of
-verdict_of_found p d r q o known e =
+verdict_of-found p d r q o known e =
     ap (λ x. unwrap_or x NoMatch) e ∙ sym (verdict_found p q) ∙ ap (verdict_if_known p) (sym known)
 
-pub verdict_of_unknown : (p : Policy) (d : KnownRows) (r : Request) (w : What) → question_of d r ≡ Err w → Unknown w ≡ verdict_of p d r
+pub verdict_of-unknown : (p : Policy) (d : KnownRows) (r : Request) (w : What) → question_of d r ≡ Err w → Unknown w ≡ verdict_of p d r
 unfolding verdict_of
-verdict_of_unknown p d r w unknown = ap (verdict_if_known p) (sym unknown)
+verdict_of-unknown p d r w unknown = ap (verdict_if_known p) (sym unknown)

@@ -13,7 +13,7 @@ use Rattle.sudo_grammar.specs.declared.policy.Policy.{Policy}
 use Rattle.sudo_text.specs.declared.line.Place.{Place}
 use Rattle.sudo_match.specs.declared.people.Person.{Person}
 use Rattle.sudo_match.specs.Matching.{user_fits, command_fits}
-use Rattle.std.proofs.lemmas.Bool.{cases_lt}
+use Rattle.std.proofs.lemmas.Bool.{cases_lt, false_from_ne_true}
 use Rattle.sudo_verdict.specs.Questions.{Question}
 use Rattle.sudo_verdict.specs.Decided.{list_decision}
 use Rattle.sudo_verdict.specs.Values.{allows, user_listed, host_listed}
@@ -26,14 +26,11 @@ use Rattle.sudo_verdict.specs.Body.Silence.{IsSilent, CommandsSilent, SectionsSi
 use Rattle.sudo_verdict.proofs.Deciding.{value_decided}
 use Rattle.sudo_verdict.proofs.Misses.{misses-atom, misses-never, misses-old}
 use Rattle.sudo_verdict.proofs.Paths.{misses-command_atom, misses-everyone, misses-command_old}
+use Rattle.sudo_text.proofs.OneList.{either}
 
 never : (a b : Bool) → (a ≡ true → b ≡ true) → b ≡ false → a ≡ false
 never true b h e = cc (h refl)
 never false b h e = refl
-
-false-from : (b : Bool) → (b ≡ true → ⊥) → b ≡ false
-false-from true h = absurd (h refl)
-false-from false h = refl
 
 -- ---- Tests
 
@@ -48,7 +45,7 @@ silent-never rows rule test there s = let h : true ≡ false = sym there ∙ s.e
 
 pub silent-user : (rows : Rows) (rule : ℕ) (u : Person) → misses_user rows rule u ≡ true → IsSilent rows rule (λ a. user_fits a u)
 silent-user rows rule u e = record {
-  everyone = false-from (is_in_row rows 0 rule) (λ there. misses-never rows rule u there e);
+  everyone = false_from_ne_true (is_in_row rows 0 rule) (λ there. misses-never rows rule u there e);
   atoms = λ a there. misses-atom rows rule u a e there;
 }
 
@@ -130,15 +127,11 @@ module _ (p : Policy) (q : Question) (place : Place) where
       ap (λ o. cond (allows o) (last_set (map (section_found p q place) sections)) None)
       (value_decided kind.User p users (λ a. user_fits a q.user) ∙ ap (option_map (λ d. not d.negated)) none)
 
-or-cases : (a b : Bool) → (a || b) ≡ true → (a ≡ true) ⊎ (b ≡ true)
-or-cases true b e = inl refl
-or-cases false b e = inr e
-
 pub rule-silent :
     (p : Policy) (user_rows command_rows : Rows) (rule : ℕ) (e : Entry) (users : List Member) (sections : List Section) → e.body ≡ body.Rule users sections →
     ((t : Atom → Bool) → IsSilent user_rows rule t → list_decision kind.User p users t ≡ None) →
     ((t : Atom → Bool) → IsSilent command_rows rule t → SectionsSilent p t sections) → EntrySilent p user_rows command_rows rule e
-rule-silent p user_rows command_rows rule e users sections is by_user by_command q missed = ap (body_found p q e.place) is ∙ go (or-cases _ _ missed)
+rule-silent p user_rows command_rows rule e users sections is by_user by_command q missed = ap (body_found p q e.place) is ∙ go (either _ _ missed)
   where
     go : (misses_user user_rows rule q.user ≡ true) ⊎ (misses_command command_rows rule q.command ≡ true) → rule_found p q e.place users sections ≡ None
     go (inl u) = users-silent p q e.place users sections (by_user (λ a. user_fits a q.user) (silent-user user_rows rule q.user u))

@@ -14,7 +14,8 @@ use Rattle.sudo_grammar.specs.Tags.{pairs, same_pair}
 use Rattle.sudo_match.specs.declared.request.Tags.{Tags}
 use Rattle.sudo_verdict.specs.Last.{last_set}
 use Rattle.sudo_verdict.specs.Tagged.{tags_named, tags_before, or_tags}
-use Rattle.sudo_verdict.proofs.Lasts.{option_or_assoc, option_or_none}
+use Rattle.sudo_verdict.proofs.Lasts.{option_or-assoc}
+use Rattle.sudo_policy.proofs.SurveyLemmas.{option_or-none}
 
 -- for each pair, the first choice, or else the second
 abbrev or_each : List (Option Bool) → List (Option Bool) → List (Option Bool)
@@ -24,7 +25,7 @@ or_each_assoc : (a b c : List (Option Bool)) → or_each (or_each a b) c ≡ or_
 or_each_assoc [] b c = refl
 or_each_assoc (x ∷ a) [] c = refl
 or_each_assoc (x ∷ a) (y ∷ b) [] = refl
-or_each_assoc (x ∷ a) (y ∷ b) (z ∷ c) = rw (option_or_assoc, or_each_assoc a b c) refl
+or_each_assoc (x ∷ a) (y ∷ b) (z ∷ c) = rw (option_or-assoc, or_each_assoc a b c) refl
 
 -- true at index n alone
 abbrev is_only : ℕ → List Bool → Bool
@@ -41,7 +42,7 @@ choices_of_others on [] [] l h = refl
 choices_of_others on [] (x ∷ c) l h = cc
 choices_of_others on (b ∷ bs) [] l h = cc
 choices_of_others on (true ∷ bs) (x ∷ c) l h = cc
-choices_of_others on (false ∷ bs) (x ∷ c) l h = rw (option_or_none, choices_of_others on bs c (omega (arith, l)) h) refl
+choices_of_others on (false ∷ bs) (x ∷ c) l h = rw (option_or-none, choices_of_others on bs c (omega (arith, l)) h) refl
 
 -- a choice at one place alone
 choice_at_place : (on : Bool) (n : ℕ) (bs : List Bool) (c : List (Option Bool)) → length c ≡ length bs → is_only n bs ≡ true
@@ -51,7 +52,7 @@ choice_at_place on n (b ∷ bs) [] l h = cc
 choice_at_place on zero (true ∷ bs) (x ∷ c) l h = rw (choices_of_others on bs c (omega (arith, l)) h) refl
 choice_at_place on zero (false ∷ bs) (x ∷ c) l h = cc
 choice_at_place on (suc n) (true ∷ bs) (x ∷ c) l h = cc
-choice_at_place on (suc n) (false ∷ bs) (x ∷ c) l h = rw (option_or_none, choice_at_place on n bs c (omega (arith, l)) h) refl
+choice_at_place on (suc n) (false ∷ bs) (x ∷ c) l h = rw (option_or-none, choice_at_place on n bs c (omega (arith, l)) h) refl
 
 -- A pair stands once among the pairs.
 once : (p : TagPair) → is_only (unwrap_or (position (same_pair p) pairs) 0) (map (λ q. same_pair q p) pairs) ≡ true
@@ -63,29 +64,29 @@ abbrev pub IsWhole : Tags → Type 0
 IsWhole t = length t.choices ≡ length pairs
 
 -- one tag more, at its pair's place
-pub or_tags_at : (t : Tags) (tag : Tag) (n : ℕ) → IsWhole t → Some n ≡ position (same_pair tag.pair) pairs
+pub or_tags-at : (t : Tags) (tag : Tag) (n : ℕ) → IsWhole t → Some n ≡ position (same_pair tag.pair) pairs
     → record { choices = slice_set t.choices n (option_or (get_or t.choices n None) (Some tag.on)) } ≡ or_tags t (tags_named (tag ∷ []))
 unfolding tags_named
-or_tags_at t tag n whole is =
+or_tags-at t tag n whole is =
     let places : List Bool = map (λ q. same_pair q tag.pair) pairs in
     let here : is_only n places ≡ true = ap (λ o. is_only (unwrap_or o 0) places) is ∙ once tag.pair in
     ap (λ cs. record { choices = cs }) (sym (choice_at_place tag.on n places t.choices whole here))
 
 -- for each pair, what the first, or else the second list names last
-last_set_append : {X : Type 0} (xs ys : List (Option X)) → last_set (xs ++ ys) ≡ option_or (last_set ys) (last_set xs)
-last_set_append [] ys = sym (option_or_none (last_set ys))
-last_set_append (x ∷ xs) ys = ap (λ r. option_or r x) (last_set_append xs ys) ∙ option_or_assoc (last_set ys) (last_set xs) x
+last_set-append : {X : Type 0} (xs ys : List (Option X)) → last_set (xs ++ ys) ≡ option_or (last_set ys) (last_set xs)
+last_set-append [] ys = sym (option_or-none (last_set ys))
+last_set-append (x ∷ xs) ys = ap (λ r. option_or r x) (last_set-append xs ys) ∙ option_or-assoc (last_set ys) (last_set xs) x
 
-pub tags_named_append : (xs ys : List Tag) → tags_named (xs ++ ys) ≡ or_tags (tags_named ys) (tags_named xs)
+pub tags_named-append : (xs ys : List Tag) → tags_named (xs ++ ys) ≡ or_tags (tags_named ys) (tags_named xs)
 unfolding tags_named
-tags_named_append xs ys = simp (map-append, last_set_append)
+tags_named-append xs ys = simp (map-append, last_set-append)
 
-or_tags_assoc : (t u v : Tags) → or_tags (or_tags t u) v ≡ or_tags t (or_tags u v)
-or_tags_assoc t u v = ap (λ cs. record { choices = cs }) (or_each_assoc t.choices u.choices v.choices)
+or_tags-assoc : (t u v : Tags) → or_tags (or_tags t u) v ≡ or_tags t (or_tags u v)
+or_tags-assoc t u v = ap (λ cs. record { choices = cs }) (or_each_assoc t.choices u.choices v.choices)
 
-or_tags_none : (t : Tags) → IsWhole t → or_tags t (tags_named []) ≡ t
+or_tags-none : (t : Tags) → IsWhole t → or_tags t (tags_named []) ≡ t
 unfolding tags_named
-or_tags_none t whole = ap (λ cs. record { choices = cs }) (choices_of_others true (map (λ p. false) pairs) t.choices whole refl)
+or_tags-none t whole = ap (λ cs. record { choices = cs }) (choices_of_others true (map (λ p. false) pairs) t.choices whole refl)
 
 pub or_tags_whole : (t : Tags) (tags : List Tag) → IsWhole t → IsWhole (or_tags t (tags_named tags))
 unfolding tags_named
@@ -95,18 +96,18 @@ or_tags_whole t tags whole = rw (length-map, length-zip, whole) refl
 pub or_tags_push : (t : Tags) (rest left : List Tag) (tag : Tag) → left ≡ rest ++ tag ∷ []
     → or_tags t (tags_named left) ≡ or_tags (or_tags t (tags_named (tag ∷ []))) (tags_named rest)
 or_tags_push t rest left tag is =
-    rw (is, tags_named_append rest (tag ∷ [])) (sym (or_tags_assoc t (tags_named (tag ∷ [])) (tags_named rest)))
+    rw (is, tags_named-append rest (tag ∷ [])) (sym (or_tags-assoc t (tags_named (tag ∷ [])) (tags_named rest)))
 
 -- one command more, from the end of a section
 pub tags_before_push : (t : Tags) (rest left : List CommandSpec) (c : CommandSpec) → left ≡ rest ++ c ∷ []
     → or_tags t (tags_before left) ≡ or_tags (or_tags t (tags_named c.tags)) (tags_before rest)
 unfolding tags_before
 tags_before_push t rest left c is =
-    rw (is, flat_map-append (λ c. c.tags) rest (c ∷ []), tags_named_append (flat_map (λ c. c.tags) rest) (c.tags ++ []), append-nil c.tags)
-    (sym (or_tags_assoc t (tags_named c.tags) (tags_named (flat_map (λ c. c.tags) rest))))
+    rw (is, flat_map-append (λ c. c.tags) rest (c ∷ []), tags_named-append (flat_map (λ c. c.tags) rest) (c.tags ++ []), append-nil c.tags)
+    (sym (or_tags-assoc t (tags_named c.tags) (tags_named (flat_map (λ c. c.tags) rest))))
 
 pub or_tags_end : (t : Tags) (left : List Tag) → IsWhole t → length left ≡ 0 → or_tags t (tags_named left) ≡ t
-or_tags_end t [] whole h = or_tags_none t whole
+or_tags_end t [] whole h = or_tags-none t whole
 or_tags_end t (x ∷ xs) whole h = cc
 
 pub tags_before_all : (commands : List CommandSpec) → tags_before commands ≡ or_tags (tags_named []) (tags_before commands)
@@ -115,5 +116,5 @@ tags_before_all commands = refl
 
 pub tags_before_end : (t : Tags) (left : List CommandSpec) → IsWhole t → length left ≡ 0 → or_tags t (tags_before left) ≡ t
 unfolding tags_before
-tags_before_end t [] whole h = or_tags_none t whole
+tags_before_end t [] whole h = or_tags-none t whole
 tags_before_end t (x ∷ xs) whole h = cc

@@ -2,7 +2,7 @@
 use Rattle.std.proofs.Common.{◌≡◌, ℕ, Bool, true, false, not, ◌&&◌, ◌||◌, List, [], ◌∷◌, None, length, refl, sym, ◌∙◌, ap}
 use Rattle.std.specs.Prelude.{◌==◌, bytes_eq}
 use Rattle.std.specs.List.{list_any, list_all}
-use Rattle.std.proofs.lemmas.Bool.{and_parts, eqb-true}
+use Rattle.std.proofs.lemmas.Bool.{and_parts, eqb-true, and_from}
 use Rattle.std.proofs.lemmas.Slice.Eq.{bytes_eq-Decides}
 use Rattle.sudo_grammar.specs.declared.kind.Atom.{Atom}
 use Rattle.sudo_grammar.specs.declared.kind.Atom.TheVariants as atom
@@ -13,7 +13,7 @@ use Rattle.sudo_policy.specs.Definitions.{alias_named}
 use Rattle.sudo_verdict.specs.Postings.{user_bucket, group_number, uid_number, gid_number, atom_number}
 use Rattle.sudo_verdict.specs.Body.Marking.{lacks_group, lacks_user}
 
-never : (b : Bool) → b ≡ true → not b ≡ true → ⊥
+pub never : (b : Bool) → b ≡ true → not b ≡ true → ⊥
 never true e f = cc
 never false e f = cc
 
@@ -95,15 +95,11 @@ lacked-user_atom has u (atom.Gid gid) e there = (refl, bucket_of-none has gid u.
 lacked-user_atom has u (atom.Command path args) e there = (refl, refl)
 lacked-user_atom has u _ e there = absurd (never (has 0) there (lacks-parts has u e).0)
 
-both : (a b : Bool) → a ≡ true → b ≡ true → (a && b) ≡ true
-both true b e f = f
-both false b e f = e
-
 pub lacks-group : (has : ℕ → Bool) (left rest : List Group) (g : Group) → left ≡ g ∷ rest → has (group_number g.name) ≡ false → has (gid_number g.gid) ≡ false →
     list_all (lacks_group has) rest ≡ true → list_all (lacks_group has) left ≡ true
 lacks-group has left rest g is e f h =
     ap (list_all (lacks_group has)) is
-    ∙ both (lacks_group has g) (list_all (lacks_group has) rest) (both (not (has (group_number g.name))) (not (has (gid_number g.gid))) (ap not e) (ap not f)) h
+    ∙ and_from (lacks_group has g) (list_all (lacks_group has) rest) (and_from (not (has (group_number g.name))) (not (has (gid_number g.gid))) (ap not e) (ap not f)) h
 
 pub lacks-no_groups : (has : ℕ → Bool) (left : List Group) → length left ≡ 0 → list_all (lacks_group has) left ≡ true
 lacks-no_groups has [] e = refl
@@ -113,5 +109,5 @@ pub lacks-user : (has : ℕ → Bool) (u : Person) → has 0 ≡ false → has (
     list_all (lacks_group has) u.groups ≡ true → lacks_user has u ≡ true
 unfolding lacks_user
 lacks-user has u e f g h =
-    both (not (has 0)) _ (ap not e)
-    (both (not (has (user_bucket u.name))) _ (ap not f) (both (not (has (uid_number u.uid))) (list_all (lacks_group has) u.groups) (ap not g) h))
+    and_from (not (has 0)) _ (ap not e)
+    (and_from (not (has (user_bucket u.name))) _ (ap not f) (and_from (not (has (uid_number u.uid))) (list_all (lacks_group has) u.groups) (ap not g) h))

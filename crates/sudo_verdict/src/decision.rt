@@ -6,7 +6,7 @@ ghost use Rattle.sudo_policy.specs.Resolving.{resolves};
 ghost use Rattle.sudo_match.specs.Beginnings.{has_special};
 ghost use Rattle.sudo_match.specs.Matching.{user_fits, group_fits, host_fits, command_fits};
 ghost use Rattle.sudo_verdict.specs.Values as values;
-ghost use Rattle.sudo_verdict.specs.Body.Marking.{AreMarksOf, HaveKeys, IsPassed, IsPassedAt, lacks_command, marked};
+ghost use Rattle.sudo_verdict.specs.Body.Marking.{HaveKeys, IsPassed, IsPassedAt, lacks_command, marked};
 ghost use Rattle.sudo_verdict.specs.Body.Recalling.{Recalls};
 ghost use Rattle.sudo_verdict.specs.Decided.{list_decision, negated_once};
 
@@ -37,9 +37,6 @@ pub(crate) trait Subject {
 #[derive(Clone, Copy)]
 pub(crate) struct AsUser<'a> {
     pub(crate) user: &'a Person,
-    /// The numbers of the atoms that may match the user, if they are known.
-    pub(crate) marks: Option<Marks>,
-    ghost marked: { AreMarksOf user.now marks },
 }
 
 impl Subject for AsUser<'_> {
@@ -49,11 +46,8 @@ impl Subject for AsUser<'_> {
         user_matches(atom, self.user)
     }
 
-    fn misses(&self, number: usize) -> bool {
-        match &self.marks {
-            Some(marks) => !marks.has(number),
-            None => false,
-        }
+    fn misses(&self, _number: usize) -> bool {
+        false
     }
 }
 

@@ -1,13 +1,10 @@
-//! The numbers of a command, or of a user, as a set of bits, by which members of lists are passed over.
+//! The numbers of a command as a set of bits, by which members of lists are passed over.
 
 ghost use Rattle.std.specs.Prelude.{ℕ, ◌≡◌, ◌<◌, true, not};
-ghost use Rattle.sudo_verdict.specs.Body.Marking.{lacks_command, lacks_user, marked};
+ghost use Rattle.sudo_verdict.specs.Body.Marking.{lacks_command, marked};
 
-use crate::numbers::{
-    BEGINNING, EVERYONE, WHOLE, gid_number, group_number, next_number, uid_number, user_bucket,
-};
+use crate::numbers::{BEGINNING, EVERYONE, WHOLE, next_number};
 use crate::rows::set_bit;
-use sudo_match::Person;
 
 // The number of bits, of which several numbers share each.
 const BITS: usize = 1024;
@@ -63,22 +60,6 @@ impl Marks {
             left = rest;
         }
         marks.add(whole);
-        marks
-    }
-
-    /// Returns a set with the numbers of each atom that matches the user.
-    pub(crate) fn of_user(user: &Person) -> Marks
-        ensures { lacks_user (λ n. not (marked result.words n)) user.now ≡ true }
-    {
-        let mut marks = Marks::new();
-        marks.add(user_bucket(user.name.as_slice()));
-        marks.add(uid_number(user.uid));
-        let mut left = user.groups.as_slice();
-        while let Some((group, rest)) = left.split_first() {
-            marks.add(group_number(group.name.as_slice()));
-            marks.add(gid_number(group.gid));
-            left = rest;
-        }
         marks
     }
 }

@@ -14,7 +14,7 @@ use crate::decision::{AsCommand, AsGroup, AsHost, AsUser, value};
 use crate::keys::Lists;
 use crate::marks::Marks;
 use sudo_match::{Directory, Group, Machine, Person, Request, What, has_special};
-use sudo_policy::{Atom, Kind, Member, Runas};
+use sudo_policy::{Kind, Member, Runas};
 use sudo_text::Seq;
 
 /// A request whose names have been looked up.
@@ -98,13 +98,6 @@ fn target<'a>(
     }
 }
 
-// Whether one of the members is an alias.
-fn name_alias(members: &[Member]) -> bool {
-    members
-        .iter()
-        .any(|member| matches!(&member.atom, Atom::Alias(_)))
-}
-
 impl Query<'_> {
     /// Whether a rule's user list allows the invoking user.
     pub(crate) fn user_listed(&self, lists: Lists<'_>, users: &[Member]) -> bool
@@ -112,17 +105,7 @@ impl Query<'_> {
         ensures { result ≡ values.user_listed lists.entry.checked.now users.now
             (question self.now) }
     {
-        if !name_alias(users) {
-            let user = AsUser {
-                user: self.user,
-                marks: None,
-            };
-            return value(lists, Kind::User, users, &user, self.aliases).unwrap_or(false);
-        }
-        let user = AsUser {
-            user: self.user,
-            marks: Some(Marks::of_user(self.user)),
-        };
+        let user = AsUser { user: self.user };
         value(lists, Kind::User, users, &user, self.aliases).unwrap_or(false)
     }
 
@@ -216,10 +199,7 @@ impl Query<'_> {
         requires { IsTrue (resolves kind.Runas lists.checked.now users.now) }
         ensures { result ≡ form.target_value lists.entry.checked.now users.now target.now }
     {
-        let target = AsUser {
-            user: target,
-            marks: None,
-        };
+        let target = AsUser { user: target };
         value(lists, Kind::Runas, users, &target, self.aliases)
     }
 

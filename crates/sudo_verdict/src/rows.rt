@@ -1,6 +1,6 @@
 //! Rules by number, as rows of bits.
 
-ghost use Rattle.std.specs.Prelude.{ℕ, ◌≡◌, ◌+◌, ◌*◌, ◌<◌, ◌≤◌, true, IfOk, OnOk, length};
+ghost use Rattle.std.specs.Prelude.{ℕ, ◌≡◌, ◌+◌, ◌%◌, ◌*◌, ◌<◌, ◌≤◌, true, IfOk, OnOk, length};
 ghost use Rattle.sudo_verdict.specs.Postings.{Grows, bit, is_in_row};
 ghost use Rattle.sudo_verdict.specs.Body.Blocks.{AddsWords, StartsAt, UnitesRow};
 
@@ -74,6 +74,19 @@ impl Rows {
         Ok(Rows { rows })
     }
 
+    // Returns the index of the row of a number. A remainder is dear, and in most indexes each number has a row.
+    fn row_index(&self, number: usize) -> usize
+        requires { 0 < length self.now.rows.items }
+        ensures { result ≡ number % length self.now.rows.items }
+    {
+        let count = self.rows.len();
+        if number < count {
+            number
+        } else {
+            number % count
+        }
+    }
+
     /// Posts a rule to the row of a number. Returns `AllocError` if allocation fails.
     pub(crate) fn post(&mut self, number: usize, rule: usize) -> Result<(), AllocError>
         requires { 0 < length self.old.rows.items }
@@ -81,7 +94,7 @@ impl Rows {
         ensures grows { Grows self.old.rows.items self.new.rows.items }
         ensures posted { OnOk result (is_in_row self.new.rows.items number rule ≡ true) }
     {
-        let index = number % self.rows.len();
+        let index = self.row_index(number);
         post_in(&mut self.rows[index], rule)
     }
 
@@ -91,7 +104,7 @@ impl Rows {
         ensures count { length block.new ≡ length block.old }
         ensures adds { UnitesRow self.now.rows.items number first block.old block.new }
     {
-        let row = self.rows[number % self.rows.len()].as_slice();
+        let row = self.rows[self.row_index(number)].as_slice();
         if first < row.len() {
             or_words(block, &row[first..]);
         }

@@ -3,7 +3,7 @@
 ghost use Rattle.sudo_verdict.specs.Postings.{Indexes};
 
 use crate::fixtures::{checked, directory, machines, people, requests};
-use crate::growths::{End, Memory, Trial, swept};
+use limited_memory::{End, Memory, ROOM, Trial, swept};
 use std::alloc::{AllocError, Global};
 use std::test::Fail;
 use sudo_match::{DirFault, Directory};
@@ -74,7 +74,11 @@ impl Trial for Rows {
 #[test]
 fn memory_for_a_directory(rt: HostRuntime) -> Result<(), Fail> {
     let alloc = rt.alloc();
-    swept(alloc, &[Rows::new(alloc, false)?, Rows::new(alloc, true)?])
+    swept(
+        alloc,
+        ROOM,
+        &[Rows::new(alloc, false)?, Rows::new(alloc, true)?],
+    )
 }
 
 /// Rules for alice, not bob, and for a group of both.
@@ -143,5 +147,5 @@ impl Trial for Indexing {
 
 #[test]
 fn memory_for_an_index_of_rules(rt: HostRuntime) -> Result<(), Fail> {
-    swept(rt.alloc(), &[Indexing::new(rt.alloc())?])
+    swept(rt.alloc(), ROOM, &[Indexing::new(rt.alloc())?])
 }

@@ -7,8 +7,6 @@ mod fixtures;
 #[cfg(test)]
 mod growth_trials;
 #[cfg(test)]
-mod growths;
-#[cfg(test)]
 mod match_trials;
 #[cfg(test)]
 mod oracle;

@@ -4,7 +4,7 @@ use Rattle.std.specs.Prelude.{◌≡◌, ℕ, ◌+◌, List, ◌++◌, Option, m
 use Rattle.std.specs.List.{AllZip}
 use Rattle.audit_files.specs.Feeding.{Ahead}
 use Rattle.audit_files.specs.Files.{IsStatedBy}
-use Rattle.audit_files.specs.Requests.{sent as sent_by}
+use Rattle.audit_files.specs.Requests.{requests_of_file}
 use Rattle.audit_run.specs.declared.message.Job.{Job}
 use Rattle.audit_run.specs.declared.message.Names.{Names}
 use Rattle.audit_run.specs.declared.message.Outcome.{Outcome}
@@ -28,7 +28,7 @@ putting_jobs p jobs = record p { jobs_put = p.jobs_put ++ jobs }
 -- the result of a source's thread: the jobs of what the source states were put, and its fault is
 -- returned
 abbrev pub HasSent : Option Ahead → PassView → ℕ → Sent → Type 0
-HasSent readable_bytes before owner r = (state : Stated) × IsStatedBy sent_by readable_bytes state × (r.pass ≡ putting_jobs before (jobs_or_end owner state)) × (r.fault ≡ fault_in state)
+HasSent readable_bytes before owner r = (state : Stated) × IsStatedBy requests_of_file readable_bytes state × (r.pass ≡ putting_jobs before (jobs_or_end owner state)) × (r.fault ≡ fault_in state)
 
 -- a source by its owner and by the bytes ahead of its reader
 abbrev pub part_ahead : ℕ → Option Ahead → ℕ × Option Ahead
@@ -36,7 +36,7 @@ part_ahead owner readable_bytes = (owner, readable_bytes)
 
 -- the same source, by what it states
 abbrev pub IsPart : (ℕ × Option Ahead) → (ℕ × Stated) → Type 0
-IsPart readable_bytes part = (part.0 ≡ readable_bytes.0) × IsStatedBy sent_by readable_bytes.1 part.1
+IsPart readable_bytes part = (part.0 ≡ readable_bytes.0) × IsStatedBy requests_of_file readable_bytes.1 part.1
 
 abbrev pub AreParts : List (ℕ × Option Ahead) → List (ℕ × Stated) → Type 0
 AreParts readable_bytes parts = AllZip IsPart readable_bytes parts

@@ -22,14 +22,14 @@ use Rattle.sudo_parser.specs.Body.Stops.{Stops, IsMark, IsNotNext}
 
 -- these states count exclamation marks
 abbrev pub CountsBangs : Room → (ℕ → State) → Type 0
-CountsBangs room place = (n : ℕ) (t : Token) → IsMark marks.Bang t → step room (place n) t ≡ Some (place (suc n))
+CountsBangs room state = (n : ℕ) (t : Token) → IsMark marks.Bang t → step room (state n) t ≡ Some (state (suc n))
 
 -- wherever exclamation marks are counted, reading `count` of them leads to the rest
 pub record ReadsBangs (ts : List Token) (count : ℕ) (rest : List Token) : Type 0 where
   pub no_longer : length rest ≤ length ts
   pub none : count ≡ 0 → ts ≡ rest
-  pub reads : (room : Room) (place : ℕ → State) → CountsBangs room place
-      → reading room (place 0) ts ≡ reading room (place count) rest
+  pub reads : (room : Room) (state : ℕ → State) → CountsBangs room state
+      → reading room (state 0) ts ≡ reading room (state count) rest
 
 -- the member, if it is a command
 abbrev pub command_in : Kind → Member → Option Member
@@ -38,8 +38,8 @@ command_in _ m = None
 
 -- the next token is no parenthesis that would continue the line in this state
 abbrev pub IsShut : Room → State → List Token → Type 0
-IsShut room place [] = Unit {0}
-IsShut room place (t ∷ ts) = IsMark marks.LeftParen t → step room place t ≡ None
+IsShut room state [] = Unit {0}
+IsShut room state (t ∷ ts) = IsMark marks.LeftParen t → step room state t ≡ None
 
 -- the states `before`, by the number of exclamation marks, accept members of the kind, and lead to the states `after`
 pub record Takes (kind : Kind) (room : Room) (before : ℕ → State) (after : Member → State) : Type 0 where

@@ -1,5 +1,5 @@
 -- Sets of numbers as bits, and numbers that a command or a user lacks; only proofs of bodies need these definitions.
-use Rattle.std.specs.Prelude.{◌≡◌, ℕ, ◌%◌, Bool, true, false, not, ◌&&◌, ◌==◌, List, [], ◌∷◌, Option, Some, None, slice_get}
+use Rattle.std.specs.Prelude.{◌≡◌, ℕ, ◌%◌, Bool, false, not, ◌&&◌, ◌==◌, List, [], ◌∷◌, Option, Some, None, slice_get}
 use Rattle.sudo_grammar.specs.declared.kind.Atom.{Atom}
 use Rattle.sudo_grammar.specs.declared.kind.Member.{Member}
 use Rattle.sudo_grammar.specs.declared.policy.Policy.{Policy}
@@ -7,7 +7,6 @@ use Rattle.std.specs.List.{list_all}
 use Rattle.sudo_match.specs.declared.people.Person.{Person}
 use Rattle.sudo_match.specs.declared.people.Group.{Group}
 use Rattle.sudo_policy.specs.Definitions.{alias_named}
-use Rattle.sudo_verdict.specs.declared.marks.Marks.{Marks}
 use Rattle.sudo_verdict.specs.declared.keys.Keys.{Keys as TheKeys}
 use Rattle.sudo_verdict.specs.Postings.{bit, next_number, bucket_of, whole_seed, beginning_seed, user_bucket, group_number, uid_number, gid_number, atom_number, policy_keys}
 
@@ -36,10 +35,6 @@ lacks_user has u =
     && (not (has (user_bucket u.name))
     && (not (has (uid_number u.uid))
     && list_all (lacks_group has) u.groups))
-
--- the set, if there is one, has the numbers of the atoms that match the user
-abbrev pub AreMarksOf : Person → Option Marks → Type 0
-AreMarksOf u marks = (m : Marks) → marks ≡ Some m → lacks_user (λ n. not (marked m.words n)) u ≡ true
 
 -- each atom of the number is no alias, and fails the test
 abbrev pub IsPassed : (Atom → Bool) → ℕ → Type 0

@@ -1,9 +1,9 @@
 use Rattle.std.proofs.Common.{◌≡◌, ◌+◌, ◌<◌, ℕ, List, [], ◌∷◌, ◌++◌, length, get_or, take, map, sym, ap, ◌∙◌, arith, subst, Bor}
 use Rattle.std.proofs.lemmas.List.{get_or-map}
-use Rattle.audit_run.proofs.Settled.{length_map}
 use Rattle.audit_commands.specs.Opening.{AreOpened, Pair}
 use Rattle.audit_commands.proofs.Openings.{opened_more}
 use Rattle.audit_commands.proofs.sources.open_sources.Goals as goal
+use Rattle.sudo_match.proofs.CharsLemmas.{length-map}
 
 pub loop-name-preserved : goal.loop-name-preserved
 loop-name-preserved g c =
@@ -13,7 +13,7 @@ loop-name-preserved g c =
     let here : Bor (List ℕ) × Bor (List ℕ) = get_or c.args.senders.now at (none, none) in
     let pair : Pair = cut here in
     let pairs : List Pair = map cut c.args.senders.now in
-    let long = length_map cut c.args.senders.now in
+    let long = length-map cut c.args.senders.now in
     let inside : at < length c.args.senders.now = c.loop-name-test.true in
     let within : at < length pairs = omega (arith, long, inside) in
     let is : get_or pairs at pair ≡ pair = get_or-map cut c.args.senders.now at (none, none) pair inside in

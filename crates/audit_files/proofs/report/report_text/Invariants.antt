@@ -1,9 +1,7 @@
 use Rattle.std.proofs.Common.{◌≡◌, ◌++◌, take, flat_map}
 use Rattle.audit_files.specs.Report.{header, line, sender_text}
-use Rattle.audit_files.specs.Body.Text.{IsBetween, text_so_far}
 use Rattle.audit_files.proofs.report.report_text.Given as goal
 
 -- the header and the records of the senders so far were written
 abbrev pub invariant-loop-sender : goal.invariant-loop-sender
-invariant-loop-sender l = IsBetween l.text
-    × (text_so_far l.text ≡ line header ++ flat_map (sender_text l.files) (take l.sender-index l.sender-items))
+invariant-loop-sender l = l.text.items ≡ line header ++ flat_map (sender_text l.files) (take l.sender-index l.sender-items)

@@ -1,5 +1,5 @@
-use Rattle.audit_run.proofs.Distinct.{roster_distinct}
+use Rattle.audit_run.proofs.Distinct.{roster-distinct}
 use Rattle.audit_run.proofs.laws.rosters_are_distinct.Goals as goal
 
 pub returns : goal.returns
-returns c = roster_distinct
+returns c = roster-distinct

@@ -4,7 +4,7 @@ use Rattle.audit_run.specs.Passes.{PassView, with_joined}
 use Rattle.audit_run.specs.Parts.{Stated, put_by_sources, jobs_or_end}
 use Rattle.audit_run.specs.Body.FreshPasses.{IsFresh}
 use Rattle.audit_run.specs.Body.Work.{joined_sources, putting_jobs, part_ahead}
-use Rattle.audit_run.proofs.Joins.{faults_more, joined_none, one_part, one_source, put_more, told_more}
+use Rattle.audit_run.proofs.Joins.{faults-more, joined_none, one_part, one_source, put_more, told_more}
 use Rattle.audit_run.proofs.readers.join_readers.Goals as goal
 
 pub loop-handle-preserved : goal.loop-handle-preserved
@@ -33,7 +33,7 @@ loop-handle-preserved g c =
         told_more (λ h. part_ahead h.promise.owner (g.F.Feed.ahead h.promise.reader.value)) old.0 _ c.in-Some.handle _ _ step.0 old.4,
         omega (arith, old.5, shorter),
         c.join.ensures ∙ ((λ i. with_joined (old.6 i) (result i)) ∙ (one_source c.args.pass.now handoff before.names old.2 (put_by_sources old.1) new ∙ ap (λ l. joined_sources c.args.pass.now (old.2 + 1) l) (sym (put_more old.1 part)))),
-        faults_more old.1 part _ _ _ pushed.items old.7 sent.3,
+        faults-more old.1 part _ _ _ pushed.items old.7 sent.3,
       ),
     )
 

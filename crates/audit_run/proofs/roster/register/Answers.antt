@@ -1,7 +1,7 @@
 use Rattle.std.proofs.Common.{ap, subst, sym, ◌∙◌}
 use Rattle.audit_collect.specs.Roster.{AreDistinct}
 use Rattle.audit_run.specs.Roster.{roster}
-use Rattle.audit_run.proofs.Distinct.{roster_distinct}
+use Rattle.audit_run.proofs.Distinct.{roster-distinct}
 use Rattle.audit_run.proofs.Rosters.{entered}
 use Rattle.audit_run.proofs.roster.register.Goals as goal
 
@@ -13,4 +13,4 @@ returns-in-Ok-clause-parts g c =
     c.in_ok-parts.ensures.parts ∙ entered (λ s. s.name) (λ s. s.reader) g.F.Feed.ahead c.args.sources.items _ _ _ names found sources.readers
 
 pub collector_for-requires : goal.collector_for-requires
-collector_for-requires g c = subst AreDistinct (sym c.in_ok-roster.ensures.names) (roster_distinct c.deref.result.now)
+collector_for-requires g c = subst AreDistinct (sym c.in_ok-roster.ensures.names) (roster-distinct c.deref.result.now)

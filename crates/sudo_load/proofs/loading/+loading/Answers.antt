@@ -1,7 +1,7 @@
 use Rattle.std.proofs.Common.{rules, refl, sym, ◌∙◌, ap, None, Some, List, ℕ, ◌-◌}
 use Rattle.sudo_load.specs.Supplies.{supplied_file, supplied_folder}
 use Rattle.sudo_load.specs.Unfolding.{FileLoads, FilesLoad, TextLoads, FolderLoads, with_folder}
-use Rattle.sudo_load.proofs.LoadLemmas.{nested, full, supplied, folder_supplied, names_load, gives}
+use Rattle.sudo_load.proofs.LoadLemmas.{nested, full, supplied, folder_supplied, names-load, gives}
 use Rattle.sudo_load.proofs.loading.+loading.Goals as goal
 
 pub load_file-returns-then-levels-eq0 : goal.load_file-returns-then-levels-eq0
@@ -47,5 +47,5 @@ load_folder-returns t c =
     (λ outcome loads.
     folder_supplied include c.args.supplies.now c.args.loaded c.args.place c.args.path (Some c.in-Some.names.now) outcome (search rules)
     (c.in-Some.ensures ∙ ap (supplied_folder c.args.supplies.now) c.as_slice.ensures)
-    (names_load include c.args.loaded c.args.place c.args.path c.as_slice-2.result.now c.in-Some.names.now c.as_slice-3.result.now c.in-Ok.paths.items outcome
+    (names-load include c.args.loaded c.args.place c.args.path c.as_slice-2.result.now c.in-Some.names.now c.as_slice-3.result.now c.in-Ok.paths.items outcome
     c.as_slice-2.ensures c.as_slice-3.ensures c.in-Ok.ensures loads))

@@ -2,7 +2,7 @@ use Rattle.std.proofs.Common.{◌≡◌, ◌+◌, ℕ, List, Option, Some, drop,
 use Rattle.std.specs.Prelude.{slice_get}
 use Rattle.std.proofs.lemmas.Option.{slice_get_read}
 use Rattle.sudo_policy.specs.Body.Marking.{ReversesUpTo, ReversesRow}
-use Rattle.sudo_policy.proofs.MarkingLemmas.{row_inside, written_back, ReversesUpTo-next}
+use Rattle.sudo_policy.proofs.MarkingLemmas.{row-inside, written_back, ReversesUpTo-next}
 use Rattle.sudo_policy.proofs.cycle.reversed.Goals as goal
 
 pub turn_row-requires : goal.turn_row-requires
@@ -12,7 +12,7 @@ turn_row-requires c =
     let long = c.as_mut_slice.ensures.len in
     let held = c.loop-from.back.ok.0 in
     let same = c.loop-from.invariant.same_length in
-    record { inside = λ i h. (let less = row_inside g c.loop-from.from c.as_slice.result.now c.requires.closed at i h in omega (arith, less, long, held, same)) }
+    record { inside = λ i h. (let less = row-inside g c.loop-from.from c.as_slice.result.now c.requires.closed at i h in omega (arith, less, long, held, same)) }
 
 pub loop-from-preserved : goal.loop-from-preserved
 loop-from-preserved c =

@@ -8,7 +8,7 @@ use Rattle.sudo_policy.specs.declared.graph.Measure.{Measure}
 use Rattle.sudo_policy.specs.Following.{option_join}
 use Rattle.sudo_policy.specs.Body.Graph.{Edge, Path, step, Turned, measure_of_both, link_measure, done_measure}
 use Rattle.sudo_policy.proofs.GraphLemmas.{Path-edge}
-use Rattle.sudo_policy.proofs.StateLemmas.{Known, settled_as, known_none, near_open, known_next, start_holds, end_holds, end_turned, end_settled, row_edge, new_count-below, length_set, within_get, Turned-refl, Turned-trans}
+use Rattle.sudo_policy.proofs.StateLemmas.{Known, settled_as, known_none, near_open, known_next, start-holds, end_holds, end_turned, end_settled, row-edge, new_count-below, length_set, within_get, Turned-refl, Turned-trans}
 use Rattle.sudo_policy.proofs.graph.+visiting.Goals as goal
 use Rattle.sudo_policy.proofs.graph.+visiting.Goals.{visit-in-Some, visit-in-None+in_ok-push-in-None}
 
@@ -18,7 +18,7 @@ visit-loop-at-init t c =
     record {
       within = omega arith;
       visiting = record {
-        held = start_holds c.args.links.now c.args.states.now c.args.node inside c.requires.held;
+        held = start-holds c.args.links.now c.args.states.now c.args.node inside c.requires.held;
         turned = Turned-refl (set c.args.states.now c.args.node Open);
         same_length = length_set c.args.states.now c.args.node Open;
         known = known_none c.args.links.now c.args.node c.as_slice-row.result.now;
@@ -49,7 +49,7 @@ visit-visit_link-requires t c =
             v.held,
             (
               near_open g start c.loop-at.states c.args.node v.same_length c.requires.new c.requires.lead v.turned,
-              (λ next named. row_edge g c.args.node (c.loop-at.at - 1) next row (get_or row (c.loop-at.at - 1) None) (row_at c.args.links.now c.args.states.now c.args.node c.index-links-node.result c.as_slice-row.result.now c.requires.new c.requires.sizes c.index-links-node.is c.as_slice-row.ensures) inside refl named),
+              (λ next named. row-edge g c.args.node (c.loop-at.at - 1) next row (get_or row (c.loop-at.at - 1) None) (row_at c.args.links.now c.args.states.now c.args.node c.index-links-node.result c.as_slice-row.result.now c.requires.new c.requires.sizes c.index-links-node.is c.as_slice-row.ensures) inside refl named),
             ),
           ),
         ),
@@ -74,7 +74,7 @@ visit-loop-at-preserved t c =
     let turned : Turned (set start node Open) states = Turned-trans (set start node Open) c.loop-at.states states (v.same_length ∙ sym (length_set start node Open)) v.turned c.in_ok-visit_link.ensures.turned in
     let near = near_open g start states node long c.requires.new c.requires.lead turned in
     let edge : (next : ℕ) → link ≡ Some next → Edge g node next =
-    λ next named. row_edge g node at next row link (row_at c.args.links.now c.args.states.now c.args.node c.index-links-node.result c.as_slice-row.result.now c.requires.new c.requires.sizes c.index-links-node.is c.as_slice-row.ensures) inside refl named in
+    λ next named. row-edge g node at next row link (row_at c.args.links.now c.args.states.now c.args.node c.index-links-node.result c.as_slice-row.result.now c.requires.new c.requires.sizes c.index-links-node.is c.as_slice-row.ensures) inside refl named in
     let known : Known g node (drop (at + 1) row) c.loop-at.measure = subst (λ (k : ℕ). Known g node (drop k row) c.loop-at.measure) (sym up) v.known in
     let next : Known g node (link ∷ drop (at + 1) row) (option_join measure_of_both (link_measure (done_measure states) link) c.loop-at.measure) =
     known_next g states node (drop (at + 1) row) c.loop-at.measure link c.requires.closed (long ∙ c.requires.sizes) c.in_ok-visit_link.ensures.holds near c.in_ok-visit_link.ensures.visited edge known in

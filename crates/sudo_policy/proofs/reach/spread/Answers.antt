@@ -3,7 +3,7 @@ use Rattle.std.specs.Prelude.{slice_get}
 use Rattle.std.proofs.lemmas.Option.{slice_get_read}
 use Rattle.sudo_policy.specs.Body.Graph.{Links}
 use Rattle.sudo_policy.specs.Body.Marking.{MarksRow}
-use Rattle.sudo_policy.proofs.MarkingLemmas.{row_inside}
+use Rattle.sudo_policy.proofs.MarkingLemmas.{row-inside}
 use Rattle.sudo_policy.proofs.PastLemmas.{Spreads, Spreads-begin, Spreads-next, Spreads-found, Spreads-set, waiting_inside}
 use Rattle.sudo_policy.proofs.reach.spread.Goals as goal
 
@@ -39,7 +39,7 @@ mark_row-requires-in-Some c =
     let at = row_at g alias c.index-links-alias.result c.as_slice.result.now inside c.index-links-alias.is c.as_slice.ensures in
     let long = c.loop-alias.invariant.same_length in
     let sizes = c.requires.sizes in
-    record { inside = λ i h. (let less = row_inside g alias c.as_slice.result.now c.requires.closed at i h in omega (arith, less, long, sizes)) }
+    record { inside = λ i h. (let less = row-inside g alias c.as_slice.result.now c.requires.closed at i h in omega (arith, less, long, sizes)) }
 
 pub loop-alias-preserved : goal.loop-alias-preserved
 loop-alias-preserved c =

@@ -1,6 +1,6 @@
 use Rattle.std.proofs.Common.{◌≡◌, ◌++◌, [], ◌∷◌, ◌+◌, List, map, take, get_or, sym, ◌∙◌, ap, subst}
 use Rattle.std.proofs.lemmas.List.{map_push, take_more}
-use Rattle.sudo_policy.proofs.SurveyLemmas.{take_whole}
+use Rattle.sudo_policy.proofs.SurveyLemmas.{take-whole}
 use Rattle.sudo_policy.specs.declared.survey.DefinitionRef.{DefinitionRef}
 use Rattle.sudo_policy.specs.Definitions.{AliasDefinition}
 use Rattle.sudo_policy.specs.Body.DefinitionRef.{alias_view, IsSurvey, IsAtItsPosition}
@@ -19,5 +19,5 @@ loop-definition-preserved c p all =
 pub returns : goal.returns
 returns c p all =
     let ds = c.args.definitions.now in
-    let whole : take c.loop-definition.definition-index ds ≡ ds = take_whole ds c.loop-definition.definition-index c.loop-definition-test.false in
+    let whole : take c.loop-definition.definition-index ds ≡ ds = take-whole ds c.loop-definition.definition-index c.loop-definition-test.false in
     subst (λ (done : List AliasDefinition). IsSurvey p done c.loop-definition.survey) (ap (map alias_view) whole) (c.loop-definition.invariant p all)

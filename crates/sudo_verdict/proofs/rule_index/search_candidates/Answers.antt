@@ -9,8 +9,9 @@ use Rattle.sudo_verdict.specs.Last.{last_set}
 use Rattle.sudo_verdict.specs.Body.Queries.{question}
 use Rattle.sudo_verdict.specs.Found.{entry_found}
 use Rattle.sudo_verdict.proofs.Resolving.{bodies_resolve}
-use Rattle.sudo_verdict.proofs.Posting.{all-at, skipped, last-there, or-some, or-none}
+use Rattle.sudo_verdict.proofs.Posting.{all-at, skipped, last-there, or-none}
 use Rattle.sudo_verdict.proofs.rule_index.search_candidates.Goals as goal
+use Rattle.sudo_policy.proofs.SurveyLemmas.{option_or_some}
 
 pub returns-then-left-eq0 : goal.returns-then-left-eq0
 returns-then-left-eq0 c =
@@ -53,7 +54,7 @@ returns-then-is_some c =
     let at = c.args.start + (c.last_in_both_before-left.result - 1) in
     let there = slice_get_read c.as_slice-entries.result.now (length c.as_slice-entries.result.now) at c.index-entries-start.result refl (omega (arith, count, positive, up, within, whole)) c.index-entries-start.is in
     let is_here : option_or c.search_candidate-found.result (last_set (map (entry_found p q) (take at p.entries))) ≡ c.search_candidate-found.result =
-    or-some c.search_candidate-found.result (last_set (map (entry_found p q) (take at p.entries))) (sym c.if-is_some.ensures) in
+    option_or_some c.search_candidate-found.result (last_set (map (entry_found p q) (take at p.entries))) (sym c.if-is_some.ensures) in
     c.loop-left.invariant.same
     ∙ skipped (entry_found p q) p.entries (at + 1) (c.args.start + c.loop-left.left) (omega (arith, positive, up))
     (λ k e l h there.
@@ -63,7 +64,7 @@ returns-then-is_some c =
     ∙ last-there (entry_found p q) p.entries at c.index-entries-start.result (ap (λ l. slice_get l at) (sym same) ∙ there)
     ∙ ap (λ o. option_or o (last_set (map (entry_found p q) (take at p.entries)))) (sym c.search_candidate-found.ensures)
     ∙ is_here
-    ∙ sym (or-some c.search_candidate-found.result (last_set (map (entry_found p q) (take c.args.start p.entries))) (sym c.if-is_some.ensures))
+    ∙ sym (option_or_some c.search_candidate-found.result (last_set (map (entry_found p q) (take c.args.start p.entries))) (sym c.if-is_some.ensures))
 
 pub loop-left-preserved : goal.loop-left-preserved
 loop-left-preserved c =

@@ -1,8 +1,9 @@
 use Rattle.std.proofs.Common.{◌≡◌, sym, ap, ◌∙◌, ◌+◌, map, drop, arith, get_or}
 use Rattle.std.proofs.lemmas.Option.{slice_get-get_or}
+use Rattle.std.proofs.lemmas.Bool.{and_left}
 use Rattle.sudo_match.specs.Pattern.{begins, is_plain}
 use Rattle.sudo_match.specs.Reading.{seen}
-use Rattle.sudo_match.proofs.CharsLemmas.{begins-name, begins-nothing, drop-some, drop-all, and-then, and-no}
+use Rattle.sudo_match.proofs.CharsLemmas.{begins-name, begins-nothing, drop-some, drop-all, and-then}
 use Rattle.sudo_match.proofs.patterns.Chars.spells_at.Goals as goal
 
 pub returns-then-not-is_plain_at : goal.returns-then-not-is_plain_at
@@ -10,7 +11,7 @@ returns-then-not-is_plain_at c =
     sym (c.loop-i.invariant
     ∙ begins-name c.args.name.now c.loop-i.i (c.args.at + c.loop-i.i) (seen c.args.self.now) (get_or c.args.name.now c.loop-i.i 0)
     (drop-some c.loop-i.i c.args.name.now _ (slice_get-get_or c.args.name.now c.loop-i.i 0 c.loop-i-test.true))
-    ∙ and-no _ _ (sym c.is_plain_at.ensures ∙ c.if-not-is_plain_at.true))
+    ∙ and_left _ _ (sym c.is_plain_at.ensures ∙ c.if-not-is_plain_at.true))
 
 pub loop-i-preserved : goal.loop-i-preserved
 loop-i-preserved c =

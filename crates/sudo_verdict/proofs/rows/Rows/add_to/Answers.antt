@@ -8,10 +8,10 @@ use Rattle.sudo_verdict.proofs.rows.Rows.add_to.Goals as goal
 pub returns-then-first-row-clause-adds : goal.returns-then-first-row-clause-adds
 returns-then-first-row-clause-adds c i none =
     let rows = c.args.self.now.rows.items in
-    let within : c.args.number % c.len.result < length rows = row-within c.args.self.now.rows.items c.args.number c.len.result (omega (arith, c.len.ensures, c.args.self.now.rows.ok)) c.requires in
+    let within : c.row_index.result < length rows = row-within rows c.args.number c.row_index.result c.row_index.ensures c.requires in
     let there : slice_get rows (c.args.number % length rows) ≡ Some c.index.result.now =
-    row-there rows c.args.number c.len.result c.index.result.now (omega (arith, c.len.ensures, c.args.self.now.rows.ok))
-    (slice_get_read rows (length rows) (c.args.number % c.len.result) c.index.result.now refl within c.index.ensures) in
+    row-there rows c.args.number c.row_index.result c.index.result.now c.row_index.ensures
+    (slice_get_read rows (length rows) c.row_index.result c.index.result.now refl within c.index.ensures) in
     let added = c.or_words.ensures.adds i none in (
       added.0,
       λ h. posted-none rows c.args.number (64 * c.args.first + i) c.index.result.now there
@@ -21,10 +21,10 @@ returns-then-first-row-clause-adds c i none =
 pub returns-else-first-row-clause-adds : goal.returns-else-first-row-clause-adds
 returns-else-first-row-clause-adds c i none =
     let rows = c.args.self.now.rows.items in
-    let within : c.args.number % c.len.result < length rows = row-within c.args.self.now.rows.items c.args.number c.len.result (omega (arith, c.len.ensures, c.args.self.now.rows.ok)) c.requires in
+    let within : c.row_index.result < length rows = row-within rows c.args.number c.row_index.result c.row_index.ensures c.requires in
     let there : slice_get rows (c.args.number % length rows) ≡ Some c.index.result.now =
-    row-there rows c.args.number c.len.result c.index.result.now (omega (arith, c.len.ensures, c.args.self.now.rows.ok))
-    (slice_get_read rows (length rows) (c.args.number % c.len.result) c.index.result.now refl within c.index.ensures) in
+    row-there rows c.args.number c.row_index.result c.index.result.now c.row_index.ensures
+    (slice_get_read rows (length rows) c.row_index.result c.index.result.now refl within c.index.ensures) in
     let past = c.if-first-row.false in
     let same = ap length c.as_slice-row.ensures.value in
     (none, λ h. posted-none rows c.args.number (64 * c.args.first + i) c.index.result.now there (bit-past c.index.result.now.items c.args.first i (omega (arith, past, same))))

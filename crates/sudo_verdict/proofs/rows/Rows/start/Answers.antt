@@ -3,8 +3,9 @@ use Rattle.std.specs.Prelude.{slice_get}
 use Rattle.std.proofs.lemmas.Bool.{cases_lt}
 use Rattle.std.proofs.lemmas.Option.{slice_get_read}
 use Rattle.sudo_verdict.specs.Postings.{bit}
-use Rattle.sudo_verdict.proofs.Misses.{get-within, starts-none}
+use Rattle.sudo_verdict.proofs.Misses.{starts-none}
 use Rattle.sudo_verdict.proofs.rows.Rows.start.Goals as goal
+use Rattle.sudo_policy.proofs.StateLemmas.{within_get}
 
 pub loop-row-preserved : goal.loop-row-preserved
 loop-row-preserved c k within row there i before = go (cases_lt k c.loop-row.row-index)
@@ -26,7 +27,7 @@ pub returns : goal.returns
 returns c =
     starts-none c.args.self.now.rows.items c.loop-row.start
     (λ k row there i before.
-    let within = get-within c.args.self.now.rows.items k row there in
+    let within = within_get c.args.self.now.rows.items k row there in
     let end = c.loop-row-test.false in
     let count = ap (λ rows. length rows) c.as_slice-row-items.ensures.value in
     c.loop-row.invariant k (omega (arith, within, end, count)) row there i before)

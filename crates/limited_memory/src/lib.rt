@@ -2,13 +2,14 @@
 //!
 //! What is taken is never written to, so it costs addresses and little memory. It takes an allocator that runs out of them:
 //! that of `rt test` does, and that of `rt try` does not, so a test that needs a budget fails there.
+#![tactic(auto)]
 
 use std::alloc::{AllocError, Global};
 use std::test::Fail;
 
 /// How a call ended.
 #[derive(Clone, Copy)]
-pub(crate) enum End {
+pub enum End {
     /// Memory was refused, and what was handed in is as before.
     Refused,
     /// The answer came that comes with memory.
@@ -19,13 +20,16 @@ pub(crate) enum End {
 
 impl End {
     /// Returns how a call ended that returned an answer, by whether it is the right one.
-    pub(crate) fn of(is_right: bool) -> End {
+    pub fn of(is_right: bool) -> End {
         if is_right { End::Answered } else { End::Wrong }
     }
 }
 
 /// The bytes of memory beside the budget, which are there before and after a call.
-const ROOM: usize = 1 << 22;
+pub const ROOM: usize = 1 << 22;
+
+/// The same with the stacks of several threads.
+pub const ROOM_WITH_THREADS: usize = 1 << 28;
 
 const UNLIMITED: &str = "memory is not limited here";
 
@@ -54,8 +58,10 @@ fn fill(alloc: Global, blocks: &mut Vec<Vec<u8>>, largest: usize, last: usize) -
 
 /// The memory of a call.
 #[derive(Drop)]
-pub(crate) struct Memory {
+pub struct Memory {
     alloc: Global,
+    /// The bytes beside the budget.
+    room: usize,
     /// The bytes that the call may use; `None` for all that there are.
     budget: Option<usize>,
     /// What is taken during the call.
@@ -65,10 +71,11 @@ pub(crate) struct Memory {
 }
 
 impl Memory {
-    /// Returns memory with no bytes.
-    fn new(alloc: Global) -> Result<Memory, AllocError> {
+    /// Returns memory with no bytes beside this room.
+    fn new(alloc: Global, room: usize) -> Result<Memory, AllocError> {
         Ok(Memory {
             alloc,
+            room,
             budget: Some(0),
             taken: Vec::with_capacity(alloc, 2000)?,
             is_limited: true,
@@ -76,10 +83,10 @@ impl Memory {
     }
 
     /// Takes all memory but the budget.
-    pub(crate) fn take(&mut self) {
+    pub fn take(&mut self) {
         if let Some(budget) = self.budget {
             let held = Vec::<u8>::with_capacity(self.alloc, budget);
-            if !fill(self.alloc, &mut self.taken, ROOM, 8) {
+            if !fill(self.alloc, &mut self.taken, self.room, 8) {
                 self.is_limited = false;
             }
             drop(held);
@@ -87,7 +94,7 @@ impl Memory {
     }
 
     /// Gives back what was taken.
-    pub(crate) fn give_back(&mut self) {
+    pub fn give_back(&mut self) {
         self.taken.clear();
     }
 
@@ -100,7 +107,7 @@ impl Memory {
 }
 
 /// A call that memory may be refused to.
-pub(crate) trait Trial {
+pub trait Trial {
     /// Makes the call between `take` and `give_back`, and returns how it ended.
     fn once(&self, memory: &mut Memory) -> Result<End, Fail>;
 }
@@ -125,10 +132,11 @@ fn grown<T: Trial>(trial: &T, memory: &mut Memory) -> Result<(), Fail> {
 }
 
 /// Makes each call with larger and larger budgets until one is not refused, and then with all memory. Fails if an answer is
-/// another than with memory, or if no budget of a call is refused, or each.
-pub(crate) fn swept<T: Trial>(alloc: Global, trials: &[T]) -> Result<(), Fail> {
-    let mut memory = Memory::new(alloc)?;
-    let room = Vec::<u8>::with_capacity(alloc, ROOM)?;
+/// another than with memory, or if no budget of a call is refused, or each. `room` is the bytes that are there beside a budget,
+/// before and after a call: `ROOM`, or `ROOM_WITH_THREADS` where the calls start threads.
+pub fn swept<T: Trial>(alloc: Global, room: usize, trials: &[T]) -> Result<(), Fail> {
+    let mut memory = Memory::new(alloc, room)?;
+    let room = Vec::<u8>::with_capacity(alloc, room)?;
     let mut blocks = Vec::with_capacity(alloc, 100_000)?;
     if !fill(alloc, &mut blocks, 1 << 46, 1 << 20) {
         return Err(Fail::new(UNLIMITED));
