@@ -94,7 +94,7 @@ fn arrived(
 }
 
 impl Trial for Arrivals<'_> {
-    fn once(&self, memory: &mut Memory) -> Result<End, Fail> {
+    fn once<R: Threads + Wait + Sync>(&self, _rt: &R, memory: &mut Memory) -> Result<End, Fail> {
         let arrivals = self.arrivals()?;
         let collector = Collector::new(self.alloc, roster(self.alloc, b"ab")?)?;
         Ok(arrived(collector, arrivals, memory, self.wanted))
@@ -122,7 +122,7 @@ fn orders<'a>(
 fn memory_for_arrivals_in_any_of_120_orders(rt: HostRuntime) -> Result<(), Fail> {
     let wanted = two_and_one(rt.alloc())?;
     let orders = orders(rt.alloc(), 120, &wanted)?;
-    swept(rt.alloc(), ROOM, &orders)
+    swept(rt.alloc(), &rt, ROOM, &orders)
 }
 
 const USERS: &[u8] = b"user,uid,groups\nroot,0,root:0\nalice,1000,alice:1000 adm:4\n";
@@ -218,7 +218,7 @@ struct Reading {
 }
 
 impl Trial for Reading {
-    fn once(&self, memory: &mut Memory) -> Result<End, Fail> {
+    fn once<R: Threads + Wait + Sync>(&self, _rt: &R, memory: &mut Memory) -> Result<End, Fail> {
         match self.kind {
             Kind::Users => read_users_once(self.alloc, USERS, memory),
             Kind::Memberships => read_users_once(self.alloc, MEMBERSHIPS, memory),
@@ -234,6 +234,7 @@ fn memory_for_files(rt: HostRuntime) -> Result<(), Fail> {
     let reading = |kind: Kind| -> Reading { Reading { alloc, kind } };
     swept(
         alloc,
+        &rt,
         ROOM,
         &[
             reading(Kind::Users),
@@ -274,7 +275,7 @@ struct Writing<'a> {
 }
 
 impl Trial for Writing<'_> {
-    fn once(&self, memory: &mut Memory) -> Result<End, Fail> {
+    fn once<R: Threads + Wait + Sync>(&self, _rt: &R, memory: &mut Memory) -> Result<End, Fail> {
         let mut writer = Script::of(self.alloc, b"", 16)?;
         memory.take();
         let end = end_of_text(self.alloc, self.report, self.files, &mut writer);
@@ -290,6 +291,7 @@ fn memory_for_a_report(rt: HostRuntime) -> Result<(), Fail> {
     let files = two_files(alloc)?;
     swept(
         alloc,
+        &rt,
         ROOM,
         &[Writing {
             alloc,
@@ -301,20 +303,19 @@ fn memory_for_a_report(rt: HostRuntime) -> Result<(), Fail> {
 
 /// The queues of an audit, made.
 #[derive(Drop)]
-struct Queues<'a, R> {
+struct Queues<'a> {
     alloc: Global,
-    rt: &'a R,
     ground: &'a Ground,
 }
 
-impl<R: Wait> Trial for Queues<'_, R> {
-    fn once(&self, memory: &mut Memory) -> Result<End, Fail> {
+impl Trial for Queues<'_> {
+    fn once<R: Threads + Wait + Sync>(&self, rt: &R, memory: &mut Memory) -> Result<End, Fail> {
         memory.take();
         let answer = Handoff::new(self.alloc, &self.ground.policy, &self.ground.directory);
         memory.give_back();
         match answer {
             Ok((handoff, mut pass)) => {
-                let (put, is_back, first) = used(self.rt, &handoff, &mut pass);
+                let (put, is_back, first) = used(rt, &handoff, &mut pass);
                 Ok(End::of(put == 256 && is_back && first == Some(0)))
             }
             Err(_) => Ok(End::Refused),
@@ -328,10 +329,10 @@ fn memory_for_queues(rt: HostRuntime) -> Result<(), Fail> {
     let ground = make_ground(alloc)?;
     swept(
         alloc,
+        &rt,
         ROOM_WITH_THREADS,
         &[Queues {
             alloc,
-            rt: &rt,
             ground: &ground,
         }],
     )
@@ -339,30 +340,33 @@ fn memory_for_queues(rt: HostRuntime) -> Result<(), Fail> {
 
 /// An audit of three sources by two workers.
 #[derive(Drop)]
-struct Auditing<'a, R> {
+struct Auditing<'a> {
     alloc: Global,
-    rt: &'a R,
     ground: &'a Ground,
 }
 
-impl<R: Threads + Wait + Sync> Auditing<'_, R> {
+impl Auditing<'_> {
     /// Returns the answer of the audit.
-    fn answer(&self, memory: &mut Memory) -> Result<Result<Report, AuditFault>, Fail> {
+    fn answer<R: Threads + Wait + Sync>(
+        &self,
+        rt: &R,
+        memory: &mut Memory,
+    ) -> Result<Result<Report, AuditFault>, Fail> {
         let Ground { policy, directory } = self.ground;
         let sources = sources(self.alloc, SOURCES)?;
         let (handoff, mut pass) = Handoff::new(self.alloc, policy, directory)?;
         memory.take();
         let answer = audit(
-            self.alloc, self.rt, policy, directory, &handoff, &mut pass, sources, 2, &Open,
+            self.alloc, rt, policy, directory, &handoff, &mut pass, sources, 2, &Open,
         );
         memory.give_back();
         Ok(answer)
     }
 }
 
-impl<R: Threads + Wait + Sync> Trial for Auditing<'_, R> {
-    fn once(&self, memory: &mut Memory) -> Result<End, Fail> {
-        let answer = self.answer(memory)?;
+impl Trial for Auditing<'_> {
+    fn once<R: Threads + Wait + Sync>(&self, rt: &R, memory: &mut Memory) -> Result<End, Fail> {
+        let answer = self.answer(rt, memory)?;
         if matches!(&answer, Err(AuditFault::Memory | AuditFault::NoThread)) {
             return Ok(End::Refused);
         }
@@ -377,8 +381,8 @@ fn two_audits<R: Threads + Wait + Sync>(
     rt: &R,
     ground: &Ground,
 ) -> Result<(), Fail> {
-    let audit = || Auditing { alloc, rt, ground };
-    swept(alloc, ROOM_WITH_THREADS, &[audit(), audit()])
+    let audit = || Auditing { alloc, ground };
+    swept(alloc, rt, ROOM_WITH_THREADS, &[audit(), audit()])
 }
 
 #[test]

@@ -5,7 +5,9 @@
 #![tactic(auto)]
 
 use std::alloc::{AllocError, Global};
+use std::sync::Wait;
 use std::test::Fail;
+use std::thread::Threads;
 
 /// How a call ended.
 #[derive(Clone, Copy)]
@@ -109,15 +111,19 @@ impl Memory {
 /// A call that memory may be refused to.
 pub trait Trial {
     /// Makes the call between `take` and `give_back`, and returns how it ended.
-    fn once(&self, memory: &mut Memory) -> Result<End, Fail>;
+    fn once<R: Threads + Wait + Sync>(&self, rt: &R, memory: &mut Memory) -> Result<End, Fail>;
 }
 
 /// Makes the call with larger and larger budgets, from none, until one is not refused. Fails if an answer is another than with
 /// memory, or if no budget is refused, or each.
-fn grown<T: Trial>(trial: &T, memory: &mut Memory) -> Result<(), Fail> {
+fn grown<R: Threads + Wait + Sync, T: Trial>(
+    rt: &R,
+    trial: &T,
+    memory: &mut Memory,
+) -> Result<(), Fail> {
     memory.budget = Some(0);
     for refused in 0..200u32 {
-        let end = trial.once(memory)?;
+        let end = trial.once(rt, memory)?;
         if !memory.is_limited {
             return Err(Fail::new(UNLIMITED));
         }
@@ -134,7 +140,12 @@ fn grown<T: Trial>(trial: &T, memory: &mut Memory) -> Result<(), Fail> {
 /// Makes each call with larger and larger budgets until one is not refused, and then with all memory. Fails if an answer is
 /// another than with memory, or if no budget of a call is refused, or each. `room` is the bytes that are there beside a budget,
 /// before and after a call: `ROOM`, or `ROOM_WITH_THREADS` where the calls start threads.
-pub fn swept<T: Trial>(alloc: Global, room: usize, trials: &[T]) -> Result<(), Fail> {
+pub fn swept<R: Threads + Wait + Sync, T: Trial>(
+    alloc: Global,
+    rt: &R,
+    room: usize,
+    trials: &[T],
+) -> Result<(), Fail> {
     let mut memory = Memory::new(alloc, room)?;
     let room = Vec::<u8>::with_capacity(alloc, room)?;
     let mut blocks = Vec::with_capacity(alloc, 100_000)?;
@@ -143,12 +154,12 @@ pub fn swept<T: Trial>(alloc: Global, room: usize, trials: &[T]) -> Result<(), F
     }
     drop(room);
     for trial in trials {
-        grown(trial, &mut memory)?;
+        grown(rt, trial, &mut memory)?;
     }
     drop(blocks);
     memory.budget = None;
     for trial in trials {
-        if !matches!(trial.once(&mut memory)?, End::Answered) {
+        if !matches!(trial.once(rt, &mut memory)?, End::Answered) {
             return Err(Fail::new("another answer with all memory"));
         }
     }

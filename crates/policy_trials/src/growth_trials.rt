@@ -3,7 +3,9 @@
 use crate::fixtures::{file, folder, policy};
 use limited_memory::{End, Memory, ROOM, Trial, swept};
 use std::alloc::{AllocError, Global};
+use std::sync::Wait;
 use std::test::Fail;
+use std::thread::Threads;
 use sudo_load::{LoadFault, Supply, load};
 use sudo_policy::{
     CheckFault, Checked, ExpandFault, Finding, Kind, Policy, Signed, check, expand, findings,
@@ -51,7 +53,7 @@ impl Expanding {
 }
 
 impl Trial for Expanding {
-    fn once(&self, memory: &mut Memory) -> Result<End, Fail> {
+    fn once<R: Threads + Wait + Sync>(&self, _rt: &R, memory: &mut Memory) -> Result<End, Fail> {
         memory.take();
         let answer = self.members();
         memory.give_back();
@@ -65,7 +67,7 @@ impl Trial for Expanding {
 
 #[test]
 fn memory_for_an_alias_written_out(rt: HostRuntime) -> Result<(), Fail> {
-    swept(rt.alloc(), ROOM, &[Expanding::new(rt.alloc())?])
+    swept(rt.alloc(), &rt, ROOM, &[Expanding::new(rt.alloc())?])
 }
 
 /// The findings on a policy.
@@ -77,7 +79,7 @@ struct Finds {
 }
 
 impl Trial for Finds {
-    fn once(&self, memory: &mut Memory) -> Result<End, Fail> {
+    fn once<R: Threads + Wait + Sync>(&self, _rt: &R, memory: &mut Memory) -> Result<End, Fail> {
         memory.take();
         let answer = findings(self.alloc, &self.policy);
         memory.give_back();
@@ -110,7 +112,7 @@ impl Finds {
 
 #[test]
 fn memory_for_findings(rt: HostRuntime) -> Result<(), Fail> {
-    swept(rt.alloc(), ROOM, &[Finds::new(rt.alloc())?])
+    swept(rt.alloc(), &rt, ROOM, &[Finds::new(rt.alloc())?])
 }
 
 /// The check of a policy.
@@ -136,7 +138,7 @@ fn end_of_check(answer: &Result<Checked, CheckFault>, given: &Policy) -> End {
 }
 
 impl Trial for Checking {
-    fn once(&self, memory: &mut Memory) -> Result<End, Fail> {
+    fn once<R: Threads + Wait + Sync>(&self, _rt: &R, memory: &mut Memory) -> Result<End, Fail> {
         let policy = long_policy(self.alloc)?;
         memory.take();
         let answer = check(self.alloc, policy);
@@ -155,7 +157,7 @@ impl Checking {
 
 #[test]
 fn memory_for_a_check(rt: HostRuntime) -> Result<(), Fail> {
-    swept(rt.alloc(), ROOM, &[Checking::new(rt.alloc())?])
+    swept(rt.alloc(), &rt, ROOM, &[Checking::new(rt.alloc())?])
 }
 
 /// What a policy includes.
@@ -181,7 +183,7 @@ struct Loading {
 const MAIN: &[u8] = b"@include k\n@includedir d\nalice ALL = !K\n";
 
 impl Trial for Loading {
-    fn once(&self, memory: &mut Memory) -> Result<End, Fail> {
+    fn once<R: Threads + Wait + Sync>(&self, _rt: &R, memory: &mut Memory) -> Result<End, Fail> {
         memory.take();
         let answer = load(self.alloc, b"p/sudoers", MAIN, &self.supplies);
         memory.give_back();
@@ -220,5 +222,5 @@ impl Loading {
 
 #[test]
 fn memory_for_includes(rt: HostRuntime) -> Result<(), Fail> {
-    swept(rt.alloc(), ROOM, &[Loading::new(rt.alloc())?])
+    swept(rt.alloc(), &rt, ROOM, &[Loading::new(rt.alloc())?])
 }

@@ -5,7 +5,9 @@ ghost use Rattle.sudo_verdict.specs.Postings.{Indexes};
 use crate::fixtures::{checked, directory, machines, people, requests};
 use limited_memory::{End, Memory, ROOM, Trial, swept};
 use std::alloc::{AllocError, Global};
+use std::sync::Wait;
 use std::test::Fail;
+use std::thread::Threads;
 use sudo_match::{DirFault, Directory};
 use sudo_policy::Checked;
 use sudo_verdict::{RuleIndex, verdict};
@@ -58,7 +60,7 @@ fn is_twice(fault: &DirFault) -> bool {
 }
 
 impl Trial for Rows {
-    fn once(&self, memory: &mut Memory) -> Result<End, Fail> {
+    fn once<R: Threads + Wait + Sync>(&self, _rt: &R, memory: &mut Memory) -> Result<End, Fail> {
         let mut people = people(self.alloc)?;
         if self.is_twice {
             people.append(&mut crate::fixtures::people(self.alloc)?)?;
@@ -76,6 +78,7 @@ fn memory_for_a_directory(rt: HostRuntime) -> Result<(), Fail> {
     let alloc = rt.alloc();
     swept(
         alloc,
+        &rt,
         ROOM,
         &[Rows::new(alloc, false)?, Rows::new(alloc, true)?],
     )
@@ -134,7 +137,7 @@ impl Indexing {
 }
 
 impl Trial for Indexing {
-    fn once(&self, memory: &mut Memory) -> Result<End, Fail> {
+    fn once<R: Threads + Wait + Sync>(&self, _rt: &R, memory: &mut Memory) -> Result<End, Fail> {
         memory.take();
         let answer = RuleIndex::of(self.alloc, &self.checked);
         memory.give_back();
@@ -147,5 +150,5 @@ impl Trial for Indexing {
 
 #[test]
 fn memory_for_an_index_of_rules(rt: HostRuntime) -> Result<(), Fail> {
-    swept(rt.alloc(), ROOM, &[Indexing::new(rt.alloc())?])
+    swept(rt.alloc(), &rt, ROOM, &[Indexing::new(rt.alloc())?])
 }
