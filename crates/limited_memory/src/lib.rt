@@ -4,6 +4,8 @@
 //! that of `rt test` does, and that of `rt try` does not, so a test that needs a budget fails there.
 #![tactic(auto)]
 
+ghost use Rattle.std.specs.Thread.{IsSync};
+
 use std::alloc::{AllocError, Global};
 use std::sync::Wait;
 use std::test::Fail;
@@ -111,7 +113,8 @@ impl Memory {
 /// A call that memory may be refused to.
 pub trait Trial {
     /// Makes the call between `take` and `give_back`, and returns how it ended.
-    fn once<R: Threads + Wait + Sync>(&self, rt: &R, memory: &mut Memory) -> Result<End, Fail>;
+    fn once<R: Threads + Wait + Sync>(&self, rt: &R, memory: &mut Memory) -> Result<End, Fail>
+        requires sync { IsSync R.row };
 }
 
 /// Makes the call with larger and larger budgets, from none, until one is not refused. Fails if an answer is another than with
