@@ -10,6 +10,7 @@ use crate::fault::Fault;
 use crate::files::Files;
 use crate::loading::checked_policy;
 use crate::printed::RunOutput;
+use audit_collect::Report;
 use audit_files::{Feed, Sink, read_hosts, read_users, report_text};
 use audit_run::{Handoff, Open, Source, audit};
 use std::alloc::{AllocError, Global};
@@ -53,7 +54,29 @@ fn names_of<R>(alloc: Global, sources: &[Source<R>]) -> Result<Vec<Seq<u8>>, All
     Ok(names)
 }
 
-// Returns the report of the sources, under a policy and a directory.
+/// What an audit leaves at its end, for a caller that need not free it.
+#[derive(Drop)]
+pub(crate) struct Kept {
+    policy: Option<Checked>,
+    report: Option<Report>,
+}
+
+impl Kept {
+    /// Creates a place for what an audit leaves.
+    pub(crate) fn new() -> Kept {
+        Kept {
+            policy: None,
+            report: None,
+        }
+    }
+
+    // Keeps the policy.
+    fn keep(&mut self, policy: Checked) {
+        self.policy = Some(policy);
+    }
+}
+
+// Returns the report of the sources, under a policy and a directory. Leaves the answers in `kept`.
 fn report_under<T: Threads + Wait + Sync, R: Feed + Drop + Send>(
     alloc: Global,
     rt: &T,
@@ -61,6 +84,7 @@ fn report_under<T: Threads + Wait + Sync, R: Feed + Drop + Send>(
     directory: &Directory,
     sources: Vec<Source<R>>,
     workers: u32,
+    kept: &mut Option<Report>,
 ) -> Result<RunOutput, Fault>
     requires { (1 ≤ workers) × (workers ≤ 16) }
     ensures report { let names = map (λ s. s.name) sources.items in
@@ -81,13 +105,14 @@ fn report_under<T: Threads + Wait + Sync, R: Feed + Drop + Send>(
         Ok(report) => {
             let files = policy.policy().files.as_slice();
             let text = report_text(alloc, &report, files)?;
+            *kept = Some(report);
             Ok(RunOutput { text, status: 0 })
         }
         Err(fault) => Err(Fault::Audit(names, fault)),
     }
 }
 
-// Returns the text and the status of an audit of the sources, under the policy of a file.
+// Returns the text and the status of an audit of the sources, under the policy of a file. Leaves the answers in `kept`.
 fn audited<T: Threads + Wait + Sync, U: Feed, H: Feed, R: Feed + Drop + Send>(
     alloc: Global,
     rt: &T,
@@ -96,6 +121,7 @@ fn audited<T: Threads + Wait + Sync, U: Feed, H: Feed, R: Feed + Drop + Send>(
     hosts: &mut H,
     sources: Vec<Source<R>>,
     workers: u32,
+    kept: &mut Option<Report>,
 ) -> Result<RunOutput, Fault>
     requires { (1 ≤ workers) × (workers ≤ 16) }
     ensures report { (held : Option Holdings) (path : List ℕ) → IsChecked held path policy.now →
@@ -122,9 +148,64 @@ fn audited<T: Threads + Wait + Sync, U: Feed, H: Feed, R: Feed + Drop + Send>(
         IfErr result (IsNotAudited given) }
 {
     match directory_of(alloc, users, hosts) {
-        Ok(directory) => report_under(alloc, rt, policy, &directory, sources, workers),
+        Ok(directory) => report_under(alloc, rt, policy, &directory, sources, workers, kept),
         Err(fault) => Err(fault),
     }
+}
+
+/// Does what `audit_into` does, and leaves the policy and the answers in `kept`.
+pub(crate) fn audit_keeping<
+    T: Threads + Wait + Sync,
+    F: Files,
+    U: Feed,
+    H: Feed,
+    R: Feed + Drop + Send,
+    O: Sink,
+    E: Sink,
+>(
+    alloc: Global,
+    rt: &T,
+    path: &[u8],
+    files: &mut F,
+    users: &mut U,
+    hosts: &mut H,
+    sources: Vec<Source<R>>,
+    workers: u32,
+    kept: &mut Kept,
+    out: &mut O,
+    err: &mut E,
+) -> u8
+    requires { (1 ≤ workers) × (workers ≤ 16) }
+    ensures most { result ≤ 4 }
+    ensures ends { let given : Given = record {
+      held = F.held files.old;
+      path = path.now;
+      users = U.ahead users.old;
+      hosts = H.ahead hosts.old;
+      sources = map (λ s. s.name) sources.items;
+      readable_bytes = map (λ s. R.ahead s.reader) sources.items;
+      workers = workers;
+    } in
+        Ends (IsAudited given) (IsNotAudited given) result
+        (sent O.taken O.stalled_writes out.old out.new)
+        (sent E.taken E.stalled_writes err.old err.new) }
+{
+    let policy = match checked_policy(alloc, path, files) {
+        Ok(policy) => policy,
+        Err(fault) => return end_run(alloc, Err(fault), out, err),
+    };
+    let ended = audited(
+        alloc,
+        rt,
+        &policy,
+        users,
+        hosts,
+        sources,
+        workers,
+        &mut kept.report,
+    );
+    kept.keep(policy);
+    end_run(alloc, ended, out, err)
 }
 
 /// Prints on `out` the report of the requests of the sources: for each sender, in the order in
@@ -171,10 +252,8 @@ pub fn audit_into<
         (sent O.taken O.stalled_writes out.old out.new)
         (sent E.taken E.stalled_writes err.old err.new) }
 {
-    let policy = match checked_policy(alloc, path, files) {
-        Ok(policy) => policy,
-        Err(fault) => return end_run(alloc, Err(fault), out, err),
-    };
-    let ended = audited(alloc, rt, &policy, users, hosts, sources, workers);
-    end_run(alloc, ended, out, err)
+    let kept = &mut Kept::new();
+    audit_keeping(
+        alloc, rt, path, files, users, hosts, sources, workers, kept, out, err,
+    )
 }

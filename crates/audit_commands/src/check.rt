@@ -12,7 +12,7 @@ use crate::loading::load_policy;
 use crate::printed::RunOutput;
 use audit_files::Sink;
 use std::alloc::{AllocError, Global};
-use sudo_policy::{Finding, findings, has_error};
+use sudo_policy::{Finding, Policy, findings, has_error};
 use sudo_text::Seq;
 
 // Returns a line for each finding, and `ok` if none is an error.
@@ -28,15 +28,42 @@ fn check_lines(alloc: Global, files: &[Seq<u8>], found: &[Finding]) -> Result<Ru
     Ok(RunOutput { text, status: 0 })
 }
 
-// Returns the text and the status of a check of the policy of a file.
-fn check_output<F: Files>(alloc: Global, path: &[u8], files: &mut F) -> Result<RunOutput, Fault>
+// Returns the text and the status of a check of the policy of a file. Leaves the policy in `kept`.
+fn check_output<F: Files>(
+    alloc: Global,
+    path: &[u8],
+    files: &mut F,
+    kept: &mut Option<Policy>,
+) -> Result<RunOutput, Fault>
     ensures printed { IfOk result (λ p. IsExamined
         (F.held files.old) path.now p.text.items p.status) }
     ensures fault { IfErr result (IsNoPolicy (F.held files.old) path.now) }
 {
     let policy = load_policy(alloc, path, files)?;
     let found = findings(alloc, &policy)?;
-    Ok(check_lines(alloc, policy.files.as_slice(), &found)?)
+    let printed = check_lines(alloc, policy.files.as_slice(), &found)?;
+    *kept = Some(policy);
+    Ok(printed)
+}
+
+/// Does what `check_run` does, and leaves the policy in `kept`, for a caller that need not free it.
+pub(crate) fn check_keeping<F: Files, O: Sink, E: Sink>(
+    alloc: Global,
+    path: &[u8],
+    files: &mut F,
+    kept: &mut Option<Policy>,
+    out: &mut O,
+    err: &mut E,
+) -> u8
+    ensures most { result ≤ 4 }
+    ensures fine { result ≡ 0 → PassesCheck (F.held files.old) path.now }
+    ensures ends { Ends (IsExamined (F.held files.old) path.now)
+        (IsNoPolicy (F.held files.old) path.now) result
+        (sent O.taken O.stalled_writes out.old out.new)
+        (sent E.taken E.stalled_writes err.old err.new) }
+{
+    let ended = check_output(alloc, path, files, kept);
+    end_run(alloc, ended, out, err)
 }
 
 /// Prints on `out` one line for each finding on the policy of a file, then `ok` if none is an
@@ -59,6 +86,5 @@ pub fn check_run<F: Files, O: Sink, E: Sink>(
         (sent O.taken O.stalled_writes out.old out.new)
         (sent E.taken E.stalled_writes err.old err.new) }
 {
-    let ended = check_output(alloc, path, files);
-    end_run(alloc, ended, out, err)
+    check_keeping(alloc, path, files, &mut None, out, err)
 }

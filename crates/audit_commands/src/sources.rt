@@ -2,7 +2,7 @@
 ghost use Rattle.std.specs.Prelude.{◌≡◌, ◌≤◌, ℕ, List, IfErr, IfOk, map};
 ghost use Rattle.audit_commands.specs.Opening.{AreOpened, AreSenders, AreSources, IsNotOpened};
 
-use crate::audit::audit_into;
+use crate::audit::{Kept, audit_keeping};
 use crate::ending::report_fault;
 use crate::fault::Fault;
 use crate::files::Disk;
@@ -11,6 +11,7 @@ use crate::sender::sender_of;
 use audit_files::Device;
 use audit_run::Source;
 use std::alloc::Global;
+use std::mem;
 use std::sync::Wait;
 use std::thread::Threads;
 use sudo_text::Seq;
@@ -151,7 +152,8 @@ pub(crate) fn run_audit<T: Threads + Wait + Sync>(
                 mut hosts,
                 sources,
             } = files;
-            audit_into(
+            let mut kept = Kept::new();
+            let status = audit_keeping(
                 alloc,
                 threads,
                 file.as_bytes(),
@@ -160,9 +162,13 @@ pub(crate) fn run_audit<T: Threads + Wait + Sync>(
                 &mut hosts,
                 sources,
                 workers,
+                &mut kept,
                 &mut out,
                 &mut err,
-            )
+            );
+            // The process ends here, and with it all its memory: texts of many requests are not freed one by one.
+            mem::forget(kept);
+            status
         }
         Err(fault) => report_fault(alloc, &fault, &mut err),
     }

@@ -22,7 +22,7 @@ use Rattle.sudo_verdict.specs.declared.decision.Decision.{Decision}
 use Rattle.sudo_policy.specs.Definitions.{alias_named}
 use Rattle.sudo_policy.specs.Positions.{members_at}
 use Rattle.sudo_policy.specs.declared.index.Position.{Position}
-use Rattle.sudo_verdict.specs.Body.Marking.{HaveKeys, IsPassedAt}
+use Rattle.sudo_verdict.specs.Body.NumberSets.{HaveNumbers, IsPassedAt}
 use Rattle.std.specs.Prelude.{slice_get, option_and_then}
 use Rattle.sudo_verdict.proofs.Lasts.{last-at, last_that-append, last_that-map, option_map_or, option_map_map}
 
@@ -143,13 +143,13 @@ pub found-at :
 found-at k p name read o at ds same known is there =
     sym (ap (in_force k p) (sym same) ∙ known ∙ ap (option_and_then (members_at p)) is ∙ there)
 
--- A member whose key is passed over is silent.
+-- A member whose number is passed over is silent.
 pub passed-silent :
-    (k : Kind) (p : Policy) (test : Atom → Bool) (keys : List ℕ) (members left rest : List Member) (m : Member) → left ≡ rest ++ m ∷ [] →
-    left ≡ take (length left) members → HaveKeys keys members → IsPassedAt test (slice_get keys (length rest)) → list_decision k p (m ∷ []) test ≡ None
-passed-silent k p test keys members left rest m is front have passed = go (slice_get keys (length rest)) refl passed
+    (k : Kind) (p : Policy) (test : Atom → Bool) (atom_numbers : List ℕ) (members left rest : List Member) (m : Member) → left ≡ rest ++ m ∷ [] →
+    left ≡ take (length left) members → HaveNumbers atom_numbers members → IsPassedAt test (slice_get atom_numbers (length rest)) → list_decision k p (m ∷ []) test ≡ None
+passed-silent k p test atom_numbers members left rest m is front have passed = go (slice_get atom_numbers (length rest)) refl passed
   where
-    go : (o : Option ℕ) → slice_get keys (length rest) ≡ o → IsPassedAt test o → list_decision k p (m ∷ []) test ≡ None
+    go : (o : Option ℕ) → slice_get atom_numbers (length rest) ≡ o → IsPassedAt test o → list_decision k p (m ∷ []) test ≡ None
     go None e h = absurd h
     go (Some n) e h =
         let both = h m.atom (have (length rest) n m e (last-at members left rest m is front)) in

@@ -1,4 +1,4 @@
-pub mod Keying
+pub mod AtomNumberLaws
 pub mod Lasts
 pub mod Recalling
 pub mod Deciding
@@ -8,8 +8,8 @@ pub mod Resolving
 pub mod VerdictVectors
 pub mod Numbering
 pub mod Bits
-pub mod Marking
-pub mod UserMarking
+pub mod NumberSets
+pub mod UserNumbers
 pub mod Misses
 pub mod Paths
 pub mod Silent

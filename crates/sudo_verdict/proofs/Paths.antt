@@ -3,11 +3,11 @@ use Rattle.std.proofs.Common.{◌≡◌, ℕ, Bool, true, false, not, ◌&&◌, 
 use Rattle.std.proofs.lemmas.Bool.{and_parts, and_from}
 use Rattle.sudo_grammar.specs.declared.kind.Atom.{Atom}
 use Rattle.sudo_match.specs.Matching.{command_fits}
-use Rattle.sudo_verdict.specs.Body.Marking.{lacks_beginnings, lacks_command}
-use Rattle.sudo_verdict.proofs.Marking.{lacked-atom}
+use Rattle.sudo_verdict.specs.Body.NumberSets.{lacks_beginnings, lacks_command}
+use Rattle.sudo_verdict.proofs.NumberSets.{lacked-atom}
 use Rattle.sudo_verdict.specs.Postings.{Rows, is_in_row, next_number, Grows, bucket_of, whole_seed, beginning_seed, atom_number, misses_beginnings, misses_command}
 use Rattle.sudo_verdict.proofs.Misses.{keeps-not}
-use Rattle.sudo_verdict.proofs.UserMarking.{never}
+use Rattle.sudo_verdict.proofs.UserNumbers.{never}
 
 command-parts :
     (rows : Rows) (rule : ℕ) (command : List ℕ) → misses_command rows rule command ≡ true →

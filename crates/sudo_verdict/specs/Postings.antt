@@ -1,4 +1,4 @@
--- The rows of an index of rules, the numbers under which a rule is found, and the keys of the members of aliases.
+-- The rows of an index of rules, the numbers under which a rule is found, and the numbers of the members of aliases.
 use Rattle.std.specs.Prelude.{◌≡◌, ℕ, ◌+◌, ◌*◌, ◌/◌, ◌%◌, ◌==◌, ◌<◌, Bool, true, not, ◌&&◌, ◌||◌, if◌then◌else◌, List, [], ◌∷◌, length, slice_get, slice_index, Option, Some, None, Vec, map, unwrap_or}
 use Rattle.std.specs.Int.{bit_at}
 use Rattle.std.specs.List.{list_all}
@@ -76,37 +76,37 @@ atom_number (atom.Gid gid) = gid_number gid
 atom_number (atom.Command path args) = path_number path
 atom_number _ = 0
 
--- ---- Keys
+-- ---- AtomNumbers
 
--- the keys of the members of a list: the numbers of their atoms
-abbrev pub member_keys : List Member → List ℕ
-member_keys members = map (λ (m : Member). atom_number m.atom) members
+-- the numbers of the members of a list: the numbers of their atoms
+abbrev pub member_numbers : List Member → List ℕ
+member_numbers members = map (λ (m : Member). atom_number m.atom) members
 
-abbrev pub definition_keys : List Definition → List (List ℕ)
-definition_keys definitions = map (λ (d : Definition). member_keys d.members) definitions
+abbrev pub definition_numbers : List Definition → List (List ℕ)
+definition_numbers definitions = map (λ (d : Definition). member_numbers d.members) definitions
 
-abbrev pub body_keys : EntryBody → List (List ℕ)
-body_keys (body.Aliases kind definitions) = definition_keys definitions
-body_keys _ = []
+abbrev pub body_numbers : EntryBody → List (List ℕ)
+body_numbers (body.Aliases kind definitions) = definition_numbers definitions
+body_numbers _ = []
 
--- the keys of the definitions of an entry
-abbrev pub entry_keys : Entry → List (List ℕ)
-entry_keys e = body_keys e.body
+-- the numbers of the definitions of an entry
+abbrev pub entry_numbers : Entry → List (List ℕ)
+entry_numbers e = body_numbers e.body
 
--- for each entry of a policy, the keys of its definitions
-abbrev pub Keys : Type 0
-Keys = List (List (List ℕ))
+-- for each entry of a policy, the numbers of its definitions
+abbrev pub AtomNumbers : Type 0
+AtomNumbers = List (List (List ℕ))
 
-abbrev pub policy_keys : Policy → Keys
-policy_keys p = map entry_keys p.entries
+abbrev pub policy_numbers : Policy → AtomNumbers
+policy_numbers p = map entry_numbers p.entries
 
-abbrev pub keys_in : Option (List (List ℕ)) → ℕ → List ℕ
-keys_in None at = []
-keys_in (Some keys) at = unwrap_or (slice_get keys at) []
+abbrev pub numbers_in : Option (List (List ℕ)) → ℕ → List ℕ
+numbers_in None at = []
+numbers_in (Some atom_numbers) at = unwrap_or (slice_get atom_numbers at) []
 
--- the keys of the definition at a position; none if there is none
-unfoldable pub keys_at : Keys → Position → List ℕ
-keys_at rows at = keys_in (slice_get rows at.entry) at.definition
+-- the numbers of the definition at a position; none if there is none
+unfoldable pub numbers_at : AtomNumbers → Position → List ℕ
+numbers_at rows at = numbers_in (slice_get rows at.entry) at.definition
 
 -- ---- Rows
 
@@ -155,9 +155,9 @@ misses_command rows rule command =
 abbrev pub Grows : Rows → Rows → Type 0
 Grows old new = (number rule : ℕ) → is_in_row old number rule ≡ true → is_in_row new number rule ≡ true
 
--- the rows by user, those by command, and the keys
+-- the rows by user, those by command, and the numbers
 abbrev pub Index : Type 0
-Index = Rows × (Rows × Keys)
+Index = Rows × (Rows × AtomNumbers)
 
 -- each of the first n entries that is in no row of the user, or in none of the command, decides nothing
 abbrev pub Covers : Policy → ℕ → Rows → Rows → Type 0
@@ -165,9 +165,9 @@ Covers p n users commands =
     (q : Question) (rule : ℕ) (e : Entry) → rule < n → slice_get p.entries rule ≡ Some e →
     (misses_user users rule q.user || misses_command commands rule q.command) ≡ true → entry_found p q e ≡ None
 
--- the rows are an index of the policy's rules, and the keys are those of the policy
+-- the rows are an index of the policy's rules, and the numbers are those of the policy
 pub record Indexes (p : Policy) (index : Index) : Type 0 where
   pub users : 0 < length index.0
   pub commands : 0 < length index.1.0
   pub covers : Covers p (length p.entries) index.0 index.1.0
-  pub keys : index.1.1 ≡ policy_keys p
+  pub atom_numbers : index.1.1 ≡ policy_numbers p

@@ -6,13 +6,13 @@ ghost use Rattle.sudo_policy.specs.Resolving.{resolves};
 ghost use Rattle.sudo_match.specs.Beginnings.{has_special};
 ghost use Rattle.sudo_match.specs.Matching.{user_fits, group_fits, host_fits, command_fits};
 ghost use Rattle.sudo_verdict.specs.Values as values;
-ghost use Rattle.sudo_verdict.specs.Body.Marking.{HaveKeys, IsPassed, IsPassedAt, lacks_command, marked};
+ghost use Rattle.sudo_verdict.specs.Body.NumberSets.{HaveNumbers, IsPassed, IsPassedAt, lacks_command, set_has};
 ghost use Rattle.sudo_verdict.specs.Body.Recalling.{Recalls};
 ghost use Rattle.sudo_verdict.specs.Decided.{list_decision, negated_once};
 
 use crate::aliases::{Aliases, Numbers, REMEMBERED, Slot, number_of, recall, remember};
-use crate::keys::Lists;
-use crate::marks::Marks;
+use crate::atom_numbers::Lists;
+use crate::number_set::NumberSet;
 use sudo_match::{
     Group, Machine, Person, command_differs, command_matches, group_matches, host_matches,
     user_matches,
@@ -95,9 +95,9 @@ pub(crate) struct AsCommand<'a> {
     /// Whether the command has a byte that is special in patterns.
     pub(crate) special: bool,
     /// The numbers of the atoms that may match the command.
-    pub(crate) marks: Marks,
+    pub(crate) number_set: NumberSet,
     ghost known: { special ≡ has_special command.now },
-    ghost marked: { lacks_command (λ n. not (marked marks.words n)) command.now ≡ true },
+    ghost covers: { lacks_command (λ n. not (set_has number_set.words n)) command.now ≡ true },
 }
 
 impl Subject for AsCommand<'_> {
@@ -111,7 +111,7 @@ impl Subject for AsCommand<'_> {
     }
 
     fn misses(&self, number: usize) -> bool {
-        !self.marks.has(number)
+        !self.number_set.has(number)
     }
 }
 
@@ -222,31 +222,31 @@ pub(crate) fn decide_one<S: Subject>(
     }
 }
 
-// Whether the key of the member at an index is known, and no atom with it matches the subject.
-fn is_passed<S: Subject>(subject: &S, keys: &[usize], index: usize) -> bool
-    ensures { result ≡ true → IsPassedAt (S.fits subject.now) (slice_get keys.now index) }
+// Whether the number of the member at an index is known, and no atom with it matches the subject.
+fn is_passed<S: Subject>(subject: &S, atom_numbers: &[usize], index: usize) -> bool
+    ensures { result ≡ true → IsPassedAt (S.fits subject.now) (slice_get atom_numbers.now index) }
 {
-    match keys.get(index) {
-        Some(key) => subject.misses(*key),
+    match atom_numbers.get(index) {
+        Some(number) => subject.misses(*number),
         None => false,
     }
 }
 
 // Returns the decision of the list: tries its members from the last to the first and stops at the first that matches.
-// `keys` holds the keys of the members, if they are known, and `slots` the known decisions of aliases, by the numbers of
-// the aliases.
+// `atom_numbers` holds the numbers of the members, if they are known, and `slots` the known decisions of aliases, by the
+// numbers of the aliases.
 #[cycle(deciding)]
 fn decide<S: Subject>(
     lists: Lists<'_>,
     kind: Kind,
     members: &[Member],
-    keys: &[usize],
+    atom_numbers: &[usize],
     subject: &S,
     numbers: Option<&Numbers>,
     slots: &mut [Slot],
 ) -> Option<Decision>
     requires resolves { IsTrue (resolves kind lists.checked.now members.now) }
-    requires keys { HaveKeys keys.now members.now }
+    requires atom_numbers { HaveNumbers atom_numbers.now members.now }
     requires recalls { Recalls kind lists.checked.now (option_copied numbers) (S.fits subject.now)
         slots.old }
     ensures value { result
@@ -257,7 +257,7 @@ fn decide<S: Subject>(
     let mut left = members;
     while let Some((member, rest)) = left.split_last() {
         left = rest;
-        if is_passed(subject, keys, rest.len()) {
+        if is_passed(subject, atom_numbers, rest.len()) {
             continue;
         }
         let decided = decide_member(lists, kind, member, subject, numbers, slots);
@@ -291,12 +291,12 @@ fn decide_member<S: Subject>(
         Atom::Alias(name) => {
             let position = lists.checked.position(kind, name.as_slice())?;
             let members = lists.checked.members_at(position)?;
-            let keys = lists.keys_of(position);
+            let atom_numbers = lists.numbers_of(position);
             let number = number_of(numbers, name.as_slice());
             if let Some(known) = recall(slots, number) {
                 return with_sign(known, is_negated(member));
             }
-            let found = decide(lists, kind, members, keys, subject, numbers, slots);
+            let found = decide(lists, kind, members, atom_numbers, subject, numbers, slots);
             remember(slots, number, found);
             with_sign(found, is_negated(member))
         }

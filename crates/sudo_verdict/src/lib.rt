@@ -4,10 +4,10 @@
 #![tactic(auto)]
 
 mod aliases;
+mod atom_numbers;
 mod candidates;
 mod decision;
-mod keys;
-mod marks;
+mod number_set;
 mod numbers;
 mod postings;
 mod query;

@@ -10,9 +10,9 @@ ghost use Rattle.sudo_verdict.specs.Questions.{question_of, target_of};
 ghost use Rattle.sudo_verdict.specs.Body.Queries.{question};
 
 use crate::aliases::Aliases;
+use crate::atom_numbers::Lists;
 use crate::decision::{AsCommand, AsGroup, AsHost, AsUser, value};
-use crate::keys::Lists;
-use crate::marks::Marks;
+use crate::number_set::NumberSet;
 use sudo_match::{Directory, Group, Machine, Person, Request, What, has_special};
 use sudo_policy::{Kind, Member, Runas};
 use sudo_text::Seq;
@@ -74,7 +74,7 @@ pub(crate) fn query_of<'a>(
             command: request.command.as_slice(),
             arguments: request.arguments.as_slice(),
             special: has_special(request.command.as_slice()),
-            marks: Marks::of_command(request.command.as_slice()),
+            number_set: NumberSet::of_command(request.command.as_slice()),
         },
         aliases,
     })

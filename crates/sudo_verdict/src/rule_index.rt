@@ -11,8 +11,8 @@ ghost use Rattle.sudo_verdict.specs.Found.{entry_found};
 ghost use Rattle.sudo_verdict.specs.Postings.{Indexes};
 
 use crate::aliases::Aliases;
+use crate::atom_numbers::{AtomNumbers, Lists};
 use crate::candidates::{add_command, add_user, last_in_both_before};
-use crate::keys::{Keys, Lists};
 use crate::postings::{Budget, Postings};
 use crate::query::{Query, query_of};
 use crate::rows::Rows;
@@ -33,7 +33,7 @@ pub struct RuleIndex {
     commands: Rows,
     // The number of words before the first with a rule.
     start: usize,
-    keys: Keys,
+    atom_numbers: AtomNumbers,
     aliases: Option<Aliases>,
 }
 
@@ -43,7 +43,7 @@ impl Model for RuleIndex {
 
     ghost Value = { Index };
 
-    ghost view = { λ i. (i.users.rows.items, (i.commands.rows.items, i.keys.rows)) };
+    ghost view = { λ i. (i.users.rows.items, (i.commands.rows.items, i.atom_numbers.rows)) };
 
     ghost invariant = { λ i. StartsAt i.users.rows.items i.start };
 }
@@ -74,7 +74,7 @@ impl RuleIndex {
             start,
             users: postings.users.rows,
             commands: postings.commands.rows,
-            keys: Keys::of(alloc, checked)?,
+            atom_numbers: AtomNumbers::of(alloc, checked)?,
             aliases: Aliases::of(alloc, checked)?,
         })
     }
@@ -96,7 +96,7 @@ impl RuleIndex {
             Ok(query) => {
                 let lists = Lists {
                     checked,
-                    keys: Some(&self.keys),
+                    atom_numbers: Some(&self.atom_numbers),
                 };
                 match search_indexed(lists, self, &query) {
                     Some(verdict) => verdict,

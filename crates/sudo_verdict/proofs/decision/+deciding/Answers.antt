@@ -35,8 +35,8 @@ decide-loop-member-preserved-then-is_passed g t c =
       recalls = c.loop-member.invariant.recalls;
       same = c.loop-member.invariant.same
           ∙ last_silent c.args.kind c.args.lists.checked.now test c.loop-member.left.now c.in-Some.rest.now c.in-Some.member.now is
-          (passed-silent c.args.kind c.args.lists.checked.now test c.args.keys.now c.args.members.now c.loop-member.left.now c.in-Some.rest.now c.in-Some.member.now is
-          c.loop-member.invariant.front c.requires.keys (c.is_passed.ensures c.if-is_passed.true));
+          (passed-silent c.args.kind c.args.lists.checked.now test c.args.atom_numbers.now c.args.members.now c.loop-member.left.now c.in-Some.rest.now c.in-Some.member.now is
+          c.loop-member.invariant.front c.requires.atom_numbers (c.is_passed.ensures c.if-is_passed.true));
     }
 
 pub decide-loop-member-preserved : goal.decide-loop-member-preserved
@@ -104,7 +104,7 @@ decide_member-decide-found-requires g t c κs within =
     c.position.ensures c.in_ok-position-in-Alias.was (sym c.members_at.ensures ∙ ap option_copied c.in_ok-members-in-Alias.was) in
     let test = g.S.Subject.fits c.args.subject.now in (
       omega (arith, alias_falls c.args.kind c.args.lists.checked.now test c.args.member.now c.in-Alias.name c.in_ok-members-in-Alias.members.now c.in-Alias.is found c.requires.resolves, c.decreases),
-      (within, (alias_stands c.args.kind c.args.lists.checked.now test c.args.member.now c.in-Alias.name c.in_ok-members-in-Alias.members.now c.in-Alias.is found c.requires.resolves, (c.keys_of-keys.ensures c.in_ok-members-in-Alias.members.now (sym c.members_at.ensures ∙ ap option_copied c.in_ok-members-in-Alias.was), c.requires.recalls))),
+      (within, (alias_stands c.args.kind c.args.lists.checked.now test c.args.member.now c.in-Alias.name c.in_ok-members-in-Alias.members.now c.in-Alias.is found c.requires.resolves, (c.numbers_of-atom_numbers.ensures c.in_ok-members-in-Alias.members.now (sym c.members_at.ensures ∙ ap option_copied c.in_ok-members-in-Alias.was), c.requires.recalls))),
     )
 
 pub decide_member-returns-in_default-recall-clause-value : goal.decide_member-returns-in_default-recall-clause-value

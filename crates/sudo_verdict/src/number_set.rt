@@ -1,7 +1,7 @@
 //! The numbers of a command as a set of bits, by which members of lists are passed over.
 
 ghost use Rattle.std.specs.Prelude.{ℕ, ◌≡◌, ◌<◌, true, not};
-ghost use Rattle.sudo_verdict.specs.Body.Marking.{lacks_command, marked};
+ghost use Rattle.sudo_verdict.specs.Body.NumberSets.{lacks_command, set_has};
 
 use crate::numbers::{BEGINNING, EVERYONE, WHOLE, next_number};
 use crate::rows::set_bit;
@@ -11,55 +11,55 @@ const BITS: usize = 1024;
 
 /// A set of numbers, which may have further ones.
 #[derive(Clone, Copy)]
-pub(crate) struct Marks {
+pub(crate) struct NumberSet {
     words: [u64; BITS / 64],
 }
 
-impl Marks {
+impl NumberSet {
     // Creates a set of the number of atoms that match everyone, and of aliases.
-    fn new() -> Marks
-        ensures { marked result.words 0 ≡ true }
+    fn new() -> NumberSet
+        ensures { set_has result.words 0 ≡ true }
     {
-        let mut marks = Marks {
+        let mut number_set = NumberSet {
             words: [0; BITS / 64],
         };
-        marks.add(EVERYONE);
-        marks
+        number_set.add(EVERYONE);
+        number_set
     }
 
     // Adds a number to the set.
     fn add(&mut self, number: usize)
-        ensures adds { marked self.new.words number ≡ true }
-        ensures keeps { (other : ℕ) → marked self.old.words other ≡ true
-            → marked self.new.words other ≡ true }
+        ensures adds { set_has self.new.words number ≡ true }
+        ensures keeps { (other : ℕ) → set_has self.old.words other ≡ true
+            → set_has self.new.words other ≡ true }
     {
         set_bit(&mut self.words, number % BITS);
     }
 
     /// Whether the set has the number.
     pub(crate) fn has(&self, number: usize) -> bool
-        ensures { result ≡ marked self.now.words number }
+        ensures { result ≡ set_has self.now.words number }
     {
         let bit = number % BITS;
         self.words[bit / 64] >> (bit % 64) & 1 == 1
     }
 
     /// Returns a set with the numbers of each atom that matches the command.
-    pub(crate) fn of_command(command: &[u8]) -> Marks
-        ensures { lacks_command (λ n. not (marked result.words n)) command.now ≡ true }
+    pub(crate) fn of_command(command: &[u8]) -> NumberSet
+        ensures { lacks_command (λ n. not (set_has result.words n)) command.now ≡ true }
     {
-        let mut marks = Marks::new();
-        marks.add(BEGINNING);
+        let mut number_set = NumberSet::new();
+        number_set.add(BEGINNING);
         let mut number = BEGINNING;
         let mut whole = WHOLE;
         let mut left = command;
         while let Some((byte, rest)) = left.split_first() {
             number = next_number(number, *byte);
             whole = next_number(whole, *byte);
-            marks.add(number);
+            number_set.add(number);
             left = rest;
         }
-        marks.add(whole);
-        marks
+        number_set.add(whole);
+        number_set
     }
 }

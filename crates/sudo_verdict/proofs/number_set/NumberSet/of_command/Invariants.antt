@@ -1,7 +1,7 @@
 use Rattle.std.proofs.Common.{◌≡◌, ℕ, ◌<◌, Bool, true, false, length}
 use Rattle.sudo_verdict.specs.Postings.{bucket_of, whole_seed}
-use Rattle.sudo_verdict.specs.Body.Marking.{marked, lacks_beginnings, lacks_command}
-use Rattle.sudo_verdict.proofs.marks.Marks.of_command.Given as goal
+use Rattle.sudo_verdict.specs.Body.NumberSets.{set_has, lacks_beginnings, lacks_command}
+use Rattle.sudo_verdict.proofs.number_set.NumberSet.of_command.Given as goal
 
 -- numbers that are not in the set, and are not those of longer beginnings, are lacked by the command
 abbrev pub invariant-loop-byte : goal.invariant-loop-byte
@@ -9,8 +9,8 @@ invariant-loop-byte l = record {
   below : l.number < 16384;
   whole_below : l.whole < 16384;
   whole : bucket_of whole_seed l.command ≡ bucket_of l.whole l.left;
-  here : marked l.marks.words l.number ≡ true;
-  none : (has : ℕ → Bool) → ((n : ℕ) → marked l.marks.words n ≡ true → has n ≡ false) → has (bucket_of whole_seed l.command) ≡ false
+  here : set_has l.number_set.words l.number ≡ true;
+  none : (has : ℕ → Bool) → ((n : ℕ) → set_has l.number_set.words n ≡ true → has n ≡ false) → has (bucket_of whole_seed l.command) ≡ false
       → lacks_beginnings has l.number l.left ≡ true → lacks_command has l.command ≡ true;
 }
 

@@ -3,7 +3,7 @@ use Rattle.audit_commands.specs.Examining.{IsExamined}
 use Rattle.audit_commands.specs.Loading.{IsNoPolicy}
 use Rattle.audit_commands.proofs.EndingLemmas.{ends_most, run_ends, zero_prints}
 use Rattle.audit_commands.proofs.Steps.{examined_most, fine_of}
-use Rattle.audit_commands.proofs.check.check_run.Goals as goal
+use Rattle.audit_commands.proofs.check.check_keeping.Goals as goal
 
 pub returns-clause-ends : goal.returns-clause-ends
 returns-clause-ends g c =

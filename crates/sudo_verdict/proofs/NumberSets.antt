@@ -11,10 +11,10 @@ use Rattle.sudo_match.specs.Matching.{command_fits, arguments_fit, arguments_sla
 use Rattle.sudo_match.proofs.FitsLemmas.{fits-one, fits-one-empty, fits-empty-some}
 use Rattle.sudo_policy.specs.Definitions.{alias_named}
 use Rattle.sudo_verdict.specs.Postings.{next_number, bucket_of, whole_seed, beginning_seed, path_number_from, atom_number}
-use Rattle.sudo_verdict.specs.Body.Marking.{lacks_beginnings, lacks_command}
+use Rattle.sudo_verdict.specs.Body.NumberSets.{lacks_beginnings, lacks_command}
 use Rattle.sudo_verdict.proofs.Numbering.{path-special, path-more, path-end, numbered_next}
 use Rattle.sudo_match.proofs.PartLemmas.{part-byte}
-use Rattle.sudo_verdict.proofs.UserMarking.{never}
+use Rattle.sudo_verdict.proofs.UserNumbers.{never}
 
 -- a character that is not special is a part of its own, which fits its byte
 parts-literal : (c : Ch) (cs : List Ch) → (is_plain 42 c || (is_plain 63 c || is_plain 91 c)) ≡ false → parts (c ∷ cs) ≡ One (Only c.byte) ∷ parts cs

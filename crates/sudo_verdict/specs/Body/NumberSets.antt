@@ -7,12 +7,12 @@ use Rattle.std.specs.List.{list_all}
 use Rattle.sudo_match.specs.declared.people.Person.{Person}
 use Rattle.sudo_match.specs.declared.people.Group.{Group}
 use Rattle.sudo_policy.specs.Definitions.{alias_named}
-use Rattle.sudo_verdict.specs.declared.keys.Keys.{Keys as TheKeys}
-use Rattle.sudo_verdict.specs.Postings.{bit, next_number, bucket_of, whole_seed, beginning_seed, user_bucket, group_number, uid_number, gid_number, atom_number, policy_keys}
+use Rattle.sudo_verdict.specs.declared.atom_numbers.AtomNumbers.{AtomNumbers as TheAtomNumbers}
+use Rattle.sudo_verdict.specs.Postings.{bit, next_number, bucket_of, whole_seed, beginning_seed, user_bucket, group_number, uid_number, gid_number, atom_number, policy_numbers}
 
 -- the set has the number
-abbrev pub marked : List ℕ → ℕ → Bool
-marked words number = bit words (number % 1024) == 1
+abbrev pub set_has : List ℕ → ℕ → Bool
+set_has words number = bit words (number % 1024) == 1
 
 -- no number of a beginning of the bytes is one of those; `number` is that of the bytes before them
 unfoldable pub lacks_beginnings : (ℕ → Bool) → ℕ → List ℕ → Bool
@@ -45,11 +45,11 @@ abbrev pub IsPassedAt : (Atom → Bool) → Option ℕ → Type 0
 IsPassedAt test None = ⊥
 IsPassedAt test (Some number) = IsPassed test number
 
--- each key is that of the member at its index
-abbrev pub HaveKeys : List ℕ → List Member → Type 0
-HaveKeys keys members =
-    (i n : ℕ) (m : Member) → slice_get keys i ≡ Some n → slice_get members i ≡ Some m → atom_number m.atom ≡ n
+-- each number is that of the member at its index
+abbrev pub HaveNumbers : List ℕ → List Member → Type 0
+HaveNumbers atom_numbers members =
+    (i n : ℕ) (m : Member) → slice_get atom_numbers i ≡ Some n → slice_get members i ≡ Some m → atom_number m.atom ≡ n
 
--- the keys, if there are any, are those of the policy
-abbrev pub AreKeysOf : Policy → Option TheKeys → Type 0
-AreKeysOf p keys = (k : TheKeys) → keys ≡ Some k → k.rows ≡ policy_keys p
+-- the numbers, if there are any, are those of the policy
+abbrev pub AreNumbersOf : Policy → Option TheAtomNumbers → Type 0
+AreNumbersOf p atom_numbers = (k : TheAtomNumbers) → atom_numbers ≡ Some k → k.rows ≡ policy_numbers p

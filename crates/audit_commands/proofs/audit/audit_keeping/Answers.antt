@@ -3,7 +3,7 @@ use Rattle.audit_commands.specs.Auditing.{Given, IsAudited, IsNotAudited}
 use Rattle.audit_commands.specs.Endings.{writer_states as sent}
 use Rattle.audit_commands.proofs.AuditSteps.{not_checked}
 use Rattle.audit_commands.proofs.EndingLemmas.{run_ends}
-use Rattle.audit_commands.proofs.audit.audit_into.Goals as goal
+use Rattle.audit_commands.proofs.audit.audit_keeping.Goals as goal
 
 pub returns-in-Err-clause-ends : goal.returns-in-Err-clause-ends
 returns-in-Err-clause-ends g c =
