@@ -10,7 +10,7 @@ use Rattle.csv.specs.declared.parser.State.{State}
 use Rattle.csv.specs.declared.parser.State.TheVariants as st
 use Rattle.csv.specs.declared.parser.Action.TheVariants as act
 use Rattle.audit_files.specs.Rows.{Fields, records_of}
-use Rattle.audit_files.specs.Body.Plain.{IsFieldBefore, is_plain}
+use Rattle.audit_files.specs.Body.Plain.{IsFieldBefore, is_field_byte}
 use Rattle.audit_files.proofs.Left.{enough, left_more}
 use Rattle.sudo_text.proofs.Reaching.{both}
 
@@ -24,7 +24,7 @@ others false false false false e = (refl, refl, refl, refl)
 
 -- a plain byte is copied, in a field and at its start
 abbrev Copies : State → Type 0
-Copies s = (b : ℕ) → is_plain b ≡ true → step default_config s b ≡ (st.InField, act.Copy)
+Copies s = (b : ℕ) → is_field_byte b ≡ true → step default_config s b ≡ (st.InField, act.Copy)
 
 in_field : Copies st.InField
 in_field b e = let (comma, quote, return, feed) = others (b == 44) (b == 34) (b == 13) (b == 10) e in rw (comma, return, feed) refl
@@ -36,32 +36,32 @@ at_record : Copies st.StartRecord
 at_record b e = let (comma, quote, return, feed) = others (b == 44) (b == 34) (b == 13) (b == 10) e in rw (return, feed, quote, comma) refl
 
 -- plain bytes join the field at hand
-joins : (fields : Fields) (front field rest : List ℕ) → list_all is_plain field ≡ true
+joins : (fields : Fields) (front field rest : List ℕ) → list_all is_field_byte field ≡ true
     → next_record default_config st.InField fields front (field ++ rest) ≡ next_record default_config st.InField fields (front ++ field) rest
 unfolding next_record
 joins fields front [] rest e = ap (λ (f : List ℕ). next_record default_config st.InField fields f rest) (sym (append-nil front))
 joins fields front (b ∷ field) rest e =
-    let (here, later) = both (is_plain b) (list_all is_plain field) e in
+    let (here, later) = both (is_field_byte b) (list_all is_field_byte field) e in
     let copy = in_field b here in
     rw copy (joins fields (front ++ b ∷ []) field rest later ∙ ap (λ (f : List ℕ). next_record default_config st.InField fields f rest) (append_assoc front (b ∷ []) field))
 
 -- a plain field before a comma
-before_comma : (s : State) (fields : Fields) (field rest : List ℕ) → Copies s → step default_config s 44 ≡ (st.StartField, act.EndField) → list_all is_plain field ≡ true
+before_comma : (s : State) (fields : Fields) (field rest : List ℕ) → Copies s → step default_config s 44 ≡ (st.StartField, act.EndField) → list_all is_field_byte field ≡ true
     → next_record default_config s fields [] (field ++ 44 ∷ rest) ≡ next_record default_config st.StartField (fields ++ field ∷ []) [] rest
 unfolding next_record
 before_comma s fields [] rest copies ends e = rw ends refl
 before_comma s fields (b ∷ field) rest copies ends e =
-    let (here, later) = both (is_plain b) (list_all is_plain field) e in
+    let (here, later) = both (is_field_byte b) (list_all is_field_byte field) e in
     let copy = copies b here in
     rw copy (joins fields (b ∷ []) field (44 ∷ rest) later)
 
 -- a plain field at the end of a line
-before_feed : (fields : Fields) (field rest : List ℕ) → list_all is_plain field ≡ true
+before_feed : (fields : Fields) (field rest : List ℕ) → list_all is_field_byte field ≡ true
     → next_record default_config st.StartField fields [] (field ++ 10 ∷ rest) ≡ Some (fields ++ field ∷ [], st.StartRecord, rest)
 unfolding next_record
 before_feed fields [] rest e = refl
 before_feed fields (b ∷ field) rest e =
-    let (here, later) = both (is_plain b) (list_all is_plain field) e in
+    let (here, later) = both (is_field_byte b) (list_all is_field_byte field) e in
     let copy = at_field b here in
     rw copy (joins fields (b ∷ []) field (10 ∷ rest) later)
 

@@ -4,13 +4,13 @@ ghost use Rattle.std.specs.List.{list_all};
 ghost use Rattle.csv.specs.Reading.{default_config, records};
 ghost use Rattle.audit_files.specs.Requests.{fields_in};
 ghost use Rattle.audit_files.specs.Rows.{records_of};
-ghost use Rattle.audit_files.specs.Body.Plain.{IsFieldBefore, is_plain as plain_test};
+ghost use Rattle.audit_files.specs.Body.Plain.{IsFieldBefore, is_field_byte as field_test};
 
 use crate::requests::RequestRow;
 
 // Whether a byte stands for itself within a field: it is no comma, quote or end of a line.
-fn is_plain(byte: u8) -> bool
-    ensures { result ≡ plain_test byte }
+fn is_field_byte(byte: u8) -> bool
+    ensures { result ≡ field_test byte }
 {
     byte != b',' && byte != b'"' && byte != b'\r' && byte != b'\n'
 }
@@ -18,10 +18,10 @@ fn is_plain(byte: u8) -> bool
 // Returns how many plain bytes a text begins with.
 fn plain_bytes(text: &[u8]) -> usize
     ensures within { result ≤ length text.now }
-    ensures plain { list_all plain_test (take result text.now) ≡ true }
+    ensures plain { list_all field_test (take result text.now) ≡ true }
 {
     for (at, byte) in text.iter().enumerate() {
-        if !is_plain(*byte) {
+        if !is_field_byte(*byte) {
             return at;
         }
     }
