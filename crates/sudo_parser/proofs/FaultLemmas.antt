@@ -46,14 +46,6 @@ grammar_fault room line (t ∷ ts) refusal left fault spelled some (stop, (is, (
       is = e ∙ (λ i. fault_at line.first (column line (end i)) (sym why i));
     })
 
--- The same, of what the code has of the tokens.
-pub grammar_fault_of : (room : Room) (line : Line) (ts us vs : List Token) (refusal : Refusal) (left : ℕ) (fault : ParseFault)
-    → us ≡ ts → vs ≡ ts → spells line ts ≡ true → (ts ≡ [] → ⊥) → HasGrammarFault room us (stops.At refusal left)
-    → fault ≡ fault_at line.first (column line (drop (length vs - left) vs)) refusal → IsLineFault room line fault
-grammar_fault_of room line ts us vs refusal left fault u v spelled some stopped e =
-    grammar_fault room line ts refusal left fault spelled some (subst (λ xs. HasGrammarFault room xs (stops.At refusal left)) u stopped)
-    (e ∙ ap (λ xs. fault_at line.first (column line (drop (length xs - left) xs)) refusal) v)
-
 -- What a line's tokens write is what it says.
 pub says_entry : (room : Room) (line : Line) (ts us : List Token) (body : EntryBody) → spells line ts ≡ true
     → (ts ≡ [] → ⊥) → us ≡ ts → WritesWithin room body us → IsEntryOf room line (Some body)

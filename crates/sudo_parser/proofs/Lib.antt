@@ -1,4 +1,5 @@
 pub mod Digits
+pub mod UnreadLemmas
 pub mod Steps
 pub mod ListSteps
 pub mod AliasSteps

@@ -8,3 +8,4 @@ pub mod Openings
 pub mod Rules
 pub mod Runas
 pub mod Stops
+pub mod Unread

@@ -1,14 +1,16 @@
 //! Defaults lines: their bindings and their parameters.
-ghost use Rattle.std.specs.Prelude.{◌≡◌, ◌^◌, ◌<◌, ◌==◌, length, IfOk, IfErr, MatchOption};
+ghost use Rattle.std.specs.Prelude.{◌≡◌, ◌^◌, ◌<◌, ◌==◌, drop, length, IfOk, IfErr, IfSome, MatchOption};
 ghost use Rattle.sudo_grammar.specs.Openings.{is_direct, kind_of_mark, operator_of};
 ghost use Rattle.sudo_grammar.specs.States.{Room, DefaultsStart, bound_to};
 ghost use Rattle.sudo_grammar.specs.Reading.{reading};
 ghost use Rattle.sudo_parser.specs.Body.Stops.{GivesEntry};
 ghost use Rattle.sudo_parser.specs.Body.Defaults.{ReadsBinding, StopsInBinding, IsWordNext, IsWordMissing, IsOperatorNext, IsNoOperatorNext, ReadsParameter, StopsInParameter, ReadsParameters, StopsInParameters};
+ghost use Rattle.sudo_parser.specs.Body.Unread.{tokens_left};
 
 use crate::lists::members;
 use crate::stops::{ParserStop, wants};
-use crate::tokens::{after_mark, bangs, copy_of, first_token};
+use crate::tokens::first_token;
+use crate::unread::Unread;
 use std::alloc::Global;
 use sudo_grammar::{Binding, EntryBody, Expected, Kind, Member, Operator, Parameter};
 use sudo_text::{Mark, Seq, Token, TokenKind};
@@ -41,41 +43,44 @@ fn bound(kind: Kind, members: Seq<Member>) -> Binding
     }
 }
 
-// Reads the binding of a line, if any, and returns the tokens after it.
-fn binding(alloc: Global, tokens: &[Token]) -> Result<(Option<Binding>, &[Token]), ParserStop>
-    requires { length tokens.now < 2 ^ 32 }
-    ensures reads { IfOk result (λ r. ReadsBinding tokens.now r.0 r.1.now) }
-    ensures stops { IfErr result (StopsInBinding tokens.now) }
+// Reads the binding of a line, if any.
+fn binding(alloc: Global, unread: &mut Unread) -> Result<Option<Binding>, ParserStop>
+    requires { length (tokens_left unread.old) < 2 ^ 32 }
+    ensures reads { IfOk result
+        (λ b. ReadsBinding (tokens_left unread.old) b (tokens_left unread.new)) }
+    ensures stops { IfErr result (StopsInBinding (tokens_left unread.old)) }
 {
-    let (first, rest) = match first_token(tokens) {
-        Some(found) => found,
-        None => return Ok((None, tokens)),
+    let first = match first_token(unread.as_slice()) {
+        Some((first, _)) => first,
+        None => return Ok(None),
     };
     if first.start != DEFAULTS_LEN {
-        return Ok((None, tokens));
+        return Ok(None);
     }
     let kind = match bound_kind(&first.kind) {
         Some(kind) => kind,
-        None => return Err(wants(Expected::Parameter, tokens.len())),
+        None => return Err(wants(Expected::Parameter, unread.len())),
     };
-    let (members, after) = members(alloc, kind, rest)?;
-    Ok((Some(bound(kind, members)), after))
+    unread.skip(1);
+    let members = members(alloc, kind, unread)?;
+    Ok(Some(bound(kind, members)))
 }
 
-// Reads a word, and returns the tokens after it.
-fn word(
-    alloc: Global,
-    expected: Expected,
-    tokens: &[Token],
-) -> Result<(Token, &[Token]), ParserStop>
-    ensures reads { IfOk result (λ r. IsWordNext tokens.now r.0 r.1.now) }
-    ensures stops { IfErr result (IsWordMissing expected tokens.now) }
+// Reads a word.
+fn word(expected: Expected, unread: &mut Unread) -> Result<Token, ParserStop>
+    ensures reads { IfOk result
+        (λ w. IsWordNext (tokens_left unread.old) w (tokens_left unread.new)) }
+    ensures stops { IfErr result (IsWordMissing expected (tokens_left unread.old)) }
 {
-    match first_token(tokens) {
-        Some((first, rest)) => match &first.kind {
-            TokenKind::Word { .. } => Ok((copy_of(alloc, first)?, rest)),
-            _ => Err(wants(expected, tokens.len())),
-        },
+    let left = unread.len();
+    match unread.next() {
+        Some(token) => {
+            if matches!(&token.kind, TokenKind::Word { .. }) {
+                Ok(token)
+            } else {
+                Err(wants(expected, left))
+            }
+        }
         None => Err(wants(expected, 0)),
     }
 }
@@ -92,78 +97,71 @@ fn operator_named(token: &TokenKind) -> Option<Operator>
     }
 }
 
-// Reads an operator, if it comes next, and returns the tokens after it.
-fn next_operator(tokens: &[Token]) -> Option<(Operator, &[Token])>
-    ensures { MatchOption result (IsNoOperatorNext tokens.now)
-        (λ r. IsOperatorNext tokens.now r.0 r.1.now) }
+// Returns the operator that comes next, if any.
+fn next_operator(tokens: &[Token]) -> Option<Operator>
+    ensures operator { MatchOption result (IsNoOperatorNext tokens.now)
+        (λ o. IsOperatorNext tokens.now o (drop 1 tokens.now)) }
+    ensures some { IfSome result (λ _. 0 < length tokens.now) }
 {
     match first_token(tokens) {
-        Some((first, rest)) => match operator_named(&first.kind) {
-            Some(operator) => Some((operator, rest)),
-            None => None,
-        },
+        Some((first, _)) => operator_named(&first.kind),
         None => None,
     }
 }
 
-// Reads a parameter, and returns the tokens after it.
-fn parameter(alloc: Global, tokens: &[Token]) -> Result<(Parameter, &[Token]), ParserStop>
-    requires { length tokens.now < 2 ^ 32 }
-    ensures reads { IfOk result (λ r. ReadsParameter tokens.now r.0 r.1.now) }
-    ensures stops { IfErr result (StopsInParameter tokens.now) }
+// Reads a parameter.
+fn parameter(unread: &mut Unread) -> Result<Parameter, ParserStop>
+    requires { length (tokens_left unread.old) < 2 ^ 32 }
+    ensures reads { IfOk result
+        (λ x. ReadsParameter (tokens_left unread.old) x (tokens_left unread.new)) }
+    ensures stops { IfErr result (StopsInParameter (tokens_left unread.old)) }
 {
-    let (bangs, named) = bangs(tokens);
-    let (name, after) = word(alloc, Expected::Parameter, named)?;
+    let bangs = unread.take_bangs();
+    let name = word(Expected::Parameter, unread)?;
     if bangs != 0 {
-        return Ok((Parameter::Switch { bangs, name }, after));
+        return Ok(Parameter::Switch { bangs, name });
     }
-    match next_operator(after) {
-        None => Ok((Parameter::Switch { bangs, name }, after)),
-        Some((operator, valued)) => {
-            let (value, rest) = word(alloc, Expected::Value, valued)?;
-            Ok((
-                Parameter::Assign {
-                    name,
-                    operator,
-                    value,
-                },
-                rest,
-            ))
+    match next_operator(unread.as_slice()) {
+        None => Ok(Parameter::Switch { bangs, name }),
+        Some(operator) => {
+            unread.skip(1);
+            let value = word(Expected::Value, unread)?;
+            Ok(Parameter::Assign {
+                name,
+                operator,
+                value,
+            })
         }
     }
 }
 
 // Reads the parameters of a line, up to its end.
-fn parameters(alloc: Global, tokens: &[Token]) -> Result<Seq<Parameter>, ParserStop>
-    requires { length tokens.now < 2 ^ 32 }
-    ensures reads { IfOk result (ReadsParameters tokens.now) }
-    ensures stops { IfErr result (StopsInParameters tokens.now) }
+fn parameters(alloc: Global, unread: &mut Unread) -> Result<Seq<Parameter>, ParserStop>
+    requires { length (tokens_left unread.old) < 2 ^ 32 }
+    ensures reads { IfOk result (ReadsParameters (tokens_left unread.old)) }
+    ensures stops { IfErr result (StopsInParameters (tokens_left unread.old)) }
 {
     let mut parameters = Seq::new(alloc);
-    let mut rest = tokens;
     'parameters: loop {
-        let (parameter, after) = parameter(alloc, rest)?;
+        let parameter = parameter(unread)?;
         parameters.push(parameter)?;
-        match after_mark(after, Mark::Comma) {
-            Some(next) => rest = next,
-            None => {
-                return if after.is_empty() {
-                    Ok(parameters)
-                } else {
-                    Err(wants(Expected::EndOfLine, after.len()))
-                };
-            }
+        if !unread.take_mark(Mark::Comma) {
+            return match unread.len() {
+                0 => Ok(parameters),
+                left => Err(wants(Expected::EndOfLine, left)),
+            };
         }
     }
 }
 
 /// Reads a Defaults line, after its first word.
-pub(crate) fn defaults(alloc: Global, tokens: &[Token]) -> Result<EntryBody, ParserStop>
-    requires { length tokens.now < 2 ^ 32 }
-    ensures { (room : Room) → GivesEntry result (reading room DefaultsStart tokens.now) }
+pub(crate) fn defaults(alloc: Global, unread: &mut Unread) -> Result<EntryBody, ParserStop>
+    requires { length (tokens_left unread.old) < 2 ^ 32 }
+    ensures { (room : Room)
+        → GivesEntry result (reading room DefaultsStart (tokens_left unread.old)) }
 {
-    let (binding, listed) = binding(alloc, tokens)?;
-    let parameters = parameters(alloc, listed)?;
+    let binding = binding(alloc, unread)?;
+    let parameters = parameters(alloc, unread)?;
     Ok(EntryBody::Defaults {
         binding,
         parameters,

@@ -15,6 +15,7 @@ mod rules;
 mod runas;
 mod stops;
 mod tokens;
+mod unread;
 mod words;
 mod writing;
 

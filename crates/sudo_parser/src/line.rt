@@ -14,6 +14,7 @@ ghost use Rattle.sudo_parser.specs.Body.Stops.{GivesEntry};
 ghost use Rattle.sudo_parser.specs.Body.Openings.{opening_view, IsInclude};
 ghost use Rattle.sudo_parser.specs.Limits.{room_of};
 ghost use Rattle.sudo_parser.specs.Body.Faults.{HasGrammarFault};
+ghost use Rattle.sudo_parser.specs.Body.Unread.{tokens_left};
 
 use crate::aliases::aliases;
 use crate::defaults::defaults;
@@ -21,6 +22,7 @@ use crate::room::Room;
 use crate::rules::rule;
 use crate::stops::{ParserStop, wants};
 use crate::tokens::first_token;
+use crate::unread::Unread;
 use crate::words::{is_unescaped, spells};
 use std::alloc::Global;
 use sudo_grammar::{EntryBody, Expected, Kind, Refusal, Unsupported};
@@ -126,34 +128,45 @@ fn include(
 }
 
 // Reads a line's tokens as an entry, or stops at the first of them that cannot continue the line.
-fn read(alloc: Global, room: &Room, tokens: &[Token]) -> Result<EntryBody, ParserStop>
-    requires { length tokens.now < 2 ^ 32 }
-    ensures { GivesEntry result (reading (room_of room.now) Start tokens.now) }
+fn read(alloc: Global, room: &Room, unread: &mut Unread) -> Result<EntryBody, ParserStop>
+    requires { length (tokens_left unread.old) < 2 ^ 32 }
+    ensures { GivesEntry result (reading (room_of room.now) Start (tokens_left unread.old)) }
 {
-    let (first, rest) = match first_token(tokens) {
+    let (first, rest) = match first_token(unread.as_slice()) {
         Some(found) => found,
         None => return Err(wants(Expected::Member, 0)),
     };
     match &first.kind {
         TokenKind::Include { folder, hash, path } => {
-            include(alloc, *folder, *hash, path, tokens.len(), rest)
+            include(alloc, *folder, *hash, path, unread.len(), rest)
         }
         kind => match first_opening(kind) {
-            Opening::Aliases(kind) => aliases(alloc, kind, room.of_kind(kind), rest),
-            Opening::Defaults => defaults(alloc, rest),
-            Opening::Rule => rule(alloc, tokens),
+            Opening::Aliases(kind) => {
+                unread.skip(1);
+                aliases(alloc, kind, room.of_kind(kind), unread)
+            }
+            Opening::Defaults => {
+                unread.skip(1);
+                defaults(alloc, unread)
+            }
+            Opening::Rule => rule(alloc, unread),
         },
     }
 }
 
 /// Returns the entry of which the tokens are a written form, within the room for definitions; otherwise the line's
 /// grammar fault.
-pub(crate) fn entry(alloc: Global, room: &Room, tokens: &[Token]) -> Result<EntryBody, ParserStop>
-    requires { length tokens.now < 2 ^ 32 }
-    ensures written { IfOk result (λ e. WritesWithin (room_of room.now) e tokens.now) }
-    ensures only { (e : EntryBody) → WritesWithin (room_of room.now) e tokens.now
+pub(crate) fn entry(
+    alloc: Global,
+    room: &Room,
+    unread: &mut Unread,
+) -> Result<EntryBody, ParserStop>
+    requires { length (tokens_left unread.old) < 2 ^ 32 }
+    ensures written { IfOk result
+        (λ e. WritesWithin (room_of room.now) e (tokens_left unread.old)) }
+    ensures only { (e : EntryBody) → WritesWithin (room_of room.now) e (tokens_left unread.old)
         → GivesEntry result (Ok e) }
-    ensures fault { IfErr result (HasGrammarFault (room_of room.now) tokens.now) }
+    ensures fault { IfErr result (HasGrammarFault (room_of room.now) (tokens_left unread.old)) }
 {
-    read(alloc, room, tokens)
+    read(alloc, room, unread)
 }

@@ -3,13 +3,13 @@ ghost use Rattle.std.specs.Prelude.{◌≡◌, ◌^◌, ◌<◌, length, IfOk, I
 ghost use Rattle.sudo_grammar.specs.Refusals as refusals;
 ghost use Rattle.sudo_parser.specs.Body.Stops.{IsNotNext};
 ghost use Rattle.sudo_parser.specs.Body.Lists.{option_begins, IsTaken, StopsAtMember, ReadsItem, StopsInItem, ReadsItems, StopsInItems, stop_of_member};
+ghost use Rattle.sudo_parser.specs.Body.Unread.{tokens_left};
 
 use crate::likely::{empty_list, likely_members};
 use crate::members::{MemberFault, atom, expected};
 use crate::stops::{ParserStop, wants};
-use crate::tokens::{
-    after_mark, bangs, colon_comes, colon_comes_at, copy_of, equals_comes, first_token,
-};
+use crate::tokens::{colon_comes, colon_comes_at, equals_comes};
+use crate::unread::Unread;
 use crate::words::{is_digest, is_option, is_percent};
 use std::alloc::Global;
 use sudo_grammar::{Kind, Member, Refusal, Unsupported};
@@ -68,68 +68,61 @@ fn begins_option(kind: Kind, token: &Token, rest: &[Token]) -> bool
     }
 }
 
-// Reads the first token as a member after `bangs` exclamation marks, and returns the tokens after it.
-fn member(
-    alloc: Global,
-    kind: Kind,
-    bangs: u32,
-    tokens: &[Token],
-) -> Result<(Member, &[Token]), ParserStop>
-    requires { IsNotNext Mark.Bang tokens.now }
-    ensures reads { IfOk result (λ r. IsTaken kind bangs tokens.now r.0 r.1.now) }
-    ensures stops { IfErr result (StopsAtMember kind bangs tokens.now) }
+// Reads the next token as a member after `bangs` exclamation marks.
+fn member(alloc: Global, kind: Kind, bangs: u32, unread: &mut Unread) -> Result<Member, ParserStop>
+    requires { IsNotNext Mark.Bang (tokens_left unread.old) }
+    ensures reads { IfOk result
+        (λ m. IsTaken kind bangs (tokens_left unread.old) m (tokens_left unread.new)) }
+    ensures stops { IfErr result (StopsAtMember kind bangs (tokens_left unread.old)) }
 {
-    match first_token(tokens) {
+    let left = unread.len();
+    match unread.next() {
         None => Err(wants(expected(kind), 0)),
-        Some((first, rest)) => {
-            let atom = match atom(alloc, kind, &first.kind) {
+        Some(token) => {
+            let rest = unread.as_slice();
+            let atom = match atom(alloc, kind, &token.kind) {
                 Ok(atom) => atom,
-                Err(e) => return Err(member_stop(kind, first, rest, e, tokens.len())),
+                Err(e) => return Err(member_stop(kind, &token, rest, e, left)),
             };
-            if begins_option(kind, first, rest) {
+            if begins_option(kind, &token, rest) {
                 return Err(ParserStop::At {
                     refusal: Refusal::Unsupported(Unsupported::CommandOption),
                     left: rest.len(),
                 });
             }
-            let token = copy_of(alloc, first)?;
-            Ok((Member { bangs, token, atom }, rest))
+            Ok(Member { bangs, token, atom })
         }
     }
 }
 
-/// Reads one member with the exclamation marks before it, and returns the tokens after it.
-pub(crate) fn item(
-    alloc: Global,
-    kind: Kind,
-    tokens: &[Token],
-) -> Result<(Member, &[Token]), ParserStop>
-    requires { length tokens.now < 2 ^ 32 }
-    ensures reads { IfOk result (λ r. ReadsItem kind tokens.now r.0 r.1.now) }
-    ensures stops { IfErr result (StopsInItem kind tokens.now) }
+/// Reads one member with the exclamation marks before it.
+pub(crate) fn item(alloc: Global, kind: Kind, unread: &mut Unread) -> Result<Member, ParserStop>
+    requires { length (tokens_left unread.old) < 2 ^ 32 }
+    ensures reads { IfOk result
+        (λ m. ReadsItem kind (tokens_left unread.old) m (tokens_left unread.new)) }
+    ensures stops { IfErr result (StopsInItem kind (tokens_left unread.old)) }
 {
-    let (count, rest) = bangs(tokens);
-    member(alloc, kind, count, rest)
+    let bangs = unread.take_bangs();
+    member(alloc, kind, bangs, unread)
 }
 
-/// Reads a list of a kind, and returns the tokens after it.
+/// Reads a list of a kind.
 pub(crate) fn members(
     alloc: Global,
     kind: Kind,
-    tokens: &[Token],
-) -> Result<(Seq<Member>, &[Token]), ParserStop>
-    requires { length tokens.now < 2 ^ 32 }
-    ensures reads { IfOk result (λ r. ReadsItems kind tokens.now r.0 r.1.now) }
-    ensures stops { IfErr result (StopsInItems kind tokens.now) }
+    unread: &mut Unread,
+) -> Result<Seq<Member>, ParserStop>
+    requires { length (tokens_left unread.old) < 2 ^ 32 }
+    ensures reads { IfOk result
+        (λ ms. ReadsItems kind (tokens_left unread.old) ms (tokens_left unread.new)) }
+    ensures stops { IfErr result (StopsInItems kind (tokens_left unread.old)) }
 {
-    let mut members = empty_list(alloc, likely_members(tokens))?;
-    let mut rest = tokens;
+    let mut members = empty_list(alloc, likely_members(unread.as_slice()))?;
     'items: loop {
-        let (member, after) = item(alloc, kind, rest)?;
+        let member = item(alloc, kind, unread)?;
         members.push(member)?;
-        match after_mark(after, Mark::Comma) {
-            Some(next) => rest = next,
-            None => return Ok((members, after)),
+        if !unread.take_mark(Mark::Comma) {
+            return Ok(members);
         }
     }
 }

@@ -10,6 +10,7 @@ ghost use Rattle.sudo_parser.specs.Parsed.{room_after, IsEntryOf, entry_of, AreE
 use crate::line::entry;
 use crate::room::Room;
 use crate::stops::ParserStop;
+use crate::unread::Unread;
 use std::alloc::Global;
 use sudo_grammar::{Entry, EntryBody, ParseFault, Refusal};
 use sudo_text::{Line, Place, Seq, TEXT_LIMIT, TextFault, Token, tokens};
@@ -59,6 +60,20 @@ fn refused(line: &Line, tokens: &[Token], refusal: Refusal, left: usize) -> Pars
     }
 }
 
+// Returns the fault of a line that is refused with `left` tokens left. Splits the line again, since its tokens are taken.
+fn refused_line(alloc: Global, line: &Line, refusal: Refusal, left: usize) -> ParseFault
+    requires short { length line.now.text ≤ TEXT_LIMIT }
+    requires left { (ts : List Token) → spells line.now ts ≡ true → left ≤ length ts }
+    ensures { result ≢ ParseFault.Memory → (ts : List Token) → spells line.now ts ≡ true
+        → result ≡ spec.fault_at line.now.first
+        (spec.column line.now (drop (length ts - left) ts)) refusal }
+{
+    match tokens(alloc, line) {
+        Ok(tokens) => refused(line, &tokens, refusal, left),
+        Err(fault) => text_fault(fault),
+    }
+}
+
 // Reads a line: returns no entry if it has no tokens, and otherwise its entry.
 fn line_entry(alloc: Global, room: &Room, line: &Line) -> Result<Option<EntryBody>, ParseFault>
     requires { length line.now.text ≤ TEXT_LIMIT }
@@ -75,9 +90,9 @@ fn line_entry(alloc: Global, room: &Room, line: &Line) -> Result<Option<EntryBod
     if tokens.is_empty() {
         return Ok(None);
     }
-    match entry(alloc, room, &tokens) {
+    match entry(alloc, room, &mut Unread::new(tokens)) {
         Ok(body) => Ok(Some(body)),
-        Err(ParserStop::At { refusal, left }) => Err(refused(line, &tokens, refusal, left)),
+        Err(ParserStop::At { refusal, left }) => Err(refused_line(alloc, line, refusal, left)),
         Err(ParserStop::Memory) => Err(ParseFault::Memory),
     }
 }

@@ -1,138 +1,130 @@
 //! Rules: who may run which commands on which hosts.
-ghost use Rattle.std.specs.Prelude.{◌≡◌, ◌^◌, ◌<◌, [], length, IfOk, IfErr, MatchOption};
+ghost use Rattle.std.specs.Prelude.{◌≡◌, ◌^◌, ◌<◌, ◌≤◌, [], drop, length, IfSome, IfOk, IfErr, MatchOption};
 ghost use Rattle.sudo_grammar.specs.States.{Room, Users, Item};
 ghost use Rattle.sudo_grammar.specs.Reading.{reading};
 ghost use Rattle.sudo_parser.specs.Body.Stops.{GivesEntry};
 ghost use Rattle.sudo_parser.specs.Body.Rules.{IsTagNext, IsNoTagNext, ReadsTags, ReadsSpec, StopsInSpec, ReadsSpecs, StopsInSpecs, ReadsSection, StopsInSection, ReadsSections, StopsInSections};
+ghost use Rattle.sudo_parser.specs.Body.Unread.{tokens_left};
 
 use crate::likely::{empty_list, likely_commands, likely_parts};
 use crate::lists::{item, members};
 use crate::runas::runas;
 use crate::stops::{ParserStop, wants};
-use crate::tokens::{after_mark, first_token};
+use crate::tokens::{first_token, is_next};
+use crate::unread::Unread;
 use crate::words::tag;
 use std::alloc::{AllocError, Global};
 use sudo_grammar::{CommandSpec, EntryBody, Expected, Kind, Section, Tag};
 use sudo_text::{Mark, Seq, Token};
 
-/// Returns the tag that comes next with a colon after it, if any, and the tokens after the colon.
-fn next_tag(alloc: Global, tokens: &[Token]) -> Result<Option<(Tag, &[Token])>, AllocError>
-    ensures { IfOk result (λ r. MatchOption r (IsNoTagNext tokens.now)
-        (λ x. IsTagNext tokens.now x.0 x.1.now)) }
+// Returns the tag that comes next with a colon after it, if any.
+fn next_tag(alloc: Global, tokens: &[Token]) -> Result<Option<Tag>, AllocError>
+    ensures tag { IfOk result (λ r. MatchOption r (IsNoTagNext tokens.now)
+        (λ tag. IsTagNext tokens.now tag (drop 2 tokens.now))) }
+    ensures some { IfOk result (λ r. IfSome r (λ _. 2 ≤ length tokens.now)) }
 {
     let (first, rest) = match first_token(tokens) {
         Some(found) => found,
         None => return Ok(None),
     };
-    let after = match after_mark(rest, Mark::Colon) {
-        Some(after) => after,
-        None => return Ok(None),
-    };
-    match tag(alloc, &first.kind)? {
-        Some(tag) => Ok(Some((tag, after))),
-        None => Ok(None),
+    if !is_next(rest, Mark::Colon) {
+        return Ok(None);
     }
+    tag(alloc, &first.kind)
 }
 
-/// Returns the tags that come next, and the tokens after them.
-fn tags(alloc: Global, tokens: &[Token]) -> Result<(Seq<Tag>, &[Token]), AllocError>
-    ensures { IfOk result (λ r. ReadsTags tokens.now r.0 r.1.now) }
+// Reads the tags that come next.
+fn tags(alloc: Global, unread: &mut Unread) -> Result<Seq<Tag>, AllocError>
+    ensures { IfOk result
+        (λ tags. ReadsTags (tokens_left unread.old) tags (tokens_left unread.new)) }
 {
     let mut tags = Seq::new(alloc);
-    let mut rest = tokens;
     'tags: loop {
-        match next_tag(alloc, rest)? {
-            Some((tag, after)) => {
+        match next_tag(alloc, unread.as_slice())? {
+            Some(tag) => {
+                unread.skip(2);
                 tags.push(tag)?;
-                rest = after;
             }
-            None => return Ok((tags, rest)),
+            None => return Ok(tags),
         }
     }
 }
 
-// Reads a command with its runas and tags, and returns the tokens after it.
-fn spec(alloc: Global, tokens: &[Token]) -> Result<(CommandSpec, &[Token]), ParserStop>
-    requires { length tokens.now < 2 ^ 32 }
-    ensures reads { IfOk result (λ r. ReadsSpec tokens.now r.0 r.1.now) }
-    ensures stops { IfErr result (StopsInSpec tokens.now) }
+// Reads a command with its runas and tags.
+fn spec(alloc: Global, unread: &mut Unread) -> Result<CommandSpec, ParserStop>
+    requires { length (tokens_left unread.old) < 2 ^ 32 }
+    ensures reads { IfOk result
+        (λ s. ReadsSpec (tokens_left unread.old) s (tokens_left unread.new)) }
+    ensures stops { IfErr result (StopsInSpec (tokens_left unread.old)) }
 {
-    let (runas, tagged) = runas(alloc, tokens)?;
-    let (tags, listed) = tags(alloc, tagged)?;
-    let (command, rest) = item(alloc, Kind::Cmnd, listed)?;
-    Ok((
-        CommandSpec {
-            runas,
-            tags,
-            command,
-        },
-        rest,
-    ))
+    let runas = runas(alloc, unread)?;
+    let tags = tags(alloc, unread)?;
+    let command = item(alloc, Kind::Cmnd, unread)?;
+    Ok(CommandSpec {
+        runas,
+        tags,
+        command,
+    })
 }
 
-// Reads the commands of a section, and returns the tokens after them.
-fn specs(alloc: Global, tokens: &[Token]) -> Result<(Seq<CommandSpec>, &[Token]), ParserStop>
-    requires { length tokens.now < 2 ^ 32 }
-    ensures reads { IfOk result (λ r. ReadsSpecs tokens.now r.0 r.1.now) }
-    ensures stops { IfErr result (StopsInSpecs tokens.now) }
+// Reads the commands of a section.
+fn specs(alloc: Global, unread: &mut Unread) -> Result<Seq<CommandSpec>, ParserStop>
+    requires { length (tokens_left unread.old) < 2 ^ 32 }
+    ensures reads { IfOk result
+        (λ cs. ReadsSpecs (tokens_left unread.old) cs (tokens_left unread.new)) }
+    ensures stops { IfErr result (StopsInSpecs (tokens_left unread.old)) }
 {
-    let mut specs = empty_list(alloc, likely_commands(tokens))?;
-    let mut rest = tokens;
+    let mut specs = empty_list(alloc, likely_commands(unread.as_slice()))?;
     'specs: loop {
-        let (spec, after) = spec(alloc, rest)?;
+        let spec = spec(alloc, unread)?;
         specs.push(spec)?;
-        match after_mark(after, Mark::Comma) {
-            Some(next) => rest = next,
-            None => return Ok((specs, after)),
+        if !unread.take_mark(Mark::Comma) {
+            return Ok(specs);
         }
     }
 }
 
-// Reads a section: a list of hosts and the commands granted there. Returns the tokens after it.
-fn section(alloc: Global, tokens: &[Token]) -> Result<(Section, &[Token]), ParserStop>
-    requires { length tokens.now < 2 ^ 32 }
-    ensures reads { IfOk result (λ r. ReadsSection tokens.now r.0 r.1.now) }
-    ensures stops { IfErr result (StopsInSection tokens.now) }
+// Reads a section: a list of hosts and the commands granted there.
+fn section(alloc: Global, unread: &mut Unread) -> Result<Section, ParserStop>
+    requires { length (tokens_left unread.old) < 2 ^ 32 }
+    ensures reads { IfOk result
+        (λ s. ReadsSection (tokens_left unread.old) s (tokens_left unread.new)) }
+    ensures stops { IfErr result (StopsInSection (tokens_left unread.old)) }
 {
-    let (hosts, after) = members(alloc, Kind::Host, tokens)?;
-    let granted = match after_mark(after, Mark::Equals) {
-        Some(granted) => granted,
-        None => return Err(wants(Expected::Equals, after.len())),
-    };
-    let (commands, rest) = specs(alloc, granted)?;
-    Ok((Section { hosts, commands }, rest))
+    let hosts = members(alloc, Kind::Host, unread)?;
+    if !unread.take_mark(Mark::Equals) {
+        return Err(wants(Expected::Equals, unread.len()));
+    }
+    let commands = specs(alloc, unread)?;
+    Ok(Section { hosts, commands })
 }
 
 // Reads the sections of a rule, up to the end of its line.
-fn sections(alloc: Global, tokens: &[Token]) -> Result<Seq<Section>, ParserStop>
-    requires { length tokens.now < 2 ^ 32 }
-    ensures reads { IfOk result (ReadsSections tokens.now) }
-    ensures stops { IfErr result (StopsInSections tokens.now) }
+fn sections(alloc: Global, unread: &mut Unread) -> Result<Seq<Section>, ParserStop>
+    requires { length (tokens_left unread.old) < 2 ^ 32 }
+    ensures reads { IfOk result (ReadsSections (tokens_left unread.old)) }
+    ensures stops { IfErr result (StopsInSections (tokens_left unread.old)) }
 {
-    let mut sections = empty_list(alloc, likely_parts(tokens))?;
-    let mut rest = tokens;
+    let mut sections = empty_list(alloc, likely_parts(unread.as_slice()))?;
     'sections: loop {
-        let (section, after) = section(alloc, rest)?;
+        let section = section(alloc, unread)?;
         sections.push(section)?;
-        match after_mark(after, Mark::Colon) {
-            Some(next) => rest = next,
-            None => {
-                return if after.is_empty() {
-                    Ok(sections)
-                } else {
-                    Err(wants(Expected::EndOfLine, after.len()))
-                };
-            }
+        if !unread.take_mark(Mark::Colon) {
+            return match unread.len() {
+                0 => Ok(sections),
+                left => Err(wants(Expected::EndOfLine, left)),
+            };
         }
     }
 }
 
 /// Reads a rule: its users and its sections.
-pub(crate) fn rule(alloc: Global, tokens: &[Token]) -> Result<EntryBody, ParserStop>
-    requires { length tokens.now < 2 ^ 32 }
-    ensures { (room : Room) → GivesEntry result (reading room (Item Users 0 []) tokens.now) }
+pub(crate) fn rule(alloc: Global, unread: &mut Unread) -> Result<EntryBody, ParserStop>
+    requires { length (tokens_left unread.old) < 2 ^ 32 }
+    ensures { (room : Room)
+        → GivesEntry result (reading room (Item Users 0 []) (tokens_left unread.old)) }
 {
-    let (users, granted) = members(alloc, Kind::User, tokens)?;
-    let sections = sections(alloc, granted)?;
+    let users = members(alloc, Kind::User, unread)?;
+    let sections = sections(alloc, unread)?;
     Ok(EntryBody::Rule { users, sections })
 }

@@ -1,85 +1,75 @@
 //! The parentheses before a command: the users and groups that it may be run as.
 ghost use Rattle.std.specs.Prelude.{◌≡◌, ◌^◌, ◌<◌, length, IfOk, IfErr};
 ghost use Rattle.sudo_parser.specs.Body.Runas.{ReadsUsers, StopsInUsers, ReadsGroups, StopsInGroups, ReadsLists, ReadsRunas, StopsInRunas};
+ghost use Rattle.sudo_parser.specs.Body.Unread.{tokens_left};
 
 use crate::lists::members;
 use crate::stops::{ParserStop, wants};
-use crate::tokens::{after_mark, is_next};
+use crate::tokens::is_next;
+use crate::unread::Unread;
 use std::alloc::Global;
 use sudo_grammar::{Expected, Kind, Member, Runas};
-use sudo_text::{Mark, Seq, Token};
+use sudo_text::{Mark, Seq};
 
-// Reads the users, if any, and returns the tokens after them.
-fn runas_users(
-    alloc: Global,
-    tokens: &[Token],
-) -> Result<(Option<Seq<Member>>, &[Token]), ParserStop>
-    requires { length tokens.now < 2 ^ 32 }
-    ensures reads { IfOk result (λ r. ReadsUsers tokens.now r.0 r.1.now) }
-    ensures stops { IfErr result (StopsInUsers tokens.now) }
+// Reads the users, if any.
+fn runas_users(alloc: Global, unread: &mut Unread) -> Result<Option<Seq<Member>>, ParserStop>
+    requires { length (tokens_left unread.old) < 2 ^ 32 }
+    ensures reads { IfOk result
+        (λ us. ReadsUsers (tokens_left unread.old) us (tokens_left unread.new)) }
+    ensures stops { IfErr result (StopsInUsers (tokens_left unread.old)) }
 {
+    let tokens = unread.as_slice();
     if is_next(tokens, Mark::Colon) || is_next(tokens, Mark::RightParen) {
-        return Ok((None, tokens));
+        return Ok(None);
     }
-    let (users, rest) = members(alloc, Kind::Runas, tokens)?;
-    Ok((Some(users), rest))
+    let users = members(alloc, Kind::Runas, unread)?;
+    Ok(Some(users))
 }
 
-// Reads the groups after the colon, if any, and returns the tokens after them.
-fn runas_groups(
-    alloc: Global,
-    tokens: &[Token],
-) -> Result<(Option<Seq<Member>>, &[Token]), ParserStop>
-    requires { length tokens.now < 2 ^ 32 }
-    ensures reads { IfOk result (λ r. ReadsGroups tokens.now r.0 r.1.now) }
-    ensures stops { IfErr result (StopsInGroups tokens.now) }
+// Reads the groups after the colon, if any.
+fn runas_groups(alloc: Global, unread: &mut Unread) -> Result<Option<Seq<Member>>, ParserStop>
+    requires { length (tokens_left unread.old) < 2 ^ 32 }
+    ensures reads { IfOk result
+        (λ gs. ReadsGroups (tokens_left unread.old) gs (tokens_left unread.new)) }
+    ensures stops { IfErr result (StopsInGroups (tokens_left unread.old)) }
 {
-    if is_next(tokens, Mark::RightParen) {
-        return Ok((None, tokens));
+    if is_next(unread.as_slice(), Mark::RightParen) {
+        return Ok(None);
     }
-    let (groups, rest) = members(alloc, Kind::Runas, tokens)?;
-    Ok((Some(groups), rest))
+    let groups = members(alloc, Kind::Runas, unread)?;
+    Ok(Some(groups))
 }
 
-// Reads the lists between the parentheses, and returns the tokens from the closing one on.
-fn runas_lists(alloc: Global, tokens: &[Token]) -> Result<(Runas, &[Token]), ParserStop>
-    requires { length tokens.now < 2 ^ 32 }
-    ensures reads { IfOk result (λ r. ReadsLists tokens.now r.0 r.1.now) }
-    ensures stops { IfErr result (StopsInUsers tokens.now) }
+// Reads the lists between the parentheses, up to the closing one.
+fn runas_lists(alloc: Global, unread: &mut Unread) -> Result<Runas, ParserStop>
+    requires { length (tokens_left unread.old) < 2 ^ 32 }
+    ensures reads { IfOk result
+        (λ r. ReadsLists (tokens_left unread.old) r (tokens_left unread.new)) }
+    ensures stops { IfErr result (StopsInUsers (tokens_left unread.old)) }
 {
-    let (users, rest) = runas_users(alloc, tokens)?;
-    let listed = match after_mark(rest, Mark::Colon) {
-        Some(listed) => listed,
-        None => {
-            return Ok((
-                Runas {
-                    users,
-                    groups: None,
-                },
-                rest,
-            ));
-        }
-    };
-    let (groups, after) = runas_groups(alloc, listed)?;
-    Ok((Runas { users, groups }, after))
+    let users = runas_users(alloc, unread)?;
+    if !unread.take_mark(Mark::Colon) {
+        let groups = None;
+        return Ok(Runas { users, groups });
+    }
+    let groups = runas_groups(alloc, unread)?;
+    Ok(Runas { users, groups })
 }
 
-/// Reads the parentheses, if they come next, and returns the tokens after them.
-pub(crate) fn runas(
-    alloc: Global,
-    tokens: &[Token],
-) -> Result<(Option<Runas>, &[Token]), ParserStop>
-    requires { length tokens.now < 2 ^ 32 }
-    ensures reads { IfOk result (λ r. ReadsRunas tokens.now r.0 r.1.now) }
-    ensures stops { IfErr result (StopsInRunas tokens.now) }
+/// Reads the parentheses, if they come next.
+pub(crate) fn runas(alloc: Global, unread: &mut Unread) -> Result<Option<Runas>, ParserStop>
+    requires { length (tokens_left unread.old) < 2 ^ 32 }
+    ensures reads { IfOk result
+        (λ r. ReadsRunas (tokens_left unread.old) r (tokens_left unread.new)) }
+    ensures stops { IfErr result (StopsInRunas (tokens_left unread.old)) }
 {
-    let inside = match after_mark(tokens, Mark::LeftParen) {
-        None => return Ok((None, tokens)),
-        Some(inside) => inside,
-    };
-    let (runas, rest) = runas_lists(alloc, inside)?;
-    match after_mark(rest, Mark::RightParen) {
-        Some(rest) => Ok((Some(runas), rest)),
-        None => Err(wants(Expected::RightParen, rest.len())),
+    if !unread.take_mark(Mark::LeftParen) {
+        return Ok(None);
+    }
+    let runas = runas_lists(alloc, unread)?;
+    if unread.take_mark(Mark::RightParen) {
+        Ok(Some(runas))
+    } else {
+        Err(wants(Expected::RightParen, unread.len()))
     }
 }

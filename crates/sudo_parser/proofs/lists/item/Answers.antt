@@ -4,6 +4,7 @@ use Rattle.sudo_text.specs.declared.token.Token.{Token}
 use Rattle.sudo_grammar.specs.declared.kind.Kind.{Kind}
 use Rattle.sudo_parser.specs.declared.stops.ParserStop.{ParserStop}
 use Rattle.sudo_parser.specs.Body.Lists.{ReadsBangs, StopsAtMember, StopsInItem}
+use Rattle.sudo_parser.specs.Body.Unread.{tokens_left}
 use Rattle.sudo_parser.proofs.ListSteps.{item-stops}
 use Rattle.sudo_parser.proofs.lists.item.Goals as goal
 
@@ -13,4 +14,6 @@ go kind ts count rest (Ok x) b h = h
 go kind ts count rest (Err e) b h = item-stops kind ts count rest e b h
 
 pub returns-clause-stops : goal.returns-clause-stops
-returns-clause-stops c = go c.args.kind c.args.tokens.now _ _ c.member.result c.bangs-count.ensures.reads c.member.ensures.stops
+returns-clause-stops c =
+    go c.args.kind (tokens_left c.args.unread.now) c.take_bangs-bangs.result (tokens_left c.take_bangs-bangs.new.self)
+    c.member.result c.take_bangs-bangs.ensures.reads c.member.ensures.stops
