@@ -344,7 +344,20 @@ pub(crate) fn row(
 ) -> Result<Seq<Option<usize>>, AllocError>
     ensures { IfOk result (λ row. row ≡ row_of index.now kind members.now) }
 {
-    let mut row = Vec::new(alloc);
+    let mut row = Vec::with_capacity(alloc, members.len())?;
+    push_row(index, kind, members, &mut row)?;
+    Ok(Seq::from_vec(row))
+}
+
+// Appends, for each member, the number of the alias that it names, if any.
+fn push_row(
+    index: &Index,
+    kind: Kind,
+    members: &[Member],
+    row: &mut Vec<Option<usize>>,
+) -> Result<(), AllocError>
+    ensures { OnOk result (row.new.items ≡ row.old.items ++ row_of index.now kind members.now) }
+{
     for member in members {
         let link = match alias_name(&member.atom) {
             Some(name) => index.number(kind, name),
@@ -352,7 +365,7 @@ pub(crate) fn row(
         };
         row.push(link)?;
     }
-    Ok(Seq::from_vec(row))
+    Ok(())
 }
 
 /// Returns the numbers of the aliases that the lists of rules and of bound `Defaults` lines name.
@@ -366,14 +379,13 @@ pub(crate) fn roots(
 {
     let mut roots = Vec::new(alloc);
     for list in lists {
-        push_roots(alloc, index, list, &mut roots)?;
+        push_roots(index, list, &mut roots)?;
     }
     Ok(roots)
 }
 
 // Appends the numbers of the aliases that a list names, if it belongs to a rule or to a bound `Defaults` line.
 fn push_roots(
-    alloc: Global,
     index: &Index,
     list: &MemberList<'_>,
     roots: &mut Vec<Option<usize>>,
@@ -382,8 +394,7 @@ fn push_roots(
         ++ granting_row index.now (list_view list.now)) }
 {
     if list.granting {
-        let row = row(alloc, index, list.kind, list.members)?;
-        roots.extend_from_slice(row.as_slice())?;
+        push_row(index, list.kind, list.members, roots)?;
     }
     Ok(())
 }

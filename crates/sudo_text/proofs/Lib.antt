@@ -1,3 +1,4 @@
+pub mod Newlines
 pub mod Quotes
 pub mod Spacing
 pub mod Beginnings

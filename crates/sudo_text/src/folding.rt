@@ -7,6 +7,7 @@ ghost use Rattle.sudo_text.specs.Lines.{cut, is_continued, physical_lines, logic
 
 use crate::bytes::{blank_count, is_digit, is_include, peek};
 use crate::{Line, Place, TextFault};
+use memchr::memchr;
 use std::alloc::Global;
 
 /// The greatest length of a text, in bytes.
@@ -41,11 +42,12 @@ fn begins_run(line: &[u8]) -> bool
 }
 
 // Returns the offset of the first newline, or the length if there is none.
+#[tactic(auto, using(crate::proofs::Newlines::newline_at))]
 fn line_end(text: &[u8]) -> usize
     ensures at { result ≡ length (take_while (λ b. not (b == 10)) text.now) }
     ensures within { result ≤ length text.now }
 {
-    text.iter().take_while(|b| **b != b'\n').count()
+    memchr(b'\n', text).unwrap_or(text.len())
 }
 
 // Splits a text into the bytes before its first newline and those after it.
