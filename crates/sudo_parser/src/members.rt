@@ -1,5 +1,5 @@
 //! The meaning of a token as a member of a list.
-ghost use Rattle.std.specs.Prelude.{◌≡◌, IfOk, ◌==◌};
+ghost use Rattle.std.specs.Prelude.{◌≡◌, IfOk, ◌==◌, false, None};
 ghost use Rattle.std.specs.List.{list_any};
 ghost use Rattle.sudo_grammar.specs.Words.{bytes_of};
 ghost use Rattle.sudo_grammar.specs.Members.{atom_of, expected_in, other_atom, user_of, group_of, cut_at, address_of, network_of, is_slash, host_of, unquoted_host_of, plain_host_of, command_of, no_command, begins_with_caret, ends_in_dollar};
@@ -61,11 +61,40 @@ fn host_name(alloc: Global, chars: &[Ch], quoted: bool) -> Result<Atom, MemberFa
     Ok(Atom::Host { chars, quoted })
 }
 
+// Whether the first character is a digit.
+fn begins_with_digit(chars: &[Ch]) -> bool
+    ensures { result ≡ false → address_of (bytes_of chars.now) ≡ None }
+{
+    match chars.first() {
+        Some(c) => c.byte.is_ascii_digit(),
+        None => false,
+    }
+}
+
+// Whether a character is a slash, escaped or not.
+fn has_slash_byte(chars: &[Ch]) -> bool
+    ensures { result ≡ list_any (λ c. c.byte == 47) chars.now }
+{
+    chars.iter().any(|c| c.byte == b'/')
+}
+
+// Whether a word may be an address or a network: most hosts' names are neither, and their bytes are not copied.
+#[tactic(auto, using(crate::proofs::Addresses::no_cut))]
+fn may_be_address(chars: &[Ch]) -> bool
+    ensures address { result ≡ false → address_of (bytes_of chars.now) ≡ None }
+    ensures network { result ≡ false → cut_at 47 (bytes_of chars.now) ≡ None }
+{
+    begins_with_digit(chars) || has_slash_byte(chars)
+}
+
 // Reads an unquoted host word without escapes: an address, a network or a name.
 fn plain_host(alloc: Global, chars: &[Ch]) -> Result<Atom, MemberFault>
     ensures { AgreesWith result (plain_host_of chars.now (bytes_of chars.now)
         (cut_at 47 (bytes_of chars.now))) }
 {
+    if !may_be_address(chars) {
+        return host_name(alloc, chars, false);
+    }
     let bytes = bytes(alloc, chars)?;
     match cut(&bytes, b'/') {
         Some((front, back)) => network(front, back),

@@ -1,5 +1,5 @@
 //! The meaning of words: names of aliases, tags, options and digests.
-ghost use Rattle.std.specs.Prelude.{◌≡◌, ◌&&◌, IfOk};
+ghost use Rattle.std.specs.Prelude.{◌≡◌, ◌&&◌, IfOk, length};
 ghost use Rattle.std.specs.Str.{bytes_eq};
 ghost use Rattle.std.specs.List.{list_all};
 ghost use Rattle.std.specs.Option.{option_map};
@@ -14,14 +14,23 @@ use sudo_text::{Ch, Seq, TokenKind};
 
 pub(crate) const ALL: &[u8] = b"ALL";
 
+// Writes the bytes of characters over as many others.
+fn fill_bytes(bytes: &mut [u8], chars: &[Ch])
+    requires { length bytes.old ≡ length chars.now }
+    ensures { bytes.new ≡ bytes_of chars.now }
+{
+    for index in 0..chars.len() {
+        bytes[index] = chars[index].byte;
+    }
+}
+
 /// Copies the bytes of characters.
 pub(crate) fn bytes(alloc: Global, chars: &[Ch]) -> Result<Seq<u8>, AllocError>
     ensures { IfOk result (λ bytes. bytes ≡ bytes_of chars.now) }
 {
     let mut bytes = Vec::with_capacity(alloc, chars.len())?;
-    for c in chars {
-        bytes.push(c.byte)?;
-    }
+    bytes.resize(chars.len(), 0)?;
+    fill_bytes(bytes.as_mut_slice(), chars);
     Ok(Seq::from_vec(bytes))
 }
 
