@@ -22,8 +22,11 @@ use Rattle.sudo_verdict.specs.declared.decision.Decision.{Decision}
 use Rattle.sudo_policy.specs.Definitions.{alias_named}
 use Rattle.sudo_policy.specs.Positions.{members_at}
 use Rattle.sudo_policy.specs.declared.index.Position.{Position}
-use Rattle.sudo_verdict.specs.Body.NumberSets.{HaveNumbers, IsPassedAt}
-use Rattle.std.specs.Prelude.{slice_get, option_and_then}
+use Rattle.sudo_verdict.specs.declared.key.Key.{Key}
+use Rattle.sudo_verdict.specs.declared.key.Key.TheVariants as key
+use Rattle.sudo_verdict.specs.Keys.{IsKeyOf, HaveKeys}
+use Rattle.sudo_verdict.specs.Body.Known.{IsPassed}
+use Rattle.std.specs.Prelude.{unwrap_or, slice_get, option_and_then}
 use Rattle.sudo_verdict.proofs.Lasts.{last-at, last_that-append, last_that-map, option_map_or, option_map_map}
 
 one : (s : Signed) (b : Bool) → option_map decision_of (cond b (Some s) None) ≡ cond b (Some (decision_of s)) None
@@ -143,14 +146,19 @@ pub found-at :
 found-at k p name read o at ds same known is there =
     sym (ap (in_force k p) (sym same) ∙ known ∙ ap (option_and_then (members_at p)) is ∙ there)
 
--- A member whose number is passed over is silent.
+-- A member whose key is passed over is silent.
 pub passed-silent :
-    (k : Kind) (p : Policy) (test : Atom → Bool) (atom_numbers : List ℕ) (members left rest : List Member) (m : Member) → left ≡ rest ++ m ∷ [] →
-    left ≡ take (length left) members → HaveNumbers atom_numbers members → IsPassedAt test (slice_get atom_numbers (length rest)) → list_decision k p (m ∷ []) test ≡ None
-passed-silent k p test atom_numbers members left rest m is front have passed = go (slice_get atom_numbers (length rest)) refl passed
+    (k : Kind) (p : Policy) (test : Atom → Bool) (known : Key) (m : Member) → IsKeyOf p k known m.atom → IsPassed test known → list_decision k p (m ∷ []) test ≡ None
+passed-silent k p test known m is passed =
+    let both = passed p k m.atom is in
+    sym (atom_silent k p test m (λ name alias. let no : None ≡ Some name = sym both.0 ∙ ap alias_named alias in cc) both.1)
+
+-- The key at a member's index is that of the member.
+pub key-there :
+    (k : Kind) (p : Policy) (keys : List Key) (members left rest : List Member) (m : Member) → left ≡ rest ++ m ∷ [] →
+    left ≡ take (length left) members → HaveKeys p k keys members → IsKeyOf p k (unwrap_or (slice_get keys (length rest)) key.Other) m.atom
+key-there k p keys members left rest m is front have = go (slice_get keys (length rest)) refl
   where
-    go : (o : Option ℕ) → slice_get atom_numbers (length rest) ≡ o → IsPassedAt test o → list_decision k p (m ∷ []) test ≡ None
-    go None e h = absurd h
-    go (Some n) e h =
-        let both = h m.atom (have (length rest) n m e (last-at members left rest m is front)) in
-        sym (atom_silent k p test m (λ name alias. let no : None ≡ Some name = sym both.0 ∙ ap alias_named alias in cc) both.1)
+    go : (o : Option Key) → slice_get keys (length rest) ≡ o → IsKeyOf p k (unwrap_or o key.Other) m.atom
+    go None e = record { position = λ q n f g. cc; name = λ n f. cc; command = λ n f. cc; literal = λ i b f. cc; }
+    go (Some known) e = have (length rest) known m e (last-at members left rest m is front)

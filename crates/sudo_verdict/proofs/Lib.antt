@@ -1,4 +1,4 @@
-pub mod AtomNumberLaws
+pub mod KeyLaws
 pub mod Lasts
 pub mod Recalling
 pub mod Deciding

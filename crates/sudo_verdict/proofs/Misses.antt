@@ -18,7 +18,8 @@ use Rattle.sudo_match.specs.Matching.{user_fits}
 use Rattle.sudo_verdict.specs.Body.Blocks.{StartsAt}
 use Rattle.sudo_verdict.specs.Body.NumberSets.{lacks_user}
 use Rattle.sudo_verdict.proofs.UserNumbers.{lacked-user_atom, never}
-use Rattle.sudo_verdict.specs.Postings.{bit, row_words, Rows, is_in_row, Grows, next_number, bucket_of, user_bucket, group_number, uid_number, gid_number, whole_seed, beginning_seed, atom_number, misses_group, misses_user, misses_beginnings, misses_command}
+use Rattle.sudo_verdict.specs.Postings.{bit, row_words, Rows, is_in_row, Grows, misses_group, misses_user, misses_beginnings, misses_command}
+use Rattle.sudo_verdict.specs.Numbers.{next_number, bucket_of, user_bucket, group_number, uid_number, gid_number, whole_seed, beginning_seed, atom_number}
 
 -- ---- The row of a number
 

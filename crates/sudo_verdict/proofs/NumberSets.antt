@@ -10,7 +10,7 @@ use Rattle.sudo_match.specs.Pattern.{is_plain, Part, One, Only, parts, parts_aft
 use Rattle.sudo_match.specs.Matching.{command_fits, arguments_fit, arguments_slash}
 use Rattle.sudo_match.proofs.FitsLemmas.{fits-one, fits-one-empty, fits-empty-some}
 use Rattle.sudo_policy.specs.Definitions.{alias_named}
-use Rattle.sudo_verdict.specs.Postings.{next_number, bucket_of, whole_seed, beginning_seed, path_number_from, atom_number}
+use Rattle.sudo_verdict.specs.Numbers.{next_number, bucket_of, whole_seed, beginning_seed, path_number_from, atom_number}
 use Rattle.sudo_verdict.specs.Body.NumberSets.{lacks_beginnings, lacks_command}
 use Rattle.sudo_verdict.proofs.Numbering.{path-special, path-more, path-end, numbered_next}
 use Rattle.sudo_match.proofs.PartLemmas.{part-byte}

@@ -3,7 +3,7 @@ use Rattle.std.proofs.Common.{◌≡◌, ℕ, ◌+◌, ◌%◌, Bool, true, fals
 use Rattle.std.specs.Prelude.{◌*◌}
 use Rattle.sudo_text.specs.declared.token.Ch.{Ch}
 use Rattle.sudo_match.specs.Pattern.{is_plain}
-use Rattle.sudo_verdict.specs.Postings.{next_number, bucket_of, path_number_from}
+use Rattle.sudo_verdict.specs.Numbers.{next_number, bucket_of, path_number_from}
 
 pub numbered_next : (seed b : ℕ) (bs : List ℕ) → bucket_of seed (b ∷ bs) ≡ bucket_of ((seed * 31 + b) % 16384) bs
 unfolding bucket_of

@@ -5,7 +5,8 @@ use Rattle.sudo_grammar.specs.declared.kind.Atom.{Atom}
 use Rattle.sudo_match.specs.Matching.{command_fits}
 use Rattle.sudo_verdict.specs.Body.NumberSets.{lacks_beginnings, lacks_command}
 use Rattle.sudo_verdict.proofs.NumberSets.{lacked-atom}
-use Rattle.sudo_verdict.specs.Postings.{Rows, is_in_row, next_number, Grows, bucket_of, whole_seed, beginning_seed, atom_number, misses_beginnings, misses_command}
+use Rattle.sudo_verdict.specs.Postings.{Rows, is_in_row, Grows, misses_beginnings, misses_command}
+use Rattle.sudo_verdict.specs.Numbers.{next_number, bucket_of, whole_seed, beginning_seed, atom_number}
 use Rattle.sudo_verdict.proofs.Misses.{keeps-not}
 use Rattle.sudo_verdict.proofs.UserNumbers.{never}
 

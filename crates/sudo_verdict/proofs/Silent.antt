@@ -21,7 +21,8 @@ use Rattle.sudo_verdict.specs.RunasForms.{runas_allows}
 use Rattle.sudo_verdict.specs.Tagged.{tags_before, runas_before}
 use Rattle.sudo_verdict.specs.Found.{verdict_from, command_found, found_if_any, commands_found, section_found, rule_found, body_found, entry_found}
 use Rattle.sudo_verdict.specs.Last.{last_set}
-use Rattle.sudo_verdict.specs.Postings.{Rows, is_in_row, atom_number, Grows, Covers, misses_user, misses_command}
+use Rattle.sudo_verdict.specs.Postings.{Rows, is_in_row, Grows, Covers, misses_user, misses_command}
+use Rattle.sudo_verdict.specs.Numbers.{atom_number}
 use Rattle.sudo_verdict.specs.Body.Silence.{IsSilent, CommandsSilent, SectionsSilent, EntrySilent}
 use Rattle.sudo_verdict.proofs.Deciding.{value_decided}
 use Rattle.sudo_verdict.proofs.Misses.{misses-atom, misses-never, misses-old}

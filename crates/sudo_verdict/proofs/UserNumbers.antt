@@ -10,7 +10,7 @@ use Rattle.sudo_match.specs.declared.people.Person.{Person}
 use Rattle.sudo_match.specs.declared.people.Group.{Group}
 use Rattle.sudo_match.specs.Matching.{user_fits}
 use Rattle.sudo_policy.specs.Definitions.{alias_named}
-use Rattle.sudo_verdict.specs.Postings.{user_bucket, group_number, uid_number, gid_number, atom_number}
+use Rattle.sudo_verdict.specs.Numbers.{user_bucket, group_number, uid_number, gid_number, atom_number}
 use Rattle.sudo_verdict.specs.Body.NumberSets.{lacks_group, lacks_user}
 
 pub never : (b : Bool) → b ≡ true → not b ≡ true → ⊥

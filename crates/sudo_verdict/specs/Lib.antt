@@ -7,5 +7,7 @@ pub mod Grants
 pub mod Verdicts
 pub mod Decided
 pub mod Found
+pub mod Numbers
+pub mod Keys
 pub mod Postings
 pub mod Body

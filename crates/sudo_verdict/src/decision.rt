@@ -1,18 +1,24 @@
 //! The decision of a list on a user, a group, a host or a command.
 
-ghost use Rattle.std.specs.Prelude.{ℕ, ◌≡◌, ◌∷◌, [], Bool, true, not, IsTrue, Some, option_copied, option_map, slice_get};
+ghost use Rattle.std.specs.Prelude.{ℕ, ◌≡◌, ◌==◌, ◌∷◌, [], Bool, true, false, not, take, IsTrue, Some, option_copied, option_map};
+ghost use Rattle.std.specs.List.{list_any};
 ghost use Rattle.sudo_grammar.specs.declared.kind.Atom.{Atom};
 ghost use Rattle.sudo_policy.specs.Resolving.{resolves};
 ghost use Rattle.sudo_match.specs.Beginnings.{has_special};
 ghost use Rattle.sudo_match.specs.Matching.{user_fits, group_fits, host_fits, command_fits};
 ghost use Rattle.sudo_verdict.specs.Values as values;
-ghost use Rattle.sudo_verdict.specs.Body.NumberSets.{HaveNumbers, IsPassed, IsPassedAt, lacks_command, set_has};
+ghost use Rattle.sudo_verdict.specs.Body.Known.{IsPassed};
+ghost use Rattle.sudo_verdict.specs.Body.NumberSets.{lacks_command, set_has};
+ghost use Rattle.sudo_verdict.specs.Keys.{HaveKeys, IsKeyOf};
+ghost use Rattle.sudo_verdict.specs.Numbers.{user_bucket};
 ghost use Rattle.sudo_verdict.specs.Body.Recalling.{Recalls};
 ghost use Rattle.sudo_verdict.specs.Decided.{list_decision, negated_once};
 
 use crate::aliases::{Aliases, Numbers, REMEMBERED, Slot, number_of, recall, remember};
-use crate::atom_numbers::Lists;
+use crate::key::{Key, key_at};
+use crate::keys::Lists;
 use crate::number_set::NumberSet;
+use crate::numbers::user_bucket;
 use sudo_match::{
     Group, Machine, Person, command_differs, command_matches, group_matches, host_matches,
     user_matches,
@@ -27,16 +33,30 @@ pub(crate) trait Subject {
     fn matches(&self, atom: &Atom) -> bool
         ensures { result ≡ fits self.now atom.now };
 
-    /// Whether no atom with this number matches the subject. False where that is not known, and for the number of
-    /// aliases.
-    fn misses(&self, number: usize) -> bool
-        ensures { result ≡ true → IsPassed (fits self.now) number };
+    /// Whether no atom with this key matches the subject. False where that is not known, and for an alias.
+    fn misses(&self, key: Key) -> bool
+        ensures { result ≡ true → IsPassed (fits self.now) key };
 }
 
 /// A user, matched with the members of a user list or of a runas user list.
 #[derive(Clone, Copy)]
 pub(crate) struct AsUser<'a> {
     pub(crate) user: &'a Person,
+    // The number of the user's name.
+    number: usize,
+    ghost known: { number ≡ user_bucket user.now.name },
+}
+
+impl<'a> AsUser<'a> {
+    /// Returns a user as a subject.
+    pub(crate) fn of(user: &'a Person) -> AsUser<'a>
+        ensures { result.user.now ≡ user.now }
+    {
+        AsUser {
+            user,
+            number: user_bucket(user.name.as_slice()),
+        }
+    }
 }
 
 impl Subject for AsUser<'_> {
@@ -46,8 +66,11 @@ impl Subject for AsUser<'_> {
         user_matches(atom, self.user)
     }
 
-    fn misses(&self, _number: usize) -> bool {
-        false
+    fn misses(&self, key: Key) -> bool {
+        match key {
+            Key::Name(number) => number != self.number,
+            _ => false,
+        }
     }
 }
 
@@ -64,15 +87,56 @@ impl Subject for AsGroup<'_> {
         group_matches(atom, self.group)
     }
 
-    fn misses(&self, _number: usize) -> bool {
+    fn misses(&self, _key: Key) -> bool {
         false
     }
+}
+
+// Returns the number of bytes before the first dot of a host's name.
+fn short_length(name: &[u8]) -> usize
+    ensures { list_any (λ b. b == 46) (take result name.now) ≡ false }
+{
+    for index in 0..name.len() {
+        if name[index] == b'.' {
+            return index;
+        }
+    }
+    name.len()
 }
 
 /// A host, matched with the members of a host list.
 #[derive(Clone, Copy)]
 pub(crate) struct AsHost<'a> {
     pub(crate) host: &'a Machine,
+    // The number of bytes before the first dot of its name.
+    short_length: usize,
+    ghost known: { list_any (λ b. b == 46) (take short_length host.now.name) ≡ false },
+}
+
+impl<'a> AsHost<'a> {
+    /// Returns a host as a subject.
+    pub(crate) fn of(host: &'a Machine) -> AsHost<'a>
+        ensures { result.host.now ≡ host.now }
+    {
+        AsHost {
+            host,
+            short_length: short_length(host.name.as_slice()),
+        }
+    }
+
+    // Whether the byte at an index is before the first dot, and is another one in lower case.
+    fn differs_at(&self, index: usize, byte: u8) -> bool
+        ensures { result ≡ true → IsPassed (λ a. host_fits a self.now.host.now)
+            (Key.Host index byte) }
+    {
+        if index >= self.short_length {
+            return false;
+        }
+        match self.host.name.get(index) {
+            Some(own) => own.to_ascii_lowercase() != byte,
+            None => false,
+        }
+    }
 }
 
 impl Subject for AsHost<'_> {
@@ -82,8 +146,11 @@ impl Subject for AsHost<'_> {
         host_matches(atom, self.host)
     }
 
-    fn misses(&self, _number: usize) -> bool {
-        false
+    fn misses(&self, key: Key) -> bool {
+        match key {
+            Key::Host { index, byte } => self.differs_at(index, byte),
+            _ => false,
+        }
     }
 }
 
@@ -110,8 +177,11 @@ impl Subject for AsCommand<'_> {
         command_matches(atom, self.command, self.arguments)
     }
 
-    fn misses(&self, number: usize) -> bool {
-        !self.number_set.has(number)
+    fn misses(&self, key: Key) -> bool {
+        match key {
+            Key::Command(number) => !self.number_set.has(number),
+            _ => false,
+        }
     }
 }
 
@@ -207,13 +277,14 @@ pub(crate) fn decide_one<S: Subject>(
         (S.fits subject.now) }
 {
     match aliases {
-        None => decide_member(lists, kind, member, subject, None, &mut []),
+        None => decide_member(lists, kind, member, Key::Other, subject, None, &mut []),
         Some(aliases) => {
             let mut slots = [None; REMEMBERED];
             decide_member(
                 lists,
                 kind,
                 member,
+                Key::Other,
                 subject,
                 Some(aliases.of_kind(kind)),
                 &mut slots,
@@ -222,31 +293,21 @@ pub(crate) fn decide_one<S: Subject>(
     }
 }
 
-// Whether the number of the member at an index is known, and no atom with it matches the subject.
-fn is_passed<S: Subject>(subject: &S, atom_numbers: &[usize], index: usize) -> bool
-    ensures { result ≡ true → IsPassedAt (S.fits subject.now) (slice_get atom_numbers.now index) }
-{
-    match atom_numbers.get(index) {
-        Some(number) => subject.misses(*number),
-        None => false,
-    }
-}
-
 // Returns the decision of the list: tries its members from the last to the first and stops at the first that matches.
-// `atom_numbers` holds the numbers of the members, if they are known, and `slots` the known decisions of aliases, by the
-// numbers of the aliases.
+// `keys` holds the keys of the members, if they are known, and `slots` the known decisions of aliases, by the numbers of
+// the aliases.
 #[cycle(deciding)]
 fn decide<S: Subject>(
     lists: Lists<'_>,
     kind: Kind,
     members: &[Member],
-    atom_numbers: &[usize],
+    keys: &[Key],
     subject: &S,
     numbers: Option<&Numbers>,
     slots: &mut [Slot],
 ) -> Option<Decision>
     requires resolves { IsTrue (resolves kind lists.checked.now members.now) }
-    requires atom_numbers { HaveNumbers atom_numbers.now members.now }
+    requires keys { HaveKeys lists.checked.now kind keys.now members.now }
     requires recalls { Recalls kind lists.checked.now (option_copied numbers) (S.fits subject.now)
         slots.old }
     ensures value { result
@@ -257,10 +318,11 @@ fn decide<S: Subject>(
     let mut left = members;
     while let Some((member, rest)) = left.split_last() {
         left = rest;
-        if is_passed(subject, atom_numbers, rest.len()) {
+        let key = key_at(keys, rest.len());
+        if subject.misses(key) {
             continue;
         }
-        let decided = decide_member(lists, kind, member, subject, numbers, slots);
+        let decided = decide_member(lists, kind, member, key, subject, numbers, slots);
         if decided.is_some() {
             return decided;
         }
@@ -274,10 +336,12 @@ fn decide_member<S: Subject>(
     lists: Lists<'_>,
     kind: Kind,
     member: &Member,
+    key: Key,
     subject: &S,
     numbers: Option<&Numbers>,
     slots: &mut [Slot],
 ) -> Option<Decision>
+    requires key { IsKeyOf lists.checked.now kind key member.now.atom }
     requires resolves { IsTrue (resolves kind lists.checked.now (member.now ∷ [])) }
     requires recalls { Recalls kind lists.checked.now (option_copied numbers) (S.fits subject.now)
         slots.old }
@@ -289,14 +353,14 @@ fn decide_member<S: Subject>(
 {
     match &member.atom {
         Atom::Alias(name) => {
-            let position = lists.checked.position(kind, name.as_slice())?;
+            let position = lists.position(kind, name.as_slice(), key)?;
             let members = lists.checked.members_at(position)?;
-            let atom_numbers = lists.numbers_of(position);
+            let keys = lists.keys_of(kind, position);
             let number = number_of(numbers, name.as_slice());
             if let Some(known) = recall(slots, number) {
                 return with_sign(known, is_negated(member));
             }
-            let found = decide(lists, kind, members, atom_numbers, subject, numbers, slots);
+            let found = decide(lists, kind, members, keys, subject, numbers, slots);
             remember(slots, number, found);
             with_sign(found, is_negated(member))
         }

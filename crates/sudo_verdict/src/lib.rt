@@ -4,9 +4,10 @@
 #![tactic(auto)]
 
 mod aliases;
-mod atom_numbers;
 mod candidates;
 mod decision;
+mod key;
+mod keys;
 mod number_set;
 mod numbers;
 mod postings;

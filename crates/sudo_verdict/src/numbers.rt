@@ -5,7 +5,7 @@
 
 ghost use Rattle.std.specs.Prelude.{ℕ, ◌≡◌, ◌+◌, ◌*◌, ◌%◌, ◌<◌};
 ghost use Rattle.sudo_match.specs.Pattern.{is_folder_path};
-ghost use Rattle.sudo_verdict.specs.Postings as postings;
+ghost use Rattle.sudo_verdict.specs.Numbers as spec;
 
 use sudo_match::is_special;
 use sudo_policy::Atom;
@@ -26,7 +26,7 @@ pub(crate) const WHOLE: usize = 4;
 /// Extends the number of some bytes by one more byte.
 pub(crate) fn next_number(number: usize, byte: u8) -> usize
     requires { number < 16384 }
-    ensures value { result ≡ postings.next_number number byte }
+    ensures value { result ≡ spec.next_number number byte }
     ensures below { result < 16384 }
 {
     (number * 31 + byte as usize) % NUMBERS
@@ -35,7 +35,7 @@ pub(crate) fn next_number(number: usize, byte: u8) -> usize
 // Returns the number of a name or a whole command, computed from `seed`.
 fn bucket_of(seed: usize, name: &[u8]) -> usize
     requires { seed < 16384 }
-    ensures value { result ≡ postings.bucket_of seed name.now }
+    ensures value { result ≡ spec.bucket_of seed name.now }
     ensures below { result < 16384 }
 {
     let mut number = seed;
@@ -49,43 +49,43 @@ fn bucket_of(seed: usize, name: &[u8]) -> usize
 
 /// Returns the number of a user's name.
 pub(crate) fn user_bucket(name: &[u8]) -> usize
-    ensures { result ≡ postings.user_bucket name.now }
+    ensures { result ≡ spec.user_bucket name.now }
 {
     bucket_of(1, name)
 }
 
 /// Returns the number of a group's name.
 pub(crate) fn group_number(name: &[u8]) -> usize
-    ensures { result ≡ postings.group_number name.now }
+    ensures { result ≡ spec.group_number name.now }
 {
     bucket_of(2, name)
 }
 
 /// Returns the number of a user ID.
 pub(crate) fn uid_number(uid: u32) -> usize
-    ensures { result ≡ postings.uid_number uid }
+    ensures { result ≡ spec.uid_number uid }
 {
     (uid as usize * 2 + 1) % NUMBERS
 }
 
 /// Returns the number of a group ID.
 pub(crate) fn gid_number(gid: u32) -> usize
-    ensures { result ≡ postings.gid_number gid }
+    ensures { result ≡ spec.gid_number gid }
 {
     (gid as usize * 2 + 3) % NUMBERS
 }
 
 /// Returns the number of a whole command.
 pub(crate) fn command_number(command: &[u8]) -> usize
-    ensures { result ≡ postings.bucket_of postings.whole_seed command.now }
+    ensures { result ≡ spec.bucket_of spec.whole_seed command.now }
 {
     bucket_of(WHOLE, command)
 }
 
-// Returns the number under which a path is found: that of its bytes before the first special character; for a path
+/// Returns the number under which a path is found: that of its bytes before the first special character; for a path
 // without special characters, that of all its bytes, as a beginning for a folder and otherwise as a whole command.
-fn path_number(path: &[Ch]) -> usize
-    ensures { result ≡ postings.path_number path.now }
+pub(crate) fn path_number(path: &[Ch]) -> usize
+    ensures { result ≡ spec.path_number path.now }
 {
     let mut beginning = BEGINNING;
     let mut whole = WHOLE;
@@ -112,9 +112,9 @@ fn is_folder(path: &[Ch]) -> bool
 }
 
 /// Returns the number under which an atom of a user list or of a command list is found.
-#[tactic(auto, unfolding(crate::specs::Postings::atom_number))]
+#[tactic(auto, unfolding(crate::specs::Numbers::atom_number))]
 pub(crate) fn atom_number(atom: &Atom) -> usize
-    ensures { result ≡ postings.atom_number atom.now }
+    ensures { result ≡ spec.atom_number atom.now }
 {
     match atom {
         Atom::Name(name) => user_bucket(name.as_slice()),

@@ -10,7 +10,7 @@ ghost use Rattle.sudo_verdict.specs.Questions.{question_of, target_of};
 ghost use Rattle.sudo_verdict.specs.Body.Queries.{question};
 
 use crate::aliases::Aliases;
-use crate::atom_numbers::Lists;
+use crate::keys::Lists;
 use crate::decision::{AsCommand, AsGroup, AsHost, AsUser, value};
 use crate::number_set::NumberSet;
 use sudo_match::{Directory, Group, Machine, Person, Request, What, has_special};
@@ -20,8 +20,8 @@ use sudo_text::Seq;
 /// A request whose names have been looked up.
 #[derive(Clone, Copy)]
 pub(crate) struct Query<'a> {
-    pub(crate) user: &'a Person,
-    pub(crate) host: &'a Machine,
+    pub(crate) user: AsUser<'a>,
+    pub(crate) host: AsHost<'a>,
     /// The user that is asked for, if any.
     pub(crate) asked: Option<&'a Person>,
     /// The group that is asked for, if any.
@@ -65,8 +65,8 @@ pub(crate) fn query_of<'a>(
         },
     };
     Ok(Query {
-        user,
-        host,
+        user: AsUser::of(user),
+        host: AsHost::of(host),
         asked,
         group,
         target: target(directory, user, asked, group),
@@ -105,8 +105,7 @@ impl Query<'_> {
         ensures { result ≡ values.user_listed lists.entry.checked.now users.now
             (question self.now) }
     {
-        let user = AsUser { user: self.user };
-        value(lists, Kind::User, users, &user, self.aliases).unwrap_or(false)
+        value(lists, Kind::User, users, &self.user, self.aliases).unwrap_or(false)
     }
 
     /// Whether a section's host list allows the host.
@@ -115,8 +114,7 @@ impl Query<'_> {
         ensures { result ≡ values.host_listed lists.entry.checked.now hosts.now
             (question self.now) }
     {
-        let host = AsHost { host: self.host };
-        value(lists, Kind::Host, hosts, &host, self.aliases).unwrap_or(false)
+        value(lists, Kind::Host, hosts, &self.host, self.aliases).unwrap_or(false)
     }
 
     /// Whether a runas, or its absence, allows the command to run as the target and the group asked for.
@@ -168,7 +166,7 @@ impl Query<'_> {
         };
         let allowed = match self.target_value(lists, users, target) {
             Some(allowed) => allowed,
-            None => self.group.is_some() && is_same_user(target, self.user),
+            None => self.group.is_some() && is_same_user(target, self.user.user),
         };
         allowed && self.group_allowed(lists, target, groups)
     }
@@ -191,7 +189,7 @@ impl Query<'_> {
         ensures { result ≡ form.groups_allow lists.entry.checked.now
             (question self.now) groups.now }
     {
-        is_own(self.user, self.asked) && self.group_allowed(lists, self.user, groups)
+        is_own(self.user.user, self.asked) && self.group_allowed(lists, self.user.user, groups)
     }
 
     // Returns the value of a runas user list for a target.
@@ -199,7 +197,7 @@ impl Query<'_> {
         requires { IsTrue (resolves kind.Runas lists.checked.now users.now) }
         ensures { result ≡ form.target_value lists.entry.checked.now users.now target.now }
     {
-        let target = AsUser { user: target };
+        let target = AsUser::of(target);
         value(lists, Kind::Runas, users, &target, self.aliases)
     }
 
@@ -223,7 +221,7 @@ impl Query<'_> {
     pub(crate) fn self_allowed(&self) -> bool
         ensures { result ≡ form.self_allowed (question self.now) }
     {
-        is_own(self.user, self.asked) && has_asked(self.user, self.group)
+        is_own(self.user.user, self.asked) && has_asked(self.user.user, self.group)
     }
 
     /// Whether the absence of a runas allows it.

@@ -11,7 +11,7 @@ ghost use Rattle.sudo_verdict.specs.Found.{entry_found};
 ghost use Rattle.sudo_verdict.specs.Postings.{Indexes};
 
 use crate::aliases::Aliases;
-use crate::atom_numbers::{AtomNumbers, Lists};
+use crate::keys::{Keys, Lists};
 use crate::candidates::{add_command, add_user, last_in_both_before};
 use crate::postings::{Budget, Postings};
 use crate::query::{Query, query_of};
@@ -33,7 +33,7 @@ pub struct RuleIndex {
     commands: Rows,
     // The number of words before the first with a rule.
     start: usize,
-    atom_numbers: AtomNumbers,
+    keys: Keys,
     aliases: Option<Aliases>,
 }
 
@@ -43,7 +43,7 @@ impl Model for RuleIndex {
 
     ghost Value = { Index };
 
-    ghost view = { λ i. (i.users.rows.items, (i.commands.rows.items, i.atom_numbers.rows)) };
+    ghost view = { λ i. (i.users.rows.items, (i.commands.rows.items, i.keys.rows)) };
 
     ghost invariant = { λ i. StartsAt i.users.rows.items i.start };
 }
@@ -74,7 +74,7 @@ impl RuleIndex {
             start,
             users: postings.users.rows,
             commands: postings.commands.rows,
-            atom_numbers: AtomNumbers::of(alloc, checked)?,
+            keys: Keys::of(alloc, checked)?,
             aliases: Aliases::of(alloc, checked)?,
         })
     }
@@ -96,7 +96,7 @@ impl RuleIndex {
             Ok(query) => {
                 let lists = Lists {
                     checked,
-                    atom_numbers: Some(&self.atom_numbers),
+                    keys: Some(&self.keys),
                 };
                 match search_indexed(lists, self, &query) {
                     Some(verdict) => verdict,
@@ -151,7 +151,7 @@ fn search_block(
     let words = (end - 1) / 64 + 1 - first;
     let mut users = [0u64; BLOCK];
     let mut commands = [0u64; BLOCK];
-    add_user(&index.users, query.user, first, &mut users[..words]);
+    add_user(&index.users, query.user.user, first, &mut users[..words]);
     add_command(
         &index.commands,
         query.command.command,

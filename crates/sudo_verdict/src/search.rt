@@ -11,7 +11,7 @@ ghost use Rattle.sudo_verdict.specs.Verdicts.{verdict_of};
 ghost use Rattle.sudo_verdict.specs.Body.Resolved.{body_resolves};
 ghost use Rattle.sudo_verdict.specs.Found.{verdict_from, command_found, commands_found, section_found, entry_found};
 
-use crate::atom_numbers::Lists;
+use crate::keys::Lists;
 use crate::decision::{Decision, decide_one};
 use crate::query::{Query, query_of};
 use crate::tags::{tags_before_end, tags_given};
@@ -31,7 +31,7 @@ pub fn verdict<'a>(checked: &Checked, directory: &'a Directory, request: &'a Req
         Ok(query) => {
             let lists = Lists {
                 checked,
-                atom_numbers: None,
+                keys: None,
             };
             match search(lists, &query) {
                 Some(verdict) => verdict,

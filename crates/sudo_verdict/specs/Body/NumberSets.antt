@@ -1,14 +1,10 @@
 -- Sets of numbers as bits, and numbers that a command or a user lacks; only proofs of bodies need these definitions.
 use Rattle.std.specs.Prelude.{◌≡◌, ℕ, ◌%◌, Bool, false, not, ◌&&◌, ◌==◌, List, [], ◌∷◌, Option, Some, None, slice_get}
-use Rattle.sudo_grammar.specs.declared.kind.Atom.{Atom}
-use Rattle.sudo_grammar.specs.declared.kind.Member.{Member}
-use Rattle.sudo_grammar.specs.declared.policy.Policy.{Policy}
 use Rattle.std.specs.List.{list_all}
 use Rattle.sudo_match.specs.declared.people.Person.{Person}
 use Rattle.sudo_match.specs.declared.people.Group.{Group}
-use Rattle.sudo_policy.specs.Definitions.{alias_named}
-use Rattle.sudo_verdict.specs.declared.atom_numbers.AtomNumbers.{AtomNumbers as TheAtomNumbers}
-use Rattle.sudo_verdict.specs.Postings.{bit, next_number, bucket_of, whole_seed, beginning_seed, user_bucket, group_number, uid_number, gid_number, atom_number, policy_numbers}
+use Rattle.sudo_verdict.specs.Postings.{bit}
+use Rattle.sudo_verdict.specs.Numbers.{next_number, bucket_of, whole_seed, beginning_seed, user_bucket, group_number, uid_number, gid_number}
 
 -- the set has the number
 abbrev pub set_has : List ℕ → ℕ → Bool
@@ -35,21 +31,3 @@ lacks_user has u =
     && (not (has (user_bucket u.name))
     && (not (has (uid_number u.uid))
     && list_all (lacks_group has) u.groups))
-
--- each atom of the number is no alias, and fails the test
-abbrev pub IsPassed : (Atom → Bool) → ℕ → Type 0
-IsPassed test number = (a : Atom) → atom_number a ≡ number → (alias_named a ≡ None) × (test a ≡ false)
-
--- there is a number, and each atom of it is no alias, and fails the test
-abbrev pub IsPassedAt : (Atom → Bool) → Option ℕ → Type 0
-IsPassedAt test None = ⊥
-IsPassedAt test (Some number) = IsPassed test number
-
--- each number is that of the member at its index
-abbrev pub HaveNumbers : List ℕ → List Member → Type 0
-HaveNumbers atom_numbers members =
-    (i n : ℕ) (m : Member) → slice_get atom_numbers i ≡ Some n → slice_get members i ≡ Some m → atom_number m.atom ≡ n
-
--- the numbers, if there are any, are those of the policy
-abbrev pub AreNumbersOf : Policy → Option TheAtomNumbers → Type 0
-AreNumbersOf p atom_numbers = (k : TheAtomNumbers) → atom_numbers ≡ Some k → k.rows ≡ policy_numbers p

@@ -5,8 +5,8 @@ use Rattle.sudo_verdict.specs.Questions.{Question}
 
 abbrev pub question : Query → Question
 question q = record {
-  user = q.user.now;
-  host = q.host.now;
+  user = q.user.user.now;
+  host = q.host.host.now;
   asked = option_copied q.asked;
   group = option_copied q.group;
   target = option_copied q.target;

@@ -1,6 +1,7 @@
 use Rattle.std.proofs.Common.{not, ap, sym, ◌∙◌, ◌+◌, ◌*◌, arith}
 use Rattle.std.specs.List.{list_all}
-use Rattle.sudo_verdict.specs.Postings.{user_bucket, is_in_row, misses_group}
+use Rattle.sudo_verdict.specs.Postings.{is_in_row, misses_group}
+use Rattle.sudo_verdict.specs.Numbers.{user_bucket}
 use Rattle.sudo_verdict.proofs.Misses.{misses-all}
 use Rattle.sudo_verdict.proofs.candidates.add_user.Goals as goal
 

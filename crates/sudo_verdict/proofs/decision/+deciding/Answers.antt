@@ -4,7 +4,7 @@ use Rattle.sudo_policy.specs.Definitions.{in_force}
 use Rattle.sudo_policy.specs.Positions.{members_at}
 use Rattle.sudo_verdict.proofs.Lasts.{front-rest}
 use Rattle.sudo_verdict.specs.Decided.{negated_once}
-use Rattle.sudo_verdict.proofs.Deciding.{found-at, passed-silent, none-is, last_silent, last_is, rest_resolves, last_resolves, rest_shallow, last_shallow, none_silent, undefined_never, decided_alias, alias_falls, alias_stands, atom_decides, atom_silent}
+use Rattle.sudo_verdict.proofs.Deciding.{found-at, passed-silent, key-there, none-is, last_silent, last_is, rest_resolves, last_resolves, rest_shallow, last_shallow, none_silent, undefined_never, decided_alias, alias_falls, alias_stands, atom_decides, atom_silent}
 use Rattle.sudo_policy.specs.Written.{is_negated}
 use Rattle.sudo_verdict.specs.Body.Recalling.{number_in}
 use Rattle.sudo_verdict.proofs.Recalling.{recalls-more, recalled, some-none, numbered-as}
@@ -15,7 +15,9 @@ decide-decide_member-decided-requires g t c κs within =
     let is = c.in-Some.ensures.cases.0 in
     let test = g.S.Subject.fits c.args.subject.now in (
       omega (arith, last_shallow c.args.kind c.args.lists.checked.now test c.loop-member.left.now c.in-Some.rest.now c.in-Some.member.now is, c.loop-member.invariant.shallow, c.decreases),
-      (within, (last_resolves c.args.kind c.args.lists.checked.now test c.loop-member.left.now c.in-Some.rest.now c.in-Some.member.now is c.loop-member.invariant.resolve, c.loop-member.invariant.recalls)),
+      (within, (rw c.key_at-key.ensures (key-there c.args.kind c.args.lists.checked.now c.args.keys.now c.args.members.now c.loop-member.left.now c.in-Some.rest.now c.in-Some.member.now is
+      c.loop-member.invariant.front c.requires.keys),
+      (last_resolves c.args.kind c.args.lists.checked.now test c.loop-member.left.now c.in-Some.rest.now c.in-Some.member.now is c.loop-member.invariant.resolve, c.loop-member.invariant.recalls))),
     )
 
 pub decide-returns-then-is_some-clause-value : goal.decide-returns-then-is_some-clause-value
@@ -24,8 +26,8 @@ decide-returns-then-is_some-clause-value g t c =
     ∙ last_is c.args.kind c.args.lists.checked.now (g.S.Subject.fits c.args.subject.now) c.loop-member.left.now c.in-Some.rest.now c.in-Some.member.now
     c.in-Some.ensures.cases.0 c.decide_member-decided.result (sym c.decide_member-decided.ensures.value) (sym c.if-is_some.ensures))
 
-pub decide-loop-member-preserved-then-is_passed : goal.decide-loop-member-preserved-then-is_passed
-decide-loop-member-preserved-then-is_passed g t c =
+pub decide-loop-member-preserved-then-misses : goal.decide-loop-member-preserved-then-misses
+decide-loop-member-preserved-then-misses g t c =
     let is = c.in-Some.ensures.cases.0 in
     let test = g.S.Subject.fits c.args.subject.now in
     record {
@@ -35,8 +37,10 @@ decide-loop-member-preserved-then-is_passed g t c =
       recalls = c.loop-member.invariant.recalls;
       same = c.loop-member.invariant.same
           ∙ last_silent c.args.kind c.args.lists.checked.now test c.loop-member.left.now c.in-Some.rest.now c.in-Some.member.now is
-          (passed-silent c.args.kind c.args.lists.checked.now test c.args.atom_numbers.now c.args.members.now c.loop-member.left.now c.in-Some.rest.now c.in-Some.member.now is
-          c.loop-member.invariant.front c.requires.atom_numbers (c.is_passed.ensures c.if-is_passed.true));
+          (passed-silent c.args.kind c.args.lists.checked.now test c.key_at-key.result c.in-Some.member.now
+          (rw c.key_at-key.ensures (key-there c.args.kind c.args.lists.checked.now c.args.keys.now c.args.members.now c.loop-member.left.now c.in-Some.rest.now c.in-Some.member.now is
+          c.loop-member.invariant.front c.requires.keys))
+          (c.misses.ensures c.if-misses.true));
     }
 
 pub decide-loop-member-preserved : goal.decide-loop-member-preserved
@@ -104,7 +108,7 @@ decide_member-decide-found-requires g t c κs within =
     c.position.ensures c.in_ok-position-in-Alias.was (sym c.members_at.ensures ∙ ap option_copied c.in_ok-members-in-Alias.was) in
     let test = g.S.Subject.fits c.args.subject.now in (
       omega (arith, alias_falls c.args.kind c.args.lists.checked.now test c.args.member.now c.in-Alias.name c.in_ok-members-in-Alias.members.now c.in-Alias.is found c.requires.resolves, c.decreases),
-      (within, (alias_stands c.args.kind c.args.lists.checked.now test c.args.member.now c.in-Alias.name c.in_ok-members-in-Alias.members.now c.in-Alias.is found c.requires.resolves, (c.numbers_of-atom_numbers.ensures c.in_ok-members-in-Alias.members.now (sym c.members_at.ensures ∙ ap option_copied c.in_ok-members-in-Alias.was), c.requires.recalls))),
+      (within, (alias_stands c.args.kind c.args.lists.checked.now test c.args.member.now c.in-Alias.name c.in_ok-members-in-Alias.members.now c.in-Alias.is found c.requires.resolves, (c.keys_of-keys.ensures c.in_ok-members-in-Alias.members.now (sym c.members_at.ensures ∙ ap option_copied c.in_ok-members-in-Alias.was), c.requires.recalls))),
     )
 
 pub decide_member-returns-in_default-recall-clause-value : goal.decide_member-returns-in_default-recall-clause-value

@@ -1,5 +1,5 @@
 use Rattle.std.proofs.Common.{ap, sym, ◌∙◌, arith, refl}
-use Rattle.sudo_verdict.specs.Postings.{bucket_of}
+use Rattle.sudo_verdict.specs.Numbers.{bucket_of}
 use Rattle.sudo_verdict.proofs.Numbering.{numbered_next, numbered_end}
 use Rattle.sudo_verdict.proofs.numbers.bucket_of.Goals as goal
 

@@ -1,5 +1,5 @@
 use Rattle.std.proofs.Common.{◌≡◌, ◌<◌, length}
-use Rattle.sudo_verdict.specs.Postings.{bucket_of}
+use Rattle.sudo_verdict.specs.Numbers.{bucket_of}
 use Rattle.sudo_verdict.proofs.numbers.bucket_of.Given as goal
 
 abbrev pub invariant-loop-byte : goal.invariant-loop-byte

@@ -1,6 +1,6 @@
 use Rattle.std.proofs.Common.{sym, ap, ◌∙◌, cond}
 use Rattle.sudo_match.specs.Pattern.{is_folder_path}
-use Rattle.sudo_verdict.specs.Postings.{next_number, path_number_from}
+use Rattle.sudo_verdict.specs.Numbers.{next_number, path_number_from}
 use Rattle.sudo_verdict.proofs.Numbering.{path-special, path-more, path-end}
 use Rattle.sudo_verdict.proofs.numbers.path_number.Goals as goal
 

@@ -1,6 +1,6 @@
 use Rattle.std.proofs.Common.{◌≡◌, ◌<◌, length}
 use Rattle.sudo_match.specs.Pattern.{is_folder_path}
-use Rattle.sudo_verdict.specs.Postings.{path_number, path_number_from}
+use Rattle.sudo_verdict.specs.Numbers.{path_number, path_number_from}
 use Rattle.sudo_verdict.proofs.numbers.path_number.Given as goal
 
 abbrev pub invariant-loop-ch : goal.invariant-loop-ch

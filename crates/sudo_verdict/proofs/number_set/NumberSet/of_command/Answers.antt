@@ -1,5 +1,5 @@
 use Rattle.std.proofs.Common.{◌≡◌, ℕ, Bool, true, false, not, refl, sym, ◌∙◌, ap, arith}
-use Rattle.sudo_verdict.specs.Postings.{bucket_of}
+use Rattle.sudo_verdict.specs.Numbers.{bucket_of}
 use Rattle.sudo_verdict.specs.Body.NumberSets.{set_has, lacks_beginnings}
 use Rattle.sudo_verdict.proofs.Numbering.{numbered_next, numbered_end}
 use Rattle.sudo_verdict.proofs.NumberSets.{lacks-all, lacks-more, lacks-end}

@@ -1,5 +1,5 @@
 use Rattle.std.proofs.Common.{◌≡◌, ℕ, ◌<◌, Bool, true, false, length}
-use Rattle.sudo_verdict.specs.Postings.{bucket_of, whole_seed}
+use Rattle.sudo_verdict.specs.Numbers.{bucket_of, whole_seed}
 use Rattle.sudo_verdict.specs.Body.NumberSets.{set_has, lacks_beginnings, lacks_command}
 use Rattle.sudo_verdict.proofs.number_set.NumberSet.of_command.Given as goal
 

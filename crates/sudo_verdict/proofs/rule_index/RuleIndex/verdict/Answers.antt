@@ -1,4 +1,5 @@
-use Rattle.std.proofs.Common.{Some, None}
+use Rattle.std.proofs.Common.{◌≡◌, Some, None, ap}
+use Rattle.sudo_verdict.specs.Postings.{Index}
 use Rattle.sudo_verdict.specs.Body.Queries.{question}
 use Rattle.sudo_verdict.proofs.Searching.{verdict_of-found, verdict_of-unknown}
 use Rattle.sudo_verdict.proofs.rule_index.RuleIndex.verdict.Goals as goal
@@ -13,3 +14,11 @@ returns-in-None c =
 
 pub returns-in-Err : goal.returns-in-Err
 returns-in-Err c = verdict_of-unknown c.args.checked.now c.args.directory.now c.args.request.now _ c.in-Err.ensures
+
+pub invariant_of-lists : goal.invariant_of-lists
+invariant_of-lists c = record {
+  known = λ k e.
+      let same : k ≡ c.self.inside.keys = cc in
+      let there : c.self.inside.keys.rows ≡ c.args.self.now.1.1 = ap (λ (v : Index). v.1.1) c.self.view_is in
+      rw (same, there) c.requires.keys;
+}

@@ -1,0 +1,179 @@
+-- The keys of definitions are those of their members, and what keys pass over.
+use Rattle.std.proofs.Common.{◌≡◌, ℕ, zero, suc, ◌+◌, ◌≤◌, Bool, true, false, cond, ◌||◌, List, [], ◌∷◌, ◌++◌, Option, Some, None, length, take, refl, sym, ◌∙◌, ap, arith}
+use Rattle.std.specs.Prelude.{slice_get, option_and_then, ◌==◌, bytes_eq}
+use Rattle.std.specs.Option.{option_map}
+use Rattle.std.specs.List.{list_any}
+use Rattle.std.proofs.lemmas.Bool.{or_parts, eq-eqb}
+use Rattle.std.proofs.lemmas.List.{length_push}
+use Rattle.std.proofs.lemmas.Slice.Eq.{bytes_eq-Decides}
+use Rattle.sudo_text.specs.declared.token.Ch.{Ch}
+use Rattle.sudo_grammar.specs.declared.kind.Atom.{Atom}
+use Rattle.sudo_grammar.specs.declared.kind.Atom.TheVariants as atom
+use Rattle.sudo_grammar.specs.declared.kind.Kind.{Kind}
+use Rattle.sudo_grammar.specs.declared.kind.Member.{Member}
+use Rattle.sudo_grammar.specs.declared.policy.Definition.{Definition}
+use Rattle.sudo_grammar.specs.declared.policy.Entry.{Entry}
+use Rattle.sudo_grammar.specs.declared.policy.EntryBody.{EntryBody}
+use Rattle.sudo_grammar.specs.declared.policy.EntryBody.TheVariants as body
+use Rattle.sudo_grammar.specs.declared.policy.Policy.{Policy}
+use Rattle.sudo_policy.specs.declared.index.Position.{Position}
+use Rattle.sudo_policy.specs.Positions.{members_at, definition_at_body}
+use Rattle.sudo_verdict.specs.declared.key.Key.{Key}
+use Rattle.sudo_policy.specs.Definitions.{alias_named}
+use Rattle.sudo_match.specs.declared.people.Person.{Person}
+use Rattle.sudo_match.specs.declared.people.Machine.{Machine}
+use Rattle.sudo_match.specs.Beginnings.{is_special, is_named_otherwise}
+use Rattle.sudo_match.specs.Class.{lower}
+use Rattle.sudo_match.specs.Matching.{user_fits, host_fits, command_fits}
+use Rattle.sudo_match.proofs.BeginningLemmas.{host-differs}
+use Rattle.sudo_verdict.specs.Keys.{Pairwise, HaveKeys, HaveDefinitionKeys, HaveBodyKeys, AreKeys, name_number, command_number, literal_byte}
+use Rattle.sudo_verdict.specs.Numbers.{user_bucket, path_number, atom_number}
+use Rattle.sudo_verdict.specs.Body.NumberSets.{lacks_command}
+use Rattle.sudo_verdict.proofs.NumberSets.{lacked-atom}
+
+-- ---- Lists that are related item by item
+
+pub none_related : {X Y : Type 0} (R : X → Y → Type 0) (ys : List Y) → Pairwise R [] ys
+none_related R ys zero x y e f = cc
+none_related R ys (suc i) x y e f = cc
+
+pub one_more :
+    {X Y : Type 0} (R : X → Y → Type 0) (xs : List X) (ys : List Y) (x : X) (y : Y) → Pairwise R xs ys → slice_get ys (length xs) ≡ Some y → R x y →
+    Pairwise R (xs ++ x ∷ []) ys
+one_more R [] ys x y h there r zero a b e f =
+    let first : a ≡ x = cc in
+    let second : b ≡ y = cc in
+    rw (first, second) r
+one_more R [] ys x y h there r (suc i) a b e f = cc
+one_more R (z ∷ xs) ys x y h there r zero a b e f = h zero a b e f
+one_more R (z ∷ xs) [] x y h there r (suc i) a b e f = cc
+one_more R (z ∷ xs) (w ∷ ys) x y h there r (suc i) a b e f = one_more R xs ys x y (λ k c d g k_there. h (suc k) c d g k_there) there r i a b e f
+
+-- the same for a list that a loop extends
+pub more_related :
+    {X Y : Type 0} (R : X → Y → Type 0) (xs more : List X) (ys : List Y) (x : X) (y : Y) (n : ℕ) → more ≡ xs ++ x ∷ [] → length xs ≡ n →
+    Pairwise R xs ys → slice_get ys n ≡ Some y → R x y → Pairwise R more ys
+more_related R xs more ys x y n pushed count h there r = rw pushed (one_more R xs ys x y h (ap (slice_get ys) count ∙ there) r)
+
+pub more_count : {X : Type 0} (xs more : List X) (x : X) (n : ℕ) → more ≡ xs ++ x ∷ [] → length xs ≡ n → length more ≡ n + 1
+more_count xs more x n pushed count = ap length pushed ∙ length_push xs x ∙ ap (λ k. k + 1) count
+
+-- ---- The keys of a definition
+
+in-definition : (o : Option Definition) (ms : List Member) → option_map (λ (d : Definition). d.members) o ≡ Some ms →
+    (d : Definition) × (o ≡ Some d) × (d.members ≡ ms)
+in-definition None ms e = cc
+in-definition (Some d) ms e = (d, refl, cc)
+
+pub have_there :
+    (p : Policy) (kind : Kind) (position : Position) (e : Entry) (rows : List (List (List Key))) (ks : List (List Key)) (keys : List Key)
+    (definitions : List Definition) (members : List Member) →
+    AreKeys p rows → slice_get p.entries position.entry ≡ Some e → slice_get rows position.entry ≡ Some ks →
+    e.body ≡ body.Aliases kind definitions → slice_get ks position.definition ≡ Some keys → members_at p position ≡ Some members →
+    HaveKeys p kind keys members
+have_there p kind position e rows ks keys definitions members are entry row aliases there at = go known
+  where
+    have : HaveDefinitionKeys p kind ks definitions
+    have = are position.entry ks e row entry kind definitions aliases
+
+    found : option_map (λ (d : Definition). d.members) (slice_get definitions position.definition) ≡ Some members
+    found = sym (ap (λ o. option_and_then (λ (x : Entry). definition_at_body x.body position.definition) o) entry ∙ ap (λ b. definition_at_body b position.definition) aliases) ∙ at
+
+    known : (d : Definition) × (slice_get definitions position.definition ≡ Some d) × (d.members ≡ members)
+    known = in-definition (slice_get definitions position.definition) members found
+
+    go : (d : Definition) × (slice_get definitions position.definition ≡ Some d) × (d.members ≡ members) → HaveKeys p kind keys members
+    go (d, f, same) = rw (sym same) (have position.definition keys d there f)
+
+pub are_keys :
+    (p : Policy) (rows : List (List (List Key))) (entries : List Entry) → entries ≡ p.entries →
+    Pairwise (λ ks (e : Entry). HaveBodyKeys p ks e.body) rows entries → AreKeys p rows
+are_keys p rows entries same h i ks e f g = h i ks e f (ap (λ l. slice_get l i) same ∙ g)
+
+-- ---- Atoms that keys pass over
+
+-- a command that lacks the number of an atom
+pub passes_command :
+    (has : ℕ → Bool) (command arguments : List ℕ) (a : Atom) (number : ℕ) → lacks_command has command ≡ true → has number ≡ true →
+    command_number a ≡ Some number → (alias_named a ≡ None) × (command_fits a command arguments ≡ false)
+unfolding atom_number
+passes_command has command arguments (atom.Command path args) number lacks there e =
+    let same : path_number path ≡ number = cc in
+    lacked-atom has command arguments (atom.Command path args) lacks (ap has same ∙ there)
+passes_command has command arguments _ number lacks there e = cc
+
+-- a user whose name has another number
+pub passes_name :
+    (u : Person) (a : Atom) (number : ℕ) → (number == user_bucket u.name) ≡ false → name_number a ≡ Some number →
+    (alias_named a ≡ None) × (user_fits a u ≡ false)
+unfolding user_fits
+passes_name u (atom.Name name) number other e = (refl, go (bytes_eq name u.name) refl)
+  where
+    go : (b : Bool) → bytes_eq name u.name ≡ b → bytes_eq name u.name ≡ false
+    go false f = f
+    go true f =
+        let same : name ≡ u.name = (bytes_eq-Decides name u.name).0 f in
+        let number_is : user_bucket name ≡ number = cc in
+        let equal : (number == user_bucket u.name) ≡ true = eq-eqb number (user_bucket u.name) (sym number_is ∙ ap user_bucket same) in
+        let no : true ≡ false = sym equal ∙ other in cc
+passes_name u _ number other e = cc
+
+inner_only : (outer inner : Bool) → outer ≡ false → inner ≡ true → cond outer false inner ≡ true
+inner_only true inner e f = cc
+inner_only false inner e f = f
+
+-- the characters and the name differ at an index, before any special character and any dot
+differs_at :
+    (chars : List Ch) (name : List ℕ) (index : ℕ) (c : Ch) (b : ℕ) → slice_get chars index ≡ Some c → slice_get name index ≡ Some b →
+    list_any is_special (take (suc index) chars) ≡ false → list_any (λ x. x == 46) (take (suc index) name) ≡ false →
+    (lower b == lower c.byte) ≡ false → is_named_otherwise chars name ≡ true
+unfolding is_named_otherwise
+differs_at [] name index c b e f g h d = cc
+differs_at (c0 ∷ cs) [] index c b e f g h d = cc
+differs_at (c0 ∷ cs) (b0 ∷ bs) zero c b e f g h d =
+    let first : c0 ≡ c = cc in
+    let second : b0 ≡ b = cc in
+    let plain = or_parts (is_special c0) false g in
+    let dot = or_parts (b0 == 46) false h in
+    let other : (lower b0 == lower c0.byte) ≡ false = rw (first, second) d in
+    inner_only (is_special c0 || b0 == 46) (cond (lower b0 == lower c0.byte) (is_named_otherwise cs bs) true) (ap (λ x. x || b0 == 46) plain.0 ∙ dot.0)
+    (ap (λ x. cond x (is_named_otherwise cs bs) true) other)
+differs_at (c0 ∷ cs) (b0 ∷ bs) (suc i) c b e f g h d =
+    let plain = or_parts (is_special c0) (list_any is_special (take (suc i) cs)) g in
+    let dot = or_parts (b0 == 46) (list_any (λ x. x == 46) (take (suc i) bs)) h in
+    inner_only (is_special c0 || b0 == 46) (cond (lower b0 == lower c0.byte) (is_named_otherwise cs bs) true) (ap (λ x. x || b0 == 46) plain.0 ∙ dot.0)
+    (go (lower b0 == lower c0.byte) (differs_at cs bs i c b e f plain.1 dot.1 d))
+  where
+    go : (x : Bool) → is_named_otherwise cs bs ≡ true → cond x (is_named_otherwise cs bs) true ≡ true
+    go true again = again
+    go false again = refl
+
+-- a host whose name has another byte in the place of a literal one
+pub passes_literal :
+    (m : Machine) (a : Atom) (index byte b : ℕ) → slice_get m.name index ≡ Some b → list_any (λ x. x == 46) (take (suc index) m.name) ≡ false →
+    (lower b == byte) ≡ false → literal_byte a index ≡ Some byte → (alias_named a ≡ None) × (host_fits a m ≡ false)
+unfolding host_fits
+passes_literal m (atom.Host chars quoted) index byte b there dot other e =
+    (refl, go (list_any is_special (take (index + 1) chars)) refl (slice_get chars index) refl e)
+  where
+    one : index + 1 ≡ suc index
+    one = omega arith
+
+    go : (x : Bool) → list_any is_special (take (index + 1) chars) ≡ x → (o : Option Ch) → slice_get chars index ≡ o →
+        cond x None (option_map (λ (c : Ch). lower c.byte) o) ≡ Some byte → host_fits (atom.Host chars quoted) m ≡ false
+    go true f o g h = cc
+    go false f None g h = cc
+    go false f (Some c) g h =
+        let same : lower c.byte ≡ byte = cc in
+        host-differs chars quoted m.name (differs_at chars m.name index c b g there (ap (λ n. list_any is_special (take n chars)) (sym one) ∙ f) dot (ap (λ x. lower b == x) same ∙ other))
+passes_literal m _ index byte b there dot other e = cc
+
+-- fewer bytes have no dot either
+pub none_before :
+    (name : List ℕ) (n m : ℕ) → n ≤ m → list_any (λ x. x == 46) (take m name) ≡ false → list_any (λ x. x == 46) (take n name) ≡ false
+none_before name zero m h e = refl
+none_before [] (suc n) m h e = refl
+none_before (b ∷ bs) (suc n) zero h e = absurd (omega (arith, h))
+none_before (b ∷ bs) (suc n) (suc m) h e =
+    let parts = or_parts (b == 46) (list_any (λ x. x == 46) (take m bs)) e in
+    rw (parts.0, none_before bs n m (omega (arith, h)) parts.1) refl

@@ -1,0 +1,17 @@
+-- Keys that are known, and what they pass over; only proofs of bodies need these definitions.
+use Rattle.std.specs.Prelude.{◌≡◌, Bool, false, Option, Some, None}
+use Rattle.sudo_grammar.specs.declared.kind.Atom.{Atom}
+use Rattle.sudo_grammar.specs.declared.kind.Kind.{Kind}
+use Rattle.sudo_grammar.specs.declared.policy.Policy.{Policy}
+use Rattle.sudo_policy.specs.Definitions.{alias_named}
+use Rattle.sudo_verdict.specs.declared.key.Key.{Key}
+use Rattle.sudo_verdict.specs.declared.keys.Keys.{Keys as TheKeys}
+use Rattle.sudo_verdict.specs.Keys.{IsKeyOf, AreKeys}
+
+-- each atom of the key is no alias, and fails the test
+abbrev pub IsPassed : (Atom → Bool) → Key → Type 0
+IsPassed test key = (p : Policy) (kind : Kind) (a : Atom) → IsKeyOf p kind key a → (alias_named a ≡ None) × (test a ≡ false)
+
+-- the keys, if there are any, are those of the policy
+abbrev pub AreKnown : Policy → Option TheKeys → Type 0
+AreKnown p keys = (k : TheKeys) → keys ≡ Some k → AreKeys p k.rows

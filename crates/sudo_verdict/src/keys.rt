@@ -1,0 +1,238 @@
+//! The keys of the members of alias definitions.
+
+ghost use Rattle.std.specs.Prelude.{◌≡◌, ◌≤◌, List, true, false, Some, IfOk, length, option_copied, option_and_then, take};
+ghost use Rattle.std.specs.List.{list_any};
+ghost use Rattle.sudo_grammar.specs.declared.kind.Atom.{Atom as TheAtom};
+ghost use Rattle.sudo_grammar.specs.declared.kind.Kind.{Kind as TheKind};
+ghost use Rattle.sudo_grammar.specs.declared.kind.Member.{Member as TheMember};
+ghost use Rattle.sudo_grammar.specs.declared.policy.Policy.{Policy};
+ghost use Rattle.sudo_match.specs.Beginnings.{is_special};
+ghost use Rattle.sudo_policy.specs.Definitions.{in_force};
+ghost use Rattle.sudo_policy.specs.Positions.{members_at};
+ghost use Rattle.sudo_verdict.specs.Keys.{IsKeyOf, HaveKeys, HaveDefinitionKeys, HaveBodyKeys, AreKeys};
+ghost use Rattle.sudo_verdict.specs.Body.Known.{AreKnown};
+
+use crate::key::Key;
+use crate::numbers::{path_number, user_bucket};
+use std::alloc::{AllocError, Global};
+use sudo_base::Seq;
+use sudo_match::is_special;
+use sudo_policy::{Atom, Checked, Definition, EntryBody, Kind, Member, Position};
+use sudo_text::Ch;
+
+// Returns the number of characters before the first special one or the first dot.
+fn literal_count(chars: &[Ch]) -> usize
+    ensures within { result ≤ length chars.now }
+    ensures literal { list_any is_special (take result chars.now) ≡ false }
+{
+    for index in 0..chars.len() {
+        let ch = chars[index];
+        if is_special(ch) || ch.byte == b'.' {
+            return index;
+        }
+    }
+    chars.len()
+}
+
+// Returns the key of a host's name: the last character before any special one and any dot.
+fn host_key(chars: &[Ch]) -> Key
+    ensures { (p : Policy) (kind : TheKind) (quoted : _)
+        → IsKeyOf p kind result (TheAtom.Host chars.now quoted) }
+{
+    let count = literal_count(chars);
+    if count == 0 {
+        return Key::Other;
+    }
+    let index = count - 1;
+    Key::Host {
+        index,
+        byte: chars[index].byte.to_ascii_lowercase(),
+    }
+}
+
+// Returns the key of an alias.
+fn alias_key(checked: &Checked, kind: Kind, name: &[u8]) -> Key
+    ensures { IsKeyOf checked.now kind result (TheAtom.Alias name.now) }
+{
+    match checked.position(kind, name) {
+        Some(position) => Key::Alias(position),
+        None => Key::Other,
+    }
+}
+
+// Returns the key of an atom of a list of a kind.
+fn atom_key(checked: &Checked, kind: Kind, atom: &Atom) -> Key
+    ensures { IsKeyOf checked.now kind result atom.now }
+{
+    match atom {
+        Atom::Alias(name) => alias_key(checked, kind, name.as_slice()),
+        Atom::Name(name) => Key::Name(user_bucket(name.as_slice())),
+        Atom::Command { path, .. } => Key::Command(path_number(path.as_slice())),
+        Atom::Host { chars, .. } => host_key(chars.as_slice()),
+        _ => Key::Other,
+    }
+}
+
+// Returns the keys of the members of a list of a kind. Returns `AllocError` if allocation fails.
+fn member_keys(
+    alloc: Global,
+    checked: &Checked,
+    kind: Kind,
+    members: &[Member],
+) -> Result<Seq<Key>, AllocError>
+    ensures { IfOk result (λ keys. HaveKeys checked.now kind keys members.now) }
+{
+    let mut keys = Vec::with_capacity(alloc, members.len())?;
+    for member in members {
+        keys.push(atom_key(checked, kind, &member.atom))?;
+    }
+    Ok(Seq::from_vec(keys))
+}
+
+// Returns the keys of the members of definitions of a kind. Returns `AllocError` if allocation fails.
+fn definition_keys(
+    alloc: Global,
+    checked: &Checked,
+    kind: Kind,
+    definitions: &[Definition],
+) -> Result<Seq<Seq<Key>>, AllocError>
+    ensures { IfOk result (λ keys. HaveDefinitionKeys checked.now kind keys definitions.now) }
+{
+    let mut keys = Vec::with_capacity(alloc, definitions.len())?;
+    for definition in definitions {
+        keys.push(member_keys(
+            alloc,
+            checked,
+            kind,
+            definition.members.as_slice(),
+        )?)?;
+    }
+    Ok(Seq::from_vec(keys))
+}
+
+// Returns the keys of the definitions of an entry. Returns `AllocError` if allocation fails.
+fn body_keys(
+    alloc: Global,
+    checked: &Checked,
+    body: &EntryBody,
+) -> Result<Seq<Seq<Key>>, AllocError>
+    ensures { IfOk result (λ keys. HaveBodyKeys checked.now keys body.now) }
+{
+    match body {
+        EntryBody::Aliases { kind, definitions } => {
+            definition_keys(alloc, checked, *kind, definitions.as_slice())
+        }
+        _ => Ok(Seq::new(alloc)),
+    }
+}
+
+/// The key of each member of each alias definition of a policy.
+#[derive(Drop)]
+pub(crate) struct Keys {
+    pub(crate) rows: Seq<Seq<Seq<Key>>>,
+}
+
+impl Keys {
+    /// Returns the keys of a policy. Returns `AllocError` if allocation fails.
+    pub(crate) fn of(alloc: Global, checked: &Checked) -> Result<Keys, AllocError>
+        ensures { IfOk result (λ keys. AreKeys checked.now keys.rows) }
+    {
+        let entries = checked.policy().entries.as_slice();
+        let mut rows = Vec::with_capacity(alloc, entries.len())?;
+        for entry in entries {
+            rows.push(body_keys(alloc, checked, &entry.body)?)?;
+        }
+        Ok(Keys {
+            rows: Seq::from_vec(rows),
+        })
+    }
+}
+
+// Whether two kinds are the same.
+fn is_same_kind(one: Kind, other: Kind) -> bool
+    ensures { result ≡ true → one ≡ other }
+{
+    match (one, other) {
+        (Kind::User, Kind::User)
+        | (Kind::Runas, Kind::Runas)
+        | (Kind::Host, Kind::Host)
+        | (Kind::Cmnd, Kind::Cmnd) => true,
+        _ => false,
+    }
+}
+
+// Returns the keys of the members of the definition at a position, for a list of a kind; none if it has another kind.
+fn keys_at<'a>(
+    checked: &Checked,
+    rows: &'a Seq<Seq<Seq<Key>>>,
+    kind: Kind,
+    position: Position,
+) -> &'a [Key]
+    requires { AreKeys checked.now rows.now }
+    ensures { (members : List TheMember) → members_at checked.now position ≡ Some members
+        → HaveKeys checked.now kind result.now members }
+{
+    let Some(entry) = checked.policy().entries.get(position.entry) else {
+        return &[];
+    };
+    let Some(definitions) = rows.get(position.entry) else {
+        return &[];
+    };
+    match &entry.body {
+        EntryBody::Aliases { kind: own, .. } if is_same_kind(*own, kind) => {
+            match definitions.get(position.definition) {
+                Some(keys) => keys.as_slice(),
+                None => &[],
+            }
+        }
+        _ => &[],
+    }
+}
+
+/// A checked policy, with the keys of its definitions if they are known.
+#[derive(Clone, Copy)]
+pub(crate) struct Lists<'a> {
+    pub(crate) checked: &'a Checked,
+    pub(crate) keys: Option<&'a Keys>,
+    ghost known: { AreKnown checked.now (option_copied keys) },
+}
+
+impl Lists<'_> {
+    /// Whether two kinds are the same.
+fn is_same_kind(one: Kind, other: Kind) -> bool
+    ensures { result ≡ true → one ≡ other }
+{
+    match (one, other) {
+        (Kind::User, Kind::User)
+        | (Kind::Runas, Kind::Runas)
+        | (Kind::Host, Kind::Host)
+        | (Kind::Cmnd, Kind::Cmnd) => true,
+        _ => false,
+    }
+}
+
+// Returns the keys of the members of the definition at a position, for a list of a kind; none if they are not known.
+    pub(crate) fn keys_of(&self, kind: Kind, position: Position) -> &[Key]
+        ensures { (members : List TheMember)
+            → members_at self.now.checked.now position ≡ Some members
+            → HaveKeys self.now.checked.now kind result.now members }
+    {
+        match self.keys {
+            Some(keys) => keys_at(self.checked, &keys.rows, kind, position),
+            None => &[],
+        }
+    }
+
+    /// Returns the position of the definition of an alias with this key. If there is none, returns `None` or a position
+    /// at which no list is found.
+    pub(crate) fn position(&self, kind: Kind, name: &[u8], key: Key) -> Option<Position>
+        requires { IsKeyOf self.now.checked.now kind key (TheAtom.Alias name.now) }
+        ensures { in_force kind self.now.checked.now name.now
+            ≡ option_and_then (members_at self.now.checked.now) result }
+    {
+        match key {
+            Key::Alias(position) => Some(position),
+            _ => self.checked.position(kind, name),
+        }
+    }
+}
