@@ -24,7 +24,9 @@ use Rattle.sudo_policy.specs.Positions.{members_at}
 use Rattle.sudo_policy.specs.declared.index.Position.{Position}
 use Rattle.sudo_verdict.specs.declared.key.Key.{Key}
 use Rattle.sudo_verdict.specs.declared.key.Key.TheVariants as key
-use Rattle.sudo_verdict.specs.Keys.{IsKeyOf, HaveKeys}
+use Rattle.sudo_verdict.specs.Keys.{Pairwise, IsKeyOf, HaveKeys, HaveCommandKeys}
+use Rattle.sudo_grammar.specs.declared.kind.Kind.TheVariants.{Cmnd}
+use Rattle.sudo_grammar.specs.declared.policy.CommandSpec.{CommandSpec}
 use Rattle.sudo_verdict.specs.Body.Known.{IsPassed}
 use Rattle.std.specs.Prelude.{unwrap_or, slice_get, option_and_then}
 use Rattle.sudo_verdict.proofs.Lasts.{last-at, last_that-append, last_that-map, option_map_or, option_map_map}
@@ -160,5 +162,20 @@ pub key-there :
 key-there k p keys members left rest m is front have = go (slice_get keys (length rest)) refl
   where
     go : (o : Option Key) → slice_get keys (length rest) ≡ o → IsKeyOf p k (unwrap_or o key.Other) m.atom
-    go None e = record { position = λ q n f g. cc; name = λ n f. cc; command = λ n f. cc; literal = λ i b f. cc; }
+    go None e = record { position = λ q n f g. cc; name = λ n f. cc; command = λ n f. cc; literal = λ i b f. cc }
     go (Some known) e = have (length rest) known m e (last-at members left rest m is front)
+
+pub related-there :
+    {X Y : Type 0} (R : X → Y → Type 0) (xs : List X) (ys left rest : List Y) (x : X) (y : Y) → left ≡ rest ++ y ∷ [] → left ≡ take (length left) ys →
+    Pairwise R xs ys → slice_get xs (length rest) ≡ Some x → R x y
+related-there R xs ys left rest x y is front have e = have (length rest) x y e (last-at ys left rest y is front)
+
+-- The key at a command's index is that of the command.
+pub command_key-there :
+    (p : Policy) (keys : List Key) (commands left rest : List CommandSpec) (s : CommandSpec) → left ≡ rest ++ s ∷ [] →
+    left ≡ take (length left) commands → HaveCommandKeys p keys commands → IsKeyOf p Cmnd (unwrap_or (slice_get keys (length rest)) key.Other) s.command.atom
+command_key-there p keys commands left rest s is front have = go (slice_get keys (length rest)) refl
+  where
+    go : (o : Option Key) → slice_get keys (length rest) ≡ o → IsKeyOf p Cmnd (unwrap_or o key.Other) s.command.atom
+    go None e = record { position = λ q n f g. cc; name = λ n f. cc; command = λ n f. cc; literal = λ i b f. cc; }
+    go (Some known) e = have (length rest) known s e (last-at commands left rest s is front)

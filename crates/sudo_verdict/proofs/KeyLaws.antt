@@ -16,9 +16,11 @@ use Rattle.sudo_grammar.specs.declared.policy.Entry.{Entry}
 use Rattle.sudo_grammar.specs.declared.policy.EntryBody.{EntryBody}
 use Rattle.sudo_grammar.specs.declared.policy.EntryBody.TheVariants as body
 use Rattle.sudo_grammar.specs.declared.policy.Policy.{Policy}
+use Rattle.sudo_grammar.specs.declared.policy.Section.{Section}
 use Rattle.sudo_policy.specs.declared.index.Position.{Position}
 use Rattle.sudo_policy.specs.Positions.{members_at, definition_at_body}
 use Rattle.sudo_verdict.specs.declared.key.Key.{Key}
+use Rattle.sudo_verdict.specs.declared.key.EntryKeys.{EntryKeys}
 use Rattle.sudo_policy.specs.Definitions.{alias_named}
 use Rattle.sudo_match.specs.declared.people.Person.{Person}
 use Rattle.sudo_match.specs.declared.people.Machine.{Machine}
@@ -26,7 +28,7 @@ use Rattle.sudo_match.specs.Beginnings.{is_special, is_named_otherwise}
 use Rattle.sudo_match.specs.Class.{lower}
 use Rattle.sudo_match.specs.Matching.{user_fits, host_fits, command_fits}
 use Rattle.sudo_match.proofs.BeginningLemmas.{host-differs}
-use Rattle.sudo_verdict.specs.Keys.{Pairwise, HaveKeys, HaveDefinitionKeys, HaveBodyKeys, AreKeys, name_number, command_number, literal_byte}
+use Rattle.sudo_verdict.specs.Keys.{Pairwise, HaveKeys, HaveDefinitionKeys, HaveRuleKeys, HaveBodyKeys, AreKeys, name_number, command_number, literal_byte}
 use Rattle.sudo_verdict.specs.Numbers.{user_bucket, path_number, atom_number}
 use Rattle.sudo_verdict.specs.Body.NumberSets.{lacks_command}
 use Rattle.sudo_verdict.proofs.NumberSets.{lacked-atom}
@@ -66,15 +68,15 @@ in-definition None ms e = cc
 in-definition (Some d) ms e = (d, refl, cc)
 
 pub have_there :
-    (p : Policy) (kind : Kind) (position : Position) (e : Entry) (rows : List (List (List Key))) (ks : List (List Key)) (keys : List Key)
+    (p : Policy) (kind : Kind) (position : Position) (e : Entry) (rows : List EntryKeys) (ks : EntryKeys) (keys : List Key)
     (definitions : List Definition) (members : List Member) →
     AreKeys p rows → slice_get p.entries position.entry ≡ Some e → slice_get rows position.entry ≡ Some ks →
-    e.body ≡ body.Aliases kind definitions → slice_get ks position.definition ≡ Some keys → members_at p position ≡ Some members →
+    e.body ≡ body.Aliases kind definitions → slice_get ks.definitions position.definition ≡ Some keys → members_at p position ≡ Some members →
     HaveKeys p kind keys members
 have_there p kind position e rows ks keys definitions members are entry row aliases there at = go known
   where
-    have : HaveDefinitionKeys p kind ks definitions
-    have = are position.entry ks e row entry kind definitions aliases
+    have : HaveDefinitionKeys p kind ks.definitions definitions
+    have = (are position.entry ks e row entry).0 kind definitions aliases
 
     found : option_map (λ (d : Definition). d.members) (slice_get definitions position.definition) ≡ Some members
     found = sym (ap (λ o. option_and_then (λ (x : Entry). definition_at_body x.body position.definition) o) entry ∙ ap (λ b. definition_at_body b position.definition) aliases) ∙ at
@@ -85,8 +87,20 @@ have_there p kind position e rows ks keys definitions members are entry row alia
     go : (d : Definition) × (slice_get definitions position.definition ≡ Some d) × (d.members ≡ members) → HaveKeys p kind keys members
     go (d, f, same) = rw (sym same) (have position.definition keys d there f)
 
+pub rule_body :
+    (p : Policy) (ks : EntryKeys) (b : EntryBody) (users : List Member) (sections : List Section) → b ≡ body.Rule users sections →
+    HaveRuleKeys p ks.users ks.sections users sections → HaveBodyKeys p ks b
+rule_body p ks b users sections is have = (
+  λ kind definitions e. let no : body.Rule users sections ≡ body.Aliases kind definitions = sym is ∙ e in cc,
+  λ others more e.
+      let same : body.Rule others more ≡ body.Rule users sections = sym e ∙ is in
+      let first : others ≡ users = cc in
+      let second : more ≡ sections = cc in
+      rw (first, second) have,
+)
+
 pub are_keys :
-    (p : Policy) (rows : List (List (List Key))) (entries : List Entry) → entries ≡ p.entries →
+    (p : Policy) (rows : List EntryKeys) (entries : List Entry) → entries ≡ p.entries →
     Pairwise (λ ks (e : Entry). HaveBodyKeys p ks e.body) rows entries → AreKeys p rows
 are_keys p rows entries same h i ks e f g = h i ks e f (ap (λ l. slice_get l i) same ∙ g)
 

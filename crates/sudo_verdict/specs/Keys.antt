@@ -6,8 +6,11 @@ use Rattle.sudo_text.specs.declared.token.Ch.{Ch}
 use Rattle.sudo_grammar.specs.declared.kind.Atom.{Atom}
 use Rattle.sudo_grammar.specs.declared.kind.Atom.TheVariants as atom
 use Rattle.sudo_grammar.specs.declared.kind.Kind.{Kind}
+use Rattle.sudo_grammar.specs.declared.kind.Kind.TheVariants.{User, Host, Cmnd}
 use Rattle.sudo_grammar.specs.declared.kind.Member.{Member}
+use Rattle.sudo_grammar.specs.declared.policy.CommandSpec.{CommandSpec}
 use Rattle.sudo_grammar.specs.declared.policy.Definition.{Definition}
+use Rattle.sudo_grammar.specs.declared.policy.Section.{Section}
 use Rattle.sudo_grammar.specs.declared.policy.Entry.{Entry}
 use Rattle.sudo_grammar.specs.declared.policy.EntryBody.{EntryBody}
 use Rattle.sudo_grammar.specs.declared.policy.EntryBody.TheVariants as body
@@ -18,6 +21,8 @@ use Rattle.sudo_policy.specs.Positions.{members_at}
 use Rattle.sudo_match.specs.Beginnings.{is_special}
 use Rattle.sudo_match.specs.Class.{lower}
 use Rattle.sudo_verdict.specs.declared.key.Key.{Key}
+use Rattle.sudo_verdict.specs.declared.key.SectionKeys.{SectionKeys}
+use Rattle.sudo_verdict.specs.declared.key.EntryKeys.{EntryKeys}
 use Rattle.sudo_verdict.specs.declared.key.Key.TheVariants as keys
 use Rattle.sudo_verdict.specs.Numbers.{user_bucket, path_number}
 
@@ -52,13 +57,26 @@ pub record IsKeyOf (p : Policy) (kind : Kind) (key : Key) (a : Atom) : Type 0 wh
 abbrev pub HaveKeys : Policy → Kind → List Key → List Member → Type 0
 HaveKeys p kind = Pairwise (λ k m. IsKeyOf p kind k m.atom)
 
+-- each key is that of the command at its index
+abbrev pub HaveCommandKeys : Policy → List Key → List CommandSpec → Type 0
+HaveCommandKeys p = Pairwise (λ k s. IsKeyOf p Cmnd k s.command.atom)
+
+abbrev pub HaveSectionKeys : Policy → SectionKeys → Section → Type 0
+HaveSectionKeys p ks s = HaveKeys p Host ks.hosts s.hosts × HaveCommandKeys p ks.commands s.commands
+
+-- the keys of a rule's lists
+abbrev pub HaveRuleKeys : Policy → List Key → List SectionKeys → List Member → List Section → Type 0
+HaveRuleKeys p users sections members of_sections = HaveKeys p User users members × Pairwise (HaveSectionKeys p) sections of_sections
+
 abbrev pub HaveDefinitionKeys : Policy → Kind → List (List Key) → List Definition → Type 0
 HaveDefinitionKeys p kind = Pairwise (λ ks d. HaveKeys p kind ks d.members)
 
--- the keys of the definitions of an entry
-abbrev pub HaveBodyKeys : Policy → List (List Key) → EntryBody → Type 0
-HaveBodyKeys p ks b = (kind : Kind) (definitions : List Definition) → b ≡ body.Aliases kind definitions → HaveDefinitionKeys p kind ks definitions
+-- the keys of the lists of an entry
+abbrev pub HaveBodyKeys : Policy → EntryKeys → EntryBody → Type 0
+HaveBodyKeys p ks b =
+    ((kind : Kind) (definitions : List Definition) → b ≡ body.Aliases kind definitions → HaveDefinitionKeys p kind ks.definitions definitions)
+    × ((users : List Member) (sections : List Section) → b ≡ body.Rule users sections → HaveRuleKeys p ks.users ks.sections users sections)
 
--- for each entry of a policy, the keys of its definitions
-abbrev pub AreKeys : Policy → List (List (List Key)) → Type 0
+-- for each entry of a policy, the keys of its lists
+abbrev pub AreKeys : Policy → List EntryKeys → Type 0
 AreKeys p rows = Pairwise (λ ks (e : Entry). HaveBodyKeys p ks e.body) rows p.entries

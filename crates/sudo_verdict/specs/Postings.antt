@@ -7,7 +7,7 @@ use Rattle.sudo_grammar.specs.declared.policy.Entry.{Entry}
 use Rattle.sudo_grammar.specs.declared.policy.Policy.{Policy}
 use Rattle.sudo_match.specs.declared.people.Person.{Person}
 use Rattle.sudo_match.specs.declared.people.Group.{Group}
-use Rattle.sudo_verdict.specs.declared.key.Key.{Key}
+use Rattle.sudo_verdict.specs.declared.key.EntryKeys.{EntryKeys}
 use Rattle.sudo_verdict.specs.Questions.{Question}
 use Rattle.sudo_verdict.specs.Found.{entry_found}
 use Rattle.sudo_verdict.specs.Keys.{AreKeys}
@@ -58,9 +58,9 @@ misses_command rows rule command =
 abbrev pub Grows : Rows → Rows → Type 0
 Grows old new = (number rule : ℕ) → is_in_row old number rule ≡ true → is_in_row new number rule ≡ true
 
--- the rows by user, those by command, and the keys of the definitions
+-- the rows by user, those by command, and the keys of the lists
 abbrev pub Index : Type 0
-Index = Rows × (Rows × List (List (List Key)))
+Index = Rows × (Rows × List EntryKeys)
 
 -- each of the first n entries that is in no row of the user, or in none of the command, decides nothing
 abbrev pub Covers : Policy → ℕ → Rows → Rows → Type 0
@@ -68,7 +68,7 @@ Covers p n users commands =
     (q : Question) (rule : ℕ) (e : Entry) → rule < n → slice_get p.entries rule ≡ Some e →
     (misses_user users rule q.user || misses_command commands rule q.command) ≡ true → entry_found p q e ≡ None
 
--- the rows are an index of the policy's rules, and the keys are those of its definitions
+-- the rows are an index of the policy's rules, and the keys are those of its lists
 pub record Indexes (p : Policy) (index : Index) : Type 0 where
   pub users : 0 < length index.0
   pub commands : 0 < length index.1.0

@@ -223,13 +223,15 @@ pub(crate) fn value<S: Subject>(
     lists: Lists<'_>,
     kind: Kind,
     members: &[Member],
+    keys: &[Key],
     subject: &S,
     aliases: Option<&Aliases>,
 ) -> Option<bool>
-    requires { IsTrue (resolves kind lists.checked.now members.now) }
+    requires keys { HaveKeys lists.checked.now kind keys.now members.now }
+    requires resolves { IsTrue (resolves kind lists.checked.now members.now) }
     ensures { result ≡ values.value kind lists.entry.checked.now members.now (S.fits subject.now) }
 {
-    match decide_list(lists, kind, members, subject, aliases) {
+    match decide_list(lists, kind, members, keys, subject, aliases) {
         Some(decision) => Some(!decision.negated),
         None => None,
     }
@@ -240,21 +242,23 @@ pub(crate) fn decide_list<S: Subject>(
     lists: Lists<'_>,
     kind: Kind,
     members: &[Member],
+    keys: &[Key],
     subject: &S,
     aliases: Option<&Aliases>,
 ) -> Option<Decision>
-    requires { IsTrue (resolves kind lists.checked.now members.now) }
+    requires keys { HaveKeys lists.checked.now kind keys.now members.now }
+    requires resolves { IsTrue (resolves kind lists.checked.now members.now) }
     ensures { result ≡ list_decision kind lists.entry.checked.now members.now (S.fits subject.now) }
 {
     match aliases {
-        None => decide(lists, kind, members, &[], subject, None, &mut []),
+        None => decide(lists, kind, members, keys, subject, None, &mut []),
         Some(aliases) => {
             let mut slots = [None; REMEMBERED];
             decide(
                 lists,
                 kind,
                 members,
-                &[],
+                keys,
                 subject,
                 Some(aliases.of_kind(kind)),
                 &mut slots,
@@ -269,22 +273,27 @@ pub(crate) fn decide_one<S: Subject>(
     lists: Lists<'_>,
     kind: Kind,
     member: &Member,
+    key: Key,
     subject: &S,
     aliases: Option<&Aliases>,
 ) -> Option<Decision>
-    requires { IsTrue (resolves kind lists.checked.now (member.now ∷ [])) }
+    requires key { IsKeyOf lists.checked.now kind key member.now.atom }
+    requires resolves { IsTrue (resolves kind lists.checked.now (member.now ∷ [])) }
     ensures { result ≡ list_decision kind lists.entry.checked.now (member.now ∷ [])
         (S.fits subject.now) }
 {
+    if subject.misses(key) {
+        return None;
+    }
     match aliases {
-        None => decide_member(lists, kind, member, Key::Other, subject, None, &mut []),
+        None => decide_member(lists, kind, member, key, subject, None, &mut []),
         Some(aliases) => {
             let mut slots = [None; REMEMBERED];
             decide_member(
                 lists,
                 kind,
                 member,
-                Key::Other,
+                key,
                 subject,
                 Some(aliases.of_kind(kind)),
                 &mut slots,

@@ -2,6 +2,7 @@
 
 ghost use Rattle.std.specs.Prelude.{◌≡◌, slice_get, unwrap_or};
 
+use sudo_base::Seq;
 use sudo_policy::Position;
 
 /// The key of an atom, by which most members of a list are passed over.
@@ -17,10 +18,7 @@ pub(crate) enum Key {
     Command(usize),
     /// A host's name, by the index of one of its characters and the byte of that in lower case. Neither this character nor
     /// one before it is special.
-    Host {
-        index: usize,
-        byte: u8,
-    },
+    Host { index: usize, byte: u8 },
 }
 
 /// Returns the key at an index; if there is none, that of an atom of which nothing is known.
@@ -28,4 +26,19 @@ pub(crate) fn key_at(keys: &[Key], index: usize) -> Key
     ensures { result ≡ unwrap_or (slice_get keys.now index) Key.Other }
 {
     keys.get(index).copied().unwrap_or(Key::Other)
+}
+
+/// The keys of the lists of a section.
+#[derive(Drop)]
+pub(crate) struct SectionKeys {
+    pub(crate) hosts: Seq<Key>,
+    pub(crate) commands: Seq<Key>,
+}
+
+/// The keys of the lists of an entry: of its definitions, if it has some, or of its users and its sections.
+#[derive(Drop)]
+pub(crate) struct EntryKeys {
+    pub(crate) definitions: Seq<Seq<Key>>,
+    pub(crate) users: Seq<Key>,
+    pub(crate) sections: Seq<SectionKeys>,
 }

@@ -1,23 +1,29 @@
-//! The keys of the members of alias definitions.
+//! The keys of the members of a policy's lists.
 
-ghost use Rattle.std.specs.Prelude.{◌≡◌, ◌≤◌, List, true, false, Some, IfOk, length, option_copied, option_and_then, take};
+ghost use Rattle.std.specs.Prelude.{◌≡◌, ◌≤◌, List, true, false, Some, IfOk, length, option_copied, option_and_then, slice_get, take};
 ghost use Rattle.std.specs.List.{list_any};
 ghost use Rattle.sudo_grammar.specs.declared.kind.Atom.{Atom as TheAtom};
 ghost use Rattle.sudo_grammar.specs.declared.kind.Kind.{Kind as TheKind};
 ghost use Rattle.sudo_grammar.specs.declared.kind.Member.{Member as TheMember};
+ghost use Rattle.sudo_grammar.specs.declared.policy.Entry.{Entry as TheEntry};
+ghost use Rattle.sudo_grammar.specs.declared.policy.EntryBody.TheVariants as body;
 ghost use Rattle.sudo_grammar.specs.declared.policy.Policy.{Policy};
+ghost use Rattle.sudo_grammar.specs.declared.policy.Section.{Section as TheSection};
 ghost use Rattle.sudo_match.specs.Beginnings.{is_special};
 ghost use Rattle.sudo_policy.specs.Definitions.{in_force};
 ghost use Rattle.sudo_policy.specs.Positions.{members_at};
-ghost use Rattle.sudo_verdict.specs.Keys.{IsKeyOf, HaveKeys, HaveDefinitionKeys, HaveBodyKeys, AreKeys};
+ghost use Rattle.sudo_verdict.specs.Keys.{Pairwise, IsKeyOf, HaveKeys, HaveCommandKeys, HaveSectionKeys, HaveRuleKeys, HaveDefinitionKeys, HaveBodyKeys, AreKeys};
+ghost use Rattle.sudo_verdict.specs.declared.key.SectionKeys.{SectionKeys as TheKeys};
 ghost use Rattle.sudo_verdict.specs.Body.Known.{AreKnown};
 
-use crate::key::Key;
+use crate::key::{EntryKeys, Key, SectionKeys};
 use crate::numbers::{path_number, user_bucket};
 use std::alloc::{AllocError, Global};
 use sudo_base::Seq;
 use sudo_match::is_special;
-use sudo_policy::{Atom, Checked, Definition, EntryBody, Kind, Member, Position};
+use sudo_policy::{
+    Atom, Checked, CommandSpec, Definition, EntryBody, Kind, Member, Position, Section,
+};
 use sudo_text::Ch;
 
 // Returns the number of characters before the first special one or the first dot.
@@ -100,36 +106,82 @@ fn definition_keys(
 {
     let mut keys = Vec::with_capacity(alloc, definitions.len())?;
     for definition in definitions {
-        keys.push(member_keys(
-            alloc,
-            checked,
-            kind,
-            definition.members.as_slice(),
-        )?)?;
+        keys.push(member_keys(alloc, checked, kind, definition.members.as_slice())?)?;
     }
     Ok(Seq::from_vec(keys))
 }
 
-// Returns the keys of the definitions of an entry. Returns `AllocError` if allocation fails.
-fn body_keys(
+// Returns the keys of the commands of a section. Returns `AllocError` if allocation fails.
+fn command_keys(
     alloc: Global,
     checked: &Checked,
-    body: &EntryBody,
-) -> Result<Seq<Seq<Key>>, AllocError>
+    commands: &[CommandSpec],
+) -> Result<Seq<Key>, AllocError>
+    ensures { IfOk result (λ keys. HaveCommandKeys checked.now keys commands.now) }
+{
+    let mut keys = Vec::with_capacity(alloc, commands.len())?;
+    for spec in commands {
+        keys.push(atom_key(checked, Kind::Cmnd, &spec.command.atom))?;
+    }
+    Ok(Seq::from_vec(keys))
+}
+
+// Returns the keys of a section. Returns `AllocError` if allocation fails.
+fn section_keys(
+    alloc: Global,
+    checked: &Checked,
+    section: &Section,
+) -> Result<SectionKeys, AllocError>
+    ensures { IfOk result (λ keys. HaveSectionKeys checked.now keys section.now) }
+{
+    Ok(SectionKeys {
+        hosts: member_keys(alloc, checked, Kind::Host, section.hosts.as_slice())?,
+        commands: command_keys(alloc, checked, section.commands.as_slice())?,
+    })
+}
+
+// Returns the keys of sections. Returns `AllocError` if allocation fails.
+fn sections_keys(
+    alloc: Global,
+    checked: &Checked,
+    sections: &[Section],
+) -> Result<Seq<SectionKeys>, AllocError>
+    ensures { IfOk result (λ keys. Pairwise (HaveSectionKeys checked.now) keys sections.now) }
+{
+    let mut keys = Vec::with_capacity(alloc, sections.len())?;
+    for section in sections {
+        keys.push(section_keys(alloc, checked, section)?)?;
+    }
+    Ok(Seq::from_vec(keys))
+}
+
+// Returns the keys of an entry. Returns `AllocError` if allocation fails.
+fn body_keys(alloc: Global, checked: &Checked, body: &EntryBody) -> Result<EntryKeys, AllocError>
     ensures { IfOk result (λ keys. HaveBodyKeys checked.now keys body.now) }
 {
     match body {
-        EntryBody::Aliases { kind, definitions } => {
-            definition_keys(alloc, checked, *kind, definitions.as_slice())
-        }
-        _ => Ok(Seq::new(alloc)),
+        EntryBody::Aliases { kind, definitions } => Ok(EntryKeys {
+            definitions: definition_keys(alloc, checked, *kind, definitions.as_slice())?,
+            users: Seq::new(alloc),
+            sections: Seq::new(alloc),
+        }),
+        EntryBody::Rule { users, sections } => Ok(EntryKeys {
+            definitions: Seq::new(alloc),
+            users: member_keys(alloc, checked, Kind::User, users.as_slice())?,
+            sections: sections_keys(alloc, checked, sections.as_slice())?,
+        }),
+        _ => Ok(EntryKeys {
+            definitions: Seq::new(alloc),
+            users: Seq::new(alloc),
+            sections: Seq::new(alloc),
+        }),
     }
 }
 
-/// The key of each member of each alias definition of a policy.
+/// The key of each member of each list of a policy but those of runas.
 #[derive(Drop)]
 pub(crate) struct Keys {
-    pub(crate) rows: Seq<Seq<Seq<Key>>>,
+    pub(crate) rows: Seq<EntryKeys>,
 }
 
 impl Keys {
@@ -164,7 +216,7 @@ fn is_same_kind(one: Kind, other: Kind) -> bool
 // Returns the keys of the members of the definition at a position, for a list of a kind; none if it has another kind.
 fn keys_at<'a>(
     checked: &Checked,
-    rows: &'a Seq<Seq<Seq<Key>>>,
+    rows: &'a Seq<EntryKeys>,
     kind: Kind,
     position: Position,
 ) -> &'a [Key]
@@ -175,12 +227,12 @@ fn keys_at<'a>(
     let Some(entry) = checked.policy().entries.get(position.entry) else {
         return &[];
     };
-    let Some(definitions) = rows.get(position.entry) else {
+    let Some(row) = rows.get(position.entry) else {
         return &[];
     };
     match &entry.body {
         EntryBody::Aliases { kind: own, .. } if is_same_kind(*own, kind) => {
-            match definitions.get(position.definition) {
+            match row.definitions.get(position.definition) {
                 Some(keys) => keys.as_slice(),
                 None => &[],
             }
@@ -189,7 +241,40 @@ fn keys_at<'a>(
     }
 }
 
-/// A checked policy, with the keys of its definitions if they are known.
+/// The keys of a rule's lists, or none where they are not known.
+#[derive(Clone, Copy)]
+pub(crate) struct RuleKeys<'a> {
+    pub(crate) users: &'a [Key],
+    pub(crate) sections: &'a [SectionKeys],
+}
+
+/// The keys of the lists of a section, or none where they are not known.
+#[derive(Clone, Copy)]
+pub(crate) struct SectionLists<'a> {
+    pub(crate) hosts: &'a [Key],
+    pub(crate) commands: &'a [Key],
+}
+
+/// Returns the keys of the section at an index.
+pub(crate) fn section_at<'a>(keys: &'a [SectionKeys], index: usize) -> SectionLists<'a>
+    ensures { (p : Policy) (s : TheSection)
+        → ((k : TheKeys) → slice_get keys.now index ≡ Some k → HaveSectionKeys p k s)
+        → HaveKeys p TheKind.Host result.hosts.now s.hosts
+        × HaveCommandKeys p result.commands.now s.commands }
+{
+    match keys.get(index) {
+        Some(section) => SectionLists {
+            hosts: section.hosts.as_slice(),
+            commands: section.commands.as_slice(),
+        },
+        None => SectionLists {
+            hosts: &[],
+            commands: &[],
+        },
+    }
+}
+
+/// A checked policy, with the keys of its lists if they are known.
 #[derive(Clone, Copy)]
 pub(crate) struct Lists<'a> {
     pub(crate) checked: &'a Checked,
@@ -199,19 +284,19 @@ pub(crate) struct Lists<'a> {
 
 impl Lists<'_> {
     /// Whether two kinds are the same.
-fn is_same_kind(one: Kind, other: Kind) -> bool
-    ensures { result ≡ true → one ≡ other }
-{
-    match (one, other) {
-        (Kind::User, Kind::User)
-        | (Kind::Runas, Kind::Runas)
-        | (Kind::Host, Kind::Host)
-        | (Kind::Cmnd, Kind::Cmnd) => true,
-        _ => false,
+    fn is_same_kind(one: Kind, other: Kind) -> bool
+        ensures { result ≡ true → one ≡ other }
+    {
+        match (one, other) {
+            (Kind::User, Kind::User)
+            | (Kind::Runas, Kind::Runas)
+            | (Kind::Host, Kind::Host)
+            | (Kind::Cmnd, Kind::Cmnd) => true,
+            _ => false,
+        }
     }
-}
 
-// Returns the keys of the members of the definition at a position, for a list of a kind; none if they are not known.
+    // Returns the keys of the members of the definition at a position, for a list of a kind; none if they are not known.
     pub(crate) fn keys_of(&self, kind: Kind, position: Position) -> &[Key]
         ensures { (members : List TheMember)
             → members_at self.now.checked.now position ≡ Some members
@@ -220,6 +305,31 @@ fn is_same_kind(one: Kind, other: Kind) -> bool
         match self.keys {
             Some(keys) => keys_at(self.checked, &keys.rows, kind, position),
             None => &[],
+        }
+    }
+
+    /// Returns the keys of the rule at an index; none if they are not known.
+    pub(crate) fn rule_keys(&self, index: usize) -> RuleKeys<'_>
+        ensures { (e : TheEntry) (users : List TheMember) (sections : List TheSection)
+            → slice_get self.now.checked.now.entries index ≡ Some e
+            → e.body ≡ body.Rule users sections
+            → HaveRuleKeys self.now.checked.now result.users.now result.sections.now users sections }
+    {
+        let Some(keys) = self.keys else {
+            return RuleKeys {
+                users: &[],
+                sections: &[],
+            };
+        };
+        match keys.rows.get(index) {
+            Some(row) => RuleKeys {
+                users: row.users.as_slice(),
+                sections: row.sections.as_slice(),
+            },
+            None => RuleKeys {
+                users: &[],
+                sections: &[],
+            },
         }
     }
 

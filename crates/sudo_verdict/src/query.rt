@@ -4,14 +4,16 @@ ghost use Rattle.std.specs.Prelude.{◌≡◌, ◌∷◌, [], IsTrue, Option, So
 ghost use Rattle.sudo_grammar.specs.declared.kind.Kind.TheVariants as kind;
 ghost use Rattle.sudo_policy.specs.Resolving.{resolves, list_resolves, runas_resolves};
 ghost use Rattle.sudo_match.specs.KnownRows.{user_named};
+ghost use Rattle.sudo_verdict.specs.Keys.{HaveKeys};
 ghost use Rattle.sudo_verdict.specs.Values as values;
 ghost use Rattle.sudo_verdict.specs.RunasForms as form;
 ghost use Rattle.sudo_verdict.specs.Questions.{question_of, target_of};
 ghost use Rattle.sudo_verdict.specs.Body.Queries.{question};
 
 use crate::aliases::Aliases;
-use crate::keys::Lists;
 use crate::decision::{AsCommand, AsGroup, AsHost, AsUser, value};
+use crate::key::Key;
+use crate::keys::Lists;
 use crate::number_set::NumberSet;
 use sudo_match::{Directory, Group, Machine, Person, Request, What, has_special};
 use sudo_policy::{Kind, Member, Runas};
@@ -100,21 +102,23 @@ fn target<'a>(
 
 impl Query<'_> {
     /// Whether a rule's user list allows the invoking user.
-    pub(crate) fn user_listed(&self, lists: Lists<'_>, users: &[Member]) -> bool
-        requires { IsTrue (resolves kind.User lists.checked.now users.now) }
+    pub(crate) fn user_listed(&self, lists: Lists<'_>, users: &[Member], keys: &[Key]) -> bool
+        requires keys { HaveKeys lists.checked.now kind.User keys.now users.now }
+        requires resolves { IsTrue (resolves kind.User lists.checked.now users.now) }
         ensures { result ≡ values.user_listed lists.entry.checked.now users.now
             (question self.now) }
     {
-        value(lists, Kind::User, users, &self.user, self.aliases).unwrap_or(false)
+        value(lists, Kind::User, users, keys, &self.user, self.aliases).unwrap_or(false)
     }
 
     /// Whether a section's host list allows the host.
-    pub(crate) fn host_listed(&self, lists: Lists<'_>, hosts: &[Member]) -> bool
-        requires { IsTrue (resolves kind.Host lists.checked.now hosts.now) }
+    pub(crate) fn host_listed(&self, lists: Lists<'_>, hosts: &[Member], keys: &[Key]) -> bool
+        requires keys { HaveKeys lists.checked.now kind.Host keys.now hosts.now }
+        requires resolves { IsTrue (resolves kind.Host lists.checked.now hosts.now) }
         ensures { result ≡ values.host_listed lists.entry.checked.now hosts.now
             (question self.now) }
     {
-        value(lists, Kind::Host, hosts, &self.host, self.aliases).unwrap_or(false)
+        value(lists, Kind::Host, hosts, keys, &self.host, self.aliases).unwrap_or(false)
     }
 
     /// Whether a runas, or its absence, allows the command to run as the target and the group asked for.
@@ -198,7 +202,7 @@ impl Query<'_> {
         ensures { result ≡ form.target_value lists.entry.checked.now users.now target.now }
     {
         let target = AsUser::of(target);
-        value(lists, Kind::Runas, users, &target, self.aliases)
+        value(lists, Kind::Runas, users, &[], &target, self.aliases)
     }
 
     // Whether a runas group list, or else the person's own groups, allow the group asked for.
@@ -211,7 +215,7 @@ impl Query<'_> {
             return true;
         };
         let subject = AsGroup { group };
-        match value(lists, Kind::Runas, groups, &subject, self.aliases) {
+        match value(lists, Kind::Runas, groups, &[], &subject, self.aliases) {
             Some(allowed) => allowed,
             None => person.has_gid(group.gid),
         }

@@ -11,8 +11,8 @@ ghost use Rattle.sudo_verdict.specs.Found.{entry_found};
 ghost use Rattle.sudo_verdict.specs.Postings.{Indexes};
 
 use crate::aliases::Aliases;
-use crate::keys::{Keys, Lists};
 use crate::candidates::{add_command, add_user, last_in_both_before};
+use crate::keys::{Keys, Lists};
 use crate::postings::{Budget, Postings};
 use crate::query::{Query, query_of};
 use crate::rows::Rows;
@@ -198,7 +198,7 @@ fn search_candidates(
             return None;
         }
         left -= 1;
-        let found = search_candidate(lists, query, &entries[start + left]);
+        let found = search_candidate(lists, query, &entries[start + left], start + left);
         if found.is_some() {
             return found;
         }

@@ -1,8 +1,10 @@
 //! The verdict by a search back from the last grant, which stops at the first that applies and does not allocate.
 
-ghost use Rattle.std.specs.Prelude.{◌≡◌, true, false, ◌++◌, ◌∷◌, [], IsTrue, Option, map, length, option_copied};
+ghost use Rattle.std.specs.Prelude.{◌≡◌, true, false, ◌++◌, ◌∷◌, [], IsTrue, Option, map, length, Some, slice_get, option_copied};
 ghost use Rattle.std.specs.List.{list_all};
 ghost use Rattle.sudo_policy.specs.Resolving.{section_resolves, command_resolves};
+ghost use Rattle.sudo_grammar.specs.declared.kind.Kind.{Kind as TheKind};
+ghost use Rattle.sudo_verdict.specs.Keys.{Pairwise, IsKeyOf, HaveKeys, HaveCommandKeys, HaveSectionKeys};
 ghost use Rattle.sudo_verdict.specs.Last.{last_set};
 ghost use Rattle.sudo_verdict.specs.Tagged.{runas_before, tags_before};
 ghost use Rattle.sudo_verdict.specs.RunasForms.{runas_allows};
@@ -11,8 +13,9 @@ ghost use Rattle.sudo_verdict.specs.Verdicts.{verdict_of};
 ghost use Rattle.sudo_verdict.specs.Body.Resolved.{body_resolves};
 ghost use Rattle.sudo_verdict.specs.Found.{verdict_from, command_found, commands_found, section_found, entry_found};
 
-use crate::keys::Lists;
 use crate::decision::{Decision, decide_one};
+use crate::key::{Key, SectionKeys, key_at};
+use crate::keys::{Lists, SectionLists, section_at};
 use crate::query::{Query, query_of};
 use crate::tags::{tags_before_end, tags_given};
 use sudo_match::{Directory, Request, Verdict};
@@ -65,8 +68,8 @@ pub(crate) fn search_entry(lists: Lists<'_>, query: &Query<'_>, entry: &Entry) -
 {
     match &entry.body {
         EntryBody::Rule { users, sections } => {
-            if query.user_listed(lists, users.as_slice()) {
-                search_sections(lists, query, entry.place, sections.as_slice())
+            if query.user_listed(lists, users.as_slice(), &[]) {
+                search_sections(lists, query, entry.place, sections.as_slice(), &[])
             } else {
                 None
             }
@@ -75,21 +78,25 @@ pub(crate) fn search_entry(lists: Lists<'_>, query: &Query<'_>, entry: &Entry) -
     }
 }
 
-/// Returns the same as `search_entry`. Decides the user list last: an index has found the entry by its user list, which
-/// then mostly allows the user.
+/// Returns the same as `search_entry`, for the entry at an index. Decides the user list last: an index has found the entry
+/// by its user list, which then mostly allows the user.
 #[tactic(auto, unfolding(crate::specs::Found::rule_found))]
 pub(crate) fn search_candidate(
     lists: Lists<'_>,
     query: &Query<'_>,
     entry: &Entry,
+    index: usize,
 ) -> Option<Verdict>
-    requires { IsTrue (body_resolves lists.checked.now entry.now.body) }
+    requires resolves { IsTrue (body_resolves lists.checked.now entry.now.body) }
+    requires there { slice_get lists.checked.now.entries index ≡ Some entry.now }
     ensures { result ≡ entry_found lists.entry.checked.now (question query.now) entry.now }
 {
     match &entry.body {
         EntryBody::Rule { users, sections } => {
-            let found = search_sections(lists, query, entry.place, sections.as_slice())?;
-            if query.user_listed(lists, users.as_slice()) {
+            let keys = lists.rule_keys(index);
+            let sections = sections.as_slice();
+            let found = search_sections(lists, query, entry.place, sections, keys.sections)?;
+            if query.user_listed(lists, users.as_slice(), keys.users) {
                 Some(found)
             } else {
                 None
@@ -104,15 +111,18 @@ fn search_sections(
     query: &Query<'_>,
     place: Place,
     sections: &[Section],
+    keys: &[SectionKeys],
 ) -> Option<Verdict>
-    requires { IsTrue (list_all (section_resolves lists.checked.now) sections.now) }
+    requires keys { Pairwise (HaveSectionKeys lists.checked.now) keys.now sections.now }
+    requires resolves { IsTrue (list_all (section_resolves lists.checked.now) sections.now) }
     ensures { result ≡ last_set (map (section_found lists.entry.checked.now
         (question query.now) place)
         sections.now) }
 {
     let mut left = sections;
     while let Some((section, rest)) = left.split_last() {
-        if let Some(verdict) = search_section(lists, query, place, section) {
+        let keys = section_at(keys, rest.len());
+        if let Some(verdict) = search_section(lists, query, place, section, keys) {
             return Some(verdict);
         }
         left = rest;
@@ -126,13 +136,22 @@ fn search_section(
     query: &Query<'_>,
     place: Place,
     section: &Section,
+    keys: SectionLists<'_>,
 ) -> Option<Verdict>
-    requires { IsTrue (section_resolves lists.checked.now section.now) }
+    requires hosts { HaveKeys lists.checked.now TheKind.Host keys.hosts.now section.now.hosts }
+    requires commands { HaveCommandKeys lists.checked.now keys.commands.now section.now.commands }
+    requires resolves { IsTrue (section_resolves lists.checked.now section.now) }
     ensures { result ≡ section_found lists.entry.checked.now
         (question query.now) place section.now }
 {
-    if query.host_listed(lists, section.hosts.as_slice()) {
-        search_places(lists, query, place, section.commands.as_slice())
+    if query.host_listed(lists, section.hosts.as_slice(), keys.hosts) {
+        search_places(
+            lists,
+            query,
+            place,
+            section.commands.as_slice(),
+            keys.commands,
+        )
     } else {
         None
     }
@@ -143,8 +162,10 @@ fn search_places(
     query: &Query<'_>,
     place: Place,
     commands: &[CommandSpec],
+    keys: &[Key],
 ) -> Option<Verdict>
-    requires { IsTrue (list_all (command_resolves lists.checked.now) commands.now) }
+    requires keys { HaveCommandKeys lists.checked.now keys.now commands.now }
+    requires resolves { IsTrue (list_all (command_resolves lists.checked.now) commands.now) }
     ensures { result ≡ commands_found lists.entry.checked.now
         (question query.now) place commands.now
         (length commands.now) }
@@ -152,7 +173,8 @@ fn search_places(
     let mut refused = false;
     let mut left = commands;
     while let Some((spec, rest)) = left.split_last() {
-        let examined = search_command(lists, query, place, left, spec, refused);
+        let key = key_at(keys, rest.len());
+        let examined = search_command(lists, query, place, left, spec, key, refused);
         if let Some(verdict) = examined.verdict {
             return Some(verdict);
         }
@@ -171,7 +193,7 @@ struct Examined {
     refused: bool,
 }
 
-// Judges `spec`, the last of `commands`. `refused`: its runas is known not to allow the request.
+// Judges `spec`, the last of `commands`, by its key. `refused`: its runas is known not to allow the request.
 #[tactic(auto, unfolding(crate::specs::Found::command_found))]
 fn search_command(
     lists: Lists<'_>,
@@ -179,8 +201,10 @@ fn search_command(
     place: Place,
     commands: &[CommandSpec],
     spec: &CommandSpec,
+    key: Key,
     refused: bool,
 ) -> Examined
+    requires key { IsKeyOf lists.checked.now TheKind.Cmnd key spec.now.command.atom }
     requires all { IsTrue (list_all (command_resolves lists.checked.now) commands.now) }
     requires last { IsTrue (command_resolves lists.checked.now spec.now) }
     requires refused { refused ≡ true → runas_allows lists.checked.now (question query.now)
@@ -201,6 +225,7 @@ fn search_command(
         lists,
         Kind::Cmnd,
         &spec.command,
+        key,
         &query.command,
         query.aliases,
     ) else {

@@ -15,9 +15,14 @@ decide-decide_member-decided-requires g t c κs within =
     let is = c.in-Some.ensures.cases.0 in
     let test = g.S.Subject.fits c.args.subject.now in (
       omega (arith, last_shallow c.args.kind c.args.lists.checked.now test c.loop-member.left.now c.in-Some.rest.now c.in-Some.member.now is, c.loop-member.invariant.shallow, c.decreases),
-      (within, (rw c.key_at-key.ensures (key-there c.args.kind c.args.lists.checked.now c.args.keys.now c.args.members.now c.loop-member.left.now c.in-Some.rest.now c.in-Some.member.now is
-      c.loop-member.invariant.front c.requires.keys),
-      (last_resolves c.args.kind c.args.lists.checked.now test c.loop-member.left.now c.in-Some.rest.now c.in-Some.member.now is c.loop-member.invariant.resolve, c.loop-member.invariant.recalls))),
+      (
+        within,
+        (
+          rw c.key_at-key.ensures (key-there c.args.kind c.args.lists.checked.now c.args.keys.now c.args.members.now c.loop-member.left.now c.in-Some.rest.now c.in-Some.member.now is
+              c.loop-member.invariant.front c.requires.keys),
+          (last_resolves c.args.kind c.args.lists.checked.now test c.loop-member.left.now c.in-Some.rest.now c.in-Some.member.now is c.loop-member.invariant.resolve, c.loop-member.invariant.recalls),
+        ),
+      ),
     )
 
 pub decide-returns-then-is_some-clause-value : goal.decide-returns-then-is_some-clause-value

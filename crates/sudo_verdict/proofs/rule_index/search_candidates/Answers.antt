@@ -37,8 +37,12 @@ search_candidate-found-requires c =
     let whole = c.requires.within in
     let at = c.args.start + (c.last_in_both_before-left.result - 1) in
     let there = slice_get_read c.as_slice-entries.result.now (length c.as_slice-entries.result.now) at c.index-entries-start.result refl (omega (arith, count, positive, up, within, whole)) c.index-entries-start.is in
-    all-at (λ (e : Entry). body_resolves c.args.lists.checked.now e.body) c.args.lists.checked.now.entries at c.index-entries-start.result
-    (bodies_resolve c.args.lists.checked.now c.policy.ensures.sound) (ap (λ l. slice_get l at) (sym same) ∙ there)
+    let here = ap (λ l. slice_get l at) (sym same) ∙ there in
+    record {
+      resolves = all-at (λ (e : Entry). body_resolves c.args.lists.checked.now e.body) c.args.lists.checked.now.entries at c.index-entries-start.result
+    (bodies_resolve c.args.lists.checked.now c.policy.ensures.sound) here;
+      there = here;
+    }
 
 pub returns-then-is_some : goal.returns-then-is_some
 returns-then-is_some c =

@@ -3,6 +3,7 @@ use Rattle.sudo_policy.specs.Resolving.{command_resolves}
 use Rattle.sudo_verdict.specs.Body.Queries.{question}
 use Rattle.sudo_verdict.proofs.Lasts.{back_rest}
 use Rattle.sudo_verdict.proofs.Searching.{refused_rest, places_rest, places_decide, places_silent, places_end}
+use Rattle.sudo_verdict.proofs.Deciding.{command_key-there}
 use Rattle.sudo_verdict.proofs.search.search_places.Goals as goal
 
 pub returns-in-Some-verdict : goal.returns-in-Some-verdict
@@ -25,3 +26,9 @@ loop-spec-preserved c = record {
 pub returns : goal.returns
 returns c =
     sym (c.loop-spec.invariant.same ∙ places_end c.args.lists.checked.now (question c.args.query.now) c.args.place c.args.commands.now c.loop-spec.left.now c.in_default.ensures.cases)
+
+pub search_command-examined-requires-clause-key : goal.search_command-examined-requires-clause-key
+search_command-examined-requires-clause-key c =
+    rw c.key_at-key.ensures
+    (command_key-there c.args.lists.checked.now c.args.keys.now c.args.commands.now c.loop-spec.left.now c.in-Some.rest.now c.in-Some.spec.now
+    c.in-Some.ensures.cases.0 c.loop-spec.invariant.front c.requires.keys)
