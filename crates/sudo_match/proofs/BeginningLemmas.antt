@@ -1,24 +1,21 @@
--- What begins otherwise than a text does not fit it.
-use Rattle.std.proofs.Common.{◌≡◌, ℕ, suc, ◌+◌, ◌<◌, ◌≤◌, Bool, true, false, ◌&&◌, ◌||◌, not, cond, List, [], ◌∷◌, ◌++◌, map, length, drop, take, refl, ap, sym, ◌∙◌, Some, arith, ◌⊎◌, inl, inr}
+-- What begins otherwise than a host's name does not fit it.
+use Rattle.std.proofs.Common.{◌≡◌, ℕ, suc, ◌+◌, ◌<◌, ◌≤◌, Bool, true, false, ◌&&◌, ◌||◌, not, cond, List, [], ◌∷◌, map, length, drop, take, refl, ap, sym, ◌∙◌, Some, arith, ◌⊎◌, inl, inr}
 use Rattle.std.specs.Prelude.{slice_get, ◌==◌}
 use Rattle.std.specs.List.{position_or_len}
-use Rattle.std.proofs.lemmas.Bool.{eqb-true, eq-eqb, ne_eqb, cases_lt, leb-false, and_left, or_parts}
+use Rattle.std.proofs.lemmas.Bool.{eqb-true, eq-eqb, ne_eqb, cases_lt, leb-false, or_parts}
 use Rattle.std.proofs.Math.Dec.{leb}
 use Rattle.std.proofs.lemmas.Str.Ascii.{lowercase_is}
 use Rattle.sudo_text.specs.declared.token.Ch.{Ch}
-use Rattle.sudo_grammar.specs.declared.kind.Atom.{Atom}
-use Rattle.sudo_grammar.specs.declared.kind.Atom.TheVariants as atom
 use Rattle.sudo_match.specs.declared.patterns.Slash.{Slash}
-use Rattle.sudo_match.specs.declared.patterns.Slash.TheVariants.{Any, Not}
+use Rattle.sudo_match.specs.declared.patterns.Slash.TheVariants.{Any}
 use Rattle.sudo_match.specs.Class.{lower, lower_text}
 use Rattle.sudo_match.specs.HostNames.{lower_char, literal_char, free_bang, free_bangs, host_chars, quoted_chars}
-use Rattle.sudo_match.specs.Pattern.{is_plain, is_byte, Only, Part, One, parts, parts_after, any_name, is_folder_path, path_chars, fits}
-use Rattle.sudo_match.specs.Matching.{pattern_has_dot, short_name, compared_name, host_pattern, arguments_fit, arguments_slash, command_fits}
-use Rattle.sudo_match.specs.Beginnings.{is_special, has_special, begins_otherwise, is_named_otherwise, command_differs}
+use Rattle.sudo_match.specs.Pattern.{is_plain, is_byte, Only, Part, One, parts, parts_after, fits}
+use Rattle.sudo_match.specs.Matching.{pattern_has_dot, short_name, compared_name, host_pattern}
+use Rattle.sudo_match.specs.Beginnings.{is_special, is_named_otherwise}
 use Rattle.sudo_match.proofs.CharsLemmas.{drop-some, drop-all, and-right}
 use Rattle.sudo_match.proofs.PartLemmas.{part-byte}
 use Rattle.sudo_match.proofs.FitsLemmas.{fits-one}
-use Rattle.sudo_text.proofs.Beginnings.{not_true}
 use Rattle.sudo_text.proofs.CommonRuns.{and_false}
 
 not-false : (b : Bool) → not b ≡ false → b ≡ true
@@ -40,7 +37,7 @@ fits-literal :
 fits-literal s c cs b t same e f =
     ap (λ p. fits p (b ∷ t) s) (parts-literal c cs e) ∙ fits-one s (Only c.byte) (parts cs) b t ∙ ap (λ x. x && fits (parts cs) t s) f
 
--- ---- Commands
+-- ---- Bytes that are not special
 
 no-plain : (k : ℕ) (c : Ch) → (c.byte == k) ≡ false → is_plain k c ≡ false
 no-plain k c e = ap (λ x. not c.escaped && x) e ∙ and_false (not c.escaped)
@@ -60,29 +57,6 @@ plain-letter b more =
     ap (λ x. x || (b == 63 || b == 91)) (ne_eqb b 42 (λ e. omega (arith, e, more)))
     ∙ ap (λ x. x || b == 91) (ne_eqb b 63 (λ e. omega (arith, e, more)))
     ∙ ne_eqb b 91 (λ e. omega (arith, e, more))
-
-begun-otherwise :
-    (s : Slash) (more cs : List Ch) (t : List ℕ) → has_special t ≡ false → begins_otherwise cs t ≡ true → fits (parts (cs ++ more)) t s ≡ false
-unfolding begins_otherwise
-begun-otherwise s more [] t h e = cc
-begun-otherwise s more (c ∷ cs) [] h e = cc
-begun-otherwise s more (c ∷ cs) (b ∷ t) h e = go (λ i f. begun-otherwise s more cs t i f) (b == c.byte) refl e
-  where
-    go : (has_special t ≡ false → begins_otherwise cs t ≡ true → fits (parts (cs ++ more)) t s ≡ false) →
-        (x : Bool) → (b == c.byte) ≡ x → cond x (begins_otherwise cs t) (not (is_special c)) ≡ true → fits (parts (c ∷ (cs ++ more))) (b ∷ t) s ≡ false
-    go again true f g =
-        let here = or_parts (b == 42 || (b == 63 || b == 91)) (has_special t) h in
-        fits-literal s c (cs ++ more) b t true (ordinary b c f here.0) f ∙ again here.1 g
-    go again false f g = fits-literal s c (cs ++ more) b t false (not_true (is_special c) g) f
-
--- a command without special bytes, from which an atom differs, is not matched by it
-pub command-differs :
-    (a : Atom) (command arguments : List ℕ) → has_special command ≡ false → command_differs a command ≡ true → command_fits a command arguments ≡ false
-unfolding command_fits
-command-differs (atom.Command path args) command arguments h e =
-    and_left (fits (parts (path_chars path)) command Not) (arguments_fit (arguments_slash path) args arguments)
-    (begun-otherwise Not (any_name (is_folder_path path)) path command h e)
-command-differs _ command arguments h e = cc
 
 -- ---- Names of hosts
 
@@ -196,18 +170,6 @@ module _ (cs : List Ch) (t : List ℕ) (n b : ℕ) (c : Ch) (char : slice_get cs
   both : {X : Type 0} (f : List Ch → List ℕ → X) → f (drop n cs) (drop n t) ≡ f (c ∷ drop (n + 1) cs) (b ∷ drop (n + 1) t)
   both f = ap (λ l. f l (drop n t)) (drop-some n cs c char) ∙ ap (λ l. f (c ∷ drop (n + 1) cs) l) (drop-some n t b byte)
 
-  pub begins-more : b ≡ c.byte → begins_otherwise (drop n cs) (drop n t) ≡ begins_otherwise (drop (n + 1) cs) (drop (n + 1) t)
-  unfolding begins_otherwise
-  begins-more same =
-      both begins_otherwise
-      ∙ ap (λ x. cond x (begins_otherwise (drop (n + 1) cs) (drop (n + 1) t)) (not (is_special c))) (eq-eqb b c.byte same)
-
-  pub begins-found : (b ≡ c.byte → ⊥) → begins_otherwise (drop n cs) (drop n t) ≡ not (is_special c)
-  unfolding begins_otherwise
-  begins-found other =
-      both begins_otherwise
-      ∙ ap (λ x. cond x (begins_otherwise (drop (n + 1) cs) (drop (n + 1) t)) (not (is_special c))) (ne_eqb b c.byte other)
-
   pub named-stop : (is_special c || b == 46) ≡ true → is_named_otherwise (drop n cs) (drop n t) ≡ false
   unfolding is_named_otherwise
   named-stop stop =
@@ -239,20 +201,10 @@ letter b c e =
       eqb-true b c.byte same,
     )
 
-begins-empty : (cs : List Ch) → begins_otherwise cs [] ≡ false
-unfolding begins_otherwise
-begins-empty [] = refl
-begins-empty (c ∷ cs) = refl
-
 named-empty : (cs : List Ch) → is_named_otherwise cs [] ≡ false
 unfolding is_named_otherwise
 named-empty [] = refl
 named-empty (c ∷ cs) = refl
-
-pub begins-end : (cs : List Ch) (t : List ℕ) (n : ℕ) → (length cs ≤ n) ⊎ (length t ≤ n) → begins_otherwise (drop n cs) (drop n t) ≡ false
-unfolding begins_otherwise
-begins-end cs t n (inl h) = ap (λ l. begins_otherwise l (drop n t)) (drop-all n cs h)
-begins-end cs t n (inr h) = ap (λ l. begins_otherwise (drop n cs) l) (drop-all n t h) ∙ begins-empty (drop n cs)
 
 pub named-end : (cs : List Ch) (t : List ℕ) (n : ℕ) → (length cs ≤ n) ⊎ (length t ≤ n) → is_named_otherwise (drop n cs) (drop n t) ≡ false
 unfolding is_named_otherwise

@@ -107,13 +107,14 @@ faultless people machines users hosts groups i j k grouped known =
     ∙ ap (λ b. cond b None (Some NoRoot)) (root-known people users i ∙ known)
 
 pub kept :
-    (people : List Person) (machines : List Machine) (users hosts groups : List (List ℕ × ℕ)) (positions : List GroupPosition) → AreApart same_user (λ u. u.name) people users →
+    (people : List Person) (machines : List Machine) (users hosts groups : List (List ℕ × ℕ)) (positions : List GroupPosition) (root : ℕ) → AreApart same_user (λ u. u.name) people users →
     AreApart same_host (λ m. lower_text m.name) machines hosts → AreApart groups_clash (λ g. g.name) (groups_of people) groups → ArePositions people positions →
-    directory_fault people machines ≡ None → IsKept people machines users hosts groups positions
-kept people machines users hosts groups positions i j k s none = record {
+    directory_fault people machines ≡ None → index_of users (codes "root") ≡ Some root → IsKept people machines users hosts groups positions root
+kept people machines users hosts groups positions root i j k s none known = record {
   users_indexed = i.indexed;
   hosts_indexed = j.indexed;
   groups_indexed = k.indexed;
   spots_are = s;
   faultless = none;
+  root_indexed = known;
 }

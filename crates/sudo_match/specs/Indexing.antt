@@ -1,5 +1,5 @@
 -- The contents of the indexes behind a directory; only proofs of bodies need these definitions.
-use Rattle.std.specs.Prelude.{◌≡◌, ℕ, Bool, false, not, List, [], ◌∷◌, ◌++◌, map, length, Option, Some, None, slice_get, option_and_then, is_some, if◌then◌else◌}
+use Rattle.std.specs.Prelude.{◌≡◌, ℕ, Bool, false, not, List, [], ◌∷◌, ◌++◌, map, length, Option, Some, None, slice_get, option_and_then, is_some, codes, if◌then◌else◌}
 use Rattle.sudo_match.specs.declared.people.Person.{Person}
 use Rattle.sudo_match.specs.declared.people.Group.{Group}
 use Rattle.sudo_match.specs.declared.people.Machine.{Machine}
@@ -31,10 +31,11 @@ abbrev pub differs : {A : Type 0} → (A → Bool) → Option A → Bool
 differs test None = false
 differs test (Some x) = not (test x)
 
--- the invariant of a directory: its indexes are those of its rows, and the rows have no fault
-pub record IsKept (people : List Person) (machines : List Machine) (users hosts groups : List (List ℕ × ℕ)) (positions : List GroupPosition) : Type 0 where
+-- the invariant of a directory: its indexes are those of its rows and of root, and the rows have no fault
+pub record IsKept (people : List Person) (machines : List Machine) (users hosts groups : List (List ℕ × ℕ)) (positions : List GroupPosition) (root : ℕ) : Type 0 where
   pub users_indexed : IndexesRows (λ u. u.name) people (length people) (index_of users)
   pub hosts_indexed : IndexesRows (λ m. lower_text m.name) machines (length machines) (index_of hosts)
   pub groups_indexed : IndexesRows (λ g. g.name) (groups_of people) (length (groups_of people)) (index_of groups)
   pub spots_are : ArePositions people positions
   pub faultless : directory_fault people machines ≡ None
+  pub root_indexed : index_of users (codes "root") ≡ Some root

@@ -1,5 +1,5 @@
 //! The directory of known users and hosts.
-ghost use Rattle.std.specs.Prelude.{◌≡◌, find, bytes_eq, IfOk, IfErr, None};
+ghost use Rattle.std.specs.Prelude.{◌≡◌, find, bytes_eq, codes, IfOk, IfErr, None};
 ghost use Rattle.std.specs.Option.{option_copied};
 ghost use Rattle.sudo_match.specs.Class.{lower_text};
 ghost use Rattle.sudo_match.specs.KnownRows.{user_named, host_named, group_named, directory_fault, is_no_group, IsDirectoryFault};
@@ -21,6 +21,8 @@ pub struct Directory {
     hosts: Names,
     groups: Names,
     positions: Vec<GroupPosition>,
+    // The index of the user root.
+    root: usize,
 }
 
 impl Model for Directory {
@@ -32,7 +34,7 @@ impl Model for Directory {
     ghost view = { λ d. record { people = d.people; machines = d.machines } };
 
     ghost invariant = { λ d. IsKept d.people d.machines d.users d.hosts d.groups
-        d.positions.items };
+        d.positions.items d.root };
 }
 
 impl Directory {
@@ -71,9 +73,9 @@ impl Directory {
         if let Some(person) = ungrouped(people.as_slice()) {
             return Err(DirFault::no_group(alloc, person.name.as_slice()));
         }
-        if users.get(b"root").is_none() {
+        let Some(root) = users.get(b"root") else {
             return Err(DirFault::NoRoot);
-        }
+        };
         Ok(Directory {
             people,
             machines,
@@ -81,6 +83,7 @@ impl Directory {
             hosts,
             groups,
             positions,
+            root,
         })
     }
 
@@ -97,6 +100,13 @@ impl Directory {
     {
         let at = self.users.get(name)?;
         self.people.get(at)
+    }
+
+    /// Returns the user root, whom each directory has. Does not allocate.
+    pub fn root(&self) -> Option<&Person>
+        ensures { option_copied result ≡ user_named self.now (codes "root") }
+    {
+        self.people.get(self.root)
     }
 
     /// Returns the host of this name, ignoring ASCII case, or `None` if there is none. Does not allocate.

@@ -16,11 +16,10 @@ mod positions;
 mod request;
 mod unclosed;
 
-pub use beginning::has_special;
 pub use directory::Directory;
 pub use fault::DirFault;
 pub use laws::{brackets_are_cut, characters_are_parts, unclosed_brackets_are_bytes};
-pub use matchers::{command_differs, command_matches, group_matches, host_matches, user_matches};
+pub use matchers::{command_matches, group_matches, host_matches, user_matches};
 pub use pattern::Pattern;
 pub use patterns::{Slash, is_special};
 pub use people::{Group, Interface, Machine, Person};

@@ -1,10 +1,9 @@
 //! The matching of one atom of a policy, as in sudoers(5), "User_List", "Host_List" and "Cmnd_List".
 ghost use Rattle.std.specs.Prelude.{◌≡◌, ◌==◌, ◌^◌, ◌-◌, ◌≤◌};
 ghost use Rattle.std.specs.List.{list_any};
-ghost use Rattle.sudo_match.specs.Beginnings.{command_differs};
 ghost use Rattle.sudo_match.specs.Matching.{user_fits, group_fits, host_fits, command_fits, compared_name, short_name, pattern_has_dot, mask_of, is_loopback, address_fits, net_fits, spells_text, arguments_fit};
 
-use crate::beginning::{begins_otherwise, is_named_otherwise};
+use crate::beginning::is_named_otherwise;
 use crate::{Group, Interface, Machine, Pattern, Person, Slash};
 use sudo_grammar::Atom;
 use sudo_text::{Ch, Seq};
@@ -185,18 +184,6 @@ pub fn command_matches(atom: &Atom, command: &[u8], arguments: &[u8]) -> bool
             };
             arguments_fit(slash, args, arguments)
         }
-        _ => false,
-    }
-}
-
-/// Whether the atom is a command whose path differs from this one, where they differ first, in a character that is not
-/// special. It does not match this command then if the command has no special byte (`has_special`). Takes much less time
-/// than `command_matches`.
-pub fn command_differs(atom: &Atom, command: &[u8]) -> bool
-    ensures { result ≡ command_differs atom.now command.now }
-{
-    match atom {
-        Atom::Command { path, .. } => begins_otherwise(path.as_slice(), command),
         _ => false,
     }
 }

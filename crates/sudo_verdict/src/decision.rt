@@ -4,7 +4,6 @@ ghost use Rattle.std.specs.Prelude.{ℕ, ◌≡◌, ◌==◌, ◌∷◌, [], Boo
 ghost use Rattle.std.specs.List.{list_any};
 ghost use Rattle.sudo_grammar.specs.declared.kind.Atom.{Atom};
 ghost use Rattle.sudo_policy.specs.Resolving.{resolves};
-ghost use Rattle.sudo_match.specs.Beginnings.{has_special};
 ghost use Rattle.sudo_match.specs.Matching.{user_fits, group_fits, host_fits, command_fits};
 ghost use Rattle.sudo_verdict.specs.Values as values;
 ghost use Rattle.sudo_verdict.specs.Body.Known.{IsPassed};
@@ -20,8 +19,7 @@ use crate::keys::Lists;
 use crate::number_set::NumberSet;
 use crate::numbers::user_bucket;
 use sudo_match::{
-    Group, Machine, Person, command_differs, command_matches, group_matches, host_matches,
-    user_matches,
+    Group, Machine, Person, command_matches, group_matches, host_matches, user_matches,
 };
 use sudo_policy::{Atom, Kind, Member, is_negated};
 
@@ -159,11 +157,8 @@ impl Subject for AsHost<'_> {
 pub(crate) struct AsCommand<'a> {
     pub(crate) command: &'a [u8],
     pub(crate) arguments: &'a [u8],
-    /// Whether the command has a byte that is special in patterns.
-    pub(crate) special: bool,
     /// The numbers of the atoms that may match the command.
     pub(crate) number_set: NumberSet,
-    ghost known: { special ≡ has_special command.now },
     ghost covers: { lacks_command (λ n. not (set_has number_set.words n)) command.now ≡ true },
 }
 
@@ -171,9 +166,6 @@ impl Subject for AsCommand<'_> {
     ghost fits = { λ s a. command_fits a s.command.now s.arguments.now };
 
     fn matches(&self, atom: &Atom) -> bool {
-        if !self.special && command_differs(atom, self.command) {
-            return false;
-        }
         command_matches(atom, self.command, self.arguments)
     }
 

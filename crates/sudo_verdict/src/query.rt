@@ -15,7 +15,7 @@ use crate::decision::{AsCommand, AsGroup, AsHost, AsUser, value};
 use crate::key::Key;
 use crate::keys::Lists;
 use crate::number_set::NumberSet;
-use sudo_match::{Directory, Group, Machine, Person, Request, What, has_special};
+use sudo_match::{Directory, Group, Machine, Person, Request, What};
 use sudo_policy::{Kind, Member, Runas};
 use sudo_text::Seq;
 
@@ -75,7 +75,6 @@ pub(crate) fn query_of<'a>(
         command: AsCommand {
             command: request.command.as_slice(),
             arguments: request.arguments.as_slice(),
-            special: has_special(request.command.as_slice()),
             number_set: NumberSet::of_command(request.command.as_slice()),
         },
         aliases,
@@ -96,7 +95,7 @@ fn target<'a>(
     match (asked, group) {
         (Some(target), _) => Some(target),
         (None, Some(_)) => Some(user),
-        (None, None) => directory.user(b"root"),
+        (None, None) => directory.root(),
     }
 }
 

@@ -40,7 +40,7 @@ search_candidate-found-requires c =
     let here = ap (λ l. slice_get l at) (sym same) ∙ there in
     record {
       resolves = all-at (λ (e : Entry). body_resolves c.args.lists.checked.now e.body) c.args.lists.checked.now.entries at c.index-entries-start.result
-    (bodies_resolve c.args.lists.checked.now c.policy.ensures.sound) here;
+          (bodies_resolve c.args.lists.checked.now c.policy.ensures.sound) here;
       there = here;
     }
 

@@ -32,11 +32,11 @@ returns-in-Some-clause-fault c =
     (rw (sym c.as_slice.ensures) c.in_ok-users.ensures.names) (rw (sym c.as_slice-2.ensures) c.in_ok-hosts.ensures.names)
     (rw (sym c.as_slice-4.ensures) c.in_ok-groups.ensures.names) found (rw (sym c.as_slice-in-Some.ensures) c.no_group.ensures)
 
-pub returns-then-is_none-clause-fault : goal.returns-then-is_none-clause-fault
-returns-then-is_none-clause-fault c =
+pub returns-in_default-get-clause-fault : goal.returns-in_default-get-clause-fault
+returns-in_default-get-clause-fault c =
     let grouped : find (λ u. is_no_group u.groups) c.args.people ≡ None =
     ap (find (λ (u : Person). is_no_group u.groups)) (sym c.as_slice-6.ensures) ∙ sym c.ungrouped.ensures ∙ ap option_copied c.in_default.is in
-    let missing : is_some (index_of c.in_ok-users.users (codes "root")) ≡ false = ap is_some (sym c.get.ensures) ∙ c.is_none.ensures ∙ ap not c.if-is_none.true in
+    let missing : is_some (index_of c.in_ok-users.users (codes "root")) ≡ false = ap is_some (sym c.get.ensures ∙ c.in_default-get.is) in
     refused-root c.args.people c.args.machines c.in_ok-users.users c.in_ok-hosts.hosts c.in_ok-groups.groups
     (rw (sym c.as_slice.ensures) c.in_ok-users.ensures.names) (rw (sym c.as_slice-2.ensures) c.in_ok-hosts.ensures.names)
     (rw (sym c.as_slice-4.ensures) c.in_ok-groups.ensures.names) grouped missing
@@ -45,13 +45,13 @@ pub returns-clause-faultless : goal.returns-clause-faultless
 returns-clause-faultless c =
     let grouped : find (λ u. is_no_group u.groups) c.args.people ≡ None =
     ap (find (λ (u : Person). is_no_group u.groups)) (sym c.as_slice-6.ensures) ∙ sym c.ungrouped.ensures ∙ ap option_copied c.in_default.is in
-    let known : is_some (index_of c.in_ok-users.users (codes "root")) ≡ true = ap is_some (sym c.get.ensures) ∙ c.is_none.ensures ∙ ap not c.if-is_none.false in
+    let known : is_some (index_of c.in_ok-users.users (codes "root")) ≡ true = ap is_some (sym c.get.ensures ∙ c.in-Some-get.is) in
     faultless c.args.people c.args.machines c.in_ok-users.users c.in_ok-hosts.hosts c.in_ok-groups.groups
     (rw (sym c.as_slice.ensures) c.in_ok-users.ensures.names) (rw (sym c.as_slice-2.ensures) c.in_ok-hosts.ensures.names)
     (rw (sym c.as_slice-4.ensures) c.in_ok-groups.ensures.names) grouped known
 
 pub invariant_of-result : goal.invariant_of-result
 invariant_of-result c =
-    kept c.args.people c.args.machines c.in_ok-users.users c.in_ok-hosts.hosts c.in_ok-groups.groups c.in_ok-positions.positions.items
+    kept c.args.people c.args.machines c.in_ok-users.users c.in_ok-hosts.hosts c.in_ok-groups.groups c.in_ok-positions.positions.items c.in-Some-get.root
     (rw (sym c.as_slice.ensures) c.in_ok-users.ensures.names) (rw (sym c.as_slice-2.ensures) c.in_ok-hosts.ensures.names)
-    (rw (sym c.as_slice-4.ensures) c.in_ok-groups.ensures.names) (rw (sym c.as_slice-3.ensures) c.in_ok-positions.ensures) (returns-clause-faultless c)
+    (rw (sym c.as_slice-4.ensures) c.in_ok-groups.ensures.names) (rw (sym c.as_slice-3.ensures) c.in_ok-positions.ensures) (returns-clause-faultless c) (sym c.get.ensures ∙ c.in-Some-get.is)
