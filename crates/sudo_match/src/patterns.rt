@@ -247,7 +247,10 @@ fn is_plain(ch: Ch, byte: u8) -> bool
 pub fn is_special(ch: Ch) -> bool
     ensures { result ≡ (is_plain 42 ch || (is_plain 63 ch || is_plain 91 ch)) }
 {
-    is_plain(ch, b'*') || (is_plain(ch, b'?') || is_plain(ch, b'['))
+    match ch.byte {
+        b'*' | b'?' | b'[' => !ch.escaped,
+        _ => false,
+    }
 }
 
 impl<'a> Chars<'a> {

@@ -9,7 +9,7 @@ ghost use Rattle.sudo_verdict.specs.Values as values;
 ghost use Rattle.sudo_verdict.specs.Body.Known.{IsPassed};
 ghost use Rattle.sudo_verdict.specs.Body.NumberSets.{lacks_command, set_has};
 ghost use Rattle.sudo_verdict.specs.Keys.{HaveKeys, IsKeyOf};
-ghost use Rattle.sudo_verdict.specs.Numbers.{user_bucket};
+ghost use Rattle.sudo_verdict.specs.Numbers.{bucket_of, user_bucket, whole_seed};
 ghost use Rattle.sudo_verdict.specs.Body.Recalling.{Recalls};
 ghost use Rattle.sudo_verdict.specs.Decided.{list_decision, negated_once};
 
@@ -32,8 +32,8 @@ pub(crate) trait Subject {
         ensures { result ≡ fits self.now atom.now };
 
     /// Whether no atom with this key matches the subject. False where that is not known, and for an alias.
-    fn misses(&self, key: Key) -> bool
-        ensures { result ≡ true → IsPassed (fits self.now) key };
+    fn misses(&self, key: &Key) -> bool
+        ensures { result ≡ true → IsPassed (fits self.now) key.now };
 }
 
 /// A user, matched with the members of a user list or of a runas user list.
@@ -55,6 +55,13 @@ impl<'a> AsUser<'a> {
             number: user_bucket(user.name.as_slice()),
         }
     }
+
+    /// Returns the number of the user's name.
+    pub(crate) fn number(&self) -> usize
+        ensures { result ≡ user_bucket self.now.user.now.name }
+    {
+        self.number
+    }
 }
 
 impl Subject for AsUser<'_> {
@@ -64,9 +71,9 @@ impl Subject for AsUser<'_> {
         user_matches(atom, self.user)
     }
 
-    fn misses(&self, key: Key) -> bool {
+    fn misses(&self, key: &Key) -> bool {
         match key {
-            Key::Name(number) => number != self.number,
+            Key::Name(number) => *number != self.number,
             _ => false,
         }
     }
@@ -85,7 +92,7 @@ impl Subject for AsGroup<'_> {
         group_matches(atom, self.group)
     }
 
-    fn misses(&self, _key: Key) -> bool {
+    fn misses(&self, _key: &Key) -> bool {
         false
     }
 }
@@ -144,9 +151,9 @@ impl Subject for AsHost<'_> {
         host_matches(atom, self.host)
     }
 
-    fn misses(&self, key: Key) -> bool {
+    fn misses(&self, key: &Key) -> bool {
         match key {
-            Key::Host { index, byte } => self.differs_at(index, byte),
+            Key::Host { index, byte } => self.differs_at(*index, *byte),
             _ => false,
         }
     }
@@ -157,8 +164,11 @@ impl Subject for AsHost<'_> {
 pub(crate) struct AsCommand<'a> {
     pub(crate) command: &'a [u8],
     pub(crate) arguments: &'a [u8],
+    /// The number of the whole command.
+    pub(crate) whole: usize,
     /// The numbers of the atoms that may match the command.
     pub(crate) number_set: NumberSet,
+    ghost known: { whole ≡ bucket_of whole_seed command.now },
     ghost covers: { lacks_command (λ n. not (set_has number_set.words n)) command.now ≡ true },
 }
 
@@ -169,9 +179,9 @@ impl Subject for AsCommand<'_> {
         command_matches(atom, self.command, self.arguments)
     }
 
-    fn misses(&self, key: Key) -> bool {
+    fn misses(&self, key: &Key) -> bool {
         match key {
-            Key::Command(number) => !self.number_set.has(number),
+            Key::Command(number) => !self.number_set.has(*number),
             _ => false,
         }
     }
@@ -265,11 +275,11 @@ pub(crate) fn decide_one<S: Subject>(
     lists: Lists<'_>,
     kind: Kind,
     member: &Member,
-    key: Key,
+    key: &Key,
     subject: &S,
     aliases: Option<&Aliases>,
 ) -> Option<Decision>
-    requires key { IsKeyOf lists.checked.now kind key member.now.atom }
+    requires key { IsKeyOf lists.checked.now kind key.now member.now.atom }
     requires resolves { IsTrue (resolves kind lists.checked.now (member.now ∷ [])) }
     ensures { result ≡ list_decision kind lists.entry.checked.now (member.now ∷ [])
         (S.fits subject.now) }
@@ -337,12 +347,12 @@ fn decide_member<S: Subject>(
     lists: Lists<'_>,
     kind: Kind,
     member: &Member,
-    key: Key,
+    key: &Key,
     subject: &S,
     numbers: Option<&Numbers>,
     slots: &mut [Slot],
 ) -> Option<Decision>
-    requires key { IsKeyOf lists.checked.now kind key member.now.atom }
+    requires key { IsKeyOf lists.checked.now kind key.now member.now.atom }
     requires resolves { IsTrue (resolves kind lists.checked.now (member.now ∷ [])) }
     requires recalls { Recalls kind lists.checked.now (option_copied numbers) (S.fits subject.now)
         slots.old }

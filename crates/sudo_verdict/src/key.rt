@@ -22,10 +22,13 @@ pub(crate) enum Key {
 }
 
 /// Returns the key at an index; if there is none, that of an atom of which nothing is known.
-pub(crate) fn key_at(keys: &[Key], index: usize) -> Key
-    ensures { result ≡ unwrap_or (slice_get keys.now index) Key.Other }
+pub(crate) fn key_at(keys: &[Key], index: usize) -> &Key
+    ensures { result.now ≡ unwrap_or (slice_get keys.now index) Key.Other }
 {
-    keys.get(index).copied().unwrap_or(Key::Other)
+    match keys.get(index) {
+        Some(key) => key,
+        None => &Key::Other,
+    }
 }
 
 /// The keys of the lists of a section.

@@ -335,13 +335,13 @@ impl Lists<'_> {
 
     /// Returns the position of the definition of an alias with this key. If there is none, returns `None` or a position
     /// at which no list is found.
-    pub(crate) fn position(&self, kind: Kind, name: &[u8], key: Key) -> Option<Position>
-        requires { IsKeyOf self.now.checked.now kind key (TheAtom.Alias name.now) }
+    pub(crate) fn position(&self, kind: Kind, name: &[u8], key: &Key) -> Option<Position>
+        requires { IsKeyOf self.now.checked.now kind key.now (TheAtom.Alias name.now) }
         ensures { in_force kind self.now.checked.now name.now
             ≡ option_and_then (members_at self.now.checked.now) result }
     {
         match key {
-            Key::Alias(position) => Some(position),
+            Key::Alias(position) => Some(*position),
             _ => self.checked.position(kind, name),
         }
     }

@@ -1,9 +1,10 @@
 //! The numbers of a command as a set of bits, by which members of lists are passed over.
 
 ghost use Rattle.std.specs.Prelude.{ℕ, ◌≡◌, ◌<◌, true, not};
+ghost use Rattle.sudo_verdict.specs.Numbers.{bucket_of, whole_seed};
 ghost use Rattle.sudo_verdict.specs.Body.NumberSets.{lacks_command, set_has};
 
-use crate::numbers::{BEGINNING, EVERYONE, WHOLE, next_number};
+use crate::numbers::{BEGINNING, EVERYONE, next_number};
 use crate::rows::set_bit;
 
 // The number of bits, of which several numbers share each.
@@ -44,18 +45,17 @@ impl NumberSet {
         self.words[bit / 64] >> (bit % 64) & 1 == 1
     }
 
-    /// Returns a set with the numbers of each atom that matches the command.
-    pub(crate) fn of_command(command: &[u8]) -> NumberSet
+    /// Returns a set with the numbers of each atom that matches the command, which as a whole has this number.
+    pub(crate) fn of_command(command: &[u8], whole: usize) -> NumberSet
+        requires { whole ≡ bucket_of whole_seed command.now }
         ensures { lacks_command (λ n. not (set_has result.words n)) command.now ≡ true }
     {
         let mut number_set = NumberSet::new();
         number_set.add(BEGINNING);
         let mut number = BEGINNING;
-        let mut whole = WHOLE;
         let mut left = command;
         while let Some((byte, rest)) = left.split_first() {
             number = next_number(number, *byte);
-            whole = next_number(whole, *byte);
             number_set.add(number);
             left = rest;
         }

@@ -15,6 +15,7 @@ use crate::decision::{AsCommand, AsGroup, AsHost, AsUser, value};
 use crate::key::Key;
 use crate::keys::Lists;
 use crate::number_set::NumberSet;
+use crate::numbers::command_number;
 use sudo_match::{Directory, Group, Machine, Person, Request, What};
 use sudo_policy::{Kind, Member, Runas};
 use sudo_text::Seq;
@@ -66,6 +67,7 @@ pub(crate) fn query_of<'a>(
             Some(group) => Some(group),
         },
     };
+    let whole = command_number(request.command.as_slice());
     Ok(Query {
         user: AsUser::of(user),
         host: AsHost::of(host),
@@ -75,7 +77,8 @@ pub(crate) fn query_of<'a>(
         command: AsCommand {
             command: request.command.as_slice(),
             arguments: request.arguments.as_slice(),
-            number_set: NumberSet::of_command(request.command.as_slice()),
+            whole,
+            number_set: NumberSet::of_command(request.command.as_slice(), whole),
         },
         aliases,
     })

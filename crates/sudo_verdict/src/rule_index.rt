@@ -151,10 +151,17 @@ fn search_block(
     let words = (end - 1) / 64 + 1 - first;
     let mut users = [0u64; BLOCK];
     let mut commands = [0u64; BLOCK];
-    add_user(&index.users, query.user.user, first, &mut users[..words]);
+    add_user(
+        &index.users,
+        query.user.user,
+        query.user.number(),
+        first,
+        &mut users[..words],
+    );
     add_command(
         &index.commands,
         query.command.command,
+        query.command.whole,
         first,
         &mut commands[..words],
     );

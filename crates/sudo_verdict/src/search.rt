@@ -201,10 +201,10 @@ fn search_command(
     place: Place,
     commands: &[CommandSpec],
     spec: &CommandSpec,
-    key: Key,
+    key: &Key,
     refused: bool,
 ) -> Examined
-    requires key { IsKeyOf lists.checked.now TheKind.Cmnd key spec.now.command.atom }
+    requires key { IsKeyOf lists.checked.now TheKind.Cmnd key.now spec.now.command.atom }
     requires all { IsTrue (list_all (command_resolves lists.checked.now) commands.now) }
     requires last { IsTrue (command_resolves lists.checked.now spec.now) }
     requires refused { refused ≡ true → runas_allows lists.checked.now (question query.now)

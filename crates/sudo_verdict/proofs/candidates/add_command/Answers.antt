@@ -18,7 +18,7 @@ loop-byte-init c =
           let second = c.add_to-2.ensures.adds i third.0 in
           let first = c.add_to.ensures.adds i second.0 in
           command-missed rows (64 * c.args.first + i) c.args.command.now (first.1 (omega (arith, one, two, three, h)))
-          (ap (λ k. is_in_row rows k (64 * c.args.first + i)) (sym c.command_number.ensures) ∙ second.1 (omega (arith, one, two, three, h))) begins;
+          (ap (λ k. is_in_row rows k (64 * c.args.first + i)) (sym c.requires.whole) ∙ second.1 (omega (arith, one, two, three, h))) begins;
     }
 
 pub loop-byte-preserved : goal.loop-byte-preserved

@@ -1,7 +1,6 @@
 use Rattle.std.proofs.Common.{not, ap, sym, ◌∙◌, ◌+◌, ◌*◌, arith}
 use Rattle.std.specs.List.{list_all}
 use Rattle.sudo_verdict.specs.Postings.{is_in_row, misses_group}
-use Rattle.sudo_verdict.specs.Numbers.{user_bucket}
 use Rattle.sudo_verdict.proofs.Misses.{misses-all}
 use Rattle.sudo_verdict.proofs.candidates.add_user.Goals as goal
 
@@ -19,7 +18,7 @@ loop-group-init c = record {
       let first = c.add_to.ensures.adds i second.0 in
       misses-all rows rule c.args.user.now
       (ap not (first.1 (omega (arith, one, two, three, h))))
-      (ap not (ap (λ k. is_in_row rows k rule) (sym (c.user_bucket.ensures ∙ ap user_bucket c.as_slice.ensures)) ∙ second.1 (omega (arith, one, two, three, h))))
+      (ap not (ap (λ k. is_in_row rows k rule) (sym c.requires.number) ∙ second.1 (omega (arith, one, two, three, h))))
       (ap not (ap (λ k. is_in_row rows k rule) (sym c.uid_number.ensures) ∙ third.1 (omega (arith, one, two, three, h))))
       (ap (list_all (misses_group rows rule)) (sym c.as_slice-left.ensures) ∙ groups);
 }

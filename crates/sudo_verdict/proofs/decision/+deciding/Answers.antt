@@ -42,7 +42,7 @@ decide-loop-member-preserved-then-misses g t c =
       recalls = c.loop-member.invariant.recalls;
       same = c.loop-member.invariant.same
           ∙ last_silent c.args.kind c.args.lists.checked.now test c.loop-member.left.now c.in-Some.rest.now c.in-Some.member.now is
-          (passed-silent c.args.kind c.args.lists.checked.now test c.key_at-key.result c.in-Some.member.now
+          (passed-silent c.args.kind c.args.lists.checked.now test c.key_at-key.result.now c.in-Some.member.now
           (rw c.key_at-key.ensures (key-there c.args.kind c.args.lists.checked.now c.args.keys.now c.args.members.now c.loop-member.left.now c.in-Some.rest.now c.in-Some.member.now is
           c.loop-member.invariant.front c.requires.keys))
           (c.misses.ensures c.if-misses.true));

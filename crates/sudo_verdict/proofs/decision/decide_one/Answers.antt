@@ -8,4 +8,4 @@ decide_member-requires-in-Some-clause-recalls g c name n ds o e f is = absurd (e
 
 pub returns-then-misses : goal.returns-then-misses
 returns-then-misses g c =
-    sym (passed-silent c.args.kind c.args.lists.checked.now (g.S.Subject.fits c.args.subject.now) c.args.key c.args.member.now c.requires.key (c.misses.ensures c.if-misses.true))
+    sym (passed-silent c.args.kind c.args.lists.checked.now (g.S.Subject.fits c.args.subject.now) c.args.key.now c.args.member.now c.requires.key (c.misses.ensures c.if-misses.true))

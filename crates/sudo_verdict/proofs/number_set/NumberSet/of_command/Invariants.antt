@@ -7,8 +7,6 @@ use Rattle.sudo_verdict.proofs.number_set.NumberSet.of_command.Given as goal
 abbrev pub invariant-loop-byte : goal.invariant-loop-byte
 invariant-loop-byte l = record {
   below : l.number < 16384;
-  whole_below : l.whole < 16384;
-  whole : bucket_of whole_seed l.command ≡ bucket_of l.whole l.left;
   here : set_has l.number_set.words l.number ≡ true;
   none : (has : ℕ → Bool) → ((n : ℕ) → set_has l.number_set.words n ≡ true → has n ≡ false) → has (bucket_of whole_seed l.command) ≡ false
       → lacks_beginnings has l.number l.left ≡ true → lacks_command has l.command ≡ true;
