@@ -162,7 +162,7 @@ pub key-there :
 key-there k p keys members left rest m is front have = go (slice_get keys (length rest)) refl
   where
     go : (o : Option Key) → slice_get keys (length rest) ≡ o → IsKeyOf p k (unwrap_or o key.Other) m.atom
-    go None e = record { position = λ q n f g. cc; name = λ n f. cc; command = λ n f. cc; literal = λ i b f. cc }
+    go None e = record { position = λ q n f g. cc; name = λ n f. cc; uid = λ n f. cc; group = λ n f. cc; command = λ n f. cc; literal = λ i b f. cc }
     go (Some known) e = have (length rest) known m e (last-at members left rest m is front)
 
 pub related-there :
@@ -177,5 +177,5 @@ pub command_key-there :
 command_key-there p keys commands left rest s is front have = go (slice_get keys (length rest)) refl
   where
     go : (o : Option Key) → slice_get keys (length rest) ≡ o → IsKeyOf p Cmnd (unwrap_or o key.Other) s.command.atom
-    go None e = record { position = λ q n f g. cc; name = λ n f. cc; command = λ n f. cc; literal = λ i b f. cc }
+    go None e = record { position = λ q n f g. cc; name = λ n f. cc; uid = λ n f. cc; group = λ n f. cc; command = λ n f. cc; literal = λ i b f. cc }
     go (Some known) e = have (length rest) known s e (last-at commands left rest s is front)

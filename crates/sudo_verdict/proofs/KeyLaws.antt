@@ -2,8 +2,8 @@
 use Rattle.std.proofs.Common.{◌≡◌, ℕ, zero, suc, ◌+◌, ◌≤◌, Bool, true, false, cond, ◌||◌, List, [], ◌∷◌, ◌++◌, Option, Some, None, length, take, refl, sym, ◌∙◌, ap, arith}
 use Rattle.std.specs.Prelude.{slice_get, option_and_then, ◌==◌, bytes_eq}
 use Rattle.std.specs.Option.{option_map}
-use Rattle.std.specs.List.{list_any}
-use Rattle.std.proofs.lemmas.Bool.{or_parts, eq-eqb}
+use Rattle.std.specs.List.{list_any, list_all}
+use Rattle.std.proofs.lemmas.Bool.{or_parts, and_parts, and_from, eq-eqb}
 use Rattle.std.proofs.lemmas.List.{length_push}
 use Rattle.std.proofs.lemmas.Slice.Eq.{bytes_eq-Decides}
 use Rattle.sudo_text.specs.declared.token.Ch.{Ch}
@@ -22,15 +22,16 @@ use Rattle.sudo_policy.specs.Positions.{members_at, definition_at_body}
 use Rattle.sudo_verdict.specs.declared.key.Key.{Key}
 use Rattle.sudo_verdict.specs.declared.key.EntryKeys.{EntryKeys}
 use Rattle.sudo_policy.specs.Definitions.{alias_named}
+use Rattle.sudo_match.specs.declared.people.Group.{Group}
 use Rattle.sudo_match.specs.declared.people.Person.{Person}
 use Rattle.sudo_match.specs.declared.people.Machine.{Machine}
 use Rattle.sudo_match.specs.Beginnings.{is_special, is_named_otherwise}
 use Rattle.sudo_match.specs.Class.{lower}
 use Rattle.sudo_match.specs.Matching.{user_fits, host_fits, command_fits}
 use Rattle.sudo_match.proofs.BeginningLemmas.{host-differs}
-use Rattle.sudo_verdict.specs.Keys.{Pairwise, HaveKeys, HaveDefinitionKeys, HaveRuleKeys, HaveBodyKeys, AreKeys, name_number, command_number, literal_byte}
-use Rattle.sudo_verdict.specs.Numbers.{user_bucket, path_number, atom_number}
-use Rattle.sudo_verdict.specs.Body.NumberSets.{lacks_command}
+use Rattle.sudo_verdict.specs.Keys.{Pairwise, HaveKeys, HaveDefinitionKeys, HaveRuleKeys, HaveBodyKeys, AreKeys, name_number, user_id, name_mark, command_number, literal_byte}
+use Rattle.sudo_verdict.specs.Numbers.{user_bucket, group_mark, path_number, atom_number}
+use Rattle.sudo_verdict.specs.Body.NumberSets.{has_mark, has_marks, lacks_command}
 use Rattle.sudo_verdict.proofs.NumberSets.{lacked-atom}
 
 -- ---- Lists that are related item by item
@@ -135,6 +136,78 @@ passes_name u _ number other e = cc
 inner_only : (outer inner : Bool) → outer ≡ false → inner ≡ true → cond outer false inner ≡ true
 inner_only true inner e f = cc
 inner_only false inner e f = f
+
+-- a user of another ID
+pub passes_uid :
+    (u : Person) (a : Atom) (uid : ℕ) → (uid == u.uid) ≡ false → user_id a ≡ Some uid → (alias_named a ≡ None) × (user_fits a u ≡ false)
+unfolding user_fits
+passes_uid u (atom.Uid own) uid other e =
+    let same : own ≡ uid = cc in
+    (refl, ap (λ n. n == u.uid) same ∙ other)
+passes_uid u _ uid other e = cc
+
+-- a set that grows keeps the marks of groups
+marks_kept :
+    (old new : List ℕ) (gs : List Group) → ((other : ℕ) → has_mark old other ≡ true → has_mark new other ≡ true) → has_marks old gs ≡ true →
+    has_marks new gs ≡ true
+unfolding has_marks
+marks_kept old new [] keeps e = refl
+marks_kept old new (g ∷ gs) keeps e =
+    let parts = and_parts (has_mark old (group_mark g.name)) (list_all (λ (x : Group). has_mark old (group_mark x.name)) gs) e in
+    and_from (has_mark new (group_mark g.name)) (list_all (λ (x : Group). has_mark new (group_mark x.name)) gs) (keeps (group_mark g.name) parts.0) (marks_kept old new gs keeps parts.1)
+
+marks_next :
+    (old new : List ℕ) (gs : List Group) (i : ℕ) (g : Group) → slice_get gs i ≡ Some g →
+    ((other : ℕ) → has_mark old other ≡ true → has_mark new other ≡ true) → has_mark new (group_mark g.name) ≡ true →
+    has_marks old (take i gs) ≡ true → has_marks new (take (suc i) gs) ≡ true
+unfolding has_marks
+marks_next old new [] i g there keeps here e = cc
+marks_next old new (x ∷ xs) zero g there keeps here e =
+    let same : x ≡ g = cc in
+    and_from (has_mark new (group_mark x.name)) true (ap (λ (y : Group). has_mark new (group_mark y.name)) same ∙ here) refl
+marks_next old new (x ∷ xs) (suc i) g there keeps here e =
+    let parts = and_parts (has_mark old (group_mark x.name)) (list_all (λ (y : Group). has_mark old (group_mark y.name)) (take i xs)) e in
+    and_from (has_mark new (group_mark x.name)) (list_all (λ (y : Group). has_mark new (group_mark y.name)) (take (suc i) xs))
+    (keeps (group_mark x.name) parts.0) (marks_next old new xs i g there keeps here parts.1)
+
+pub marks_more :
+    (old new : List ℕ) (gs : List Group) (i : ℕ) (g : Group) → slice_get gs i ≡ Some g →
+    ((other : ℕ) → has_mark old other ≡ true → has_mark new other ≡ true) → has_mark new (group_mark g.name) ≡ true →
+    has_marks old (take i gs) ≡ true → has_marks new (take (i + 1) gs) ≡ true
+marks_more old new gs i g there keeps here e =
+    let one : suc i ≡ i + 1 = omega arith in
+    ap (λ n. has_marks new (take n gs)) (sym one) ∙ marks_next old new gs i g there keeps here e
+
+pub no_marks : (words : List ℕ) → has_marks words [] ≡ true
+unfolding has_marks
+no_marks words = refl
+
+-- a user none of whose groups has the mark
+none_marked :
+    (marks : List ℕ) (name : List ℕ) (gs : List Group) → has_marks marks gs ≡ true → has_mark marks (group_mark name) ≡ false →
+    list_any (λ (g : Group). bytes_eq g.name name) gs ≡ false
+unfolding has_marks
+none_marked marks name [] e other = refl
+none_marked marks name (g ∷ gs) e other =
+    let parts = and_parts (has_mark marks (group_mark g.name)) (list_all (λ (x : Group). has_mark marks (group_mark x.name)) gs) e in
+    go (bytes_eq g.name name) refl parts.0 (none_marked marks name gs parts.1 other)
+  where
+    go : (b : Bool) → bytes_eq g.name name ≡ b → has_mark marks (group_mark g.name) ≡ true → list_any (λ (x : Group). bytes_eq x.name name) gs ≡ false →
+        (b || list_any (λ (x : Group). bytes_eq x.name name) gs) ≡ false
+    go false f here rest = rest
+    go true f here rest =
+        let same : g.name ≡ name = (bytes_eq-Decides g.name name).0 f in
+        let no : true ≡ false = sym here ∙ ap (λ n. has_mark marks (group_mark n)) same ∙ other in
+        cc
+
+pub passes_group :
+    (u : Person) (a : Atom) (mark : ℕ) (marks : List ℕ) → has_marks marks u.groups ≡ true → has_mark marks mark ≡ false → name_mark a ≡ Some mark →
+    (alias_named a ≡ None) × (user_fits a u ≡ false)
+unfolding user_fits
+passes_group u (atom.Group name) mark marks e other h =
+    let same : group_mark name ≡ mark = cc in
+    (refl, none_marked marks name u.groups e (ap (has_mark marks) same ∙ other))
+passes_group u _ mark marks e other h = cc
 
 -- the characters and the name differ at an index, before any special character and any dot
 differs_at :

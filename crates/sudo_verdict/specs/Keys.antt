@@ -24,7 +24,7 @@ use Rattle.sudo_verdict.specs.declared.key.Key.{Key}
 use Rattle.sudo_verdict.specs.declared.key.SectionKeys.{SectionKeys}
 use Rattle.sudo_verdict.specs.declared.key.EntryKeys.{EntryKeys}
 use Rattle.sudo_verdict.specs.declared.key.Key.TheVariants as keys
-use Rattle.sudo_verdict.specs.Numbers.{user_bucket, path_number}
+use Rattle.sudo_verdict.specs.Numbers.{user_bucket, group_mark, path_number}
 
 -- at each index that both lists have, the items are related
 abbrev pub Pairwise : {X Y : Type 0} → (X → Y → Type 0) → List X → List Y → Type 0
@@ -34,6 +34,15 @@ Pairwise {X} {Y} R xs ys = (i : ℕ) (x : X) (y : Y) → slice_get xs i ≡ Some
 abbrev pub name_number : Atom → Option ℕ
 name_number (atom.Name name) = Some (user_bucket name)
 name_number _ = None
+
+abbrev pub user_id : Atom → Option ℕ
+user_id (atom.Uid uid) = Some uid
+user_id _ = None
+
+-- the mark of a group's name
+abbrev pub name_mark : Atom → Option ℕ
+name_mark (atom.Group name) = Some (group_mark name)
+name_mark _ = None
 
 -- the number of a command's path
 abbrev pub command_number : Atom → Option ℕ
@@ -50,6 +59,8 @@ literal_byte _ index = None
 pub record IsKeyOf (p : Policy) (kind : Kind) (key : Key) (a : Atom) : Type 0 where
   pub position : (position : Position) (name : List ℕ) → key ≡ keys.Alias position → a ≡ atom.Alias name → in_force kind p name ≡ members_at p position
   pub name : (number : ℕ) → key ≡ keys.Name number → name_number a ≡ Some number
+  pub uid : (uid : ℕ) → key ≡ keys.Uid uid → user_id a ≡ Some uid
+  pub group : (mark : ℕ) → key ≡ keys.Group mark → name_mark a ≡ Some mark
   pub command : (number : ℕ) → key ≡ keys.Command number → command_number a ≡ Some number
   pub literal : (index byte : ℕ) → key ≡ keys.Host index byte → literal_byte a index ≡ Some byte
 

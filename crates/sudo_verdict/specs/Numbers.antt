@@ -1,5 +1,5 @@
 -- The numbers under which a rule is found: those of users, of their groups, and of commands.
-use Rattle.std.specs.Prelude.{ℕ, ◌+◌, ◌*◌, ◌%◌, Bool, ◌||◌, if◌then◌else◌, List, [], ◌∷◌}
+use Rattle.std.specs.Prelude.{ℕ, ◌+◌, ◌-◌, ◌*◌, ◌%◌, nat_lt, length, slice_index, Bool, ◌||◌, if◌then◌else◌, List, [], ◌∷◌}
 use Rattle.sudo_text.specs.declared.token.Ch.{Ch}
 use Rattle.sudo_grammar.specs.declared.kind.Atom.{Atom}
 use Rattle.sudo_grammar.specs.declared.kind.Atom.TheVariants as atom
@@ -59,3 +59,9 @@ atom_number (atom.Group name) = group_number name
 atom_number (atom.Gid gid) = gid_number gid
 atom_number (atom.Command path args) = path_number path
 atom_number _ = 0
+
+-- the mark of a group's name, by its last two bytes
+abbrev pub group_mark : List ℕ → ℕ
+group_mark name =
+    if nat_lt (length name) 2 then 0
+    else (slice_index name (length name - 1) + 10 * slice_index name (length name - 2)) % 64

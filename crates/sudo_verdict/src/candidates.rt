@@ -6,20 +6,12 @@ ghost use Rattle.sudo_verdict.specs.Numbers.{bucket_of, user_bucket, whole_seed}
 ghost use Rattle.sudo_verdict.specs.Postings.{bit, misses_beginnings};
 ghost use Rattle.sudo_verdict.specs.Body.Blocks.{HasUser, HasCommand, both_have};
 
-use crate::numbers::{
-    BEGINNING, EVERYONE, gid_number, group_number, next_number, uid_number,
-};
+use crate::numbers::{BEGINNING, EVERYONE, gid_number, group_number, next_number, uid_number};
 use crate::rows::Rows;
 use sudo_match::Person;
 
 /// Adds the rules that may decide for a user, whose name has this number, to an empty block, which begins at word `first`.
-pub(crate) fn add_user(
-    rows: &Rows,
-    user: &Person,
-    number: usize,
-    first: usize,
-    block: &mut [u64],
-)
+pub(crate) fn add_user(rows: &Rows, user: &Person, number: usize, first: usize, block: &mut [u64])
     requires rows { 0 < length rows.now.rows.items }
     requires number { number ≡ user_bucket user.now.name }
     ensures count { length block.new ≡ length block.old }

@@ -7,7 +7,7 @@ ghost use Rattle.sudo_policy.specs.Resolving.{resolves};
 ghost use Rattle.sudo_match.specs.Matching.{user_fits, group_fits, host_fits, command_fits};
 ghost use Rattle.sudo_verdict.specs.Values as values;
 ghost use Rattle.sudo_verdict.specs.Body.Known.{IsPassed};
-ghost use Rattle.sudo_verdict.specs.Body.NumberSets.{lacks_command, set_has};
+ghost use Rattle.sudo_verdict.specs.Body.NumberSets.{has_marks, lacks_command, set_has};
 ghost use Rattle.sudo_verdict.specs.Keys.{HaveKeys, IsKeyOf};
 ghost use Rattle.sudo_verdict.specs.Numbers.{bucket_of, user_bucket, whole_seed};
 ghost use Rattle.sudo_verdict.specs.Body.Recalling.{Recalls};
@@ -16,7 +16,7 @@ ghost use Rattle.sudo_verdict.specs.Decided.{list_decision, negated_once};
 use crate::aliases::{Aliases, Numbers, REMEMBERED, Slot, number_of, recall, remember};
 use crate::key::{Key, key_at};
 use crate::keys::Lists;
-use crate::number_set::NumberSet;
+use crate::number_set::{MarkSet, NumberSet};
 use crate::numbers::user_bucket;
 use sudo_match::{
     Group, Machine, Person, command_matches, group_matches, host_matches, user_matches,
@@ -42,7 +42,10 @@ pub(crate) struct AsUser<'a> {
     pub(crate) user: &'a Person,
     // The number of the user's name.
     number: usize,
+    // The marks of the user's groups.
+    marks: MarkSet,
     ghost known: { number ≡ user_bucket user.now.name },
+    ghost marked: { has_marks marks.words user.now.groups ≡ true },
 }
 
 impl<'a> AsUser<'a> {
@@ -53,6 +56,7 @@ impl<'a> AsUser<'a> {
         AsUser {
             user,
             number: user_bucket(user.name.as_slice()),
+            marks: MarkSet::of_groups(user.groups.as_slice()),
         }
     }
 
@@ -74,6 +78,8 @@ impl Subject for AsUser<'_> {
     fn misses(&self, key: &Key) -> bool {
         match key {
             Key::Name(number) => *number != self.number,
+            Key::Uid(uid) => *uid != self.user.uid,
+            Key::Group(mark) => !self.marks.has(*mark),
             _ => false,
         }
     }

@@ -14,6 +14,10 @@ pub(crate) enum Key {
     Alias(Position),
     /// A user's name, by its number.
     Name(usize),
+    /// A user, by ID.
+    Uid(u32),
+    /// A group, by the mark of its name.
+    Group(usize),
     /// A command, by the number of its path.
     Command(usize),
     /// A host's name, by the index of one of its characters and the byte of that in lower case. Neither this character nor

@@ -17,7 +17,7 @@ ghost use Rattle.sudo_verdict.specs.declared.key.SectionKeys.{SectionKeys as The
 ghost use Rattle.sudo_verdict.specs.Body.Known.{AreKnown};
 
 use crate::key::{EntryKeys, Key, SectionKeys};
-use crate::numbers::{path_number, user_bucket};
+use crate::numbers::{group_mark, path_number, user_bucket};
 use std::alloc::{AllocError, Global};
 use sudo_base::Seq;
 use sudo_match::is_special;
@@ -73,6 +73,8 @@ fn atom_key(checked: &Checked, kind: Kind, atom: &Atom) -> Key
     match atom {
         Atom::Alias(name) => alias_key(checked, kind, name.as_slice()),
         Atom::Name(name) => Key::Name(user_bucket(name.as_slice())),
+        Atom::Uid(uid) => Key::Uid(*uid),
+        Atom::Group(name) => Key::Group(group_mark(name.as_slice())),
         Atom::Command { path, .. } => Key::Command(path_number(path.as_slice())),
         Atom::Host { chars, .. } => host_key(chars.as_slice()),
         _ => Key::Other,

@@ -2,10 +2,11 @@
 
 ghost use Rattle.std.specs.Prelude.{ℕ, ◌≡◌, ◌<◌, true, not};
 ghost use Rattle.sudo_verdict.specs.Numbers.{bucket_of, whole_seed};
-ghost use Rattle.sudo_verdict.specs.Body.NumberSets.{lacks_command, set_has};
+ghost use Rattle.sudo_verdict.specs.Body.NumberSets.{has_mark, has_marks, lacks_command, set_has};
 
-use crate::numbers::{BEGINNING, EVERYONE, next_number};
+use crate::numbers::{BEGINNING, EVERYONE, group_mark, next_number};
 use crate::rows::set_bit;
+use sudo_match::Group;
 
 // The number of bits, of which several numbers share each.
 const BITS: usize = 1024;
@@ -61,5 +62,41 @@ impl NumberSet {
         }
         number_set.add(whole);
         number_set
+    }
+}
+
+/// A set of marks of groups' names.
+#[derive(Clone, Copy)]
+pub(crate) struct MarkSet {
+    words: [u64; 1],
+}
+
+impl MarkSet {
+    // Adds a mark to the set.
+    fn add(&mut self, mark: usize)
+        ensures adds { has_mark self.new.words mark ≡ true }
+        ensures keeps { (other : ℕ) → has_mark self.old.words other ≡ true
+            → has_mark self.new.words other ≡ true }
+    {
+        set_bit(&mut self.words, mark % 64);
+    }
+
+    /// Whether the set has the mark.
+    pub(crate) fn has(&self, mark: usize) -> bool
+        ensures { result ≡ has_mark self.now.words mark }
+    {
+        let bit = mark % 64;
+        self.words[bit / 64] >> (bit % 64) & 1 == 1
+    }
+
+    /// Returns the set of the marks of groups.
+    pub(crate) fn of_groups(groups: &[Group]) -> MarkSet
+        ensures { has_marks result.words groups.now ≡ true }
+    {
+        let mut marks = MarkSet { words: [0; 1] };
+        for group in groups {
+            marks.add(group_mark(group.name.as_slice()));
+        }
+        marks
     }
 }

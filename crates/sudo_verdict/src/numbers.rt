@@ -61,6 +61,17 @@ pub(crate) fn group_number(name: &[u8]) -> usize
     bucket_of(2, name)
 }
 
+/// Returns the mark of a group's name, by its last two bytes.
+pub(crate) fn group_mark(name: &[u8]) -> usize
+    ensures { result ≡ spec.group_mark name.now }
+{
+    let count = name.len();
+    if count < 2 {
+        return 0;
+    }
+    (name[count - 1] as usize + 10 * name[count - 2] as usize) % 64
+}
+
 /// Returns the number of a user ID.
 pub(crate) fn uid_number(uid: u32) -> usize
     ensures { result ≡ spec.uid_number uid }

@@ -4,11 +4,19 @@ use Rattle.std.specs.List.{list_all}
 use Rattle.sudo_match.specs.declared.people.Person.{Person}
 use Rattle.sudo_match.specs.declared.people.Group.{Group}
 use Rattle.sudo_verdict.specs.Postings.{bit}
-use Rattle.sudo_verdict.specs.Numbers.{next_number, bucket_of, whole_seed, beginning_seed, user_bucket, group_number, uid_number, gid_number}
+use Rattle.sudo_verdict.specs.Numbers.{next_number, bucket_of, whole_seed, beginning_seed, user_bucket, group_mark, group_number, uid_number, gid_number}
 
 -- the set has the number
 abbrev pub set_has : List ℕ → ℕ → Bool
 set_has words number = bit words (number % 1024) == 1
+
+-- the set has the mark
+abbrev pub has_mark : List ℕ → ℕ → Bool
+has_mark words mark = bit words (mark % 64) == 1
+
+-- the set has the mark of each group's name
+unfoldable pub has_marks : List ℕ → List Group → Bool
+has_marks words groups = list_all (λ (g : Group). has_mark words (group_mark g.name)) groups
 
 -- no number of a beginning of the bytes is one of those; `number` is that of the bytes before them
 unfoldable pub lacks_beginnings : (ℕ → Bool) → ℕ → List ℕ → Bool
