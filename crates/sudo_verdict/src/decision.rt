@@ -8,6 +8,7 @@ ghost use Rattle.sudo_match.specs.Matching.{user_fits, group_fits, host_fits, co
 ghost use Rattle.sudo_verdict.specs.Values as values;
 ghost use Rattle.sudo_verdict.specs.Body.Known.{IsPassed};
 ghost use Rattle.sudo_verdict.specs.Body.NumberSets.{has_marks, lacks_command, set_has};
+ghost use Rattle.sudo_verdict.specs.declared.number_set.NumberSet.{NumberSet as TheNumbers};
 ghost use Rattle.sudo_verdict.specs.Keys.{HaveKeys, IsKeyOf};
 ghost use Rattle.sudo_verdict.specs.Numbers.{bucket_of, user_bucket, whole_seed};
 ghost use Rattle.sudo_verdict.specs.Body.Recalling.{Recalls};
@@ -172,10 +173,11 @@ pub(crate) struct AsCommand<'a> {
     pub(crate) arguments: &'a [u8],
     /// The number of the whole command.
     pub(crate) whole: usize,
-    /// The numbers of the atoms that may match the command.
-    pub(crate) number_set: NumberSet,
+    /// The numbers of the atoms that may match the command, if they are known.
+    pub(crate) number_set: Option<&'a NumberSet>,
     ghost known: { whole ≡ bucket_of whole_seed command.now },
-    ghost covers: { lacks_command (λ n. not (set_has number_set.words n)) command.now ≡ true },
+    ghost covers: { (s : TheNumbers) → option_copied number_set ≡ Some s
+        → lacks_command (λ n. not (set_has s.words n)) command.now ≡ true },
 }
 
 impl Subject for AsCommand<'_> {
@@ -187,7 +189,10 @@ impl Subject for AsCommand<'_> {
 
     fn misses(&self, key: &Key) -> bool {
         match key {
-            Key::Command(number) => !self.number_set.has(*number),
+            Key::Command(number) => match self.number_set {
+                Some(number_set) => !number_set.has(*number),
+                None => false,
+            },
             _ => false,
         }
     }

@@ -1,6 +1,6 @@
 //! A request whose names are known, and its answers from the lists of a rule.
 
-ghost use Rattle.std.specs.Prelude.{◌≡◌, ◌∷◌, [], IsTrue, Option, Some, None, MatchResult, Ok, Err, option_copied, is_some, unwrap_or, bytes_eq, codes};
+ghost use Rattle.std.specs.Prelude.{◌≡◌, true, not, ◌∷◌, [], IsTrue, Option, Some, None, MatchResult, Ok, Err, option_copied, is_some, unwrap_or, bytes_eq, codes};
 ghost use Rattle.sudo_grammar.specs.declared.kind.Kind.TheVariants as kind;
 ghost use Rattle.sudo_policy.specs.Resolving.{resolves, list_resolves, runas_resolves};
 ghost use Rattle.sudo_match.specs.KnownRows.{user_named};
@@ -8,6 +8,7 @@ ghost use Rattle.sudo_verdict.specs.Keys.{HaveKeys};
 ghost use Rattle.sudo_verdict.specs.Values as values;
 ghost use Rattle.sudo_verdict.specs.RunasForms as form;
 ghost use Rattle.sudo_verdict.specs.Questions.{question_of, target_of};
+ghost use Rattle.sudo_verdict.specs.Body.NumberSets.{lacks_command, set_has};
 ghost use Rattle.sudo_verdict.specs.Body.Queries.{question};
 
 use crate::aliases::Aliases;
@@ -78,10 +79,25 @@ pub(crate) fn query_of<'a>(
             command: request.command.as_slice(),
             arguments: request.arguments.as_slice(),
             whole,
-            number_set: NumberSet::of_command(request.command.as_slice(), whole),
+            number_set: None,
         },
         aliases,
     })
+}
+
+/// Returns the query with the numbers of its command, by which members of lists are passed over.
+pub(crate) fn with_numbers<'a>(query: Query<'a>, number_set: &'a NumberSet) -> Query<'a>
+    requires { lacks_command (λ n. not (set_has number_set.now.words n))
+        query.command.command.now ≡ true }
+    ensures { question result ≡ question query.entry }
+{
+    let command = AsCommand {
+        command: query.command.command,
+        arguments: query.command.arguments,
+        whole: query.command.whole,
+        number_set: Some(number_set),
+    };
+    Query { command, ..query }
 }
 
 // Returns the user to run a command as: the user asked for; without one, the invoking user if a group is asked for,

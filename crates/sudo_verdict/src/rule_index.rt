@@ -13,8 +13,9 @@ ghost use Rattle.sudo_verdict.specs.Postings.{Indexes};
 use crate::aliases::Aliases;
 use crate::candidates::{add_command, add_user, last_in_both_before};
 use crate::keys::{Keys, Lists};
+use crate::number_set::NumberSet;
 use crate::postings::{Budget, Postings};
-use crate::query::{Query, query_of};
+use crate::query::{Query, query_of, with_numbers};
 use crate::rows::Rows;
 use crate::search::search_candidate;
 use std::alloc::{AllocError, Global};
@@ -94,6 +95,9 @@ impl RuleIndex {
     {
         match query_of(directory, request, self.aliases.as_ref()) {
             Ok(query) => {
+                let command = query.command;
+                let number_set = NumberSet::of_command(command.command, command.whole);
+                let query = with_numbers(query, &number_set);
                 let lists = Lists {
                     checked,
                     keys: Some(&self.keys),
