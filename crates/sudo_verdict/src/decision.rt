@@ -37,7 +37,7 @@ pub(crate) trait Subject {
         ensures { result ≡ true → IsPassed (fits self.now) key.now };
 }
 
-/// A user, matched with the members of a user list or of a runas user list.
+/// A user, matched with the members of a user list.
 #[derive(Clone, Copy)]
 pub(crate) struct AsUser<'a> {
     pub(crate) user: &'a Person,
@@ -83,6 +83,24 @@ impl Subject for AsUser<'_> {
             Key::Group(mark) => !self.marks.has(*mark),
             _ => false,
         }
+    }
+}
+
+/// A user to run a command as, matched with the members of a runas user list.
+#[derive(Clone, Copy)]
+pub(crate) struct AsTarget<'a> {
+    pub(crate) target: &'a Person,
+}
+
+impl Subject for AsTarget<'_> {
+    ghost fits = { λ s a. user_fits a s.target.now };
+
+    fn matches(&self, atom: &Atom) -> bool {
+        user_matches(atom, self.target)
+    }
+
+    fn misses(&self, _key: &Key) -> bool {
+        false
     }
 }
 

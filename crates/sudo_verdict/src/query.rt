@@ -12,7 +12,7 @@ ghost use Rattle.sudo_verdict.specs.Body.NumberSets.{lacks_command, set_has};
 ghost use Rattle.sudo_verdict.specs.Body.Queries.{question};
 
 use crate::aliases::Aliases;
-use crate::decision::{AsCommand, AsGroup, AsHost, AsUser, value};
+use crate::decision::{AsCommand, AsGroup, AsHost, AsTarget, AsUser, value};
 use crate::key::Key;
 use crate::keys::Lists;
 use crate::number_set::NumberSet;
@@ -219,7 +219,7 @@ impl Query<'_> {
         requires { IsTrue (resolves kind.Runas lists.checked.now users.now) }
         ensures { result ≡ form.target_value lists.entry.checked.now users.now target.now }
     {
-        let target = AsUser::of(target);
+        let target = AsTarget { target };
         value(lists, Kind::Runas, users, &[], &target, self.aliases)
     }
 
