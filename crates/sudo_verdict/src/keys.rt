@@ -315,7 +315,8 @@ impl Lists<'_> {
         ensures { (e : TheEntry) (users : List TheMember) (sections : List TheSection)
             → slice_get self.now.checked.now.entries index ≡ Some e
             → e.body ≡ body.Rule users sections
-            → HaveRuleKeys self.now.checked.now result.users.now result.sections.now users sections }
+            → HaveRuleKeys self.now.checked.now result.users.now result.sections.now users
+            sections }
     {
         let Some(keys) = self.keys else {
             return RuleKeys {
