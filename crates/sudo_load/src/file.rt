@@ -4,7 +4,7 @@ ghost use Rattle.sudo_load.specs.Files.{HasContent};
 
 use std::alloc::Global;
 use sudo_grammar::{Entry, ParseFault};
-use sudo_parser::parse;
+use sudo_parser::parse_lines;
 use sudo_text::{Seq, TextFault, lines};
 
 /// Reads the entries of the file with the given number.
@@ -14,7 +14,7 @@ pub(crate) fn read(alloc: Global, file: u32, text: &[u8]) -> Result<Seq<Entry>, 
         → HasContent file text.now (Err fault)) }
 {
     match lines(alloc, file, text) {
-        Ok(lines) => match parse(alloc, &lines) {
+        Ok(lines) => match parse_lines(alloc, lines) {
             Ok(entries) => Ok(Seq::from_vec(entries)),
             Err(fault) => Err(fault),
         },

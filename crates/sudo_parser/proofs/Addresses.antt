@@ -1,13 +1,13 @@
 -- Words that are neither an address nor a network: they begin with no digit and have no slash.
-use Rattle.std.proofs.Common.{◌≡◌, ℕ, zero, suc, ◌+◌, ◌≤◌, Bool, true, false, not, ◌&&◌, ◌||◌, List, [], ◌∷◌, Option, None, Some, length, take, drop, le-ltb, refl, ap, sym, ◌∙◌, arith}
+use Rattle.std.proofs.Common.{◌≡◌, ℕ, zero, suc, ◌+◌, Bool, true, false, ◌&&◌, List, [], ◌∷◌, Option, None, Some, length, take, drop, le-ltb, refl, arith}
 use Rattle.std.specs.Prelude.{◌==◌, nat_lt, position}
-use Rattle.std.specs.List.{list_any, list_all, position_or_len}
+use Rattle.std.specs.List.{list_any, position_or_len}
 use Rattle.std.specs.Option.{option_map, option_and_then}
 use Rattle.std.proofs.lemmas.Bool.{or_parts}
 use Rattle.sudo_text.specs.Bytes.{is_digit}
 use Rattle.sudo_text.specs.declared.token.Ch.{Ch}
 use Rattle.sudo_grammar.specs.Words.{bytes_of}
-use Rattle.sudo_grammar.specs.Members.{cut_at, address_of, address_of_groups, octet_of, is_octet}
+use Rattle.sudo_grammar.specs.Members.{cut_at, address_of, address_of_groups, octet_of}
 
 -- no byte is a slash, so all come before the first one
 slash_after : (cs : List Ch) → list_any (λ (c : Ch). c.byte == 47) cs ≡ false

@@ -1,5 +1,5 @@
 -- The steps of a Defaults line, as the parser takes them.
-use Rattle.std.proofs.Common.{◌≡◌, ℕ, zero, suc, List, [], ◌∷◌, length, refl, ap, sym, ◌∙◌, subst, true, false, Option, None, Some, arith}
+use Rattle.std.proofs.Common.{◌≡◌, ℕ, zero, suc, List, [], ◌∷◌, length, refl, ap, sym, ◌∙◌, subst, false, Option, None, arith}
 use Rattle.sudo_text.specs.declared.token.Mark.TheVariants as marks
 use Rattle.sudo_text.specs.declared.token.Token.{Token}
 use Rattle.sudo_text.specs.declared.token.TokenKind.{TokenKind}
@@ -15,8 +15,8 @@ use Rattle.sudo_parser.specs.Body.Stops.{Stops, IsNotNext}
 use Rattle.sudo_grammar.specs.Reading.{reading}
 use Rattle.sudo_parser.proofs.Steps.{stops-here, stops-same}
 use Rattle.sudo_grammar.specs.declared.policy.Operator.{Operator}
-use Rattle.sudo_grammar.specs.Openings.{is_word, operator_of}
-use Rattle.sudo_grammar.specs.States.{AtParameter, AfterSwitch, AtValue, Room, at_parameter, after_switch, at_operator, at_value}
+use Rattle.sudo_grammar.specs.Openings.{is_word}
+use Rattle.sudo_grammar.specs.States.{AtParameter, AfterSwitch, AtValue, Room, at_parameter, after_switch, at_value}
 use Rattle.sudo_parser.specs.Body.Lists.{ReadsBangs}
 use Rattle.sudo_parser.specs.Body.Defaults.{IsWordNext, IsNoWordNext, IsWordMissing, IsOperatorNext, EndsParameter, ReadsParameter, StopsInParameter}
 use Rattle.sudo_grammar.proofs.Complete.{operator-value, word-parameter, reading-step}

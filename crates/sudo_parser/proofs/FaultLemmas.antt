@@ -1,5 +1,5 @@
 -- The fault of a line, by the stop of its reading.
-use Rattle.std.proofs.Common.{◌≡◌, ℕ, ◌-◌, ◌≤◌, List, [], ◌∷◌, ◌++◌, length, drop, true, refl, sym, ◌∙◌, ap, subst, inr, arith, length-append}
+use Rattle.std.proofs.Common.{◌≡◌, ℕ, ◌-◌, ◌≤◌, List, [], ◌∷◌, ◌++◌, length, drop, true, refl, sym, ◌∙◌, ap, inr, arith, length-append}
 use Rattle.std.proofs.Math.Seq.{drop-append_seam}
 use Rattle.sudo_text.specs.declared.token.Token.{Token}
 use Rattle.sudo_text.specs.declared.line.Line.{Line}
@@ -47,7 +47,7 @@ grammar_fault room line (t ∷ ts) refusal left fault spelled some (stop, (is, (
     })
 
 -- What a line's tokens write is what it says.
-pub says_entry : (room : Room) (line : Line) (ts us : List Token) (body : EntryBody) → spells line ts ≡ true
-    → (ts ≡ [] → ⊥) → us ≡ ts → WritesWithin room body us → IsEntryOf room line (Some body)
-says_entry room line [] us body spelled some same h = absurd (some refl)
-says_entry room line (t ∷ ts) us body spelled some same h = (t, ts, spelled, subst (WritesWithin room body) same h)
+pub says_entry : (room : Room) (line : Line) (ts : List Token) (body : EntryBody) → spells line ts ≡ true
+    → (ts ≡ [] → ⊥) → WritesWithin room body ts → IsEntryOf room line (Some body)
+says_entry room line [] body spelled some h = absurd (some refl)
+says_entry room line (t ∷ ts) body spelled some h = (t, ts, spelled, h)

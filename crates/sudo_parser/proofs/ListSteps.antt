@@ -22,7 +22,7 @@ use Rattle.sudo_parser.specs.declared.stops.ParserStop.TheVariants as stops
 use Rattle.sudo_grammar.specs.Words.{plain_word, is_option_name}
 use Rattle.sudo_grammar.specs.Members.{atom_of}
 use Rattle.sudo_grammar.specs.Openings.{is_mark, is_equal_mark, word_passes}
-use Rattle.sudo_grammar.specs.States.{Purpose, Defines, Users, Hosts, RunasUsers, RunasGroups, Binds, kind_for, State, Item, AfterItem, Room, at_item, after_item, member_state, after_member}
+use Rattle.sudo_grammar.specs.States.{Purpose, Defines, Users, Hosts, RunasUsers, RunasGroups, Binds, kind_for, State, Item, AfterItem, Room, at_item, after_item, member_state}
 use Rattle.sudo_grammar.specs.Refusals.{is_option, or_option, last_command, refused_atom, refusal_after_list}
 use Rattle.sudo_grammar.specs.Reading.{reading}
 use Rattle.sudo_parser.specs.Body.Gives.{Declines}

@@ -7,7 +7,6 @@ use Rattle.sudo_text.specs.declared.token.Token.{Token}
 use Rattle.sudo_text.specs.declared.token.TokenKind.{TokenKind}
 use Rattle.sudo_text.specs.declared.token.TokenKind.TheVariants as tokens
 use Rattle.sudo_grammar.specs.declared.kind.Kind.TheVariants as kinds
-use Rattle.sudo_grammar.specs.declared.kind.Atom.{Atom}
 use Rattle.sudo_grammar.specs.declared.kind.Member.{Member}
 use Rattle.sudo_grammar.specs.declared.policy.Runas.{Runas}
 use Rattle.sudo_grammar.specs.declared.tag.Tag.{Tag}

@@ -66,6 +66,6 @@ IsNext-less m [] rest h = absurd h
 IsNext-less m (t ∷ ts) rest h = omega (arith, ap length h.1)
 
 -- a stop that is passed on is the stop of the whole reading
-pub passed-on : {X : Type 0} (r : Result X ParserStop) (e : ParserStop) (P : ParserStop → Type 0) → IsErrAnd r (λ y. y ≡ e) → P e → IfErr r P
+pub passed-on : {X E : Type 0} (r : Result X E) (e : E) (P : E → Type 0) → IsErrAnd r (λ y. y ≡ e) → P e → IfErr r P
 passed-on (Ok x) e P h p = tt
 passed-on (Err y) e P h p = subst P (sym h) p

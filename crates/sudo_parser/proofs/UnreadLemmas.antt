@@ -1,5 +1,5 @@
 -- A token that is taken, and the tokens after it.
-use Rattle.std.proofs.Common.{ℕ, ◌+◌, ◌<◌, ◌≡◌, List, ◌∷◌, length, set, drop, arith, sym, ◌∙◌}
+use Rattle.std.proofs.Common.{ℕ, ◌+◌, ◌<◌, ◌≡◌, List, ◌∷◌, length, drop, arith, sym, ◌∙◌}
 use Rattle.std.proofs.lemmas.List.{drop_more, drop-set-lt}
 use Rattle.std.specs.Prelude.{slice_index_or, slice_set}
 

@@ -20,5 +20,5 @@ mod words;
 mod writing;
 
 pub use laws::lines_have_one_reading;
-pub use parsing::{first_over_limit, parse};
+pub use parsing::{first_over_limit, parse, parse_lines};
 pub use writing::member_text;

@@ -74,8 +74,13 @@ fn refused_line(alloc: Global, line: &Line, refusal: Refusal, left: usize) -> Pa
     }
 }
 
-// Reads a line: returns no entry if it has no tokens, and otherwise its entry.
-fn line_entry(alloc: Global, room: &Room, line: &Line) -> Result<Option<EntryBody>, ParseFault>
+// Reads a line: returns no entry if it has no tokens, and otherwise its entry. `unread` may hold tokens of the line before.
+fn line_entry(
+    alloc: Global,
+    room: &Room,
+    unread: &mut Unread,
+    line: &Line,
+) -> Result<Option<EntryBody>, ParseFault>
     requires { length line.now.text ≤ TEXT_LIMIT }
     ensures says { IfOk result (λ body. IsEntryOf (room_of room.now) line.now body) }
     ensures only { (body : Option ABody) → IsEntryOf (room_of room.now) line.now body
@@ -83,24 +88,25 @@ fn line_entry(alloc: Global, room: &Room, line: &Line) -> Result<Option<EntryBod
     ensures fault { IfErr result (λ fault. fault ≢ ParseFault.Memory
         → IsLineFault (room_of room.now) line.now fault) }
 {
-    let tokens = match tokens(alloc, line) {
-        Ok(tokens) => tokens,
+    match unread.read_line(alloc, line) {
+        Ok(()) => {}
         Err(fault) => return Err(text_fault(fault)),
-    };
-    if tokens.is_empty() {
+    }
+    if unread.len() == 0 {
         return Ok(None);
     }
-    match entry(alloc, room, &mut Unread::new(tokens)) {
+    match entry(alloc, room, unread) {
         Ok(body) => Ok(Some(body)),
         Err(ParserStop::At { refusal, left }) => Err(refused_line(alloc, line, refusal, left)),
         Err(ParserStop::Memory) => Err(ParseFault::Memory),
     }
 }
 
-// Appends a line's entry, if any, to the entries of the lines before.
+// Appends a line's entry, if any, to the entries of the lines before. `unread` may hold tokens of the line before.
 fn add_line(
     alloc: Global,
     room: &mut Room,
+    unread: &mut Unread,
     entries: &mut Seq<Entry>,
     line: &Line,
 ) -> Result<(), ParseFault>
@@ -115,7 +121,7 @@ fn add_line(
     ensures fault { IfErr result (λ fault. fault ≢ ParseFault.Memory
         → IsLineFault (room_after entries.old) line.now fault) }
 {
-    match line_entry(alloc, room, line) {
+    match line_entry(alloc, room, unread, line) {
         Ok(None) => Ok(()),
         Ok(Some(body)) => {
             *room = room.after(&body);
@@ -161,16 +167,37 @@ fn entries_of(alloc: Global, lines: &[Line]) -> Result<Seq<Entry>, ParseFault>
         → IsFirstFault lines.now fault) }
 {
     let mut room = Room::whole();
+    let mut unread = Unread::empty(alloc);
     let mut entries = Seq::new(alloc);
     let mut left = lines;
     while let Some((line, rest)) = left.split_first() {
-        match add_line(alloc, &mut room, &mut entries, line) {
+        match add_line(alloc, &mut room, &mut unread, &mut entries, line) {
             Ok(()) => {}
             Err(fault) => return Err(fault),
         }
         left = rest;
     }
     Ok(entries)
+}
+
+/// Returns the entries of a file's lines as `parse` does, with the same faults, and frees each line once it is read.
+pub fn parse_lines(alloc: Global, lines: Vec<Line>) -> Result<Vec<Entry>, ParseFault>
+    requires { All (λ line. length line.text ≤ TEXT_LIMIT) lines.items }
+    ensures entries { IfOk result (λ entries. AreEntries lines.items entries.items) }
+    // Lines that have entries are read, or allocation fails.
+    ensures only { (entries : List AnEntry) → AreEntries lines.items entries → MatchResult result
+        (λ read. read.items ≡ entries)
+        (λ fault. fault ≡ ParseFault.Memory) }
+    ensures fault { IfErr result (λ fault. fault ≢ ParseFault.Memory
+        → IsFirstFault lines.items fault) }
+{
+    let mut room = Room::whole();
+    let mut unread = Unread::empty(alloc);
+    let mut entries = Seq::new(alloc);
+    for line in lines {
+        add_line(alloc, &mut room, &mut unread, &mut entries, &line)?;
+    }
+    Ok(entries.into_vec())
 }
 
 /// Returns the place of the first entry with a definition of an alias past 4,096 of its kind, in all entries together.

@@ -5,7 +5,7 @@ mod taking;
 
 use sudo_text::Token;
 
-/// The tokens of a line, of which the first `read` are read.
+/// The tokens of a line, of which the first `read` are read. One list serves line after line.
 #[derive(Drop)]
 pub(crate) struct Unread {
     tokens: Vec<Token>,

@@ -1,6 +1,6 @@
 -- The findings of the code are those of the policy.
 use Rattle.std.proofs.Common.{◌≡◌, ℕ, suc, ◌<◌, Bool, true, false, not, cond, List, [], ◌∷◌, ◌++◌, map, length, Option, None, Some, refl, sym, ◌∙◌, ap, subst, arith}
-use Rattle.std.specs.Prelude.{slice_get, option_map, option_and_then, option_to_list, is_none, find, filter, flat_map, Contains, if◌then◌else◌}
+use Rattle.std.specs.Prelude.{slice_get, option_map, option_and_then, option_to_list, is_none, is_some, find, filter, flat_map, Contains, if◌then◌else◌}
 use Rattle.std.specs.List.{items_where_true}
 use Rattle.sudo_base.specs.NameIndices.{index_of}
 use Rattle.sudo_grammar.specs.declared.kind.Kind.{Kind}
@@ -21,7 +21,7 @@ use Rattle.sudo_policy.specs.Positions.{names_of_kind}
 use Rattle.std.proofs.lemmas.Option.{slice_get-map}
 use Rattle.sudo_policy.proofs.FollowingLemmas.{option_map-some}
 use Rattle.sudo_policy.proofs.JudgeLemmas.{cyclic_are, deep_are, wide_are, unused_are, have_depths}
-use Rattle.sudo_policy.proofs.LinkLemmas.{in_map, in_flat}
+use Rattle.sudo_policy.proofs.LinkLemmas.{in_map, in_flat, in_some}
 use Rattle.sudo_policy.proofs.MarkingLemmas.{none_in}
 use Rattle.sudo_policy.proofs.MeasureLemmas.{find-passes}
 use Rattle.sudo_policy.specs.Resolving.{IsSound}
@@ -56,8 +56,8 @@ roots_inside index n ls inside j h =
     let k = in_flat (granting_row index) ls (Some j) h in
     by k.0 k.0.granting k.2
   where
-    by : (l : MemberList) (b : Bool) → Contains (if b then row_of index l.kind l.members else []) (Some j) → j < n
-    by l true h = row_leads index n l.kind l.members inside j h
+    by : (l : MemberList) (b : Bool) → Contains (if b then filter is_some (row_of index l.kind l.members) else []) (Some j) → j < n
+    by l true h = row_leads index n l.kind l.members inside j (in_some (row_of index l.kind l.members) j h)
     by l false h = absurd (none_in (Some j) h)
 
 pub leads_inside : (p : Policy) (survey : Survey) → IsSurvey p (definitions p) survey → LeadsInside survey
@@ -74,10 +74,10 @@ views_inside survey leads kind name i is =
 
 -- ---- What was found of each alias
 
-module _ (p : Policy) (survey : Survey) (s : IsSurvey p (definitions p) survey) (ls : List MemberList) (lists_are : ls ≡ lists p)
+module _ (p : Policy) (survey : Survey) (s : IsSurvey p (definitions p) survey)
     (links : Links) (links_are : links ≡ map (row_of_alias survey.index) (map alias_view survey.aliases.items))
     (states : List State) (sizes : length states ≡ length links) (held : StatesHold links states) (settled : (i : ℕ) (t : State) → slice_get states i ≡ Some t → IsSettled t)
-    (roots : List (Option ℕ)) (roots_are : roots ≡ flat_map (granting_row survey.index) ls) (used : List Bool) (used_marks : MarksOf (length links) (IsReached links roots) used)
+    (roots : List (Option ℕ)) (roots_are : roots ≡ flat_map (granting_row survey.index) (lists p)) (used : List Bool) (used_marks : MarksOf (length links) (IsReached links roots) used)
     (judged : AliasMarks) (cyclic_marks : MarksOf (length links) (λ i. Path links i i) judged.cyclic.items)
     (deep : judged.deep.items ≡ map is_deep states) (wide : judged.wide.items ≡ map is_wide states) (unused : judged.unused.items ≡ map not used) where
   abbrev ds : List AliasDefinition
@@ -86,9 +86,6 @@ module _ (p : Policy) (survey : Survey) (s : IsSurvey p (definitions p) survey) 
   abbrev links_of : Links
   links_of = map (row_of_alias survey.index) ds
 
-  roots_of : roots ≡ flat_map (granting_row survey.index) (lists p)
-  roots_of = roots_are ∙ ap (flat_map (granting_row survey.index)) lists_are
-
   long : length links_of ≡ length ds
   long = length_mapped (row_of_alias survey.index) ds
 
@@ -96,7 +93,7 @@ module _ (p : Policy) (survey : Survey) (s : IsSurvey p (definitions p) survey) 
   states_long = sizes ∙ ap length links_are ∙ long
 
   used_of : MarksOf (length links_of) (IsReached links_of (flat_map (granting_row survey.index) (lists p))) used
-  used_of = subst (λ (rs : List (Option ℕ)). MarksOf (length links_of) (IsReached links_of rs) used) roots_of (subst (λ (g : Links). MarksOf (length g) (IsReached g roots) used) links_are used_marks)
+  used_of = subst (λ (rs : List (Option ℕ)). MarksOf (length links_of) (IsReached links_of rs) used) roots_are (subst (λ (g : Links). MarksOf (length g) (IsReached g roots) used) links_are used_marks)
 
   cyclic_of : MarksOf (length links_of) (λ i. Path links_of i i) judged.cyclic.items
   cyclic_of = subst (λ (g : Links). MarksOf (length g) (λ i. Path g i i) judged.cyclic.items) links_are cyclic_marks
@@ -157,15 +154,14 @@ module _ (p : Policy) (survey : Survey) (s : IsSurvey p (definitions p) survey) 
   all_missing [] = refl
   all_missing (l ∷ ls) = ap (λ fs. fs ++ flat_map (missing_in survey.index) ls) (missing_is l) ∙ ap (λ fs. undefined_in p l ++ fs) (all_missing ls)
 
-  pub found_is : (ls : List MemberList) (judged : AliasMarks) → ls ≡ lists p → found_in survey.index (map alias_view survey.aliases.items) (map alias_view survey.redefinitions.items) ls judged ≡ found_by p judged.cyclic.items judged.deep.items judged.wide.items judged.unused.items
-  found_is ls judged lists_are =
-      ap (λ (xs : List AliasDefinition). found_in survey.index xs (map alias_view survey.redefinitions.items) ls judged) s.aliases_are
-      ∙ ap (λ (rs : List AliasDefinition). found_in survey.index (aliases p) rs ls judged) s.repeats_are
-      ∙ ap (λ (xs : List MemberList). found_in survey.index (aliases p) (redefinitions [] (definitions p)) xs judged) lists_are
-      ∙ ap (λ (fs : List Finding). map (finding_on Redefined) (redefinitions [] (definitions p)) ++ (fs ++ (map (finding_on Cycle) (items_where_true judged.cyclic.items (aliases p)) ++ (map (finding_on TooDeep) (items_where_true judged.deep.items (aliases p)) ++ (map (finding_on TooWide) (items_where_true judged.wide.items (aliases p)) ++ map (finding_on Unused) (items_where_true judged.unused.items (aliases p))))))) (all_missing (lists p))
+  pub found_is : (missing : List Finding) (judged : AliasMarks) → missing ≡ flat_map (missing_in survey.index) (lists p) → found_in missing (map alias_view survey.aliases.items) (map alias_view survey.redefinitions.items) judged ≡ found_by p judged.cyclic.items judged.deep.items judged.wide.items judged.unused.items
+  found_is missing judged missing_are =
+      ap (λ (xs : List AliasDefinition). found_in missing xs (map alias_view survey.redefinitions.items) judged) s.aliases_are
+      ∙ ap (λ (rs : List AliasDefinition). found_in missing (aliases p) rs judged) s.repeats_are
+      ∙ ap (λ (fs : List Finding). found_in fs (aliases p) (redefinitions [] (definitions p)) judged) (missing_are ∙ all_missing (lists p))
 
-  pub are_findings : (found : List Finding) (ls : List MemberList) (judged : AliasMarks) → ls ≡ lists p → AreAliasMarks p judged → found ≡ found_in survey.index (map alias_view survey.aliases.items) (map alias_view survey.redefinitions.items) ls judged → AreFindings p found
-  are_findings found ls judged lists_are j is = record {
+  pub are_findings : (found missing : List Finding) (judged : AliasMarks) → missing ≡ flat_map (missing_in survey.index) (lists p) → AreAliasMarks p judged → found ≡ found_in missing (map alias_view survey.aliases.items) (map alias_view survey.redefinitions.items) judged → AreFindings p found
+  are_findings found missing judged missing_are j is = record {
     cyclic = judged.cyclic.items;
     deep = judged.deep.items;
     wide = judged.wide.items;
@@ -174,7 +170,7 @@ module _ (p : Policy) (survey : Survey) (s : IsSurvey p (definitions p) survey) 
     deep_are = j.deep_are;
     wide_are = j.wide_are;
     unused_are = j.unused_are;
-    list = is ∙ found_is ls judged lists_are;
+    list = is ∙ found_is missing judged missing_are;
   }
 
   -- a definition in force is that of an alias
@@ -193,6 +189,6 @@ module _ (p : Policy) (survey : Survey) (s : IsSurvey p (definitions p) survey) 
           (i, d.0, sym (ap (λ (xs : List AliasDefinition). slice_get xs i) s.aliases_are) ∙ d.1, sym same.0, (let e : d.0.members ≡ ms = cc in e))
 
   -- where no finding is an error, every list resolves
-  pub sound_is : (found : List Finding) (ls : List MemberList) (judged : AliasMarks) → ls ≡ lists p → AreAliasMarks p judged → found ≡ found_in survey.index (map alias_view survey.aliases.items) (map alias_view survey.redefinitions.items) ls judged → has_error found ≡ false → IsSound p
+  pub sound_is : (found missing : List Finding) (judged : AliasMarks) → missing ≡ flat_map (missing_in survey.index) (lists p) → AreAliasMarks p judged → found ≡ found_in missing (map alias_view survey.aliases.items) (map alias_view survey.redefinitions.items) judged → has_error found ≡ false → IsSound p
   unfolding are_findings
-  sound_is found ls judged lists_are j is none = sound_from p found (are_findings found ls judged lists_are j is) none j.have_depths among_aliases
+  sound_is found missing judged missing_are j is none = sound_from p found (are_findings found missing judged missing_are j is) none j.have_depths among_aliases

@@ -1,6 +1,6 @@
 -- An alias reaches another exactly if there is a path between their numbers.
 use Rattle.std.proofs.Common.{◌≡◌, ℕ, suc, ◌<◌, Bool, true, false, List, [], ◌∷◌, map, length, Option, None, Some, refl, sym, ◌∙◌, ap, subst, arith, inl, inr, ◌⊎◌}
-use Rattle.std.specs.Prelude.{slice_get, Contains, option_map, option_and_then, option_to_list, find, flat_map, IsSome, if◌then◌else◌}
+use Rattle.std.specs.Prelude.{slice_get, Contains, option_map, option_and_then, option_to_list, find, filter, flat_map, is_some, IsSome, if◌then◌else◌}
 use Rattle.std.proofs.lemmas.Option.{slice_get-map}
 use Rattle.std.proofs.lemmas.List.Elements.{Contains-append_left, Contains-append_right, Contains-append_cases}
 use Rattle.sudo_base.specs.NameIndices.{index_of}
@@ -45,6 +45,26 @@ flat_in f [] x y h k = absurd (none_in x h)
 flat_in f (z ∷ zs) x y h k = elim (Contains-append_cases (z ∷ []) zs x h) [
   | inl first ↦ Contains-append_left (f z) (flat_map f zs) y (subst (λ w. Contains (f w) y) (sym (one_in z x first)) k)
   | inr rest ↦ Contains-append_right (f z) (flat_map f zs) y (flat_in f zs x y rest k)
+]
+
+-- a number is among the links that lead to an alias exactly if it is among all links
+pub in_some : (links : List (Option ℕ)) (i : ℕ) → Contains (filter is_some links) (Some i) → Contains links (Some i)
+in_some [] i h = h
+in_some (None ∷ links) i h = Contains-append_right (None ∷ []) links (Some i) (in_some links i h)
+in_some (Some j ∷ links) i h = elim (Contains-append_cases (Some j ∷ []) (filter is_some links) (Some i) h) [
+  | inl first ↦ Contains-append_left (Some j ∷ []) links (Some i) first
+  | inr rest ↦ Contains-append_right (Some j ∷ []) links (Some i) (in_some links i rest)
+]
+
+some_in : (links : List (Option ℕ)) (i : ℕ) → Contains links (Some i) → Contains (filter is_some links) (Some i)
+some_in [] i h = h
+some_in (None ∷ links) i h = elim (Contains-append_cases (None ∷ []) links (Some i) h) [
+  | inl first ↦ absurd (let both : None ≡ Some i = one_in None (Some i) first in cc)
+  | inr rest ↦ some_in links i rest
+]
+some_in (Some j ∷ links) i h = elim (Contains-append_cases (Some j ∷ []) links (Some i) h) [
+  | inl first ↦ Contains-append_left (Some j ∷ []) (filter is_some links) (Some i) first
+  | inr rest ↦ Contains-append_right (Some j ∷ []) (filter is_some links) (Some i) (some_in links i rest)
 ]
 
 -- ---- Names among members
@@ -196,21 +216,21 @@ module _ (p : Policy) (aliases : List AliasDefinition) (names : Kind → List (L
   -- ---- Use
 
   abbrev pub roots : List (Option ℕ)
-  roots = flat_map (λ (l : MemberList). if l.granting then row l.kind l.members else []) (lists p)
+  roots = flat_map (λ (l : MemberList). if l.granting then filter is_some (row l.kind l.members) else []) (lists p)
 
-  granting_has : (l : MemberList) (j : ℕ) → Contains (if l.granting then row l.kind l.members else []) (Some j) → (l.granting ≡ true) × Contains (row l.kind l.members) (Some j)
+  granting_has : (l : MemberList) (j : ℕ) → Contains (if l.granting then filter is_some (row l.kind l.members) else []) (Some j) → (l.granting ≡ true) × Contains (row l.kind l.members) (Some j)
   granting_has l j h = by l.granting refl h
     where
-      by : (b : Bool) → l.granting ≡ b → Contains (if b then row l.kind l.members else []) (Some j) → (l.granting ≡ true) × Contains (row l.kind l.members) (Some j)
-      by true e h = (e, h)
+      by : (b : Bool) → l.granting ≡ b → Contains (if b then filter is_some (row l.kind l.members) else []) (Some j) → (l.granting ≡ true) × Contains (row l.kind l.members) (Some j)
+      by true e h = (e, in_some (row l.kind l.members) j h)
       by false e h = absurd (none_in (Some j) h)
 
-  has_granting : (l : MemberList) (j : ℕ) → l.granting ≡ true → Contains (row l.kind l.members) (Some j) → Contains (if l.granting then row l.kind l.members else []) (Some j)
-  has_granting l j e h = subst (λ (b : Bool). Contains (if b then row l.kind l.members else []) (Some j)) (sym e) h
+  has_granting : (l : MemberList) (j : ℕ) → l.granting ≡ true → Contains (row l.kind l.members) (Some j) → Contains (if l.granting then filter is_some (row l.kind l.members) else []) (Some j)
+  has_granting l j e h = subst (λ (b : Bool). Contains (if b then filter is_some (row l.kind l.members) else []) (Some j)) (sym e) (some_in (row l.kind l.members) j h)
 
   pub reached_used : (i : ℕ) (d : AliasDefinition) → slice_get aliases i ≡ Some d → IsReached graph roots i → IsUsed p d
   reached_used i d at r =
-      let k = in_flat (λ (l : MemberList). if l.granting then row l.kind l.members else []) (lists p) (Some r.root) r.among in
+      let k = in_flat (λ (l : MemberList). if l.granting then filter is_some (row l.kind l.members) else []) (lists p) (Some r.root) r.among in
       let g = granting_has k.0 r.root k.2 in
       let n = row_names k.0.kind k.0.members r.root g.1 in
       let e = get_within aliases r.root (x.inside k.0.kind n.0 r.root n.2) in
@@ -241,7 +261,7 @@ module _ (p : Policy) (aliases : List AliasDefinition) (names : Kind → List (L
       subst (λ (kind : Kind). Contains (row kind u.list.members) (Some first.0)) (sym u.same_kind) (names_row d.kind u.list.members u.name first.0 u.named first.1) in
       record {
         root = first.0;
-        among = flat_in (λ (l : MemberList). if l.granting then row l.kind l.members else []) (lists p) u.list (Some first.0) u.among (has_granting u.list first.0 u.grants has);
+        among = flat_in (λ (l : MemberList). if l.granting then filter is_some (row l.kind l.members) else []) (lists p) u.list (Some first.0) u.among (has_granting u.list first.0 u.grants has);
         way = first.2;
       }
     where

@@ -1,5 +1,5 @@
 //! The findings on a policy's aliases.
-ghost use Rattle.std.specs.Prelude.{◌≡◌, ◌++◌, false, map, flat_map, not, option_copied, IfOk, OnOk};
+ghost use Rattle.std.specs.Prelude.{◌≡◌, ◌++◌, false, length, map, flat_map, not, option_copied, IfOk, OnOk};
 ghost use Rattle.std.specs.List.{items_where_true};
 ghost use Rattle.sudo_grammar.specs.declared.policy.Policy.{Policy};
 ghost use Rattle.sudo_policy.specs.Definitions as policies;
@@ -8,7 +8,8 @@ ghost use Rattle.sudo_policy.specs.Found.{AreFindings, has_error};
 ghost use Rattle.sudo_policy.specs.Found as found;
 ghost use Rattle.sudo_policy.specs.Body.Judgement.{AreAliasMarks, found_in, atom_missing, missing_in};
 ghost use Rattle.sudo_policy.specs.Body.Judgement as judgement;
-ghost use Rattle.sudo_policy.specs.Body.DefinitionRef.{alias_view, list_view, IsSurvey, LeadsInside};
+ghost use Rattle.sudo_policy.specs.Body.DefinitionRef.{alias_view, list_view, granting_row, IsSurvey, LeadsInside};
+ghost use Rattle.sudo_policy.specs.Body.Graph.{IsInside};
 ghost use Rattle.sudo_policy.specs.Positions.{IsIndex};
 ghost use Rattle.sudo_policy.specs.Resolving.{IsSound};
 
@@ -17,9 +18,7 @@ use crate::graph::{State, Visited, all_visited};
 use crate::index::Index;
 use crate::member::alias_name;
 use crate::reach::reached;
-use crate::survey::{
-    DefinitionRef, MemberList, Survey, definitions, links, lists, roots, take_survey,
-};
+use crate::survey::{DefinitionRef, MemberList, Survey, links, lists, roots, survey_policy};
 use crate::{Class, Finding};
 use std::alloc::{AllocError, Global};
 use sudo_grammar::{Kind, Policy};
@@ -30,6 +29,14 @@ use sudo_text::{Place, Seq};
 pub(crate) struct Examination {
     pub(crate) findings: Vec<Finding>,
     pub(crate) index: Index,
+}
+
+// What the lists of a policy use: the numbers of the aliases that rules and bound `Defaults` lines name, and a finding for
+// each use of an undefined name.
+#[derive(Drop)]
+struct Uses {
+    roots: Vec<Option<usize>>,
+    undefined: Vec<Finding>,
 }
 
 // For each alias in force, whether it is on a cycle, begins too long a chain, has too many members, or is unused.
@@ -59,11 +66,10 @@ pub(crate) fn examine(alloc: Global, policy: &Policy) -> Result<Examination, All
     ensures sound { IfOk result (λ examined. has_error examined.findings.items ≡ false
         → IsSound policy.now) }
 {
-    let all = definitions(alloc, policy)?;
-    let lists = lists(alloc, policy)?;
-    let survey = take_survey(alloc, all.as_slice())?;
-    let judged = judge(alloc, &survey, lists.as_slice())?;
-    let findings = collect_findings(alloc, &survey, lists.as_slice(), &judged)?;
+    let survey = survey_policy(alloc, policy)?;
+    let Uses { roots, undefined } = used_names(alloc, policy, &survey.index)?;
+    let judged = judge(alloc, &survey, roots.as_slice())?;
+    let findings = collect_findings(alloc, &survey, undefined, &judged)?;
     let Survey {
         aliases: _,
         redefinitions: _,
@@ -72,15 +78,30 @@ pub(crate) fn examine(alloc: Global, policy: &Policy) -> Result<Examination, All
     Ok(Examination { findings, index })
 }
 
-// Judges each alias in force.
+// Returns what the lists of a policy use, by the names' numbers.
+fn used_names(alloc: Global, policy: &Policy, index: &Index) -> Result<Uses, AllocError>
+    ensures roots { IfOk result (λ uses. uses.roots.items
+        ≡ flat_map (granting_row index.now) (policies.lists policy.now)) }
+    ensures undefined { IfOk result (λ uses. uses.undefined.items
+        ≡ flat_map (missing_in index.now) (policies.lists policy.now)) }
+{
+    let lists = lists(alloc, policy)?;
+    let roots = roots(alloc, index, lists.as_slice())?;
+    let undefined = undefined(alloc, index, lists.as_slice())?;
+    Ok(Uses { roots, undefined })
+}
+
+// Judges each alias in force, by the numbers of the aliases that rules and bound `Defaults` lines name.
 fn judge(
     alloc: Global,
     survey: &Survey<'_>,
-    lists: &[MemberList<'_>],
+    roots: &[Option<usize>],
 ) -> Result<AliasMarks, AllocError>
-    requires inside { LeadsInside survey.now }
+    requires leads { LeadsInside survey.now }
+    requires inside { IsInside roots.now (length survey.now.aliases.items) }
     ensures { IfOk result (λ judged. (p : Policy) → IsSurvey p (policies.definitions p) survey.now
-        → map list_view lists.now ≡ policies.lists p → AreAliasMarks p judged) }
+        → roots.now ≡ flat_map (granting_row survey.now.index) (policies.lists p)
+        → AreAliasMarks p judged) }
 {
     let links = links(alloc, &survey.index, survey.aliases.as_slice())?;
     let Visited { states, looped } = all_visited(alloc, links.as_slice())?;
@@ -92,8 +113,7 @@ fn judge(
     )?;
     let deep = too_deep(alloc, states.as_slice())?;
     let wide = too_wide(alloc, states.as_slice())?;
-    let roots = roots(alloc, &survey.index, lists)?;
-    let used = reached(alloc, links.as_slice(), roots.as_slice())?;
+    let used = reached(alloc, links.as_slice(), roots)?;
     let unused = negated(alloc, used.as_slice())?;
     Ok(AliasMarks {
         cyclic,
@@ -147,17 +167,18 @@ fn negated(alloc: Global, marks: &[bool]) -> Result<Vec<bool>, AllocError>
 fn collect_findings(
     alloc: Global,
     survey: &Survey<'_>,
-    lists: &[MemberList<'_>],
+    undefined: Vec<Finding>,
     judged: &AliasMarks,
 ) -> Result<Vec<Finding>, AllocError>
-    ensures { IfOk result (λ all. all.items ≡ found_in survey.now.index
+    ensures { IfOk result (λ all. all.items ≡ found_in undefined.items
         (map alias_view survey.now.aliases.items) (map alias_view survey.now.redefinitions.items)
-        (map list_view lists.now) judged.now) }
+        judged.now) }
 {
     let aliases = survey.aliases.as_slice();
+    let mut undefined = undefined;
     let mut found = Vec::new(alloc);
     push_repeats(alloc, survey.redefinitions.as_slice(), &mut found)?;
-    push_undefined(alloc, &survey.index, lists, &mut found)?;
+    found.append(&mut undefined)?;
     push_marked(
         alloc,
         Class::Cycle,
@@ -253,20 +274,20 @@ fn push_if(
     Ok(())
 }
 
-// Appends a finding for each use of an undefined name.
-fn push_undefined(
+// Returns a finding for each use of an undefined name.
+fn undefined(
     alloc: Global,
     index: &Index,
     lists: &[MemberList<'_>],
-    findings: &mut Vec<Finding>,
-) -> Result<(), AllocError>
-    ensures { OnOk result (findings.new.items
-        ≡ findings.old.items ++ flat_map (missing_in index.now) (map list_view lists.now)) }
+) -> Result<Vec<Finding>, AllocError>
+    ensures { IfOk result (λ findings. findings.items
+        ≡ flat_map (missing_in index.now) (map list_view lists.now)) }
 {
+    let mut findings = Vec::new(alloc);
     for list in lists {
-        push_uses(alloc, index, list, findings)?;
+        push_uses(alloc, index, list, &mut findings)?;
     }
-    Ok(())
+    Ok(findings)
 }
 
 // Appends a finding for each use of an undefined name in a list.

@@ -1,8 +1,8 @@
 //! The definitions and the lists of a policy, in the order of the file.
-ghost use Rattle.std.specs.Prelude.{◌≡◌, ◌++◌, [], ◌∷◌, List, All, map, flat_map, IfOk, OnOk, Some, slice_get};
+ghost use Rattle.std.specs.Prelude.{◌≡◌, ◌++◌, [], ◌∷◌, List, All, map, flat_map, filter, is_some, IfOk, OnOk, Some, slice_get};
 ghost use Rattle.sudo_grammar.specs.declared.policy.Policy.{Policy};
 ghost use Rattle.sudo_policy.specs.Definitions.{AliasDefinition, definitions, definitions_of, definitions_of_list, lists, lists_of_body, lists_of_list, binding_lists_of, section_lists, command_lists, runas_lists, option_lists, granting_list};
-ghost use Rattle.sudo_policy.specs.Body.DefinitionRef.{alias_view, list_view, row_of, row_of_alias, granting_row, IsSurvey, IsAtItsPosition, StandAt};
+ghost use Rattle.sudo_policy.specs.Body.DefinitionRef.{alias_view, list_view, link_of, row_of, row_of_alias, granting_row, IsSurvey, IsAtItsPosition, StandAt};
 
 use crate::index::{Index, Position};
 use crate::member::alias_name;
@@ -32,11 +32,8 @@ pub(crate) struct MemberList<'a> {
     pub(crate) members: &'a [Member],
 }
 
-/// Returns every definition of the policy, in order.
-pub(crate) fn definitions(
-    alloc: Global,
-    policy: &Policy,
-) -> Result<Vec<DefinitionRef<'_>>, AllocError>
+// Returns every definition of the policy, in order.
+fn definitions(alloc: Global, policy: &Policy) -> Result<Vec<DefinitionRef<'_>>, AllocError>
     ensures all { IfOk result (λ all. map alias_view all.items ≡ definitions policy.now) }
     ensures placed { IfOk result (λ all. All (IsAtItsPosition policy.now) all.items) }
 {
@@ -300,8 +297,16 @@ impl<'a> Survey<'a> {
     }
 }
 
-/// Divides the definitions into those in force and the redefinitions.
-pub(crate) fn take_survey<'a>(
+/// Divides the definitions of a policy into those in force and the redefinitions.
+pub(crate) fn survey_policy(alloc: Global, policy: &Policy) -> Result<Survey<'_>, AllocError>
+    ensures { IfOk result (λ survey. IsSurvey policy.now (definitions policy.now) survey) }
+{
+    let all = definitions(alloc, policy)?;
+    Ok(take_survey(alloc, all.as_slice())?)
+}
+
+// Divides definitions into those in force and the redefinitions.
+fn take_survey<'a>(
     alloc: Global,
     definitions: &[DefinitionRef<'a>],
 ) -> Result<Survey<'a>, AllocError>
@@ -359,13 +364,19 @@ fn push_row(
     ensures { OnOk result (row.new.items ≡ row.old.items ++ row_of index.now kind members.now) }
 {
     for member in members {
-        let link = match alias_name(&member.atom) {
-            Some(name) => index.number(kind, name),
-            None => None,
-        };
-        row.push(link)?;
+        row.push(link(index, kind, member))?;
     }
     Ok(())
+}
+
+// Returns the number of the alias that a member names, if any.
+fn link(index: &Index, kind: Kind, member: &Member) -> Option<usize>
+    ensures { result ≡ link_of index.now kind member.now }
+{
+    match alias_name(&member.atom) {
+        Some(name) => index.number(kind, name),
+        None => None,
+    }
 }
 
 /// Returns the numbers of the aliases that the lists of rules and of bound `Defaults` lines name.
@@ -393,8 +404,21 @@ fn push_roots(
     ensures { OnOk result (roots.new.items ≡ roots.old.items
         ++ granting_row index.now (list_view list.now)) }
 {
-    if list.granting {
-        push_row(index, list.kind, list.members, roots)?;
+    if !list.granting {
+        return Ok(());
+    }
+    for member in list.members {
+        push_root(link(index, list.kind, member), roots)?;
+    }
+    Ok(())
+}
+
+// Appends the number of an alias, if there is one.
+fn push_root(link: Option<usize>, roots: &mut Vec<Option<usize>>) -> Result<(), AllocError>
+    ensures { OnOk result (roots.new.items ≡ roots.old.items ++ filter is_some (link ∷ [])) }
+{
+    if link.is_some() {
+        roots.push(link)?;
     }
     Ok(())
 }

@@ -1,7 +1,7 @@
 -- The first bytes of a run, by the rule that reads it.
 use Rattle.std.proofs.Common.{◌≡◌, ◌≢◌, ℕ, ◌+◌, Bool, List, length, drop, get_or, true, false, refl, sym, ◌∙◌, inl, inr, Option, Some, None}
 use Rattle.std.proofs.lemmas.Bool.{eqb-true, eq-eqb, or_from, or_parts}
-use Rattle.std.specs.Prelude.{◌==◌, ◌&&◌, ◌||◌, ◌⊎◌, not, if◌then◌else◌, nat_le, nat_lt, nat_eq, IsTrue, codes}
+use Rattle.std.specs.Prelude.{◌==◌, ◌&&◌, ◌||◌, not, if◌then◌else◌, nat_le, nat_lt, nat_eq, IsTrue, codes}
 use Rattle.std.specs.List.{starts_with}
 use Rattle.sudo_text.specs.declared.token.Mark.{Mark}
 use Rattle.sudo_text.specs.declared.token.Mark.TheVariants as marks

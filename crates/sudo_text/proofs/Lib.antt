@@ -17,3 +17,4 @@ pub mod OneFault
 pub mod Endings
 pub mod FaultPlace
 pub mod CommonRuns
+pub mod FirstBytes

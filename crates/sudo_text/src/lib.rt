@@ -23,6 +23,6 @@ pub use laws::{
     quotes_end_words, runs_are_whole, what_begins_a_run,
 };
 pub use line::{Line, Place};
-pub use scan::tokens;
+pub use scan::{read_tokens, tokens};
 pub use sudo_base::Seq;
 pub use token::{Ch, Mark, Token, TokenKind};

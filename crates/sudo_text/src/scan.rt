@@ -1,5 +1,5 @@
 //! The tokens of a line.
-ghost use Rattle.std.specs.Prelude.{◌≡◌, ◌+◌, ◌<◌, ◌≤◌, ◌^◌, ◌≢◌, length, drop, Some, true, false, [], ◌-◌, IsTrue, IfOk, IfErr, All};
+ghost use Rattle.std.specs.Prelude.{◌≡◌, ◌+◌, ◌<◌, ◌≤◌, ◌^◌, ◌≢◌, length, drop, Some, true, false, [], ◌-◌, IsTrue, IfOk, IfErr, OnOk, OnErr, All};
 ghost use Rattle.sudo_text.specs.Pieces.{takes_first, Breaks};
 ghost use Rattle.sudo_text.specs.Rules.{RuleFits, KindFits};
 ghost use Rattle.sudo_text.specs.Refusals.{Refuses};
@@ -279,27 +279,57 @@ fn likely_count(line: &Line) -> usize
     }
 }
 
-// Returns the tokens of a line, or its leftmost fault.
-fn all_tokens(alloc: Global, line: &Line) -> Result<Vec<Token>, TextFault>
-    requires { length line.now.text ≤ TEXT_LIMIT }
-    ensures tokens { IfOk result (λ v. spells line.now v.items ≡ true) }
-    ensures few { IfOk result (λ v. length v.items ≤ length line.now.text) }
-    ensures inside { IfOk result (λ v. All (λ t. t.start < length line.now.text) v.items) }
+// Appends the tokens of a line to an empty list, or returns the line's leftmost fault.
+fn all_tokens(alloc: Global, line: &Line, tokens: &mut Vec<Token>) -> Result<(), TextFault>
+    requires short { length line.now.text ≤ TEXT_LIMIT }
+    requires empty { tokens.old.items ≡ [] }
+    ensures tokens { OnOk result (spells line.now tokens.new.items ≡ true) }
+    ensures few { OnOk result (length tokens.new.items ≤ length line.now.text) }
+    ensures inside { OnOk result
+        (All (λ t. t.start < length line.now.text) tokens.new.items) }
     ensures fault { IfErr result (λ f. f ≢ TextFault.Memory → LeftmostFault line.now f) }
 {
     let kind = line_kind(line.text.as_slice());
-    let mut tokens = Vec::with_capacity(alloc, likely_count(line))?;
     let mut before = Before::Nothing;
     let mut from = 0;
     'tokens: loop {
         match next_token(alloc, kind, before, line, from) {
-            Ok(None) => return Ok(tokens),
+            Ok(None) => return Ok(()),
             Ok(Some(token)) => {
                 before = before_of(&token.kind);
                 from = token.end as usize;
                 tokens.push(token)?;
             }
             Err(refusal) => return Err(fault_of(line.first, refusal)),
+        }
+    }
+}
+
+/// Splits a line into tokens, as `tokens` does, and puts them into a list in place of what it holds, so that many lines
+/// can be read into one list.
+///
+/// Returns the faults that `tokens` returns. After a fault the list is empty.
+pub fn read_tokens(alloc: Global, line: &Line, tokens: &mut Vec<Token>) -> Result<(), TextFault>
+    requires { length line.now.text ≤ TEXT_LIMIT }
+    // The line spells the tokens that the list then holds, whatever it held before.
+    ensures tokens { OnOk result (spells line.now tokens.new.items ≡ true) }
+    // There are at most as many tokens as bytes in the line, and each begins within it.
+    ensures few { OnOk result (length tokens.new.items ≤ length line.now.text) }
+    ensures inside { OnOk result
+        (All (λ t. t.start < length line.now.text) tokens.new.items) }
+    // If the line spells a list of tokens, the list then holds them, or allocation fails.
+    ensures only { (ts : List Token) → spells line.now ts ≡ true
+        → Gives (λ _. tokens.new.items) result (Ok ts) }
+    // Any other fault is the line's leftmost one.
+    ensures fault { IfErr result (λ f. f ≢ TextFault.Memory → LeftmostFault line.now f) }
+    ensures empty { OnErr result (tokens.new.items ≡ []) }
+{
+    tokens.clear();
+    match all_tokens(alloc, line, tokens) {
+        Ok(()) => Ok(()),
+        Err(fault) => {
+            tokens.clear();
+            Err(fault)
         }
     }
 }
@@ -323,5 +353,9 @@ pub fn tokens(alloc: Global, line: &Line) -> Result<Vec<Token>, TextFault>
     // Any other fault is the line's leftmost one.
     ensures fault { IfErr result (λ f. f ≢ TextFault.Memory → LeftmostFault line.now f) }
 {
-    all_tokens(alloc, line)
+    let mut tokens = Vec::with_capacity(alloc, likely_count(line))?;
+    match read_tokens(alloc, line, &mut tokens) {
+        Ok(()) => Ok(tokens),
+        Err(fault) => Err(fault),
+    }
 }

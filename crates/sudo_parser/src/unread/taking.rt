@@ -1,13 +1,16 @@
 //! The taking of the tokens of a line.
-ghost use Rattle.std.specs.Prelude.{◌≡◌, ◌^◌, ◌<◌, ◌≤◌, ◌∷◌, [], false, drop, length, IsTrue, MatchOption};
+ghost use Rattle.std.specs.Prelude.{◌≡◌, ◌≢◌, ◌^◌, ◌<◌, ◌≤◌, ◌∷◌, [], List, Ok, false, true, drop, length, IsTrue, IfErr, OnOk, MatchOption};
+ghost use Rattle.sudo_text.specs.Faults.{Gives};
+ghost use Rattle.sudo_text.specs.Tokens.{LeftmostFault, spells};
 ghost use Rattle.sudo_parser.specs.Body.Lists.{ReadsBangs};
 ghost use Rattle.sudo_parser.specs.Body.Stops.{IsNext, IsNotNext};
 ghost use Rattle.sudo_parser.specs.Body.Unread.{tokens_left};
 
 use super::Unread;
 use crate::tokens::{bang_count, is_next};
+use std::alloc::Global;
 use std::mem;
-use sudo_text::{Mark, Token, TokenKind};
+use sudo_text::{Line, Mark, TEXT_LIMIT, TextFault, Token, TokenKind, read_tokens};
 
 // Returns what stands in the place of a token that is taken.
 fn taken() -> Token {
@@ -19,12 +22,27 @@ fn taken() -> Token {
 }
 
 impl Unread {
-    /// Returns the tokens of a line before any is read.
+    /// Returns a list without tokens, into which lines can be read.
     #[tactic(auto, unfolding(crate::specs::Body::Unread::tokens_left))]
-    pub(crate) fn new(tokens: Vec<Token>) -> Unread
-        ensures { tokens_left result ≡ tokens.items }
+    pub(crate) fn empty(alloc: Global) -> Unread
+        ensures { tokens_left result ≡ [] }
     {
+        let tokens = Vec::new(alloc);
         Unread { tokens, read: 0 }
+    }
+
+    /// Reads the tokens of a line in place of those of the line before, so that one list serves all lines.
+    #[tactic(auto, unfolding(crate::specs::Body::Unread::tokens_left))]
+    pub(crate) fn read_line(&mut self, alloc: Global, line: &Line) -> Result<(), TextFault>
+        requires { length line.now.text ≤ TEXT_LIMIT }
+        ensures tokens { OnOk result (spells line.now (tokens_left self.new) ≡ true) }
+        ensures few { OnOk result (length (tokens_left self.new) ≤ length line.now.text) }
+        ensures only { (ts : List Token) → spells line.now ts ≡ true
+            → Gives (λ _. tokens_left self.new) result (Ok ts) }
+        ensures fault { IfErr result (λ f. f ≢ TextFault.Memory → LeftmostFault line.now f) }
+    {
+        self.read = 0;
+        read_tokens(alloc, line, &mut self.tokens)
     }
 
     /// Returns the tokens that are left.

@@ -1,5 +1,5 @@
 -- Definitions, lists and links in the survey of a policy: definitions that only proofs need.
-use Rattle.std.specs.Prelude.{◌≡◌, ◌<◌, ℕ, List, [], Option, Some, map, find, option_map, option_and_then, slice_get, length, if◌then◌else◌}
+use Rattle.std.specs.Prelude.{◌≡◌, ◌<◌, ℕ, List, [], Option, Some, map, find, option_map, option_and_then, filter, is_some, slice_get, length, if◌then◌else◌}
 use Rattle.sudo_grammar.specs.declared.kind.Kind.{Kind}
 use Rattle.sudo_policy.specs.declared.index.Index.{Index}
 use Rattle.sudo_policy.specs.declared.index.Position.{Position}
@@ -35,7 +35,7 @@ row_of_alias index d = row_of index d.kind d.members
 
 -- the aliases that a list names, if it belongs to a rule or to a bound `Defaults` line
 abbrev pub granting_row : Index → MemberList → List (Option ℕ)
-granting_row index l = if l.granting then row_of index l.kind l.members else []
+granting_row index l = if l.granting then filter is_some (row_of index l.kind l.members) else []
 
 -- the definition is at its position
 abbrev pub IsAtItsPosition : Policy → DefinitionRef → Type 0

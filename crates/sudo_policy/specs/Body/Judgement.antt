@@ -41,10 +41,11 @@ atom_missing index kind place (Some name) = use_missing index kind place name
 abbrev pub missing_in : Index → MemberList → List Finding
 missing_in index l = flat_map (λ (m : Member). atom_missing index l.kind l.place (alias_named m.atom)) l.members
 
-abbrev pub found_in : Index → List AliasDefinition → List AliasDefinition → List MemberList → AliasMarks → List Finding
-found_in index aliases redefinitions lists judged =
+-- the findings, class by class, with those on undefined names
+abbrev pub found_in : List Finding → List AliasDefinition → List AliasDefinition → AliasMarks → List Finding
+found_in undefined aliases redefinitions judged =
     map (finding_on Redefined) redefinitions
-    ++ (flat_map (missing_in index) lists
+    ++ (undefined
     ++ (map (finding_on Cycle) (items_where_true judged.cyclic.items aliases)
     ++ (map (finding_on TooDeep) (items_where_true judged.deep.items aliases)
     ++ (map (finding_on TooWide) (items_where_true judged.wide.items aliases)

@@ -1,5 +1,4 @@
 use Rattle.std.proofs.Common.{rules, subst}
-use Rattle.sudo_parser.specs.declared.stops.ParserStop.TheVariants as stops
 use Rattle.sudo_parser.specs.Body.Faults.{HasGrammarFault}
 use Rattle.sudo_parser.specs.Body.Unread.{tokens_left}
 use Rattle.sudo_parser.specs.Limits.{room_of}
@@ -9,13 +8,13 @@ use Rattle.sudo_parser.proofs.parsing.line_entry.Goals as goal
 pub returns-in-Err-At-clause-fault : goal.returns-in-Err-At-clause-fault
 returns-in-Err-At-clause-fault c = λ no_memory.
     let room = room_of c.args.room.now in
-    grammar_fault room c.args.line.now c.in-Ok.tokens.items c.in-Err-At.refusal c.in-Err-At.left c.refused_line.result
+    let tokens = tokens_left c.read_line.new.self in
+    grammar_fault room c.args.line.now tokens c.in-Err-At.refusal c.in-Err-At.left c.refused_line.result
     c.in-Ok.ensures.tokens (search rules)
-    (subst (λ ts. HasGrammarFault room ts (stops.At c.in-Err-At.refusal c.in-Err-At.left)) c.new.ensures
-    (subst (HasGrammarFault room (tokens_left c.new.result)) c.in-Err-At.field-0-is c.in-Err-At.ensures.fault))
-    (c.refused_line.ensures no_memory c.in-Ok.tokens.items c.in-Ok.ensures.tokens)
+    (subst (HasGrammarFault room tokens) c.in-Err-At.field-0-is c.in-Err-At.ensures.fault)
+    (c.refused_line.ensures no_memory tokens c.in-Ok.ensures.tokens)
 
 pub returns-in-Ok-entry-clause-says : goal.returns-in-Ok-entry-clause-says
 returns-in-Ok-entry-clause-says c =
-    says_entry (room_of c.args.room.now) c.args.line.now c.in-Ok.tokens.items (tokens_left c.new.result) c.in-Ok-entry.body
-    c.in-Ok.ensures.tokens (search rules) c.new.ensures c.in-Ok-entry.ensures.written
+    says_entry (room_of c.args.room.now) c.args.line.now (tokens_left c.read_line.new.self) c.in-Ok-entry.body
+    c.in-Ok.ensures.tokens (search rules) c.in-Ok-entry.ensures.written
