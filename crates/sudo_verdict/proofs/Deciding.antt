@@ -1,7 +1,8 @@
 -- The decision of a list, by the decisions of its parts: that of the last part that decides at all.
 use Rattle.std.proofs.Common.{◌≡◌, ℕ, ◌<◌, ◌≤◌, Bool, true, false, not, cond, List, [], ◌∷◌, ◌++◌, map, Option, Some, None, refl, sym, ◌∙◌, ap, arith}
 use Rattle.std.specs.Option.{option_or, option_map, is_some}
-use Rattle.std.proofs.Common.{length, take}
+use Rattle.std.proofs.Common.{◌+◌, ◌-◌, zero, suc, length, take, drop, option_to_list, add-zero, add-one}
+use Rattle.std.proofs.lemmas.List.{append-nil, take-append-drop}
 use Rattle.std.proofs.lemmas.Bool.{and_parts, both_ways}
 use Rattle.sudo_grammar.specs.declared.kind.Kind.{Kind}
 use Rattle.sudo_grammar.specs.declared.kind.Atom.{Atom}
@@ -20,16 +21,14 @@ use Rattle.sudo_verdict.specs.Last.{last_that}
 use Rattle.sudo_verdict.specs.Decided.{list_decision, decided_in, decision_of, negated_once}
 use Rattle.sudo_verdict.specs.declared.decision.Decision.{Decision}
 use Rattle.sudo_policy.specs.Definitions.{alias_named}
-use Rattle.sudo_policy.specs.Positions.{members_at}
-use Rattle.sudo_policy.specs.declared.index.Position.{Position}
 use Rattle.sudo_verdict.specs.declared.key.Key.{Key}
 use Rattle.sudo_verdict.specs.declared.key.Key.TheVariants as key
 use Rattle.sudo_verdict.specs.Keys.{Pairwise, IsKeyOf, HaveKeys, HaveCommandKeys}
 use Rattle.sudo_grammar.specs.declared.kind.Kind.TheVariants.{Cmnd}
 use Rattle.sudo_grammar.specs.declared.policy.CommandSpec.{CommandSpec}
 use Rattle.sudo_verdict.specs.Body.Known.{IsPassed}
-use Rattle.std.specs.Prelude.{unwrap_or, slice_get, option_and_then}
-use Rattle.sudo_verdict.proofs.Lasts.{last-at, last_that-append, last_that-map, option_map_or, option_map_map}
+use Rattle.std.specs.Prelude.{unwrap_or, slice_get}
+use Rattle.sudo_verdict.proofs.Lasts.{take_more, last-at, last_that-append, last_that-map, option_map_or, option_map_map}
 
 one : (s : Signed) (b : Bool) → option_map decision_of (cond b (Some s) None) ≡ cond b (Some (decision_of s)) None
 one s true = refl
@@ -70,11 +69,12 @@ module _ (test : Atom → Bool) where
 
 -- A list whose last member is m.
 module _ (k : Kind) (p : Policy) (test : Atom → Bool) (left rest : List Member) (m : Member) (is : left ≡ rest ++ m ∷ []) where
-  pub last_decides : (d : Decision) → list_decision k p (m ∷ []) test ≡ Some d → list_decision k p left test ≡ Some d
-  last_decides d e = rw (is, decided_append test k p rest (m ∷ []), e)
-
   pub last_silent : list_decision k p (m ∷ []) test ≡ None → list_decision k p left test ≡ list_decision k p rest test
   last_silent e = rw (is, decided_append test k p rest (m ∷ []), e)
+
+  last_is : (o : Option Decision) → list_decision k p (m ∷ []) test ≡ o → is_some o ≡ true → list_decision k p left test ≡ o
+  last_is (Some d) e some = rw (is, decided_append test k p rest (m ∷ []), e)
+  last_is None e some = cc
 
   pub rest_resolves : resolves k p left ≡ true → resolves k p rest ≡ true
   rest_resolves h = (and_parts (resolves k p rest) (resolves k p (m ∷ [])) (rw (is, resolves_append k p rest (m ∷ [])) at h)).0
@@ -87,6 +87,32 @@ module _ (k : Kind) (p : Policy) (test : Atom → Bool) (left rest : List Member
 
   pub last_shallow : rank k p (m ∷ []) ≤ rank k p left
   last_shallow = rw is (omega (arith, depth_append k p rest (m ∷ [])))
+
+-- A list, up to the member m at an index.
+module _ (k : Kind) (p : Policy) (test : Atom → Bool) (members : List Member) (n : ℕ) (m : Member) (there : slice_get members n ≡ Some m) where
+  front_is : take (n + 1) members ≡ take n members ++ m ∷ []
+  front_is = ap (λ i. take i members) (add-one n) ∙ take_more n members ∙ ap (λ o. take n members ++ option_to_list o) there
+
+  pub front_decides : (o : Option Decision) → list_decision k p (m ∷ []) test ≡ o → is_some o ≡ true → list_decision k p (take (n + 1) members) test ≡ o
+  front_decides = last_is k p test (take (n + 1) members) (take n members) m front_is
+
+  pub front_silent : list_decision k p (m ∷ []) test ≡ None → list_decision k p (take (n + 1) members) test ≡ list_decision k p (take n members) test
+  front_silent = last_silent k p test (take (n + 1) members) (take n members) m front_is
+
+  whole_is : take (n + 1) members ++ drop (n + 1) members ≡ members
+  whole_is = take-append-drop (n + 1) members
+
+  pub one_resolves : resolves k p members ≡ true → resolves k p (m ∷ []) ≡ true
+  one_resolves h =
+      last_resolves k p test (take (n + 1) members) (take n members) m front_is
+      (and_parts (resolves k p (take (n + 1) members)) (resolves k p (drop (n + 1) members))
+      (sym (resolves_append k p (take (n + 1) members) (drop (n + 1) members)) ∙ ap (resolves k p) whole_is ∙ h)).0
+
+  pub one_shallow : rank k p (m ∷ []) ≤ rank k p members
+  one_shallow =
+      let front = last_shallow k p test (take (n + 1) members) (take n members) m front_is in
+      let same = ap (rank k p) whole_is in
+      omega (arith, front, same, depth_append k p (take (n + 1) members) (drop (n + 1) members))
 
 pub none_silent : (k : Kind) (p : Policy) (test : Atom → Bool) (left : List Member) → length left ≡ 0 → list_decision k p left test ≡ None
 none_silent k p test [] h = decided_none test k p
@@ -131,22 +157,15 @@ pub value_decided : (k : Kind) (p : Policy) (ms : List Member) (test : Atom → 
 unfolding value list_decision decided_in
 value_decided k p ms test = sign_of (last_that (λ s. test s.atom) (written_form k p ms))
 
--- A list whose last member decides so.
-pub last_is : (k : Kind) (p : Policy) (test : Atom → Bool) (left rest : List Member) (m : Member) → left ≡ rest ++ m ∷ [] → (o : Option Decision) →
-    list_decision k p (m ∷ []) test ≡ o → is_some o ≡ true → list_decision k p left test ≡ o
-last_is k p test left rest m is (Some d) e some = last_decides k p test left rest m is d e
-last_is k p test left rest m is None e some = cc
-
 pub none-is : {X : Type 0} (o : Option X) → is_some o ≡ false → o ≡ None
 none-is None e = refl
 none-is (Some x) e = cc
 
--- The definition in force, by its position.
+-- The definition in force, by a name that is read.
 pub found-at :
-    (k : Kind) (p : Policy) (name read : List ℕ) (o : Option Position) (at : Position) (ds : List Member) → read ≡ name →
-    in_force k p read ≡ option_and_then (members_at p) o → o ≡ Some at → members_at p at ≡ Some ds → Some ds ≡ in_force k p name
-found-at k p name read o at ds same known is there =
-    sym (ap (in_force k p) (sym same) ∙ known ∙ ap (option_and_then (members_at p)) is ∙ there)
+    (k : Kind) (p : Policy) (name read : List ℕ) (o : Option (List Member)) (ds : List Member) → read ≡ name → in_force k p read ≡ o → o ≡ Some ds →
+    Some ds ≡ in_force k p name
+found-at k p name read o ds same known is = sym (ap (in_force k p) (sym same) ∙ known ∙ is)
 
 -- A member whose key is passed over is silent.
 pub passed-silent :
@@ -156,14 +175,14 @@ passed-silent k p test known m is passed =
     sym (atom_silent k p test m (λ name alias. let no : None ≡ Some name = sym both.0 ∙ ap alias_named alias in cc) both.1)
 
 -- The key at a member's index is that of the member.
-pub key-there :
-    (k : Kind) (p : Policy) (keys : List Key) (members left rest : List Member) (m : Member) → left ≡ rest ++ m ∷ [] →
-    left ≡ take (length left) members → HaveKeys p k keys members → IsKeyOf p k (unwrap_or (slice_get keys (length rest)) key.Other) m.atom
-key-there k p keys members left rest m is front have = go (slice_get keys (length rest)) refl
+pub key-at :
+    (k : Kind) (p : Policy) (keys : List Key) (members : List Member) (i : ℕ) (m : Member) → slice_get members i ≡ Some m → HaveKeys p k keys members →
+    IsKeyOf p k (unwrap_or (slice_get keys i) key.Other) m.atom
+key-at k p keys members i m there have = go (slice_get keys i) refl
   where
-    go : (o : Option Key) → slice_get keys (length rest) ≡ o → IsKeyOf p k (unwrap_or o key.Other) m.atom
+    go : (o : Option Key) → slice_get keys i ≡ o → IsKeyOf p k (unwrap_or o key.Other) m.atom
     go None e = record { position = λ q n f g. cc; name = λ n f. cc; uid = λ n f. cc; group = λ n f. cc; command = λ n f. cc; literal = λ i b f. cc }
-    go (Some known) e = have (length rest) known m e (last-at members left rest m is front)
+    go (Some known) e = have i known m e there
 
 pub related-there :
     {X Y : Type 0} (R : X → Y → Type 0) (xs : List X) (ys left rest : List Y) (x : X) (y : Y) → left ≡ rest ++ y ∷ [] → left ≡ take (length left) ys →
@@ -179,3 +198,28 @@ command_key-there p keys commands left rest s is front have = go (slice_get keys
     go : (o : Option Key) → slice_get keys (length rest) ≡ o → IsKeyOf p Cmnd (unwrap_or o key.Other) s.command.atom
     go None e = record { position = λ q n f g. cc; name = λ n f. cc; uid = λ n f. cc; group = λ n f. cc; command = λ n f. cc; literal = λ i b f. cc }
     go (Some known) e = have (length rest) known s e (last-at commands left rest s is front)
+
+-- Members whose keys are passed over decide nothing.
+module _ (k : Kind) (p : Policy) (test : Atom → Bool) (keys : List Key) (members : List Member) (have : HaveKeys p k keys members) where
+  one_passed : (n : ℕ) → IsPassed test (unwrap_or (slice_get keys n) key.Other) → list_decision k p (take (n + 1) members) test ≡ list_decision k p (take n members) test
+  one_passed n passed = go (slice_get members n) refl
+    where
+      go : (o : Option Member) → slice_get members n ≡ o → list_decision k p (take (n + 1) members) test ≡ list_decision k p (take n members) test
+      go None e =
+          ap (λ l. list_decision k p l test)
+          (ap (λ i. take i members) (add-one n) ∙ take_more n members ∙ ap (λ o. take n members ++ option_to_list o) e ∙ append-nil (take n members))
+      go (Some m) e = front_silent k p test members n m e (passed-silent k p test (unwrap_or (slice_get keys n) key.Other) m (key-at k p keys members n m e have) passed)
+
+  some_passed : (from more : ℕ) → ((i : ℕ) → from ≤ i → i < from + more → IsPassed test (unwrap_or (slice_get keys i) key.Other)) →
+      list_decision k p (take (from + more) members) test ≡ list_decision k p (take from members) test
+  some_passed from zero passed = ap (λ n. list_decision k p (take n members) test) (add-zero from)
+  some_passed from (suc more) passed =
+      ap (λ n. list_decision k p (take n members) test) (let e : from + suc more ≡ (from + more) + 1 = omega arith in e)
+      ∙ one_passed (from + more) (passed (from + more) (omega arith) (omega arith))
+      ∙ some_passed from more (λ i l h. passed i l (omega (arith, h)))
+
+  pub passed_between : (from to : ℕ) → from ≤ to → ((i : ℕ) → from ≤ i → i < to → IsPassed test (unwrap_or (slice_get keys i) key.Other)) →
+      list_decision k p (take to members) test ≡ list_decision k p (take from members) test
+  passed_between from to up passed =
+      let whole : from + (to - from) ≡ to = omega (arith, up) in
+      ap (λ n. list_decision k p (take n members) test) (sym whole) ∙ some_passed from (to - from) (λ i l h. passed i l (omega (arith, h, up)))

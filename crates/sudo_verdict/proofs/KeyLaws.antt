@@ -1,6 +1,6 @@
 -- The keys of definitions are those of their members, and what keys pass over.
 use Rattle.std.proofs.Common.{◌≡◌, ℕ, zero, suc, ◌+◌, ◌≤◌, Bool, true, false, cond, ◌||◌, List, [], ◌∷◌, ◌++◌, Option, Some, None, length, take, refl, sym, ◌∙◌, ap, arith}
-use Rattle.std.specs.Prelude.{slice_get, option_and_then, ◌==◌, bytes_eq}
+use Rattle.std.specs.Prelude.{slice_get, option_and_then, unwrap_or, ◌==◌, bytes_eq}
 use Rattle.std.specs.Option.{option_map}
 use Rattle.std.specs.List.{list_any, list_all}
 use Rattle.std.proofs.lemmas.Bool.{or_parts, and_parts, and_from, eq-eqb}
@@ -18,7 +18,6 @@ use Rattle.sudo_grammar.specs.declared.policy.EntryBody.TheVariants as body
 use Rattle.sudo_grammar.specs.declared.policy.Policy.{Policy}
 use Rattle.sudo_grammar.specs.declared.policy.Section.{Section}
 use Rattle.sudo_policy.specs.declared.index.Position.{Position}
-use Rattle.sudo_policy.specs.Positions.{members_at, definition_at_body}
 use Rattle.sudo_verdict.specs.declared.key.Key.{Key}
 use Rattle.sudo_verdict.specs.declared.key.EntryKeys.{EntryKeys}
 use Rattle.sudo_policy.specs.Definitions.{alias_named}
@@ -30,8 +29,9 @@ use Rattle.sudo_match.specs.Class.{lower}
 use Rattle.sudo_match.specs.Matching.{user_fits, host_fits, command_fits}
 use Rattle.sudo_match.proofs.BeginningLemmas.{host-differs}
 use Rattle.sudo_verdict.specs.Keys.{Pairwise, HaveKeys, HaveDefinitionKeys, HaveRuleKeys, HaveBodyKeys, AreKeys, name_number, user_id, name_mark, command_number, literal_byte}
-use Rattle.sudo_verdict.specs.Numbers.{user_bucket, group_mark, path_number, atom_number}
-use Rattle.sudo_verdict.specs.Body.NumberSets.{has_mark, has_marks, lacks_command}
+use Rattle.sudo_verdict.specs.Body.Known.{keys_at}
+use Rattle.sudo_verdict.specs.Numbers.{user_number, group_mark, path_number, atom_number, lacks_command}
+use Rattle.sudo_verdict.specs.Body.NumberSets.{has_mark, has_marks}
 use Rattle.sudo_verdict.proofs.NumberSets.{lacked-atom}
 
 -- ---- Lists that are related item by item
@@ -63,30 +63,21 @@ more_count xs more x n pushed count = ap length pushed ∙ length_push xs x ∙ 
 
 -- ---- The keys of a definition
 
-in-definition : (o : Option Definition) (ms : List Member) → option_map (λ (d : Definition). d.members) o ≡ Some ms →
-    (d : Definition) × (o ≡ Some d) × (d.members ≡ ms)
-in-definition None ms e = cc
-in-definition (Some d) ms e = (d, refl, cc)
-
-pub have_there :
-    (p : Policy) (kind : Kind) (position : Position) (e : Entry) (rows : List EntryKeys) (ks : EntryKeys) (keys : List Key)
-    (definitions : List Definition) (members : List Member) →
-    AreKeys p rows → slice_get p.entries position.entry ≡ Some e → slice_get rows position.entry ≡ Some ks →
-    e.body ≡ body.Aliases kind definitions → slice_get ks.definitions position.definition ≡ Some keys → members_at p position ≡ Some members →
-    HaveKeys p kind keys members
-have_there p kind position e rows ks keys definitions members are entry row aliases there at = go known
+pub have_at :
+    (p : Policy) (kind : Kind) (position : Position) (e : Entry) (rows : List EntryKeys) (definitions : List Definition) (d : Definition) →
+    AreKeys p rows → slice_get p.entries position.entry ≡ Some e → e.body ≡ body.Aliases kind definitions →
+    slice_get definitions position.definition ≡ Some d → HaveKeys p kind (keys_at rows position) d.members
+have_at p kind position e rows definitions d are entry aliases there = go (slice_get rows position.entry) refl
   where
-    have : HaveDefinitionKeys p kind ks.definitions definitions
-    have = (are position.entry ks e row entry).0 kind definitions aliases
+    in_row : (ks : EntryKeys) → HaveDefinitionKeys p kind ks.definitions definitions → (o : Option (List Key)) → slice_get ks.definitions position.definition ≡ o →
+        HaveKeys p kind (unwrap_or o []) d.members
+    in_row ks have None e = none_related _ d.members
+    in_row ks have (Some keys) e = have position.definition keys d e there
 
-    found : option_map (λ (d : Definition). d.members) (slice_get definitions position.definition) ≡ Some members
-    found = sym (ap (λ o. option_and_then (λ (x : Entry). definition_at_body x.body position.definition) o) entry ∙ ap (λ b. definition_at_body b position.definition) aliases) ∙ at
-
-    known : (d : Definition) × (slice_get definitions position.definition ≡ Some d) × (d.members ≡ members)
-    known = in-definition (slice_get definitions position.definition) members found
-
-    go : (d : Definition) × (slice_get definitions position.definition ≡ Some d) × (d.members ≡ members) → HaveKeys p kind keys members
-    go (d, f, same) = rw (sym same) (have position.definition keys d there f)
+    go : (o : Option EntryKeys) → slice_get rows position.entry ≡ o →
+        HaveKeys p kind (unwrap_or (option_and_then (λ (ks : EntryKeys). slice_get ks.definitions position.definition) o) []) d.members
+    go None f = none_related _ d.members
+    go (Some ks) f = in_row ks ((are position.entry ks e f entry).0 kind definitions aliases) (slice_get ks.definitions position.definition) refl
 
 pub rule_body :
     (p : Policy) (ks : EntryKeys) (b : EntryBody) (users : List Member) (sections : List Section) → b ≡ body.Rule users sections →
@@ -119,7 +110,7 @@ passes_command has command arguments _ number lacks there e = cc
 
 -- a user whose name has another number
 pub passes_name :
-    (u : Person) (a : Atom) (number : ℕ) → (number == user_bucket u.name) ≡ false → name_number a ≡ Some number →
+    (u : Person) (a : Atom) (number : ℕ) → (number == user_number u.name) ≡ false → name_number a ≡ Some number →
     (alias_named a ≡ None) × (user_fits a u ≡ false)
 unfolding user_fits
 passes_name u (atom.Name name) number other e = (refl, go (bytes_eq name u.name) refl)
@@ -128,8 +119,8 @@ passes_name u (atom.Name name) number other e = (refl, go (bytes_eq name u.name)
     go false f = f
     go true f =
         let same : name ≡ u.name = (bytes_eq-Decides name u.name).0 f in
-        let number_is : user_bucket name ≡ number = cc in
-        let equal : (number == user_bucket u.name) ≡ true = eq-eqb number (user_bucket u.name) (sym number_is ∙ ap user_bucket same) in
+        let number_is : user_number name ≡ number = cc in
+        let equal : (number == user_number u.name) ≡ true = eq-eqb number (user_number u.name) (sym number_is ∙ ap user_number same) in
         let no : true ≡ false = sym equal ∙ other in cc
 passes_name u _ number other e = cc
 

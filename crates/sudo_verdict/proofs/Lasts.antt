@@ -1,5 +1,5 @@
 -- The last item that passes, in appended and in mapped lists.
-use Rattle.std.proofs.Common.{◌≡◌, Bool, true, false, cond, ◌&&◌, List, [], ◌∷◌, ◌++◌, map, Option, Some, None, refl, sym, ◌∙◌, ap, ℕ, zero, suc, take, length-append, arith}
+use Rattle.std.proofs.Common.{◌≡◌, Bool, true, false, cond, ◌&&◌, List, [], ◌∷◌, ◌++◌, map, Option, Some, None, refl, sym, ◌∙◌, ap, ℕ, zero, suc, take, option_to_list, length-append, arith}
 use Rattle.std.specs.Prelude.{slice_get}
 use Rattle.std.specs.Option.{option_or, option_map}
 use Rattle.std.specs.List.{list_all}
@@ -102,3 +102,10 @@ last-at xs left rest x is front =
 
 pub front-rest : {X : Type 0} (xs left rest : List X) (x : X) → left ≡ rest ++ x ∷ [] → left ≡ take (length left) xs → rest ≡ take (length rest) xs
 front-rest xs left rest x is front = front-shorter rest x xs (sym is ∙ front-suc xs left rest x is front)
+
+-- one item more
+pub take_more : {X : Type 0} (n : ℕ) (xs : List X) → take (suc n) xs ≡ take n xs ++ option_to_list (slice_get xs n)
+take_more zero [] = refl
+take_more zero (x ∷ xs) = refl
+take_more (suc n) [] = refl
+take_more (suc n) (x ∷ xs) = ap (λ l. x ∷ l) (take_more n xs)

@@ -11,6 +11,5 @@ pub mod Bits
 pub mod NumberSets
 pub mod UserNumbers
 pub mod Misses
-pub mod Paths
 pub mod Silent
 pub mod Posting

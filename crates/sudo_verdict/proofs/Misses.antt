@@ -1,25 +1,22 @@
 -- Rows of rules: rows with one more rule, blocks with the rules of a number, and rules in no row of a user or of a
 -- command, whose atoms the user cannot match.
-use Rattle.std.proofs.Common.{◌≡◌, ℕ, zero, suc, ◌+◌, ◌-◌, ◌*◌, ◌/◌, ◌%◌, ◌<◌, ◌≤◌, Bool, true, false, not, ◌&&◌, List, [], ◌∷◌, length, get_or, drop, take, Option, Some, None, refl, sym, ◌∙◌, ap, subst, arith, ◌⊎◌, inl, inr, Vec, Global}
+use Rattle.std.proofs.Common.{◌≡◌, ℕ, zero, suc, ◌+◌, ◌-◌, ◌*◌, ◌/◌, ◌%◌, ◌<◌, ◌≤◌, true, false, List, [], ◌∷◌, length, get_or, drop, take, Option, Some, None, refl, sym, ◌∙◌, ap, subst, arith, ◌⊎◌, inl, inr, Vec, Global}
 use Rattle.std.specs.Prelude.{slice_get, ◌==◌}
 use Rattle.std.specs.List.{list_all}
 use Rattle.std.proofs.Math.ListN.{set}
 use Rattle.std.proofs.Math.Nat.{mod-lt}
-use Rattle.std.proofs.lemmas.Bool.{cases_eq, and_parts, eqb-true, eq-eqb, ne_eqb, and_from}
+use Rattle.std.proofs.lemmas.Bool.{cases_eq, eqb-true, eq-eqb, ne_eqb}
 use Rattle.std.proofs.lemmas.List.{length-set}
 use Rattle.std.specs.Int.{bit_at}
 use Rattle.std.proofs.lemmas.Nat.Bits.{bit_at-zero}
 use Rattle.sudo_verdict.proofs.Bits.{past-zero}
 use Rattle.sudo_policy.proofs.StateLemmas.{get_set_same, get_set_other}
-use Rattle.sudo_grammar.specs.declared.kind.Atom.{Atom}
 use Rattle.sudo_match.specs.declared.people.Person.{Person}
 use Rattle.sudo_match.specs.declared.people.Group.{Group}
-use Rattle.sudo_match.specs.Matching.{user_fits}
 use Rattle.sudo_verdict.specs.Body.Blocks.{StartsAt}
-use Rattle.sudo_verdict.specs.Body.NumberSets.{lacks_user}
-use Rattle.sudo_verdict.proofs.UserNumbers.{lacked-user_atom, never}
-use Rattle.sudo_verdict.specs.Postings.{bit, row_words, Rows, is_in_row, Grows, misses_group, misses_user, misses_beginnings, misses_command}
-use Rattle.sudo_verdict.specs.Numbers.{next_number, bucket_of, user_bucket, group_number, uid_number, gid_number, whole_seed, beginning_seed, atom_number}
+use Rattle.sudo_verdict.proofs.UserNumbers.{lacks-group, lacks-user}
+use Rattle.sudo_verdict.specs.Postings.{bit, row_words, Rows, is_in_row, Grows, misses_user}
+use Rattle.sudo_verdict.specs.Numbers.{user_number, group_number, uid_number, gid_number, lacks_group}
 
 -- ---- The row of a number
 
@@ -110,95 +107,6 @@ posted-none rows number rule row e none =
     ∙ ap (λ o. bit (row_words o) rule == 1) e
     ∙ ne_eqb (bit row.items rule) 1 (λ h. let no : ◌≡◌ {A = ℕ} 0 1 = sym none ∙ h in omega (arith, no))
 
--- ---- Rules in no row of a user
-
-pub keeps-not : (a b : Bool) → (a ≡ true → b ≡ true) → not b ≡ true → not a ≡ true
-keeps-not true b h e = absurd (never b (h refl) e)
-keeps-not false b h e = refl
-
-groups-old : (old new : Rows) → Grows old new → (rule : ℕ) (gs : List Group) → list_all (misses_group new rule) gs ≡ true → list_all (misses_group old rule) gs ≡ true
-groups-old old new grows rule [] e = refl
-groups-old old new grows rule (g ∷ gs) e =
-    let here = and_parts (misses_group new rule g) (list_all (misses_group new rule) gs) e in
-    let two = and_parts (not (is_in_row new (group_number g.name) rule)) (not (is_in_row new (gid_number g.gid) rule)) here.0 in
-    and_from (misses_group old rule g) (list_all (misses_group old rule) gs)
-    (and_from (not (is_in_row old (group_number g.name) rule)) (not (is_in_row old (gid_number g.gid) rule))
-    (keeps-not (is_in_row old (group_number g.name) rule) (is_in_row new (group_number g.name) rule) (grows (group_number g.name) rule) two.0)
-    (keeps-not (is_in_row old (gid_number g.gid) rule) (is_in_row new (gid_number g.gid) rule) (grows (gid_number g.gid) rule) two.1))
-    (groups-old old new grows rule gs here.1)
-
--- the three rows that each user has, and those of the groups
-pub misses-parts :
-    (rows : Rows) (rule : ℕ) (u : Person) → misses_user rows rule u ≡ true →
-    (not (is_in_row rows 0 rule) ≡ true) × ((not (is_in_row rows (user_bucket u.name) rule) ≡ true) × ((not (is_in_row rows (uid_number u.uid) rule) ≡ true) × (list_all (misses_group rows rule) u.groups ≡ true)))
-unfolding misses_user
-misses-parts rows rule u e =
-    let a = and_parts (not (is_in_row rows 0 rule)) _ e in
-    let b = and_parts (not (is_in_row rows (user_bucket u.name) rule)) _ a.1 in
-    let c = and_parts (not (is_in_row rows (uid_number u.uid) rule)) (list_all (misses_group rows rule) u.groups) b.1 in
-    (a.0, (b.0, (c.0, c.1)))
-
-pub misses-all :
-    (rows : Rows) (rule : ℕ) (u : Person) → not (is_in_row rows 0 rule) ≡ true → not (is_in_row rows (user_bucket u.name) rule) ≡ true →
-    not (is_in_row rows (uid_number u.uid) rule) ≡ true → list_all (misses_group rows rule) u.groups ≡ true → misses_user rows rule u ≡ true
-unfolding misses_user
-misses-all rows rule u e f g h =
-    and_from (not (is_in_row rows 0 rule)) _ e
-    (and_from (not (is_in_row rows (user_bucket u.name) rule)) _ f (and_from (not (is_in_row rows (uid_number u.uid) rule)) (list_all (misses_group rows rule) u.groups) g h))
-
-pub misses-old : (old new : Rows) → Grows old new → (rule : ℕ) (u : Person) → misses_user new rule u ≡ true → misses_user old rule u ≡ true
-misses-old old new grows rule u e =
-    let parts = misses-parts new rule u e in
-    misses-all old rule u
-    (keeps-not (is_in_row old 0 rule) (is_in_row new 0 rule) (grows 0 rule) parts.0)
-    (keeps-not (is_in_row old (user_bucket u.name) rule) (is_in_row new (user_bucket u.name) rule) (grows (user_bucket u.name) rule) parts.1.0)
-    (keeps-not (is_in_row old (uid_number u.uid) rule) (is_in_row new (uid_number u.uid) rule) (grows (uid_number u.uid) rule) parts.1.1.0)
-    (groups-old old new grows rule u.groups parts.1.1.1)
-
--- the numbers whose rows have the rule are numbers that the user lacks
-lacks-rows : (rows : Rows) (rule : ℕ) (u : Person) → misses_user rows rule u ≡ lacks_user (λ n. is_in_row rows n rule) u
-unfolding misses_user lacks_user
-lacks-rows rows rule u = refl
-
--- an atom under which the rule is found does not fit the user
-pub misses-atom : (rows : Rows) (rule : ℕ) (u : Person) (a : Atom) → misses_user rows rule u ≡ true → is_in_row rows (atom_number a) rule ≡ true → user_fits a u ≡ false
-misses-atom rows rule u a e there = (lacked-user_atom (λ n. is_in_row rows n rule) u a (sym (lacks-rows rows rule u) ∙ e) there).1
-
--- a rule that every user finds
-pub misses-never : (rows : Rows) (rule : ℕ) (u : Person) → is_in_row rows 0 rule ≡ true → misses_user rows rule u ≡ true → ⊥
-misses-never rows rule u there e = never (is_in_row rows 0 rule) there (misses-parts rows rule u e).0
-
-pub group-missed :
-    (rows : Rows) (rule : ℕ) (left rest : List Group) (g : Group) → left ≡ g ∷ rest → is_in_row rows (group_number g.name) rule ≡ false →
-    is_in_row rows (gid_number g.gid) rule ≡ false → list_all (misses_group rows rule) rest ≡ true → list_all (misses_group rows rule) left ≡ true
-group-missed rows rule left rest g is e f h =
-    ap (list_all (misses_group rows rule)) is
-    ∙ and_from (misses_group rows rule g) (list_all (misses_group rows rule) rest)
-    (and_from (not (is_in_row rows (group_number g.name) rule)) (not (is_in_row rows (gid_number g.gid) rule)) (ap not e) (ap not f)) h
-
-pub no-groups : (rows : Rows) (rule : ℕ) (left : List Group) → length left ≡ 0 → list_all (misses_group rows rule) left ≡ true
-no-groups rows rule [] e = refl
-no-groups rows rule (g ∷ gs) e = cc
-
--- ---- Rules in no row of a command
-
-pub begins-more : (rows : Rows) (rule number b : ℕ) (bs : List ℕ) → is_in_row rows number rule ≡ false →
-    misses_beginnings rows rule (next_number number b) bs ≡ true → misses_beginnings rows rule number (b ∷ bs) ≡ true
-unfolding misses_beginnings
-begins-more rows rule number b bs e h = and_from (not (is_in_row rows number rule)) _ (ap not e) h
-
-pub begins-end : (rows : Rows) (rule number : ℕ) (left : List ℕ) → is_in_row rows number rule ≡ false → length left ≡ 0 →
-    misses_beginnings rows rule number left ≡ true
-unfolding misses_beginnings
-begins-end rows rule number [] e h = ap not e
-begins-end rows rule number (b ∷ bs) e h = cc
-
-pub command-missed : (rows : Rows) (rule : ℕ) (command : List ℕ) → is_in_row rows 0 rule ≡ false → is_in_row rows (bucket_of whole_seed command) rule ≡ false →
-    misses_beginnings rows rule beginning_seed command ≡ true → misses_command rows rule command ≡ true
-unfolding misses_command
-command-missed rows rule command e f h =
-    and_from (not (is_in_row rows 0 rule)) _ (ap not e) (and_from (not (is_in_row rows (bucket_of whole_seed command) rule)) _ (ap not f) h)
-
 -- ---- Rows that grow
 
 pub grows-on : (a b c : Rows) → Grows a b → Grows b c → Grows a c
@@ -226,15 +134,13 @@ starts-none rows start h number rule before = go (slice_get rows (number % lengt
         ∙ ne_eqb (bit [] rule) 1 (λ f. let no : ◌≡◌ {A = ℕ} 0 1 = sym (bit-outside [] rule (omega arith)) ∙ f in omega (arith, no))
     go (Some row) e = posted-none rows number rule row e (h (number % length rows) row e rule before)
 
-groups-before : (rows : Rows) (start rule : ℕ) → StartsAt rows start → rule < 64 * start → (gs : List Group) → list_all (misses_group rows rule) gs ≡ true
+groups-before : (rows : Rows) (start rule : ℕ) → StartsAt rows start → rule < 64 * start → (gs : List Group) → list_all (lacks_group (λ n. is_in_row rows n rule)) gs ≡ true
 groups-before rows start rule starts before [] = refl
 groups-before rows start rule starts before (g ∷ gs) =
-    and_from (misses_group rows rule g) (list_all (misses_group rows rule) gs)
-    (and_from (not (is_in_row rows (group_number g.name) rule)) (not (is_in_row rows (gid_number g.gid) rule))
-    (ap not (starts (group_number g.name) rule before)) (ap not (starts (gid_number g.gid) rule before)))
+    lacks-group (λ n. is_in_row rows n rule) (g ∷ gs) gs g refl (starts (group_number g.name) rule before) (starts (gid_number g.gid) rule before)
     (groups-before rows start rule starts before gs)
 
 pub misses-before : (rows : Rows) (start rule : ℕ) (u : Person) → StartsAt rows start → rule < 64 * start → misses_user rows rule u ≡ true
 misses-before rows start rule u starts before =
-    misses-all rows rule u (ap not (starts 0 rule before)) (ap not (starts (user_bucket u.name) rule before)) (ap not (starts (uid_number u.uid) rule before))
+    lacks-user (λ n. is_in_row rows n rule) u (starts 0 rule before) (starts (user_number u.name) rule before) (starts (uid_number u.uid) rule before)
     (groups-before rows start rule starts before u.groups)

@@ -6,8 +6,7 @@ use Rattle.std.specs.List.{list_all}
 use Rattle.std.proofs.lemmas.Bool.{and_parts}
 use Rattle.std.proofs.lemmas.List.{append-nil}
 use Rattle.sudo_verdict.specs.Last.{last_set}
-use Rattle.sudo_verdict.proofs.Lasts.{last_set-map-push}
-use Rattle.sudo_verdict.proofs.Searching.{take_more}
+use Rattle.sudo_verdict.proofs.Lasts.{last_set-map-push, take_more}
 
 -- ---- The entries that a search passes over
 

@@ -39,7 +39,7 @@ use Rattle.sudo_verdict.specs.Verdicts.{verdict_by, verdict_on, verdict_if_any, 
 use Rattle.sudo_verdict.specs.Questions.{question_of}
 use Rattle.sudo_verdict.specs.Found.{found, verdict_from, command_found, found_if_any, commands_found, section_found, rule_found, body_found, entry_found}
 use Rattle.std.specs.Prelude.{is_some}
-use Rattle.sudo_verdict.proofs.Lasts.{last_set-map-push, last_that-append, last_that-map, option_map_or, option_map_map, take-there, front-shorter}
+use Rattle.sudo_verdict.proofs.Lasts.{take_more, last_set-map-push, last_that-append, last_that-map, option_map_or, option_map_map, take-there, front-shorter}
 use Rattle.sudo_policy.proofs.SurveyLemmas.{get_append_end}
 
 option_map-cond : {X Y : Type 0} (b : Bool) (f : X → Y) (o : Option X) → option_map f (cond b o None) ≡ cond b (option_map f o) None
@@ -92,17 +92,11 @@ nothing false = refl
 ap2 : {X Y Z : Type 0} (f : X → Y → Z) {a b : X} {c d : Y} → a ≡ b → c ≡ d → f a c ≡ f b d
 ap2 f e h = cc
 
--- bucket_of commands, one by one
-pub take_more : {X : Type 0} (n : ℕ) (xs : List X) → take (suc n) xs ≡ take n xs ++ option_to_list (slice_get xs n)
-take_more zero [] = refl
-take_more zero (x ∷ xs) = refl
-take_more (suc n) [] = refl
-take_more (suc n) (x ∷ xs) = ap (λ l. x ∷ l) (take_more n xs)
-
-bucket_of : {X : Type 0} (k n m : ℕ) (xs : List X) → k + n ≡ m → slice_get (enumerate_from k xs) n ≡ option_map (λ x. (m, x)) (slice_get xs n)
-bucket_of k n m [] h = refl
-bucket_of k zero m (x ∷ xs) h = let e : k ≡ m = omega (arith, h) in ap (λ i. Some (i, x)) e
-bucket_of k (suc n) m (x ∷ xs) h = let e : (k + 1) + n ≡ m = omega (arith, h) in bucket_of (k + 1) n m xs e
+-- numbered commands, one by one
+numbered_at : {X : Type 0} (k n m : ℕ) (xs : List X) → k + n ≡ m → slice_get (enumerate_from k xs) n ≡ option_map (λ x. (m, x)) (slice_get xs n)
+numbered_at k n m [] h = refl
+numbered_at k zero m (x ∷ xs) h = let e : k ≡ m = omega (arith, h) in ap (λ i. Some (i, x)) e
+numbered_at k (suc n) m (x ∷ xs) h = let e : (k + 1) + n ≡ m = omega (arith, h) in numbered_at (k + 1) n m xs e
 
 module _ (p : Policy) (q : Question) (place : Place) (users : List Member) where
   found_place : (s : Section) (n : ℕ) (o : Option CommandSpec) → found p q (flat_map (place_grants p place users s) (option_to_list (option_map (λ c. (n, c)) o)))
@@ -120,7 +114,7 @@ module _ (p : Policy) (q : Question) (place : Place) (users : List Member) where
 
   one_more_place : (s : Section) (n : ℕ) → grants_before s (suc n) ≡ grants_before s n ++ flat_map (place_grants p place users s) (option_to_list (option_map (λ c. (n, c)) (slice_get s.commands n)))
   one_more_place s n =
-      ap (flat_map (place_grants p place users s)) (take_more n (enumerate_from 0 s.commands) ∙ ap (λ o. take n (enumerate_from 0 s.commands) ++ option_to_list o) (bucket_of 0 n n s.commands (omega arith)))
+      ap (flat_map (place_grants p place users s)) (take_more n (enumerate_from 0 s.commands) ∙ ap (λ o. take n (enumerate_from 0 s.commands) ++ option_to_list o) (numbered_at 0 n n s.commands (omega arith)))
       ∙ flat_map-append (place_grants p place users s) (take n (enumerate_from 0 s.commands)) (option_to_list (option_map (λ c. (n, c)) (slice_get s.commands n)))
 
   found_before : (s : Section) (n : ℕ) → found p q (grants_before s n) ≡ cond (user_listed p users q && host_listed p s.hosts q) (commands_found p q place s.commands n) None

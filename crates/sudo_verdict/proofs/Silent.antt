@@ -1,6 +1,8 @@
 -- A rule decides nothing for a test that no atom passes under which the rule is posted.
-use Rattle.std.proofs.Common.{◌≡◌, ℕ, zero, suc, ◌+◌, ◌<◌, ◌≤◌, Bool, true, false, not, cond, ◌||◌, List, [], ◌∷◌, ◌++◌, map, length, take, Option, Some, None, refl, sym, ◌∙◌, ap, subst, arith, ◌⊎◌, inl, inr}
-use Rattle.std.specs.Prelude.{slice_get}
+use Rattle.std.proofs.Common.{◌≡◌, ℕ, zero, suc, ◌+◌, ◌/◌, ◌%◌, ◌<◌, ◌≤◌, Bool, true, false, not, cond, ◌||◌, ◌&&◌, List, [], ◌∷◌, ◌++◌, map, length, take, Option, Some, None, refl, sym, ◌∙◌, ap, subst, arith, ◌⊎◌, inl, inr}
+use Rattle.std.specs.Prelude.{slice_get, slice_index, ◌==◌}
+use Rattle.std.proofs.Math.Bool.{or-true}
+use Rattle.std.proofs.lemmas.Nat.Bits.{bit_at-lt}
 use Rattle.std.specs.Option.{option_or, option_map}
 use Rattle.sudo_grammar.specs.declared.kind.Atom.{Atom}
 use Rattle.sudo_grammar.specs.declared.kind.Kind.TheVariants as kind
@@ -21,12 +23,13 @@ use Rattle.sudo_verdict.specs.RunasForms.{runas_allows}
 use Rattle.sudo_verdict.specs.Tagged.{tags_before, runas_before}
 use Rattle.sudo_verdict.specs.Found.{verdict_from, command_found, found_if_any, commands_found, section_found, rule_found, body_found, entry_found}
 use Rattle.sudo_verdict.specs.Last.{last_set}
-use Rattle.sudo_verdict.specs.Postings.{Rows, is_in_row, Grows, Covers, misses_user, misses_command}
+use Rattle.sudo_verdict.specs.Body.Blocks.{both_have}
+use Rattle.sudo_verdict.specs.Postings.{Rows, Index, Indexes, bit, is_in_row, Grows, Covers, misses_user, misses_command}
 use Rattle.sudo_verdict.specs.Numbers.{atom_number}
 use Rattle.sudo_verdict.specs.Body.Silence.{IsSilent, CommandsSilent, SectionsSilent, EntrySilent}
 use Rattle.sudo_verdict.proofs.Deciding.{value_decided}
-use Rattle.sudo_verdict.proofs.Misses.{misses-atom, misses-never, misses-old}
-use Rattle.sudo_verdict.proofs.Paths.{misses-command_atom, misses-everyone, misses-command_old}
+use Rattle.sudo_verdict.proofs.UserNumbers.{lacked-user_atom, user-fewer, user-has}
+use Rattle.sudo_verdict.proofs.NumberSets.{command-fewer, command-has, lacked-atom}
 use Rattle.sudo_text.proofs.OneList.{either}
 
 never : (a b : Bool) → (a ≡ true → b ≡ true) → b ≡ false → a ≡ false
@@ -46,15 +49,15 @@ silent-never rows rule test there s = let h : true ≡ false = sym there ∙ s.e
 
 pub silent-user : (rows : Rows) (rule : ℕ) (u : Person) → misses_user rows rule u ≡ true → IsSilent rows rule (λ a. user_fits a u)
 silent-user rows rule u e = record {
-  everyone = false_from_ne_true (is_in_row rows 0 rule) (λ there. misses-never rows rule u there e);
-  atoms = λ a there. misses-atom rows rule u a e there;
+  everyone = false_from_ne_true (is_in_row rows 0 rule) (λ there. user-has (λ n. is_in_row rows n rule) u e there);
+  atoms = λ a there. (lacked-user_atom (λ n. is_in_row rows n rule) u a e there).1;
 }
 
 pub silent-command : (rows : Rows) (rule : ℕ) (command arguments : List ℕ) → misses_command rows rule command ≡ true →
     IsSilent rows rule (λ a. command_fits a command arguments)
 silent-command rows rule command arguments e = record {
-  everyone = misses-everyone rows rule command e;
-  atoms = λ a there. misses-command_atom rows rule command arguments a e there;
+  everyone = false_from_ne_true (is_in_row rows 0 rule) (λ there. command-has (λ n. is_in_row rows n rule) command e there);
+  atoms = λ a there. (lacked-atom (λ n. is_in_row rows n rule) command arguments a e there).1;
 }
 
 -- ---- Lists, from the last item back
@@ -153,10 +156,32 @@ covers-more p n users users_more commands commands_more e covers users_grow comm
     go (inl before) =
         covers q rule found before there
         (or-mono (misses_user users_more rule q.user) (misses_command commands_more rule q.command) (misses_user users rule q.user) (misses_command commands rule q.command)
-        (misses-old users users_more users_grow rule q.user) (misses-command_old commands commands_more commands_grow rule q.command) missed)
+        (user-fewer (λ n. is_in_row users n rule) (λ n. is_in_row users_more n rule) (λ n. users_grow n rule) q.user)
+        (command-fewer (λ n. is_in_row commands n rule) (λ n. is_in_row commands_more n rule) (λ n. commands_grow n rule) q.command) missed)
     go (inr after) =
         let at : rule ≡ n = omega (arith, after, within) in
         let same : Some found ≡ Some e = sym there ∙ ap (slice_get p.entries) at ∙ here in
         let one : found ≡ e = cc in
         ap (entry_found p q) one
         ∙ silent q (ap (λ k. misses_user users_more k q.user || misses_command commands_more k q.command) (sym at) ∙ missed)
+
+-- ---- Blocks
+
+-- a rule without a bit in one of two blocks, which have each rule of the user and of the command
+pub block-silent :
+    (p : Policy) (index : Index) (q : Question) (rule i : ℕ) (e : Entry) (users commands : List ℕ) → Indexes p index → rule < length p.entries →
+    slice_get p.entries rule ≡ Some e → (bit users i ≡ 0 → misses_user index.0 rule q.user ≡ true) →
+    (bit commands i ≡ 0 → misses_command index.1.0 rule q.command ≡ true) → both_have users commands i ≡ false → entry_found p q e ≡ None
+block-silent p index q rule i e users commands is within there no_user no_command none = go (cases_lt (bit users i) 1) (cases_lt (bit commands i) 1)
+  where
+    go : (bit users i < 1) ⊎ (1 ≤ bit users i) → (bit commands i < 1) ⊎ (1 ≤ bit commands i) → entry_found p q e ≡ None
+    go (inl zero_user) _ =
+        is.covers q rule e within there (ap (λ b. b || misses_command index.1.0 rule q.command) (no_user (omega (arith, zero_user))))
+    go (inr some_user) (inl zero_command) =
+        is.covers q rule e within there
+        (ap (λ b. misses_user index.0 rule q.user || b) (no_command (omega (arith, zero_command))) ∙ or-true (misses_user index.0 rule q.user))
+    go (inr some_user) (inr some_command) =
+        let user : bit users i ≡ 1 = omega (arith, some_user, bit_at-lt (slice_index users (i / 64)) (i % 64)) in
+        let command : bit commands i ≡ 1 = omega (arith, some_command, bit_at-lt (slice_index commands (i / 64)) (i % 64)) in
+        let both : true ≡ false = sym (ap (λ b. (b == 1) && (bit commands i == 1)) user ∙ ap (λ b. b == 1) command) ∙ none in
+        cc

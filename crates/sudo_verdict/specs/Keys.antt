@@ -24,7 +24,7 @@ use Rattle.sudo_verdict.specs.declared.key.Key.{Key}
 use Rattle.sudo_verdict.specs.declared.key.SectionKeys.{SectionKeys}
 use Rattle.sudo_verdict.specs.declared.key.EntryKeys.{EntryKeys}
 use Rattle.sudo_verdict.specs.declared.key.Key.TheVariants as keys
-use Rattle.sudo_verdict.specs.Numbers.{user_bucket, group_mark, path_number}
+use Rattle.sudo_verdict.specs.Numbers.{user_number, group_mark, path_number}
 
 -- at each index that both lists have, the items are related
 abbrev pub Pairwise : {X Y : Type 0} → (X → Y → Type 0) → List X → List Y → Type 0
@@ -32,7 +32,7 @@ Pairwise {X} {Y} R xs ys = (i : ℕ) (x : X) (y : Y) → slice_get xs i ≡ Some
 
 -- the number of a user's name
 abbrev pub name_number : Atom → Option ℕ
-name_number (atom.Name name) = Some (user_bucket name)
+name_number (atom.Name name) = Some (user_number name)
 name_number _ = None
 
 abbrev pub user_id : Atom → Option ℕ

@@ -1,17 +1,15 @@
 -- The rows of an index of rules.
-use Rattle.std.specs.Prelude.{◌≡◌, ℕ, ◌/◌, ◌%◌, ◌==◌, ◌<◌, Bool, true, not, ◌&&◌, ◌||◌, List, [], ◌∷◌, length, slice_get, slice_index, Option, Some, None, Vec}
+use Rattle.std.specs.Prelude.{◌≡◌, ℕ, ◌/◌, ◌%◌, ◌==◌, ◌<◌, Bool, true, ◌||◌, List, [], length, slice_get, slice_index, Option, Some, None, Vec}
 use Rattle.std.specs.Int.{bit_at}
-use Rattle.std.specs.List.{list_all}
 use Rattle.std.specs.declared.alloc.Global.{Global}
 use Rattle.sudo_grammar.specs.declared.policy.Entry.{Entry}
 use Rattle.sudo_grammar.specs.declared.policy.Policy.{Policy}
 use Rattle.sudo_match.specs.declared.people.Person.{Person}
-use Rattle.sudo_match.specs.declared.people.Group.{Group}
 use Rattle.sudo_verdict.specs.declared.key.EntryKeys.{EntryKeys}
 use Rattle.sudo_verdict.specs.Questions.{Question}
 use Rattle.sudo_verdict.specs.Found.{entry_found}
 use Rattle.sudo_verdict.specs.Keys.{AreKeys}
-use Rattle.sudo_verdict.specs.Numbers.{next_number, bucket_of, user_bucket, group_number, uid_number, gid_number, beginning_seed, whole_seed}
+use Rattle.sudo_verdict.specs.Numbers.{lacks_user, lacks_command}
 
 -- rows of words, a bit for each rule; the row of a number is at its index modulo the number of rows
 abbrev pub Rows : Type 0
@@ -30,29 +28,13 @@ row_words (Some row) = row.items
 unfoldable pub is_in_row : Rows → ℕ → ℕ → Bool
 is_in_row rows number rule = bit (row_words (slice_get rows (number % length rows))) rule == 1
 
--- the rule is in neither row of a group, that of its name and that of its ID
-abbrev pub misses_group : Rows → ℕ → Group → Bool
-misses_group rows rule g = not (is_in_row rows (group_number g.name) rule) && not (is_in_row rows (gid_number g.gid) rule)
-
 -- the rule is in no row of a user
-unfoldable pub misses_user : Rows → ℕ → Person → Bool
-misses_user rows rule u =
-    not (is_in_row rows 0 rule)
-    && (not (is_in_row rows (user_bucket u.name) rule)
-    && (not (is_in_row rows (uid_number u.uid) rule)
-    && list_all (misses_group rows rule) u.groups))
-
--- the rule is in no row of a beginning of the bytes; `number` is that of the bytes before them
-unfoldable pub misses_beginnings : Rows → ℕ → ℕ → List ℕ → Bool
-misses_beginnings rows rule number [] = not (is_in_row rows number rule)
-misses_beginnings rows rule number (b ∷ bs) =
-    not (is_in_row rows number rule) && misses_beginnings rows rule (next_number number b) bs
+abbrev pub misses_user : Rows → ℕ → Person → Bool
+misses_user rows rule u = lacks_user (λ n. is_in_row rows n rule) u
 
 -- the rule is in no row of a command
-unfoldable pub misses_command : Rows → ℕ → List ℕ → Bool
-misses_command rows rule command =
-    not (is_in_row rows 0 rule)
-    && (not (is_in_row rows (bucket_of whole_seed command) rule) && misses_beginnings rows rule beginning_seed command)
+abbrev pub misses_command : Rows → ℕ → List ℕ → Bool
+misses_command rows rule command = lacks_command (λ n. is_in_row rows n rule) command
 
 -- each rule that the old rows have under a number, the new rows have under it too
 abbrev pub Grows : Rows → Rows → Type 0

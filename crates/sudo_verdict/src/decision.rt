@@ -1,16 +1,16 @@
 //! The decision of a list on a user, a group, a host or a command.
 
-ghost use Rattle.std.specs.Prelude.{ℕ, ◌≡◌, ◌==◌, ◌∷◌, [], Bool, true, false, not, take, IsTrue, Some, option_copied, option_map};
+ghost use Rattle.std.specs.Prelude.{ℕ, ◌≡◌, ◌==◌, ◌<◌, ◌≤◌, ◌∷◌, [], Bool, true, false, not, take, IsTrue, Some, option_copied, option_map, slice_get, unwrap_or};
 ghost use Rattle.std.specs.List.{list_any};
 ghost use Rattle.sudo_grammar.specs.declared.kind.Atom.{Atom};
 ghost use Rattle.sudo_policy.specs.Resolving.{resolves};
 ghost use Rattle.sudo_match.specs.Matching.{user_fits, group_fits, host_fits, command_fits};
 ghost use Rattle.sudo_verdict.specs.Values as values;
 ghost use Rattle.sudo_verdict.specs.Body.Known.{IsPassed};
-ghost use Rattle.sudo_verdict.specs.Body.NumberSets.{has_marks, lacks_command, set_has};
+ghost use Rattle.sudo_verdict.specs.Body.NumberSets.{has_marks, set_has};
 ghost use Rattle.sudo_verdict.specs.declared.number_set.NumberSet.{NumberSet as TheNumbers};
 ghost use Rattle.sudo_verdict.specs.Keys.{HaveKeys, IsKeyOf};
-ghost use Rattle.sudo_verdict.specs.Numbers.{bucket_of, user_bucket, whole_seed};
+ghost use Rattle.sudo_verdict.specs.Numbers.{lacks_command, user_number};
 ghost use Rattle.sudo_verdict.specs.Body.Recalling.{Recalls};
 ghost use Rattle.sudo_verdict.specs.Decided.{list_decision, negated_once};
 
@@ -18,14 +18,14 @@ use crate::aliases::{Aliases, Numbers, REMEMBERED, Slot, number_of, recall, reme
 use crate::key::{Key, key_at};
 use crate::keys::Lists;
 use crate::number_set::{MarkSet, NumberSet};
-use crate::numbers::user_bucket;
+use crate::numbers::user_number;
 use sudo_match::{
     Group, Machine, Person, command_matches, group_matches, host_matches, user_matches,
 };
 use sudo_policy::{Atom, Kind, Member, is_negated};
 
 /// A user, a group, a host or a command, with which the members of a list are matched.
-pub(crate) trait Subject {
+pub(crate) trait Subject: Copy {
     ghost fits: { Self → Atom → Bool };
 
     /// Whether the atom matches the subject.
@@ -45,7 +45,7 @@ pub(crate) struct AsUser<'a> {
     number: usize,
     // The marks of the user's groups.
     marks: MarkSet,
-    ghost known: { number ≡ user_bucket user.now.name },
+    ghost known: { number ≡ user_number user.now.name },
     ghost marked: { has_marks marks.words user.now.groups ≡ true },
 }
 
@@ -56,14 +56,14 @@ impl<'a> AsUser<'a> {
     {
         AsUser {
             user,
-            number: user_bucket(user.name.as_slice()),
+            number: user_number(user.name.as_slice()),
             marks: MarkSet::of_groups(user.groups.as_slice()),
         }
     }
 
     /// Returns the number of the user's name.
     pub(crate) fn number(&self) -> usize
-        ensures { result ≡ user_bucket self.now.user.now.name }
+        ensures { result ≡ user_number self.now.user.now.name }
     {
         self.number
     }
@@ -189,11 +189,8 @@ impl Subject for AsHost<'_> {
 pub(crate) struct AsCommand<'a> {
     pub(crate) command: &'a [u8],
     pub(crate) arguments: &'a [u8],
-    /// The number of the whole command.
-    pub(crate) whole: usize,
     /// The numbers of the atoms that may match the command, if they are known.
     pub(crate) number_set: Option<&'a NumberSet>,
-    ghost known: { whole ≡ bucket_of whole_seed command.now },
     ghost covers: { (s : TheNumbers) → option_copied number_set ≡ Some s
         → lacks_command (λ n. not (set_has s.words n)) command.now ≡ true },
 }
@@ -333,6 +330,26 @@ pub(crate) fn decide_one<S: Subject>(
     }
 }
 
+// Returns the position after the last member before `end` that its key does not pass over, or 0 if there is none.
+fn kept_before<S: Subject>(keys: &[Key], subject: S, end: usize) -> usize
+    ensures within { result ≤ end }
+    ensures passed { (i : ℕ) → result ≤ i → i < end
+        → IsPassed (S.fits subject) (unwrap_or (slice_get keys.now i) Key.Other) }
+{
+    if keys.len() < end {
+        return end;
+    }
+    let mut end = end;
+    while end > 0 {
+        let key = &keys[end - 1];
+        if !subject.misses(key) {
+            return end;
+        }
+        end -= 1;
+    }
+    0
+}
+
 // Returns the decision of the list: tries its members from the last to the first and stops at the first that matches.
 // `keys` holds the keys of the members, if they are known, and `slots` the known decisions of aliases, by the numbers of
 // the aliases.
@@ -355,19 +372,19 @@ fn decide<S: Subject>(
     ensures recalls { Recalls kind lists.entry.checked.now (option_copied numbers.entry)
         (S.fits subject.now) slots.new }
 {
-    let mut left = members;
-    while let Some((member, rest)) = left.split_last() {
-        left = rest;
-        let key = key_at(keys, rest.len());
-        if subject.misses(key) {
-            continue;
+    let mut end = members.len();
+    loop {
+        end = kept_before(keys, *subject, end);
+        if end == 0 {
+            return None;
         }
+        end -= 1;
+        let (member, key) = (&members[end], key_at(keys, end));
         let decided = decide_member(lists, kind, member, key, subject, numbers, slots);
         if decided.is_some() {
             return decided;
         }
     }
-    None
 }
 
 // Returns the decision of one member: its own, or that of its alias with the sign of the member.
@@ -394,13 +411,20 @@ fn decide_member<S: Subject>(
     match &member.atom {
         Atom::Alias(name) => {
             let position = lists.position(kind, name.as_slice(), key)?;
-            let members = lists.checked.members_at(position)?;
-            let keys = lists.keys_of(kind, position);
+            let listed = lists.definition_at(kind, position)?;
             let number = number_of(numbers, name.as_slice());
             if let Some(known) = recall(slots, number) {
                 return with_sign(known, is_negated(member));
             }
-            let found = decide(lists, kind, members, keys, subject, numbers, slots);
+            let found = decide(
+                lists,
+                kind,
+                listed.members,
+                listed.keys,
+                subject,
+                numbers,
+                slots,
+            );
             remember(slots, number, found);
             with_sign(found, is_negated(member))
         }

@@ -1,6 +1,6 @@
 //! The keys of the members of a policy's lists.
 
-ghost use Rattle.std.specs.Prelude.{◌≡◌, ◌≤◌, List, true, false, Some, IfOk, length, option_copied, option_and_then, slice_get, take};
+ghost use Rattle.std.specs.Prelude.{◌≡◌, ◌≤◌, List, true, false, Some, IfOk, IfSome, length, option_copied, option_and_then, option_map, slice_get, take};
 ghost use Rattle.std.specs.List.{list_any};
 ghost use Rattle.sudo_grammar.specs.declared.kind.Atom.{Atom as TheAtom};
 ghost use Rattle.sudo_grammar.specs.declared.kind.Kind.{Kind as TheKind};
@@ -14,10 +14,10 @@ ghost use Rattle.sudo_policy.specs.Definitions.{in_force};
 ghost use Rattle.sudo_policy.specs.Positions.{members_at};
 ghost use Rattle.sudo_verdict.specs.Keys.{Pairwise, IsKeyOf, HaveKeys, HaveCommandKeys, HaveSectionKeys, HaveRuleKeys, HaveDefinitionKeys, HaveBodyKeys, AreKeys};
 ghost use Rattle.sudo_verdict.specs.declared.key.SectionKeys.{SectionKeys as TheKeys};
-ghost use Rattle.sudo_verdict.specs.Body.Known.{AreKnown};
+ghost use Rattle.sudo_verdict.specs.Body.Known.{AreKnown, keys_at as spec_keys_at};
 
 use crate::key::{EntryKeys, Key, SectionKeys};
-use crate::numbers::{group_mark, path_number, user_bucket};
+use crate::numbers::{group_mark, path_number, user_number};
 use std::alloc::{AllocError, Global};
 use sudo_base::Seq;
 use sudo_match::is_special;
@@ -72,7 +72,7 @@ fn atom_key(checked: &Checked, kind: Kind, atom: &Atom) -> Key
 {
     match atom {
         Atom::Alias(name) => alias_key(checked, kind, name.as_slice()),
-        Atom::Name(name) => Key::Name(user_bucket(name.as_slice())),
+        Atom::Name(name) => Key::Name(user_number(name.as_slice())),
         Atom::Uid(uid) => Key::Uid(*uid),
         Atom::Group(name) => Key::Group(group_mark(name.as_slice())),
         Atom::Command { path, .. } => Key::Command(path_number(path.as_slice())),
@@ -206,41 +206,27 @@ impl Keys {
 fn is_same_kind(one: Kind, other: Kind) -> bool
     ensures { result ≡ true → one ≡ other }
 {
-    match (one, other) {
-        (Kind::User, Kind::User)
-        | (Kind::Runas, Kind::Runas)
-        | (Kind::Host, Kind::Host)
-        | (Kind::Cmnd, Kind::Cmnd) => true,
-        _ => false,
-    }
+    one == other
 }
 
-// Returns the keys of the members of the definition at a position, for a list of a kind; none if it has another kind.
-fn keys_at<'a>(
-    checked: &Checked,
-    rows: &'a Seq<EntryKeys>,
-    kind: Kind,
-    position: Position,
-) -> &'a [Key]
-    requires { AreKeys checked.now rows.now }
-    ensures { (members : List TheMember) → members_at checked.now position ≡ Some members
-        → HaveKeys checked.now kind result.now members }
+// Returns the keys of the definition at a position; none if there is none.
+fn keys_at(rows: &Seq<EntryKeys>, position: Position) -> &[Key]
+    ensures { result.now ≡ spec_keys_at rows.now position }
 {
-    let Some(entry) = checked.policy().entries.get(position.entry) else {
-        return &[];
-    };
     let Some(row) = rows.get(position.entry) else {
         return &[];
     };
-    match &entry.body {
-        EntryBody::Aliases { kind: own, .. } if is_same_kind(*own, kind) => {
-            match row.definitions.get(position.definition) {
-                Some(keys) => keys.as_slice(),
-                None => &[],
-            }
-        }
-        _ => &[],
+    match row.definitions.get(position.definition) {
+        Some(keys) => keys.as_slice(),
+        None => &[],
     }
+}
+
+/// A list of members with their keys, or with none where they are not known.
+#[derive(Clone, Copy)]
+pub(crate) struct Listed<'a> {
+    pub(crate) members: &'a [Member],
+    pub(crate) keys: &'a [Key],
 }
 
 /// The keys of a rule's lists, or none where they are not known.
@@ -285,31 +271,6 @@ pub(crate) struct Lists<'a> {
 }
 
 impl Lists<'_> {
-    /// Whether two kinds are the same.
-    fn is_same_kind(one: Kind, other: Kind) -> bool
-        ensures { result ≡ true → one ≡ other }
-    {
-        match (one, other) {
-            (Kind::User, Kind::User)
-            | (Kind::Runas, Kind::Runas)
-            | (Kind::Host, Kind::Host)
-            | (Kind::Cmnd, Kind::Cmnd) => true,
-            _ => false,
-        }
-    }
-
-    // Returns the keys of the members of the definition at a position, for a list of a kind; none if they are not known.
-    pub(crate) fn keys_of(&self, kind: Kind, position: Position) -> &[Key]
-        ensures { (members : List TheMember)
-            → members_at self.now.checked.now position ≡ Some members
-            → HaveKeys self.now.checked.now kind result.now members }
-    {
-        match self.keys {
-            Some(keys) => keys_at(self.checked, &keys.rows, kind, position),
-            None => &[],
-        }
-    }
-
     /// Returns the keys of the rule at an index; none if they are not known.
     pub(crate) fn rule_keys(&self, index: usize) -> RuleKeys<'_>
         ensures { (e : TheEntry) (users : List TheMember) (sections : List TheSection)
@@ -346,6 +307,33 @@ impl Lists<'_> {
         match key {
             Key::Alias(position) => Some(*position),
             _ => self.checked.position(kind, name),
+        }
+    }
+
+    /// Returns the list of the definition at a position, or `None` if there is none. Its keys are known if it has this kind.
+    pub(crate) fn definition_at(&self, kind: Kind, position: Position) -> Option<Listed<'_>>
+        ensures members { option_map (λ l. l.members.now) result
+            ≡ members_at self.now.checked.now position }
+        ensures keys { IfSome result
+            (λ l. HaveKeys self.now.checked.now kind l.keys.now l.members.now) }
+    {
+        let entry = self.checked.policy().entries.get(position.entry)?;
+        match &entry.body {
+            EntryBody::Aliases {
+                kind: own,
+                definitions,
+            } => {
+                let definition = definitions.get(position.definition)?;
+                let keys = match self.keys {
+                    Some(keys) if is_same_kind(*own, kind) => keys_at(&keys.rows, position),
+                    _ => &[],
+                };
+                Some(Listed {
+                    members: definition.members.as_slice(),
+                    keys,
+                })
+            }
+            _ => None,
         }
     }
 }

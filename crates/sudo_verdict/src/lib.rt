@@ -12,6 +12,8 @@ mod number_set;
 mod numbers;
 mod postings;
 mod query;
+mod request_numbers;
+mod row_list;
 mod rows;
 mod rule_index;
 mod search;

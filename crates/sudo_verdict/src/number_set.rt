@@ -1,10 +1,9 @@
-//! The numbers of a command as a set of bits, by which members of lists are passed over.
+//! Sets of numbers and of marks as bits, by which members of lists are passed over.
 
-ghost use Rattle.std.specs.Prelude.{ℕ, ◌≡◌, ◌<◌, true, not};
-ghost use Rattle.sudo_verdict.specs.Numbers.{bucket_of, whole_seed};
-ghost use Rattle.sudo_verdict.specs.Body.NumberSets.{has_mark, has_marks, lacks_command, set_has};
+ghost use Rattle.std.specs.Prelude.{ℕ, ◌≡◌, true};
+ghost use Rattle.sudo_verdict.specs.Body.NumberSets.{has_mark, has_marks, set_has};
 
-use crate::numbers::{BEGINNING, EVERYONE, group_mark, next_number};
+use crate::numbers::group_mark;
 use crate::rows::set_bit;
 use sudo_match::Group;
 
@@ -18,19 +17,15 @@ pub(crate) struct NumberSet {
 }
 
 impl NumberSet {
-    // Creates a set of the number of atoms that match everyone, and of aliases.
-    fn new() -> NumberSet
-        ensures { set_has result.words 0 ≡ true }
-    {
-        let mut number_set = NumberSet {
+    /// Creates an empty set.
+    pub(crate) fn new() -> NumberSet {
+        NumberSet {
             words: [0; BITS / 64],
-        };
-        number_set.add(EVERYONE);
-        number_set
+        }
     }
 
-    // Adds a number to the set.
-    fn add(&mut self, number: usize)
+    /// Adds a number to the set.
+    pub(crate) fn add(&mut self, number: usize)
         ensures adds { set_has self.new.words number ≡ true }
         ensures keeps { (other : ℕ) → set_has self.old.words other ≡ true
             → set_has self.new.words other ≡ true }
@@ -44,24 +39,6 @@ impl NumberSet {
     {
         let bit = number % BITS;
         self.words[bit / 64] >> (bit % 64) & 1 == 1
-    }
-
-    /// Returns a set with the numbers of each atom that matches the command, which as a whole has this number.
-    pub(crate) fn of_command(command: &[u8], whole: usize) -> NumberSet
-        requires { whole ≡ bucket_of whole_seed command.now }
-        ensures { lacks_command (λ n. not (set_has result.words n)) command.now ≡ true }
-    {
-        let mut number_set = NumberSet::new();
-        number_set.add(BEGINNING);
-        let mut number = BEGINNING;
-        let mut left = command;
-        while let Some((byte, rest)) = left.split_first() {
-            number = next_number(number, *byte);
-            number_set.add(number);
-            left = rest;
-        }
-        number_set.add(whole);
-        number_set
     }
 }
 

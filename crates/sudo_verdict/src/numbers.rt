@@ -20,8 +20,9 @@ pub(crate) const EVERYONE: usize = 0;
 /// The number of the empty beginning of a command, from which those of longer beginnings are computed.
 pub(crate) const BEGINNING: usize = 3;
 
-/// The number of an empty command, from which those of other whole commands are computed.
-pub(crate) const WHOLE: usize = 4;
+// The byte by which the number of a whole command is extended. With this one few usual commands share a row with a beginning
+// of another one.
+const END: u8 = 6;
 
 /// Extends the number of some bytes by one more byte.
 pub(crate) fn next_number(number: usize, byte: u8) -> usize
@@ -32,10 +33,10 @@ pub(crate) fn next_number(number: usize, byte: u8) -> usize
     (number * 31 + byte as usize) % NUMBERS
 }
 
-// Returns the number of a name or a whole command, computed from `seed`.
-fn bucket_of(seed: usize, name: &[u8]) -> usize
+// Returns the number of a name, computed from `seed`.
+fn number_from(seed: usize, name: &[u8]) -> usize
     requires { seed < 16384 }
-    ensures value { result ≡ spec.bucket_of seed name.now }
+    ensures value { result ≡ spec.number_from seed name.now }
     ensures below { result < 16384 }
 {
     let mut number = seed;
@@ -48,17 +49,18 @@ fn bucket_of(seed: usize, name: &[u8]) -> usize
 }
 
 /// Returns the number of a user's name.
-pub(crate) fn user_bucket(name: &[u8]) -> usize
-    ensures { result ≡ spec.user_bucket name.now }
+pub(crate) fn user_number(name: &[u8]) -> usize
+    ensures { result ≡ spec.user_number name.now }
 {
-    bucket_of(1, name)
+    number_from(1, name)
 }
 
 /// Returns the number of a group's name.
 pub(crate) fn group_number(name: &[u8]) -> usize
-    ensures { result ≡ spec.group_number name.now }
+    ensures value { result ≡ spec.group_number name.now }
+    ensures below { result < 16384 }
 {
-    bucket_of(2, name)
+    number_from(2, name)
 }
 
 /// Returns the mark of a group's name, by its last two bytes.
@@ -70,6 +72,15 @@ pub(crate) fn group_mark(name: &[u8]) -> usize
         return 0;
     }
     (name[count - 1] as usize + 10 * name[count - 2] as usize) % 64
+}
+
+/// Returns the number of a whole command from that of its bytes.
+pub(crate) fn whole_number(number: usize) -> usize
+    requires { number < 16384 }
+    ensures value { result ≡ spec.next_number number 6 }
+    ensures below { result < 16384 }
+{
+    next_number(number, END)
 }
 
 /// Returns the number of a user ID.
@@ -86,30 +97,25 @@ pub(crate) fn gid_number(gid: u32) -> usize
     (gid as usize * 2 + 3) % NUMBERS
 }
 
-/// Returns the number of a whole command.
-pub(crate) fn command_number(command: &[u8]) -> usize
-    ensures { result ≡ spec.bucket_of spec.whole_seed command.now }
-{
-    bucket_of(WHOLE, command)
-}
-
 /// Returns the number under which a path is found: that of its bytes before the first special character; for a path
-// without special characters, that of all its bytes, as a beginning for a folder and otherwise as a whole command.
+/// without special characters, that of all its bytes, as a beginning for a folder and otherwise as a whole command.
 pub(crate) fn path_number(path: &[Ch]) -> usize
     ensures { result ≡ spec.path_number path.now }
 {
-    let mut beginning = BEGINNING;
-    let mut whole = WHOLE;
+    let mut number = BEGINNING;
     let mut left = path;
     while let Some((ch, rest)) = left.split_first() {
         if is_special(*ch) {
-            return beginning;
+            return number;
         }
-        beginning = next_number(beginning, ch.byte);
-        whole = next_number(whole, ch.byte);
+        number = next_number(number, ch.byte);
         left = rest;
     }
-    if is_folder(path) { beginning } else { whole }
+    if is_folder(path) {
+        number
+    } else {
+        whole_number(number)
+    }
 }
 
 // Whether the path ends in `/`, so that it stands for the files of a folder.
@@ -128,7 +134,7 @@ pub(crate) fn atom_number(atom: &Atom) -> usize
     ensures { result ≡ spec.atom_number atom.now }
 {
     match atom {
-        Atom::Name(name) => user_bucket(name.as_slice()),
+        Atom::Name(name) => user_number(name.as_slice()),
         Atom::Uid(uid) => uid_number(*uid),
         Atom::Group(name) => group_number(name.as_slice()),
         Atom::Gid(gid) => gid_number(*gid),

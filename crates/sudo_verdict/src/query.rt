@@ -8,7 +8,8 @@ ghost use Rattle.sudo_verdict.specs.Keys.{HaveKeys};
 ghost use Rattle.sudo_verdict.specs.Values as values;
 ghost use Rattle.sudo_verdict.specs.RunasForms as form;
 ghost use Rattle.sudo_verdict.specs.Questions.{question_of, target_of};
-ghost use Rattle.sudo_verdict.specs.Body.NumberSets.{lacks_command, set_has};
+ghost use Rattle.sudo_verdict.specs.Numbers.{lacks_command};
+ghost use Rattle.sudo_verdict.specs.Body.NumberSets.{set_has};
 ghost use Rattle.sudo_verdict.specs.Body.Queries.{question};
 
 use crate::aliases::Aliases;
@@ -16,7 +17,6 @@ use crate::decision::{AsCommand, AsGroup, AsHost, AsTarget, AsUser, value};
 use crate::key::Key;
 use crate::keys::Lists;
 use crate::number_set::NumberSet;
-use crate::numbers::command_number;
 use sudo_match::{Directory, Group, Machine, Person, Request, What};
 use sudo_policy::{Kind, Member, Runas};
 use sudo_text::Seq;
@@ -68,7 +68,6 @@ pub(crate) fn query_of<'a>(
             Some(group) => Some(group),
         },
     };
-    let whole = command_number(request.command.as_slice());
     Ok(Query {
         user: AsUser::of(user),
         host: AsHost::of(host),
@@ -78,7 +77,6 @@ pub(crate) fn query_of<'a>(
         command: AsCommand {
             command: request.command.as_slice(),
             arguments: request.arguments.as_slice(),
-            whole,
             number_set: None,
         },
         aliases,
@@ -94,7 +92,6 @@ pub(crate) fn with_numbers<'a>(query: Query<'a>, number_set: &'a NumberSet) -> Q
     let command = AsCommand {
         command: query.command.command,
         arguments: query.command.arguments,
-        whole: query.command.whole,
         number_set: Some(number_set),
     };
     Query { command, ..query }

@@ -1,6 +1,6 @@
 //! Rules by number, as rows of bits.
 
-ghost use Rattle.std.specs.Prelude.{ℕ, ◌≡◌, ◌+◌, ◌%◌, ◌*◌, ◌<◌, ◌≤◌, true, IfOk, OnOk, length};
+ghost use Rattle.std.specs.Prelude.{ℕ, ◌≡◌, ◌+◌, ◌%◌, ◌*◌, ◌<◌, ◌≤◌, true, false, IfOk, OnOk, length};
 ghost use Rattle.sudo_verdict.specs.Postings.{Grows, bit, is_in_row};
 ghost use Rattle.sudo_verdict.specs.Body.Blocks.{AddsWords, StartsAt, UnitesRow};
 
@@ -21,6 +21,16 @@ pub(crate) fn set_bit(words: &mut [u64], rule: usize)
     ensures keeps { (other : ℕ) → bit words.old other ≡ 1 → bit words.new other ≡ 1 }
 {
     words[rule / 64] |= 1 << (rule % 64);
+}
+
+/// Sets all bits of a block.
+pub(crate) fn set_all(block: &mut [u64])
+    ensures count { length block.new ≡ length block.old }
+    ensures sets { (i : ℕ) → i < 64 * length block.new → bit block.new i ≡ 1 }
+{
+    for index in 0..block.len() {
+        block[index] = u64::MAX;
+    }
 }
 
 // Sets the bit of a rule in a row, extending the row up to it. Returns `AllocError` if allocation fails.
@@ -85,6 +95,15 @@ impl Rows {
         } else {
             number % count
         }
+    }
+
+    /// Whether the row of a number is empty. False if it may have a rule.
+    pub(crate) fn is_empty(&self, number: usize) -> bool
+        requires { 0 < length self.now.rows.items }
+        ensures { result ≡ true
+            → (rule : ℕ) → is_in_row self.now.rows.items number rule ≡ false }
+    {
+        self.rows[self.row_index(number)].as_slice().is_empty()
     }
 
     /// Posts a rule to the row of a number. Returns `AllocError` if allocation fails.

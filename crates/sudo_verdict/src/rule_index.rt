@@ -4,18 +4,19 @@ ghost use Rattle.std.specs.Prelude.{ℕ, ◌≡◌, ◌+◌, ◌-◌, ◌*◌, �
 ghost use Rattle.std.specs.Option.{option_or};
 ghost use Rattle.sudo_grammar.specs.declared.policy.Entry.{Entry};
 ghost use Rattle.sudo_verdict.specs.Last.{last_set};
-ghost use Rattle.sudo_verdict.specs.Body.Blocks.{StartsAt, both_have};
+ghost use Rattle.sudo_verdict.specs.Body.Blocks.{ListsCommand, ListsUser, StartsAt, both_have};
 ghost use Rattle.sudo_verdict.specs.Body.Queries.{question};
 ghost use Rattle.sudo_verdict.specs.Verdicts.{verdict_of};
 ghost use Rattle.sudo_verdict.specs.Found.{entry_found};
 ghost use Rattle.sudo_verdict.specs.Postings.{Indexes};
 
 use crate::aliases::Aliases;
-use crate::candidates::{add_command, add_user, last_in_both_before};
+use crate::candidates::last_in_both_before;
 use crate::keys::{Keys, Lists};
-use crate::number_set::NumberSet;
 use crate::postings::{Budget, Postings};
 use crate::query::{Query, query_of, with_numbers};
+use crate::request_numbers::RequestNumbers;
+use crate::row_list::RowList;
 use crate::rows::Rows;
 use crate::search::search_candidate;
 use std::alloc::{AllocError, Global};
@@ -24,7 +25,7 @@ use sudo_match::{Directory, Request, Verdict};
 use sudo_policy::Checked;
 
 // The number of words, of 64 rules each, that are searched at a time.
-const BLOCK: usize = 64;
+const BLOCK: usize = 8;
 
 /// An index of the rules of a policy that may decide for a user and for a command. Holds numbers and names of aliases,
 /// but borrows nothing from the policy. Contracts see its rows.
@@ -95,14 +96,16 @@ impl RuleIndex {
     {
         match query_of(directory, request, self.aliases.as_ref()) {
             Ok(query) => {
-                let command = query.command;
-                let number_set = NumberSet::of_command(command.command, command.whole);
-                let query = with_numbers(query, &number_set);
+                let user = query.user;
+                let mut numbers = RequestNumbers::new();
+                numbers.add_user(&self.users, user.user, user.number());
+                numbers.add_command(&self.commands, query.command.command);
+                let query = with_numbers(query, &numbers.set);
                 let lists = Lists {
                     checked,
                     keys: Some(&self.keys),
                 };
-                match search_indexed(lists, self, &query) {
+                match search_indexed(lists, self, &query, &numbers.users, &numbers.commands) {
                     Some(verdict) => verdict,
                     None => Verdict::NoMatch,
                 }
@@ -113,8 +116,16 @@ impl RuleIndex {
 }
 
 // Returns the verdict of the last entry that decides, searching block by block from the end back.
-fn search_indexed(lists: Lists<'_>, index: &RuleIndex, query: &Query<'_>) -> Option<Verdict>
-    requires { Indexes lists.checked.now index.now }
+fn search_indexed(
+    lists: Lists<'_>,
+    index: &RuleIndex,
+    query: &Query<'_>,
+    users: &RowList,
+    commands: &RowList,
+) -> Option<Verdict>
+    requires index { Indexes lists.checked.now index.now }
+    requires users { ListsUser index.now.0 users.now (question query.now).user }
+    requires commands { ListsCommand index.now.1.0 commands.now (question query.now).command }
     ensures { result ≡ last_set (map (entry_found lists.entry.checked.now (question query.now))
         lists.entry.checked.now.entries) }
 {
@@ -126,7 +137,7 @@ fn search_indexed(lists: Lists<'_>, index: &RuleIndex, query: &Query<'_>) -> Opt
             return None;
         }
         let first = (last / BLOCK * BLOCK).max(start);
-        let found = search_block(lists, index, query, first, end);
+        let found = search_block(lists, index, query, users, commands, first, end);
         if found.is_some() {
             return found;
         }
@@ -140,12 +151,16 @@ fn search_block(
     lists: Lists<'_>,
     index: &RuleIndex,
     query: &Query<'_>,
+    users: &RowList,
+    commands: &RowList,
     first: usize,
     end: usize,
 ) -> Option<Verdict>
     requires index { Indexes lists.checked.now index.now }
+    requires users { ListsUser index.now.0 users.now (question query.now).user }
+    requires commands { ListsCommand index.now.1.0 commands.now (question query.now).command }
     requires begins { 64 * first < end }
-    requires block { end ≤ 64 * first + 4096 }
+    requires block { end ≤ 64 * first + 512 }
     requires within { end ≤ length lists.checked.now.entries }
     ensures { last_set (map (entry_found lists.entry.checked.now (question query.now))
         (take end lists.entry.checked.now.entries))
@@ -153,27 +168,15 @@ fn search_block(
         (take (64 * first) lists.entry.checked.now.entries))) }
 {
     let words = (end - 1) / 64 + 1 - first;
-    let mut users = [0u64; BLOCK];
-    let mut commands = [0u64; BLOCK];
-    add_user(
-        &index.users,
-        query.user.user,
-        query.user.number(),
-        first,
-        &mut users[..words],
-    );
-    add_command(
-        &index.commands,
-        query.command.command,
-        query.command.whole,
-        first,
-        &mut commands[..words],
-    );
+    let mut user_block = [0u64; BLOCK];
+    let mut command_block = [0u64; BLOCK];
+    users.add_to(&index.users, first, &mut user_block[..words]);
+    commands.add_to(&index.commands, first, &mut command_block[..words]);
     search_candidates(
         lists,
         query,
-        &users[..words],
-        &commands[..words],
+        &user_block[..words],
+        &command_block[..words],
         64 * first,
         end,
     )

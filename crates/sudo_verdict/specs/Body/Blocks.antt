@@ -1,6 +1,10 @@
 -- Blocks of rules as bits, with the rules that may decide; only proofs of bodies need these definitions.
-use Rattle.std.specs.Prelude.{◌≡◌, ℕ, ◌+◌, ◌*◌, ◌<◌, Bool, false, true, ◌==◌, ◌&&◌, List, length}
+use Rattle.std.specs.Prelude.{◌≡◌, ℕ, ◌+◌, ◌*◌, ◌<◌, ◌≤◌, Bool, false, true, ◌==◌, ◌&&◌, List, length, slice_index}
 use Rattle.sudo_match.specs.declared.people.Person.{Person}
+use Rattle.sudo_verdict.specs.declared.row_list.RowList.{RowList}
+use Rattle.sudo_verdict.specs.declared.request_numbers.RequestNumbers.{RequestNumbers}
+use Rattle.sudo_verdict.specs.Numbers.{lacks_command}
+use Rattle.sudo_verdict.specs.Body.NumberSets.{set_has}
 use Rattle.sudo_verdict.specs.Postings.{Rows, bit, is_in_row, misses_user, misses_command}
 
 -- the new words have each set bit of the old ones and, within their length, of `words`
@@ -12,15 +16,28 @@ abbrev pub UnitesRow : Rows → ℕ → ℕ → List ℕ → List ℕ → Type 0
 UnitesRow rows number first old new =
     (i : ℕ) → bit new i ≡ 0 → (bit old i ≡ 0) × (i < 64 * length old → is_in_row rows number (64 * first + i) ≡ false)
 
--- each rule without a bit in the block, which begins at the word `first`, is in no row of the user
-abbrev pub HasUser : Rows → ℕ → Person → List ℕ → Type 0
-HasUser rows first u block =
-    (i : ℕ) → i < 64 * length block → bit block i ≡ 0 → misses_user rows (64 * first + i) u ≡ true
+-- the rule is in no row of the list, which has no more than it can name
+abbrev pub IsMissed : Rows → RowList → ℕ → Type 0
+IsMissed rows list rule =
+    (list.count ≤ 64) × ((k : ℕ) → k < list.count → is_in_row rows (slice_index list.numbers k) rule ≡ false)
 
--- each rule without a bit in the block, which begins at the word `first`, is in no row of the command
-abbrev pub HasCommand : Rows → ℕ → List ℕ → List ℕ → Type 0
-HasCommand rows first command block =
-    (i : ℕ) → i < 64 * length block → bit block i ≡ 0 → misses_command rows (64 * first + i) command ≡ true
+-- the list has each row of the user with rules
+abbrev pub ListsUser : Rows → RowList → Person → Type 0
+ListsUser rows list u = (rule : ℕ) → IsMissed rows list rule → misses_user rows rule u ≡ true
+
+-- the list has each row of the command with rules
+abbrev pub ListsCommand : Rows → RowList → List ℕ → Type 0
+ListsCommand rows list command = (rule : ℕ) → IsMissed rows list rule → misses_command rows rule command ≡ true
+
+-- the set has the number, and the list has its row, if that has rules
+abbrev pub IsNoted : Rows → RequestNumbers → ℕ → Type 0
+IsNoted rows numbers number =
+    (set_has numbers.set.words number ≡ true) × ((rule : ℕ) → IsMissed rows numbers.commands rule → is_in_row rows number rule ≡ false)
+
+-- the command lacks all numbers but those that are noted
+abbrev pub HasNumbers : Rows → RequestNumbers → List ℕ → Type 0
+HasNumbers rows numbers command =
+    (has : ℕ → Bool) → ((n : ℕ) → IsNoted rows numbers n → has n ≡ false) → lacks_command has command ≡ true
 
 -- both blocks have the bit
 abbrev pub both_have : List ℕ → List ℕ → ℕ → Bool

@@ -1,5 +1,4 @@
 use Rattle.std.proofs.Common.{sym}
-use Rattle.sudo_verdict.specs.declared.key.EntryKeys.{EntryKeys}
 use Rattle.sudo_verdict.proofs.KeyLaws.{rule_body}
 use Rattle.sudo_verdict.proofs.keys.body_keys.Goals as goal
 

@@ -5,9 +5,8 @@ use Rattle.sudo_verdict.proofs.numbers.path_number.Given as goal
 
 abbrev pub invariant-loop-ch : goal.invariant-loop-ch
 invariant-loop-ch l = record {
-  beginning : l.beginning < 16384;
-  whole : l.whole < 16384;
-  same : path_number l.path ≡ path_number_from (is_folder_path l.path) l.beginning l.whole l.left;
+  below : l.number < 16384;
+  same : path_number l.path ≡ path_number_from (is_folder_path l.path) l.number l.left;
 }
 
 abbrev pub decreases-loop-ch : goal.decreases-loop-ch

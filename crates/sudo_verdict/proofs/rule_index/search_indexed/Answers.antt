@@ -17,6 +17,6 @@ returns-then-last-start c =
     (c.loop-end.invariant.same
     ∙ skipped (entry_found p q) p.entries 0 c.loop-end.end (omega arith)
     (λ k e l h there.
-    c.requires.covers q k e (omega (arith, h, within)) there
+    c.requires.index.covers q k e (omega (arith, h, within)) there
     (ap (λ b. b || misses_command c.args.index.now.1.0 k q.command)
     (misses-before c.args.index.now.0 c.start-start.result k q.user c.start-start.ensures (omega (arith, h, early))))))

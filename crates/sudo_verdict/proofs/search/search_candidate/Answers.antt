@@ -1,4 +1,3 @@
-use Rattle.std.proofs.Common.{sym, ◌∙◌, ap}
 use Rattle.sudo_verdict.proofs.search.search_candidate.Goals as goal
 
 pub search_sections-requires-clause-keys : goal.search_sections-requires-clause-keys

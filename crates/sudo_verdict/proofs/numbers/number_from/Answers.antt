@@ -1,7 +1,7 @@
 use Rattle.std.proofs.Common.{ap, sym, ◌∙◌, arith, refl}
-use Rattle.sudo_verdict.specs.Numbers.{bucket_of}
+use Rattle.sudo_verdict.specs.Numbers.{number_from}
 use Rattle.sudo_verdict.proofs.Numbering.{numbered_next, numbered_end}
-use Rattle.sudo_verdict.proofs.numbers.bucket_of.Goals as goal
+use Rattle.sudo_verdict.proofs.numbers.number_from.Goals as goal
 
 pub loop-byte-init : goal.loop-byte-init
 loop-byte-init c = record { below = c.requires; same = refl }
@@ -12,8 +12,8 @@ loop-byte-smaller c = let shorter = c.in-Some.ensures.cases.1 in omega (arith, s
 pub loop-byte-preserved : goal.loop-byte-preserved
 loop-byte-preserved c = record {
   below = c.next_number-number.ensures.below;
-  same = c.loop-byte.invariant.same ∙ ap (bucket_of c.loop-byte.number) c.in-Some.ensures.cases.0 ∙ numbered_next c.loop-byte.number c.in-Some.byte.now c.in-Some.rest.now
-      ∙ ap (λ n. bucket_of n c.in-Some.rest.now) (sym c.next_number-number.ensures.value);
+  same = c.loop-byte.invariant.same ∙ ap (number_from c.loop-byte.number) c.in-Some.ensures.cases.0 ∙ numbered_next c.loop-byte.number c.in-Some.byte.now c.in-Some.rest.now
+      ∙ ap (λ n. number_from n c.in-Some.rest.now) (sym c.next_number-number.ensures.value);
 }
 
 pub returns-clause-value : goal.returns-clause-value

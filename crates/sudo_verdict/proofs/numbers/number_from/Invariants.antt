@@ -1,11 +1,11 @@
 use Rattle.std.proofs.Common.{◌≡◌, ◌<◌, length}
-use Rattle.sudo_verdict.specs.Numbers.{bucket_of}
-use Rattle.sudo_verdict.proofs.numbers.bucket_of.Given as goal
+use Rattle.sudo_verdict.specs.Numbers.{number_from}
+use Rattle.sudo_verdict.proofs.numbers.number_from.Given as goal
 
 abbrev pub invariant-loop-byte : goal.invariant-loop-byte
 invariant-loop-byte l = record {
   below : l.number < 16384;
-  same : bucket_of l.seed l.name ≡ bucket_of l.number l.left;
+  same : number_from l.seed l.name ≡ number_from l.number l.left;
 }
 
 abbrev pub decreases-loop-byte : goal.decreases-loop-byte
