@@ -36,6 +36,23 @@ pub(crate) fn directory(alloc: Global) -> Result<Directory, Fail> {
     Ok(Directory::new(alloc, people, machines)?)
 }
 
+/// Returns a directory in which `many` has the groups g0 to g99.
+pub(crate) fn directory_of_many_groups(alloc: Global) -> Result<Directory, Fail> {
+    let mut text = String::from_str(
+        alloc,
+        "user,uid,groups\nroot,0,root:0\nalice,1000,alice:1000\nmany,1001,many:1001",
+    )?;
+    for number in 0..100u32 {
+        let group = format!(in alloc; " g{number}:{}", number + 2000)?;
+        text.push_str(group.as_str())?;
+    }
+    text.push_str("\n")?;
+    let mut users = Script::of(alloc, text.as_str().as_bytes(), 4096)?;
+    let people = read_users(alloc, &mut users)?;
+    let machines = machines(alloc)?;
+    Ok(Directory::new(alloc, people, machines)?)
+}
+
 /// Checks the policy of one file.
 pub(crate) fn checked(alloc: Global, text: &str) -> Result<Checked, Fail> {
     let supplies: [Supply; 0] = [];
@@ -171,9 +188,9 @@ fn append(alloc: Global, text: &mut String, verdict: &Verdict) -> Result<(), All
     text.push_str(",")
 }
 
-// Returns the policy of a row, with `;` between its lines.
-fn policy_of(alloc: Global, policy: &str) -> Result<String, AllocError> {
-    let mut text = String::new(alloc);
+// Returns the policy of a row, with `;` between its lines, behind a beginning.
+fn policy_of(alloc: Global, beginning: &str, policy: &str) -> Result<String, AllocError> {
+    let mut text = String::from_str(alloc, beginning)?;
     for line in policy.split(';') {
         text.push_str(line)?;
         text.push_str("\n")?;
@@ -223,26 +240,36 @@ pub(crate) fn holds(
     Ok(())
 }
 
-fn row_holds(alloc: Global, directory: &Directory, row: &str) -> Result<(), Fail> {
+fn row_holds(alloc: Global, directory: &Directory, beginning: &str, row: &str) -> Result<(), Fail> {
     let Some((policy, rest)) = row.split_once('|') else {
         return Err(Fail::new("a row without a policy"));
     };
     let Some((asks, want)) = rest.split_once('|') else {
         return Err(Fail::new("a row without a verdict"));
     };
-    let text = policy_of(alloc, policy)?;
+    let text = policy_of(alloc, beginning, policy)?;
     holds(alloc, directory, text.as_str(), asks.trim(), want.trim())
 }
 
-fn all_hold(alloc: Global, directory: &Directory, table: &str) -> Result<(), Fail> {
+fn all_hold(
+    alloc: Global,
+    directory: &Directory,
+    beginning: &str,
+    table: &str,
+) -> Result<(), Fail> {
     for row in table.lines() {
-        row_holds(alloc, directory, row)?;
+        row_holds(alloc, directory, beginning, row)?;
     }
     Ok(())
 }
 
 /// Fails if a row of the table does not hold. A row is a policy, with `;` between its lines, a request and its verdict.
 pub(crate) fn rows_hold(alloc: Global, table: &str) -> Result<(), Fail> {
+    rows_hold_behind(alloc, "", table)
+}
+
+/// Fails if a row of the table does not hold with the beginning before each row's policy.
+pub(crate) fn rows_hold_behind(alloc: Global, beginning: &str, table: &str) -> Result<(), Fail> {
     let directory = directory(alloc)?;
-    all_hold(alloc, &directory, table)
+    all_hold(alloc, &directory, beginning, table)
 }

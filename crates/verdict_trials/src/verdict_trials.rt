@@ -1,6 +1,9 @@
 //! Tests of verdicts. The expected verdicts come from sudoers(5).
 
-use crate::fixtures::{checked, directory, holds, requests, rows_hold, verdict_of_bodies};
+use crate::fixtures::{
+    checked, directory, directory_of_many_groups, holds, requests, rows_hold, rows_hold_behind,
+    verdict_of_bodies,
+};
 use std::alloc::Global;
 use std::test::Fail;
 use sudo_match::Directory;
@@ -235,4 +238,103 @@ fn the_bodies_agree(rt: HostRuntime) -> Result<(), Fail> {
     // Both verdicts are frequent among the 3,136 requests.
     assert!(rt; count > 300 && count < 2800, "{count} allowed");
     Ok(())
+}
+
+// Rules drawn at random, behind `ALIASES`. The verdicts are those of sudo's own `testsudoers`, but for four rows in which the
+// rule or the request names a group to run with.
+const RANDOM_RULES: &str =
+    r#"alice 10.1.0.0/16, 10.1.0.0/16 = (OP) /bin/id, (!operator:!operator) NOPASSWD: SAFE, !/bin/ls;!STAFF, %adm 10.1.0.0/16, !ALL = (operator) SETENV: !/bin/ls, (!OP, !DB) NOEXEC: !/bin/id;!STAFF, alice !web2, !web2 = (operator, OP) /bin/, !SAFE, (DB) /bin/ls;%adm, STAFF ALL = (!#0:!ALL) SAFE | alice,web1,,operator,/bin/su, | nomatch,
+ALL !WEB = (:ALL) !ALL, NOPASSWD: /bin/ls, SETENV: !/bin/su;%adm, !ADMINS ALL, ALL = (:ALL) NOPASSWD: /bin/su, /bin/su;!%#37, STAFF !web2 = /bin/ls;ALL 10.1.0.0/16, !web1 = (operator) NOPASSWD: /bin/id, SETENV: /bin/ls | alice,web1,operator,,/bin/su, | nomatch,
+alice !web1 = LOG_INPUT: !/bin/, SETENV: TOOLS, (:!operator) ALL;!#1000, #1000 !ALL, web2 = (:ALL) /bin/, (#0) !/bin/id;ADMINS ALL, !web2 = SETENV: !/bin/ls;bob, !alice web2 = NOPASSWD: !TOOLS | alice,web1,operator,,/bin/id, | nomatch,
+ALL !WEB, ALL = TOOLS;bob WEB = LOG_INPUT: /bin/;%adm, #1000 !ALL = (OP) /bin/id, NOPASSWD: !/bin/id, (root) /bin/[il]*;ALL, bob web1, 10.1.0.0/16 = (!ALL, DB) LOG_INPUT: !/bin/[il]*, (#0) /bin/su, LOG_INPUT: SAFE | bob,web1,operator,,/bin/ls, | nomatch,
+!#1000 !10.1.0.0/16 = (ALL, !root) NOEXEC: !/bin/[il]*;%#37, %#37 !WEB, !ALL = /bin/[il]*, (!#0) /bin/, (!root) !TOOLS;ALL ALL = (operator, DB) SETENV: /bin/[il]*;!%adm WEB = (#0) !TOOLS | bob,web1,root,,/bin/id, | allow 7 SETENV,
+%adm, !alice ALL = (!OP:!adm) TOOLS;!STAFF 10.1.0.0/16, web1 = !ALL, (DB:ALL) NOEXEC: /bin/su, (DB) /bin/su;bob ALL = (root) /bin/ls, /bin/;!#1000, STAFF WEB, web2 = /bin/, (OP) SETENV: !/bin/ls | alice,web2,root,,/bin/ls, | allow 8,
+#1000 web1 = (operator:operator) TOOLS;!ALL WEB, WEB = NOPASSWD: ALL;!#1000, !bob !web1, !ALL = (:adm) SETENV: /bin/id;!%#37 !web1 = (DB) /bin/ls, (:operator) !SAFE, SETENV: /bin/ls | alice,web1,,,/bin/id, | nomatch,
+ALL, !ALL ALL, web2 = (:!adm) TOOLS, (operator:ALL) /bin/su;!STAFF, %#37 !ALL = (!#0) NOEXEC: TOOLS;!bob, STAFF ALL, 10.1.0.0/16 = (ALL, !root) /bin/id, /bin/;ALL web2, ALL = (OP) NOPASSWD: /bin/[il]*, (ALL:operator) ALL | alice,web1,root,,/bin/id, | allow 8 NOPASSWD SETENV,
+alice !ALL, 10.1.0.0/16 = (DB) SETENV: SAFE, NOEXEC: SAFE;alice, !#1000 ALL = NOEXEC: !/bin/id;!bob !WEB = (operator, !operator) !SAFE;!ALL web2 = (OP, OP) !/bin/ | alice,web1,,,/bin/su, | deny 5,
+!#1000, #1000 WEB = (:!adm) ALL, (!ALL:!operator) !/bin/[il]*;alice !10.1.0.0/16 = /bin/su;#1000 ALL, web2 = (!ALL, OP) /bin/ls, (operator, ALL) LOG_INPUT: !/bin/su;!#1000, !ALL !10.1.0.0/16 = (:!ALL) /bin/ls | alice,web1,,operator,/bin/su, | nomatch,
+STAFF, !bob 10.1.0.0/16 = (#0, ALL) /bin/id, (:ALL) NOEXEC: SAFE;alice, !#1000 !web2, ALL = (:ALL) NOEXEC: /bin/id;!%#37, ALL 10.1.0.0/16 = (:adm) SETENV: /bin/id, (:adm) NOEXEC: !/bin/su, (OP:operator) LOG_INPUT: /bin/;ADMINS, !%adm !WEB = (!OP:!ALL) LOG_INPUT: /bin/su, (DB, root) LOG_INPUT: !SAFE, /bin/id | alice,web1,operator,,/bin/su, | allow 7 NOEXEC LOG_INPUT SETENV,
+bob 10.1.0.0/16 = (!#0) NOEXEC: /bin/id, (ALL) !/bin/su, (root:!adm) !/bin/id;bob, !bob 10.1.0.0/16 = (operator, OP) /bin/ls;ALL, !ALL ALL = (!OP, root) LOG_INPUT: !/bin/ls;#1000 ALL = (!OP, #0) /bin/id, (OP) NOPASSWD: /bin/id | alice,web1,,adm,/bin/id, | nomatch,
+!alice, ALL ALL = (:ALL) NOPASSWD: ALL;bob, alice 10.1.0.0/16, ALL = !/bin/id;!STAFF 10.1.0.0/16, !WEB = (:ALL) ALL;!alice !ALL = LOG_INPUT: !/bin/[il]* | alice,web2,operator,,/bin/su, | nomatch,
+!%#37 web1, 10.1.0.0/16 = TOOLS;!#1000 10.1.0.0/16 = LOG_INPUT: /bin/id, (operator) NOEXEC: /bin/ls, (!#0) !/bin/;alice, !bob web1, !ALL = (operator, OP) NOEXEC: /bin/su;ADMINS !web2, !web1 = SETENV: !/bin/id, SETENV: /bin/, (:!adm) LOG_INPUT: /bin/[il]* | bob,web1,root,,/bin/ls, | nomatch,
+ADMINS 10.1.0.0/16 = SAFE, (!ALL, !#0) SETENV: /bin/ls, (#0:adm) NOEXEC: !SAFE;!%#37, alice 10.1.0.0/16, ALL = (!operator:operator) TOOLS, (#0) SAFE, SETENV: /bin/id;STAFF, %adm web2, WEB = (:adm) !/bin/;!%#37, %adm ALL = (!DB) LOG_INPUT: !/bin/ls, (!OP:ALL) ALL | alice,web1,,,/bin/id, | deny 7,
+bob, ADMINS web2, web2 = (OP, !OP) /bin/, SETENV: !/bin/[il]*;ALL, ADMINS web2, !ALL = (#0) NOEXEC: TOOLS, (!OP, !OP) !/bin/[il]*;ALL, %adm !WEB = /bin/ls, (!root) LOG_INPUT: !/bin/, (:!ALL) /bin/;!bob, ADMINS !10.1.0.0/16, ALL = NOEXEC: ALL, (:ALL) LOG_INPUT: !/bin/ | bob,web2,operator,,/bin/su, | nomatch,
+!STAFF web2 = (ALL, OP) SETENV: /bin/, NOPASSWD: !ALL;%adm, !%adm !10.1.0.0/16 = SETENV: ALL, NOEXEC: /bin/ls;%adm, STAFF !ALL = (ALL, #0) /bin/ls;!ALL, alice ALL = LOG_INPUT: !ALL | bob,web2,,,/bin/id, | nomatch,
+!%adm ALL, !web1 = (operator) /bin/ls;alice ALL = (operator:ALL) NOPASSWD: !/bin/id, SETENV: !/bin/id;!ALL, bob !ALL, !web1 = (:!ALL) NOEXEC: /bin/[il]*, (#0, !OP) NOPASSWD: /bin/id;!ALL, STAFF !ALL = (operator, #0) /bin/[il]*, (operator) /bin/ | alice,web1,,,/bin/ls, | nomatch,
+#1000 web2 = /bin/su;!ALL 10.1.0.0/16 = (!operator:adm) /bin/[il]*, (!OP) !/bin/[il]*, LOG_INPUT: !/bin/;%adm web1, WEB = /bin/[il]*, !ALL, LOG_INPUT: SAFE;alice, !%#37 !10.1.0.0/16 = TOOLS, NOEXEC: !/bin/[il]* | alice,web1,,,/bin/ls, | allow 7 LOG_INPUT,
+ALL WEB = (root:!adm) SETENV: TOOLS, (DB) SETENV: /bin/[il]*;STAFF, bob web2, WEB = !TOOLS, SAFE, (root, OP) /bin/ls;ALL !web2, web1 = (!root, root) LOG_INPUT: SAFE, (#0:ALL) ALL, (DB:adm) !/bin/su;alice, #1000 ALL, !10.1.0.0/16 = NOPASSWD: !SAFE, (DB:!operator) SAFE, (!root) NOEXEC: /bin/[il]* | alice,web1,root,adm,/bin/su, | deny 7,
+%#37 WEB = (!DB:operator) SETENV: !/bin/, (:operator) LOG_INPUT: /bin/id;ADMINS, #1000 ALL = (root) SETENV: /bin/id, (operator) !SAFE, (DB, operator) LOG_INPUT: !ALL;%#37, ADMINS !web1 = SETENV: TOOLS;bob ALL, !10.1.0.0/16 = NOPASSWD: !ALL, (:adm) TOOLS | bob,web2,,operator,/bin/ls, | deny 8,
+!ALL, !ADMINS WEB, web1 = (:adm) NOEXEC: /bin/ls, (!#0) TOOLS;STAFF, bob WEB, web1 = (:ALL) /bin/;ALL, bob 10.1.0.0/16, !WEB = SETENV: /bin/id;!bob WEB, !ALL = (:!ALL) SETENV: !/bin/id, (ALL, DB) NOEXEC: ALL, LOG_INPUT: !/bin/ls | bob,web1,,,/bin/ls, | allow 6,
+ALL ALL = (#0, OP) NOEXEC: !/bin/[il]*, (:ALL) NOEXEC: ALL;STAFF, !%adm !web1 = SETENV: SAFE, (:ALL) SETENV: ALL;!STAFF, %adm !10.1.0.0/16 = (#0:!ALL) NOEXEC: /bin/;%#37 !10.1.0.0/16, !ALL = (operator) NOPASSWD: !/bin/ls, /bin/, (:!ALL) !/bin/su | bob,web1,,adm,/bin/su, | allow 5 NOEXEC SETENV,
+ADMINS WEB = (:adm) ALL, (:ALL) NOEXEC: !/bin/;ADMINS, ALL ALL, web1 = TOOLS, (:ALL) SETENV: /bin/ls;!ALL ALL, web1 = SAFE, (:ALL) NOEXEC: TOOLS;STAFF ALL = (#0, operator) SETENV: !/bin/id, (#0, #0) ALL, (:adm) !/bin/ | alice,web1,operator,,/bin/id, | deny 8,
+alice ALL, !web2 = (operator, DB) SETENV: ALL;%adm, ALL ALL = (!operator:adm) LOG_INPUT: !/bin/;ALL ALL = (!root, ALL) LOG_INPUT: !/bin/su;!%adm web2, WEB = (operator) /bin/id, (!DB:!adm) /bin/[il]*, (!ALL, DB) !ALL | alice,web1,,adm,/bin/id, | deny 6,
+#1000, ALL !web2 = (!#0:!ALL) NOEXEC: /bin/id;!ADMINS, !%#37 !web1 = /bin/;ALL !WEB, !WEB = (!#0:!operator) SETENV: /bin/ls, (:operator) NOPASSWD: SAFE, LOG_INPUT: /bin/ls;ALL ALL, ALL = (ALL:ALL) NOEXEC: !ALL, (:ALL) /bin/ls | alice,web1,,,/bin/su, | deny 8,
+!ALL WEB, ALL = (!ALL, !OP) SETENV: !/bin/su;STAFF, ALL 10.1.0.0/16, web2 = !/bin/su, (!OP:operator) NOPASSWD: TOOLS;ALL WEB, ALL = (DB:ALL) /bin/[il]*, (ALL) !/bin/, NOPASSWD: /bin/id;alice ALL, WEB = NOPASSWD: /bin/, LOG_INPUT: !ALL, (ALL:!adm) SETENV: /bin/ls | alice,web1,,,/bin/id, | deny 8,
+!ALL, !#1000 ALL = (#0, !OP) /bin/ls, (ALL:operator) /bin/su, NOPASSWD: /bin/[il]*;STAFF ALL, 10.1.0.0/16 = (OP, root) !SAFE, SETENV: /bin/ls;ALL !ALL = (:!operator) SETENV: ALL, (OP) LOG_INPUT: SAFE;!ADMINS, #1000 ALL = (ALL, #0) TOOLS, (!DB, root) /bin/ls, SAFE | alice,web1,,,/bin/ls, | allow 8,
+%adm, ADMINS !ALL = (root:!ALL) LOG_INPUT: !/bin/, (:!operator) /bin/ls, (:!adm) /bin/su;alice, ADMINS web1, ALL = LOG_INPUT: TOOLS, (:operator) SETENV: /bin/id;alice WEB = /bin/;ALL, %adm web2 = NOEXEC: SAFE, /bin/ls, (!#0, !DB) SETENV: SAFE | alice,web1,,,/bin/su, | allow 7,
+!ADMINS, #1000 !web2 = (DB, !operator) !SAFE;ALL 10.1.0.0/16, !ALL = (OP, !ALL) /bin/[il]*, /bin/[il]*, LOG_INPUT: /bin/su;alice, %#37 ALL = (:ALL) NOPASSWD: !/bin/id, NOEXEC: /bin/[il]*;!ALL, alice !web2, ALL = (:!ALL) ALL | alice,web1,,adm,/bin/id, | allow 7 NOEXEC NOPASSWD,
+#1000 web2 = NOPASSWD: !/bin/su;STAFF, %#37 web2, !WEB = SETENV: TOOLS, (DB:!ALL) NOEXEC: !/bin/;alice, !ALL web1 = (:ALL) !/bin/;ALL web2, !ALL = (ALL:operator) NOPASSWD: !/bin/id, (DB, operator) !/bin/ls | bob,web2,root,,/bin/su, | deny 6,
+%adm, #1000 web1 = (operator:ALL) LOG_INPUT: SAFE;ADMINS ALL = LOG_INPUT: !SAFE, (!operator, root) /bin/su, (OP) NOEXEC: /bin/;ALL web1 = (!ALL, OP) NOPASSWD: !/bin/id, (!root, root) SAFE;#1000, !ALL !WEB, web1 = (!#0:ALL) SAFE, (:adm) NOPASSWD: ALL, (OP:adm) LOG_INPUT: TOOLS | alice,web1,,operator,/bin/id, | allow 5 LOG_INPUT,
+ALL ALL, ALL = /bin/id, (OP:adm) !/bin/[il]*;!ADMINS !10.1.0.0/16 = (root) !SAFE, (operator) /bin/id;%adm ALL, ALL = (DB, !DB) NOPASSWD: /bin/, LOG_INPUT: /bin/id, (!root) LOG_INPUT: /bin/;ADMINS, %#37 ALL, web1 = (:ALL) SETENV: ALL, /bin/[il]*, (!DB, OP) SETENV: /bin/[il]* | alice,web2,operator,,/bin/ls, | allow 8 SETENV,
+!STAFF, !ADMINS web2 = (:adm) NOEXEC: /bin/su, (!ALL, !ALL) /bin/ls, (:ALL) LOG_INPUT: /bin/[il]*;#1000, !%#37 ALL, WEB = (:!operator) !/bin/[il]*, TOOLS;alice web1, 10.1.0.0/16 = (ALL) LOG_INPUT: !ALL, (#0) LOG_INPUT: !/bin/ls, (:!adm) TOOLS;#1000, %#37 ALL = (ALL:ALL) /bin/id, (!#0, root) !/bin/id, (!operator, #0) !ALL | alice,web1,,operator,/bin/id, | allow 8,
+ADMINS, !%adm !WEB = (!root, OP) /bin/[il]*;!%#37 !WEB, 10.1.0.0/16 = (!#0:!operator) NOPASSWD: /bin/ls;!%adm !WEB, web1 = (:operator) LOG_INPUT: SAFE, (OP) SETENV: SAFE;ADMINS, bob ALL, web1 = (root, OP) !/bin/, (DB, !ALL) NOPASSWD: !/bin/, (!root:operator) /bin/ | alice,web2,,,/bin/su, | deny 8,
+STAFF, !%adm web2, web1 = NOEXEC: !/bin/id;bob 10.1.0.0/16 = (:!ALL) !ALL, (!DB, !OP) LOG_INPUT: /bin/ls;!STAFF, !%adm WEB = (#0:operator) !TOOLS, TOOLS, NOPASSWD: !/bin/;!ALL ALL, !10.1.0.0/16 = (!#0) !TOOLS, (!OP:!operator) !/bin/su, !/bin/id | bob,web1,,,/bin/id, | deny 6,
+ALL 10.1.0.0/16 = (OP, #0) NOPASSWD: /bin/id, (:operator) ALL;!ALL web2, 10.1.0.0/16 = SAFE, /bin/[il]*;bob web1 = (:operator) NOEXEC: !/bin/id, (:ALL) NOEXEC: /bin/;%adm, alice !WEB, !ALL = /bin/ls, (#0:adm) !/bin/[il]* | alice,web1,,adm,/bin/ls, | allow 5 NOPASSWD SETENV,
+ALL, !bob web1 = (OP, ALL) !/bin/[il]*;!ALL, ALL web1, !web1 = (!root, DB) /bin/id, (ALL:!adm) !ALL;ALL, !ALL web2 = (ALL, ALL) LOG_INPUT: !/bin/, (!ALL) LOG_INPUT: /bin/id;ALL, !#1000 !web2 = NOPASSWD: !/bin/[il]*, (#0) !SAFE | alice,web1,root,,/bin/id, | deny 5,
+alice !WEB = (DB) !SAFE, (:adm) LOG_INPUT: /bin/[il]*;%adm web2, ALL = (!root, #0) /bin/ls, (ALL) !ALL, (OP) TOOLS;alice web1 = /bin/, !/bin/id;STAFF, !ADMINS !WEB, ALL = (:!adm) /bin/ls, SAFE, (:ALL) LOG_INPUT: SAFE | bob,web2,,operator,/bin/id, | allow 8 LOG_INPUT,
+ALL, #1000 ALL, ALL = LOG_INPUT: /bin/, (ALL:ALL) SETENV: /bin/ls, ALL;ALL ALL, ALL = (OP:operator) LOG_INPUT: !/bin/, (:adm) SETENV: ALL;STAFF !web1 = (#0, OP) NOPASSWD: /bin/ls;STAFF, %adm web1 = TOOLS, (ALL) LOG_INPUT: ALL, (:adm) LOG_INPUT: SAFE | alice,web1,root,,/bin/id, | allow 8 LOG_INPUT SETENV,"#;
+
+#[test]
+fn the_bodies_agree_on_random_rules(rt: HostRuntime) -> Result<(), Fail> {
+    rows_hold_behind(rt.alloc(), ALIASES, RANDOM_RULES)
+}
+
+// Writes 1,300 rules, each for another command and for the group of its number's last two digits.
+fn long(alloc: Global) -> Result<String, Fail> {
+    let mut text = String::new(alloc);
+    for number in 0..1300u32 {
+        let line = format!(in alloc; "%g{} ALL = /bin/c{number}\n", number % 100)?;
+        text.push_str(line.as_str())?;
+    }
+    Ok(text)
+}
+
+#[test]
+fn users_may_have_many_groups_and_policies_many_rules(rt: HostRuntime) -> Result<(), Fail> {
+    let alloc = rt.alloc();
+    let directory = directory_of_many_groups(alloc)?;
+    let policy = long(alloc)?;
+    holds(
+        alloc,
+        &directory,
+        policy.as_str(),
+        "many,web1,,,/bin/c0,\nmany,web1,,,/bin/c700,\nmany,web1,,,/bin/c1299,\nmany,web1,,,/bin/c,\nalice,web1,,,/bin/c0,",
+        "allow 1,allow 701,allow 1300,nomatch,nomatch,",
+    )
+}
+
+// Writes 100 rules, the n-th for the commands that begin with n letters a.
+fn beginnings(alloc: Global) -> Result<String, Fail> {
+    let mut text = String::new(alloc);
+    let mut name = String::new(alloc);
+    for _ in 0..100u32 {
+        name.push_str("a")?;
+        let line = format!(in alloc; "alice ALL = /bin/{}*\n", name.as_str())?;
+        text.push_str(line.as_str())?;
+    }
+    Ok(text)
+}
+
+#[test]
+fn commands_may_have_many_beginnings(rt: HostRuntime) -> Result<(), Fail> {
+    let alloc = rt.alloc();
+    let directory = directory(alloc)?;
+    let policy = beginnings(alloc)?;
+    holds(
+        alloc,
+        &directory,
+        policy.as_str(),
+        "alice,web1,,,/bin/aaaaaaaaaaaaaaaaaaaaaaaaaaaaaaaaaaaaaaaaaaaaaaaaaaaaaaaaaaaaaaaaaaaaaaaaaaaaaaaa,\nalice,web1,,,/bin/aaab,\nalice,web1,,,/bin/b,",
+        "allow 80,allow 3,nomatch,",
+    )
 }
