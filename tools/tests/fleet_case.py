@@ -40,10 +40,15 @@ class FleetCase(Case):
         for sender in senders or [name]:
             self.write(f"fleet/{name}/requests/{sender}.csv", requests((1, 2, 3), 3))
 
-    def hosts(self, count: int, policy: str = POLICY) -> None:
+    def hosts(self, count: int) -> None:
         """Makes hosts of one sender each."""
         for number in range(count):
-            self.host(f"host{number:02}", policy)
+            self.host(f"host{number:02}")
+
+    def hosts_with_one_that_waits(self, count: int) -> None:
+        """Makes hosts of one sender each, the last of which is judged once the test's folder has a file `go`."""
+        self.hosts(count)
+        self.host(f"host{count - 1:02}", POLICY + f"# stub wait {self.path('go')}\n")
 
     def fleet(self, *words: str, status: int = 0) -> tuple[str, str]:
         """Runs the command."""

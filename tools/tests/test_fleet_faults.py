@@ -7,8 +7,6 @@ import unittest
 from fleet_case import POLICY, FleetCase
 from support import needs_dask
 
-SLOW = POLICY + "# stub sleep 0.2\n"
-
 
 @needs_dask
 class Workers(FleetCase):
@@ -42,24 +40,26 @@ class Workers(FleetCase):
 
     def test_a_shard_that_takes_too_long_or_finds_no_memory(self) -> None:
         self.hosts(4)
-        self.host("slow", POLICY + "# stub sleep 1.5\n")
+        self.host("slow", POLICY + "# stub sleep 600\n")
         self.host("hungry", POLICY + "# stub memory\n")
-        self.fleet("--workers", "4", "--limit", "0.5", status=1)
+        self.fleet("--workers", "4", "--limit", "10", status=1)
         self.assertEqual(
             self.rows("out", "status.csv")[5:],
-            ["hungry,1,failed,0,sudo_audit: out of memory", "slow,1,failed,0,took more than 0.5 s"],
+            ["hungry,1,failed,0,sudo_audit: out of memory", "slow,1,failed,0,took more than 10 s"],
         )
         self.want_as_one_machine(without=["hungry", "slow"])
         self.host("hungry")
+        self.host("slow")
         self.assertIn("fleet: 2 shards of 6 hosts", self.fleet("--part", "1/1")[1])
         self.fleet("--join")
         self.want_as_one_machine()
 
     def test_a_folder_that_changes_under_the_run(self) -> None:
-        self.hosts(12, SLOW)
+        self.hosts_with_one_that_waits(12)
         running = self.start("--workers", "4")
         self.wait_until(lambda: os.path.exists(self.path("out", "shards", "host00.1.shard")))
-        self.host("host00", SLOW + "jen ALL = ALL\n", senders=["host00", "more"])
+        self.host("host00", POLICY + "jen ALL = ALL\n", senders=["host00", "more"])
+        self.write("go", "")
         out, _ = running.communicate()
         self.assertEqual(running.returncode, 3, out)
         self.assertIn("fleet: host00/1: its inputs, or the program, changed after its audit", out)
@@ -69,11 +69,12 @@ class Workers(FleetCase):
         self.want_as_one_machine()
 
     def test_a_run_that_is_cut_off(self) -> None:
-        self.hosts(12, SLOW)
+        self.hosts_with_one_that_waits(12)
         running = self.start("--workers", "4")
         self.wait_until(lambda: self.results() > 2)
         running.kill()
         running.communicate()
+        self.write("go", "")
         self.assertFalse(os.path.exists(self.path("out", "report.csv")))
         stood = self.results()
         self.assertIn(f"fleet: {12 - stood} shards of 12 hosts", self.fleet("--part", "1/1")[1])
@@ -89,12 +90,17 @@ class Schedulers(FleetCase):
         """Starts a scheduler and four workers; the first has a disk that takes no large file."""
         place = ("--host", "127.0.0.1", "--port", "0", "--dashboard-address", "127.0.0.1:0")
         self.running = self.process("dask-scheduler", *place, "--scheduler-file", "at.json")
-        self.wait_until(lambda: os.path.exists(self.path("at.json")))
-        self.address = re.search(r'"address": "([^"]*)"', self.read("at.json"))[1]
+        self.wait_until(lambda: self.address_in("at.json") is not None)
+        self.address = self.address_in("at.json")
         for number in range(4):
             limit = "ulimit -f 8; " if full and number == 0 else ""
             words = f"--no-nanny --nthreads 1 --no-dashboard --local-directory w{number}"
             self.process("bash", "-c", f"{limit}exec dask-worker {self.address} {words}")
+
+    def address_in(self, name: str) -> str | None:
+        """Returns the scheduler's address, if the file is there and has it already."""
+        found = os.path.exists(self.path(name)) and re.search(r'"address": "([^"]*)"', self.read(name))
+        return found[1] if found else None
 
     def test_a_disk_that_is_full(self) -> None:
         self.hosts(24)
@@ -104,12 +110,13 @@ class Schedulers(FleetCase):
         self.want_as_one_machine()
 
     def test_a_scheduler_that_goes_away(self) -> None:
-        self.hosts(12, SLOW)
+        self.hosts_with_one_that_waits(12)
         self.scheduler()
         running = self.start("--scheduler", self.address)
         self.wait_until(lambda: self.results() > 2)
         self.running.kill()
         out, _ = running.communicate(timeout=60)
+        self.write("go", "")
         self.assertEqual(running.returncode, 4, out)
         first, last = out.splitlines()
         self.assertRegex(first, r"^fleet: the scheduler's page: http://")

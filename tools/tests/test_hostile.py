@@ -45,8 +45,8 @@ class Hostile(Case):
             self.assertRegex(cell, r"^([0-9]+(\.[0-9]+)?)?$")
 
     def test_a_run_that_does_not_end(self) -> None:
-        rows = self.table('[ "$1" = --help ] || exec sleep 60', "--seconds", "0.5", "chain")
-        self.assertEqual([row[3:7] for row in rows], [["over 0.5 s", "", "", ""]])
+        rows = self.table('[ "$1" = --help ] || exec sleep 60', "--seconds", "3", "chain")
+        self.assertEqual([row[3:7] for row in rows], [["over 3 s", "", "", ""]])
 
     def test_words(self) -> None:
         self.assertIn("no input x; there are plain-check, ", self.run_tool(HOSTILE, "x", status=2)[1])

@@ -41,8 +41,8 @@ class Soak(Case):
             self.assertTrue(os.path.exists(self.path("soak-kept", name)), name)
 
     def test_a_hang(self) -> None:
-        out = self.soak('[ "$1" = check ] && exec sleep 60; echo ok', "--seconds", "0.5")
-        self.assertIn("seed 7: check: no end within 0.5 s\n", out)
+        out = self.soak('[ "$1" = check ] && exec sleep 60; echo ok', "--seconds", "3")
+        self.assertIn("seed 7: check: no end within 3 s\n", out)
 
     def test_a_status_above_4(self) -> None:
         out = self.soak('[ "$1" = audit ] && echo said && echo complaint >&2 && exit 5; echo ok')
