@@ -61,17 +61,17 @@ class Gate(Case):
         """Writes the stub of `rt`, which has to be called as `rt ci`."""
         self.runnable("bin/rt", f'#!/bin/sh\n[ "$*" = ci ] || exit 9\n{text}')
 
-    def start(self) -> subprocess.Popen[str]:
-        """Starts the gate on the test's folder."""
-        environment = {name: value for name, value in os.environ.items() if name != "SUDO_AUDIT"}
-        environment["PATH"] = f"{self.path('bin')}:/usr/bin:/bin"
+    def start(self, **more: str) -> subprocess.Popen[str]:
+        """Starts the gate on the test's folder, with more variables of its environment."""
+        environment = {name: value for name, value in os.environ.items() if name not in ("SUDO_AUDIT", "RT_JOBS")}
+        environment |= {"PATH": f"{self.path('bin')}:/usr/bin:/bin", **more}
         words = [os.path.join(TOOLS, "gate"), "--repository", self.folder]
         streams = {"stdout": subprocess.PIPE, "stderr": subprocess.STDOUT}
         return subprocess.Popen(words, env=environment, text=True, **streams)
 
-    def gate(self, status: int) -> list[str]:
+    def gate(self, status: int, **more: str) -> list[str]:
         """Runs the gate, and returns the lines that it prints."""
-        with self.start() as child:
+        with self.start(**more) as child:
             lines = child.communicate()[0].splitlines()
         self.assertEqual(child.returncode, status, lines)
         return lines
@@ -119,6 +119,13 @@ class Gate(Case):
         lines = self.gate(1)
         self.assertIn("gate: rt ci ended with status 7", lines)
         self.assertEqual(lines[-1], "5 passed, 1 failed")
+
+    def test_checks_at_once(self) -> None:
+        self.rt(f'{self.build()}echo "$RT_JOBS"; echo 3 passed, 0 failed\n')
+        self.assertIn(int(self.gate(0)[0]), range(1, len(os.sched_getaffinity(0)) + 1))
+        lines = self.gate(0, RT_JOBS="7")
+        self.assertEqual(lines[0], "7")
+        self.assertTrue(lines[-2].endswith(", by 7 checks at a time"), lines[-2])
 
     def test_no_tests(self) -> None:
         os.unlink(self.path("tools/tests/test_samples.py"))
