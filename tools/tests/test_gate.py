@@ -82,12 +82,14 @@ class Gate(Case):
         return f"mkdir -p {out} && cp {self.path('bin', 'rt')} {out}/sudo_audit\n"
 
     def test_the_sum_is_the_last_line(self) -> None:
-        self.rt(f"{self.build()}echo proved; echo 3 passed, 0 failed; echo 40 passed, 0 failed\n")
+        said = ["rt: low proved", "rt: low: its tests are proved", "3 passed, 0 failed"]
+        self.rt(self.build() + "".join(f"echo {line}\n" for line in [*said, "40 passed, 0 failed"]))
         lines = self.gate(0)
-        self.assertEqual(lines[:2], ["proved", "3 passed, 0 failed"])
-        self.assertEqual(lines[2], f"gate: the tests of the tools use {BUILT}")
-        self.assertEqual(lines[3], "prepared")
-        self.assertEqual(lines[-3], "skipped: test_samples.Samples.test_is_skipped: no moon")
+        self.assertEqual(lines[:3], said)
+        self.assertEqual(lines[3], f"gate: the tests of the tools use {BUILT}")
+        self.assertEqual(lines[4], "prepared")
+        self.assertEqual(lines[-4], "skipped: test_samples.Samples.test_is_skipped: no moon")
+        self.assertEqual(lines[-3], "gate: proved after minutes: low 0, low (tests) 0")
         self.assertRegex(lines[-2], r"^gate: rt ci took [0-9.]+ min \([0-9.]+ min of processor time\), and all of it [0-9.]+ min")
         self.assertEqual(lines[-1], "42 passed, 0 failed")
         self.assertNotIn("40 passed, 0 failed", lines)

@@ -29,7 +29,10 @@ def all_below(folder):
 
 def run(*words, **options):
     """Runs a command that has to succeed, and returns what it prints."""
-    return subprocess.run(words, check=True, capture_output=True, text=True, **options).stdout
+    ended = subprocess.run(words, capture_output=True, text=True, **options)
+    if ended.returncode != 0:
+        raise AssertionError(f"{words} ended with status {ended.returncode}: {ended.stderr}")
+    return ended.stdout
 
 
 class Installed(unittest.TestCase):
@@ -94,9 +97,8 @@ class Installed(unittest.TestCase):
         self.assertEqual(all_below(self.root), [])
 
     def test_uninstall_of_nothing_says_so(self):
-        with self.assertRaises(subprocess.CalledProcessError) as raised:
+        with self.assertRaisesRegex(AssertionError, "nothing is installed"):
             self.do("uninstall")
-        self.assertIn("nothing is installed", raised.exception.stderr)
 
     def test_installed_lint_finds_the_installed_program(self):
         self.do("install", "/opt/k")
