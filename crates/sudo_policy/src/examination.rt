@@ -67,15 +67,27 @@ pub(crate) fn examine(alloc: Global, policy: &Policy) -> Result<Examination, All
         → IsSound policy.now) }
 {
     let survey = survey_policy(alloc, policy)?;
+    let findings = findings_of(alloc, policy, &survey)?;
+    Ok(Examination {
+        findings,
+        index: survey.index,
+    })
+}
+
+// Returns the findings on a policy of this survey.
+fn findings_of(
+    alloc: Global,
+    policy: &Policy,
+    survey: &Survey<'_>,
+) -> Result<Vec<Finding>, AllocError>
+    requires { IsSurvey policy.now (policies.definitions policy.now) survey.now }
+    ensures findings { IfOk result (λ found. AreFindings policy.now found.items) }
+    ensures sound { IfOk result (λ found. has_error found.items ≡ false → IsSound policy.now) }
+{
     let Uses { roots, undefined } = used_names(alloc, policy, &survey.index)?;
-    let judged = judge(alloc, &survey, roots.as_slice())?;
-    let findings = collect_findings(alloc, &survey, undefined, &judged)?;
-    let Survey {
-        aliases: _,
-        redefinitions: _,
-        index,
-    } = survey;
-    Ok(Examination { findings, index })
+    let judged = judge(alloc, survey, roots.as_slice())?;
+    let findings = collect_findings(alloc, survey, undefined, &judged)?;
+    Ok(findings)
 }
 
 // Returns what the lists of a policy use, by the names' numbers.

@@ -132,6 +132,19 @@ fn named(alloc: Global, checked: &Checked, wanted: Kind) -> Result<Numbers, Allo
     Ok(Numbers::new(names))
 }
 
+// Numbers the aliases that definitions of two kinds name. (Four owned values and as many `?` in one function take longer to
+// prove.) Returns `AllocError` if allocation fails.
+fn named_both(
+    alloc: Global,
+    checked: &Checked,
+    one: Kind,
+    other: Kind,
+) -> Result<(Numbers, Numbers), AllocError> {
+    let of_one = named(alloc, checked, one)?;
+    let of_other = named(alloc, checked, other)?;
+    Ok((of_one, of_other))
+}
+
 // Whether the list names more than one alias.
 fn names_several(members: &[Member]) -> bool {
     let mut has_one = false;
@@ -170,11 +183,13 @@ impl Aliases {
         if !branches(checked) {
             return Ok(None);
         }
+        let (users, runas) = named_both(alloc, checked, Kind::User, Kind::Runas)?;
+        let (hosts, commands) = named_both(alloc, checked, Kind::Host, Kind::Cmnd)?;
         Ok(Some(Aliases {
-            users: named(alloc, checked, Kind::User)?,
-            runas: named(alloc, checked, Kind::Runas)?,
-            hosts: named(alloc, checked, Kind::Host)?,
-            commands: named(alloc, checked, Kind::Cmnd)?,
+            users,
+            runas,
+            hosts,
+            commands,
         }))
     }
 
