@@ -1,21 +1,38 @@
 //! Users files, hosts files and requests files, from their bytes.
 
-use audit_files::{FileFault, Script, read_hosts, read_requests, read_users};
-use std::alloc::Global;
+use audit_files::{FileFault, Requests, Script, read_hosts, read_requests, read_users};
+use std::alloc::{AllocError, Global};
 use std::test::Fail;
-use sudo_match::Person;
+use sudo_match::{Machine, Person};
 
 const HEADER: &str = "number,user,host,runas_user,runas_group,command,arguments\n";
 
 const ROWS: &str =
     "1,alice,web1.example.org,,,/bin/kill,-9 7\n2,carol,web1.example.org,,,/bin/kill,\nclose,2,,,,,\n";
 
+// Reads the requests of a text, of which a call reads at most this many bytes.
+fn requests_of(alloc: Global, text: &[u8], size: usize) -> Result<Requests, FileFault> {
+    let mut reader = Script::of(alloc, text, size)?;
+    read_requests(alloc, &mut reader)
+}
+
+// Reads the users of a text.
+fn users_of(alloc: Global, text: &[u8], size: usize) -> Result<Vec<Person>, FileFault> {
+    let mut reader = Script::of(alloc, text, size)?;
+    read_users(alloc, &mut reader)
+}
+
+// Reads the hosts of a text.
+fn hosts_of(alloc: Global, text: &[u8], size: usize) -> Result<Vec<Machine>, FileFault> {
+    let mut reader = Script::of(alloc, text, size)?;
+    read_hosts(alloc, &mut reader)
+}
+
 // Returns the fault of a requests file with these rows.
 fn fault_of(alloc: Global, rows: &str) -> Result<Option<FileFault>, Fail> {
     let mut text = String::from_str(alloc, HEADER)?;
     text.push_str(rows)?;
-    let mut reader = Script::of(alloc, text.as_str().as_bytes(), 7)?;
-    match read_requests(alloc, &mut reader) {
+    match requests_of(alloc, text.as_str().as_bytes(), 7) {
         Ok(_) => Ok(None),
         Err(fault) => Ok(Some(fault)),
     }
@@ -27,8 +44,7 @@ fn reads_requests(rt: HostRuntime) -> Result<(), Fail> {
     let mut text = String::from_str(alloc, HEADER)?;
     text.push_str(ROWS)?;
     assert!(rt; text.len() == 151);
-    let mut reader = Script::of(alloc, text.as_str().as_bytes(), 7)?;
-    let requests = read_requests(alloc, &mut reader)?;
+    let requests = requests_of(alloc, text.as_str().as_bytes(), 7)?;
     assert!(rt; requests.list.len() == 2 && requests.close == Some(2));
     let first = &requests.list.as_slice()[0];
     assert!(rt; first.number == 1 && first.arguments.as_slice() == b"-9 7".as_slice());
@@ -87,8 +103,7 @@ fn names_what_is_cut_off(rt: HostRuntime) -> Result<(), Fail> {
             assert!(rt; false);
             return Ok(());
         };
-        let mut reader = Script::of(alloc, cut, 16)?;
-        let read = match read_requests(alloc, &mut reader) {
+        let read = match requests_of(alloc, cut, 16) {
             Ok(requests) => Ok(requests.close),
             Err(fault) => Err(fault),
         };
@@ -103,15 +118,13 @@ fn reads_as_csv_reads(rt: HostRuntime) -> Result<(), Fail> {
     // A byte order mark, quoted fields, line ends of two bytes, and an empty line, which is no record.
     let text =
         "\u{feff}\"number\",user,host,runas_user,runas_group,command,arguments\r\n\r\n1,\"al\"\"ice\",h,,,/bin/ls,\"a,b\"\r\n0,,,,,,\r\n";
-    let mut reader = Script::of(alloc, text.as_bytes(), 16)?;
-    let read = read_requests(alloc, &mut reader);
+    let read = requests_of(alloc, text.as_bytes(), 16);
     assert!(rt; matches!(read, Err(FileFault::BadRow { row: 3 })));
     let Some(first) = text.as_bytes().get(..97) else {
         assert!(rt; false);
         return Ok(());
     };
-    let mut reader = Script::of(alloc, first, 16)?;
-    let requests = read_requests(alloc, &mut reader)?;
+    let requests = requests_of(alloc, first, 16)?;
     let [request] = requests.list.as_slice() else {
         assert!(rt; false);
         return Ok(());
@@ -121,22 +134,25 @@ fn reads_as_csv_reads(rt: HostRuntime) -> Result<(), Fail> {
     Ok(())
 }
 
+// Returns a reader of the header whose call of this number fails.
+fn failing(alloc: Global, call: u64) -> Result<Script, AllocError> {
+    Ok(Script::of(alloc, HEADER.as_bytes(), 10)?.failing_at(call))
+}
+
 #[test]
 fn names_a_read_that_fails(rt: HostRuntime) -> Result<(), Fail> {
     let alloc = rt.alloc();
     // Reading the header takes seven reads, of which the last finds the end.
     for call in 1..8 {
-        let mut reader = Script::of(alloc, HEADER.as_bytes(), 10)?.failing_at(call);
-        assert!(rt; matches!(read_requests(alloc, &mut reader), Err(FileFault::Read)));
-        let mut reader = Script::of(alloc, HEADER.as_bytes(), 10)?.failing_at(call);
-        assert!(rt; matches!(read_users(alloc, &mut reader), Err(FileFault::Read)));
-        let mut reader = Script::of(alloc, HEADER.as_bytes(), 10)?.failing_at(call);
-        assert!(rt; matches!(read_hosts(alloc, &mut reader), Err(FileFault::Read)));
+        let requests = read_requests(alloc, &mut failing(alloc, call)?);
+        assert!(rt; matches!(requests, Err(FileFault::Read)));
+        let users = read_users(alloc, &mut failing(alloc, call)?);
+        assert!(rt; matches!(users, Err(FileFault::Read)));
+        let hosts = read_hosts(alloc, &mut failing(alloc, call)?);
+        assert!(rt; matches!(hosts, Err(FileFault::Read)));
     }
-    let mut reader = Script::of(alloc, HEADER.as_bytes(), 10)?.failing_at(8);
-    assert!(rt; read_requests(alloc, &mut reader).is_ok());
-    let mut reader = Script::of(alloc, b"number\n", 10)?;
-    assert!(rt; matches!(read_requests(alloc, &mut reader), Err(FileFault::Header)));
+    assert!(rt; read_requests(alloc, &mut failing(alloc, 8)?).is_ok());
+    assert!(rt; matches!(requests_of(alloc, b"number\n", 10), Err(FileFault::Header)));
     Ok(())
 }
 
@@ -144,25 +160,15 @@ fn names_a_read_that_fails(rt: HostRuntime) -> Result<(), Fail> {
 fn reads_users(rt: HostRuntime) -> Result<(), Fail> {
     let alloc = rt.alloc();
     let text = b"user,uid,groups\nroot,0,root:0\nalice,1000,alice:1000 adm:4\nbob,1001,\n";
-    let mut reader = Script::of(alloc, text, 9)?;
-    let users = read_users(alloc, &mut reader)?;
+    let users = users_of(alloc, text, 9)?;
     assert!(rt; users.len() == 3);
     assert!(rt; users[1].groups.len() == 2 && users[2].groups.len() == 0);
     assert!(rt; users[1].groups.as_slice()[1].gid == 4);
-    let mut reader = Script::of(alloc, b"user,uid,groups\neve,x,eve:2\n", 9)?;
-    assert!(rt;
-        matches!(
-            read_users(alloc, &mut reader),
-            Err(FileFault::BadRow { row: 2 })
-        )
-    );
-    let mut reader = Script::of(alloc, b"user,uid,groups\neve,1,eve:2  adm:4\n", 9)?;
-    assert!(rt;
-        matches!(
-            read_users(alloc, &mut reader),
-            Err(FileFault::BadRow { row: 2 })
-        )
-    );
+    for row in ["eve,x,eve:2", "eve,1,eve:2  adm:4"] {
+        let text = format!(in alloc; "user,uid,groups\n{row}\n")?;
+        let users = users_of(alloc, text.as_str().as_bytes(), 9);
+        assert!(rt; matches!(users, Err(FileFault::BadRow { row: 2 })));
+    }
     Ok(())
 }
 
@@ -208,20 +214,25 @@ const MEMBERSHIPS: [(&str, Result<&str, FileFault>); 24] = [
 ];
 
 // Returns the users, as the table writes them.
-fn written(alloc: Global, users: &[Person]) -> Result<String, Fail> {
+fn written(alloc: Global, users: &[Person]) -> Result<String, AllocError> {
     let mut text = String::new(alloc);
     for user in users {
-        let name = str::from_utf8(user.name.as_slice()).unwrap_or("?");
-        let uid = user.uid;
-        text.push_str(format!(in alloc; "{name} {uid}")?.as_str())?;
-        for group in user.groups.as_slice() {
-            let name = str::from_utf8(group.name.as_slice()).unwrap_or("?");
-            let gid = group.gid;
-            text.push_str(format!(in alloc; " {name}:{gid}")?.as_str())?;
-        }
-        text.push_str(";")?;
+        push_user(alloc, &mut text, user)?;
     }
     Ok(text)
+}
+
+// Appends a user as `name uid name:gid ..;`.
+fn push_user(alloc: Global, text: &mut String, user: &Person) -> Result<(), AllocError> {
+    let name = str::from_utf8(user.name.as_slice()).unwrap_or("?");
+    let uid = user.uid;
+    text.push_str(format!(in alloc; "{name} {uid}")?.as_str())?;
+    for group in user.groups.as_slice() {
+        let name = str::from_utf8(group.name.as_slice()).unwrap_or("?");
+        let gid = group.gid;
+        text.push_str(format!(in alloc; " {name}:{gid}")?.as_str())?;
+    }
+    text.push_str(";")
 }
 
 #[test]
@@ -229,8 +240,7 @@ fn reads_memberships(rt: HostRuntime) -> Result<(), Fail> {
     let alloc = rt.alloc();
     for (rows, expected) in MEMBERSHIPS {
         let text = format!(in alloc; "user,uid,gid,group\n{rows}")?;
-        let mut reader = Script::of(alloc, text.as_str().as_bytes(), 9)?;
-        match (read_users(alloc, &mut reader), expected) {
+        match (users_of(alloc, text.as_str().as_bytes(), 9), expected) {
             (Ok(users), Ok(expected)) => {
                 assert!(rt; written(alloc, users.as_slice())?.as_str() == expected);
             }
@@ -255,8 +265,8 @@ fn refuses_other_headers(rt: HostRuntime) -> Result<(), Fail> {
         "user,uid,gid",
     ];
     for header in headers {
-        let mut reader = Script::of(alloc, header.as_bytes(), 9)?;
-        assert!(rt; matches!(read_users(alloc, &mut reader), Err(FileFault::Header)));
+        let users = users_of(alloc, header.as_bytes(), 9);
+        assert!(rt; matches!(users, Err(FileFault::Header)));
     }
     Ok(())
 }
@@ -268,42 +278,27 @@ fn counts_the_rows_of_memberships(rt: HostRuntime) -> Result<(), Fail> {
     for _ in 0..100_000 {
         text.push_str("a,1,7,g\n")?;
     }
-    let mut reader = Script::of(alloc, text.as_str().as_bytes(), 65_536)?;
-    let users = read_users(alloc, &mut reader)?;
+    let users = users_of(alloc, text.as_str().as_bytes(), 65_536)?;
     assert!(rt; users.len() == 1 && users[0].groups.len() == 100_000);
-    text.push_str("a,1,7,g\n")?;
-    let mut reader = Script::of(alloc, text.as_str().as_bytes(), 65_536)?;
-    assert!(rt; matches!(read_users(alloc, &mut reader), Err(FileFault::TooMany)));
-    text.push_str("a,2,7,g\n")?;
-    let mut reader = Script::of(alloc, text.as_str().as_bytes(), 65_536)?;
-    assert!(rt; matches!(read_users(alloc, &mut reader), Err(FileFault::TooMany)));
+    for row in ["a,1,7,g\n", "a,2,7,g\n"] {
+        text.push_str(row)?;
+        let users = users_of(alloc, text.as_str().as_bytes(), 65_536);
+        assert!(rt; matches!(users, Err(FileFault::TooMany)));
+    }
     Ok(())
 }
 
 #[test]
 fn reads_hosts(rt: HostRuntime) -> Result<(), Fail> {
     let alloc = rt.alloc();
-    let mut reader = Script::of(
-        alloc,
-        b"host,interfaces\nweb1,10.1.2.3/16 127.0.0.1/8\nweb2,\n",
-        9,
-    )?;
-    let hosts = read_hosts(alloc, &mut reader)?;
+    let text = b"host,interfaces\nweb1,10.1.2.3/16 127.0.0.1/8\nweb2,\n";
+    let hosts = hosts_of(alloc, text, 9)?;
     assert!(rt; hosts.len() == 2 && hosts[0].interfaces.len() == 2);
     assert!(rt; hosts[0].interfaces.as_slice()[0].addr == 0x0a01_0203);
-    let mut reader = Script::of(alloc, b"host,interfaces\nweb1,10.1.2.256/16\n", 9)?;
-    assert!(rt;
-        matches!(
-            read_hosts(alloc, &mut reader),
-            Err(FileFault::BadRow { row: 2 })
-        )
-    );
-    let mut reader = Script::of(alloc, b"host,interfaces\nweb1,10.1.2.3/33\n", 9)?;
-    assert!(rt;
-        matches!(
-            read_hosts(alloc, &mut reader),
-            Err(FileFault::BadRow { row: 2 })
-        )
-    );
+    for row in ["web1,10.1.2.256/16", "web1,10.1.2.3/33"] {
+        let text = format!(in alloc; "host,interfaces\n{row}\n")?;
+        let hosts = hosts_of(alloc, text.as_str().as_bytes(), 9);
+        assert!(rt; matches!(hosts, Err(FileFault::BadRow { row: 2 })));
+    }
     Ok(())
 }
