@@ -74,7 +74,7 @@ pub(crate) fn examine(alloc: Global, policy: &Policy) -> Result<Examination, All
     })
 }
 
-// Returns the findings on a policy of this survey.
+// Returns the findings on a policy of this survey, or `AllocError` if allocation fails.
 fn findings_of(
     alloc: Global,
     policy: &Policy,
