@@ -4,8 +4,7 @@ use crate::fixtures::{Ground, make_ground, requests_file, shown};
 use crate::order_trials::{Step, in_order, roster, two_and_one};
 use crate::queue_trials::used;
 use crate::report_trials::{TWO_ANSWERS, two_answers, two_files};
-use crate::rows::sources;
-use crate::source_trials::{REPORT, SOURCES};
+use crate::rows::{REPORT, SOURCES, sources};
 use audit_collect::{Arrival, Collector, Refused, Report};
 use audit_files::{
     FileFault, Requests, Script, read_hosts, read_requests, read_users, report_text, write_all_of,

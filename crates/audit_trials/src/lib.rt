@@ -1,9 +1,7 @@
-//! Tests of whole audits, from the bytes of requests files to the text of the report, and of the
-//! parts of an audit: readers and writers, the CSV files, the collector in every order of arrival.
+//! Tests of audits that files alone do not show: threads, readers and writers, refused memory, and
+//! the collector in every order of arrival.
 #![tactic(auto)]
 
-#[cfg(test)]
-mod collector_trials;
 #[cfg(test)]
 mod device_trials;
 #[cfg(test)]
@@ -24,10 +22,6 @@ mod refusal_trials;
 mod report_trials;
 #[cfg(test)]
 mod rows;
-#[cfg(test)]
-mod size_trials;
-#[cfg(test)]
-mod source_trials;
 #[cfg(test)]
 mod standing_trials;
 #[cfg(test)]

@@ -1,8 +1,5 @@
-//! Audits as text: each line of a table has the sources, ` =>`, and the expected output.
-//!
-//! Sources are separated by `|`, each written as its name, a colon, and a word for each row of its
-//! file: `close=COUNT`, or the number of a request, `=`, and which request it is. A report is
-//! written as `report`, then its rows, with `;` for the end of each line.
+//! Sources as text: separated by `|`, each written as its name, a colon, and a word for each row of
+//! its file: `close=COUNT`, or the number of a request, `=`, and which request it is.
 
 ghost use Rattle.std.specs.Prelude.{◌≤◌};
 
@@ -15,6 +12,13 @@ use std::thread::Threads;
 
 /// The first line of a report.
 pub(crate) const HEAD: &str = "sender,number,verdict,line,tags\n";
+
+/// Sources of two senders, one of them in two parts.
+pub(crate) const SOURCES: &str = "s: 1=kill 3=su close=3 | t: 1=su close=1 | s: 2=stranger";
+
+/// The report on these sources.
+pub(crate) const REPORT: &str =
+    "sender,number,verdict,line,tags\ns,1,allow,sudoers:1,NOPASSWD\ns,2,unknown-user,,\ns,3,deny,sudoers:1,\nt,1,deny,sudoers:1,\n";
 
 // Returns the rest of a request's row after its number.
 fn request(which: &str) -> &'static str {
@@ -64,7 +68,7 @@ fn push_source(
     Ok(())
 }
 
-/// Returns the sources of a row.
+/// Returns the sources of a text.
 pub(crate) fn sources(alloc: Global, text: &str) -> Result<Vec<Source<Script>>, AllocError> {
     let mut sources = Vec::new(alloc);
     for source in text.split('|') {
@@ -73,7 +77,7 @@ pub(crate) fn sources(alloc: Global, text: &str) -> Result<Vec<Source<Script>>, 
     Ok(sources)
 }
 
-/// Audits the sources of a row, and returns the text that is printed.
+/// Audits the sources of a text, and returns what is printed.
 pub(crate) fn printed<R: Threads + Wait + Sync>(
     alloc: Global,
     rt: &R,
@@ -84,48 +88,4 @@ pub(crate) fn printed<R: Threads + Wait + Sync>(
 {
     let answer = audited(alloc, rt, sources(alloc, text)?, workers, &Open)?;
     shown(alloc, &answer)
-}
-
-// Returns a printed text, as a row writes it.
-fn folded(alloc: Global, text: &str) -> Result<String, AllocError> {
-    let Some(rows) = text.strip_prefix(HEAD) else {
-        return String::from_str(alloc, text);
-    };
-    let mut line = String::from_str(alloc, "report;")?;
-    for c in rows.chars() {
-        line.push(if c == '\n' { ';' } else { c })?;
-    }
-    Ok(line)
-}
-
-// Appends the row and its output, if that differs from the expected. Skips a line without ` =>`.
-fn check_row<R: Threads + Wait + Sync>(
-    alloc: Global,
-    rt: &R,
-    wrong: &mut String,
-    line: &str,
-) -> Result<(), Fail> {
-    let Some((sources, wanted)) = line.split_once(" =>") else {
-        return Ok(());
-    };
-    let text = printed(alloc, rt, sources, 2)?;
-    let found = folded(alloc, text.as_str())?;
-    if found.as_str() != wanted.trim() {
-        let text = format!(in alloc; "{line}, and not {found}\n")?;
-        wrong.push_str(text.as_str())?;
-    }
-    Ok(())
-}
-
-/// Returns the rows of a table whose output differs from the expected, each with its output.
-pub(crate) fn wrong_rows<R: Threads + Wait + Sync>(
-    alloc: Global,
-    rt: &R,
-    table: &str,
-) -> Result<String, Fail> {
-    let mut wrong = String::new(alloc);
-    for line in table.lines() {
-        check_row(alloc, rt, &mut wrong, line)?;
-    }
-    Ok(wrong)
 }

@@ -4,12 +4,10 @@
 ghost use Rattle.std.specs.Prelude.{◌≤◌};
 
 use crate::fixtures::{audited, shown};
-use crate::rows::{printed, sources};
-use crate::size_trials::thousand;
-use crate::source_trials::{REPORT, SOURCES};
+use crate::rows::{REPORT, SOURCES, printed, sources};
 use crate::standing_trials::wait_until;
 use audit_run::{Gate, Open};
-use std::alloc::Global;
+use std::alloc::{AllocError, Global};
 use std::sync::Wait;
 use std::sync::atomic::{AtomicU64, Ordering};
 use std::test::Fail;
@@ -61,6 +59,18 @@ impl Gate for Holding {
     fn after(&self, _sender: u32, _number: u32) {
         self.answered.fetch_add(1, Ordering::SeqCst);
     }
+}
+
+// Returns the words of a source with this name, with requests 1 to 1,000 and this close mark.
+fn thousand(alloc: Global, name: &str, close: u32) -> Result<String, AllocError> {
+    let mut text = format!(in alloc; "{name}:")?;
+    for number in 1..1001u32 {
+        let word = format!(in alloc; " {number}=kill")?;
+        text.push_str(word.as_str())?;
+    }
+    let word = format!(in alloc; " close={close}")?;
+    text.push_str(word.as_str())?;
+    Ok(text)
 }
 
 // Audits two sources of 1,000 requests each, and returns the output.

@@ -1,9 +1,10 @@
 //! Runs in which each read and each write fails in turn.
 
-use crate::audit_trials::{HOSTS, USERS};
-use crate::policy_trials::{Item, Shelf};
-use crate::runs::{FILES, ROWS, Readers, audit_shown, requests, shown, wrong_runs};
-use audit_commands::{Files, FilesFault, check_run, expand_run};
+use crate::runs::{
+    FILES, HOSTS, Item, REQUESTS, Readers, Shelf, USERS, audit_shown, check_shown, shown,
+    wrong_runs,
+};
+use audit_commands::{Files, FilesFault, expand_run};
 use audit_files::{ReadFault, Script, read_whole};
 use std::alloc::{AllocError, Global};
 use std::sync::Wait;
@@ -62,6 +63,15 @@ impl Files for Failing<'_> {
     }
 }
 
+// Returns readers of which this read of the file that the word names fails.
+fn readers(alloc: Global, word: &str, call: u64) -> Result<Readers, AllocError> {
+    Ok(Readers {
+        users: reader(alloc, USERS, call_of(word, "users", call))?,
+        hosts: reader(alloc, HOSTS, call_of(word, "hosts", call))?,
+        requests: reader(alloc, REQUESTS, call_of(word, "requests", call))?,
+    })
+}
+
 // Shows an audit in which this read of the file that the word names fails.
 fn audit_failing<T: Threads + Wait + Sync>(
     alloc: Global,
@@ -69,22 +79,13 @@ fn audit_failing<T: Threads + Wait + Sync>(
     word: &str,
     call: u64,
 ) -> Result<String, AllocError> {
-    let rows = requests(alloc, ROWS)?;
-    let mut readers = Readers::known(alloc)?;
-    readers.users = reader(alloc, USERS, call_of(word, "users", call))?;
-    readers.hosts = reader(alloc, HOSTS, call_of(word, "hosts", call))?;
-    readers.push(
-        alloc,
-        b"s",
-        reader(alloc, &rows, call_of(word, "requests", call))?,
-    )?;
     let mut files = Failing {
         items: &FILES,
         path: b"p",
         call: call_of(word, "policy", call),
     };
     let out = Script::of(alloc, b"", 1000)?;
-    audit_shown(alloc, rt, b"p", &mut files, readers, 2, out)
+    audit_shown(alloc, rt, &mut files, readers(alloc, word, call)?, out)
 }
 
 const AUDITS: &str = "users 1 13 => 4 ! sudo_audit: users: read failed;
@@ -111,12 +112,10 @@ const TWO_FILES: [Item<'static>; 2] = [
     Item {
         path: b"p",
         text: b"@include q\nalice ALL = LS\n",
-        names: b"",
     },
     Item {
         path: b"q",
         text: b"Cmnd_Alias LS = /bin/ls, UNDEF\n",
-        names: b"",
     },
 ];
 
@@ -127,10 +126,7 @@ fn check_failing(alloc: Global, path: &str, call: u64) -> Result<String, AllocEr
         path: path.as_bytes(),
         call,
     };
-    let mut out = Script::of(alloc, b"", 1000)?;
-    let mut err = Script::of(alloc, b"", 1000)?;
-    let status = check_run(alloc, b"p", &mut files, &mut out, &mut err);
-    shown(alloc, status, &out, &err)
+    check_shown(alloc, &mut files, Script::of(alloc, b"", 1000)?)
 }
 
 const CHECKS: &str = "p 1 4 => 4 ! sudo_audit: cannot read p;
@@ -150,46 +146,34 @@ fn each_read_of_a_policy_may_fail(rt: HostRuntime) -> Result<(), Fail> {
     Ok(())
 }
 
-// Shows a run of the command that the word names, with a writer that takes `step` bytes per call
-// and fails at this call.
+// Shows an expansion of the command alias `A`, with this writer.
+fn expansion(alloc: Global, files: &mut Shelf<'_>, mut out: Script) -> Result<String, AllocError> {
+    let mut err = Script::of(alloc, b"", 1000)?;
+    let status = expand_run(alloc, b"p", files, Kind::Cmnd, b"A", &mut out, &mut err);
+    shown(alloc, status, &out, &err)
+}
+
+// Shows a run of the command that the word names, with this writer.
 fn written<T: Threads + Wait + Sync>(
     alloc: Global,
     rt: &T,
     word: &str,
-    step: usize,
-    call: u64,
+    out: Script,
 ) -> Result<String, AllocError> {
-    let mut out = Script::of(alloc, b"", step)?.failing_at(call);
-    if word == "audit" {
-        let rows = requests(alloc, ROWS)?;
-        let mut readers = Readers::known(alloc)?;
-        readers.push(alloc, b"s", Script::of(alloc, &rows, 100)?)?;
-        let mut shelf = Shelf { items: &FILES };
-        return audit_shown(alloc, rt, b"p", &mut shelf, readers, 2, out);
+    match word {
+        "audit" => {
+            let readers = readers(alloc, "none", 0)?;
+            audit_shown(alloc, rt, &mut Shelf { items: &FILES }, readers, out)
+        }
+        "check" => check_shown(alloc, &mut Shelf { items: &ALIASES }, out),
+        _ => expansion(alloc, &mut Shelf { items: &ALIASES }, out),
     }
-    let mut shelf = Shelf { items: &ALIASES };
-    let mut err = Script::of(alloc, b"", 1000)?;
-    let status = if word == "check" {
-        check_run(alloc, b"p", &mut shelf, &mut out, &mut err)
-    } else {
-        expand_run(
-            alloc,
-            b"p",
-            &mut shelf,
-            Kind::Cmnd,
-            b"A",
-            &mut out,
-            &mut err,
-        )
-    };
-    shown(alloc, status, &out, &err)
 }
 
 // A policy with two warnings, and an alias of three members.
 const ALIASES: [Item<'static>; 1] = [Item {
     path: b"p",
     text: b"Cmnd_Alias A = /bin/ls, /bin/cat, !/bin/su\nHost_Alias B = web1\n",
-    names: b"",
 }];
 
 // Returns the whole output of the command that the word names, on one line.
@@ -218,11 +202,12 @@ fn each_write_may_fail(rt: HostRuntime) -> Result<(), Fail> {
     let alloc = rt.alloc();
     for (word, calls) in [("audit", 9u64), ("check", 9), ("expand", 4)] {
         for call in 1..calls.saturating_add(1) {
-            let found = written(alloc, &rt, word, 10, call)?;
+            let out = Script::of(alloc, b"", 10)?.failing_at(call);
+            let found = written(alloc, &rt, word, out)?;
             let wanted = cut_off(alloc, word, call)?;
             assert_eq!(rt; found.as_str(), wanted.as_str());
         }
-        let found = written(alloc, &rt, word, 0, 100)?;
+        let found = written(alloc, &rt, word, Script::of(alloc, b"", 0)?)?;
         let wanted = "4 ! sudo_audit: write failed after 0 bytes;";
         assert_eq!(rt; found.as_str(), wanted);
     }

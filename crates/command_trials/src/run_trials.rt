@@ -1,9 +1,12 @@
-//! Runs in which a read or a write fails, and files that are opened by name.
+//! Runs in which what cannot be read is not reached, and files that are told beforehand.
 
-use crate::policy_trials::{Item, Shelf};
-use audit_commands::{Fault, Files, FilesFault, Opener, check_run, open_all};
+use crate::runs::{Item, Shelf};
+use audit_commands::{Files, FilesFault, check_run};
 use audit_files::Script;
+use audit_words::unread;
+use clap::error::ErrorKind;
 use std::alloc::{AllocError, Global};
+use std::io::ErrorKind as ReadKind;
 use std::test::Fail;
 use sudo_text::Seq;
 
@@ -47,7 +50,6 @@ fn checks_locked(
     let items = [Item {
         path: b"p",
         text: policy,
-        names: b"",
     }];
     let mut files = Locked {
         shelf: Shelf { items: &items },
@@ -84,7 +86,6 @@ fn counts_what_went_out(rt: HostRuntime) -> Result<(), Fail> {
     let items = [Item {
         path: b"p",
         text: b"alice NET = ALL\n",
-        names: b"",
     }];
     let mut shelf = Shelf { items: &items };
     let mut out = Script::of(alloc, b"", 10)?.failing_at(3);
@@ -100,51 +101,55 @@ fn counts_what_went_out(rt: HostRuntime) -> Result<(), Fail> {
     Ok(())
 }
 
-// Opens each path except `gone`; its reader is the path itself.
-#[derive(Clone, Copy)]
-struct Named {
-    alloc: Global,
+// One file over memory, and nothing else. Its contracts specify the file.
+#[derive(Drop)]
+struct Alone {
+    path: Seq<u8>,
+    text: Seq<u8>,
 }
 
-impl Opener<Seq<u8>> for Named {
-    ghost use Rattle.std.specs.Prelude.{◌≡◌, ⊤};
+impl Files for Alone {
+    ghost use Rattle.std.specs.Prelude.{Some, [], ◌∷◌};
+    ghost use Rattle.sudo_load.specs.declared.supply.Supply.TheVariants.{File};
 
-    ghost opens = { λ _ path reader. reader ≡ path };
+    ghost held = { λ s. Some (record { supplies = File s.path (Some s.text) ∷ []; unreadable = [] }) };
 
-    ghost closed = { λ _ _. ⊤ };
-
-    fn open(&self, path: &str) -> Option<Seq<u8>> {
-        if path == "gone" {
-            return None;
+    fn file(&mut self, alloc: Global, path: &[u8]) -> Result<Option<Seq<u8>>, FilesFault> {
+        if self.path.as_slice() != path {
+            return Ok(None);
         }
-        Seq::from_slice(self.alloc, path.as_bytes()).ok()
+        match Seq::from_slice(alloc, self.text.as_slice()) {
+            Ok(text) => Ok(Some(text)),
+            Err(_) => Err(FilesFault::Memory),
+        }
+    }
+
+    fn folder(&mut self, alloc: Global, _path: &[u8]) -> Result<Seq<Seq<u8>>, FilesFault> {
+        Ok(Seq::new(alloc))
     }
 }
 
 #[test]
-fn opens_what_is_named(rt: HostRuntime) -> Result<(), Fail> {
+fn reads_what_is_told(rt: HostRuntime) -> Result<(), Fail> {
     let alloc = rt.alloc();
-    let words = ["s=a", "t=b", "s=c=d"];
-    let Ok(files) = open_all(alloc, &Named { alloc }, "u", "h", words.as_slice()) else {
-        assert!(rt; false);
-        return Ok(());
+    let mut alone = Alone {
+        path: Seq::from_slice(alloc, b"p")?,
+        text: Seq::from_slice(alloc, b"alice ALL = ALL\n@includedir d\n")?,
     };
-    assert!(rt;
-        files.users.as_slice() == b"u".as_slice() && files.hosts.as_slice() == b"h".as_slice()
-    );
-    let names = [b"s".as_slice(), b"t".as_slice(), b"s".as_slice()];
-    let paths = [b"a".as_slice(), b"b".as_slice(), b"c=d".as_slice()];
-    assert!(rt; files.sources.len() == 3);
-    for (at, source) in files.sources.iter().enumerate() {
-        assert!(rt; source.name.as_slice() == names[at] && source.reader.as_slice() == paths[at]);
-    }
-    let words = ["s=a", "=b", "t"];
-    let bad = open_all(alloc, &Named { alloc }, "gone", "h", words.as_slice());
-    assert!(rt; matches!(&bad, Err(Fault::BadSender(word)) if word.as_slice() == b"=b".as_slice()));
-    let words = ["s=a", "t=gone"];
-    let closed = open_all(alloc, &Named { alloc }, "u", "h", words.as_slice());
-    assert!(rt;
-        matches!(&closed, Err(Fault::CannotRead(path)) if path.as_slice() == b"gone".as_slice())
-    );
+    let mut out = Script::of(alloc, b"", 1000)?;
+    let mut err = Script::of(alloc, b"", 1000)?;
+    let ended = check_run(alloc, b"p", &mut alone, &mut out, &mut err);
+    assert!(rt; ended == 0 && out.taken() == b"ok\n".as_slice());
+    let ended = check_run(alloc, b"q", &mut alone, &mut out, &mut err);
+    assert!(rt; ended == 4 && err.taken() == b"sudo_audit: cannot read q\n".as_slice());
     Ok(())
+}
+
+#[test]
+fn tells_words_that_are_not_read(rt: HostRuntime) {
+    let alloc = rt.alloc();
+    let text = unread(alloc, ReadKind::InvalidData);
+    assert!(rt; text.use_stderr() && text.kind() == ErrorKind::ValueValidation);
+    let memory = unread(alloc, ReadKind::OutOfMemory);
+    assert!(rt; memory.kind() == ErrorKind::OutOfMemory);
 }

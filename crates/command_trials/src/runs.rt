@@ -4,11 +4,7 @@
 //! Each line of a table of runs has a word, the first and the last number of the runs, ` =>`, and
 //! the text that each of them shows.
 
-ghost use Rattle.std.specs.Prelude.{◌≤◌};
-
-use crate::audit_trials::{HEADER, HOSTS, POLICY, USERS};
-use crate::policy_trials::Item;
-use audit_commands::{Files, audit_into};
+use audit_commands::{Files, FilesFault, audit_into, check_run};
 use audit_files::Script;
 use audit_run::Source;
 use std::alloc::{AllocError, Global};
@@ -17,53 +13,62 @@ use std::test::Fail;
 use std::thread::Threads;
 use sudo_text::Seq;
 
-/// The rows of a requests file.
-pub(crate) const ROWS: &[u8] =
-    b"1,alice,web1.example.org,,,/bin/kill,-9 7\n2,carol,web1.example.org,,,/bin/kill,\nclose,2,,,,,\n";
+/// The bytes of a users file.
+pub(crate) const USERS: &[u8] =
+    b"user,uid,groups\nroot,0,root:0\nalice,1000,alice:1000 adm:4\nbob,1001,bob:1001 operator:37\noperator,11,operator:37\n";
+
+/// The bytes of a hosts file.
+pub(crate) const HOSTS: &[u8] =
+    b"host,interfaces\nweb1.example.org,10.1.2.3/16 127.0.0.1/8\nweb2.example.org,10.2.0.9/16\n";
+
+/// The bytes of a requests file.
+pub(crate) const REQUESTS: &[u8] =
+    b"number,user,host,runas_user,runas_group,command,arguments\n1,alice,web1.example.org,,,/bin/kill,-9 7\n2,carol,web1.example.org,,,/bin/kill,\nclose,2,,,,,\n";
 
 /// The policy `p`.
 pub(crate) const FILES: [Item<'static>; 1] = [Item {
     path: b"p",
-    text: POLICY,
-    names: b"",
+    text: b"alice web1 = NOPASSWD: /bin/kill, /usr/bin/lprm, PASSWD: /bin/ls : web2 = /bin/kill\n",
 }];
 
-/// Returns the text of a requests file with these rows.
-pub(crate) fn requests(alloc: Global, rows: &[u8]) -> Result<Vec<u8>, AllocError> {
-    let mut text = Vec::from_slice(alloc, HEADER)?;
-    text.extend_from_slice(rows)?;
-    Ok(text)
+/// A file: its path and its text.
+#[derive(Clone, Copy)]
+pub(crate) struct Item<'a> {
+    pub(crate) path: &'a [u8],
+    pub(crate) text: &'a [u8],
 }
 
-/// Readers of the users, of the hosts and of the parts of senders.
+/// Files over memory. Any other file is missing, and any folder is empty.
+#[derive(Clone, Copy)]
+pub(crate) struct Shelf<'a> {
+    pub(crate) items: &'a [Item<'a>],
+}
+
+impl Files for Shelf<'_> {
+    ghost use Rattle.std.specs.Prelude.{None};
+
+    ghost held = { λ _. None };
+
+    fn file(&mut self, alloc: Global, path: &[u8]) -> Result<Option<Seq<u8>>, FilesFault> {
+        for item in self.items {
+            if item.path == path {
+                return Ok(Some(Seq::from_slice(alloc, item.text)?));
+            }
+        }
+        Ok(None)
+    }
+
+    fn folder(&mut self, alloc: Global, _path: &[u8]) -> Result<Seq<Seq<u8>>, FilesFault> {
+        Ok(Seq::new(alloc))
+    }
+}
+
+/// Readers of the users, the hosts and the requests of `s`.
 #[derive(Drop)]
 pub(crate) struct Readers {
     pub(crate) users: Script,
     pub(crate) hosts: Script,
-    pub(crate) sources: Vec<Source<Script>>,
-}
-
-impl Readers {
-    /// Returns readers of the known users and hosts, and of no part.
-    pub(crate) fn known(alloc: Global) -> Result<Readers, AllocError> {
-        Ok(Readers {
-            users: Script::of(alloc, USERS, 100)?,
-            hosts: Script::of(alloc, HOSTS, 100)?,
-            sources: Vec::new(alloc),
-        })
-    }
-
-    /// Adds a part of a sender.
-    pub(crate) fn push(
-        &mut self,
-        alloc: Global,
-        name: &[u8],
-        reader: Script,
-    ) -> Result<(), AllocError> {
-        let name = Seq::from_slice(alloc, name)?;
-        self.sources.push(Source { name, reader })?;
-        Ok(())
-    }
+    pub(crate) requests: Script,
 }
 
 /// Returns a line with an exit status and the printed texts.
@@ -90,27 +95,39 @@ fn push_folded(line: &mut String, text: &[u8]) -> Result<(), AllocError> {
     Ok(())
 }
 
-/// Shows an audit of these files and readers, with this writer.
+/// Shows an audit by two workers of these files and readers, with this writer.
 pub(crate) fn audit_shown<T: Threads + Wait + Sync, F: Files>(
     alloc: Global,
     rt: &T,
-    path: &[u8],
     files: &mut F,
     readers: Readers,
-    workers: u32,
     mut out: Script,
-) -> Result<String, AllocError>
-    requires { (1 ≤ workers) × (workers ≤ 16) }
-{
+) -> Result<String, AllocError> {
     let Readers {
         mut users,
         mut hosts,
-        sources,
+        requests,
     } = readers;
+    let mut sources = Vec::new(alloc);
+    sources.push(Source {
+        name: Seq::from_slice(alloc, b"s")?,
+        reader: requests,
+    })?;
     let mut err = Script::of(alloc, b"", 1000)?;
     let status = audit_into(
-        alloc, rt, path, files, &mut users, &mut hosts, sources, workers, &mut out, &mut err,
+        alloc, rt, b"p", files, &mut users, &mut hosts, sources, 2, &mut out, &mut err,
     );
+    shown(alloc, status, &out, &err)
+}
+
+/// Shows a check of the policy `p`, with this writer.
+pub(crate) fn check_shown<F: Files>(
+    alloc: Global,
+    files: &mut F,
+    mut out: Script,
+) -> Result<String, AllocError> {
+    let mut err = Script::of(alloc, b"", 1000)?;
+    let status = check_run(alloc, b"p", files, &mut out, &mut err);
     shown(alloc, status, &out, &err)
 }
 

@@ -160,6 +160,22 @@ fn memory_for_a_check(rt: HostRuntime) -> Result<(), Fail> {
     swept(rt.alloc(), &rt, ROOM, &[Checking::new(rt.alloc())?])
 }
 
+/// Whether a policy that is refused for its findings is handed back as it was.
+fn comes_back(answer: &Result<Checked, CheckFault>, given: &Policy) -> bool {
+    match answer {
+        Err(CheckFault::Findings(back, _found)) => back == given,
+        _ => false,
+    }
+}
+
+#[test]
+fn a_policy_with_errors_comes_back(rt: HostRuntime) -> Result<(), Fail> {
+    let given = faulty(rt.alloc())?;
+    let answer = check(rt.alloc(), faulty(rt.alloc())?);
+    assert!(rt; comes_back(&answer, &given));
+    Ok(())
+}
+
 /// What a policy includes.
 fn supplies(alloc: Global) -> Result<Vec<Supply>, AllocError> {
     let mut supplies = Vec::new(alloc);

@@ -1,0 +1,233 @@
+"""Runs of the program by the tables in `runs/`, and at its limits.
+
+What a run prints is shown as the exit status, the output and, after `!`, the error output, with `;` or a newline for the end
+of each line. A table has cases. A case has files, beside those of the whole table, and one kind of rows:
+
+- `runs`: words of the command line, and what is shown.
+- `texts`: texts of the file `of`, and what is shown. `faults`: the same, with the fault of the policy `p` alone.
+- `cuts`: the first and the last number of bytes that are left of the file `of`, and what is shown.
+- `asks`: the rows of the requests file `of`, without their numbers, and the report on each.
+- `sources`: requests files, each as `SENDER: NUMBER=WORD .. close=COUNT`, with `|` between them, and what is shown.
+- `shows`: what the only run shows.
+"""
+
+import os
+import re
+import shlex
+import subprocess
+import tempfile
+import tomllib
+import unittest
+from collections.abc import Iterator
+from typing import Any, NamedTuple
+
+from support import PROGRAM, TESTS, Case, needs_program
+
+TABLES = os.path.join(TESTS, "runs")
+HEADER = "number,user,host,runas_user,runas_group,command,arguments\n"
+REPORT = "0 sender,number,verdict,line,tags;"
+AUDIT = "audit p --users users --hosts hosts"
+
+
+class Run(NamedTuple):
+    """A run: the words, the files that differ from those of the case, and what is shown."""
+
+    words: str
+    files: dict[str, str]
+    shows: str
+
+
+def cut_off(text: str, length: int, shows: str) -> tuple[str, str]:
+    """Returns the first bytes of a text, and what is shown with the column after them for `end`."""
+    front = text[:length]
+    return front, shows.replace(":end:", f":{len(front.rpartition(chr(10))[2]) + 1}:")
+
+
+def asked(asks: dict[str, str]) -> tuple[str, str]:
+    """Returns a requests file of these rows, and what is shown of the sender `s`."""
+    rows = "".join(f"{number},{row}\n" for number, row in enumerate(asks, 1))
+    answers = "".join(f"s,{number},{answer};" for number, answer in enumerate(asks.values(), 1))
+    return f"{HEADER}{rows}close,{len(asks)},,,,,\n", f"{REPORT}{answers}"
+
+
+def parts(words: str, requests: dict[str, str]) -> tuple[list[str], dict[str, str]]:
+    """Returns the words for the requests files of a row, and these files."""
+    names, files = [], {}
+    for at, source in enumerate(words.split("|") if words else []):
+        sender, _, rows = source.strip().partition(":")
+        text = HEADER
+        for number, word in (row.split("=") for row in rows.split()):
+            text += f"close,{word},,,,,\n" if number == "close" else f"{number},{requests[word]}\n"
+        names.append(f"{sender}=part{at}")
+        files[f"part{at}"] = text
+    return names, files
+
+
+def runs_of(case: dict[str, Any], files: dict[str, str], requests: dict[str, str]) -> Iterator[Run]:
+    """Yields the runs of a case."""
+    words, of = case.get("run", ""), case.get("of", "")
+    if "shows" in case:
+        yield Run(words, {}, case["shows"])
+    for line, shows in case.get("runs", {}).items():
+        yield Run(line, {}, shows)
+    for text, shows in case.get("texts", {}).items():
+        yield Run(words, {of: text}, shows)
+    for text, fault in case.get("faults", {}).items():
+        yield Run(words, {of: text}, f"1 ! sudo_audit: p:{fault};")
+    for first, last, shows in case.get("cuts", []):
+        for length in range(first, last + 1):
+            front, told = cut_off(files[of], length, shows)
+            yield Run(words, {of: front}, told)
+    if "asks" in case:
+        text, shows = asked(case["asks"])
+        yield Run(words, {of: text}, shows)
+    for line, shows in case.get("sources", {}).items():
+        names, files = parts(line, requests)
+        yield Run(shlex.join([*AUDIT.split(), *names]), files, shows)
+
+
+class Shown(Case):
+    """A test of what runs show, in a folder of its own."""
+
+    def write_all(self, files: dict[str, str]) -> None:
+        """Writes files."""
+        for path, text in files.items():
+            self.write(path, text)
+
+    def shown(self, *words: str | bytes) -> str:
+        """Runs the program, and returns what it printed, on one line."""
+        done = subprocess.run([PROGRAM, *words], cwd=self.folder, capture_output=True, check=False)
+        out, err = (os.fsdecode(text).replace("\n", ";") for text in (done.stdout, done.stderr))
+        return f"{done.returncode} {out}" + (f"! {err}" if err else "")
+
+
+@needs_program
+class Tables(Shown):
+    """The runs of each table."""
+
+    def check_table(self, name: str) -> None:
+        """Checks each run of a table."""
+        with open(os.path.join(TABLES, f"{name}.toml"), "rb") as file:
+            table = tomllib.load(file)
+        for case in table["cases"]:
+            files = {**table.get("files", {}), **case.get("files", {})}
+            with self.subTest(case["title"]), tempfile.TemporaryDirectory() as self.folder:
+                self.write_all(files)
+                for run in runs_of(case, files, table.get("requests", {})):
+                    self.write_all(run.files)
+                    with self.subTest(words=run.words, files=run.files):
+                        self.assertEqual(self.shown(*shlex.split(run.words)), run.shows.replace("\n", ";"))
+
+    def test_checks(self) -> None:
+        self.check_table("check")
+
+    def test_expansions(self) -> None:
+        self.check_table("expand")
+
+    def test_audits(self) -> None:
+        self.check_table("audit")
+
+    def test_cut_files(self) -> None:
+        self.check_table("cut")
+
+    def test_words(self) -> None:
+        self.check_table("words")
+
+    def test_words_that_are_not_read(self) -> None:
+        self.assertTrue(self.shown("check", b"\xff").startswith("2 ! error: invalid UTF-8 was detected in one or more arguments;"))
+
+
+@needs_program
+class Limits(Shown):
+    """The most aliases, members, parts, senders and requests, and one more."""
+
+    def checked(self, policy: str) -> str:
+        """Returns what a check of a policy shows."""
+        self.write("p", policy)
+        return self.shown("check", "p")
+
+    def expanded(self, policy: str, name: str) -> str:
+        """Returns what the members of a command alias show."""
+        self.write("p", policy)
+        return self.shown("expand", "p", "cmnd", name)
+
+    def audited(self, *sources: str, workers: int = 2) -> str:
+        """Returns what an audit of requests files shows, each as in a table."""
+        names, files = parts("|".join(sources), {"kill": "alice,web1,,,/bin/kill,"})
+        directory = {"users": "user,uid,groups\nroot,0,root:0\nalice,1000,alice:1000\n", "hosts": "host,interfaces\nweb1,\n"}
+        self.write_all({"p": "alice ALL = /bin/kill\n", **directory, **files})
+        return self.shown(*AUDIT.split(), "--workers", str(workers), *names)
+
+    def test_definitions(self) -> None:
+        lines = [f"Cmnd_Alias C{number} = /bin/ls\n" for number in range(4097)]
+        self.assertTrue(self.checked("".join(lines[:4096])).endswith(": warning: unused Cmnd_Alias C4095;ok;"))
+        self.assertEqual(self.checked("".join(lines)), "1 ! sudo_audit: p:4097: too many aliases;")
+
+    def test_depth(self) -> None:
+        lines = [f"Cmnd_Alias A{number} = A{number + 1}\n" for number in range(1, 65)]
+        deep = f"alice ALL = A1\n{''.join(lines[:63])}Cmnd_Alias A64 = /bin/ls\n"
+        self.assertEqual(self.checked(deep), "0 ok;")
+        self.assertEqual(self.expanded(deep, "A1"), "0 /bin/ls;")
+        deeper = f"alice ALL = A1\n{''.join(lines)}Cmnd_Alias A65 = /bin/ls\n"
+        self.assertEqual(self.checked(deeper), "1 p:2: error: too deep Cmnd_Alias A1;")
+
+    def test_width(self) -> None:
+        lines = [f"Cmnd_Alias W{number + 1} = W{number}, W{number}\n" for number in range(17)]
+        wide = f"Cmnd_Alias W0 = /bin/ls\n{''.join(lines[:16])}alice ALL = !W16\n"
+        self.assertEqual(self.checked(wide), "0 ok;")
+        self.assertEqual(self.expanded(wide, "W16"), "0 " + 65_536 * "/bin/ls;")
+        wider = f"Cmnd_Alias W0 = /bin/ls\n{''.join(lines)}alice ALL = !W17\n"
+        self.assertEqual(self.checked(wider), "1 p:18: error: too wide Cmnd_Alias W17;")
+
+    def test_a_long_way_to_a_cycle(self) -> None:
+        lines = [f"Cmnd_Alias A{number + 1} = {', '.join(10 * [f'A{number}'])}\n" for number in range(300)]
+        hanging = f"Cmnd_Alias A0 = A0\n{''.join(lines)}alice ALL = A300\n"
+        self.assertEqual(self.checked(hanging), "1 p:1: error: cycle Cmnd_Alias A0;")
+
+    def test_memberships(self) -> None:
+        header, row = "user,uid,gid,group\nroot,0,0,root\n", "a,1,7,g\n"
+        self.write_all({"p": "", "hosts": "host,interfaces\n", "users": header + 99_999 * row})
+        self.assertEqual(self.shown(*AUDIT.split()), REPORT)
+        # The first fault decides.
+        for more in (row, row + "a,2,7,g\n"):
+            self.write("users", header + 99_999 * row + more)
+            self.assertEqual(self.shown(*AUDIT.split()), "3 ! sudo_audit: users: too many rows;")
+
+    def test_files_and_folders(self) -> None:
+        self.write_all({"a": "", "d/b": ""})
+        self.assertEqual(self.checked(1023 * "@include a\n"), "0 ok;")
+        self.assertEqual(self.checked(1024 * "@include a\n"), "1 ! sudo_audit: p:1024: too many files;")
+        self.assertEqual(self.checked(1024 * "@includedir none\n"), "0 ok;")
+        self.assertEqual(self.checked(1025 * "@includedir none\n"), "1 ! sudo_audit: p:1025: too many files;")
+
+    def test_definitions_of_all_files(self) -> None:
+        self.write("a", 2048 * "Host_Alias H = web1\n")
+        policy = "@include a\n@include a\nUser_Alias H = bob\n\nHost_Alias H = web2\n"
+        self.assertEqual(self.checked(policy), "1 ! sudo_audit: p:5: too many aliases;")
+
+    def test_parts(self) -> None:
+        self.assertEqual(self.audited(*256 * ["s:"]), "3 ! sudo_audit: sender s: not closed;")
+        self.assertEqual(self.audited(*256 * ["s:"], workers=16), "3 ! sudo_audit: sender s: not closed;")
+        self.assertEqual(self.audited(*257 * ["s:"]), "3 ! sudo_audit: too many parts;")
+
+    def test_senders(self) -> None:
+        senders = [f"a{number}: close=0" for number in range(65)]
+        self.assertEqual(self.audited(*senders[:64]), REPORT)
+        self.assertEqual(self.audited(*senders), "3 ! sudo_audit: too many senders;")
+
+    def test_a_sender_that_is_closed_early(self) -> None:
+        rows = " ".join(f"{number}=kill" for number in range(1, 1001))
+        for _ in range(2):
+            shown = self.audited(f"s: {rows} close=1")
+            number = re.fullmatch(r"3 ! sudo_audit: sender s: request ([0-9]+) past close;", shown)
+            self.assertTrue(number and 2 <= int(number[1]) <= 1000, shown)
+
+    def test_long_files(self) -> None:
+        rows = " ".join(f"{number}=kill" for number in range(1, 1001))
+        answers = "".join(f"{sender},{number},allow,p:1,;" for sender in "st" for number in range(1, 1001))
+        for workers in (1, 2, 16):
+            self.assertEqual(self.audited(f"s: {rows} close=1000", f"t: {rows} close=1000", workers=workers), REPORT + answers)
+
+
+if __name__ == "__main__":
+    unittest.main()
