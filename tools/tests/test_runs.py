@@ -5,7 +5,7 @@ of each line. A table has cases. A case has files, beside those of the whole tab
 
 - `runs`: words of the command line, and what is shown.
 - `texts`: texts of the file `of`, and what is shown. `faults`: the same, with the fault of the policy `p` alone.
-- `cuts`: the first and the last number of bytes that are left of the file `of`, and what is shown.
+- `cuts`: the first and the last number of bytes that are left of the file `of`, and what is shown; all numbers stand there.
 - `asks`: the rows of the requests file `of`, without their numbers, and the report on each.
 - `sources`: requests files, each as `SENDER: NUMBER=WORD .. close=COUNT`, with `|` between them, and what is shown.
 - `shows`: what the only run shows.
@@ -82,8 +82,8 @@ def runs_of(case: dict[str, Any], files: dict[str, str], requests: dict[str, str
         text, shows = asked(case["asks"])
         yield Run(words, {of: text}, shows)
     for line, shows in case.get("sources", {}).items():
-        names, files = parts(line, requests)
-        yield Run(shlex.join([*AUDIT.split(), *names]), files, shows)
+        names, texts = parts(line, requests)
+        yield Run(shlex.join([*AUDIT.split(), *names]), texts, shows)
 
 
 class Shown(Case):
@@ -96,7 +96,7 @@ class Shown(Case):
 
     def shown(self, *words: str | bytes) -> str:
         """Runs the program, and returns what it printed, on one line."""
-        done = subprocess.run([PROGRAM, *words], cwd=self.folder, capture_output=True, check=False)
+        done = subprocess.run([PROGRAM, *words], cwd=self.folder, capture_output=True, check=False, timeout=60)
         out, err = (os.fsdecode(text).replace("\n", ";") for text in (done.stdout, done.stderr))
         return f"{done.returncode} {out}" + (f"! {err}" if err else "")
 
@@ -113,7 +113,12 @@ class Tables(Shown):
             files = {**table.get("files", {}), **case.get("files", {})}
             with self.subTest(case["title"]), tempfile.TemporaryDirectory() as self.folder:
                 self.write_all(files)
-                for run in runs_of(case, files, table.get("requests", {})):
+                runs = list(runs_of(case, files, table.get("requests", {})))
+                self.assertTrue(runs, "a case without runs")
+                if "cuts" in case:
+                    lengths = [len(run.files[case["of"]]) for run in runs]
+                    self.assertEqual(lengths, list(range(len(files[case["of"]]) + 1)), "not each length")
+                for run in runs:
                     self.write_all(run.files)
                     with self.subTest(words=run.words, files=run.files):
                         self.assertEqual(self.shown(*shlex.split(run.words)), run.shows.replace("\n", ";"))

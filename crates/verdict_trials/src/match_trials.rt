@@ -1,12 +1,8 @@
-//! Tests of patterns, matching and directories.
+//! Tests of patterns and directories.
 
 use std::alloc::{AllocError, Global};
 use std::test::Fail;
-use sudo_grammar::Atom;
-use sudo_match::{
-    DirFault, Directory, Group, Interface, Machine, Pattern, Person, Slash, command_matches,
-    group_matches, host_matches, user_matches,
-};
+use sudo_match::{Directory, Group, Interface, Machine, Pattern, Person, Slash};
 use sudo_text::{Ch, Seq};
 
 // Returns the characters of a word, in which a backslash escapes the next one.
@@ -189,71 +185,6 @@ fn many_unclosed_brackets_are_fast(rt: HostRuntime) -> Result<(), Fail> {
     Ok(())
 }
 
-// Returns a command with arguments.
-fn with_arguments(alloc: Global, path: &[u8], args: &[u8]) -> Result<Atom, AllocError> {
-    let path = chars(alloc, path)?;
-    let args = chars(alloc, args)?;
-    Ok(Atom::Command {
-        path,
-        args: Some(args),
-    })
-}
-
-// Returns a command, with arguments if the text has any.
-fn command(alloc: Global, text: &str) -> Result<Atom, AllocError> {
-    match text.split_once(' ') {
-        Some((path, args)) => with_arguments(alloc, path.as_bytes(), args.as_bytes()),
-        None => {
-            let path = chars(alloc, text.as_bytes())?;
-            Ok(Atom::Command { path, args: None })
-        }
-    }
-}
-
-// Whether an atom matches a command with its arguments.
-fn allows(atom: &Atom, asked: &str) -> &'static str {
-    let (path, arguments) = asked.split_once(' ').unwrap_or((asked, ""));
-    if command_matches(atom, path.as_bytes(), arguments.as_bytes()) {
-        "yes"
-    } else {
-        "no"
-    }
-}
-
-// Fails if a row does not hold: a command, what is asked, and whether they match.
-fn command_row_holds(alloc: Global, row: &str) -> Result<(), Fail> {
-    let Some((text, rest)) = row.split_once('|') else {
-        return Err(Fail::new("a row without a question"));
-    };
-    let Some((asked, want)) = rest.split_once('|') else {
-        return Err(Fail::new("a row without an answer"));
-    };
-    let atom = command(alloc, text)?;
-    told(alloc, row, allows(&atom, asked), want)
-}
-
-const COMMANDS: &str = "/usr/bin/|/usr/bin/ls -l|yes
-/usr/bin/|/usr/bin/x/y|no
-/usr/bin/|/usr/bin/|no
-/bin/cat *|/bin/cat /etc/passwd x|yes
-/bin/cat *|/bin/cat|yes
-/bin/cat *|/bin/tac|no
-/bin/who \"\"|/bin/who|yes
-/bin/who \"\"|/bin/who am i|no
-sudoedit /etc/*|sudoedit /etc/passwd|yes
-sudoedit /etc/*|sudoedit /etc/ssh/config|no
-/bin/dd if=/dev/zero|/bin/dd if=/dev/zero|yes
-/bin/dd if=/dev/zero|/bin/dd if=/dev/sda|no";
-
-#[test]
-fn commands(rt: HostRuntime) -> Result<(), Fail> {
-    for row in COMMANDS.lines() {
-        command_row_holds(rt.alloc(), row)?;
-    }
-    assert!(rt; !command_matches(&Atom::Uid(0), b"/bin/dd", b""));
-    Ok(())
-}
-
 // Returns a host with this address, 16 bits of which name its network, and a loopback interface.
 fn machine(alloc: Global, name: &[u8], addr: u32) -> Result<Machine, AllocError> {
     let name = Seq::from_slice(alloc, name)?;
@@ -264,92 +195,6 @@ fn machine(alloc: Global, name: &[u8], addr: u32) -> Result<Machine, AllocError>
     })?;
     interfaces.push(Interface { addr, bits: 16 })?;
     Ok(Machine { name, interfaces })
-}
-
-fn host(alloc: Global, pattern: &[u8]) -> Result<Atom, AllocError> {
-    let chars = chars(alloc, pattern)?;
-    Ok(Atom::Host {
-        chars,
-        quoted: false,
-    })
-}
-
-// Fails if a row does not hold: a pattern, which of the hosts, and whether they match.
-fn host_row_holds(alloc: Global, web: &Machine, db: &Machine, row: &str) -> Result<(), Fail> {
-    let Some((pattern, rest)) = row.split_once(' ') else {
-        return Err(Fail::new("a row without a host"));
-    };
-    let Some((name, want)) = rest.split_once(' ') else {
-        return Err(Fail::new("a row without an answer"));
-    };
-    let atom = host(alloc, pattern.as_bytes())?;
-    let matches = host_matches(&atom, if name == "web" { web } else { db });
-    told(alloc, row, if matches { "yes" } else { "no" }, want)
-}
-
-const HOSTS: &str = "WEB1.example.org web yes
-WEB1.example.com web no
-web? web yes
-db9 db yes
-wEb1 web yes
-web2 web no
-web web no
-web1- web no
-web1* web yes
-W*1.example.?rg web yes
-[!d]eb1 web yes";
-
-// Fails if a row of the table does not hold.
-fn hosts_hold(alloc: Global, web: &Machine, db: &Machine) -> Result<(), Fail> {
-    for row in HOSTS.lines() {
-        host_row_holds(alloc, web, db, row)?;
-    }
-    Ok(())
-}
-
-#[test]
-fn hosts(rt: HostRuntime) -> Result<(), Fail> {
-    let web = machine(rt.alloc(), b"web1.example.org", 0x0a01_0203)?;
-    let db = machine(rt.alloc(), b"DB9", 0x0a02_0009)?;
-    hosts_hold(rt.alloc(), &web, &db)
-}
-
-// Whether an atom matches the first host and not the second.
-fn tells_apart(atom: &Atom, web: &Machine, db: &Machine) -> bool {
-    host_matches(atom, web) && !host_matches(atom, db)
-}
-
-// Whether addresses and networks match as they should.
-fn networks_hold(web: &Machine, db: &Machine) -> bool {
-    let (addr, mask) = (0x0a01_0000, 0xffff_0000);
-    let (loop_addr, loop_mask) = (0x7f00_0000, 0xff00_0000);
-    tells_apart(&Atom::Net { addr, mask }, web, db)
-        && tells_apart(&Atom::Address(0x0a01_0000), web, db)
-        && tells_apart(&Atom::Address(0x0a01_0203), web, db)
-        && !host_matches(&Atom::Address(0x7f00_0001), web)
-        && !host_matches(
-            &Atom::Net {
-                addr: loop_addr,
-                mask: loop_mask,
-            },
-            web,
-        )
-        && !host_matches(
-            &Atom::Net {
-                addr: loop_addr,
-                mask: loop_mask,
-            },
-            db,
-        )
-        && host_matches(&Atom::All, db)
-}
-
-#[test]
-fn networks(rt: HostRuntime) -> Result<(), Fail> {
-    let web = machine(rt.alloc(), b"web1.example.org", 0x0a01_0203)?;
-    let db = machine(rt.alloc(), b"DB9", 0x0a02_0009)?;
-    assert!(rt; networks_hold(&web, &db));
-    Ok(())
 }
 
 // Returns a group with this name and this ID.
@@ -368,27 +213,6 @@ fn person(alloc: Global, name: &[u8], group: Group) -> Result<Person, AllocError
         uid: 0,
         groups,
     })
-}
-
-#[test]
-fn users_and_groups(rt: HostRuntime) -> Result<(), Fail> {
-    let alice = person(rt.alloc(), b"alice", group(rt.alloc(), b"adm", 4)?)?;
-    let name = Atom::Name(Seq::from_slice(rt.alloc(), b"alice")?);
-    assert!(rt; user_matches(&name, &alice));
-    assert!(rt; user_matches(&Atom::Uid(0), &alice));
-    assert!(rt; !user_matches(&Atom::Uid(4), &alice));
-    assert!(rt; user_matches(&Atom::Gid(4), &alice));
-    let adm = group(rt.alloc(), b"adm", 4)?;
-    assert!(rt; group_matches(&Atom::Name(Seq::from_slice(rt.alloc(), b"adm")?), &adm));
-    assert!(rt; group_matches(&Atom::Uid(4), &adm));
-    assert!(rt; !group_matches(&name, &adm));
-    assert!(rt;
-        !user_matches(
-            &Atom::Alias(Seq::from_slice(rt.alloc(), b"ADMINS")?),
-            &alice
-        )
-    );
-    Ok(())
 }
 
 // Returns the users `root`, of the group `root`, and `alice`, of the given group.
@@ -481,59 +305,5 @@ fn large_directories_are_fast(rt: HostRuntime) -> Result<(), Fail> {
     let last = bucket_of(rt.alloc(), 99999)?;
     let name = last.as_slice();
     assert!(rt; knows(&directory, name, name, name, 100999));
-    Ok(())
-}
-
-// Returns the fault of rows, if any.
-fn fault(alloc: Global, people: Vec<Person>, machines: Vec<Machine>) -> Option<DirFault> {
-    match Directory::new(alloc, people, machines) {
-        Ok(_) => None,
-        Err(fault) => Some(fault),
-    }
-}
-
-#[test]
-fn names_stand_once(rt: HostRuntime) -> Result<(), Fail> {
-    let mut people = users(rt.alloc(), group(rt.alloc(), b"adm", 4)?)?;
-    people.push(person(rt.alloc(), b"alice", group(rt.alloc(), b"adm", 4)?)?)?;
-    let name = Seq::from_slice(rt.alloc(), b"alice")?;
-    let found = fault(rt.alloc(), people, two_hosts(rt.alloc(), b"WEB1")?);
-    assert_eq!(rt; found, Some(DirFault::UserTwice { name }));
-
-    let people = users(rt.alloc(), group(rt.alloc(), b"adm", 0)?)?;
-    let name = Seq::from_slice(rt.alloc(), b"WEB1")?;
-    let found = fault(rt.alloc(), people, two_hosts(rt.alloc(), b"WEB1")?);
-    assert_eq!(rt; found, Some(DirFault::HostTwice { name }));
-    Ok(())
-}
-
-#[test]
-fn groups_agree(rt: HostRuntime) -> Result<(), Fail> {
-    let people = users(rt.alloc(), group(rt.alloc(), b"adm", 0)?)?;
-    let name = Seq::from_slice(rt.alloc(), b"adm")?;
-    let found = fault(rt.alloc(), people, Vec::new(rt.alloc()));
-    assert_eq!(rt; found, Some(DirFault::GroupClash { name }));
-
-    let people = users(rt.alloc(), group(rt.alloc(), b"root", 4)?)?;
-    let name = Seq::from_slice(rt.alloc(), b"root")?;
-    let found = fault(rt.alloc(), people, Vec::new(rt.alloc()));
-    assert_eq!(rt; found, Some(DirFault::GroupClash { name }));
-    Ok(())
-}
-
-#[test]
-fn users_have_groups_and_root_is_one(rt: HostRuntime) -> Result<(), Fail> {
-    let mut people = Vec::new(rt.alloc());
-    people.push(Person {
-        name: Seq::from_slice(rt.alloc(), b"bob")?,
-        uid: 7,
-        groups: Seq::new(rt.alloc()),
-    })?;
-    let user = Seq::from_slice(rt.alloc(), b"bob")?;
-    let found = fault(rt.alloc(), people, Vec::new(rt.alloc()));
-    assert_eq!(rt; found, Some(DirFault::NoGroup { user }));
-
-    let found = fault(rt.alloc(), Vec::new(rt.alloc()), Vec::new(rt.alloc()));
-    assert_eq!(rt; found, Some(DirFault::NoRoot));
     Ok(())
 }
