@@ -205,6 +205,12 @@ class Limits(Shown):
         self.assertEqual(self.checked(1024 * "@includedir none\n"), "0 ok;")
         self.assertEqual(self.checked(1025 * "@includedir none\n"), "1 ! sudo_audit: p:1025: too many files;")
 
+    def test_includes_in_one_another(self) -> None:
+        self.write_all({f"f{number}": f"@include f{number + 1}\n" for number in range(1, 128)} | {"f128": ""})
+        self.assertEqual(self.checked("@include f1\n"), "0 ok;")
+        self.write_all({"f128": "@include f129\n", "f129": ""})
+        self.assertEqual(self.checked("@include f1\n"), "1 ! sudo_audit: f128:1: includes too deep;")
+
     def test_definitions_of_all_files(self) -> None:
         self.write("a", 2048 * "Host_Alias H = web1\n")
         policy = "@include a\n@include a\nUser_Alias H = bob\n\nHost_Alias H = web2\n"
