@@ -7,6 +7,8 @@ of each line. A table has cases. A case has files, beside those of the whole tab
 - `texts`: texts of the file `of`, and what is shown. `faults`: the same, with the fault of the policy `p` alone.
 - `cuts`: the first and the last number of bytes that are left of the file `of`, and what is shown; all numbers stand there.
 - `asks`: the rows of the requests file `of`, without their numbers, and the report on each.
+- `verdicts`: a policy, which goes on after the text `before`, with `;` for the end of a line, then ` | ` and the row of a request,
+  and the report on it.
 - `sources`: requests files, each as `SENDER: NUMBER=WORD .. close=COUNT`, with `|` between them, and what is shown.
 - `shows`: what the only run shows.
 """
@@ -81,6 +83,10 @@ def runs_of(case: dict[str, Any], files: dict[str, str], requests: dict[str, str
     if "asks" in case:
         text, shows = asked(case["asks"])
         yield Run(words, {of: text}, shows)
+    for words, answer in case.get("verdicts", {}).items():
+        policy, _, row = words.partition(" | ")
+        text, shows = asked({row: answer})
+        yield Run(f"{AUDIT} s=requests", {"p": case.get("before", "") + policy.replace(";", "\n"), "requests": text}, shows)
     for line, shows in case.get("sources", {}).items():
         names, texts = parts(line, requests)
         yield Run(shlex.join([*AUDIT.split(), *names]), texts, shows)
@@ -132,6 +138,9 @@ class Tables(Shown):
     def test_audits(self) -> None:
         self.check_table("audit")
 
+    def test_verdicts(self) -> None:
+        self.check_table("verdict")
+
     def test_cut_files(self) -> None:
         self.check_table("cut")
 
@@ -163,6 +172,13 @@ class Limits(Shown):
         self.write_all({"p": "alice ALL = /bin/kill\n", **directory, **files})
         return self.shown(*AUDIT.split(), "--workers", str(workers), *names)
 
+    def judged(self, policy: str, asks: dict[str, str], users: str = "alice,1000,alice:1000\n", hosts: str = "") -> None:
+        """Checks the report on the rows of a requests file, under users beside root and hosts beside web1."""
+        requests, shows = asked(asks)
+        directory = {"users": f"user,uid,groups\nroot,0,root:0\n{users}", "hosts": f"host,interfaces\nweb1,\n{hosts}"}
+        self.write_all({"p": policy, **directory, "requests": requests})
+        self.assertEqual(self.shown(*AUDIT.split(), "s=requests"), shows)
+
     def test_definitions(self) -> None:
         lines = [f"Cmnd_Alias C{number} = /bin/ls\n" for number in range(4097)]
         self.assertTrue(self.checked("".join(lines[:4096])).endswith(": warning: unused Cmnd_Alias C4095;ok;"))
@@ -173,6 +189,7 @@ class Limits(Shown):
         deep = f"alice ALL = A1\n{''.join(lines[:63])}Cmnd_Alias A64 = /bin/ls\n"
         self.assertEqual(self.checked(deep), "0 ok;")
         self.assertEqual(self.expanded(deep, "A1"), "0 /bin/ls;")
+        self.judged(deep, {"alice,web1,,,/bin/ls,": "allow,p:1,", "alice,web1,,,/bin/su,": "nomatch,,"})
         deeper = f"alice ALL = A1\n{''.join(lines)}Cmnd_Alias A65 = /bin/ls\n"
         self.assertEqual(self.checked(deeper), "1 p:2: error: too deep Cmnd_Alias A1;")
 
@@ -181,6 +198,7 @@ class Limits(Shown):
         wide = f"Cmnd_Alias W0 = /bin/ls\n{''.join(lines[:16])}alice ALL = !W16\n"
         self.assertEqual(self.checked(wide), "0 ok;")
         self.assertEqual(self.expanded(wide, "W16"), "0 " + 65_536 * "/bin/ls;")
+        self.judged(wide, {"alice,web1,,,/bin/ls,": "deny,p:18,", "alice,web1,,,/bin/su,": "nomatch,,"})
         wider = f"Cmnd_Alias W0 = /bin/ls\n{''.join(lines)}alice ALL = !W17\n"
         self.assertEqual(self.checked(wider), "1 p:18: error: too wide Cmnd_Alias W17;")
 
@@ -188,6 +206,23 @@ class Limits(Shown):
         lines = [f"Cmnd_Alias A{number + 1} = {', '.join(10 * [f'A{number}'])}\n" for number in range(300)]
         hanging = f"Cmnd_Alias A0 = A0\n{''.join(lines)}alice ALL = A300\n"
         self.assertEqual(self.checked(hanging), "1 p:1: error: cycle Cmnd_Alias A0;")
+
+    def test_groups_and_rules(self) -> None:
+        many = "alice,1000,alice:1000\nmany,1001,many:1001 " + " ".join(f"g{number}:{number + 2000}" for number in range(100)) + "\n"
+        policy = "".join(f"%g{number % 100} ALL = /bin/c{number}\n" for number in range(1300))
+        asks = {f"many,web1,,,/bin/c{number},": f"allow,p:{number + 1}," for number in (0, 700, 1299)}
+        self.judged(policy, {**asks, "many,web1,,,/bin/c,": "nomatch,,", "alice,web1,,,/bin/c0,": "nomatch,,"}, many)
+
+    def test_beginnings_of_commands(self) -> None:
+        policy = "".join(f"alice ALL = /bin/{number * 'a'}*\n" for number in range(1, 101))
+        asks = {f"alice,web1,,,/bin/{80 * 'a'},": "allow,p:80,", "alice,web1,,,/bin/aaab,": "allow,p:3,"}
+        self.judged(policy, {**asks, "alice,web1,,,/bin/b,": "nomatch,,"})
+
+    def test_users_and_hosts(self) -> None:
+        users = "".join(f"u{number},{number},g{number}:{number}\n" for number in range(2, 100_000))
+        hosts = "".join(f"h{number},10.{number >> 16}.{number >> 8 & 255}.{number & 255}/8\n" for number in range(2, 100_000))
+        asks = {"u99999,H99999,,,/bin/ls,": "allow,p:1,", "u99998,h99999,,,/bin/ls,": "nomatch,,"}
+        self.judged("%g99999 10.1.134.159 = /bin/ls\n", {**asks, "u99999,h99998,,,/bin/ls,": "nomatch,,"}, users, hosts)
 
     def test_memberships(self) -> None:
         header, row = "user,uid,gid,group\nroot,0,0,root\n", "a,1,7,g\n"

@@ -1,4 +1,4 @@
-//! Tests of policies as text: their tokens, what their includes want, and calls that memory is refused to.
+//! Tests of policies as text: their tokens, what their includes want; of patterns; and calls that memory is refused to.
 #![tactic(auto)]
 
 #[cfg(test)]
@@ -7,6 +7,10 @@ mod fixtures;
 mod growth_trials;
 #[cfg(test)]
 mod include_trials;
+#[cfg(test)]
+mod index_trials;
+#[cfg(test)]
+mod pattern_trials;
 #[cfg(test)]
 mod rows;
 #[cfg(test)]

@@ -1,18 +1,19 @@
-//! Calls that memory is refused to: each returns that memory was refused, or what it returns with memory.
+//! Directories and indexes of rules that memory is refused to, and an index beyond its budget.
 
 ghost use Rattle.sudo_verdict.specs.Postings.{Indexes};
 
-use crate::fixtures::{checked, directory, machines, people, requests};
+use crate::fixtures::{directory, machines, people, policy, request};
 use limited_memory::{End, Memory, ROOM, Trial, swept};
 use std::alloc::{AllocError, Global};
 use std::sync::Wait;
 use std::test::Fail;
 use std::thread::Threads;
 use sudo_match::{DirFault, Directory};
-use sudo_policy::Checked;
-use sudo_verdict::{RuleIndex, verdict};
+use sudo_policy::{Checked, check};
+use sudo_text::Seq;
+use sudo_verdict::{Budget, Request, RuleIndex, verdict};
 
-/// A directory made of the rows of users and hosts, one user twice where told to.
+/// A directory made of the rows of users and hosts, all users twice where told to.
 #[derive(Drop)]
 struct Rows {
     alloc: Global,
@@ -43,7 +44,7 @@ fn end_of_rows(answer: &Result<Directory, DirFault>, rows: &Rows) -> End {
     match answer {
         Ok(made) => End::of(
             !rows.is_twice
-                && are_alike(made, &rows.wanted, b"operator", b"WEB2", b"adm")
+                && are_alike(made, &rows.wanted, b"operator", b"WEB2", b"alice")
                 && are_alike(made, &rows.wanted, b"nobody", b"web3", b"none"),
         ),
         Err(DirFault::Memory) => End::Refused,
@@ -61,13 +62,13 @@ fn is_twice(fault: &DirFault) -> bool {
 
 impl Trial for Rows {
     fn once<R: Threads + Wait + Sync>(&self, _rt: &R, memory: &mut Memory) -> Result<End, Fail> {
-        let mut people = people(self.alloc)?;
+        let mut rows = people(self.alloc)?;
         if self.is_twice {
-            people.append(&mut crate::fixtures::people(self.alloc)?)?;
+            rows.append(&mut people(self.alloc)?)?;
         }
         let machines = machines(self.alloc)?;
         memory.take();
-        let answer = Directory::new(self.alloc, people, machines);
+        let answer = Directory::new(self.alloc, rows, machines);
         memory.give_back();
         Ok(end_of_rows(&answer, self))
     }
@@ -84,55 +85,66 @@ fn memory_for_a_directory(rt: HostRuntime) -> Result<(), Fail> {
     )
 }
 
-/// Rules for alice, not bob, and for a group of both.
+/// Rules for alice, not operator, and for a group of its own.
 fn rules(alloc: Global) -> Result<String, AllocError> {
-    let mut text = String::from_str(alloc, "User_Alias S = alice, bob\n")?;
+    let mut text = String::from_str(alloc, "User_Alias S = alice, operator\n")?;
     for number in 0..20u32 {
-        let line = format!(in alloc; "S, !bob web1 = /bin/c{number}\n%operator ALL = /bin/o\n")?;
+        let line = format!(in alloc;
+            "S, !operator web1 = /bin/c{number}\n%operator ALL = /bin/o\n"
+        )?;
         text.push_str(line.as_str())?;
     }
     Ok(text)
 }
 
-const ASKS: &str = "alice,web1,,,/bin/c7,\nbob,web1,,,/bin/c7,\nbob,web2,,,/bin/o,";
+/// Returns the policy of these rules, checked.
+fn checked_rules(alloc: Global) -> Result<Checked, Fail> {
+    let text = rules(alloc)?;
+    let policy = policy(alloc, text.as_str())?;
+    Ok(check(alloc, policy)?)
+}
+
+/// Returns requests of which the first and the last are granted.
+fn requests(alloc: Global) -> Result<Seq<Request>, AllocError> {
+    let mut list = Seq::new(alloc);
+    list.push(request(alloc, "alice", "web1", "/bin/c7")?)?;
+    list.push(request(alloc, "operator", "web1", "/bin/c7")?)?;
+    list.push(request(alloc, "operator", "web2", "/bin/o")?)?;
+    Ok(list)
+}
 
 /// An index of rules, made.
 #[derive(Drop)]
 struct Indexing {
     alloc: Global,
     checked: Checked,
+    directory: Directory,
+    requests: Seq<Request>,
 }
 
 impl Indexing {
     fn new(alloc: Global) -> Result<Indexing, Fail> {
-        let text = rules(alloc)?;
+        let directory = directory(alloc)?;
+        let requests = requests(alloc)?;
         Ok(Indexing {
             alloc,
-            checked: checked(alloc, text.as_str())?,
+            checked: checked_rules(alloc)?,
+            directory,
+            requests,
         })
     }
 
     /// Returns whether each verdict by the index of the policy is the one without.
-    fn agrees(&self, index: &RuleIndex, directory: &Directory) -> Result<bool, Fail>
+    fn agrees(&self, index: &RuleIndex) -> bool
         requires { Indexes self.now.checked index.now }
     {
-        let requests = requests(self.alloc, ASKS)?;
-        for request in requests.as_slice() {
-            let found = index.verdict(&self.checked, directory, request);
-            if found != verdict(&self.checked, directory, request) {
-                return Ok(false);
+        for request in self.requests.as_slice() {
+            let found = index.verdict(&self.checked, &self.directory, request);
+            if found != verdict(&self.checked, &self.directory, request) {
+                return false;
             }
         }
-        Ok(true)
-    }
-
-    /// Returns how the making of an index of the policy ended.
-    fn end_of(&self, index: &RuleIndex) -> Result<End, Fail>
-        requires { Indexes self.now.checked index.now }
-    {
-        let directory = directory(self.alloc)?;
-        let agrees = self.agrees(index, &directory)?;
-        Ok(End::of(agrees))
+        true
     }
 }
 
@@ -142,7 +154,7 @@ impl Trial for Indexing {
         let answer = RuleIndex::of(self.alloc, &self.checked);
         memory.give_back();
         match answer {
-            Ok(index) => self.end_of(&index),
+            Ok(index) => Ok(End::of(self.agrees(&index))),
             Err(_) => Ok(End::Refused),
         }
     }
@@ -151,4 +163,16 @@ impl Trial for Indexing {
 #[test]
 fn memory_for_an_index_of_rules(rt: HostRuntime) -> Result<(), Fail> {
     swept(rt.alloc(), &rt, ROOM, &[Indexing::new(rt.alloc())?])
+}
+
+#[test]
+fn an_index_beyond_its_budget(rt: HostRuntime) -> Result<(), Fail> {
+    let indexing = Indexing::new(rt.alloc())?;
+    let budget = Budget {
+        words: 1,
+        members: 3,
+    };
+    let index = RuleIndex::within(rt.alloc(), &indexing.checked, budget)?;
+    assert!(rt; indexing.agrees(&index));
+    Ok(())
 }

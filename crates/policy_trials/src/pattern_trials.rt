@@ -1,8 +1,8 @@
-//! Tests of patterns and directories.
+//! Tests of patterns.
 
 use std::alloc::{AllocError, Global};
 use std::test::Fail;
-use sudo_match::{Directory, Group, Interface, Machine, Pattern, Person, Slash};
+use sudo_match::{Pattern, Slash};
 use sudo_text::{Ch, Seq};
 
 // Returns the characters of a word, in which a backslash escapes the next one.
@@ -182,128 +182,5 @@ fn many_unclosed_brackets_are_fast(rt: HostRuntime) -> Result<(), Fail> {
     assert!(rt; fit_repeated(rt, b"[[:alpha:]", b"[a")?);
     assert!(rt; fit_repeated(rt, b"[-", b"[-")?);
     assert!(rt; fit_repeated(rt, b"[x-[[:alpha:]", b"[x-[a")?);
-    Ok(())
-}
-
-// Returns a host with this address, 16 bits of which name its network, and a loopback interface.
-fn machine(alloc: Global, name: &[u8], addr: u32) -> Result<Machine, AllocError> {
-    let name = Seq::from_slice(alloc, name)?;
-    let mut interfaces = Seq::new(alloc);
-    interfaces.push(Interface {
-        addr: 0x7f00_0001,
-        bits: 8,
-    })?;
-    interfaces.push(Interface { addr, bits: 16 })?;
-    Ok(Machine { name, interfaces })
-}
-
-// Returns a group with this name and this ID.
-fn group(alloc: Global, name: &[u8], gid: u32) -> Result<Group, AllocError> {
-    let name = Seq::from_slice(alloc, name)?;
-    Ok(Group { name, gid })
-}
-
-// Returns a user with one group.
-fn person(alloc: Global, name: &[u8], group: Group) -> Result<Person, AllocError> {
-    let name = Seq::from_slice(alloc, name)?;
-    let mut groups = Seq::new(alloc);
-    groups.push(group)?;
-    Ok(Person {
-        name,
-        uid: 0,
-        groups,
-    })
-}
-
-// Returns the users `root`, of the group `root`, and `alice`, of the given group.
-fn users(alloc: Global, group_of_alice: Group) -> Result<Vec<Person>, AllocError> {
-    let mut people = Vec::new(alloc);
-    people.push(person(alloc, b"root", group(alloc, b"root", 0)?)?)?;
-    people.push(person(alloc, b"alice", group_of_alice)?)?;
-    Ok(people)
-}
-
-// Returns the host `web1` and another of the given name.
-fn two_hosts(alloc: Global, name: &[u8]) -> Result<Vec<Machine>, AllocError> {
-    let mut machines = Vec::new(alloc);
-    machines.push(machine(alloc, b"web1", 1)?)?;
-    machines.push(machine(alloc, name, 2)?)?;
-    Ok(machines)
-}
-
-// Whether a directory has none of these.
-fn lacks(directory: &Directory, user: &[u8], host: &[u8], group: &[u8]) -> bool {
-    directory.user(user).is_none()
-        && directory.host(host).is_none()
-        && directory.group(group).is_none()
-}
-
-// Whether a directory has this user, this host, and a group of this name and ID.
-fn knows(directory: &Directory, user: &[u8], host: &[u8], group: &[u8], gid: u32) -> bool {
-    let has_group = match directory.group(group) {
-        Some(group) => group.gid == gid,
-        None => false,
-    };
-    has_group && directory.user(user).is_some() && directory.host(host).is_some()
-}
-
-#[test]
-fn directory_knows_its_rows(rt: HostRuntime) -> Result<(), Fail> {
-    let people = users(rt.alloc(), group(rt.alloc(), b"adm", 4)?)?;
-    let directory = Directory::new(rt.alloc(), people, two_hosts(rt.alloc(), b"WEB2")?)?;
-    assert!(rt; knows(&directory, b"alice", b"Web2", b"adm", 4));
-    assert!(rt; lacks(&directory, b"Alice", b"web3", b"wheel"));
-    Ok(())
-}
-
-// Returns a name of five letters for each number below 26^5.
-fn bucket_of(alloc: Global, number: u32) -> Result<Seq<u8>, AllocError> {
-    let mut name = Seq::new(alloc);
-    let mut left = number;
-    for _ in 0..5u32 {
-        name.push(b'a' + (left % 26) as u8)?;
-        left = left / 26;
-    }
-    Ok(name)
-}
-
-// Returns the user of a number, with a group of its own.
-fn numbered_user(alloc: Global, number: u32) -> Result<Person, AllocError> {
-    let name = bucket_of(alloc, number)?;
-    let own = group(alloc, name.as_slice(), number.saturating_add(1000))?;
-    person(alloc, name.as_slice(), own)
-}
-
-// Returns the host of a number.
-fn numbered_host(alloc: Global, number: u32) -> Result<Machine, AllocError> {
-    let name = bucket_of(alloc, number)?;
-    machine(alloc, name.as_slice(), number)
-}
-
-// Returns 100,000 users and some that are needed.
-fn many_users(alloc: Global) -> Result<Vec<Person>, AllocError> {
-    let mut people = users(alloc, group(alloc, b"adm", 4)?)?;
-    for number in 0..100000u32 {
-        people.push(numbered_user(alloc, number)?)?;
-    }
-    Ok(people)
-}
-
-// Returns 100,000 hosts.
-fn many_hosts(alloc: Global) -> Result<Vec<Machine>, AllocError> {
-    let mut machines = Vec::new(alloc);
-    for number in 0..100000u32 {
-        machines.push(numbered_host(alloc, number)?)?;
-    }
-    Ok(machines)
-}
-
-#[test]
-fn large_directories_are_fast(rt: HostRuntime) -> Result<(), Fail> {
-    let people = many_users(rt.alloc())?;
-    let directory = Directory::new(rt.alloc(), people, many_hosts(rt.alloc())?)?;
-    let last = bucket_of(rt.alloc(), 99999)?;
-    let name = last.as_slice();
-    assert!(rt; knows(&directory, name, name, name, 100999));
     Ok(())
 }

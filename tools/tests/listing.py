@@ -1,0 +1,309 @@
+"""A second body of the verdict, and policies that are drawn at random.
+
+The body writes every list out, tries every grant in the order of the file, and takes the last that applies. It shares nothing with
+the program, and reads no policy: rules are made here, and printed. Who or what a member of a list is for stands in tables, by
+sudoers(5), for a few users, hosts and commands.
+"""
+
+import random
+from collections.abc import Iterator
+from typing import NamedTuple
+
+USERS = """
+user,uid,groups
+root,0,root:0
+alice,1000,alice:1000 adm:4
+bob,1001,bob:1001 operator:37
+operator,11,operator:37
+"""
+HOSTS = """
+host,interfaces
+web1,10.1.2.3/16 127.0.0.1/8
+web2,10.2.0.9/16
+"""
+GROUPS = {"root": {"root"}, "alice": {"alice", "adm"}, "bob": {"bob", "operator"}, "operator": {"operator"}}
+KNOWN_GROUPS = set().union(*GROUPS.values())
+COMMANDS = {"/bin/ls,", "/bin/ls,-l", "/bin/su,", "/bin/su,-", "/bin/id,", "/usr/bin/id,", "sudoedit,/etc/motd"}
+PAIRS = ("EXEC", "FOLLOW", "INTERCEPT", "LOG_INPUT", "LOG_OUTPUT", "MAIL", "PASSWD", "SETENV")
+
+# Whom or what each word of a list is for.
+FITS = {
+    "User": {
+        "ALL": set(GROUPS),
+        "alice": {"alice"},
+        "bob": {"bob"},
+        "#1001": {"bob"},
+        "%adm": {"alice"},
+        "%#37": {"bob", "operator"},
+    },
+    "Host": {
+        "ALL": {"web1", "web2"},
+        "web1": {"web1"},
+        "WEB[2-9]": {"web2"},
+        "10.1.0.0/16": {"web1"},
+        "10.1.0.0": {"web1"},
+        "10.2.0.9": {"web2"},
+        "10.2.0.0/255.255.255.0": {"web2"},
+        "127.0.0.1": set(),
+    },
+    "Runas": {
+        "ALL": set(GROUPS),
+        "root": {"root"},
+        "#11": {"operator"},
+        "operator": {"operator"},
+        "alice": {"alice"},
+        "adm": set(),
+        "#37": set(),
+    },
+    "Cmnd": {
+        "ALL": COMMANDS,
+        "/bin/ls": {"/bin/ls,", "/bin/ls,-l"},
+        "/bin/ls -?": {"/bin/ls,-l"},
+        '/bin/su ""': {"/bin/su,"},
+        "/bin/su": {"/bin/su,", "/bin/su,-"},
+        "/bin/": {"/bin/ls,", "/bin/ls,-l", "/bin/su,", "/bin/su,-", "/bin/id,"},
+        "/bin/[!s]*": {"/bin/ls,", "/bin/ls,-l", "/bin/id,"},
+        "/*/id": {"/bin/id,"},
+        "sudoedit /etc/*": {"sudoedit,/etc/motd"},
+    },
+}
+# For which groups the words of a list of users to run as are, where the list is of groups.
+FITS_GROUP = {
+    "ALL": KNOWN_GROUPS,
+    "root": {"root"},
+    "#11": set(),
+    "operator": {"operator"},
+    "alice": {"alice"},
+    "adm": {"adm"},
+    "#37": {"operator"},
+}
+
+
+class Member(NamedTuple):
+    """A member of a list: how many `!` it has, and a word or the name of an alias."""
+
+    bangs: int
+    word: str
+
+    def __str__(self) -> str:
+        return "!" * self.bangs + self.word
+
+
+List = list[Member]
+
+
+class Runas(NamedTuple):
+    """Whom to run a command as: the users and the groups, each where it is written."""
+
+    users: List | None
+    groups: List | None
+
+    def __str__(self) -> str:
+        return f"({joined(self.users or [])}{'' if self.groups is None else ':' + joined(self.groups)})"
+
+
+class Command(NamedTuple):
+    """A command of a rule, with what stands before it."""
+
+    runas: Runas | None
+    tags: list[str]
+    member: Member
+
+    def __str__(self) -> str:
+        return "".join([f"{self.runas} " if self.runas else "", *(f"{tag}: " for tag in self.tags), str(self.member)])
+
+
+class Section(NamedTuple):
+    """Hosts of a rule, and the commands on them."""
+
+    hosts: List
+    commands: list[Command]
+
+
+class Rule(NamedTuple):
+    """A rule."""
+
+    users: List
+    sections: list[Section]
+
+    def __str__(self) -> str:
+        sections = (f"{joined(it.hosts)} = {', '.join(map(str, it.commands))}" for it in self.sections)
+        return f"{joined(self.users)} {' : '.join(sections)}"
+
+
+class Policy(NamedTuple):
+    """Aliases by kind and name, and rules."""
+
+    aliases: dict[str, dict[str, List]]
+    rules: list[Rule]
+
+    def lines(self) -> list[str]:
+        """Returns the lines of the policy, aliases first."""
+        aliases = [f"{kind}_Alias {name} = {joined(it)}" for kind, of in self.aliases.items() for name, it in of.items()]
+        return [*aliases, *map(str, self.rules)]
+
+
+class Request(NamedTuple):
+    """A request. `command` has the arguments after a comma."""
+
+    user: str
+    host: str
+    runas_user: str
+    runas_group: str
+    command: str
+
+    @property
+    def target(self) -> str:
+        """The user to run as: the one that is asked for, or who asks where only a group is, or root."""
+        return self.runas_user or (self.user if self.runas_group else "root")
+
+
+def joined(members: List) -> str:
+    """Returns a list as it is written."""
+    return ", ".join(map(str, members))
+
+
+def written_out(policy: Policy, kind: str, members: List, negated: bool = False) -> Iterator[tuple[bool, str]]:
+    """Yields the words of a list, in which each alias is written out, and whether each is negated."""
+    for member in members:
+        sign = negated != (member.bangs % 2 == 1)
+        if member.word in policy.aliases[kind]:
+            yield from written_out(policy, kind, policy.aliases[kind][member.word], sign)
+        else:
+            yield sign, member.word
+
+
+def last_of(policy: Policy, kind: str, members: List, subject: str, fits: dict[str, set[str]]) -> tuple[bool, str] | None:
+    """Returns whether the last word that is for the subject allows, and that word."""
+    found = None
+    for negated, word in written_out(policy, kind, members):
+        if subject in fits[word]:
+            found = not negated, word
+    return found
+
+
+def allows(policy: Policy, kind: str, members: List, subject: str) -> bool | None:
+    """Returns whether a list allows, or `None` where no word is for the subject."""
+    found = last_of(policy, kind, members, subject, FITS[kind])
+    return None if found is None else found[0]
+
+
+def has_group(user: str, group: str) -> bool:
+    """Returns whether the user has the group that is asked for, if any is."""
+    return not group or group in GROUPS[user]
+
+
+def allows_group(policy: Policy, members: List, user: str, group: str) -> bool:
+    """Returns whether a list of groups, or else the user's own groups, allow the group that is asked for, if any is."""
+    found = last_of(policy, "Runas", members, group, FITS_GROUP) if group else None
+    return has_group(user, group) if found is None else found[0]
+
+
+def allows_target(policy: Policy, runas: Runas | None, asked: Request) -> bool:
+    """Returns whether the request may run as it asks to: sudoers(5), "Runas_Spec"."""
+    target, group = asked.target, asked.runas_group
+    is_own = asked.runas_user in ("", asked.user)
+    if runas is None:
+        return target == "root" and has_group(target, group)
+    if runas.users is None:
+        return is_own and allows_group(policy, runas.groups or [], asked.user, group)
+    listed = allows(policy, "Runas", runas.users, target)
+    if runas.groups is None:
+        return listed is True and has_group(target, group)
+    if listed is None:
+        listed = bool(group) and target == asked.user
+    return listed and allows_group(policy, runas.groups, target, group)
+
+
+def tags_shown(tags: dict[str, bool]) -> str:
+    """Returns the tags that hold, as a report has them."""
+    return " ".join(("" if tags[pair] else "NO") + pair for pair in PAIRS if pair in tags)
+
+
+def section_says(policy: Policy, section: Section, asked: Request, line: int) -> str | None:
+    """Returns the last verdict of a section's commands, as a report has it."""
+    said, tags, runas = None, {}, None
+    for command in section.commands:
+        runas = command.runas or runas
+        tags |= {tag.removeprefix("NO"): not tag.startswith("NO") for tag in command.tags}
+        found = last_of(policy, "Cmnd", [command.member], asked.command, FITS["Cmnd"])
+        if found and allows_target(policy, runas, asked):
+            given = {"SETENV": True, **tags} if found[1] == "ALL" else tags
+            said = f"allow,p:{line},{tags_shown(given)}" if found[0] else f"deny,p:{line},"
+    return said
+
+
+def unknown(asked: Request) -> str | None:
+    """Returns the verdict on a request that names somebody or something unknown."""
+    if asked.user not in GROUPS:
+        return "unknown-user,,"
+    if asked.host not in FITS["Host"]["ALL"]:
+        return "unknown-host,,"
+    if asked.runas_user and asked.runas_user not in GROUPS:
+        return "unknown-target,,"
+    if asked.runas_group and asked.runas_group not in KNOWN_GROUPS:
+        return "unknown-group,,"
+    return None
+
+
+def verdict(policy: Policy, asked: Request) -> str:
+    """Returns the verdict on a request, as a report has it."""
+    said = unknown(asked)
+    if said:
+        return said
+    said = "nomatch,,"
+    first = 1 + len(policy.lines()) - len(policy.rules)
+    for line, rule in enumerate(policy.rules, first):
+        if allows(policy, "User", rule.users, asked.user):
+            for section in rule.sections:
+                if allows(policy, "Host", section.hosts, asked.host):
+                    said = section_says(policy, section, asked, line) or said
+    return said
+
+
+class Draw:
+    """Policies and requests drawn at random, by a seed."""
+
+    def __init__(self, seed: int) -> None:
+        self.random = random.Random(seed)
+        self.aliases: dict[str, dict[str, List]] = {kind: {} for kind in FITS}
+
+    def members(self, kind: str, most: int = 3) -> List:
+        """Draws a list. Its aliases are those that stand before it, so that none is in a cycle."""
+        words = [*FITS[kind], *2 * [*self.aliases[kind]]]
+        count = self.random.randint(1, most)
+        return [Member(self.random.choices((0, 1, 2), (14, 5, 1))[0], self.random.choice(words)) for _ in range(count)]
+
+    def runas(self) -> Runas:
+        """Draws whom to run as, in one of the four forms."""
+        users, groups = (self.random.choice((None, self.members("Runas"))) for _ in range(2))
+        return Runas(users, groups)
+
+    def command(self) -> Command:
+        """Draws a command."""
+        tags = [self.random.choice(("", "NO")) + self.random.choice(PAIRS) for _ in range(self.random.choice((0, 0, 1, 2)))]
+        return Command(self.runas() if self.random.random() < 0.5 else None, tags, self.members("Cmnd", 1)[0])
+
+    def section(self) -> Section:
+        """Draws a section of up to four commands."""
+        return Section(self.members("Host"), [self.command() for _ in range(self.random.randint(1, 4))])
+
+    def policy(self) -> Policy:
+        """Draws a policy of up to three aliases of each kind, and up to six rules."""
+        for kind, of in self.aliases.items():
+            for number in range(self.random.randint(0, 3)):
+                of[f"{kind[0]}{number}"] = self.members(kind)
+        count = self.random.randint(1, 6)
+        rules = [Rule(self.members("User"), [self.section() for _ in range(self.random.choice((1, 1, 2)))]) for _ in range(count)]
+        return Policy(self.aliases, rules)
+
+    def request(self) -> Request:
+        """Draws a request, one of six or so with an unknown name."""
+        return Request(
+            self.random.choice([*6 * [*GROUPS], "carol"]),
+            self.random.choice([*10 * ["web1", "web2"], "db"]),
+            self.random.choice([*12 * [""], *3 * [*GROUPS], "eve"]),
+            self.random.choice([*18 * [""], *2 * sorted(KNOWN_GROUPS), "wheel"]),
+            self.random.choice(sorted(COMMANDS)),
+        )
+
