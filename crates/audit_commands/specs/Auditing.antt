@@ -32,6 +32,18 @@ pub record Given : Type 0 where
   pub readable_bytes : List (Option Ahead)
   pub workers : ℕ
 
+-- the input, its parts in this order
+abbrev pub given_by : Option Holdings → List ℕ → Option Ahead → Option Ahead → List (List ℕ) → List (Option Ahead) → ℕ → Given
+given_by held path users hosts sources readable_bytes workers = record {
+  held = held;
+  path = path;
+  users = users;
+  hosts = hosts;
+  sources = sources;
+  readable_bytes = readable_bytes;
+  workers = workers;
+}
+
 -- these are the users and hosts that the files state, and they have no fault
 pub record IsDirectory (users hosts : Option Ahead) (directory : KnownRows) : Type 0 where
   pub people_read : IsRead people users (Ok directory.people)

@@ -1,6 +1,6 @@
 //! `audit`: answers requests.
 ghost use Rattle.std.specs.Prelude.{◌≡◌, ◌≤◌, ℕ, List, Option, IfErr, IfOk, map};
-ghost use Rattle.audit_commands.specs.Auditing.{Given, IsAudited, IsDirectory, IsNoDirectory, IsNotAudited, IsReported, IsUnreported};
+ghost use Rattle.audit_commands.specs.Auditing.{Given, given_by, IsAudited, IsDirectory, IsNoDirectory, IsNotAudited, IsReported, IsUnreported};
 ghost use Rattle.audit_commands.specs.Holding.{Holdings};
 ghost use Rattle.audit_commands.specs.Loading.{IsChecked};
 ghost use Rattle.audit_commands.specs.Endings.{writer_states as sent, Ends};
@@ -125,26 +125,12 @@ fn audited<T: Threads + Wait + Sync, U: Feed, H: Feed, R: Feed + Drop + Send>(
 ) -> Result<RunOutput, Fault>
     requires { (1 ≤ workers) × (workers ≤ 16) }
     ensures report { (held : Option Holdings) (path : List ℕ) → IsChecked held path policy.now →
-        let given : Given = record {
-          held = held;
-          path = path;
-          users = U.ahead users.old;
-          hosts = H.ahead hosts.old;
-          sources = map (λ s. s.name) sources.items;
-          readable_bytes = map (λ s. R.ahead s.reader) sources.items;
-          workers = workers;
-        } in
+        let given : Given = given_by held path (U.ahead users.old) (H.ahead hosts.old)
+            (map (λ s. s.name) sources.items) (map (λ s. R.ahead s.reader) sources.items) workers in
         IfOk result (λ p. IsAudited given p.text.items p.status) }
     ensures fault { (held : Option Holdings) (path : List ℕ) → IsChecked held path policy.now →
-        let given : Given = record {
-          held = held;
-          path = path;
-          users = U.ahead users.old;
-          hosts = H.ahead hosts.old;
-          sources = map (λ s. s.name) sources.items;
-          readable_bytes = map (λ s. R.ahead s.reader) sources.items;
-          workers = workers;
-        } in
+        let given : Given = given_by held path (U.ahead users.old) (H.ahead hosts.old)
+            (map (λ s. s.name) sources.items) (map (λ s. R.ahead s.reader) sources.items) workers in
         IfErr result (IsNotAudited given) }
 {
     match directory_of(alloc, users, hosts) {
@@ -177,15 +163,9 @@ pub(crate) fn audit_keeping<
 ) -> u8
     requires { (1 ≤ workers) × (workers ≤ 16) }
     ensures most { result ≤ 4 }
-    ensures ends { let given : Given = record {
-      held = F.held files.old;
-      path = path.now;
-      users = U.ahead users.old;
-      hosts = H.ahead hosts.old;
-      sources = map (λ s. s.name) sources.items;
-      readable_bytes = map (λ s. R.ahead s.reader) sources.items;
-      workers = workers;
-    } in
+    ensures ends { let given : Given = given_by (F.held files.old) path.now
+        (U.ahead users.old) (H.ahead hosts.old) (map (λ s. s.name) sources.items)
+        (map (λ s. R.ahead s.reader) sources.items) workers in
         Ends (IsAudited given) (IsNotAudited given) result
         (sent O.taken O.stalled_writes out.old out.new)
         (sent E.taken E.stalled_writes err.old err.new) }
@@ -239,15 +219,9 @@ pub fn audit_into<
 ) -> u8
     requires { (1 ≤ workers) × (workers ≤ 16) }
     ensures most { result ≤ 4 }
-    ensures ends { let given : Given = record {
-      held = F.held files.old;
-      path = path.now;
-      users = U.ahead users.old;
-      hosts = H.ahead hosts.old;
-      sources = map (λ s. s.name) sources.items;
-      readable_bytes = map (λ s. R.ahead s.reader) sources.items;
-      workers = workers;
-    } in
+    ensures ends { let given : Given = given_by (F.held files.old) path.now
+        (U.ahead users.old) (H.ahead hosts.old) (map (λ s. s.name) sources.items)
+        (map (λ s. R.ahead s.reader) sources.items) workers in
         Ends (IsAudited given) (IsNotAudited given) result
         (sent O.taken O.stalled_writes out.old out.new)
         (sent E.taken E.stalled_writes err.old err.new) }

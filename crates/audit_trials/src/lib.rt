@@ -5,8 +5,6 @@
 #[cfg(test)]
 mod device_trials;
 #[cfg(test)]
-mod file_trials;
-#[cfg(test)]
 mod fixtures;
 #[cfg(test)]
 mod growth_trials;
