@@ -1,5 +1,5 @@
 -- Laws of the marking of aliases.
-use Rattle.std.proofs.Common.{◌≡◌, ℕ, zero, suc, ◌+◌, ◌<◌, Bool, true, false, List, [], ◌∷◌, ◌++◌, take, set, get_or, replicate, length, Option, Some, refl, sym, ◌∙◌, ap, subst, arith, inl, inr, ◌⊎◌, length-append}
+use Rattle.std.proofs.Common.{◌≡◌, ℕ, zero, suc, ◌+◌, ◌<◌, Bool, true, false, List, [], ◌∷◌, ◌++◌, set, get_or, replicate, length, Option, Some, refl, sym, ◌∙◌, ap, subst, arith, inl, inr, ◌⊎◌, length-append}
 use Rattle.std.specs.Prelude.{slice_get, Contains}
 use Rattle.std.proofs.lemmas.Option.{slice_get-get_or}
 use Rattle.std.proofs.lemmas.List.Elements.{Contains-get_or, Contains-append_left, Contains-append_right, Contains-append_cases, Contains-push, Contains-push_cases}
@@ -183,15 +183,6 @@ inside_link link n alias inside is = inside alias (subst (λ (l : Option ℕ). C
 
 pub inside_row : (row : List (Option ℕ)) (n k : ℕ) (d : Option ℕ) → IsInside row n → k < length row → IsInside (get_or row k d ∷ []) n
 inside_row row n k d inside less i h = inside i (subst (λ (l : Option ℕ). Contains row l) (one_in (get_or row k d) (Some i) h) (Contains-get_or row k d less))
-
-take-front : {X : Type 0} (xs zs : List X) → take (length xs) (xs ++ zs) ≡ xs
-take-front [] [] = refl
-take-front [] (z ∷ zs) = refl
-take-front (x ∷ xs) zs = ap (λ ys. x ∷ ys) (take-front xs zs)
-
--- what a slice wrote back into its vector
-pub written_back : {X : Type 0} (n : ℕ) (xs zs : List X) → length xs ≡ n → take n (xs ++ zs) ≡ xs
-written_back n xs zs long = ap (λ k. take k (xs ++ zs)) (sym long) ∙ take-front xs zs
 
 -- one value over and over
 all_same : {X : Type 0} (n i : ℕ) (v x : X) → slice_get (replicate n v) i ≡ Some x → x ≡ v

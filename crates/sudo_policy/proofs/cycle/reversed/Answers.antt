@@ -1,8 +1,9 @@
 use Rattle.std.proofs.Common.{◌≡◌, ◌+◌, ℕ, List, Option, Some, drop, length, refl, sym, ap, ◌∙◌, subst, arith}
 use Rattle.std.specs.Prelude.{slice_get}
 use Rattle.std.proofs.lemmas.Option.{slice_get_read}
+use lib.Seq.{take_at}
 use Rattle.sudo_policy.specs.Body.Marking.{ReversesUpTo, ReversesRow}
-use Rattle.sudo_policy.proofs.MarkingLemmas.{row-inside, written_back, ReversesUpTo-next}
+use Rattle.sudo_policy.proofs.MarkingLemmas.{row-inside, ReversesUpTo-next}
 use Rattle.sudo_policy.proofs.cycle.reversed.Goals as goal
 
 pub turn_row-requires : goal.turn_row-requires
@@ -24,5 +25,5 @@ loop-from-preserved c =
     let same = row.same_length in
     let held = c.loop-from.back.ok.0 in
     subst (λ (back : List (List (Option ℕ))). ReversesUpTo g (c.loop-from.from + 1) back)
-    (sym (written_back c.loop-from.back.len new (drop (length new) c.loop-from.back.items) (omega (arith, same, held))))
+    (sym (take_at new (drop (length new) c.loop-from.back.items) c.loop-from.back.len (omega (arith, same, held))))
     (ReversesUpTo-next g c.loop-from.back.items new c.loop-from.from c.as_slice.result.now at c.loop-from.invariant row)
