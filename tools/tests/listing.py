@@ -1,29 +1,33 @@
 """A second body of the verdict, and policies that are drawn at random.
 
 The body writes every list out, tries every grant in the order of the file, and takes the last that applies. It shares nothing with
-the program, and reads no policy: rules are made here, and printed. Who or what a member of a list is for stands in tables, by
-sudoers(5), for a few users, hosts and commands.
+the program, and reads no policy: rules are made here, and printed. Whom and what each word of a list is for stands in tables, by
+sudoers(5) and docs/PROFILE.md, for a few users, hosts and commands.
 """
 
+import csv
 import random
 from collections.abc import Iterator
 from typing import NamedTuple
 
-USERS = """
-user,uid,groups
+USERS = """user,uid,groups
 root,0,root:0
 alice,1000,alice:1000 adm:4
 bob,1001,bob:1001 operator:37
 operator,11,operator:37
 """
-HOSTS = """
-host,interfaces
+HOSTS = """host,interfaces
 web1,10.1.2.3/16 127.0.0.1/8
 web2,10.2.0.9/16
 """
-GROUPS = {"root": {"root"}, "alice": {"alice", "adm"}, "bob": {"bob", "operator"}, "operator": {"operator"}}
+GROUPS = {row["user"]: {group.partition(":")[0] for group in row["groups"].split()} for row in csv.DictReader(USERS.splitlines())}
 KNOWN_GROUPS = set().union(*GROUPS.values())
-COMMANDS = {"/bin/ls,", "/bin/ls,-l", "/bin/su,", "/bin/su,-", "/bin/id,", "/usr/bin/id,", "sudoedit,/etc/motd"}
+KNOWN_HOSTS = {row["host"] for row in csv.DictReader(HOSTS.splitlines())}
+# Commands with their arguments, which stand after a comma.
+LS = {"/bin/ls,", "/bin/ls,-l", "/bin/ls,-l -a"}
+SU = {"/bin/su,", "/bin/su,-"}
+EDITS = {"sudoedit,", "sudoedit,/etc/motd", "sudoedit,/etc/a/b"}
+COMMANDS = {*LS, *SU, *EDITS, "/bin/id,", "/bin/x/id,", "/usr/bin/id,"}
 PAIRS = ("EXEC", "FOLLOW", "INTERCEPT", "LOG_INPUT", "LOG_OUTPUT", "MAIL", "PASSWD", "SETENV")
 
 # Whom or what each word of a list is for.
@@ -32,38 +36,56 @@ FITS = {
         "ALL": set(GROUPS),
         "alice": {"alice"},
         "bob": {"bob"},
+        "carol": set(),
         "#1001": {"bob"},
+        "#37": set(),
         "%adm": {"alice"},
+        "%operator": {"bob", "operator"},
+        "%wheel": set(),
         "%#37": {"bob", "operator"},
+        "%#11": set(),
     },
     "Host": {
-        "ALL": {"web1", "web2"},
+        "ALL": KNOWN_HOSTS,
         "web1": {"web1"},
         "WEB[2-9]": {"web2"},
-        "10.1.0.0/16": {"web1"},
+        "web?": {"web1", "web2"},
+        "db": set(),
         "10.1.0.0": {"web1"},
         "10.2.0.9": {"web2"},
-        "10.2.0.0/255.255.255.0": {"web2"},
         "127.0.0.1": set(),
+        "10.1.0.0/16": {"web1"},
+        "10.1.2.0/24": {"web1"},
+        "10.1.0.0/24": set(),
+        "10.2.0.0/255.255.255.0": {"web2"},
+        "10.2.1.0/255.255.255.0": set(),
+        "0.0.0.0/0": {"web1", "web2"},
+        "127.0.0.0/8": set(),
     },
     "Runas": {
         "ALL": set(GROUPS),
         "root": {"root"},
-        "#11": {"operator"},
         "operator": {"operator"},
         "alice": {"alice"},
         "adm": set(),
+        "eve": set(),
+        "#11": {"operator"},
         "#37": set(),
+        "%adm": {"alice"},
+        "%#37": {"bob", "operator"},
     },
     "Cmnd": {
         "ALL": COMMANDS,
-        "/bin/ls": {"/bin/ls,", "/bin/ls,-l"},
+        "/bin/ls": LS,
         "/bin/ls -?": {"/bin/ls,-l"},
+        "/bin/ls -*": {"/bin/ls,-l", "/bin/ls,-l -a"},
+        "/bin/su": SU,
         '/bin/su ""': {"/bin/su,"},
-        "/bin/su": {"/bin/su,", "/bin/su,-"},
-        "/bin/": {"/bin/ls,", "/bin/ls,-l", "/bin/su,", "/bin/su,-", "/bin/id,"},
-        "/bin/[!s]*": {"/bin/ls,", "/bin/ls,-l", "/bin/id,"},
+        "/bin/": {*LS, *SU, "/bin/id,"},
+        "/bin/x/": {"/bin/x/id,"},
+        "/bin/[!s]*": {*LS, "/bin/id,"},
         "/*/id": {"/bin/id,"},
+        "sudoedit": EDITS,
         "sudoedit /etc/*": {"sudoedit,/etc/motd"},
     },
 }
@@ -71,11 +93,14 @@ FITS = {
 FITS_GROUP = {
     "ALL": KNOWN_GROUPS,
     "root": {"root"},
-    "#11": set(),
     "operator": {"operator"},
     "alice": {"alice"},
     "adm": {"adm"},
+    "eve": set(),
+    "#11": set(),
     "#37": {"operator"},
+    "%adm": {"adm"},
+    "%#37": {"operator"},
 }
 
 
@@ -89,14 +114,19 @@ class Member(NamedTuple):
         return "!" * self.bangs + self.word
 
 
-List = list[Member]
+Members = list[Member]
+
+
+def joined(members: Members) -> str:
+    """Returns a list as it is written."""
+    return ", ".join(map(str, members))
 
 
 class Runas(NamedTuple):
     """Whom to run a command as: the users and the groups, each where it is written."""
 
-    users: List | None
-    groups: List | None
+    users: Members | None
+    groups: Members | None
 
     def __str__(self) -> str:
         return f"({joined(self.users or [])}{'' if self.groups is None else ':' + joined(self.groups)})"
@@ -110,37 +140,37 @@ class Command(NamedTuple):
     member: Member
 
     def __str__(self) -> str:
-        return "".join([f"{self.runas} " if self.runas else "", *(f"{tag}: " for tag in self.tags), str(self.member)])
+        return " ".join(map(str, [*([] if self.runas is None else [self.runas]), *(f"{tag}:" for tag in self.tags), self.member]))
 
 
 class Section(NamedTuple):
     """Hosts of a rule, and the commands on them."""
 
-    hosts: List
+    hosts: Members
     commands: list[Command]
+
+    def __str__(self) -> str:
+        return f"{joined(self.hosts)} = {', '.join(map(str, self.commands))}"
 
 
 class Rule(NamedTuple):
     """A rule."""
 
-    users: List
+    users: Members
     sections: list[Section]
 
     def __str__(self) -> str:
-        sections = (f"{joined(it.hosts)} = {', '.join(map(str, it.commands))}" for it in self.sections)
-        return f"{joined(self.users)} {' : '.join(sections)}"
+        return f"{joined(self.users)} {' : '.join(map(str, self.sections))}"
 
 
 class Policy(NamedTuple):
-    """Aliases by kind and name, and rules."""
+    """Aliases by kind and name, and the lines: rules, and others."""
 
-    aliases: dict[str, dict[str, List]]
-    rules: list[Rule]
+    aliases: dict[str, dict[str, Members]]
+    lines: list[Rule | str]
 
-    def lines(self) -> list[str]:
-        """Returns the lines of the policy, aliases first."""
-        aliases = [f"{kind}_Alias {name} = {joined(it)}" for kind, of in self.aliases.items() for name, it in of.items()]
-        return [*aliases, *map(str, self.rules)]
+    def __str__(self) -> str:
+        return "".join(f"{line}\n" for line in self.lines)
 
 
 class Request(NamedTuple):
@@ -154,16 +184,11 @@ class Request(NamedTuple):
 
     @property
     def target(self) -> str:
-        """The user to run as: the one that is asked for, or who asks where only a group is, or root."""
+        """Returns whom a list of users, or a command without a runas, is asked for."""
         return self.runas_user or (self.user if self.runas_group else "root")
 
 
-def joined(members: List) -> str:
-    """Returns a list as it is written."""
-    return ", ".join(map(str, members))
-
-
-def written_out(policy: Policy, kind: str, members: List, negated: bool = False) -> Iterator[tuple[bool, str]]:
+def written_out(policy: Policy, kind: str, members: Members, negated: bool = False) -> Iterator[tuple[bool, str]]:
     """Yields the words of a list, in which each alias is written out, and whether each is negated."""
     for member in members:
         sign = negated != (member.bangs % 2 == 1)
@@ -173,16 +198,13 @@ def written_out(policy: Policy, kind: str, members: List, negated: bool = False)
             yield sign, member.word
 
 
-def last_of(policy: Policy, kind: str, members: List, subject: str, fits: dict[str, set[str]]) -> tuple[bool, str] | None:
-    """Returns whether the last word that is for the subject allows, and that word."""
-    found = None
-    for negated, word in written_out(policy, kind, members):
-        if subject in fits[word]:
-            found = not negated, word
-    return found
+def last_of(policy: Policy, kind: str, members: Members, subject: str, fits: dict[str, set[str]]) -> tuple[bool, str] | None:
+    """Returns whether the last word that is for the subject allows, and that word, or `None` where no word is for it."""
+    fitting = [(not negated, word) for negated, word in written_out(policy, kind, members) if subject in fits[word]]
+    return fitting[-1] if fitting else None
 
 
-def allows(policy: Policy, kind: str, members: List, subject: str) -> bool | None:
+def allows(policy: Policy, kind: str, members: Members, subject: str) -> bool | None:
     """Returns whether a list allows, or `None` where no word is for the subject."""
     found = last_of(policy, kind, members, subject, FITS[kind])
     return None if found is None else found[0]
@@ -193,19 +215,19 @@ def has_group(user: str, group: str) -> bool:
     return not group or group in GROUPS[user]
 
 
-def allows_group(policy: Policy, members: List, user: str, group: str) -> bool:
+def allows_group(policy: Policy, members: Members, user: str, group: str) -> bool:
     """Returns whether a list of groups, or else the user's own groups, allow the group that is asked for, if any is."""
     found = last_of(policy, "Runas", members, group, FITS_GROUP) if group else None
     return has_group(user, group) if found is None else found[0]
 
 
 def allows_target(policy: Policy, runas: Runas | None, asked: Request) -> bool:
-    """Returns whether the request may run as it asks to: sudoers(5), "Runas_Spec"."""
+    """Returns whether the request may run as it asks to: sudoers(5), "Runas_Spec"; docs/PROFILE.md, "Groups to run with"."""
     target, group = asked.target, asked.runas_group
-    is_own = asked.runas_user in ("", asked.user)
     if runas is None:
         return target == "root" and has_group(target, group)
     if runas.users is None:
+        is_own = asked.runas_user in ("", asked.user)
         return is_own and allows_group(policy, runas.groups or [], asked.user, group)
     listed = allows(policy, "Runas", runas.users, target)
     if runas.groups is None:
@@ -221,23 +243,24 @@ def tags_shown(tags: dict[str, bool]) -> str:
 
 
 def section_says(policy: Policy, section: Section, asked: Request, line: int) -> str | None:
-    """Returns the last verdict of a section's commands, as a report has it."""
+    """Returns the last verdict of a section's commands, as a report has it, or `None` where none of them applies."""
     said, tags, runas = None, {}, None
     for command in section.commands:
-        runas = command.runas or runas
+        runas = runas if command.runas is None else command.runas
         tags |= {tag.removeprefix("NO"): not tag.startswith("NO") for tag in command.tags}
         found = last_of(policy, "Cmnd", [command.member], asked.command, FITS["Cmnd"])
-        if found and allows_target(policy, runas, asked):
-            given = {"SETENV": True, **tags} if found[1] == "ALL" else tags
-            said = f"allow,p:{line},{tags_shown(given)}" if found[0] else f"deny,p:{line},"
+        if found is not None and allows_target(policy, runas, asked):
+            is_allowed, word = found
+            given = {"SETENV": True, **tags} if word == "ALL" else tags
+            said = f"allow,p:{line},{tags_shown(given)}" if is_allowed else f"deny,p:{line},"
     return said
 
 
 def unknown(asked: Request) -> str | None:
-    """Returns the verdict on a request that names somebody or something unknown."""
+    """Returns the verdict on a request that names somebody or something unknown, or `None` where all is known."""
     if asked.user not in GROUPS:
         return "unknown-user,,"
-    if asked.host not in FITS["Host"]["ALL"]:
+    if asked.host not in KNOWN_HOSTS:
         return "unknown-host,,"
     if asked.runas_user and asked.runas_user not in GROUPS:
         return "unknown-target,,"
@@ -249,35 +272,38 @@ def unknown(asked: Request) -> str | None:
 def verdict(policy: Policy, asked: Request) -> str:
     """Returns the verdict on a request, as a report has it."""
     said = unknown(asked)
-    if said:
+    if said is not None:
         return said
     said = "nomatch,,"
-    first = 1 + len(policy.lines()) - len(policy.rules)
-    for line, rule in enumerate(policy.rules, first):
-        if allows(policy, "User", rule.users, asked.user):
-            for section in rule.sections:
+    for number, line in enumerate(policy.lines, 1):
+        if isinstance(line, Rule) and allows(policy, "User", line.users, asked.user):
+            for section in line.sections:
                 if allows(policy, "Host", section.hosts, asked.host):
-                    said = section_says(policy, section, asked, line) or said
+                    said = section_says(policy, section, asked, number) or said
     return said
 
 
 class Draw:
-    """Policies and requests drawn at random, by a seed."""
+    """A policy and requests drawn at random, by a seed."""
 
     def __init__(self, seed: int) -> None:
         self.random = random.Random(seed)
-        self.aliases: dict[str, dict[str, List]] = {kind: {} for kind in FITS}
+        # Aliases of several kinds have the same names. Each list may name those that were drawn before it, so that none is in a cycle.
+        self.aliases: dict[str, dict[str, Members]] = {kind: {} for kind in FITS}
+        for kind, of in self.aliases.items():
+            for number in range(self.random.randint(0, 3)):
+                of[f"A{number}"] = self.members(kind)
+        self.policy = Policy(self.aliases, self.lines())
 
-    def members(self, kind: str, most: int = 3) -> List:
-        """Draws a list. Its aliases are those that stand before it, so that none is in a cycle."""
-        words = [*FITS[kind], *2 * [*self.aliases[kind]]]
+    def members(self, kind: str, most: int = 3) -> Members:
+        """Draws a list."""
+        words = [*FITS[kind], "ALL", *2 * [*self.aliases[kind]]]
         count = self.random.randint(1, most)
         return [Member(self.random.choices((0, 1, 2), (14, 5, 1))[0], self.random.choice(words)) for _ in range(count)]
 
     def runas(self) -> Runas:
         """Draws whom to run as, in one of the four forms."""
-        users, groups = (self.random.choice((None, self.members("Runas"))) for _ in range(2))
-        return Runas(users, groups)
+        return Runas(*(self.random.choice((None, self.members("Runas"))) for _ in range(2)))
 
     def command(self) -> Command:
         """Draws a command."""
@@ -288,17 +314,19 @@ class Draw:
         """Draws a section of up to four commands."""
         return Section(self.members("Host"), [self.command() for _ in range(self.random.randint(1, 4))])
 
-    def policy(self) -> Policy:
-        """Draws a policy of up to three aliases of each kind, and up to six rules."""
-        for kind, of in self.aliases.items():
-            for number in range(self.random.randint(0, 3)):
-                of[f"{kind[0]}{number}"] = self.members(kind)
-        count = self.random.randint(1, 6)
-        rules = [Rule(self.members("User"), [self.section() for _ in range(self.random.choice((1, 1, 2)))]) for _ in range(count)]
-        return Policy(self.aliases, rules)
+    def lines(self) -> list[Rule | str]:
+        """Draws the lines of the aliases, up to six rules, and lines that grant nothing, in any order."""
+        aliases = [f"{kind}_Alias {name} = {joined(it)}" for kind, of in self.aliases.items() for name, it in of.items()]
+        rules = [
+            Rule(self.members("User"), [self.section() for _ in range(self.random.choice((1, 1, 2)))])
+            for _ in range(self.random.randint(1, 6))
+        ]
+        lines = [*aliases, *rules, "Defaults env_reset", "Defaults:ALL !authenticate", "# ALL ALL = ALL", ""]
+        self.random.shuffle(lines)
+        return lines
 
     def request(self) -> Request:
-        """Draws a request, one of six or so with an unknown name."""
+        """Draws a request. One of six or so has an unknown name."""
         return Request(
             self.random.choice([*6 * [*GROUPS], "carol"]),
             self.random.choice([*10 * ["web1", "web2"], "db"]),
@@ -306,4 +334,3 @@ class Draw:
             self.random.choice([*18 * [""], *2 * sorted(KNOWN_GROUPS), "wheel"]),
             self.random.choice(sorted(COMMANDS)),
         )
-

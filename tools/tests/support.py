@@ -11,6 +11,7 @@ TOOLS = os.path.dirname(os.path.dirname(os.path.abspath(__file__)))
 TESTS = os.path.join(TOOLS, "tests")
 DATA = os.path.join(TESTS, "data")
 EXAMPLES = os.path.join(os.path.dirname(TOOLS), "examples")
+REQUESTS_HEADER = "number,user,host,runas_user,runas_group,command,arguments\n"
 if TOOLS not in sys.path:
     sys.path.insert(0, TOOLS)
 

@@ -43,6 +43,16 @@ class Failing(unittest.TestCase):
     def test_passes_against_expectation(self):
         pass
 """
+SLEEPING = """import os
+import time
+import unittest
+
+
+class Sleeping(unittest.TestCase):
+    def test_sleeps(self):
+        open(os.environ["PID"], "w").close()
+        time.sleep(60)
+"""
 
 
 class Gate(Case):
@@ -159,6 +169,24 @@ class Gate(Case):
         while os.path.exists(f"/proc/{self.read('pid').strip()}") and time.monotonic() < started + 5:
             time.sleep(0.05)
         self.assertFalse(os.path.exists(f"/proc/{self.read('pid').strip()}"))
+
+    def test_to_stop_the_gate_stops_the_tests(self) -> None:
+        self.write("tools/tests/test_sleeping.py", SLEEPING)
+        self.rt("echo 3 passed, 0 failed\n")
+        with self.start(PID=self.path("pid")) as child:
+            self.addCleanup(child.kill)
+            while not os.path.exists(self.path("pid")):
+                time.sleep(0.05)
+            child.terminate()
+            child.communicate(timeout=10)
+        self.assertEqual(child.returncode, 143)
+
+    def test_a_process_of_tests_that_ends(self) -> None:
+        self.write("tools/tests/test_ending.py", "import os\n\nos._exit(3)\n")
+        self.rt(f"{self.build()}echo 3 passed, 0 failed\n")
+        lines = self.gate(1)
+        self.assertIn("gate: the process of these tests ended early", lines)
+        self.assertEqual(lines[-1], "5 passed, 1 failed")
 
 
 if __name__ == "__main__":

@@ -5,7 +5,7 @@ of each line. A table has cases. A case has files, beside those of the whole tab
 
 - `runs`: words of the command line, and what is shown.
 - `texts`: texts of the file `of`, and what is shown. `faults`: the same, with the fault of the policy `p` alone.
-- `cuts`: the first and the last number of bytes that are left of the file `of`, and what is shown; all numbers stand there.
+- `cuts`: the first and the last number of characters that are left of the file `of`, and what is shown; all numbers stand there.
 - `asks`: the rows of the requests file `of`, without their numbers, and the report on each.
 - `verdicts`: a policy, which goes on after the text `before`, with `;` for the end of a line, then ` | ` and the row of a request,
   and the report on it.
@@ -23,10 +23,10 @@ import unittest
 from collections.abc import Iterator
 from typing import Any, NamedTuple
 
-from support import PROGRAM, TESTS, Case, needs_program
+from support import PROGRAM, REQUESTS_HEADER, TESTS, Case, needs_program
 
 TABLES = os.path.join(TESTS, "runs")
-HEADER = "number,user,host,runas_user,runas_group,command,arguments\n"
+KINDS = {"runs", "texts", "faults", "cuts", "asks", "verdicts", "sources", "shows"}
 REPORT = "0 sender,number,verdict,line,tags;"
 AUDIT = "audit p --users users --hosts hosts"
 
@@ -40,7 +40,7 @@ class Run(NamedTuple):
 
 
 def cut_off(text: str, length: int, shows: str) -> tuple[str, str]:
-    """Returns the first bytes of a text, and what is shown with the column after them for `end`."""
+    """Returns the first characters of a text, and what is shown with the column after them for `end`."""
     front = text[:length]
     return front, shows.replace(":end:", f":{len(front.rpartition(chr(10))[2]) + 1}:")
 
@@ -49,7 +49,7 @@ def asked(asks: dict[str, str]) -> tuple[str, str]:
     """Returns a requests file of these rows, and what is shown of the sender `s`."""
     rows = "".join(f"{number},{row}\n" for number, row in enumerate(asks, 1))
     answers = "".join(f"s,{number},{answer};" for number, answer in enumerate(asks.values(), 1))
-    return f"{HEADER}{rows}close,{len(asks)},,,,,\n", f"{REPORT}{answers}"
+    return f"{REQUESTS_HEADER}{rows}close,{len(asks)},,,,,\n", f"{REPORT}{answers}"
 
 
 def parts(words: str, requests: dict[str, str]) -> tuple[list[str], dict[str, str]]:
@@ -57,7 +57,7 @@ def parts(words: str, requests: dict[str, str]) -> tuple[list[str], dict[str, st
     names, files = [], {}
     for at, source in enumerate(words.split("|") if words else []):
         sender, _, rows = source.strip().partition(":")
-        text = HEADER
+        text = REQUESTS_HEADER
         for number, word in (row.split("=") for row in rows.split()):
             text += f"close,{word},,,,,\n" if number == "close" else f"{number},{requests[word]}\n"
         names.append(f"{sender}=part{at}")
@@ -83,8 +83,8 @@ def runs_of(case: dict[str, Any], files: dict[str, str], requests: dict[str, str
     if "asks" in case:
         text, shows = asked(case["asks"])
         yield Run(words, {of: text}, shows)
-    for words, answer in case.get("verdicts", {}).items():
-        policy, _, row = words.partition(" | ")
+    for policy_and_row, answer in case.get("verdicts", {}).items():
+        policy, _, row = policy_and_row.partition(" | ")
         text, shows = asked({row: answer})
         yield Run(f"{AUDIT} s=requests", {"p": case.get("before", "") + policy.replace(";", "\n"), "requests": text}, shows)
     for line, shows in case.get("sources", {}).items():
@@ -116,6 +116,8 @@ class Tables(Shown):
         with open(os.path.join(TABLES, f"{name}.toml"), "rb") as file:
             table = tomllib.load(file)
         for case in table["cases"]:
+            self.assertEqual(len(KINDS & case.keys()), 1, case["title"])
+            self.assertLessEqual(case.keys(), KINDS | {"title", "files", "run", "of", "before"}, case["title"])
             files = {**table.get("files", {}), **case.get("files", {})}
             with self.subTest(case["title"]), tempfile.TemporaryDirectory() as self.folder:
                 self.write_all(files)
@@ -146,6 +148,10 @@ class Tables(Shown):
 
     def test_words(self) -> None:
         self.check_table("words")
+
+    def test_all_tables_are_read(self) -> None:
+        names = {name.removesuffix(".toml") for name in os.listdir(TABLES)}
+        self.assertEqual(names, {"check", "expand", "audit", "verdict", "cut", "words"})
 
     def test_words_that_are_not_read(self) -> None:
         self.assertTrue(self.shown("check", b"\xff").startswith("2 ! error: invalid UTF-8 was detected in one or more arguments;"))
@@ -181,7 +187,8 @@ class Limits(Shown):
 
     def test_definitions(self) -> None:
         lines = [f"Cmnd_Alias C{number} = /bin/ls\n" for number in range(4097)]
-        self.assertTrue(self.checked("".join(lines[:4096])).endswith(": warning: unused Cmnd_Alias C4095;ok;"))
+        unused = "".join(f"p:{number + 1}: warning: unused Cmnd_Alias C{number};" for number in range(4096))
+        self.assertEqual(self.checked("".join(lines[:4096])), f"0 {unused}ok;")
         self.assertEqual(self.checked("".join(lines)), "1 ! sudo_audit: p:4097: too many aliases;")
 
     def test_depth(self) -> None:
@@ -224,14 +231,30 @@ class Limits(Shown):
         asks = {"u99999,H99999,,,/bin/ls,": "allow,p:1,", "u99998,h99999,,,/bin/ls,": "nomatch,,"}
         self.judged("%g99999 10.1.134.159 = /bin/ls\n", {**asks, "u99999,h99998,,,/bin/ls,": "nomatch,,"}, users, hosts)
 
+    def test_rows(self) -> None:
+        rows = {
+            "users": "user,uid,groups\nroot,0,root:0\n" + "".join(f"u{number},{number},g:7\n" for number in range(1, 100_000)),
+            "hosts": "host,interfaces\n" + "".join(f"h{number},\n" for number in range(100_000)),
+            "requests": REQUESTS_HEADER + "".join(f"{number},u,h,,,/c,\n" for number in range(1, 1_000_001)),
+        }
+        more = {"users": "one,1,g:7\n", "hosts": "one,\n", "requests": "1000001,u,h,,,/c,\n"}
+        self.write_all({"p": "", **rows})
+        self.assertEqual(self.shown(*AUDIT.split(), "s=requests"), "3 ! sudo_audit: sender s: not closed;")
+        for name, row in more.items():
+            self.write(name, rows[name] + row)
+            said = "sender s" if name == "requests" else name
+            self.assertEqual(self.shown(*AUDIT.split(), "s=requests"), f"3 ! sudo_audit: {said}: too many rows;")
+            self.write(name, rows[name])
+
     def test_memberships(self) -> None:
         header, row = "user,uid,gid,group\nroot,0,0,root\n", "a,1,7,g\n"
         self.write_all({"p": "", "hosts": "host,interfaces\n", "users": header + 99_999 * row})
         self.assertEqual(self.shown(*AUDIT.split()), REPORT)
-        # The first fault decides.
-        for more in (row, row + "a,2,7,g\n"):
+        # The first fault decides, and in a row its form.
+        bad = "a,2,7,g\n"
+        for more, fault in ((row, "too many rows"), (row + bad, "too many rows"), (bad, "row 100002: bad row")):
             self.write("users", header + 99_999 * row + more)
-            self.assertEqual(self.shown(*AUDIT.split()), "3 ! sudo_audit: users: too many rows;")
+            self.assertEqual(self.shown(*AUDIT.split()), f"3 ! sudo_audit: users: {fault};")
 
     def test_files_and_folders(self) -> None:
         self.write_all({"a": "", "d/b": ""})
@@ -263,6 +286,7 @@ class Limits(Shown):
 
     def test_a_sender_that_is_closed_early(self) -> None:
         rows = " ".join(f"{number}=kill" for number in range(1, 1001))
+        # Threads decide which number is named.
         for _ in range(2):
             shown = self.audited(f"s: {rows} close=1")
             number = re.fullmatch(r"3 ! sudo_audit: sender s: request ([0-9]+) past close;", shown)
