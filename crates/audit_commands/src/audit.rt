@@ -126,11 +126,11 @@ fn audited<T: Threads + Wait + Sync, U: Feed, H: Feed, R: Feed + Drop + Send>(
     requires { (1 ≤ workers) × (workers ≤ 16) }
     ensures report { (held : Option Holdings) (path : List ℕ) → IsChecked held path policy.now →
         let given : Given = given_by held path (U.ahead users.old) (H.ahead hosts.old)
-            (map (λ s. s.name) sources.items) (map (λ s. R.ahead s.reader) sources.items) workers in
+        (map (λ s. s.name) sources.items) (map (λ s. R.ahead s.reader) sources.items) workers in
         IfOk result (λ p. IsAudited given p.text.items p.status) }
     ensures fault { (held : Option Holdings) (path : List ℕ) → IsChecked held path policy.now →
         let given : Given = given_by held path (U.ahead users.old) (H.ahead hosts.old)
-            (map (λ s. s.name) sources.items) (map (λ s. R.ahead s.reader) sources.items) workers in
+        (map (λ s. s.name) sources.items) (map (λ s. R.ahead s.reader) sources.items) workers in
         IfErr result (IsNotAudited given) }
 {
     match directory_of(alloc, users, hosts) {
