@@ -298,6 +298,21 @@ class Limits(Shown):
         for workers in (1, 2, 16):
             self.assertEqual(self.audited(f"s: {rows} close=1000", f"t: {rows} close=1000", workers=workers), REPORT + answers)
 
+    def test_a_long_file_with_quotes_or_a_fault(self) -> None:
+        rows = [f"{number},alice,web1,,,/bin/kill,\n" for number in range(1, 5001)]
+        rows[3999] = rows[3999].replace("alice", '"alice"')
+        close = "close,5000,,,,,\n"
+        answers = "".join(f"s,{number},allow,p:1,;" for number in range(1, 5001))
+        self.assertEqual(self.audited("s: close=0"), REPORT)
+        for row, text, shows in (
+            (5000, close, REPORT + answers),
+            (4501, rows[4499], "3 ! sudo_audit: sender s: row 4503: out of order;"),
+            (3001, "x\n", "3 ! sudo_audit: sender s: row 3003: bad row;"),
+            (2001, close, "3 ! sudo_audit: sender s: row 2004: row after close;"),
+        ):
+            self.write("part0", REQUESTS_HEADER + "".join([*rows[:row], text, *rows[row:]]))
+            self.assertEqual(self.shown(*AUDIT.split(), "s=part0"), shows)
+
 
 if __name__ == "__main__":
     unittest.main()

@@ -14,3 +14,4 @@ pub mod UsersVectors
 pub mod PlainRows
 pub mod Progress
 pub mod QuotedRows
+pub mod RowByRow

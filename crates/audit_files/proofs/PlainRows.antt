@@ -1,5 +1,5 @@
 -- How rows without quotes read.
-use Rattle.std.proofs.Common.{◌≡◌, ◌<◌, ◌+◌, ◌∙◌, ℕ, suc, Bool, true, false, List, [], ◌∷◌, ◌++◌, length, refl, sym, ap, add-one, arith, append_assoc, Some}
+use Rattle.std.proofs.Common.{◌≡◌, ◌<◌, ◌+◌, ◌∙◌, ℕ, suc, Bool, true, false, List, [], ◌∷◌, ◌++◌, length, refl, sym, ap, add-one, arith, append_assoc, Option, None, Some, IfSome}
 use Rattle.std.specs.Prelude.{◌==◌, ◌&&◌, ◌||◌, not}
 use Rattle.std.proofs.lemmas.List.{append-nil}
 use Rattle.std.proofs.lemmas.Bool.{ne_eqb}
@@ -10,7 +10,7 @@ use Rattle.csv.specs.declared.parser.State.{State}
 use Rattle.csv.specs.declared.parser.State.TheVariants as st
 use Rattle.csv.specs.declared.parser.Action.TheVariants as act
 use Rattle.audit_files.specs.Rows.{Fields, records_of}
-use Rattle.audit_files.specs.Body.Plain.{IsFieldBefore, is_field_byte}
+use Rattle.audit_files.specs.Body.Plain.{IsBehind, IsFieldBefore, is_field_byte}
 use Rattle.audit_files.proofs.Left.{enough, left_more}
 use Rattle.sudo_text.proofs.Reaching.{both}
 
@@ -105,3 +105,21 @@ seven_plain a b c d e f g ta tb tc td te tf tg rest ha hb hc hd he hf hg =
     ∙ next_field te e tf (a ∷ b ∷ c ∷ d ∷ []) he ∙ next_field tf f tg (a ∷ b ∷ c ∷ d ∷ e ∷ []) hf ∙ last in
     left_more default_config st.StartRecord ta (a ∷ b ∷ c ∷ d ∷ e ∷ f ∷ g ∷ [], st.StartRecord, rest) read
     ∙ ap (λ (l : List Fields). (a ∷ b ∷ c ∷ d ∷ e ∷ f ∷ g ∷ []) ∷ l) (sym (after_feed rest))
+
+-- what is behind the text after a field is behind the text
+pub behind_field : (text field after rest : List ℕ) (end : ℕ) → IsFieldBefore text field (end ∷ after) → IsBehind after rest → IsBehind text rest
+behind_field text field after rest end (plain, same) (front, behind) =
+    (field ++ end ∷ front, same ∙ ap (λ (l : List ℕ). field ++ end ∷ l) behind ∙ sym (append_assoc field (end ∷ front) rest))
+
+-- the text from the end of a line on
+pub behind_last : (text field after rest : List ℕ) → IsFieldBefore text field (10 ∷ after) → rest ≡ 10 ∷ after → IsBehind text rest
+behind_last text field after rest (plain, same) line = (field, same ∙ ap (λ (l : List ℕ). field ++ l) (sym line))
+
+-- the text from a byte on is behind it
+pub behind_byte : (text after rest : List ℕ) (b : ℕ) → text ≡ b ∷ after → IsBehind after rest → IsBehind text rest
+behind_byte text after rest b same (front, behind) = (b ∷ front, same ∙ ap (λ (l : List ℕ). b ∷ l) behind)
+
+pub behind_line : {X : Type 0} (rest : X → List ℕ) (text after : List ℕ) (b : ℕ) (found : Option X) → text ≡ b ∷ after
+    → IfSome found (λ x. IsBehind after (rest x)) → IfSome found (λ x. IsBehind text (rest x))
+behind_line rest text after b None same h = tt
+behind_line rest text after b (Some x) same h = behind_byte text after (rest x) b same h

@@ -130,6 +130,8 @@ impl Table for HostList {
     ghost holds = { λ list before. (list.list.items ≡ filter_map machine_of before)
         × (length list.list.items ≡ length before) };
 
+    ghost earlier = { λ table. 0 };
+
     #[tactic(auto, using(crate::proofs::FieldLemmas::no_header, crate::proofs::FieldLemmas::two_fields))]
     fn is_header(&self, record: &ByteRecord) -> bool {
         record.len() == 2

@@ -128,6 +128,8 @@ impl Table for Memberships {
 
     ghost holds = { λ table before. table.list.items ≡ users_of before };
 
+    ghost earlier = { λ table. 0 };
+
     fn is_header(&self, record: &ByteRecord) -> bool {
         is_header(record)
     }

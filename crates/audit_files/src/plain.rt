@@ -4,7 +4,7 @@ ghost use Rattle.std.specs.List.{list_all};
 ghost use Rattle.csv.specs.Reading.{default_config, records};
 ghost use Rattle.audit_files.specs.Requests.{fields_in};
 ghost use Rattle.audit_files.specs.Rows.{records_of};
-ghost use Rattle.audit_files.specs.Body.Plain.{IsFieldBefore, is_field_byte as field_test};
+ghost use Rattle.audit_files.specs.Body.Plain.{IsBehind, IsFieldBefore, is_field_byte as field_test};
 
 use crate::requests::RequestRow;
 
@@ -54,8 +54,9 @@ fn last_field(text: &[u8]) -> Option<(&[u8], &[u8])>
 // Returns the row of seven plain fields that a text begins with, and the text from the end of its
 // line on.
 fn plain_row(text: &[u8]) -> Option<(RequestRow<'_>, &[u8])>
-    ensures { IfSome result (λ p. records default_config text.now
+    ensures reads { IfSome result (λ p. records default_config text.now
         ≡ fields_in p.0 ∷ records_of p.1.now) }
+    ensures behind { IfSome result (λ p. IsBehind text.now p.1.now) }
 {
     let (number, rest) = field_before(text)?;
     let (user, rest) = field_before(rest)?;
@@ -79,7 +80,8 @@ fn plain_row(text: &[u8]) -> Option<(RequestRow<'_>, &[u8])>
 /// Returns the first row of a text and the text from the end of its line on, if the row is plain. A
 /// byte order mark is not plain.
 pub(crate) fn first_row(text: &[u8]) -> Option<(RequestRow<'_>, &[u8])>
-    ensures { IfSome result (λ p. records_of text.now ≡ fields_in p.0 ∷ records_of p.1.now) }
+    ensures reads { IfSome result (λ p. records_of text.now ≡ fields_in p.0 ∷ records_of p.1.now) }
+    ensures behind { IfSome result (λ p. IsBehind text.now p.1.now) }
 {
     let Some((first, _)) = text.split_first() else {
         return None;
@@ -93,7 +95,8 @@ pub(crate) fn first_row(text: &[u8]) -> Option<(RequestRow<'_>, &[u8])>
 /// Returns the row after the end of a line, and the text from the end of its own line on, if the
 /// row is plain.
 pub(crate) fn next_row(text: &[u8]) -> Option<(RequestRow<'_>, &[u8])>
-    ensures { IfSome result (λ p. records_of text.now ≡ fields_in p.0 ∷ records_of p.1.now) }
+    ensures reads { IfSome result (λ p. records_of text.now ≡ fields_in p.0 ∷ records_of p.1.now) }
+    ensures behind { IfSome result (λ p. IsBehind text.now p.1.now) }
 {
     let Some((end, row)) = text.split_first() else {
         return None;

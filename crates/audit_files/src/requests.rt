@@ -1,11 +1,11 @@
 //! Requests files.
-ghost use Rattle.std.specs.Prelude.{◌≡◌, ◌≢◌, ◌+◌, ◌∷◌, ◌++◌, [], Some, Ok, Err, List, ℕ, IfOk, OnOk, IfErr, IfSome, IfNone, length, slice_get};
+ghost use Rattle.std.specs.Prelude.{◌≡◌, ◌≢◌, ◌<◌, ◌+◌, ◌∷◌, ◌++◌, [], Some, Ok, Err, List, ℕ, IfOk, OnOk, IfErr, IfSome, IfNone, length, slice_get, take};
 ghost use Rattle.csv.specs.Records.{fields_of};
 ghost use Rattle.audit_files.specs.Faults.{IsNotOutOfMemory, failures_in, read_failures};
 ghost use Rattle.audit_files.specs.Body.Gathering.{HoldsRecords};
 ghost use Rattle.audit_files.specs.Files.{IsStatedBy, after_header, first_record_fault, same_fields};
 ghost use Rattle.audit_files.specs.Rows.{Fields, first_fault, records_of};
-ghost use Rattle.audit_files.specs.Requests.{asked_for, asked_number as number_asked, close_of, fields_in, request_fault, requests_header, requests_of_file, is_command as command_test, last_number as number_of_last, order_fault as fault_of_order, request_of};
+ghost use Rattle.audit_files.specs.Requests.{asked_for, asked_number as number_asked, close_of, closes_in, fields_in, request_fault, requests_header, requests_in, requests_of_file, is_command as command_test, last_number as number_of_last, order_fault as fault_of_order, request_of};
 
 use crate::fields::field;
 use crate::number::number;
@@ -62,7 +62,7 @@ impl<'a> RequestRow<'a> {
         })
     }
 
-    fn is_header(self) -> bool
+    pub(crate) fn is_header(self) -> bool
         ensures { result ≡ same_fields (fields_in self.entry) requests_header }
     {
         self.number == b"number".as_slice()
@@ -88,7 +88,7 @@ impl<'a> RequestRow<'a> {
     }
 
     // Returns the number, if this is a request.
-    fn asked_number(self) -> Option<u32>
+    pub(crate) fn asked_number(self) -> Option<u32>
         ensures { result ≡ number_asked self.entry.number.now self.entry.user.now
             self.entry.host.now self.entry.command.now }
     {
@@ -102,7 +102,7 @@ impl<'a> RequestRow<'a> {
     }
 
     // Returns the request of this row, whose number is `number`.
-    fn request(self, alloc: Global, number: u32) -> Result<Request, AllocError>
+    pub(crate) fn request(self, alloc: Global, number: u32) -> Result<Request, AllocError>
         requires { number_asked self.number.now self.user.now self.host.now self.command.now
             ≡ Some number }
         ensures stated { IfOk result (λ r. request_of (fields_in self.entry) ≡ Some r) }
@@ -140,23 +140,18 @@ fn target(alloc: Global, text: &[u8]) -> Result<Option<Seq<u8>>, AllocError>
     Ok(Some(Seq::from_slice(alloc, text)?))
 }
 
-fn last_number(requests: &[Request]) -> u32
-    ensures { result ≡ number_of_last requests.now }
+// Returns the fault of a request with this number after so many requests, the last of which has the
+// number `last`, if it has one.
+pub(crate) fn order_fault(row: u32, last: u32, count: usize, number: u32) -> Option<FileFault>
+    ensures fault { (before : List Request) → last ≡ number_of_last before
+        → count ≡ length before → result ≡ fault_of_order row before number }
+    ensures room { IfNone result (count < 1_000_000) }
+    ensures no_read { IfSome result (λ e. failures_in e ≡ 0) }
 {
-    match requests.last() {
-        Some(request) => request.number,
-        None => 0,
-    }
-}
-
-// Returns the fault of a request with this number after these requests, if it has one.
-fn order_fault(row: u32, before: &[Request], number: u32) -> Option<FileFault>
-    ensures { result ≡ fault_of_order row before.now number }
-{
-    if number <= last_number(before) {
+    if number <= last {
         return Some(FileFault::OutOfOrder { row });
     }
-    if before.len() >= 1_000_000 {
+    if count >= 1_000_000 {
         return Some(FileFault::TooMany);
     }
     None
@@ -164,9 +159,13 @@ fn order_fault(row: u32, before: &[Request], number: u32) -> Option<FileFault>
 
 // The requests and the close row that were read so far.
 #[derive(Drop)]
-struct RequestList {
+pub(crate) struct RequestList {
     alloc: Global,
+    // How many requests were read before those of the list.
+    earlier: u32,
     list: Vec<Request>,
+    // The number of the last request, or 0.
+    last: u32,
     close: Option<u32>,
 }
 
@@ -179,6 +178,8 @@ impl Table for RequestList {
     ghost fault = { request_fault };
 
     ghost holds = { HoldsRecords };
+
+    ghost earlier = { λ read. read.earlier };
 
     #[tactic(auto, using(crate::proofs::FieldLemmas::no_header))]
     fn is_header(&self, record: &ByteRecord) -> bool {
@@ -207,6 +208,7 @@ impl RequestList {
             → HoldsRecords self.old before → row ≡ length before + 2
             → request_fault before (fields_in fields.entry) ≡ Some e) }
         ensures no_read { IfErr result (λ e. failures_in e ≡ 0) }
+        ensures earlier { self.new.earlier ≡ self.old.earlier }
     {
         if self.close.is_some() {
             return Err(FileFault::RowAfterClose { row });
@@ -218,7 +220,8 @@ impl RequestList {
         let Some(number) = fields.asked_number() else {
             return Err(FileFault::BadRow { row });
         };
-        if let Some(fault) = order_fault(row, self.list.as_slice(), number) {
+        let count = self.earlier as usize + self.list.len();
+        if let Some(fault) = order_fault(row, self.last, count, number) {
             return Err(fault);
         }
         match self.keep(fields, number) {
@@ -234,11 +237,42 @@ impl RequestList {
         ensures kept { OnOk result ((r : Request) × (request_of (fields_in fields.entry) ≡ Some r)
             × (r.number ≡ number)
             × (self.new.list.items ≡ self.old.list.items ++ r ∷ [])) }
-        ensures close { self.new.close ≡ self.old.close }
+        ensures last { OnOk result (self.new.last ≡ number) }
+        ensures same { (self.new.close ≡ self.old.close) × (self.new.earlier ≡ self.old.earlier) }
     {
         let request = fields.request(self.alloc, number)?;
         self.list.push(request)?;
+        self.last = number;
         Ok(())
+    }
+
+    /// Creates an empty list, behind so many requests, the last of which has the number `last`.
+    pub(crate) fn behind(alloc: Global, earlier: u32, last: u32, list: Vec<Request>) -> RequestList
+        requires { list.items ≡ [] }
+        ensures holds { (before : List Fields) → length (requests_in before) ≡ earlier
+            → number_of_last (requests_in before) ≡ last → closes_in before ≡ []
+            → HoldsRecords result before }
+        ensures earlier { result.earlier ≡ earlier }
+    {
+        RequestList {
+            alloc,
+            earlier,
+            list,
+            last,
+            close: None,
+        }
+    }
+
+    /// Returns the requests of the list, and the count of the close row.
+    pub(crate) fn into_requests(self) -> Requests
+        ensures { (before : List Fields) → HoldsRecords self before
+            → (take self.earlier (requests_in before) ++ result.list ≡ requests_in before)
+            × (result.close ≡ slice_get (closes_in before) 0) }
+    {
+        Requests {
+            list: Seq::from_vec(self.list),
+            close: self.close,
+        }
     }
 }
 
@@ -251,6 +285,7 @@ fn gather_rows(alloc: Global, text: &[u8], table: &mut RequestList) -> Result<()
     ensures err { IfErr result (λ e. IsNotOutOfMemory e
         → first_fault request_fault [] (records_of text.now) ≡ Some e) }
     ensures no_read { IfErr result (λ e. failures_in e ≡ 0) }
+    ensures earlier { table.new.earlier ≡ table.old.earlier }
 {
     let mut rest = text;
     for row in 2..u32::MAX {
@@ -274,6 +309,7 @@ fn gather_requests(alloc: Global, text: &[u8], table: &mut RequestList) -> Resul
         → first_record_fault request_fault (after_header requests_header (records_of text.now))
         ≡ Some e) }
     ensures no_read { IfErr result (λ e. failures_in e ≡ 0) }
+    ensures earlier { table.new.earlier ≡ table.old.earlier }
 {
     match first_row(text) {
         Some((first, rest)) if first.is_header() => gather_rows(alloc, rest, table),
@@ -289,16 +325,10 @@ pub(crate) fn requests_of_text(alloc: Global, text: &[u8]) -> Result<Requests, F
     ensures no_read { IfErr result (λ e. failures_in e ≡ 0) }
 {
     let room = (text.len() / BYTES_OF_A_ROW).min(1_000_000);
-    let mut table = RequestList {
-        alloc,
-        list: Vec::with_capacity(alloc, room)?,
-        close: None,
-    };
+    let list = Vec::with_capacity(alloc, room)?;
+    let mut table = RequestList::behind(alloc, 0, 0, list);
     gather_requests(alloc, text, &mut table)?;
-    Ok(Requests {
-        list: Seq::from_vec(table.list),
-        close: table.close,
-    })
+    Ok(table.into_requests())
 }
 
 /// Reads a requests file to its end, and returns its requests, whose numbers rise, and the count of

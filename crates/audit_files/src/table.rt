@@ -21,6 +21,9 @@ pub(crate) trait Table {
     // The table represents these records.
     ghost holds: { Self → List Fields → Type 0 };
 
+    // How many values of the file come before those of the table.
+    ghost earlier: { Self → ℕ };
+
     /// Whether a record is the header.
     fn is_header(&self, record: &ByteRecord) -> bool
         ensures { result ≡ same_fields (fields_of record.now) header };
@@ -34,7 +37,8 @@ pub(crate) trait Table {
         ensures err { IfErr result (λ e. IsNotOutOfMemory e → (before : List Fields)
             → holds self.old before → row ≡ length before + 2
             → fault before (fields_of record.now) ≡ Some e) }
-        ensures no_read { IfErr result (λ e. failures_in e ≡ 0) };
+        ensures no_read { IfErr result (λ e. failures_in e ≡ 0) }
+        ensures earlier { earlier self.new ≡ earlier self.old };
 }
 
 // Adds all records that are left, the first of which has the number `first`, and stops at the first
@@ -49,6 +53,7 @@ fn fill<T: Table>(rows: &mut Rows<'_>, table: &mut T, first: u32) -> Result<(), 
         → T.holds table.old before → first ≡ length before + 2
         → first_fault T.fault before (rows_left rows.old) ≡ Some e) }
     ensures no_read { IfErr result (λ e. failures_in e ≡ 0) }
+    ensures earlier { T.earlier table.new ≡ T.earlier table.old }
 {
     for row in first..u32::MAX {
         if !rows.next()? {
@@ -75,6 +80,7 @@ pub(crate) fn gather_from<T: Table>(
         → T.holds table.old before → first ≡ length before + 2
         → first_fault T.fault before (records_of text.now) ≡ Some e) }
     ensures no_read { IfErr result (λ e. failures_in e ≡ 0) }
+    ensures earlier { T.earlier table.new ≡ T.earlier table.old }
 {
     let mut rows = Rows::new(alloc, text);
     fill(&mut rows, table, first)
@@ -90,6 +96,7 @@ pub(crate) fn gather<T: Table>(alloc: Global, text: &[u8], table: &mut T) -> Res
     ensures err { IfErr result (λ e. IsNotOutOfMemory e
         → first_record_fault T.fault (after_header T.header (records_of text.now)) ≡ Some e) }
     ensures no_read { IfErr result (λ e. failures_in e ≡ 0) }
+    ensures earlier { T.earlier table.new ≡ T.earlier table.old }
 {
     let mut rows = Rows::new(alloc, text);
     if !rows.next()? {

@@ -11,7 +11,7 @@ const BYTE_LIMIT: usize = 268_435_456;
 
 /// Reads a file to its end, and returns its bytes. Returns `TooMany` for more than 268,435,456
 /// bytes, `Read` if a read failed, and `Memory` if allocation failed.
-pub(crate) fn read_text<R: Feed>(alloc: Global, reader: &mut R) -> Result<Vec<u8>, FileFault>
+pub fn read_text<R: Feed>(alloc: Global, reader: &mut R) -> Result<Vec<u8>, FileFault>
     ensures text { IfOk result (λ text. IsRead itself (R.ahead reader.old) (Ok text.items)) }
     ensures fault { IfErr result (λ e. IsNotOutOfMemory e → IsRead itself (R.ahead reader.old) (Err
         e)) }

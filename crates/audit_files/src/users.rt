@@ -91,6 +91,8 @@ impl Table for UserList {
     ghost holds = { λ people before. (people.list.items ≡ filter_map person_of before)
         × (length people.list.items ≡ length before) };
 
+    ghost earlier = { λ table. 0 };
+
     #[tactic(auto, using(crate::proofs::FieldLemmas::no_header, crate::proofs::FieldLemmas::three_fields))]
     fn is_header(&self, record: &ByteRecord) -> bool {
         record.len() == 3

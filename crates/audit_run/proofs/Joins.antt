@@ -1,16 +1,26 @@
 -- A pass after the passes of threads are joined to it.
-use Rattle.std.proofs.Common.{◌≡◌, ℕ, ◌+◌, List, [], ◌∷◌, ◌++◌, map, Option, sym, ap, ◌∙◌, arith, append_assoc, append-nil}
+use Rattle.std.proofs.Common.{◌≡◌, ℕ, ◌+◌, List, [], ◌∷◌, ◌++◌, length, map, Option, Some, Ok, Err, sym, ap, subst, ◌∙◌, arith, append_assoc, append-nil, replicate}
 use Rattle.std.proofs.lemmas.List.{map-append}
 use Rattle.std.proofs.lemmas.List.Concat.{flat_map-append}
 use Rattle.audit_files.specs.Feeding.{Ahead}
+use Rattle.audit_files.specs.Files.{IsRead, IsStatedBy, itself}
+use Rattle.audit_files.specs.Requests.{requests_of_file}
 use Rattle.audit_files.specs.declared.fault.FileFault.{FileFault}
+use Rattle.audit_files.proofs.ReadLemmas.{text-states}
+use Rattle.audit_collect.proofs.Places.{slice_get-middle}
+use Rattle.audit_run.specs.IsAuditResult.{NoneRefused}
+use Rattle.audit_run.proofs.Beside.{at_front}
 use Rattle.audit_run.specs.declared.message.Names.{Names}
 use Rattle.audit_run.specs.declared.message.Job.{Job}
 use Rattle.audit_run.specs.Names.{answer}
 use Rattle.audit_run.specs.Passes.{HandoffId, PassView, with_joined}
-use Rattle.audit_run.specs.Parts.{Stated, fault_in, put_by_sources, jobs_or_end}
-use Rattle.audit_run.specs.Body.FreshPasses.{fresh, fresh_with}
-use Rattle.audit_run.specs.Body.Work.{AreParts, IsPart, after_work, joined_workers, joined_sources, putting_jobs}
+use Rattle.audit_run.specs.declared.message.Job.TheVariants.{Ask, End, Stop}
+use Rattle.audit_run.specs.declared.message.Outcome.{Outcome}
+use Rattle.audit_run.specs.Parts.{Stated, close_jobs, fault_in, jobs_of, put_by_sources, jobs_or_end}
+use Rattle.audit_files.specs.declared.requests.Requests.{Requests}
+use Rattle.sudo_match.specs.declared.request.Request.{Request}
+use Rattle.audit_run.specs.Body.FreshPasses.{fresh, fresh_with, with_messages}
+use Rattle.audit_run.specs.Body.Work.{AreParts, ArePut, HasPut, IsPart, IsStatedByText, after_run, after_work, asking, joined_workers, joined_sources, putting_jobs}
 use Rattle.sudo_match.specs.KnownRows.{KnownRows}
 use Rattle.sudo_grammar.specs.declared.policy.Policy.{Policy}
 
@@ -69,6 +79,62 @@ put_more parts part = flat_map-append (λ (x : ℕ × Stated). jobs_or_end x.0 x
 pub faults-more : (parts : List (ℕ × Stated)) (part : ℕ × Stated) (faults after : List (Option FileFault)) (fault : Option FileFault)
     → after ≡ faults ++ fault ∷ [] → faults ≡ map (λ x. fault_in x.1) parts → fault ≡ fault_in part.1 → after ≡ map (λ x. fault_in x.1) (parts ++ part ∷ [])
 faults-more parts part faults after fault pushed was is = pushed ∙ ((λ i. was i ++ is i ∷ []) ∙ sym (map-append (λ (x : ℕ × Stated). fault_in x.1) parts (part ∷ [])))
+
+none_before : (faults more : List (Option FileFault)) → NoneRefused (faults ++ more) → NoneRefused faults
+none_before faults more none = λ index fault there. none index fault (at_front faults more index (Some fault) there)
+
+none_last : (faults : List (Option FileFault)) (fault : FileFault) → NoneRefused (faults ++ Some fault ∷ []) → ⊥
+none_last faults fault none = none (length faults) fault (slice_get-middle faults [] (Some fault))
+
+whole_jobs : (owner : ℕ) (state : Stated) (jobs : List Job) (faults : List (Option FileFault)) → HasPut owner state jobs → NoneRefused (faults ++ fault_in state ∷ []) → jobs ≡ jobs_or_end owner state
+whole_jobs owner (Ok requests) jobs faults put none = put
+whole_jobs owner (Err fault) jobs faults put none = absurd (none_last faults fault none)
+
+-- what one more source has put
+pub one_put : (parts : List (ℕ × Stated)) (part : ℕ × Stated) (put jobs : List Job) → ArePut parts put → HasPut part.0 part.1 jobs → ArePut (parts ++ part ∷ []) (put ++ jobs)
+one_put parts part put jobs are has = record {
+  whole = λ none.
+      let faults : List (Option FileFault) = map (λ (x : ℕ × Stated). fault_in x.1) parts in
+      let all : NoneRefused (faults ++ fault_in part.1 ∷ []) = subst NoneRefused (map-append (λ (x : ℕ × Stated). fault_in x.1) parts (part ∷ [])) none in
+      let old : put ≡ put_by_sources parts = are.whole (none_before faults (fault_in part.1 ∷ []) all) in
+      let new : jobs ≡ jobs_or_end part.0 part.1 = whole_jobs part.0 part.1 jobs faults has all in
+      (λ i. old i ++ new i) ∙ sym (put_more parts part);
+}
+
+-- a pass that put some jobs and then others
+pub put_after : (p q r : PassView) (jobs more : List Job) → q ≡ putting_jobs p jobs → r ≡ putting_jobs q more → r ≡ putting_jobs p (jobs ++ more)
+put_after p q r jobs more first second =
+    second ∙ ap (λ (x : PassView). putting_jobs x more) first ∙ (λ i. record p { jobs_put = append_assoc p.jobs_put jobs more i })
+
+pub asking_more : (sender : ℕ) (sent : List Request) (r : Request) → asking sender sent ++ Ask sender r ∷ [] ≡ asking sender (sent ++ r ∷ [])
+asking_more sender sent r = sym (map-append (λ (x : Request). Ask sender x) sent (r ∷ []))
+
+-- the caller's pass after it put the stops and gathered, and the passes of sources and workers were
+-- joined
+pub ran : (names : Names) (p q r t : PassView) (sources workers : ℕ) (put jobs : List Job) (outcomes : List Outcome) → q ≡ with_messages p (replicate workers Stop) [] [] outcomes
+    → r ≡ joined_sources q sources put → t ≡ joined_workers names r workers jobs → t ≡ after_run names p sources workers (replicate workers Stop ++ put) jobs outcomes
+ran names p q r t sources workers put jobs outcomes gathered joined worked =
+    worked ∙ ap (λ (x : PassView). joined_workers names x workers jobs) (joined ∙ ap (λ (x : PassView). joined_sources x sources put) gathered)
+    ∙ (λ i. record {
+      handoff = p.handoff;
+      names = p.names;
+      weight = (p.weight + sources) + workers;
+      jobs_put = append_assoc p.jobs_put (replicate workers Stop) put i;
+      jobs_taken = append-nil p.jobs_taken i ++ jobs;
+      outcomes_put = append-nil p.outcomes_put i ++ map (answer names) jobs;
+      outcomes_taken = p.outcomes_taken ++ outcomes;
+    })
+
+-- the jobs of some requests and of the rest
+pub jobs_behind : (sender : ℕ) (sent : List Request) (rest : Requests) → asking sender sent ++ jobs_of sender rest ≡ jobs_of sender (record { list = sent ++ rest.list; close = rest.close })
+jobs_behind sender sent rest =
+    let end : List Job = close_jobs sender rest.close ++ End sender ∷ [] in
+    sym (append_assoc (asking sender sent) (asking sender rest.list) end) ∙ ap (λ (l : List Job). l ++ end) (sym (map-append (λ (x : Request). Ask sender x) sent rest.list))
+
+-- what a text states is what its source states
+pub text_stated : (readable_bytes : Option Ahead) (text : List ℕ) (state : Stated) → IsRead itself readable_bytes (Ok text) → IsStatedByText text state → IsStatedBy requests_of_file readable_bytes state
+text_stated readable_bytes text (Ok requests) read states = text-states requests_of_file readable_bytes text (Ok requests) read states tt
+text_stated readable_bytes text (Err fault) read states = text-states requests_of_file readable_bytes text (Err fault) read tt states
 
 pub joined_none : (p : PassView) → p ≡ joined_sources p 0 []
 joined_none p =

@@ -1,5 +1,5 @@
 -- If all passes are joined and nothing is left, the gathered outcomes are the answers of all jobs.
-use Rattle.std.proofs.Common.{◌≡◌, ℕ, suc, ◌+◌, ◌-◌, ◌<◌, ◌≤◌, List, [], ◌∷◌, ◌++◌, map, Option, None, Result, Ok, Err, IsPermutation, refl, sym, ap, ◌∙◌, subst, ⊎_elim, arith, append-nil, vec_len, length}
+use Rattle.std.proofs.Common.{◌≡◌, ℕ, suc, ◌+◌, ◌-◌, ◌<◌, ◌≤◌, List, [], ◌∷◌, ◌++◌, map, Option, None, Result, Ok, Err, IsPermutation, refl, sym, ap, ◌∙◌, subst, ⊎_elim, arith, append-nil, vec_len, length, replicate}
 use Rattle.std.specs.List.{zip}
 use Rattle.std.proofs.lemmas.Slice.Zip.{AllZip-long}
 use Rattle.audit_files.specs.Files.{IsStatedBy}
@@ -16,6 +16,7 @@ use Rattle.audit_collect.specs.declared.report.Report.{Report}
 use Rattle.audit_files.specs.Feeding.{Ahead}
 use Rattle.audit_run.specs.declared.message.Names.{Names}
 use Rattle.audit_run.specs.declared.message.Job.{Job}
+use Rattle.audit_run.specs.declared.message.Job.TheVariants.{Stop}
 use Rattle.audit_run.specs.declared.message.Outcome.{Outcome}
 use Rattle.audit_run.specs.Names.{answer}
 use Rattle.audit_run.specs.Passes.{PassView, split_off, with_joined, IsEmpty, IsOnlyPass}
@@ -33,7 +34,7 @@ use Rattle.audit_run.proofs.Holding.{lacking, whole as whole_sources}
 use Rattle.audit_run.proofs.Owned.{all_owned, all_rise}
 use Rattle.audit_run.proofs.Refusing.{refused_of_sources}
 use Rattle.audit_run.proofs.Reporting.{reported}
-use Rattle.audit_run.specs.IsAuditResult.{IsAuditResult, IsOutcome, IsReportOfArrived, IsRunOutcome, most_parts}
+use Rattle.audit_run.specs.IsAuditResult.{IsAuditResult, IsOutcome, IsReportOfArrived, IsRunOutcome, NoneRefused, most_parts}
 use Rattle.audit_run.specs.Body.Concluded.{Concludes, RefusesSenders}
 use Rattle.audit_run.specs.Arrivals.{arrivals_of}
 use Rattle.audit_run.specs.Body.Gathered.{collector_after, RanOutOfMemory, Gathers, Drains}
@@ -132,23 +133,23 @@ refused_by names sources readable_bytes states workers outcomes why read all e =
 
 -- the result of a collector for the arrivals is the outcome of what the sources state
 come_to : (names : Names) (sources : List (List ℕ)) (readable_bytes : List (Option Ahead)) (states : List Stated) (workers : ℕ) (outcomes : List Outcome) (result : Result Report AuditFault)
-    → AreRead readable_bytes states → IsPermutation (map (answer names) (run_jobs workers (parts_by_owner sources states))) outcomes
+    → AreRead readable_bytes states → (NoneRefused (faults_of states) → IsPermutation (map (answer names) (run_jobs workers (parts_by_owner sources states))) outcomes)
     → Concludes sources (faults_of states) (after (start (roster sources)) (arrivals_of outcomes)) result → IsOutcome names sources states result
 come_to names sources readable_bytes states workers outcomes (Ok report) read all (sound, (held, ran, finished, is)) = (
   sound,
-  whole_sources names (roster sources) workers (parts_by_owner sources states) outcomes all held ran finished,
-  subst (IsReport names (roster sources) (parts_by_owner sources states)) (sym is) (reported names (roster sources) workers (parts_by_owner sources states) outcomes all held ran finished),
+  whole_sources names (roster sources) workers (parts_by_owner sources states) outcomes (all sound) held ran finished,
+  subst (IsReport names (roster sources) (parts_by_owner sources states)) (sym is) (reported names (roster sources) workers (parts_by_owner sources states) outcomes (all sound) held ran finished),
 )
 come_to names sources readable_bytes states workers outcomes (Err (Sender name part fault)) read all a = a.0
 come_to names sources readable_bytes states workers outcomes (Err (Collect (collect.Roster why))) read all a = a
 come_to names sources readable_bytes states workers outcomes (Err (Collect (collect.Refused refused.Memory))) read all a = absurd a
-come_to names sources readable_bytes states workers outcomes (Err (Collect (collect.Refused (refused.Stranger s)))) read all a = (a.0, refused_by names sources readable_bytes states workers outcomes (refused.Stranger s) read all a.1)
-come_to names sources readable_bytes states workers outcomes (Err (Collect (collect.Refused (refused.ZeroNumber s)))) read all a = (a.0, refused_by names sources readable_bytes states workers outcomes (refused.ZeroNumber s) read all a.1)
-come_to names sources readable_bytes states workers outcomes (Err (Collect (collect.Refused (refused.Double s n)))) read all a = (a.0, refused_by names sources readable_bytes states workers outcomes (refused.Double s n) read all a.1)
-come_to names sources readable_bytes states workers outcomes (Err (Collect (collect.Refused (refused.ClosedTwice s)))) read all a = (a.0, refused_by names sources readable_bytes states workers outcomes (refused.ClosedTwice s) read all a.1)
-come_to names sources readable_bytes states workers outcomes (Err (Collect (collect.Refused (refused.PastClose s n)))) read all a = (a.0, refused_by names sources readable_bytes states workers outcomes (refused.PastClose s n) read all a.1)
+come_to names sources readable_bytes states workers outcomes (Err (Collect (collect.Refused (refused.Stranger s)))) read all a = (a.0, refused_by names sources readable_bytes states workers outcomes (refused.Stranger s) read (all a.0) a.1)
+come_to names sources readable_bytes states workers outcomes (Err (Collect (collect.Refused (refused.ZeroNumber s)))) read all a = (a.0, refused_by names sources readable_bytes states workers outcomes (refused.ZeroNumber s) read (all a.0) a.1)
+come_to names sources readable_bytes states workers outcomes (Err (Collect (collect.Refused (refused.Double s n)))) read all a = (a.0, refused_by names sources readable_bytes states workers outcomes (refused.Double s n) read (all a.0) a.1)
+come_to names sources readable_bytes states workers outcomes (Err (Collect (collect.Refused (refused.ClosedTwice s)))) read all a = (a.0, refused_by names sources readable_bytes states workers outcomes (refused.ClosedTwice s) read (all a.0) a.1)
+come_to names sources readable_bytes states workers outcomes (Err (Collect (collect.Refused (refused.PastClose s n)))) read all a = (a.0, refused_by names sources readable_bytes states workers outcomes (refused.PastClose s n) read (all a.0) a.1)
 come_to names sources readable_bytes states workers outcomes (Err (Collect (collect.Unfinished what))) read all (sound, (held, ran, first)) =
-    (sound, lacking names (roster sources) workers (parts_by_owner sources states) outcomes all held ran what first)
+    (sound, lacking names (roster sources) workers (parts_by_owner sources states) outcomes (all sound) held ran what first)
 come_to names sources readable_bytes states workers outcomes (Err NoThread) read all a = tt
 come_to names sources readable_bytes states workers outcomes (Err Memory) read all a = tt
 come_to names sources readable_bytes states workers outcomes (Err TooManyParts) read all a = absurd a
@@ -201,11 +202,11 @@ settled names sources readable_bytes count workers p p1 p2 p3 prepared ended g r
     let long : length states ≡ length readable_bytes = AllZip-long (IsStatedBy requests_of_file) readable_bytes states stated.1 in
     let faults : ended.faults.items ≡ faults_of states =
     run.faults ∙ (ap (map (λ (part : ℕ × Stated). fault_in part.1)) stated.2 ∙ faults_are (owners sources) states (omega (arith, long, owners_are, sources_are, told_are))) in
-    let put : List Job = run_jobs workers (parts_by_owner sources states) in
+    let put : List Job = replicate workers Stop ++ run.put in
     let taken : List Job = run.taken ++ drain.jobs in
     let outcomes : List Outcome = run.gathered ++ drain.outcomes in
     let ran : ended.pass ≡ after_run names (split_off p) count workers put run.taken run.gathered =
-    run.pass ∙ (λ i. after_run names (mine i) count (workers_are i) (run_jobs (workers_are i) (stated.2 i)) run.taken run.gathered) in
+    run.pass ∙ (λ i. after_run names (mine i) count (workers_are i) (replicate (workers_are i) Stop ++ run.put) run.taken run.gathered) in
     let enough : (count + workers) + 1 < p.weight = omega (arith, light_enough, whole) in
     let two : p2 ≡ with_messages p put run.taken (map (answer names) run.taken) run.gathered =
     merged ∙ ((λ i. with_joined (light i) (ran i)) ∙ back names p count workers put run.taken run.gathered enough) in
@@ -215,6 +216,10 @@ settled names sources readable_bytes count workers p p1 p2 p3 prepared ended g r
     let decided : Concludes sources (faults_of states) (after (start (roster sources)) (arrivals_of outcomes)) result =
     concluded sources (faults_of states) prepared.gathering g outcomes result (gathers_more prepared.gathering ended.gathering g run.gathered drain.outcomes run.gathers drain.gathered) collector unrefused
     (subst (λ (l : List (Option FileFault)). Concludes sources l (collector_after g.collector g.refused []) result) faults answers) in
+    let all : NoneRefused (faults_of states) → IsPermutation (map (answer names) (run_jobs workers (parts_by_owner sources states))) outcomes = λ none.
+    let own : NoneRefused (map (λ (part : ℕ × Stated). fault_in part.1) run.parts) = subst NoneRefused (sym faults ∙ run.faults) none in
+    let stated_jobs : put ≡ run_jobs workers (parts_by_owner sources states) = (λ i. replicate workers Stop ++ run.are_put.whole own i) ∙ ap (λ (parts : List (ℕ × Stated)). run_jobs workers parts) stated.2 in
+    subst (λ (jobs : List Job). IsPermutation (map (answer names) jobs) outcomes) stated_jobs (all_answered names p p3 put taken outcomes three empty nothing) in
     audited names sources readable_bytes workers p p3 _ _ result decided (record {
       few = few;
       is_roster = is_roster;
@@ -222,8 +227,8 @@ settled names sources readable_bytes count workers p p1 p2 p3 prepared ended g r
       read = stated.1;
       outcomes = outcomes;
       gained = ap (λ (x : PassView). x.outcomes_taken) three;
-      all = all_answered names p p3 put taken outcomes three empty nothing;
-      outcome = come_to names sources readable_bytes states workers outcomes result stated.1 (all_answered names p p3 put taken outcomes three empty nothing) decided;
+      all = all;
+      outcome = come_to names sources readable_bytes states workers outcomes result stated.1 all decided;
       arrived = arrived_of sources (faults_of states) outcomes result decided;
       whole = ap (λ (x : PassView). x.weight) three ∙ whole;
       same_handoff = ap (λ (x : PassView). x.handoff) three;

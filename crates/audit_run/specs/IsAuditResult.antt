@@ -59,8 +59,8 @@ IsOutcome names sources states (Err Memory) = ⊤
 IsOutcome names sources states (Err TooManyParts) = ⊥
 
 -- the threads ran on sources with these names and these bytes ahead, and the result is the outcome
--- of their content; the pass is whole again with nothing left, and has gained the answers of all
--- jobs, in some order
+-- of their content; the pass is whole again with nothing left, and if no source is refused, it has
+-- gained the answers of all jobs, in some order
 pub record IsRunOutcome (names : Names) (sources : List (List ℕ)) (readable_bytes : List (Option Ahead)) (workers : ℕ) (old new : PassView) (result : Result Report AuditFault) : Type 0 where
   pub few : length sources ≤ most_parts
   pub is_roster : IsRoster (roster sources)
@@ -68,7 +68,7 @@ pub record IsRunOutcome (names : Names) (sources : List (List ℕ)) (readable_by
   pub read : AreRead readable_bytes states
   pub outcomes : List Outcome
   pub gained : new.outcomes_taken ≡ old.outcomes_taken ++ outcomes
-  pub all : IsPermutation (map (answer names) (run_jobs workers (parts_by_owner sources states))) outcomes
+  pub all : NoneRefused (faults_of states) → IsPermutation (map (answer names) (run_jobs workers (parts_by_owner sources states))) outcomes
   pub outcome : IsOutcome names sources states result
   pub arrived : IsReportOfArrived sources outcomes result
   pub whole : IsOnlyPass new

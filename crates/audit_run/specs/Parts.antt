@@ -31,7 +31,7 @@ close_jobs sender (Some count) = Close sender count ∷ []
 abbrev pub jobs_of : ℕ → Requests → List Job
 jobs_of sender requests = map (λ r. Ask sender r) requests.list ++ (close_jobs sender requests.close ++ End sender ∷ [])
 
--- the jobs of a source, or its end alone if it is refused
+-- the jobs of a source; what a refused source puts before its end counts for nothing, and is left out
 abbrev pub jobs_or_end : ℕ → Stated → List Job
 jobs_or_end sender (Ok requests) = jobs_of sender requests
 jobs_or_end sender (Err fault) = End sender ∷ []

@@ -1,15 +1,17 @@
 //! Starts a thread for each source of requests, and joins them.
-ghost use Rattle.std.specs.Prelude.{◌≡◌, [], ℕ, ◌+◌, ◌≤◌, List, All, IfSome, map, vec_len, vec_capacity, IsTrue};
-ghost use Rattle.audit_run.specs.Parts.{Stated, fault_in, put_by_sources};
+ghost use Rattle.std.specs.Prelude.{◌≡◌, [], ◌∷◌, ℕ, ◌+◌, ◌≤◌, List, All, IfSome, Some, map, vec_len, vec_capacity, IsTrue};
+ghost use Rattle.audit_run.specs.declared.message.Job.{Job};
+ghost use Rattle.audit_run.specs.declared.message.Job.TheVariants.{End};
+ghost use Rattle.audit_run.specs.Parts.{Stated, fault_in};
 ghost use Rattle.audit_run.specs.Body.FreshPasses.{IsFresh};
-ghost use Rattle.audit_run.specs.Body.Work.{AreParts, HasSent, joined_sources, part_ahead};
+ghost use Rattle.audit_run.specs.Body.Work.{AreParts, ArePut, HasSent, HasSentText, joined_sources, part_ahead, putting_jobs};
 
-use crate::sender::{put_end, send};
+use crate::sender::{put_end, send, send_rows};
 use crate::shared::Shared;
 use crate::source::Part;
 use crate::wakes::Wakes;
 use crate::{Handoff, Pass};
-use audit_files::{Feed, FileFault, read_requests};
+use audit_files::{Feed, FileFault, RequestRows, read_text};
 use std::alloc::Global;
 use std::snapshot::Snapshot;
 use std::sync::Wait;
@@ -22,8 +24,8 @@ pub struct Sent {
     pub fault: Option<FileFault>,
 }
 
-/// The promise of a source's thread: it puts the jobs of what its source states, or `End` alone if
-/// the source is refused.
+/// The promise of a source's thread: it puts the jobs of what its source states, or some requests and
+/// `End` if the source is refused.
 #[derive(Drop)]
 pub struct SourceRan<F> {
     pub before: Snapshot<Pass>,
@@ -38,31 +40,67 @@ impl<F: Feed> Promise<Sent> for SourceRan<F> {
 /// The handle of a source's thread.
 pub type ReaderHandle<F> = PromisedHandle<Sent, SourceRan<F>>;
 
+// Puts `End` for a source that is refused.
+fn refuse<R: Wait>(
+    rt: &R,
+    handoff: &Handoff,
+    wakes: &Wakes,
+    mut pass: Pass,
+    owner: u32,
+    fault: FileFault,
+) -> Sent
+    requires { pass.handoff ≡ handoff.now }
+    ensures { (result.pass ≡ putting_jobs pass (End owner ∷ [])) × (result.fault ≡ Some fault) }
+{
+    put_end(rt, handoff, wakes, &mut pass, owner);
+    Sent {
+        pass,
+        fault: Some(fault),
+    }
+}
+
+// Puts the jobs of the text of a source, its requests as they are read.
+fn send_text<R: Wait>(
+    alloc: Global,
+    rt: &R,
+    handoff: &Handoff,
+    wakes: &Wakes,
+    mut pass: Pass,
+    owner: u32,
+    text: Vec<u8>,
+) -> Sent
+    requires { pass.handoff ≡ handoff.now }
+    ensures { HasSentText text.items pass owner result }
+{
+    let mut rows = RequestRows::of(alloc, text);
+    match send_rows(rt, handoff, wakes, &mut pass, owner, &mut rows) {
+        Ok(()) => match rows.rest() {
+            Ok(left) => Sent {
+                pass: send(rt, handoff, wakes, pass, owner, left),
+                fault: None,
+            },
+            Err(fault) => refuse(rt, handoff, wakes, pass, owner, fault),
+        },
+        Err(_) => refuse(rt, handoff, wakes, pass, owner, FileFault::Memory),
+    }
+}
+
 // Reads the source and puts its jobs.
 fn read_and_send<R: Wait, F: Feed + Drop>(
     alloc: Global,
     rt: &R,
     handoff: &Handoff,
     wakes: &Wakes,
-    mut pass: Pass,
+    pass: Pass,
     part: Part<F>,
 ) -> Sent
     requires { pass.handoff ≡ handoff.now }
     ensures { HasSent (F.ahead part.reader) pass part.owner result }
 {
     let Part { owner, mut reader } = part;
-    match read_requests(alloc, &mut reader) {
-        Ok(requests) => Sent {
-            pass: send(rt, handoff, wakes, pass, owner, requests),
-            fault: None,
-        },
-        Err(fault) => {
-            put_end(rt, handoff, wakes, &mut pass, owner);
-            Sent {
-                pass,
-                fault: Some(fault),
-            }
-        }
+    match read_text(alloc, &mut reader) {
+        Ok(text) => send_text(alloc, rt, handoff, wakes, pass, owner, text),
+        Err(fault) => refuse(rt, handoff, wakes, pass, owner, fault),
     }
 }
 
@@ -146,9 +184,10 @@ pub fn join_readers<R: Threads + Wait, F: Feed>(
     requires fresh { All (λ h. IsFresh handoff.now h.promise.before.value) handles.items }
     requires empty { faults.old.items ≡ [] }
     requires room { vec_len faults.old + vec_len handles ≤ vec_capacity faults.old }
-    ensures { (parts : List (ℕ × Stated)) × AreParts
+    ensures { (parts : List (ℕ × Stated)) × (put : List Job) × AreParts
         (map (λ h. part_ahead h.promise.owner (F.ahead h.promise.reader.value)) handles.items) parts
-        × (pass.new ≡ joined_sources pass.old (vec_len handles) (put_by_sources parts))
+        × (pass.new ≡ joined_sources pass.old (vec_len handles) put)
+        × ArePut parts put
         × (faults.new.items ≡ map (λ part. fault_in part.1) parts) }
 {
     for handle in handles {

@@ -1,13 +1,16 @@
 //! What the thread of a source does: puts the jobs of one requests file.
-ghost use Rattle.std.specs.Prelude.{◌≡◌, IfSome};
+ghost use Rattle.std.specs.Prelude.{◌≡◌, [], ℕ, List, IfSome, OnOk, map};
+ghost use Rattle.audit_files.specs.RequestRows.{HasRead};
 ghost use Rattle.audit_run.specs.Passes.{with_job_put};
 ghost use Rattle.audit_run.specs.Parts.{jobs_of};
 ghost use Rattle.audit_run.specs.declared.message.Job.TheVariants.{End};
-ghost use Rattle.audit_run.specs.Body.Work.{putting_jobs};
+ghost use Rattle.audit_run.specs.Body.Work.{asking, putting_jobs};
+ghost use Rattle.sudo_match.specs.declared.request.Request.{Request};
 
 use crate::wakes::{Need, Tries, Wakes};
 use crate::{Handoff, Job, Pass};
-use audit_files::Requests;
+use audit_files::{RequestRows, Requests};
+use std::alloc::AllocError;
 use std::sync::Wait;
 use sudo_match::Request;
 
@@ -60,6 +63,32 @@ fn give_back(left: &mut Vec<Request>, messages: u32)
     if messages % GIVEN_BACK == 0 {
         left.shrink_to_fit();
     }
+}
+
+/// Puts the requests of the rows, each as it is read, up to where the others are read at once. Fails
+/// only if allocation failed.
+pub fn send_rows<R: Wait>(
+    rt: &R,
+    handoff: &Handoff,
+    wakes: &Wakes,
+    pass: &mut Pass,
+    sender: u32,
+    rows: &mut RequestRows,
+) -> Result<(), AllocError>
+    requires { pass.old.handoff ≡ handoff.now }
+    ensures { (sent : List Request) × (pass.new ≡ putting_jobs pass.old (asking sender sent))
+        × OnOk result ((text : List ℕ) → HasRead rows.old text [] → HasRead rows.new text sent) }
+{
+    let mut messages = 0u32;
+    for _ in rt.forever() {
+        let Some(request) = rows.next()? else {
+            return Ok(());
+        };
+        put_job(rt, handoff, wakes, pass, Job::Ask { sender, request });
+        messages = messages.wrapping_add(1);
+        wakes.count(Need::JobRoom, messages);
+    }
+    unreachable!()
 }
 
 /// Puts the requests in order, the close mark if there is one, and `End`.

@@ -26,6 +26,7 @@ fn request(which: &str) -> &'static str {
         "kill" => ",alice,web1.example.org,,,/bin/kill,-9 7\n",
         "su" => ",alice,web1.example.org,,,/bin/su,\n",
         "stranger" => ",carol,web1.example.org,,,/bin/kill,\n",
+        "quoted" => ",\"alice\",web1.example.org,,,/bin/kill,\n",
         _ => "\n",
     }
 }

@@ -1,17 +1,21 @@
 -- The effect of the threads of an audit on their passes. Only the proofs of bodies use these
 -- definitions.
-use Rattle.std.specs.Prelude.{◌≡◌, ℕ, ◌+◌, List, ◌++◌, Option, map}
+use Rattle.std.specs.Prelude.{◌≡◌, ℕ, ◌+◌, List, [], ◌∷◌, ◌++◌, Option, Ok, Err, map}
 use Rattle.std.specs.List.{AllZip}
+use Rattle.audit_files.specs.Faults.{IsNotOutOfMemory}
 use Rattle.audit_files.specs.Feeding.{Ahead}
 use Rattle.audit_files.specs.Files.{IsStatedBy}
 use Rattle.audit_files.specs.Requests.{requests_of_file}
 use Rattle.audit_run.specs.declared.message.Job.{Job}
+use Rattle.audit_run.specs.declared.message.Job.TheVariants.{Ask, End}
 use Rattle.audit_run.specs.declared.message.Names.{Names}
 use Rattle.audit_run.specs.declared.message.Outcome.{Outcome}
 use Rattle.audit_run.specs.Names.{answer}
 use Rattle.audit_run.specs.Passes.{PassView}
 use Rattle.audit_run.specs.declared.readers.Sent.{Sent}
-use Rattle.audit_run.specs.Parts.{Stated, fault_in, jobs_or_end}
+use Rattle.audit_run.specs.IsAuditResult.{NoneRefused}
+use Rattle.audit_run.specs.Parts.{Stated, fault_in, jobs_of, put_by_sources}
+use Rattle.sudo_match.specs.declared.request.Request.{Request}
 
 -- the pass after these jobs were taken and their answers put
 abbrev pub after_work : Names → PassView → List Job → PassView
@@ -25,10 +29,33 @@ HasWorked p q = (jobs : List Job) × (q ≡ after_work p.names p jobs)
 abbrev pub putting_jobs : PassView → List Job → PassView
 putting_jobs p jobs = record p { jobs_put = p.jobs_put ++ jobs }
 
--- the result of a source's thread: the jobs of what the source states were put, and its fault is
--- returned
+abbrev pub asking : ℕ → List Request → List Job
+asking sender requests = map (λ r. Ask sender r) requests
+
+-- a source has put these jobs: those of what it states, or some requests and its end if it is
+-- refused
+abbrev pub HasPut : ℕ → Stated → List Job → Type 0
+HasPut owner (Ok requests) jobs = jobs ≡ jobs_of owner requests
+HasPut owner (Err fault) jobs = (sent : List Request) × (jobs ≡ asking owner sent ++ End owner ∷ [])
+
+-- the result of a source's thread: what the source states, and so its fault, and the jobs that were
+-- put
+pub record HasSentState (before : PassView) (owner : ℕ) (r : Sent) (state : Stated) : Type 0 where
+  pub jobs : List Job
+  pub pass : r.pass ≡ putting_jobs before jobs
+  pub put : HasPut owner state jobs
+  pub fault : r.fault ≡ fault_in state
+
+-- the text of a source states this, but for out of memory
+abbrev pub IsStatedByText : List ℕ → Stated → Type 0
+IsStatedByText text (Ok requests) = requests_of_file text ≡ Ok requests
+IsStatedByText text (Err fault) = IsNotOutOfMemory fault → requests_of_file text ≡ Err fault
+
+abbrev pub HasSentText : List ℕ → PassView → ℕ → Sent → Type 0
+HasSentText text before owner r = (state : Stated) × IsStatedByText text state × HasSentState before owner r state
+
 abbrev pub HasSent : Option Ahead → PassView → ℕ → Sent → Type 0
-HasSent readable_bytes before owner r = (state : Stated) × IsStatedBy requests_of_file readable_bytes state × (r.pass ≡ putting_jobs before (jobs_or_end owner state)) × (r.fault ≡ fault_in state)
+HasSent readable_bytes before owner r = (state : Stated) × IsStatedBy requests_of_file readable_bytes state × HasSentState before owner r state
 
 -- a source by its owner and by the bytes ahead of its reader
 abbrev pub part_ahead : ℕ → Option Ahead → ℕ × Option Ahead
@@ -40,6 +67,10 @@ IsPart readable_bytes part = (part.0 ≡ readable_bytes.0) × IsStatedBy request
 
 abbrev pub AreParts : List (ℕ × Option Ahead) → List (ℕ × Stated) → Type 0
 AreParts readable_bytes parts = AllZip IsPart readable_bytes parts
+
+-- these jobs were put by the sources, if none is refused
+pub record ArePut (parts : List (ℕ × Stated)) (put : List Job) : Type 0 where
+  pub whole : NoneRefused (map (λ part. fault_in part.1) parts) → put ≡ put_by_sources parts
 
 -- the pass after the passes of workers that took these jobs were joined
 abbrev pub joined_workers : Names → PassView → ℕ → List Job → PassView
