@@ -16,7 +16,7 @@ use std::alloc::{AllocError, Global};
 use sudo_match::Request;
 
 // The fewest bytes that are given back at a time.
-const GIVEN_BACK: usize = 65_536;
+const GIVEN_BACK: usize = 4_194_304;
 
 /// A requests file whose requests are read one after another while its rows have no quotes. What is
 /// left then, a close row among it, is read at once.
@@ -97,13 +97,13 @@ impl RequestRows {
         Ok(Some(request))
     }
 
-    // Gives back the room of the bytes that were read, once they are half of all.
+    // Gives back the room of the bytes that were read, once they are three quarters of all.
     fn give_back(&mut self)
         ensures left { bytes_behind self.new ≡ bytes_behind self.old }
         ensures same { (self.new.has_header ≡ self.old.has_header)
             × (self.new.count ≡ self.old.count) × (self.new.last ≡ self.old.last) }
     {
-        if self.at < GIVEN_BACK || self.at < self.text.len() / 2 {
+        if self.at < GIVEN_BACK || self.text.len().saturating_sub(self.at) > self.at / 3 {
             return;
         }
         if let Ok(left) = Vec::from_slice(self.alloc, self.left()) {

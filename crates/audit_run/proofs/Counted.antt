@@ -1,11 +1,10 @@
 -- The counts of the arrivals of answered jobs, from the sources.
-use Rattle.std.proofs.Common.{◌≡◌, ◌⊎◌, ℕ, zero, suc, ◌+◌, ◌≤◌, ◌<◌, Bool, true, false, cond, ◌&&◌, ◌==◌, List, [], ◌∷◌, ◌++◌, length, map, flat_map, replicate, Option, None, Some, Ok, Err, nat_lt, count_by, IsPermutation, append_assoc, sym, ap, subst, ◌∙◌, refl, inl, inr, arith, if◌then◌else◌}
+use Rattle.std.proofs.Common.{◌≡◌, ◌⊎◌, ℕ, zero, suc, ◌+◌, Bool, true, false, cond, ◌&&◌, ◌==◌, List, [], ◌∷◌, ◌++◌, length, map, flat_map, replicate, Option, None, Some, Ok, Err, nat_lt, count_by, IsPermutation, sym, ap, subst, ◌∙◌, refl, inl, inr, arith}
 use Rattle.std.proofs.lemmas.List.{map-append}
 use Rattle.audit_collect.specs.declared.arrival.Arrival.{Arrival}
 use Rattle.audit_collect.specs.declared.arrival.Arrival.TheVariants.{Reply, Close}
-use Rattle.audit_collect.specs.Faults.{is_of, is_reply, is_close, is_close_below}
+use Rattle.audit_collect.specs.Faults.{is_reply, is_close, is_close_below}
 use Rattle.audit_collect.proofs.Members.{Among, Among-append, Among-left, Among-right, Among-permutation, count_by-append, count_by-cons, count_by-permutation}
-use Rattle.audit_files.specs.declared.requests.Requests.{Requests}
 use Rattle.audit_run.specs.declared.message.Job.{Job}
 use Rattle.audit_run.specs.declared.message.Job.TheVariants as job
 use Rattle.audit_run.specs.declared.message.Names.{Names}
@@ -14,7 +13,7 @@ use Rattle.audit_run.specs.declared.message.Outcome.TheVariants as outcome
 use Rattle.audit_run.specs.Names.{answer, answer_to}
 use Rattle.sudo_match.specs.declared.request.Request.{Request}
 use Rattle.audit_run.specs.Arrivals.{arrivals_of}
-use Rattle.audit_run.specs.Asked.{asked_of, count_listed, counts_in, counts_of, has_number, values_of_sender, requests_stated, times_asked}
+use Rattle.audit_run.specs.Asked.{count_listed, counts_in, counts_of, has_number, values_of_sender, requests_stated, times_asked}
 use Rattle.audit_run.specs.Parts.{Stated, close_jobs, put_by_sources, jobs_or_end, run_jobs}
 use Rattle.audit_run.proofs.Gains.{arrivals_of-append}
 

@@ -1,7 +1,7 @@
 -- Whole sources have no fault, and one report.
-use Rattle.std.proofs.Common.{◌≡◌, ◌⊎◌, ℕ, zero, suc, ◌+◌, ◌≤◌, ◌<◌, Bool, true, false, cond, ◌==◌, List, [], ◌∷◌, ◌++◌, length, flat_map, Option, None, Some, Ok, Err, slice_get, count_by, All, sym, ap, subst, ◌∙◌, refl, inl, inr, arith, if◌then◌else◌}
+use Rattle.std.proofs.Common.{◌≡◌, ◌⊎◌, ℕ, zero, suc, ◌+◌, ◌≤◌, ◌<◌, true, cond, ◌==◌, List, [], ◌∷◌, ◌++◌, length, flat_map, Some, slice_get, count_by, All, sym, ap, subst, ◌∙◌, refl, inl, inr, arith}
 use Rattle.std.proofs.lemmas.List.Elements.{All-head, All-tail}
-use Rattle.std.proofs.lemmas.Option.{same_Some, slice_get_within, slice_get_past}
+use Rattle.std.proofs.lemmas.Option.{same_Some, slice_get_within}
 use Rattle.std.specs.List.{Contains}
 use Rattle.sudo_match.specs.declared.request.Request.{Request}
 use Rattle.audit_collect.specs.declared.arrival.Answer.{Answer}
@@ -12,11 +12,11 @@ use Rattle.audit_collect.specs.declared.fault.Unfinished.TheVariants.{Open, Gap}
 use Rattle.audit_collect.specs.declared.report.Report.{Report}
 use Rattle.audit_collect.specs.declared.report.SenderReport.{SenderReport}
 use Rattle.audit_collect.proofs.HeldLaw.{self_tested}
-use Rattle.audit_collect.proofs.Members.{Among, Among-Contains, count_by-append, count_by-cons, count_by_member}
+use Rattle.audit_collect.proofs.Members.{Among, Among-Contains, count_by-cons, count_by_member}
 use Rattle.audit_run.specs.declared.message.Names.{Names}
 use Rattle.audit_run.specs.Names.{answer_to}
 use Rattle.audit_run.specs.Asked.{asked_of, counts_in, counts_of, has_number, values_of_sender, requests_stated, times_asked}
-use Rattle.audit_run.specs.Outcome.{AreWhole, AskInTwo, Asks, HaveRefused, IsPast, IsReport, IsRow, IsWholeSender, Lack}
+use Rattle.audit_run.specs.Outcome.{AreWhole, Asks, HaveRefused, IsReport, IsRow, IsWholeSender, Lack}
 use Rattle.audit_run.specs.Parts.{Stated}
 use Rattle.audit_run.proofs.Refusing.{IsOwned}
 use Rattle.audit_run.proofs.Twice.{here_and_rest, untested}

@@ -1,5 +1,5 @@
 -- A collector holds what the sources state, and lacks what they lack.
-use Rattle.std.proofs.Common.{◌≡◌, ◌⊎◌, ◌↔◌, ℕ, zero, suc, ◌+◌, ◌≤◌, ◌<◌, Bool, true, false, cond, ◌&&◌, ◌==◌, List, [], ◌∷◌, ◌++◌, length, map, flat_map, Option, None, Some, IsSome, IsTrue, Ok, Err, slice_get, is_some, count_by, IsPermutation, All, sym, ap, subst, ◌∙◌, refl, inl, inr, arith}
+use Rattle.std.proofs.Common.{◌≡◌, ℕ, zero, suc, ◌+◌, ◌≤◌, ◌<◌, Bool, true, false, cond, ◌&&◌, ◌==◌, List, [], ◌∷◌, length, map, Option, None, Some, IsSome, IsTrue, Ok, slice_get, is_some, count_by, IsPermutation, sym, ap, subst, ◌∙◌, refl, arith}
 use Rattle.std.proofs.lemmas.Option.{slice_get_within}
 use Rattle.std.specs.FinMap.{get, contains_key}
 use Rattle.audit_collect.specs.declared.arrival.Answer.{Answer}
@@ -19,7 +19,7 @@ use Rattle.audit_run.specs.Arrivals.{arrivals_of}
 use Rattle.audit_run.specs.Asked.{counts_of, times_asked}
 use Rattle.audit_run.specs.Outcome.{AreWhole, IsGap, IsWholeSender, Lack}
 use Rattle.audit_run.specs.Parts.{Stated, run_jobs}
-use Rattle.audit_run.proofs.Counted.{closes_counted, closes_tested, part_arrivals, replies_counted}
+use Rattle.audit_run.proofs.Counted.{closes_counted, closes_tested, replies_counted}
 use Rattle.audit_run.proofs.Refusing.{counted}
 
 -- whether an arrival is a close mark of the sender with this count

@@ -1,6 +1,6 @@
 -- The content of sources: numbers that rise, and owners in the roster.
-use Rattle.std.proofs.Common.{◌≡◌, ◌⊎◌, ℕ, suc, ◌+◌, ◌<◌, Bool, true, false, cond, not, List, [], ◌∷◌, length, map, Option, None, Some, Result, Ok, Err, All, sym, ap, subst, ◌∙◌, refl, inl, inr, arith, bytes_eq, filter, if◌then◌else◌}
-use Rattle.std.specs.List.{AllZip, zip}
+use Rattle.std.proofs.Common.{◌≡◌, ◌⊎◌, ℕ, suc, ◌+◌, ◌<◌, Bool, true, false, cond, not, List, [], ◌∷◌, length, map, Option, Result, Ok, Err, All, sym, ap, ◌∙◌, refl, inl, inr, arith, bytes_eq}
+use Rattle.std.specs.List.{zip}
 use Rattle.std.proofs.lemmas.List.Elements.{All-cons, All-nil}
 use Rattle.std.proofs.lemmas.Slice.Eq.{bytes_eq-Decides}
 use Rattle.audit_collect.proofs.Members.{Among}

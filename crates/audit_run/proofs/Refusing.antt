@@ -1,5 +1,5 @@
 -- A refusal of a collector is a fault that the sources have.
-use Rattle.std.proofs.Common.{◌≡◌, ℕ, ◌+◌, ◌≤◌, ◌<◌, Bool, true, false, cond, ◌==◌, List, [], ◌∷◌, ◌++◌, length, map, flat_map, Option, None, Some, Ok, Err, nat_lt, count_by, IsPermutation, All, sym, ap, subst, ◌∙◌, refl, inl, inr, arith}
+use Rattle.std.proofs.Common.{◌≡◌, ℕ, ◌≤◌, ◌<◌, Bool, true, List, [], ◌∷◌, length, map, flat_map, Ok, Err, nat_lt, count_by, IsPermutation, All, ap, subst, ◌∙◌, inl, inr, arith}
 use Rattle.std.proofs.lemmas.Bool.Decides.{nat_tests}
 use Rattle.std.proofs.lemmas.List.Elements.{All-head, All-tail}
 use Rattle.audit_collect.specs.declared.arrival.Arrival.{Arrival}

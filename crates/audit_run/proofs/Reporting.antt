@@ -1,12 +1,11 @@
 -- The report of a run is that of its sources.
-use Rattle.std.proofs.Common.{◌≡◌, ◌⊎◌, ℕ, zero, suc, ◌+◌, ◌≤◌, ◌<◌, Bool, true, false, cond, ◌&&◌, ◌==◌, List, [], ◌∷◌, ◌++◌, length, map, flat_map, Option, None, Some, Ok, Err, slice_get, IsPermutation, sym, ap, subst, ◌∙◌, refl, inl, inr, arith, if◌then◌else◌}
+use Rattle.std.proofs.Common.{◌≡◌, ◌⊎◌, ℕ, zero, suc, ◌+◌, cond, ◌==◌, List, [], ◌∷◌, ◌++◌, length, map, Some, Ok, Err, slice_get, IsPermutation, sym, ap, subst, ◌∙◌, refl, inl, inr, arith}
 use Rattle.std.proofs.lemmas.List.Sorted.{IsPermutation-sym}
 use Rattle.std.proofs.lemmas.Option.{same_Some, slice_get_within}
 use Rattle.std.specs.List.{Contains}
 use Rattle.audit_collect.specs.declared.arrival.Answer.{Answer}
 use Rattle.audit_collect.specs.declared.arrival.Arrival.{Arrival}
 use Rattle.audit_collect.specs.declared.arrival.Arrival.TheVariants.{Reply, Close}
-use Rattle.audit_collect.specs.declared.report.Report.{Report}
 use Rattle.audit_collect.specs.declared.report.SenderReport.{SenderReport}
 use Rattle.audit_collect.specs.Complete.{IsReportOf, arrivals_from, report_rows}
 use Rattle.audit_collect.specs.Finished.{AllFinished, report_of}
@@ -20,7 +19,7 @@ use Rattle.audit_run.specs.Names.{answer, answer_to}
 use Rattle.sudo_match.specs.declared.request.Request.{Request}
 use Rattle.audit_run.specs.Arrivals.{arrivals_of}
 use Rattle.audit_run.specs.Asked.{asked_of, count_listed, counts_in, counts_of, values_of_sender, requests_stated}
-use Rattle.audit_run.specs.Outcome.{AreWhole, IsReport, IsRow}
+use Rattle.audit_run.specs.Outcome.{IsReport, IsRow}
 use Rattle.audit_run.specs.Parts.{Stated, run_jobs}
 use Rattle.audit_run.proofs.Counted.{AmongOf, among_flat, among_same, flat_among, jobs_arrivals, part_arrivals}
 use Rattle.audit_run.proofs.Holding.{whole}

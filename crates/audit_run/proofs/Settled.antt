@@ -1,5 +1,5 @@
 -- If all passes are joined and nothing is left, the gathered outcomes are the answers of all jobs.
-use Rattle.std.proofs.Common.{◌≡◌, ℕ, suc, ◌+◌, ◌-◌, ◌<◌, ◌≤◌, List, [], ◌∷◌, ◌++◌, map, Option, None, Result, Ok, Err, IsPermutation, refl, sym, ap, ◌∙◌, subst, ⊎_elim, arith, append-nil, vec_len, length, replicate}
+use Rattle.std.proofs.Common.{◌≡◌, ℕ, ◌+◌, ◌-◌, ◌<◌, ◌≤◌, List, [], ◌∷◌, ◌++◌, map, Option, None, Result, Ok, Err, IsPermutation, refl, sym, ap, ◌∙◌, subst, ⊎_elim, arith, append-nil, vec_len, length, replicate}
 use Rattle.std.specs.List.{zip}
 use Rattle.std.proofs.lemmas.Slice.Zip.{AllZip-long}
 use Rattle.audit_files.specs.Files.{IsStatedBy}

@@ -1,5 +1,5 @@
 -- The roster of an audit: sources with the same name are the parts of one sender.
-use Rattle.std.specs.Prelude.{ℕ, ◌+◌, List, [], ◌∷◌, Bool, not, bytes_eq, filter, map, take, count_by, if◌then◌else◌}
+use Rattle.std.specs.Prelude.{ℕ, ◌+◌, List, [], ◌∷◌, not, bytes_eq, filter, map, take, count_by, if◌then◌else◌}
 
 -- the names other than this one
 abbrev pub without : List ℕ → List (List ℕ) → List (List ℕ)

@@ -1,6 +1,6 @@
 -- The result of a collector on the gathered arrivals. Only the proofs of bodies use these
 -- definitions.
-use Rattle.std.specs.Prelude.{◌≡◌, ◌<◌, ℕ, ⊤, List, length, slice_get, Option, Some, Result, Ok, Err}
+use Rattle.std.specs.Prelude.{◌≡◌, ◌<◌, ℕ, ⊤, List, length, Option, Result, Ok, Err}
 use Rattle.audit_collect.specs.Finished.{AllFinished, IsFirstMissing, report_of}
 use Rattle.audit_collect.specs.SenderState.{SenderState}
 use Rattle.audit_collect.specs.Roster.{most_senders}
@@ -10,7 +10,6 @@ use Rattle.audit_collect.specs.declared.fault.Refused.TheVariants as refused
 use Rattle.audit_collect.specs.declared.fault.RosterFault.TheVariants as roster_fault
 use Rattle.audit_collect.specs.declared.report.Report.{Report}
 use Rattle.audit_files.specs.declared.fault.FileFault.{FileFault}
-use Rattle.audit_run.specs.Roster.{part_number}
 use Rattle.audit_run.specs.declared.fault.AuditFault.{AuditFault}
 use Rattle.audit_run.specs.declared.fault.AuditFault.TheVariants.{Sender, Collect, NoThread, Memory, TooManyParts}
 use Rattle.audit_run.specs.IsAuditResult.{IsRefusedSource, NoneRefused}

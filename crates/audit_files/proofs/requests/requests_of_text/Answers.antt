@@ -1,4 +1,4 @@
-use Rattle.std.proofs.Common.{◌≡◌, ◌∙◌, ◌++◌, [], List, ℕ, take, None, Ok, Option, refl, sym, ap}
+use Rattle.std.proofs.Common.{◌≡◌, ◌∙◌, ◌++◌, [], ℕ, take, Ok, Option, refl, sym, ap}
 use Rattle.audit_files.specs.Faults.{unless}
 use Rattle.audit_files.specs.Files.{stated_by}
 use Rattle.audit_files.specs.Requests.{request_fault, requests_in, requests_of}

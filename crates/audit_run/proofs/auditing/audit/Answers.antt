@@ -1,4 +1,4 @@
-use Rattle.std.proofs.Common.{◌≡◌, List, map, ◌∙◌, sym, subst, length}
+use Rattle.std.proofs.Common.{map, ◌∙◌, sym, subst}
 use Rattle.std.specs.List.{zip}
 use Rattle.audit_run.specs.IsAuditResult.{IsAuditResult}
 use Rattle.audit_run.specs.Names.{names_under}

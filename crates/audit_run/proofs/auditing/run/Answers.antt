@@ -1,4 +1,4 @@
-use Rattle.std.proofs.Common.{rules, ◌≡◌, ◌+◌, ◌∙◌, ◌++◌, ℕ, List, length, map, ap, sym, subst, arith, IsTrue, true, false, vec_len, replicate, []}
+use Rattle.std.proofs.Common.{rules, ◌≡◌, ◌∙◌, ℕ, length, map, ap, sym, subst, arith, IsTrue, true, false, vec_len, replicate, []}
 use Rattle.sudo_match.proofs.CharsLemmas.{length-map}
 use Rattle.audit_run.specs.Names.{names_under}
 use Rattle.audit_run.specs.Body.Work.{AreParts, joined_sources, joined_workers, part_ahead}

@@ -1,4 +1,4 @@
-use Rattle.std.proofs.Common.{◌∙◌, ◌++◌, ◌∷◌, [], Ok, Err, refl, sym, ap}
+use Rattle.std.proofs.Common.{◌++◌, ◌∷◌, [], Ok, Err, refl}
 use Rattle.audit_files.specs.declared.fault.FileFault.TheVariants.{Memory}
 use Rattle.audit_run.specs.Body.Work.{asking}
 use Rattle.audit_run.specs.Parts.{jobs_of}

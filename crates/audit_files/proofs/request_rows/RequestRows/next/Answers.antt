@@ -1,7 +1,7 @@
-use Rattle.std.proofs.Common.{rules, ◌≡◌, ◌+◌, ◌-◌, ◌∙◌, ◌++◌, ◌∷◌, [], ℕ, List, length, drop, true, refl, sym, ap, None}
-use Rattle.audit_files.specs.RequestRows.{HasRead, bytes_behind}
+use Rattle.std.proofs.Common.{rules, ◌≡◌, ◌-◌, ◌∙◌, ℕ, length, drop, true, sym, ap, None}
+use Rattle.audit_files.specs.RequestRows.{bytes_behind}
 use Rattle.audit_files.specs.Requests.{order_fault}
-use Rattle.audit_files.proofs.RowByRow.{drop_to, of_header, one_read, same_read, with_header}
+use Rattle.audit_files.proofs.RowByRow.{drop_to, of_header, one_read, with_header}
 use Rattle.audit_files.proofs.request_rows.RequestRows.next.Goals as goal
 
 pub returns-clause-request : goal.returns-clause-request

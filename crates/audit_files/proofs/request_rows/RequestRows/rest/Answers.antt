@@ -1,10 +1,7 @@
-use Rattle.std.proofs.Common.{rules, ◌≡◌, ◌+◌, ◌∙◌, ◌++◌, ℕ, List, length, take, true, None, Some, refl, sym, ap, slice_get, arith}
-use Rattle.sudo_match.specs.declared.request.Request.{Request}
-use Rattle.audit_files.specs.Faults.{IsNotOutOfMemory}
+use Rattle.std.proofs.Common.{◌≡◌, ◌+◌, ◌∙◌, ◌++◌, ℕ, List, length, take, sym, ap, slice_get, arith}
 use Rattle.audit_files.specs.Requests.{closes_in, request_fault, requests_in}
 use Rattle.audit_files.specs.Rows.{first_fault, records_of}
-use Rattle.audit_files.specs.RequestRows.{bytes_behind}
-use Rattle.audit_files.proofs.RowByRow.{fault_behind, held_last, held_long, row_behind, stated_behind, with_header}
+use Rattle.audit_files.proofs.RowByRow.{fault_behind, held_last, held_long, stated_behind, with_header}
 use Rattle.audit_files.proofs.request_rows.RequestRows.rest.Goals as goal
 
 pub returns-in-Ok-clause-stated : goal.returns-in-Ok-clause-stated

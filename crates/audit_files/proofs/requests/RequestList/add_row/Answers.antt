@@ -1,4 +1,4 @@
-use Rattle.std.proofs.Common.{rules, ◌≡◌, ◌∙◌, ◌∷◌, ◌++◌, ◌+◌, [], None, List, ℕ, length, slice_get, refl, sym, ap, arith, vec_len}
+use Rattle.std.proofs.Common.{rules, ◌≡◌, ◌∙◌, ◌+◌, None, length, slice_get, refl, sym, arith, vec_len}
 use Rattle.audit_files.specs.Requests.{close_of, closes_in, fields_in, order_fault, requests_in}
 use Rattle.audit_files.proofs.Gathered.{close_row, counted, listed_close, listed_request, request_row}
 use Rattle.audit_files.proofs.requests.RequestList.add_row.Goals as goal
