@@ -1,5 +1,6 @@
 -- A pass after the passes of threads are joined to it.
-use Rattle.std.proofs.Common.{◌≡◌, ℕ, ◌+◌, List, [], ◌∷◌, ◌++◌, length, map, Option, Some, Ok, Err, sym, ap, subst, ◌∙◌, arith, append_assoc, append-nil, replicate}
+use Rattle.std.proofs.Common.{◌≡◌, ℕ, suc, ◌+◌, List, [], ◌∷◌, ◌++◌, flat_map, map, slice_get, Option, None, Some, Ok, Err, refl, sym, ap, ◌∙◌, arith, append_assoc, append-nil, replicate}
+use Rattle.std.specs.List.{AllZip}
 use Rattle.std.proofs.lemmas.List.{map-append}
 use Rattle.std.proofs.lemmas.List.Concat.{flat_map-append}
 use Rattle.audit_files.specs.Feeding.{Ahead}
@@ -7,20 +8,18 @@ use Rattle.audit_files.specs.Files.{IsRead, IsStatedBy, itself}
 use Rattle.audit_files.specs.Requests.{requests_of_file}
 use Rattle.audit_files.specs.declared.fault.FileFault.{FileFault}
 use Rattle.audit_files.proofs.ReadLemmas.{text-states}
-use Rattle.audit_collect.proofs.Places.{slice_get-middle}
 use Rattle.audit_run.specs.IsAuditResult.{NoneRefused}
-use Rattle.audit_run.proofs.Beside.{at_front}
 use Rattle.audit_run.specs.declared.message.Names.{Names}
 use Rattle.audit_run.specs.declared.message.Job.{Job}
 use Rattle.audit_run.specs.Names.{answer}
 use Rattle.audit_run.specs.Passes.{HandoffId, PassView, with_joined}
 use Rattle.audit_run.specs.declared.message.Job.TheVariants.{Ask, End, Stop}
 use Rattle.audit_run.specs.declared.message.Outcome.{Outcome}
-use Rattle.audit_run.specs.Parts.{Stated, close_jobs, fault_in, jobs_of, put_by_sources, jobs_or_end}
+use Rattle.audit_run.specs.Parts.{HasPut, HavePut, Stated, asking, close_jobs, fault_in, jobs_of, put_by_sources}
 use Rattle.audit_files.specs.declared.requests.Requests.{Requests}
 use Rattle.sudo_match.specs.declared.request.Request.{Request}
 use Rattle.audit_run.specs.Body.FreshPasses.{fresh, fresh_with, with_messages}
-use Rattle.audit_run.specs.Body.Work.{AreParts, ArePut, HasPut, IsPart, IsStatedByText, after_run, after_work, asking, joined_workers, joined_sources, putting_jobs}
+use Rattle.audit_run.specs.Body.Work.{AreParts, IsPart, IsStatedByText, after_run, after_work, joined_workers, joined_sources, putting_jobs}
 use Rattle.sudo_match.specs.KnownRows.{KnownRows}
 use Rattle.sudo_grammar.specs.declared.policy.Policy.{Policy}
 
@@ -62,44 +61,49 @@ one_started readable_bytes tells hs after h y ys rest all pushed is step was =
     ∙ (ap (λ l. l ++ map tells rest) (map-append readable_bytes hs (h ∷ []) ∙ ap (λ x. map readable_bytes hs ++ x ∷ []) is)
     ∙ (append_assoc (map readable_bytes hs) (tells y ∷ []) (map tells rest) ∙ (ap (λ l. map readable_bytes hs ++ map tells l) (sym step) ∙ was)))
 
+one_more : {X Y : Type 0} (Is : X → Y → Type 0) (xs : List X) (ys : List Y) (x : X) (y : Y) → AllZip Is xs ys → Is x y → AllZip Is (xs ++ x ∷ []) (ys ++ y ∷ [])
+one_more Is [] [] x y old new = (new, old)
+one_more Is [] (p ∷ ps) x y old new = absurd old
+one_more Is (t ∷ ts) [] x y old new = absurd old
+one_more Is (t ∷ ts) (p ∷ ps) x y old new = (old.0, one_more Is ts ps x y old.1 new)
+
 -- one more part
 pub one_part : (readable_bytes : List (ℕ × Option Ahead)) (parts : List (ℕ × Stated)) (t : ℕ × Option Ahead) (part : ℕ × Stated) → AreParts readable_bytes parts → IsPart t part → AreParts (readable_bytes ++ t ∷ []) (parts ++ part ∷ [])
-one_part [] [] t part old new = (new, old)
-one_part [] (p ∷ ps) t part old new = absurd old
-one_part (x ∷ xs) [] t part old new = absurd old
-one_part (x ∷ xs) (p ∷ ps) t part old new = (old.0, one_part xs ps t part old.1 new)
+one_part readable_bytes parts t part old new = one_more IsPart readable_bytes parts t part old new
 
 -- the threads that were joined, and those still to be joined
 pub told_more : {X T : Type 0} (readable_bytes : X → T) (done all : List T) (h : X) (items rest : List X) → items ≡ h ∷ rest → done ++ map readable_bytes items ≡ all → (done ++ readable_bytes h ∷ []) ++ map readable_bytes rest ≡ all
 told_more readable_bytes done all h items rest step was = append_assoc done (readable_bytes h ∷ []) (map readable_bytes rest) ∙ (ap (λ l. done ++ map readable_bytes l) (sym step) ∙ was)
 
-pub put_more : (parts : List (ℕ × Stated)) (part : ℕ × Stated) → put_by_sources (parts ++ part ∷ []) ≡ put_by_sources parts ++ jobs_or_end part.0 part.1
-put_more parts part = flat_map-append (λ (x : ℕ × Stated). jobs_or_end x.0 x.1) parts (part ∷ []) ∙ ap (λ l. put_by_sources parts ++ l) (append-nil (jobs_or_end part.0 part.1))
-
 pub faults-more : (parts : List (ℕ × Stated)) (part : ℕ × Stated) (faults after : List (Option FileFault)) (fault : Option FileFault)
     → after ≡ faults ++ fault ∷ [] → faults ≡ map (λ x. fault_in x.1) parts → fault ≡ fault_in part.1 → after ≡ map (λ x. fault_in x.1) (parts ++ part ∷ [])
 faults-more parts part faults after fault pushed was is = pushed ∙ ((λ i. was i ++ is i ∷ []) ∙ sym (map-append (λ (x : ℕ × Stated). fault_in x.1) parts (part ∷ [])))
 
-none_before : (faults more : List (Option FileFault)) → NoneRefused (faults ++ more) → NoneRefused faults
-none_before faults more none = λ index fault there. none index fault (at_front faults more index (Some fault) there)
-
-none_last : (faults : List (Option FileFault)) (fault : FileFault) → NoneRefused (faults ++ Some fault ∷ []) → ⊥
-none_last faults fault none = none (length faults) fault (slice_get-middle faults [] (Some fault))
-
-whole_jobs : (owner : ℕ) (state : Stated) (jobs : List Job) (faults : List (Option FileFault)) → HasPut owner state jobs → NoneRefused (faults ++ fault_in state ∷ []) → jobs ≡ jobs_or_end owner state
-whole_jobs owner (Ok requests) jobs faults put none = put
-whole_jobs owner (Err fault) jobs faults put none = absurd (none_last faults fault none)
-
 -- what one more source has put
-pub one_put : (parts : List (ℕ × Stated)) (part : ℕ × Stated) (put jobs : List Job) → ArePut parts put → HasPut part.0 part.1 jobs → ArePut (parts ++ part ∷ []) (put ++ jobs)
-one_put parts part put jobs are has = record {
-  whole = λ none.
-      let faults : List (Option FileFault) = map (λ (x : ℕ × Stated). fault_in x.1) parts in
-      let all : NoneRefused (faults ++ fault_in part.1 ∷ []) = subst NoneRefused (map-append (λ (x : ℕ × Stated). fault_in x.1) parts (part ∷ [])) none in
-      let old : put ≡ put_by_sources parts = are.whole (none_before faults (fault_in part.1 ∷ []) all) in
-      let new : jobs ≡ jobs_or_end part.0 part.1 = whole_jobs part.0 part.1 jobs faults has all in
-      (λ i. old i ++ new i) ∙ sym (put_more parts part);
+pub one_put : (parts : List (ℕ × Stated)) (part : ℕ × Stated) (put jobs : List Job) → HavePut parts put → HasPut part.0 part.1 jobs → HavePut (parts ++ part ∷ []) (put ++ jobs)
+one_put parts part put jobs old new = record {
+  by_source = old.by_source ++ jobs ∷ [];
+  each = one_more (λ (x : ℕ × Stated) (l : List Job). HasPut x.0 x.1 l) parts old.by_source part jobs old.each new;
+  all = (λ i. old.all i ++ sym (append-nil jobs) i) ∙ sym (flat_map-append (λ (l : List Job). l) old.by_source (jobs ∷ []));
 }
+
+none_first : (fault : FileFault) (faults : List (Option FileFault)) → NoneRefused (Some fault ∷ faults) → ⊥
+none_first fault faults none = none 0 fault refl
+
+none_behind : (first : Option FileFault) (faults : List (Option FileFault)) → NoneRefused (first ∷ faults) → NoneRefused faults
+none_behind first faults none = λ index fault there. none (suc index) fault there
+
+-- the sources, of which none is refused, have put the jobs of what they state
+put_by_each : (parts : List (ℕ × Stated)) (by_source : List (List Job)) → NoneRefused (map (λ part. fault_in part.1) parts) → AllZip (λ part jobs. HasPut part.0 part.1 jobs) parts by_source
+    → flat_map (λ jobs. jobs) by_source ≡ put_by_sources parts
+put_by_each [] [] none each = refl
+put_by_each [] (l ∷ ls) none each = absurd each
+put_by_each (p ∷ ps) [] none each = absurd each
+put_by_each ((owner, Ok requests) ∷ ps) (l ∷ ls) none each = λ i. each.0 i ++ put_by_each ps ls (none_behind None _ none) each.1 i
+put_by_each ((owner, Err fault) ∷ ps) (l ∷ ls) none each = absurd (none_first fault _ none)
+
+pub whole_put : (parts : List (ℕ × Stated)) (put : List Job) → NoneRefused (map (λ part. fault_in part.1) parts) → HavePut parts put → put ≡ put_by_sources parts
+whole_put parts put none have = have.all ∙ put_by_each parts have.by_source none have.each
 
 -- a pass that put some jobs and then others
 pub put_after : (p q r : PassView) (jobs more : List Job) → q ≡ putting_jobs p jobs → r ≡ putting_jobs q more → r ≡ putting_jobs p (jobs ++ more)

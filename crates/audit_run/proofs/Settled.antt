@@ -38,11 +38,12 @@ use Rattle.audit_run.specs.IsAuditResult.{IsAuditResult, IsOutcome, IsReportOfAr
 use Rattle.audit_run.specs.Body.Concluded.{Concludes, RefusesSenders}
 use Rattle.audit_run.specs.Arrivals.{arrivals_of}
 use Rattle.audit_run.specs.Body.Gathered.{collector_after, RanOutOfMemory, Gathers, Drains}
-use Rattle.audit_run.specs.Parts.{AreRead, Stated, fault_in, faults_of, parts_by_owner, run_jobs}
+use Rattle.audit_run.specs.Parts.{AreRead, HavePut, Stated, fault_in, faults_of, parts_by_owner, run_jobs}
 use Rattle.audit_run.specs.Body.FreshPasses.{with_messages, after_splits}
 use Rattle.audit_run.specs.Roster.{owners, index_in, roster}
 use Rattle.audit_run.specs.Body.Run.{HasRun}
 use Rattle.audit_run.specs.Body.Work.{AreParts, IsPart, after_run}
+use Rattle.audit_run.proofs.Joins.{whole_put}
 use Rattle.audit_run.proofs.Gains.{gaining_more, gathers_more}
 use Rattle.audit_run.proofs.Permuted.{cancel}
 use Rattle.sudo_match.proofs.CharsLemmas.{length-map}
@@ -200,8 +201,8 @@ settled names sources readable_bytes count workers p p1 p2 p3 prepared ended g r
     let stated = parts_are (owners sources) readable_bytes run.parts (omega (arith, owners_are, sources_are, told_are)) run.read in
     let states : List Stated = stated.0 in
     let long : length states ≡ length readable_bytes = AllZip-long (IsStatedBy requests_of_file) readable_bytes states stated.1 in
-    let faults : ended.faults.items ≡ faults_of states =
-    run.faults ∙ (ap (map (λ (part : ℕ × Stated). fault_in part.1)) stated.2 ∙ faults_are (owners sources) states (omega (arith, long, owners_are, sources_are, told_are))) in
+    let same_faults : map (λ (part : ℕ × Stated). fault_in part.1) (parts_by_owner sources states) ≡ faults_of states = faults_are (owners sources) states (omega (arith, long, owners_are, sources_are, told_are)) in
+    let faults : ended.faults.items ≡ faults_of states = run.faults ∙ (ap (map (λ (part : ℕ × Stated). fault_in part.1)) stated.2 ∙ same_faults) in
     let put : List Job = replicate workers Stop ++ run.put in
     let taken : List Job = run.taken ++ drain.jobs in
     let outcomes : List Outcome = run.gathered ++ drain.outcomes in
@@ -216,19 +217,22 @@ settled names sources readable_bytes count workers p p1 p2 p3 prepared ended g r
     let decided : Concludes sources (faults_of states) (after (start (roster sources)) (arrivals_of outcomes)) result =
     concluded sources (faults_of states) prepared.gathering g outcomes result (gathers_more prepared.gathering ended.gathering g run.gathered drain.outcomes run.gathers drain.gathered) collector unrefused
     (subst (λ (l : List (Option FileFault)). Concludes sources l (collector_after g.collector g.refused []) result) faults answers) in
-    let all : NoneRefused (faults_of states) → IsPermutation (map (answer names) (run_jobs workers (parts_by_owner sources states))) outcomes = λ none.
-    let own : NoneRefused (map (λ (part : ℕ × Stated). fault_in part.1) run.parts) = subst NoneRefused (sym faults ∙ run.faults) none in
-    let stated_jobs : put ≡ run_jobs workers (parts_by_owner sources states) = (λ i. replicate workers Stop ++ run.are_put.whole own i) ∙ ap (λ (parts : List (ℕ × Stated)). run_jobs workers parts) stated.2 in
-    subst (λ (jobs : List Job). IsPermutation (map (answer names) jobs) outcomes) stated_jobs (all_answered names p p3 put taken outcomes three empty nothing) in
+    let have_put : HavePut (parts_by_owner sources states) run.put = subst (λ (parts : List (ℕ × Stated)). HavePut parts run.put) stated.2 run.have_put in
+    let all : IsPermutation (map (answer names) put) outcomes = all_answered names p p3 put taken outcomes three empty nothing in
+    let stated_all : NoneRefused (faults_of states) → IsPermutation (map (answer names) (run_jobs workers (parts_by_owner sources states))) outcomes = λ none.
+    let own : NoneRefused (map (λ (part : ℕ × Stated). fault_in part.1) (parts_by_owner sources states)) = subst NoneRefused (sym same_faults) none in
+    subst (λ (jobs : List Job). IsPermutation (map (answer names) (replicate workers Stop ++ jobs)) outcomes) (whole_put (parts_by_owner sources states) run.put own have_put) all in
     audited names sources readable_bytes workers p p3 _ _ result decided (record {
       few = few;
       is_roster = is_roster;
       states = states;
       read = stated.1;
+      put = run.put;
+      have_put = have_put;
       outcomes = outcomes;
       gained = ap (λ (x : PassView). x.outcomes_taken) three;
       all = all;
-      outcome = come_to names sources readable_bytes states workers outcomes result stated.1 all decided;
+      outcome = come_to names sources readable_bytes states workers outcomes result stated.1 stated_all decided;
       arrived = arrived_of sources (faults_of states) outcomes result decided;
       whole = ap (λ (x : PassView). x.weight) three ∙ whole;
       same_handoff = ap (λ (x : PassView). x.handoff) three;

@@ -1,5 +1,5 @@
 -- The result of an audit, and its effect on the pass.
-use Rattle.std.specs.Prelude.{◌≡◌, ℕ, ◌<◌, ◌≤◌, ◌++◌, ⊤, List, map, length, slice_get, Option, Some, None, Result, Ok, Err, IsPermutation}
+use Rattle.std.specs.Prelude.{◌≡◌, ℕ, ◌<◌, ◌≤◌, ◌++◌, ⊤, List, map, length, slice_get, Option, Some, None, Result, Ok, Err, IsPermutation, replicate}
 use Rattle.audit_collect.specs.Complete.{IsReportOf}
 use Rattle.audit_collect.specs.Roster.{IsRoster, most_senders}
 use Rattle.audit_collect.specs.declared.fault.CollectFault.TheVariants as collect
@@ -8,6 +8,8 @@ use Rattle.audit_collect.specs.declared.report.Report.{Report}
 use Rattle.audit_files.specs.Feeding.{Ahead}
 use Rattle.audit_files.specs.declared.fault.FileFault.{FileFault}
 use Rattle.audit_files.specs.Faults.{IsNotOutOfMemory}
+use Rattle.audit_run.specs.declared.message.Job.{Job}
+use Rattle.audit_run.specs.declared.message.Job.TheVariants.{Stop}
 use Rattle.audit_run.specs.declared.message.Names.{Names}
 use Rattle.audit_run.specs.declared.message.Outcome.{Outcome}
 use Rattle.audit_run.specs.Names.{answer}
@@ -16,7 +18,7 @@ use Rattle.audit_run.specs.declared.fault.AuditFault.{AuditFault}
 use Rattle.audit_run.specs.declared.fault.AuditFault.TheVariants.{Sender, Collect, NoThread, Memory, TooManyParts}
 use Rattle.audit_run.specs.Arrivals.{arrivals_of}
 use Rattle.audit_run.specs.Outcome.{AreWhole, HaveRefused, IsReport, Lack}
-use Rattle.audit_run.specs.Parts.{AreRead, Stated, faults_of, parts_by_owner, run_jobs}
+use Rattle.audit_run.specs.Parts.{AreRead, HavePut, Stated, faults_of, parts_by_owner}
 use Rattle.audit_run.specs.Roster.{part_number, roster}
 
 -- the most sources that an audit may have
@@ -59,16 +61,18 @@ IsOutcome names sources states (Err Memory) = ⊤
 IsOutcome names sources states (Err TooManyParts) = ⊥
 
 -- the threads ran on sources with these names and these bytes ahead, and the result is the outcome
--- of their content; the pass is whole again with nothing left, and if no source is refused, it has
--- gained the answers of all jobs, in some order
+-- of their content; the pass is whole again with nothing left, and has gained the answers of all
+-- jobs that were put, one `Stop` for each worker among them, in some order
 pub record IsRunOutcome (names : Names) (sources : List (List ℕ)) (readable_bytes : List (Option Ahead)) (workers : ℕ) (old new : PassView) (result : Result Report AuditFault) : Type 0 where
   pub few : length sources ≤ most_parts
   pub is_roster : IsRoster (roster sources)
   pub states : List Stated
   pub read : AreRead readable_bytes states
+  pub put : List Job
+  pub have_put : HavePut (parts_by_owner sources states) put
   pub outcomes : List Outcome
   pub gained : new.outcomes_taken ≡ old.outcomes_taken ++ outcomes
-  pub all : NoneRefused (faults_of states) → IsPermutation (map (answer names) (run_jobs workers (parts_by_owner sources states))) outcomes
+  pub all : IsPermutation (map (answer names) (replicate workers Stop ++ put)) outcomes
   pub outcome : IsOutcome names sources states result
   pub arrived : IsReportOfArrived sources outcomes result
   pub whole : IsOnlyPass new

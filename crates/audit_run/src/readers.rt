@@ -2,9 +2,9 @@
 ghost use Rattle.std.specs.Prelude.{◌≡◌, [], ◌∷◌, ℕ, ◌+◌, ◌≤◌, List, All, IfSome, Some, map, vec_len, vec_capacity, IsTrue};
 ghost use Rattle.audit_run.specs.declared.message.Job.{Job};
 ghost use Rattle.audit_run.specs.declared.message.Job.TheVariants.{End};
-ghost use Rattle.audit_run.specs.Parts.{Stated, fault_in};
+ghost use Rattle.audit_run.specs.Parts.{HavePut, Stated, fault_in};
 ghost use Rattle.audit_run.specs.Body.FreshPasses.{IsFresh};
-ghost use Rattle.audit_run.specs.Body.Work.{AreParts, ArePut, HasSent, HasSentText, joined_sources, part_ahead, putting_jobs};
+ghost use Rattle.audit_run.specs.Body.Work.{AreParts, HasSent, HasSentText, joined_sources, part_ahead, putting_jobs};
 
 use crate::sender::{put_end, send, send_rows};
 use crate::shared::Shared;
@@ -187,7 +187,7 @@ pub fn join_readers<R: Threads + Wait, F: Feed>(
     ensures { (parts : List (ℕ × Stated)) × (put : List Job) × AreParts
         (map (λ h. part_ahead h.promise.owner (F.ahead h.promise.reader.value)) handles.items) parts
         × (pass.new ≡ joined_sources pass.old (vec_len handles) put)
-        × ArePut parts put
+        × HavePut parts put
         × (faults.new.items ≡ map (λ part. fault_in part.1) parts) }
 {
     for handle in handles {

@@ -2,9 +2,9 @@
 ghost use Rattle.std.specs.Prelude.{◌≡◌, [], ℕ, List, IfSome, OnOk, map};
 ghost use Rattle.audit_files.specs.RequestRows.{HasRead};
 ghost use Rattle.audit_run.specs.Passes.{with_job_put};
-ghost use Rattle.audit_run.specs.Parts.{jobs_of};
+ghost use Rattle.audit_run.specs.Parts.{asking, jobs_of};
 ghost use Rattle.audit_run.specs.declared.message.Job.TheVariants.{End};
-ghost use Rattle.audit_run.specs.Body.Work.{asking, putting_jobs};
+ghost use Rattle.audit_run.specs.Body.Work.{putting_jobs};
 ghost use Rattle.sudo_match.specs.declared.request.Request.{Request};
 
 use crate::wakes::{Need, Tries, Wakes};

@@ -9,9 +9,9 @@ use Rattle.audit_run.specs.Passes.{HandoffId}
 use Rattle.audit_run.specs.declared.prepared.PreparedRun.{PreparedRun}
 use Rattle.audit_run.specs.declared.prepared.EndedRun.{EndedRun}
 use Rattle.audit_run.specs.Body.Gathered.{Gathers}
-use Rattle.audit_run.specs.Parts.{Stated, fault_in}
+use Rattle.audit_run.specs.Parts.{HavePut, Stated, fault_in}
 use Rattle.audit_run.specs.Body.FreshPasses.{IsFresh, fresh}
-use Rattle.audit_run.specs.Body.Work.{AreParts, ArePut, after_run}
+use Rattle.audit_run.specs.Body.Work.{AreParts, after_run}
 use Rattle.sudo_match.specs.KnownRows.{KnownRows}
 use Rattle.sudo_grammar.specs.declared.policy.Policy.{Policy}
 
@@ -33,7 +33,7 @@ pub record HasRun (names : Names) (readable_bytes : List (ℕ × Option Ahead)) 
   pub parts : List (ℕ × Stated)
   pub read : AreParts readable_bytes parts
   pub put : List Job
-  pub are_put : ArePut parts put
+  pub have_put : HavePut parts put
   pub taken : List Job
   pub gathered : List Outcome
   pub pass : ended.pass ≡ after_run names prepared.pass sources (vec_len prepared.worker_passes) (replicate (vec_len prepared.worker_passes) Stop ++ put) taken gathered

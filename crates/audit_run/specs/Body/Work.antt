@@ -7,15 +7,12 @@ use Rattle.audit_files.specs.Feeding.{Ahead}
 use Rattle.audit_files.specs.Files.{IsStatedBy}
 use Rattle.audit_files.specs.Requests.{requests_of_file}
 use Rattle.audit_run.specs.declared.message.Job.{Job}
-use Rattle.audit_run.specs.declared.message.Job.TheVariants.{Ask, End}
 use Rattle.audit_run.specs.declared.message.Names.{Names}
 use Rattle.audit_run.specs.declared.message.Outcome.{Outcome}
 use Rattle.audit_run.specs.Names.{answer}
 use Rattle.audit_run.specs.Passes.{PassView}
 use Rattle.audit_run.specs.declared.readers.Sent.{Sent}
-use Rattle.audit_run.specs.IsAuditResult.{NoneRefused}
-use Rattle.audit_run.specs.Parts.{Stated, fault_in, jobs_of, put_by_sources}
-use Rattle.sudo_match.specs.declared.request.Request.{Request}
+use Rattle.audit_run.specs.Parts.{HasPut, Stated, fault_in}
 
 -- the pass after these jobs were taken and their answers put
 abbrev pub after_work : Names → PassView → List Job → PassView
@@ -28,15 +25,6 @@ HasWorked p q = (jobs : List Job) × (q ≡ after_work p.names p jobs)
 -- the pass after these jobs were put
 abbrev pub putting_jobs : PassView → List Job → PassView
 putting_jobs p jobs = record p { jobs_put = p.jobs_put ++ jobs }
-
-abbrev pub asking : ℕ → List Request → List Job
-asking sender requests = map (λ r. Ask sender r) requests
-
--- a source has put these jobs: those of what it states, or some requests and its end if it is
--- refused
-abbrev pub HasPut : ℕ → Stated → List Job → Type 0
-HasPut owner (Ok requests) jobs = jobs ≡ jobs_of owner requests
-HasPut owner (Err fault) jobs = (sent : List Request) × (jobs ≡ asking owner sent ++ End owner ∷ [])
 
 -- the result of a source's thread: what the source states, and so its fault, and the jobs that were
 -- put
@@ -67,10 +55,6 @@ IsPart readable_bytes part = (part.0 ≡ readable_bytes.0) × IsStatedBy request
 
 abbrev pub AreParts : List (ℕ × Option Ahead) → List (ℕ × Stated) → Type 0
 AreParts readable_bytes parts = AllZip IsPart readable_bytes parts
-
--- these jobs were put by the sources, if none is refused
-pub record ArePut (parts : List (ℕ × Stated)) (put : List Job) : Type 0 where
-  pub whole : NoneRefused (map (λ part. fault_in part.1) parts) → put ≡ put_by_sources parts
 
 -- the pass after the passes of workers that took these jobs were joined
 abbrev pub joined_workers : Names → PassView → ℕ → List Job → PassView

@@ -11,7 +11,7 @@ use Rattle.audit_run.proofs.auditing.run.Goals as goal
 pub returns : goal.returns
 returns g c = elim c.if-all_workers.branch [
   | then-all_workers w ↦ λ started.
-      let (parts, put, read, pass, are_put, faults) = c.join_readers.ensures in
+      let (parts, put, read, pass, have_put, faults) = c.join_readers.ensures in
       let (jobs, worked) = c.join_workers.ensures in
       let gathered = c.gather_all.ensures.taken in
       let all = w.start_readers-all_started.ensures.all (subst IsTrue w.all_started-is started) in
@@ -27,7 +27,7 @@ returns g c = elim c.if-all_workers.branch [
         parts = parts;
         read = subst (λ t. AreParts t parts) same read;
         put = put;
-        are_put = are_put;
+        have_put = have_put;
         taken = jobs;
         gathered = gathered.outcomes;
         pass = ran (names_under c.args.shared.policy.now c.args.shared.directory.now) c.args.prepared.pass c.gather_all.new.pass c.join_readers.new.pass c.join_workers.new.pass

@@ -40,4 +40,4 @@ loop-handle-preserved g c =
     )
 
 pub loop-handle-init : goal.loop-handle-init
-loop-handle-init g c = (search rules, search rules, ([], [], [], 0, search rules, search rules, search rules, joined_none _, record { whole = λ none. refl }, search rules))
+loop-handle-init g c = (search rules, search rules, ([], [], [], 0, search rules, search rules, search rules, joined_none _, record { by_source = []; each = tt; all = refl }, search rules))

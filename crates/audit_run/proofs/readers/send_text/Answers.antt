@@ -1,7 +1,6 @@
 use Rattle.std.proofs.Common.{◌++◌, ◌∷◌, [], Ok, Err, refl}
 use Rattle.audit_files.specs.declared.fault.FileFault.TheVariants.{Memory}
-use Rattle.audit_run.specs.Body.Work.{asking}
-use Rattle.audit_run.specs.Parts.{jobs_of}
+use Rattle.audit_run.specs.Parts.{asking, jobs_of}
 use Rattle.audit_run.specs.declared.message.Job.TheVariants.{End}
 use Rattle.audit_run.proofs.Joins.{jobs_behind, put_after}
 use Rattle.audit_run.proofs.readers.send_text.Goals as goal

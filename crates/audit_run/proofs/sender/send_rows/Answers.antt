@@ -1,5 +1,6 @@
 use Rattle.std.proofs.Common.{◌∙◌, ◌++◌, ◌∷◌, [], ap}
-use Rattle.audit_run.specs.Body.Work.{asking, putting_jobs}
+use Rattle.audit_run.specs.Parts.{asking}
+use Rattle.audit_run.specs.Body.Work.{putting_jobs}
 use Rattle.audit_run.specs.declared.message.Job.TheVariants.{Ask}
 use Rattle.audit_run.proofs.Joins.{asking_more, put_after}
 use Rattle.audit_run.proofs.sender.send_rows.Goals as goal

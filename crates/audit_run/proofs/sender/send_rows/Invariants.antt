@@ -1,6 +1,7 @@
 use Rattle.std.specs.Prelude.{◌≡◌, [], ℕ, List}
 use Rattle.audit_files.specs.RequestRows.{HasRead}
-use Rattle.audit_run.specs.Body.Work.{asking, putting_jobs}
+use Rattle.audit_run.specs.Parts.{asking}
+use Rattle.audit_run.specs.Body.Work.{putting_jobs}
 use Rattle.sudo_match.specs.declared.request.Request.{Request}
 use Rattle.audit_run.proofs.sender.send_rows.Given as goal
 
