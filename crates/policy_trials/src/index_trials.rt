@@ -8,7 +8,7 @@ use std::alloc::{AllocError, Global};
 use std::sync::Wait;
 use std::test::Fail;
 use std::thread::Threads;
-use sudo_match::{DirFault, Directory};
+use sudo_match::{DirFault, Directory, Person};
 use sudo_policy::{Checked, check};
 use sudo_text::Seq;
 use sudo_verdict::{Budget, Request, RuleIndex, verdict};
@@ -29,6 +29,15 @@ impl Rows {
             is_twice,
             wanted,
         })
+    }
+
+    /// Returns the rows of users.
+    fn users(&self) -> Result<Vec<Person>, AllocError> {
+        let mut users = people(self.alloc)?;
+        if self.is_twice {
+            users.append(&mut people(self.alloc)?)?;
+        }
+        Ok(users)
     }
 }
 
@@ -62,10 +71,7 @@ fn is_twice(fault: &DirFault) -> bool {
 
 impl Trial for Rows {
     fn once<R: Threads + Wait + Sync>(&self, _rt: &R, memory: &mut Memory) -> Result<End, Fail> {
-        let mut rows = people(self.alloc)?;
-        if self.is_twice {
-            rows.append(&mut people(self.alloc)?)?;
-        }
+        let rows = self.users()?;
         let machines = machines(self.alloc)?;
         memory.take();
         let answer = Directory::new(self.alloc, rows, machines);
@@ -113,24 +119,38 @@ fn requests(alloc: Global) -> Result<Seq<Request>, AllocError> {
     Ok(list)
 }
 
+/// Requests of users and hosts that a directory knows.
+#[derive(Drop)]
+struct Known {
+    directory: Directory,
+    requests: Seq<Request>,
+}
+
+impl Known {
+    fn new(alloc: Global) -> Result<Known, Fail> {
+        let directory = directory(alloc)?;
+        Ok(Known {
+            directory,
+            requests: requests(alloc)?,
+        })
+    }
+}
+
 /// An index of rules, made.
 #[derive(Drop)]
 struct Indexing {
     alloc: Global,
     checked: Checked,
-    directory: Directory,
-    requests: Seq<Request>,
+    known: Known,
 }
 
 impl Indexing {
     fn new(alloc: Global) -> Result<Indexing, Fail> {
-        let directory = directory(alloc)?;
-        let requests = requests(alloc)?;
+        let checked = checked_rules(alloc)?;
         Ok(Indexing {
             alloc,
-            checked: checked_rules(alloc)?,
-            directory,
-            requests,
+            checked,
+            known: Known::new(alloc)?,
         })
     }
 
@@ -138,13 +158,20 @@ impl Indexing {
     fn agrees(&self, index: &RuleIndex) -> bool
         requires { Indexes self.now.checked index.now }
     {
-        for request in self.requests.as_slice() {
-            let found = index.verdict(&self.checked, &self.directory, request);
-            if found != verdict(&self.checked, &self.directory, request) {
+        let directory = &self.known.directory;
+        for request in self.known.requests.as_slice() {
+            let found = index.verdict(&self.checked, directory, request);
+            if found != verdict(&self.checked, directory, request) {
                 return false;
             }
         }
         true
+    }
+
+    /// Returns whether each verdict by an index within the budget is the one without.
+    fn agrees_within(&self, budget: Budget) -> Result<bool, Fail> {
+        let index = RuleIndex::within(self.alloc, &self.checked, budget)?;
+        Ok(self.agrees(&index))
     }
 }
 
@@ -172,7 +199,6 @@ fn an_index_beyond_its_budget(rt: HostRuntime) -> Result<(), Fail> {
         words: 1,
         members: 3,
     };
-    let index = RuleIndex::within(rt.alloc(), &indexing.checked, budget)?;
-    assert!(rt; indexing.agrees(&index));
+    assert!(rt; indexing.agrees_within(budget)?);
     Ok(())
 }
