@@ -5,7 +5,7 @@ from collections.abc import Iterator, Sequence
 from typing import NamedTuple
 
 from kulavemia.command import Fault
-from kulavemia.requests import HEADER, Request, Source, by_sender
+from kulavemia.requests import HEADER, Request, Source, by_sender, number_of
 from kulavemia.rows import records
 
 REPORT_HEADER = ("sender", "number", "verdict", "line", "tags")
@@ -38,19 +38,13 @@ def numbered_requests(path: str) -> Iterator[_Numbered]:
     """Yields the number and the other fields of each request of a file."""
     for line, fields in records(path, HEADER):
         if fields[0] != "close":
-            yield _number(path, line, fields[0]), fields[1:]
-
-
-def _number(path: str, line: int, text: str) -> int:
-    if not text.isascii() or not text.isdecimal():
-        raise Fault(f"{path}:{line}: {text} is no number")
-    return int(text)
+            yield number_of(path, line, fields[0]), fields[1:]
 
 
 def _keys(source: Source, header: Sequence[str]) -> Iterator[_Numbered]:
     assert source.key is not None
     for line, fields in records(source.key, header):
-        yield _number(source.key, line, fields[0]), fields[1:]
+        yield number_of(source.key, line, fields[0]), fields[1:]
 
 
 def _in_order(parts: Sequence[Iterator[_Numbered]]) -> Iterator[_Numbered]:
@@ -60,7 +54,7 @@ def _in_order(parts: Sequence[Iterator[_Numbered]]) -> Iterator[_Numbered]:
 def verdicts(report: str) -> Iterator[tuple[int, str, int, Verdict]]:
     """Yields the line, sender, number and verdict of each row of a report."""
     for line, (sender, number, verdict, place, tags) in records(report, REPORT_HEADER):
-        yield line, sender, _number(report, line, number), Verdict(verdict, place, tags)
+        yield line, sender, number_of(report, line, number), Verdict(verdict, place, tags)
 
 
 def answers(report: str, sources: Sequence[Source], key_header: Sequence[str] | None = None) -> Iterator[Answer]:

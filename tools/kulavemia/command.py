@@ -43,12 +43,20 @@ def called(other: str) -> str:
 
 def tell(text: str) -> None:
     """Writes a line to standard error."""
-    print(f"{name()}: {visible(text)}", file=sys.stderr, flush=True)
+    for line in text.split("\n"):
+        print(f"{name()}: {visible(line)}", file=sys.stderr, flush=True)
 
 
 def warn(text: str) -> None:
     """Writes a warning to standard error."""
     tell(f"warning: {text}")
+
+
+def plain_words() -> list[str]:
+    """Returns the words of the command line, those behind `--` as paths that are no options."""
+    words = sys.argv[1:]
+    at = words.index("--") if "--" in words else len(words)
+    return words[:at] + ["./" + word if word.startswith("-") and word != "-" else word for word in words[at + 1 :]]
 
 
 def parser(purpose: str, more: Mapping[int, str] | None = None) -> argparse.ArgumentParser:
@@ -64,6 +72,9 @@ def parser(purpose: str, more: Mapping[int, str] | None = None) -> argparse.Argu
 
 def run(main: Callable[[], int]) -> NoReturn:
     """Runs a command and ends the process with its status."""
+    sys.stdin, sys.stdout, sys.stderr = (
+        stream or open(os.devnull, mode) for stream, mode in ((sys.stdin, "r"), (sys.stdout, "w"), (sys.stderr, "w"))
+    )
     for stream, errors in ((sys.stdout, "surrogateescape"), (sys.stderr, "backslashreplace")):
         stream.reconfigure(encoding="utf-8", errors=errors)
     try:
@@ -76,7 +87,7 @@ def run(main: Callable[[], int]) -> NoReturn:
         os.dup2(os.open(os.devnull, os.O_WRONLY), sys.stdout.fileno())
         status = FAILED
     except OSError as error:
-        place = f"{error.filename}: " if error.filename is not None else ""
+        place = f"{os.fsdecode(error.filename)}: " if error.filename is not None else ""
         tell(place + (error.strerror or str(error)))
         status = FAILED
     except KeyboardInterrupt:

@@ -158,7 +158,7 @@ def _addresses(text: str, place: str) -> tuple[str, ...]:
     try:
         links = json.loads(text) if text.strip() else []
         found = [_address(info) for link in links for info in link.get("addr_info", ()) if info.get("family") == "inet"]
-    except (ValueError, AttributeError, KeyError, TypeError) as error:
+    except (ValueError, AttributeError, KeyError, TypeError, OverflowError, RecursionError) as error:
         raise Fault(f"{place}: not what ip -j addr writes: {error}") from None
     return tuple(dict.fromkeys(found))
 
@@ -210,7 +210,7 @@ def _lines(path: str, count: int, numbers: slice) -> Iterator[list[str]]:
 
 
 def _is_id(text: str) -> bool:
-    return text.isascii() and text.isdecimal() and int(text) < _ID_LIMIT
+    return text.isascii() and text.isdecimal() and len(text) < 20 and int(text) < _ID_LIMIT
 
 
 def _host_name(folder: str, name: str) -> str:

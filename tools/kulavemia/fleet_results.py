@@ -136,7 +136,7 @@ def read_result(path: str) -> Result:
         fields = json.loads(line)
         found = Result(**fields)
         sound = all(isinstance(fields[name], kind) for name, kind in _FIELDS.items()) and found.status in STATUSES
-    except (ValueError, TypeError):
+    except (ValueError, TypeError, RecursionError):
         sound = False
     if not sound or found.size != size:
         raise Fault(f"{path}: no whole result")

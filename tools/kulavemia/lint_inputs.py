@@ -54,6 +54,7 @@ def reason_not_read(path: str) -> str | None:
     try:
         mode = os.stat(path).st_mode
         if stat.S_ISDIR(mode):
+            os.listdir(path)
             return "it is a folder"
         if stat.S_ISREG(mode):
             with open(path, "rb"):

@@ -1,6 +1,7 @@
 """Logs with entries of sudo: syslog's lines, sudo's own file, the journal as JSON, and sudo's JSON events."""
 
 import bz2
+import calendar
 import datetime
 import errno
 import gzip
@@ -10,9 +11,10 @@ import lzma
 import os
 import re
 import sys
+import zlib
 from collections import deque
 from collections.abc import Callable, Iterator
-from typing import IO, Any, NamedTuple
+from typing import IO, Any, NamedTuple, cast
 
 from kulavemia.messages import Event, Pairs, event_of, event_of_json, json_events
 
@@ -42,7 +44,9 @@ _FRAMED = re.compile(
 )
 _OWN = re.compile(_DATE + " " + _CLOCK + r"(?P<after> \d{4})? : (?P<user>.*?) : (?P<text>.*)", re.DOTALL)
 _REPEATED = re.compile(r"message repeated (\d+) times: \[ ?(.*)\]$", re.DOTALL)
-_STRING = re.compile(r'"(?:[^"\\]|\\.)*"')
+_STRING = re.compile(r'"(?:[^"\\]|\\.)*(?:"|$)', re.DOTALL)
+# What reading a log may raise, a compressed one that is damaged among them.
+UNREADABLE = (OSError, EOFError, lzma.LZMAError, zlib.error)
 _HALVES = re.compile("[\ud800-\udbff\udc00-\udc7f\udd00-\udfff]")
 
 
@@ -66,27 +70,29 @@ class Found(NamedTuple):
 class _Message:
     """A message of sudo whose end may still come."""
 
-    __slots__ = ("line", "time", "host", "user", "text", "last", "note")
+    __slots__ = ("line", "time", "host", "user", "pieces", "size", "note")
 
     def __init__(self, line: int, time: str, host: str, user: str, text: str, note: str = "") -> None:
         self.line = line
         self.time = time
         self.host = host
         self.user = user
-        self.text = text
-        self.last = text
+        self.pieces = [text]
+        self.size = len(text)
         self.note = note
 
     def add(self, text: str, length: int) -> None:
         """Adds a further piece. sudo cuts at a blank, or at its limit of bytes where the piece has no blank."""
-        size = len(self.last.encode("utf-8", "surrogateescape")) + len(self.user.encode("utf-8", "surrogateescape"))
-        cut = " " not in self.last and size == length - _CONTINUED_LENGTH
-        self.text += text if cut else " " + text
-        self.last = text
+        last = self.pieces[-1]
+        size = len(last.encode("utf-8", "surrogateescape")) + len(self.user.encode("utf-8", "surrogateescape"))
+        if " " in last or size != length - _CONTINUED_LENGTH:
+            self.pieces[-1] += " "
+        self.pieces.append(text)
+        self.size += len(text)
 
     def found(self, quoting: str) -> Found:
         """Returns what the whole message says."""
-        event = event_of(self.user, self.host, self.text, quoting)
+        event = event_of(self.user, self.host, "".join(self.pieces), quoting)
         if self.note and isinstance(event, Event):
             event = event._replace(note=f"{event.note}, {self.note}" if event.note else self.note)
         return Found(self.line, self.time, event)
@@ -94,16 +100,13 @@ class _Message:
 
 def opened(path: str) -> tuple[IO[bytes], IO[bytes]]:
     """Opens a log, also a compressed one; `-` is standard input. Returns the bytes as stored and as they read."""
-    raw: IO[bytes] = sys.stdin.buffer if path == "-" else open(path, "rb")
-    if path == "-":
-        return raw, raw
-    start = raw.read(6)
-    raw.seek(0)
+    raw = cast(io.BufferedReader, sys.stdin.buffer) if path == "-" else open(path, "rb")
+    start = raw.peek(6)
     if start.startswith(b"\x1f\x8b"):
         return raw, gzip.open(raw)
     if start.startswith(b"BZh"):
         return raw, bz2.open(raw)
-    if start == b"\xfd7zXZ\0":
+    if start.startswith(b"\xfd7zXZ\0"):
         return raw, lzma.open(raw)
     return raw, raw
 
@@ -127,6 +130,7 @@ class Log:
         self.waiting: deque[_Message | Found] = deque()
         self.latest: dict[tuple[str, str], _Message] = {}
         self.dates: dict[tuple[str | Any, ...], str] = {}
+        self.back: list[tuple[int, str]] = []
 
     def __iter__(self) -> Iterator[Found]:
         """Yields the content of each line, in order."""
@@ -136,8 +140,8 @@ class Log:
                     self._read(line, text, own)
                     while len(self.waiting) > WINDOW:
                         yield self._next()
-            except (EOFError, lzma.LZMAError, gzip.BadGzipFile) as error:
-                raise OSError(errno.EIO, str(error), self.path) from None
+            except UNREADABLE as error:
+                raise OSError(getattr(error, "errno", None) or errno.EIO, str(error), self.path) from None
         while self.waiting:
             yield self._next()
 
@@ -154,7 +158,7 @@ class Log:
         line = 0
         while text := self.file.readline(LINE_LIMIT):
             line += 1
-            if line % 4096 == 0 and self.path != "-":
+            if line % 4096 == 0 and self.raw.seekable():
                 self.at(self.raw.tell())
             if len(text) == LINE_LIMIT and not text.endswith("\n"):
                 while text and not text.endswith("\n"):
@@ -162,26 +166,30 @@ class Log:
                 self._skip(line, "the line is too long")
                 continue
             yield line, text.rstrip("\r\n")
+            while self.back:
+                yield self.back.pop()
 
     def _entries(self) -> Iterator[tuple[int, str, bool]]:
         """Yields lines, and whether they are of sudo's own file; its folded lines and those of JSON are put together."""
-        held: tuple[int, str] | None = None
+        held: tuple[int, list[str]] | None = None
+        size = 0
         lines = self._lines()
         for line, text in lines:
             if held is not None:
-                if text.startswith("    ") and len(held[1]) < LINE_LIMIT:
-                    held = held[0], held[1] + " " + text[4:]
+                if text.startswith("    ") and size < LINE_LIMIT:
+                    held[1].append(text[4:])
+                    size += len(text)
                     continue
-                yield *held, True
+                yield held[0], " ".join(held[1]), True
                 held = None
             if _OWN.match(text):
-                held = line, text
+                held, size = (line, [text]), len(text)
             elif text.startswith(("{", "[")):
                 self._json(line, text, lines)
             else:
                 yield line, text, False
         if held is not None:
-            yield *held, True
+            yield held[0], " ".join(held[1]), True
 
     def _skip(self, line: int, reason: str, time: str = "") -> None:
         self.waiting.append(Found(line, time, reason))
@@ -226,7 +234,7 @@ class Log:
 
     def _continue(self, line: int, time: str, host: str, user: str, text: str) -> None:
         message = self.latest.get((host, user))
-        if message is None or len(message.text) > LINE_LIMIT:
+        if message is None or message.size > LINE_LIMIT:
             self._skip(line, "continues a command that does not stand before it", time)
         else:
             message.add(text, self.options.syslog_length)
@@ -251,8 +259,11 @@ class Log:
         if month is None:
             return ""
         given = next((int(year) for year in years if year), self.options.year)
-        later = (month, int(day)) > (self.newest.month, self.newest.day)
-        year = given if given is not None else self.newest.year - later
+        newest = self.newest + datetime.timedelta(days=1)
+        later = (month, int(day)) > (newest.month, newest.day)
+        year = given if given is not None else newest.year - later
+        while given is None and (month, int(day)) == (2, 29) and not calendar.isleap(year):
+            year -= 1
         return f"{year:04}-{month:02}-{int(day):02}T"
 
     def _json(self, line: int, text: str, lines: Iterator[tuple[int, str]]) -> None:
@@ -284,6 +295,9 @@ class Log:
                 break
             following = next(lines, None)
             if following is None:
+                break
+            if following[1].startswith(("{", "[")) or any(f.match(following[1]) for f in (_SYSLOG, _FRAMED, _OWN)):
+                self.back.append(following)
                 break
             line, text = following
         if depth > 0:
@@ -340,9 +354,9 @@ def parsed(text: str) -> Any:
     """Returns a JSON value, an object as its pairs. Raises `ValueError`."""
     try:
         value = json.loads(text, object_pairs_hook=Pairs)
+        return _clean(value) if _HALVES.search(text) or "\\u" in text else value
     except RecursionError:
         raise ValueError("nested too deep") from None
-    return _clean(value) if _HALVES.search(text) or "\\u" in text else value
 
 
 def _journal_time(stamp: Any) -> str:

@@ -88,10 +88,14 @@ def _unquoted(word: str) -> str:
     return _ESCAPE.sub(r"\1", inner)
 
 
-def _fields(head: str) -> tuple[str, dict[str, str]]:
-    """Returns the reason and the fields before the command. A part that begins no field belongs to what precedes it."""
+def _fields(head: str) -> tuple[str, dict[str, str], list[str]]:
+    """Returns the reason and the fields before the command, and notes on fields that stand twice.
+
+    A part that begins no further field belongs to what precedes it.
+    """
     reason: list[str] = []
     fields: dict[str, str] = {}
+    notes: list[str] = []
     last = ""
     for part in head.split(" ; "):
         name, equals, value = part.partition("=")
@@ -100,9 +104,11 @@ def _fields(head: str) -> tuple[str, dict[str, str]]:
             fields[last] = value
         elif last:
             fields[last] += " ; " + part
+            if equals and name in _FIELDS:
+                notes.append(f"{name}= stands twice")
         else:
             reason.append(part)
-    return " ; ".join(reason), fields
+    return " ; ".join(reason), fields, notes
 
 
 def _notes(fields: Mapping[str, str], rest: str) -> list[str]:
@@ -123,13 +129,13 @@ def event_of(user: str, host: str, text: str, quoting: str = "auto") -> Event | 
         return f"no command: {text.split(' ; ')[0][:80]}" if text.strip() else "an empty message"
     head = text[: match.start()]
     leading = _HOST.match(head)
-    reason, fields = _fields(head[leading.end() :] if leading else head)
+    reason, fields, notes = _fields(head[leading.end() :] if leading else head)
     host = leading[1] if leading else fields.get("HOST", host)
     path, blank, rest = text[match.end() :].partition(" ")
     arguments, note = arguments_of(rest, quoting) if blank else ("", "")
     if "#0" in path and quoting != "literal":
         path = _OCTAL.sub(_control, path)
-    notes = _notes(fields, rest)
+    notes += _notes(fields, rest)
     if note:
         notes.append(note)
     request = Request(user, host, fields.get("USER", ""), fields.get("GROUP", ""), path, arguments)

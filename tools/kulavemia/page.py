@@ -2,6 +2,7 @@
 
 import base64
 import hashlib
+import importlib.util
 import json
 import os
 from collections.abc import Sequence
@@ -161,13 +162,17 @@ def _part(name: str) -> str:
         return file.read()
 
 
+def want_jinja() -> None:
+    """Raises `Fault` if the package that makes pages is not installed."""
+    if importlib.util.find_spec("jinja2") is None:
+        raise Fault("the Python package jinja2 is not there: apt-get install python3-jinja2", FAILED)
+
+
 def rendered(page: Page) -> str:
     """Returns the page's text."""
-    try:
-        import jinja2
-        import markupsafe
-    except ModuleNotFoundError:
-        raise Fault("the Python package jinja2 is not there: apt-get install python3-jinja2", FAILED) from None
+    want_jinja()
+    import jinja2
+    import markupsafe
 
     def shown(value: Any) -> Any:
         return visible(value) if isinstance(value, str) and not hasattr(value, "__html__") else value

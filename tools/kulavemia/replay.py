@@ -9,7 +9,7 @@ from typing import NamedTuple
 
 from kulavemia import compare, directory, probe, program, sorting, unknown
 from kulavemia.command import WORDS, Fault, warn
-from kulavemia.page import REPORT, Inputs, Page
+from kulavemia.page import REPORT, Inputs, Page, want_jinja
 from kulavemia.page import write as write_page
 from kulavemia.requests import Source, sources_of
 from kulavemia.rows import open_write
@@ -26,6 +26,16 @@ class Given(NamedTuple):
     users: str
     hosts: str
     logs: Sequence[str]
+
+
+def want(given: argparse.Namespace) -> None:
+    """Raises `Fault` if what every run needs is lacking, before anything is written."""
+    if given.rows < 0:
+        raise Fault("--rows is not below 0", WORDS)
+    if given.directory is None and not given.collected:
+        raise Fault("--directory or --collected is wanted", WORDS)
+    program.find(given.program)
+    want_jinja()
 
 
 def prepared(given: argparse.Namespace) -> Given:
@@ -53,8 +63,6 @@ def _directory(given: argparse.Namespace) -> tuple[str, str]:
     """Returns the users and hosts files, made out of what was collected where none are named."""
     folder = given.directory
     if folder is None:
-        if not given.collected:
-            raise Fault("--directory or --collected is wanted", WORDS)
         folder = os.path.join(given.out, "directory")
         hosts = directory.collected(given.collected)
         directory.write(folder, directory.merged(hosts), [host.machine for host in hosts])

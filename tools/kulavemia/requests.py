@@ -114,6 +114,7 @@ class Writer:
         self.key_header = key_header
         self.senders: dict[str, _Sender] = {}
         self.taken: set[str] = set()
+        self.last: dict[str, int] = {}
         self.files = Appender()
         for below in ("requests", "keys"):
             path = os.path.join(folder, below)
@@ -157,11 +158,12 @@ class Writer:
 
     def _sender_name(self, name: str) -> str:
         plain = re.sub(r"[^A-Za-z0-9_-]", "_", name)[: NAME_LIMIT - 8] or "_"
-        sender, more = plain, 1
+        sender, more = plain, self.last.get(plain.lower(), 1)
         while sender.lower() in self.taken:
             more += 1
             sender = f"{plain}_{more}"
         self.taken.add(sender.lower())
+        self.last[plain.lower()] = more
         return sender
 
     def _rows(self) -> Iterator[Sequence[str]]:
@@ -171,12 +173,19 @@ class Writer:
                 yield sender.sender, sender.name, str(requests), f"requests/{stem}.csv", f"keys/{stem}.csv"
 
 
+def number_of(path: str, line: int, text: str) -> int:
+    """Returns the number that a field of a file spells. Raises `Fault` if it is none, or is longer than any count."""
+    if not text.isascii() or not text.isdecimal() or len(text) > 18:
+        raise Fault(f"{path}:{line}: {text[:40]} is no number")
+    return int(text)
+
+
 def sources_of(folder: str) -> list[Source]:
     """Returns the requests files of a folder that a `Writer` wrote."""
     path = os.path.join(folder, "senders.csv")
     return [
-        Source(sender, name, int(requests), os.path.join(folder, file), os.path.join(folder, key))
-        for _, (sender, name, requests, file, key) in records(path, SENDERS_HEADER)
+        Source(sender, name, number_of(path, line, requests), os.path.join(folder, file), os.path.join(folder, key))
+        for line, (sender, name, requests, file, key) in records(path, SENDERS_HEADER)
     ]
 
 

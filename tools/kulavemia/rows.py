@@ -3,8 +3,10 @@
 Bytes that are no UTF-8 pass through unchanged.
 """
 
+import contextlib
 import csv
 import io
+import os
 import re
 from collections.abc import Iterable, Iterator, Sequence
 
@@ -23,6 +25,25 @@ def open_read(path: str) -> io.TextIOWrapper:
 def open_write(path: str, mode: str = "w") -> io.TextIOWrapper:
     """Opens a file for writing, whatever its bytes will be."""
     return open(path, mode, encoding="utf-8", errors="surrogateescape", newline="")
+
+
+@contextlib.contextmanager
+def replacing(path: str) -> Iterator[io.TextIOWrapper]:
+    """Opens what takes the place of a file once all of it is written; what is no regular file is written as it is."""
+    path = os.path.realpath(path)
+    if os.path.exists(path) and not os.path.isfile(path):
+        with open_write(path) as file:
+            yield file
+        return
+    part = path + ".part"
+    try:
+        with open_write(part) as file:
+            yield file
+        os.replace(part, path)
+    except BaseException:
+        with contextlib.suppress(FileNotFoundError):
+            os.unlink(part)
+        raise
 
 
 def row(fields: Sequence[str]) -> str:

@@ -140,11 +140,11 @@ class Sorted(NamedTuple):
 class Sorter:
     """Sorts the content of logs into the files of a folder."""
 
-    def __init__(self, given: argparse.Namespace, folder: str, lists: IO[str], skipped: IO[str]) -> None:
+    def __init__(self, given: argparse.Namespace, writer: Writer, lists: IO[str], skipped: IO[str]) -> None:
         self.names = Names(given)
         self.by = given.by
         self.editors = frozenset() if given.plain_editors else EDITORS.union(given.editor)
-        self.writer = Writer(folder, LOG_KEY)
+        self.writer = writer
         self.lists = lists
         self.skipped = skipped
         self.counts: Counter[str] = Counter()
@@ -180,7 +180,7 @@ def sort(logs: Sequence[str], folder: str, given: argparse.Namespace) -> Sorted:
     """Sorts the content of logs into a folder, and returns how much there was."""
     how = Options(given.host, given.year, given.quoting, given.syslog_length)
     total = sum(size_of(path) for path in logs)
-    os.makedirs(folder, exist_ok=True)
+    writer = Writer(folder, LOG_KEY)
     with (
         open_write(os.path.join(folder, "lists.csv")) as lists,
         open_write(os.path.join(folder, "skipped.csv")) as skipped,
@@ -188,7 +188,7 @@ def sort(logs: Sequence[str], folder: str, given: argparse.Namespace) -> Sorted:
     ):
         lists.write(row(LISTS_HEADER))
         skipped.write(row(SKIPPED_HEADER))
-        sorter = Sorter(given, folder, lists, skipped)
+        sorter = Sorter(given, writer, lists, skipped)
         before = 0
         for path in logs:
             for line, time, event in Log(path, how, lambda done, before=before: progress.at(before + done)):

@@ -6,6 +6,7 @@ from typing import NamedTuple
 from kulavemia.command import Fault, called
 from kulavemia.policy import Include, Line, beside, include_of, kept_files, lines_of, read, rewritten
 
+DEPTH_LIMIT = 200
 HOW = f"gather its files by {called('collect')} and name their folder by --collected, or the copied files by --tree"
 
 
@@ -57,9 +58,9 @@ class _Copy:
         self.seen: set[bytes] = set()
         self.files: dict[bytes, bytes] = {}
 
-    def take(self, path: bytes) -> None:
+    def take(self, path: bytes, depth: int = 0) -> None:
         """Takes a file, named as on its own machine, and what it includes."""
-        if path in self.seen or not os.path.lexists(self.tree + path):
+        if path in self.seen or depth > DEPTH_LIMIT or not os.path.lexists(self.tree + path):
             return
         self.seen.add(path)
         self._want_inside(path)
@@ -69,14 +70,14 @@ class _Copy:
             if b".." in include.path.split(b"/"):
                 raise Fault(f"{_place(self.tree + path, include.line)}: an include with .. may leave the copied files")
             if include.of_folder:
-                self._take_folder(named)
+                self._take_folder(named, depth + 1)
             else:
-                self.take(named)
+                self.take(named, depth + 1)
         self.files[path] = rewritten(text, self._path_of)
 
-    def _take_folder(self, folder: bytes) -> None:
+    def _take_folder(self, folder: bytes, depth: int) -> None:
         for found in kept_files(self.tree + folder):
-            self.take(found.removeprefix(self.tree))
+            self.take(found.removeprefix(self.tree), depth)
 
     def _path_of(self, include: Include) -> bytes | None:
         return self.root + include.path if include.path.startswith(b"/") else None

@@ -7,7 +7,7 @@ from dataclasses import dataclass, field
 from typing import NamedTuple
 
 from kulavemia.answers import ALLOW, Answer, Verdict
-from kulavemia.logs import opened
+from kulavemia.logs import UNREADABLE, opened
 from kulavemia.messages import ACCEPTED, FAILED, REFUSED
 from kulavemia.requests import Request
 
@@ -125,18 +125,25 @@ def _lines(log: str, numbers: set[int]) -> Iterable[tuple[int, str]]:
     except OSError:
         return
     with raw, file:
-        open_line, text, left = 0, "", len(numbers)
-        for number, line in enumerate(file, 1):
-            if open_line and line.startswith(b"    "):
-                if len(text) < TEXT_LIMIT:
-                    text += " " + line.decode("utf-8", "surrogateescape").strip()
-                continue
-            if open_line:
-                yield open_line, text
-                open_line = 0
-            if not left:
-                break
-            if number in numbers:
-                open_line, text, left = number, line.decode("utf-8", "surrogateescape").rstrip("\r\n"), left - 1
+        try:
+            yield from _unfolded(file, numbers)
+        except UNREADABLE:
+            return
+
+
+def _unfolded(file: Iterable[bytes], numbers: set[int]) -> Iterable[tuple[int, str]]:
+    open_line, text, left = 0, "", len(numbers)
+    for number, line in enumerate(file, 1):
+        if open_line and line.startswith(b"    "):
+            if len(text) < TEXT_LIMIT:
+                text += " " + line.decode("utf-8", "surrogateescape").strip()
+            continue
         if open_line:
             yield open_line, text
+            open_line = 0
+        if not left:
+            break
+        if number in numbers:
+            open_line, text, left = number, line.decode("utf-8", "surrogateescape").rstrip("\r\n"), left - 1
+    if open_line:
+        yield open_line, text

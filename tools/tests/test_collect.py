@@ -48,6 +48,25 @@ class Collect(Case):
         self.assertIn(f"{self.folder}/gone: cannot be read", err)
         self.assertIn(b"user no-such-user: not known", files["missing"])
 
+    def test_a_last_line_without_its_end_and_ends_of_another_system(self) -> None:
+        main = self.write("etc/sudoers", "@include a\r\n@include b")
+        self.write("etc/a", "")
+        self.write("etc/b", "")
+        files, _ = self.collect("--policy", main, "--no-logs")
+        tree = {name.removeprefix(f"tree{self.folder}/") for name in files if name.startswith("tree/")}
+        self.assertTrue({"etc/a", "etc/b"} <= tree, tree)
+
+    def test_an_include_does_not_lead_out_of_the_copies(self) -> None:
+        up = "../" * 40
+        main = self.write("etc/sudoers", f"@includedir {up}{self.folder[1:]}/d\n@include {up}{self.folder[1:]}/f\n")
+        self.write("d/x", "")
+        self.write("f", "")
+        before = sorted(os.listdir(self.folder))
+        files, err = self.collect("--policy", main, "--no-logs", status=3)
+        self.assertEqual(err.count("leads above the root folder"), 2)
+        self.assertEqual([name for name in files if name.startswith("tree/")], [f"tree{main}"])
+        self.assertEqual(sorted(os.listdir(self.folder)), before)
+
     def test_words(self) -> None:
         for words in (["--wrong"], ["--policy"], ["--policy", "relative"]):
             self.assertIn("collect: ", self.collect(*words, status=2)[1])

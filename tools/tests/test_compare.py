@@ -1,5 +1,6 @@
 """What changes between two audits."""
 
+import os
 import unittest
 
 from support import EXAMPLES, Case, needs_program
@@ -82,6 +83,21 @@ class Command(Case):
             "old.csv: requests of s have no row",
             self.run_tool("compare", "old.csv", "old.csv", "--reports", "s=long.csv", status=3)[1],
         )
+
+    def test_a_file_stays_if_the_reports_are_refused(self) -> None:
+        self.write("out.csv", "before\n")
+        self.write("new.csv", REPORT + "s,1,allow,p:1,\n")
+        self.run_tool("compare", "old.csv", "new.csv", "--reports", "s=r.csv", "--out", "out.csv", status=3)
+        self.assertEqual(self.read("out.csv"), "before\n")
+        self.assertEqual(sorted(os.listdir(self.folder)), ["new.csv", "old.csv", "out.csv", "r.csv"])
+        self.compare("s,1,allow,p:1,\ns,2,nomatch,,\ns,3,allow,p:1,NOPASSWD\ns,4,deny,p:3,\n", 0)
+        self.run_tool("compare", "old.csv", "new.csv", "--reports", "s=r.csv", "--out", "out.csv")
+        self.assertNotEqual(self.read("out.csv"), "before\n")
+        self.run_tool("compare", "old.csv", "new.csv", "--reports", "s=r.csv", "--out", "/dev/null")
+
+    def test_numbers_of_many_digits(self) -> None:
+        said = self.compare(f"s,{'9' * 5000},allow,p:1,\n", 3)[1]
+        self.assertIn("is no number", said)
 
     def test_words(self) -> None:
         self.assertIn("--users and --hosts are wanted", self.run_tool("compare", "a", "b", "s=r.csv", status=2)[1])

@@ -126,6 +126,14 @@ class Directory(Case):
             ("b", "passwd", PASSWD + "x:x:-1:0:::\n", "b/passwd:5: not a line of such a file"),
             ("c", "group", "root:x:4294967296:\n", "c/group:1: not a line of such a file"),
             ("d", "addr", "{", "d/addr.json: not what ip -j addr writes"),
+            ("g", "addr", "[" * 100_000, "g/addr.json: not what ip -j addr writes"),
+            ("h", "group", f"root:x:{'9' * 5000}:\n", "h/group:1: not a line of such a file"),
+            (
+                "i",
+                "addr",
+                '[{"addr_info":[{"family":"inet","local":"1.2.3.4","prefixlen":1e999}]}]',
+                "i/addr.json: not what ip -j addr writes",
+            ),
             (
                 "e",
                 "addr",

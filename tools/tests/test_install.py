@@ -82,6 +82,14 @@ class Installed(unittest.TestCase):
         self.do("uninstall")
         self.assertEqual(all_below(self.root), [])
 
+    def test_what_a_broken_off_install_left_is_no_hindrance(self):
+        self.do("install")
+        first = all_below(self.root)
+        os.symlink("gone", self.at("/usr/local/bin/kulavemia-lint.new"))
+        self.write("/usr/local/bin/sudo_audit.new")
+        self.do("install")
+        self.assertEqual(all_below(self.root), first)
+
     def test_compiled_modules_are_removed(self):
         self.do("install")
         self.write("/usr/local/lib/kulavemia/tools/kulavemia/__pycache__/x.pyc")

@@ -1,6 +1,9 @@
 """Logs of each form."""
 
+import bz2
+import datetime
 import gzip
+import lzma
 import os
 import unittest
 
@@ -78,6 +81,31 @@ class Logs(Case):
         os.utime(path, (1767312000, 1767312000))
         self.assertEqual([entry.time[:10] for entry in self.found(path, year=None)], ["2025-12-31", "2026-01-02"])
 
+    def test_days_ahead_of_the_clock_and_leap_days(self) -> None:
+        ended = datetime.datetime(2026, 11, 25, 21).timestamp()
+        for day, date in (("Nov 26", "2026-11-26"), ("Nov 27", "2025-11-27"), ("Feb 29", "2024-02-29")):
+            path = self.write("log", f"{day} 08:00:00{ALICE[15:]}{COMMAND}/bin/a\n")
+            os.utime(path, (ended, ended))
+            self.assertEqual([entry.time[:10] for entry in self.found(path, year=None)], [date])
+
+    def test_damaged_archives_are_named(self) -> None:
+        text = "".join(f"{ALICE}{COMMAND}/bin/a {number}\n" for number in range(2000)).encode()
+        for pack in (gzip.compress, bz2.compress, lzma.compress):
+            data = bytearray(pack(text))
+            data[len(data) // 2 : len(data) // 2 + 20] = bytes(20)
+            path = self.write("damaged", bytes(data))
+            with self.assertRaises(OSError) as raised:
+                self.commands(path)
+            self.assertEqual(raised.exception.filename, path)
+
+    def test_a_log_through_a_pipe(self) -> None:
+        for data in (f"{ALICE}{COMMAND}/bin/a\n".encode(), gzip.compress(f"{ALICE}{COMMAND}/bin/a\n".encode())):
+            reader, writer = os.pipe()
+            os.write(writer, data)
+            os.close(writer)
+            self.assertEqual(self.commands(f"/dev/fd/{reader}"), ["/bin/a"])
+            os.close(reader)
+
     def test_compressed_logs_and_those_that_are_cut(self) -> None:
         whole = gzip.compress(f"{ALICE}{COMMAND}/bin/a\n".encode() * 3000)
         self.assertEqual(len(self.commands(self.write("log.gz", whole))), 3000)
@@ -92,6 +120,24 @@ class Logs(Case):
         path = self.write("log", "x" * (1 << 23) + f"\n{ALICE}{COMMAND}/bin/a\n")
         self.assertEqual([entry.event for entry in self.found(path)][0], "the line is too long")
         self.assertEqual(self.commands(path), ["/bin/a"])
+
+    def test_a_damaged_line_takes_no_other_with_it(self) -> None:
+        with open(os.path.join(DATA, "journal.json"), encoding="utf-8") as file:
+            text = file.read()
+        whole = self.commands(os.path.join(DATA, "journal.json"))
+        self.assertEqual(self.commands(self.write("cut.json", text[:60] + "\n" + text)), whole)
+        self.assertEqual(self.commands(self.write("log", f"[ 0.000 {{\n{ALICE}{COMMAND}/bin/a\n")), ["/bin/a"])
+
+    def test_lines_that_are_made_to_be_slow(self) -> None:
+        nested = '{"a":' * 450 + '"\\u0041"' + "}" * 450
+        for text in ("{" + '\\"' * 100_000, nested, f"{ALICE[:27]}@cee:{nested}"):
+            self.assertEqual(self.commands(self.write("log", f"{text}\n{ALICE}{COMMAND}/bin/a\n")), ["/bin/a"])
+        own = "Nov 20 10:01:02 : alice : HOST=web1 ; " + COMMAND + "/bin/a b\n"
+        self.assertEqual(len(self.commands(self.write("own", own + "    c\n" * 100_000))[0]), 8 + 2 * 100_000)
+        further = f"{ALICE}(command continued) b\n"
+        self.assertEqual(
+            len(self.commands(self.write("log", f"{ALICE}{COMMAND}/bin/a\n" + further * 20_000))[0]), 6 + 2 * 20_000
+        )
 
     def test_hostile_json(self) -> None:
         for text in (

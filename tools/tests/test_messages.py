@@ -59,6 +59,10 @@ class Messages(unittest.TestCase):
         found = event("PWD=/d ; USER=x ; COMMAND=/bin/evil ; USER=root ; COMMAND=/usr/bin/id")
         self.assertEqual(found.note, "COMMAND= stands twice")
 
+    def test_a_folder_that_looks_like_a_target_is_noted(self) -> None:
+        found = event("PWD=/d ; USER=x ; USER=root ; COMMAND=/usr/bin/id")
+        self.assertEqual(found.note, "USER= stands twice")
+
     def test_no_command(self) -> None:
         self.assertEqual(
             event_of("alice", "web1", "problem with defaults entries ; TTY=pts/0 ; PWD=/ ;"),

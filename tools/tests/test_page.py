@@ -200,6 +200,10 @@ class Made(Case):
         page.uses = Uses()
         page.uses.take_all([asked("accepted", "deny", f"/bin/{at}") for at in range(5)])
         self.has(rendered(page), "2 of 5 different requests are shown.")
+        page.uses = Uses()
+        with mock.patch("kulavemia.uses.GROUPS_LIMIT", 3):
+            page.uses.take_all([asked("accepted", "deny", f"/bin/{at}") for at in range(5)])
+        self.has(rendered(page), "2 further requests, each unlike those above, are left out.")
 
     def test_changes(self) -> None:
         header = "change,sender,number,user,host,runas_user,runas_group,command,arguments,old_verdict,new_verdict,old_tags,new_tags,old_place,new_place\n"
@@ -315,6 +319,8 @@ class Command(Case):
         self.run_tool("page", "--requests", "r", "--policy", POLICY, "--out", "page.html")
         self.assertTrue("Would be denied now: 1" in self.read("page.html"))
         self.assertIn("nothing to show", self.run_tool("page", "--out", "x.html", status=2)[1])
+        said = self.run_tool("page", "--requests", "r", "--rows", "-1", "--out", "x.html", status=2)[1]
+        self.assertIn("--rows is not below 0", said)
 
 
 if __name__ == "__main__":

@@ -106,6 +106,18 @@ class Trees(Case):
         self.assertEqual(self.read("copy/etc/sudoers.d/10"), f"@include {self.path('copy')}/opt/x\n")
         self.assertEqual(self.read("copy/opt/x"), "c ALL = ALL\n")
 
+    def test_a_chain_of_files_that_is_too_deep_for_sudo(self) -> None:
+        self.write("tree/etc/sudoers", "@include /f0\n")
+        for number in range(1200):
+            self.write(f"tree/f{number}", f"@include /f{number + 1}\n")
+        of_tree(self.path("tree"), "/etc/sudoers", self.path("copy"))
+        self.assertTrue(os.path.exists(self.path("copy/f130")))
+        self.assertFalse(os.path.exists(self.path("copy/f1000")))
+
+    def test_a_folder_that_no_system_can_have(self) -> None:
+        self.write("tree/etc/sudoers", "@includedir /etc/a\0b\n")
+        of_tree(self.path("tree"), "/etc/sudoers", self.path("copy"))
+
     def test_a_copy_does_not_leave_the_copied_files(self) -> None:
         for text in ("@include /../../etc/passwd\n", "@include ../x\n", "@includedir /etc/..\n"):
             self.write("tree/etc/sudoers", text)

@@ -1,10 +1,11 @@
-"""Where the program is found."""
+"""Where the program is found, and how commands begin and end."""
 
 import os
+import subprocess
 import unittest
 from unittest import mock
 
-from support import Case
+from support import TOOLS, Case
 from kulavemia import program
 from kulavemia.command import PROGRAM, Fault
 
@@ -49,6 +50,20 @@ class Find(Case):
     def test_none(self) -> None:
         with self.assertRaisesRegex(Fault, "no program sudo_audit: build it"):
             program.find(None)
+
+
+class Streams(Case):
+    def test_streams_that_are_closed(self) -> None:
+        probe = os.path.join(TOOLS, "probe")
+        for closed, status in ((">&-", 0), ("2>&-", 0), ("<&-", 0)):
+            done = subprocess.run(
+                ["sh", "-c", f'"$0" --help {closed}', probe], capture_output=True, check=False, cwd=self.folder
+            )
+            self.assertEqual((done.returncode, done.stderr), (status, b""), closed)
+
+    def test_a_name_of_bytes_is_told_as_text(self) -> None:
+        said = self.run_tool("page", "--policy", "gone", "--out", "x.html", status=4)[1]
+        self.assertEqual(said, "page: gone: No such file or directory\n")
 
 
 if __name__ == "__main__":

@@ -108,7 +108,11 @@ class Replay(Case):
         self.assertIn(
             "--directory or --collected is wanted", self.replay("--policy", f"{EXAMPLES}/sudoers", status=2)[1]
         )
-        os.makedirs(self.path("out"), exist_ok=True)
+        given = ("--policy", f"{EXAMPLES}/sudoers", "--directory", EXAMPLES)
+        self.replay(*given, "--program", "/gone", status=5)
+        self.assertIn("--rows is not below 0", self.replay(*given, "--rows", "-1", status=2)[1])
+        self.assertFalse(os.path.exists(self.path("out")))
+        os.makedirs(self.path("out"))
         self.write("out/x", "")
         self.assertIn(
             "out is not empty", self.replay("--policy", f"{EXAMPLES}/sudoers", "--directory", EXAMPLES, status=2)[1]
