@@ -16,10 +16,10 @@ uninstall:
 deb: $(PROGRAM)
 	packaging/deb "$(PROGRAM)"
 
-# A first build proves every crate below the program, which takes 8 to 25 minutes.
+# A first build proves every crate below the program, which takes about 25 minutes on four idle processors.
 $(BUILT):
 	@command -v rt >/dev/null || { echo "$@ is not built, and there is no rt: build it where the toolchain is, or give PROGRAM=PATH"; exit 1; }
-	@echo "proving and building sudo_audit: 8 to 25 minutes where nothing is built yet"
+	@echo "proving and building sudo_audit: about 25 minutes on four idle processors where nothing is built yet"
 	cd crates/sudo_audit && rt run -- --help >/dev/null
 
 try:
