@@ -82,6 +82,14 @@ class Installed(unittest.TestCase):
         self.do("uninstall")
         self.assertEqual(all_below(self.root), [])
 
+    def test_a_program_that_is_not_there_changes_nothing(self):
+        self.do("install")
+        first = all_below(self.root)
+        done = subprocess.run([os.path.join(REPOSITORY, "packaging", "install"), "install", "--destdir", self.root,
+                               "--program", "/gone"], capture_output=True, text=True, check=False)
+        self.assertEqual((done.returncode, done.stderr), (1, "/gone: No such file or directory\n"))
+        self.assertEqual(all_below(self.root), first)
+
     def test_what_a_broken_off_install_left_is_no_hindrance(self):
         self.do("install")
         first = all_below(self.root)
