@@ -130,6 +130,7 @@ class Log:
         self.waiting: deque[_Message | Found] = deque()
         self.latest: dict[tuple[str, str], _Message] = {}
         self.dates: dict[tuple[str | Any, ...], str] = {}
+        # Lines that are to be read again.
         self.back: list[tuple[int, str]] = []
 
     def __iter__(self) -> Iterator[Found]:
@@ -158,7 +159,7 @@ class Log:
         line = 0
         while text := self.file.readline(LINE_LIMIT):
             line += 1
-            if line % 4096 == 0 and self.raw.seekable():
+            if line % 4096 == 0 and self.path != "-" and self.raw.seekable():
                 self.at(self.raw.tell())
             if len(text) == LINE_LIMIT and not text.endswith("\n"):
                 while text and not text.endswith("\n"):
