@@ -54,6 +54,13 @@ fn names_of<R>(alloc: Global, sources: &[Source<R>]) -> Result<Vec<Seq<u8>>, All
     Ok(names)
 }
 
+/// What an audit has to do: the sources of requests, and how many workers judge them.
+#[derive(Drop)]
+pub(crate) struct Work<R> {
+    pub sources: Vec<Source<R>>,
+    pub workers: u32,
+}
+
 /// What an audit leaves at its end, for a caller that need not free it.
 #[derive(Drop)]
 pub(crate) struct Kept {
@@ -119,20 +126,22 @@ fn audited<T: Threads + Wait + Sync, U: Feed, H: Feed, R: Feed + Drop + Send>(
     policy: &Checked,
     users: &mut U,
     hosts: &mut H,
-    sources: Vec<Source<R>>,
-    workers: u32,
+    work: Work<R>,
     kept: &mut Option<Report>,
 ) -> Result<RunOutput, Fault>
-    requires { (1 ≤ workers) × (workers ≤ 16) }
+    requires { (1 ≤ work.workers) × (work.workers ≤ 16) }
     ensures report { (held : Option Holdings) (path : List ℕ) → IsChecked held path policy.now →
         let given : Given = given_by held path (U.ahead users.old) (H.ahead hosts.old)
-        (map (λ s. s.name) sources.items) (map (λ s. R.ahead s.reader) sources.items) workers in
+        (map (λ s. s.name) work.sources.items) (map (λ s. R.ahead s.reader) work.sources.items)
+        work.workers in
         IfOk result (λ p. IsAudited given p.text.items p.status) }
     ensures fault { (held : Option Holdings) (path : List ℕ) → IsChecked held path policy.now →
         let given : Given = given_by held path (U.ahead users.old) (H.ahead hosts.old)
-        (map (λ s. s.name) sources.items) (map (λ s. R.ahead s.reader) sources.items) workers in
+        (map (λ s. s.name) work.sources.items) (map (λ s. R.ahead s.reader) work.sources.items)
+        work.workers in
         IfErr result (IsNotAudited given) }
 {
+    let Work { sources, workers } = work;
     match directory_of(alloc, users, hosts) {
         Ok(directory) => report_under(alloc, rt, policy, &directory, sources, workers, kept),
         Err(fault) => Err(fault),
@@ -155,17 +164,16 @@ pub(crate) fn audit_keeping<
     files: &mut F,
     users: &mut U,
     hosts: &mut H,
-    sources: Vec<Source<R>>,
-    workers: u32,
+    work: Work<R>,
     kept: &mut Kept,
     out: &mut O,
     err: &mut E,
 ) -> u8
-    requires { (1 ≤ workers) × (workers ≤ 16) }
+    requires { (1 ≤ work.workers) × (work.workers ≤ 16) }
     ensures most { result ≤ 4 }
     ensures ends { let given : Given = given_by (F.held files.old) path.now
-        (U.ahead users.old) (H.ahead hosts.old) (map (λ s. s.name) sources.items)
-        (map (λ s. R.ahead s.reader) sources.items) workers in
+        (U.ahead users.old) (H.ahead hosts.old) (map (λ s. s.name) work.sources.items)
+        (map (λ s. R.ahead s.reader) work.sources.items) work.workers in
         Ends (IsAudited given) (IsNotAudited given) result
         (sent O.taken O.stalled_writes out.old out.new)
         (sent E.taken E.stalled_writes err.old err.new) }
@@ -174,16 +182,7 @@ pub(crate) fn audit_keeping<
         Ok(policy) => policy,
         Err(fault) => return end_run(alloc, Err(fault), out, err),
     };
-    let ended = audited(
-        alloc,
-        rt,
-        &policy,
-        users,
-        hosts,
-        sources,
-        workers,
-        &mut kept.report,
-    );
+    let ended = audited(alloc, rt, &policy, users, hosts, work, &mut kept.report);
     kept.keep(policy);
     end_run(alloc, ended, out, err)
 }
@@ -227,7 +226,6 @@ pub fn audit_into<
         (sent E.taken E.stalled_writes err.old err.new) }
 {
     let kept = &mut Kept::new();
-    audit_keeping(
-        alloc, rt, path, files, users, hosts, sources, workers, kept, out, err,
-    )
+    let work = Work { sources, workers };
+    audit_keeping(alloc, rt, path, files, users, hosts, work, kept, out, err)
 }

@@ -2,7 +2,7 @@
 ghost use Rattle.std.specs.Prelude.{◌≡◌, ◌≤◌, ℕ, List, IfErr, IfOk, map};
 ghost use Rattle.audit_commands.specs.Opening.{AreOpened, AreSenders, AreSources, IsNotOpened};
 
-use crate::audit::{Kept, audit_keeping};
+use crate::audit::{Kept, Work, audit_keeping};
 use crate::ending::report_fault;
 use crate::fault::Fault;
 use crate::files::Disk;
@@ -160,8 +160,7 @@ pub(crate) fn run_audit<T: Threads + Wait + Sync>(
                 &mut Disk::new(rt),
                 &mut users,
                 &mut hosts,
-                sources,
-                workers,
+                Work { sources, workers },
                 &mut kept,
                 &mut out,
                 &mut err,

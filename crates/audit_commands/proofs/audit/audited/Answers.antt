@@ -6,17 +6,17 @@ use Rattle.audit_commands.proofs.audit.audited.Goals as goal
 pub returns-in-Ok-clause-report : goal.returns-in-Ok-clause-report
 returns-in-Ok-clause-report g c = λ held path is.
     let given : Given = given_by held path (g.U.Feed.ahead c.args.users.now) (g.H.Feed.ahead c.args.hosts.now)
-    (map (λ s. s.name) c.args.sources.items) (map (λ s. g.R.Feed.ahead s.reader) c.args.sources.items) c.args.workers in
+    (map (λ s. s.name) c.args.work.sources.items) (map (λ s. g.R.Feed.ahead s.reader) c.args.work.sources.items) c.args.work.workers in
     reported_of given c.args.policy.now c.in-Ok.directory c.report_under.result is c.in-Ok.ensures.directory c.report_under.ensures.report
 
 pub returns-in-Ok-clause-fault : goal.returns-in-Ok-clause-fault
 returns-in-Ok-clause-fault g c = λ held path is.
     let given : Given = given_by held path (g.U.Feed.ahead c.args.users.now) (g.H.Feed.ahead c.args.hosts.now)
-    (map (λ s. s.name) c.args.sources.items) (map (λ s. g.R.Feed.ahead s.reader) c.args.sources.items) c.args.workers in
+    (map (λ s. s.name) c.args.work.sources.items) (map (λ s. g.R.Feed.ahead s.reader) c.args.work.sources.items) c.args.work.workers in
     unreported_of given c.args.policy.now c.in-Ok.directory c.report_under.result is c.in-Ok.ensures.directory c.report_under.ensures.fault
 
 pub returns-in-Err-clause-fault : goal.returns-in-Err-clause-fault
 returns-in-Err-clause-fault g c = λ held path is.
     let given : Given = given_by held path (g.U.Feed.ahead c.args.users.now) (g.H.Feed.ahead c.args.hosts.now)
-    (map (λ s. s.name) c.args.sources.items) (map (λ s. g.R.Feed.ahead s.reader) c.args.sources.items) c.args.workers in
+    (map (λ s. s.name) c.args.work.sources.items) (map (λ s. g.R.Feed.ahead s.reader) c.args.work.sources.items) c.args.work.workers in
     no_directory given c.args.policy.now c.in-Err.fault is c.in-Err.ensures.fault
