@@ -172,8 +172,8 @@ fn conclude(
     gathering: Gathering,
 ) -> Result<Report, AuditFault>
     requires { (length faults.now ≡ vec_len names) × (vec_len names ≤ 256) }
-    ensures { Concludes names.items faults.now (collector_after gathering.collector gathering.refused
-        [])
+    ensures { Concludes names.items faults.now
+        (collector_after gathering.collector gathering.refused [])
         result }
 {
     let mut names = names;
