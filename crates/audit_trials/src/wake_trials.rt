@@ -14,13 +14,51 @@ use std::test::Fail;
 use std::thread;
 use std::thread::Threads;
 
-#[test]
-fn short_audits_end(rt: HostRuntime) -> Result<(), Fail> {
-    for round in 0..5u32 {
-        for workers in 1..17u32 {
-            let text = printed(rt.alloc(), &rt, SOURCES, workers)?;
-            assert_eq!(rt; text.as_str(), REPORT, "round {round}");
+// Whether each of 625 audits by so many workers ends in the report: 10,000 audits in the four tests below.
+fn short_audits_end<R: Threads + Wait + Sync>(
+    alloc: Global,
+    rt: &R,
+    workers: u32,
+) -> Result<bool, Fail>
+    requires { (1 ≤ workers) × (workers ≤ 16) }
+{
+    for _ in 0..625u32 {
+        let text = printed(alloc, rt, SOURCES, workers)?;
+        if text.as_str() != REPORT {
+            return Ok(false);
         }
+    }
+    Ok(true)
+}
+
+#[test]
+fn short_audits_by_1_to_4_workers_end(rt: HostRuntime) -> Result<(), Fail> {
+    for workers in 1..5u32 {
+        assert!(rt; short_audits_end(rt.alloc(), &rt, workers)?);
+    }
+    Ok(())
+}
+
+#[test]
+fn short_audits_by_5_to_8_workers_end(rt: HostRuntime) -> Result<(), Fail> {
+    for workers in 5..9u32 {
+        assert!(rt; short_audits_end(rt.alloc(), &rt, workers)?);
+    }
+    Ok(())
+}
+
+#[test]
+fn short_audits_by_9_to_12_workers_end(rt: HostRuntime) -> Result<(), Fail> {
+    for workers in 9..13u32 {
+        assert!(rt; short_audits_end(rt.alloc(), &rt, workers)?);
+    }
+    Ok(())
+}
+
+#[test]
+fn short_audits_by_13_to_16_workers_end(rt: HostRuntime) -> Result<(), Fail> {
+    for workers in 13..17u32 {
+        assert!(rt; short_audits_end(rt.alloc(), &rt, workers)?);
     }
     Ok(())
 }
