@@ -72,6 +72,7 @@ def parser(purpose: str, more: Mapping[int, str] | None = None) -> argparse.Argu
 
 def run(main: Callable[[], int]) -> NoReturn:
     """Runs a command and ends the process with its status."""
+    # A stream that is closed is None here.
     sys.stdin, sys.stdout, sys.stderr = (
         stream or open(os.devnull, mode) for stream, mode in ((sys.stdin, "r"), (sys.stdout, "w"), (sys.stderr, "w"))
     )

@@ -254,7 +254,7 @@ class Log:
     def _date(self, name: str, day: str, *years: str | None) -> str:
         """Returns a month, a day and years as the part of a time before the clock's.
 
-        A year that is not given is the last one that fits the log's end.
+        A year that is not given is the last one that fits the log's end, or a day later, since zones differ.
         """
         month = _MONTHS.get(name)
         if month is None:
@@ -297,6 +297,7 @@ class Log:
             following = next(lines, None)
             if following is None:
                 break
+            # What begins anew belongs to no value that was cut.
             if following[1].startswith(("{", "[")) or any(f.match(following[1]) for f in (_SYSLOG, _FRAMED, _OWN)):
                 self.back.append(following)
                 break

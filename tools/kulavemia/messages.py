@@ -94,21 +94,22 @@ def _fields(head: str) -> tuple[str, dict[str, str], list[str]]:
     A part that begins no further field belongs to what precedes it.
     """
     reason: list[str] = []
-    fields: dict[str, str] = {}
-    notes: list[str] = []
+    fields: dict[str, list[str]] = {}
+    twice: dict[str, None] = {}
     last = ""
     for part in head.split(" ; "):
         name, equals, value = part.partition("=")
         if equals and name in _FIELDS and name not in fields:
             last = name
-            fields[last] = value
+            fields[last] = [value]
         elif last:
-            fields[last] += " ; " + part
+            fields[last].append(part)
             if equals and name in _FIELDS:
-                notes.append(f"{name}= stands twice")
+                twice[name] = None
         else:
             reason.append(part)
-    return " ; ".join(reason), fields, notes
+    joined = {name: " ; ".join(parts) for name, parts in fields.items()}
+    return " ; ".join(reason), joined, [f"{name}= stands twice" for name in twice]
 
 
 def _notes(fields: Mapping[str, str], rest: str) -> list[str]:

@@ -75,7 +75,7 @@ def kept_files(folder: bytes) -> list[bytes]:
     """Returns the files of an included folder that are read, in the order of their names' bytes."""
     try:
         names = sorted(os.listdir(folder))
-    except (FileNotFoundError, ValueError):
+    except (FileNotFoundError, ValueError):  # (no folder has a NUL in its name)
         return []
     start = folder if folder.endswith(b"/") else folder + b"/"
     kept = [name for name in names if b"." not in name and not name.endswith(b"~")]

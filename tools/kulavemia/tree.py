@@ -6,6 +6,7 @@ from typing import NamedTuple
 from kulavemia.command import Fault, called
 from kulavemia.policy import Include, Line, beside, include_of, kept_files, lines_of, read, rewritten
 
+# The program follows includes 128 deep, and refuses a policy that goes deeper.
 DEPTH_LIMIT = 200
 HOW = f"gather its files by {called('collect')} and name their folder by --collected, or the copied files by --tree"
 

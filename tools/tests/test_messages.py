@@ -62,6 +62,8 @@ class Messages(unittest.TestCase):
     def test_a_folder_that_looks_like_a_target_is_noted(self) -> None:
         found = event("PWD=/d ; USER=x ; USER=root ; COMMAND=/usr/bin/id")
         self.assertEqual(found.note, "USER= stands twice")
+        found = event("PWD=/d" + " ; USER=x" * 200_000 + " ; COMMAND=/usr/bin/id")
+        self.assertEqual(found.note, "USER= stands twice")
 
     def test_no_command(self) -> None:
         self.assertEqual(

@@ -79,7 +79,7 @@ impl Gate for Slow {
     fn after(&self, _sender: u32, _number: u32) {}
 }
 
-// A gate that lets request 1 of the sender 0 be judged only after this number of others is answered.
+// A gate that lets the first request of the first sender be judged only after so many others.
 #[derive(Drop)]
 struct Holding {
     until: u64,
@@ -138,7 +138,7 @@ fn full_queues_empty_again(rt: HostRuntime) -> Result<(), Fail> {
     Ok(())
 }
 
-// Whether all others are answered while one worker holds request 1, and the report is this one.
+// Whether all others are answered while a worker holds the first request, and the report is this.
 fn goes_on<R: Threads + Wait + Sync>(
     alloc: Global,
     rt: &R,
