@@ -159,7 +159,7 @@ class Versions(unittest.TestCase):
         self.assertTrue(text_of("packaging", "debian", "changelog").startswith(f"kulavemia ({version}) "))
 
     def test_source_of_the_program_has_the_version(self):
-        source = text_of("crates", "audit_words", "src", "program.rt")
+        source = text_of("crates", "audit_commands", "src", "command_line.rt")
         self.assertEqual(re.findall(r"\.version\((.*)\)", source), [f'"{text_of("VERSION").strip()}"'])
 
     @needs_program

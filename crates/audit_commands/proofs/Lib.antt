@@ -1,3 +1,5 @@
+pub mod RowLemmas
+pub mod Refusals
 pub mod HeldSupplies
 pub mod Rosters
 pub mod SenderLemmas

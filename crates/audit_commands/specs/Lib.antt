@@ -1,3 +1,4 @@
+pub mod Words
 pub mod Holding
 pub mod Loading
 pub mod Examining

@@ -1,14 +1,15 @@
 //! The program: executes the command that its words ask for.
-ghost use Rattle.audit_words.specs.Words.{WorkersFit};
+ghost use Rattle.audit_commands.specs.Words.{WorkersFit};
 
 use crate::check::check_keeping;
 use crate::ending::report_fault;
 use crate::expand::expand_run;
 use crate::fault::Fault;
 use crate::files::Disk;
+use crate::request::Asked;
 use crate::sources::run_audit;
+use crate::words::{asked, unread};
 use audit_files::Device;
-use audit_words::{Asked, asked, unread};
 use clap::Error;
 use clap::error::ErrorKind;
 use std::sync::Wait;

@@ -1,9 +1,8 @@
 //! Runs in which what cannot be read is not reached, and files that are told beforehand.
 
 use crate::runs::{Item, Shelf};
-use audit_commands::{Files, FilesFault, check_run};
+use audit_commands::{Files, FilesFault, check_run, unread};
 use audit_files::Script;
-use audit_words::unread;
 use clap::error::ErrorKind;
 use std::alloc::{AllocError, Global};
 use std::io::ErrorKind as ReadKind;

@@ -2,8 +2,7 @@
 #![tactic(auto)]
 
 use audit_commands::run_program;
-pub use audit_commands::{audit_into, check_run, expand_run, sender_of};
-pub use audit_words::{Asked, asked};
+pub use audit_commands::{Asked, asked, audit_into, check_run, expand_run, sender_of};
 use std::process::ExitCode;
 
 fn main(rt: HostRuntime) -> ExitCode {

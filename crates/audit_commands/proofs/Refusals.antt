@@ -2,8 +2,8 @@
 use Rattle.std.proofs.Common.{◌≡◌, List, Some, codes, ◌∙◌}
 use Rattle.std.specs.Prelude.{◌≢◌}
 use Rattle.clap.specs.Words.{Row, Text}
-use Rattle.audit_words.specs.declared.request.Asked.TheVariants.{Check, Expand, Audit}
-use Rattle.audit_words.specs.Words.{AsksNothing}
+use Rattle.audit_commands.specs.declared.request.Asked.TheVariants.{Check, Expand, Audit}
+use Rattle.audit_commands.specs.Words.{AsksNothing}
 
 some_is : (a b : Text) → Some a ≡ Some b → a ≡ b
 some_is a b e = cc

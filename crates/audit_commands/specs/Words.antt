@@ -11,8 +11,8 @@ use Rattle.clap.specs.declared.error.ErrorKind.{ErrorKind}
 use Rattle.clap.specs.declared.error.ErrorKind.TheVariants.{OutOfMemory, ValueValidation}
 use Rattle.sudo_grammar.specs.declared.kind.Kind.{Kind}
 use Rattle.sudo_grammar.specs.declared.kind.Kind.TheVariants as kind
-use Rattle.audit_words.specs.declared.request.Asked.{Asked}
-use Rattle.audit_words.specs.declared.request.Asked.TheVariants.{Check, Expand, Audit}
+use Rattle.audit_commands.specs.declared.request.Asked.{Asked}
+use Rattle.audit_commands.specs.declared.request.Asked.TheVariants.{Check, Expand, Audit}
 
 -- the word of a kind of alias
 abbrev pub kind_word : Kind → Text

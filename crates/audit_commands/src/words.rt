@@ -1,9 +1,9 @@
 //! The words of the command line.
 ghost use Rattle.std.specs.Prelude.{◌≡◌, ◌≢◌, ◌≤◌, [], None, Some, IfErr, IfOk, IfSome, List, map, unwrap_or};
 ghost use Rattle.clap.specs.Words.{Row, Text, all_of, first_of, found_of, kind_of as error_kind, rows_of, subcommand_of};
-ghost use Rattle.audit_words.specs.Words.{AsksNothing, IsNumberIn, IsErrorOfWords, IsUnreadableWord, HoldsCommand, WorkersFit, kind_word, program_app};
+ghost use Rattle.audit_commands.specs.Words.{AsksNothing, IsNumberIn, IsErrorOfWords, IsUnreadableWord, HoldsCommand, WorkersFit, kind_word, program_app};
 
-use crate::program::program;
+use crate::command_line::program;
 use crate::request::Asked;
 use clap::error::ErrorKind;
 use clap::{ArgMatches, Error};
