@@ -1,6 +1,6 @@
 //! The command that `clap` reads.
-ghost use Rattle.std.specs.Prelude.{◌≡◌, IfOk, codes, false};
-ghost use Rattle.clap.specs.Words.{app_of, rule_of};
+ghost use Rattle.std.specs.Prelude.{◌≡◌, IfOk, IsOkAnd, codes, false};
+ghost use Rattle.clap.specs.Words.{AddsSubcommand, app_of, rule_of};
 ghost use Rattle.clap.specs.declared.builder.command.Command.TheViews.{out-Command as fields_of};
 ghost use Rattle.audit_commands.specs.Words.{audit_app, audit_paths_app, check_app, expand_app, named_app, required_word, required_option, program_app, senders_rule, workers_rule};
 
@@ -102,15 +102,27 @@ fn named<'a>(alloc: Global) -> Command<'a>
         .subcommand_required(true)
 }
 
+// Returns the command with this subcommand. Returns `AllocError` if that of the subcommand failed, or this one.
+fn with_subcommand<'a>(
+    command: Command<'a>,
+    subcommand: Result<Command<'a>, AllocError>,
+) -> Result<Command<'a>, AllocError>
+    ensures { IfOk result (λ c. IsOkAnd subcommand.entry (λ s. AddsSubcommand command.entry s c)) }
+{
+    match subcommand {
+        Ok(subcommand) => command.subcommand(subcommand),
+        Err(refused) => {
+            drop(command);
+            Err(refused)
+        }
+    }
+}
+
 /// Returns the program's command, with its three subcommands.
 pub(crate) fn program<'a>(alloc: Global) -> Result<Command<'a>, AllocError>
     ensures app { IfOk result (λ c. app_of c ≡ program_app) }
 {
-    let check = check(alloc)?;
-    let expand = expand(alloc)?;
-    let audit = audit(alloc)?;
-    named(alloc)
-        .subcommand(check)?
-        .subcommand(expand)?
-        .subcommand(audit)
+    let checks = with_subcommand(named(alloc), check(alloc))?;
+    let expands = with_subcommand(checks, expand(alloc))?;
+    with_subcommand(expands, audit(alloc))
 }

@@ -1,12 +1,12 @@
 //! The words of the command line.
 ghost use Rattle.std.specs.Prelude.{◌≡◌, ◌≢◌, ◌≤◌, [], None, Some, IfErr, IfOk, IfSome, List, map, unwrap_or};
-ghost use Rattle.clap.specs.Words.{Row, Text, all_of, first_of, found_of, kind_of as error_kind, rows_of, subcommand_of};
+ghost use Rattle.clap.specs.Words.{Row, Text, all_of, app_of, first_of, found_of, kind_of as error_kind, rows_of, subcommand_of};
 ghost use Rattle.audit_commands.specs.Words.{AsksNothing, IsNumberIn, IsErrorOfWords, IsUnreadableWord, HoldsCommand, WorkersFit, kind_word, program_app};
 
 use crate::command_line::program;
 use crate::request::Asked;
 use clap::error::ErrorKind;
-use clap::{ArgMatches, Error};
+use clap::{ArgMatches, Command, Error};
 use std::alloc::{AllocError, Global};
 use std::convert::AsStr;
 use std::io::ErrorKind as ReadKind;
@@ -111,6 +111,28 @@ fn asked_by<'a>(
     Ok(None)
 }
 
+// Returns the command that the words ask for, as the program's command reads them.
+fn asked_of<'a, S: AsStr>(
+    alloc: Global,
+    command: &mut Command<'a>,
+    words: &'a [S],
+) -> Result<Asked<'a>, Error>
+    requires { app_of command.old ≡ program_app }
+    ensures stated { IfOk result (λ a. (p : Text × List Row)
+        × (subcommand_of program_app (map S.text words.entry.now) ≡ Some p) × HoldsCommand a p) }
+    ensures workers { IfOk result WorkersFit }
+    ensures refused { IfErr result (λ e. IsErrorOfWords (map S.text words.entry.now) e) }
+{
+    let matches = command.try_get_matches_from_mut(words)?;
+    if let Some((name, given)) = matches.subcommand() {
+        if let Some(asked) = asked_by(alloc, name, given)? {
+            return Ok(asked);
+        }
+    }
+    let text = "KIND is user, runas, host or cmnd";
+    Err(command.error(ErrorKind::InvalidValue, text)?)
+}
+
 /// Returns the command that the words ask for, the program's own name first, as `clap` reads them:
 /// `check FILE`, `expand FILE KIND NAME`, where KIND is `user`, `runas`, `host` or `cmnd`, or
 /// `audit FILE --users F --hosts F [--workers N] [NAME=PATH]...`, where N is 1 to 16, by default 2.
@@ -125,14 +147,9 @@ pub fn asked<'a, S: AsStr>(alloc: Global, words: &'a [S]) -> Result<Asked<'a>, E
     ensures refused { IfErr result (λ e. IsErrorOfWords (map S.text words.entry.now) e) }
 {
     let mut command = program(alloc)?;
-    let matches = command.try_get_matches_from_mut(words)?;
-    if let Some((name, given)) = matches.subcommand() {
-        if let Some(asked) = asked_by(alloc, name, given)? {
-            return Ok(asked);
-        }
-    }
-    let text = "KIND is user, runas, host or cmnd";
-    Err(command.error(ErrorKind::InvalidValue, text)?)
+    let asked = asked_of(alloc, &mut command, words);
+    drop(command);
+    asked
 }
 
 // Returns the error for a word that is not text.

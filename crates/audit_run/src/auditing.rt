@@ -246,6 +246,31 @@ fn audit_registered<'e, R: Threads + Wait + Sync, F: Feed + Drop + Send, G: Gate
     conclude(names, &faults, gathering)
 }
 
+// Audits at most 256 sources: registers them, and runs the threads.
+fn audit_sources<R: Threads + Wait + Sync, F: Feed + Drop + Send, G: Gate + Sync>(
+    rt: &R,
+    shared: Shared<'_>,
+    gate: &G,
+    pass: &mut Pass,
+    sources: Vec<Source<F>>,
+    workers: u32,
+) -> Result<Report, AuditFault>
+    requires pass { IsOnlyPass pass.old × IsEmpty pass.old
+        × (pass.old.handoff ≡ shared.handoff.now)
+        × (pass.old.names ≡ names_under shared.policy.now shared.directory.now) }
+    requires workers { (1 ≤ workers) × (workers ≤ 16) }
+    requires index { Indexes shared.policy.now shared.index.now }
+    requires few { vec_len sources ≤ most_parts }
+    ensures { IsAuditResult (names_under shared.entry.policy.now shared.entry.directory.now)
+        (map (λ s. s.name) sources.items)
+        (map (λ s. F.ahead s.reader) sources.items) workers pass.old pass.new result }
+{
+    match register(shared.alloc, sources) {
+        Ok(registered) => audit_registered(rt, shared, gate, pass, registered, workers),
+        Err(fault) => Err(fault),
+    }
+}
+
 /// Audits the requests of the sources, with one thread for each source and this number of worker
 /// threads, 1 to 16. Sources with the same name are the parts of one sender.
 ///
@@ -281,10 +306,6 @@ pub fn audit<R: Threads + Wait + Sync, F: Feed + Drop + Send, G: Gate + Sync>(
     if sources.len() > MOST_PARTS {
         return Err(AuditFault::TooManyParts);
     }
-    let registered = match register(alloc, sources) {
-        Ok(registered) => registered,
-        Err(fault) => return Err(fault),
-    };
     let index = RuleIndex::of(alloc, policy)?;
     let wakes = Wakes::new();
     let shared = Shared {
@@ -295,5 +316,7 @@ pub fn audit<R: Threads + Wait + Sync, F: Feed + Drop + Send, G: Gate + Sync>(
         handoff,
         wakes: &wakes,
     };
-    audit_registered(rt, shared, gate, pass, registered, workers)
+    let audited = audit_sources(rt, shared, gate, pass, sources, workers);
+    drop(index);
+    audited
 }

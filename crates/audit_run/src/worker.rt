@@ -3,7 +3,7 @@ ghost use Rattle.std.specs.Prelude.{◌≡◌, ◌∷◌, ◌++◌, [], List, If
 ghost use Rattle.audit_run.specs.Names.{names_under, answer, IsRight};
 ghost use Rattle.audit_run.specs.Passes.{with_job_taken, with_outcome_put};
 ghost use Rattle.audit_run.specs.declared.message.Job.{Job};
-ghost use Rattle.audit_run.specs.Body.Work.{after_work};
+ghost use Rattle.audit_run.specs.Body.Work.{after_work, is_not_stop};
 ghost use Rattle.sudo_verdict.specs.Postings.{Indexes};
 
 use crate::gate::Gate;
@@ -129,6 +129,29 @@ pub fn answer_job<R: Wait, G: Gate>(rt: &R, shared: Shared<'_>, gate: &G, pass: 
     put_outcome_waiting(rt, shared, pass, outcome);
 }
 
+// Takes a job and puts its outcome. Returns whether it was another one than `Stop`.
+fn answer_next<R: Wait, G: Gate>(
+    rt: &R,
+    shared: Shared<'_>,
+    gate: &G,
+    pass: &mut Pass,
+    slot: &mut Option<Job>,
+) -> bool
+    requires pass { pass.old.handoff ≡ shared.handoff.now }
+    requires names { pass.old.names ≡ names_under shared.policy.now shared.directory.now }
+    requires index { Indexes shared.policy.now shared.index.now }
+    ensures { (job : Job) × (result ≡ is_not_stop job) × (pass.new ≡ after_work
+        (names_under shared.entry.policy.now shared.entry.directory.now) pass.old (job ∷ [])) }
+{
+    take_job_waiting(rt, shared, pass, slot);
+    let Some(job) = slot.take() else {
+        unreachable!()
+    };
+    let goes_on = !matches!(job, Job::Stop);
+    answer_job(rt, shared, gate, pass, job);
+    goes_on
+}
+
 /// Takes jobs and puts their outcomes, up to and including `Stop`.
 pub fn work<R: Wait, G: Gate>(rt: &R, shared: Shared<'_>, gate: &G, mut pass: Pass) -> Pass
     requires pass { pass.handoff ≡ shared.handoff.now }
@@ -142,15 +165,9 @@ pub fn work<R: Wait, G: Gate>(rt: &R, shared: Shared<'_>, gate: &G, mut pass: Pa
     let mut slot = None;
     for _ in rt.forever() {
         messages = messages.wrapping_add(1);
-        take_job_waiting(rt, shared, &mut pass, &mut slot);
-        match slot.take() {
-            Some(Job::Stop) => {
-                put_outcome_waiting(rt, shared, &mut pass, Outcome::Stopped);
-                shared.wakes.wake_all(Need::Job);
-                return pass;
-            }
-            Some(job) => answer_job(rt, shared, gate, &mut pass, job),
-            None => unreachable!(),
+        if !answer_next(rt, shared, gate, &mut pass, &mut slot) {
+            shared.wakes.wake_all(Need::Job);
+            return pass;
         }
         shared.wakes.count(Need::Job, messages);
     }

@@ -126,7 +126,9 @@ pub(crate) fn audited<R: Threads + Wait + Sync, F: Feed + Drop + Send, G: Gate +
     requires { (1 ≤ workers) × (workers ≤ 16) }
 {
     let ground = make_ground(alloc)?;
-    audited_by(alloc, rt, &ground, sources, workers, gate)
+    let answer = audited_by(alloc, rt, &ground, sources, workers, gate);
+    drop(ground);
+    answer
 }
 
 fn report_shown(alloc: Global, report: &Report) -> Result<String, Fail> {

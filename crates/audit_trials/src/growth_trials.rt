@@ -326,15 +326,13 @@ impl Trial for Queues<'_> {
 fn memory_for_queues(rt: HostRuntime) -> Result<(), Fail> {
     let alloc = rt.alloc();
     let ground = make_ground(alloc)?;
-    swept(
+    let queues = [Queues {
         alloc,
-        &rt,
-        ROOM_WITH_THREADS,
-        &[Queues {
-            alloc,
-            ground: &ground,
-        }],
-    )
+        ground: &ground,
+    }];
+    let ended = swept(alloc, &rt, ROOM_WITH_THREADS, &queues);
+    drop(ground);
+    ended
 }
 
 /// An audit of three sources by two workers.
@@ -387,5 +385,7 @@ fn two_audits<R: Threads + Wait + Sync>(
 #[test]
 fn memory_for_an_audit(rt: HostRuntime) -> Result<(), Fail> {
     let ground = make_ground(rt.alloc())?;
-    two_audits(rt.alloc(), &rt, &ground)
+    let ended = two_audits(rt.alloc(), &rt, &ground);
+    drop(ground);
+    ended
 }

@@ -143,7 +143,9 @@ impl Trial for Checking {
         memory.take();
         let answer = check(self.alloc, policy);
         memory.give_back();
-        Ok(end_of_check(&answer, &self.given))
+        let end = end_of_check(&answer, &self.given);
+        drop(answer);
+        Ok(end)
     }
 }
 
@@ -170,8 +172,10 @@ fn comes_back(answer: &Result<Checked, CheckFault>, given: &Policy) -> bool {
 
 /// Whether the check of that faulty policy hands it back.
 fn hands_back(alloc: Global, given: &Policy) -> Result<bool, Fail> {
-    let policy = faulty(alloc)?;
-    Ok(comes_back(&check(alloc, policy), given))
+    let answer = check(alloc, faulty(alloc)?);
+    let is_same = comes_back(&answer, given);
+    drop(answer);
+    Ok(is_same)
 }
 
 #[test]

@@ -76,7 +76,9 @@ impl Trial for Rows {
         memory.take();
         let answer = Directory::new(self.alloc, rows, machines);
         memory.give_back();
-        Ok(end_of_rows(&answer, self))
+        let end = end_of_rows(&answer, self);
+        drop(answer);
+        Ok(end)
     }
 }
 
@@ -128,10 +130,10 @@ struct Known {
 
 impl Known {
     fn new(alloc: Global) -> Result<Known, Fail> {
-        let directory = directory(alloc)?;
+        let requests = requests(alloc)?;
         Ok(Known {
-            directory,
-            requests: requests(alloc)?,
+            directory: directory(alloc)?,
+            requests,
         })
     }
 }
@@ -171,7 +173,9 @@ impl Indexing {
     /// Returns whether each verdict by an index within the budget is the one without.
     fn agrees_within(&self, budget: Budget) -> Result<bool, Fail> {
         let index = RuleIndex::within(self.alloc, &self.checked, budget)?;
-        Ok(self.agrees(&index))
+        let agrees = self.agrees(&index);
+        drop(index);
+        Ok(agrees)
     }
 }
 
@@ -181,7 +185,11 @@ impl Trial for Indexing {
         let answer = RuleIndex::of(self.alloc, &self.checked);
         memory.give_back();
         match answer {
-            Ok(index) => Ok(End::of(self.agrees(&index))),
+            Ok(index) => {
+                let agrees = self.agrees(&index);
+                drop(index);
+                Ok(End::of(agrees))
+            }
             Err(_) => Ok(End::Refused),
         }
     }
@@ -192,13 +200,20 @@ fn memory_for_an_index_of_rules(rt: HostRuntime) -> Result<(), Fail> {
     swept(rt.alloc(), &rt, ROOM, &[Indexing::new(rt.alloc())?])
 }
 
-#[test]
-fn an_index_beyond_its_budget(rt: HostRuntime) -> Result<(), Fail> {
-    let indexing = Indexing::new(rt.alloc())?;
+/// Whether each verdict by an index that is beyond its budget is the one without.
+fn agrees_beyond_budget(alloc: Global) -> Result<bool, Fail> {
     let budget = Budget {
         words: 1,
         members: 3,
     };
-    assert!(rt; indexing.agrees_within(budget)?);
+    let indexing = Indexing::new(alloc)?;
+    let agrees = indexing.agrees_within(budget);
+    drop(indexing);
+    agrees
+}
+
+#[test]
+fn an_index_beyond_its_budget(rt: HostRuntime) -> Result<(), Fail> {
+    assert!(rt; agrees_beyond_budget(rt.alloc())?);
     Ok(())
 }

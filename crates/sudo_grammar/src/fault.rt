@@ -5,7 +5,7 @@ use sudo_text::{Place, TextFault};
 use thiserror::Error;
 
 /// What the parser expected at the token of a syntax error.
-#[derive(Clone, Copy, Debug, PartialEq, Eq, PartialOrd, Ord, Hash, Error)]
+#[derive(Clone, Copy, Debug, PartialEq, Eq, Error)]
 pub enum Expected {
     /// A name, after the keyword of an alias line or after `:` in one.
     #[error("alias name")]
@@ -38,7 +38,7 @@ pub enum Expected {
 
 /// A form of sudoers(5) that this reader recognizes and refuses, since its meaning depends on something outside the
 /// file.
-#[derive(Clone, Copy, Debug, PartialEq, Eq, PartialOrd, Ord, Hash, Error)]
+#[derive(Clone, Copy, Debug, PartialEq, Eq, Error)]
 pub enum Unsupported {
     /// `+netgroup`
     #[error("netgroup")]

@@ -112,7 +112,7 @@ pub enum Parameter {
 }
 
 /// The operator of an assignment to a parameter.
-#[derive(Clone, Copy, Debug, PartialEq, Eq, PartialOrd, Ord, Hash)]
+#[derive(Clone, Copy, Debug, PartialEq, Eq)]
 pub enum Operator {
     /// `=`
     Set,

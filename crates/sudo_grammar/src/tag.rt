@@ -3,7 +3,7 @@ ghost use Rattle.std.specs.Prelude.{◌≡◌, Some, position};
 ghost use Rattle.sudo_grammar.specs.Tags.{pair_name, pairs, same_pair};
 
 /// A pair of tags: one with a name of its own, and its opposite.
-#[derive(Clone, Copy, Debug, PartialEq, Eq, PartialOrd, Ord, Hash)]
+#[derive(Clone, Copy, Debug, PartialEq, Eq)]
 pub enum TagPair {
     Exec,
     Follow,
@@ -53,7 +53,7 @@ impl TagPair {
 }
 
 /// A tag of a command.
-#[derive(Clone, Copy, Debug, PartialEq, Eq, PartialOrd, Ord, Hash)]
+#[derive(Clone, Copy, Debug, PartialEq, Eq)]
 pub struct Tag {
     pub pair: TagPair,
     /// Whether it is the pair's tag (`EXEC`), and not the opposite (`NOEXEC`).

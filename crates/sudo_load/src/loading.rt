@@ -184,8 +184,14 @@ fn load_entry(
             Ok(loaded) => Ok(loaded),
             Err(_) => Err(out_of_memory(alloc)),
         },
-        Ok(Some((true, path))) => load_folder(alloc, levels, supplies, loaded, place, path),
-        Ok(Some((false, path))) => load_file(alloc, levels, supplies, loaded, place, path),
+        Ok(Some((is_folder, path))) => {
+            drop(entry);
+            if is_folder {
+                load_folder(alloc, levels, supplies, loaded, place, path)
+            } else {
+                load_file(alloc, levels, supplies, loaded, place, path)
+            }
+        }
         Err(_) => Err(out_of_memory(alloc)),
     }
 }

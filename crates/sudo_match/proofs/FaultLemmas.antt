@@ -1,5 +1,5 @@
 -- Lemmas on the faults of a directory's rows, in their order.
-use Rattle.std.proofs.Common.{◌≡◌, ℕ, List, true, false, ap, sym, ◌∙◌, subst, Some, None, Option, cond, Result, Ok, Err, IfErr, IsErrAnd, inl, inr}
+use Rattle.std.proofs.Common.{◌≡◌, ℕ, List, Bool, true, false, ap, sym, ◌∙◌, subst, Some, None, Option, cond, Result, Ok, Err, IfErr, IsErrAnd, inl, inr}
 use Rattle.std.specs.Prelude.{find, is_some, bytes_eq, option_map, codes}
 use Rattle.std.specs.List.{list_any}
 use Rattle.std.proofs.Math.Seq.{take-length}
@@ -11,7 +11,7 @@ use Rattle.sudo_match.specs.declared.positions.GroupPosition.{GroupPosition}
 use Rattle.sudo_match.specs.declared.fault.DirFault.{DirFault}
 use Rattle.sudo_match.specs.declared.fault.DirFault.TheVariants.{UserTwice, HostTwice, GroupClash, NoGroup, NoRoot}
 use Rattle.sudo_match.specs.Class.{lower_text}
-use Rattle.sudo_match.specs.Indexing.{AreApart, ArePositions, IsKept}
+use Rattle.sudo_match.specs.Indexing.{AreApart, ArePositions, IsKept, last_fault}
 use Rattle.sudo_match.specs.KnownRows.{same_user, same_host, groups_clash, groups_of, is_no_group, or_else, user_fault, host_fault, group_fault, ungrouped_fault, root_fault, directory_fault, IsDirectoryFault}
 
 -- a fault that is passed on as it is
@@ -71,14 +71,25 @@ last-faults people machines users hosts groups i j k =
     ∙ none-later (host_fault machines) _ (host-none machines hosts j)
     ∙ none-later (group_fault people) _ (group-none people groups k)
 
-pub refused-ungrouped :
-    (people : List Person) (machines : List Machine) (users hosts groups : List (List ℕ × ℕ)) (u : Person) (e : DirFault) → AreApart same_user (λ u. u.name) people users →
+pub refused-last :
+    (people : List Person) (machines : List Machine) (users hosts groups : List (List ℕ × ℕ)) (e : DirFault) → AreApart same_user (λ u. u.name) people users →
     AreApart same_host (λ m. lower_text m.name) machines hosts → AreApart groups_clash (λ g. g.name) (groups_of people) groups →
-    find (λ u. is_no_group u.groups) people ≡ Some u → IsDirectoryFault (Some (NoGroup u.name)) e → IsDirectoryFault (directory_fault people machines) e
-refused-ungrouped people machines users hosts groups u e i j k found h =
-    let fault : directory_fault people machines ≡ Some (NoGroup u.name) =
-    last-faults people machines users hosts groups i j k
-    ∙ ap (λ o. or_else (option_map (λ (v : Person). NoGroup v.name) o) (root_fault people)) found in
+    IsDirectoryFault (last_fault people) e → IsDirectoryFault (directory_fault people machines) e
+refused-last people machines users hosts groups e i j k h =
+    let P : Option DirFault → Type 0 = λ o. IsDirectoryFault o e in
+    subst P (sym (last-faults people machines users hosts groups i j k)) h
+
+pub faultless :
+    (people : List Person) (machines : List Machine) (users hosts groups : List (List ℕ × ℕ)) → AreApart same_user (λ u. u.name) people users →
+    AreApart same_host (λ m. lower_text m.name) machines hosts → AreApart groups_clash (λ g. g.name) (groups_of people) groups →
+    last_fault people ≡ None → directory_fault people machines ≡ None
+faultless people machines users hosts groups i j k none = last-faults people machines users hosts groups i j k ∙ none
+
+pub refused-ungrouped :
+    (people : List Person) (u : Person) (e : DirFault) → find (λ u. is_no_group u.groups) people ≡ Some u → IsDirectoryFault (Some (NoGroup u.name)) e →
+    IsDirectoryFault (last_fault people) e
+refused-ungrouped people u e found h =
+    let fault : last_fault people ≡ Some (NoGroup u.name) = ap (λ o. or_else (option_map (λ (v : Person). NoGroup v.name) o) (root_fault people)) found in
     let P : Option DirFault → Type 0 = λ o. IsDirectoryFault o e in
     subst P (sym fault) h
 
@@ -88,23 +99,23 @@ root-known : (people : List Person) (users : List (List ℕ × ℕ)) → AreApar
 root-known people users i =
     ap (list_any (λ (u : Person). bytes_eq u.name (codes "root"))) (sym (take-length people)) ∙ sym (i.indexed.known (codes "root"))
 
-pub refused-root :
-    (people : List Person) (machines : List Machine) (users hosts groups : List (List ℕ × ℕ)) → AreApart same_user (λ u. u.name) people users →
-    AreApart same_host (λ m. lower_text m.name) machines hosts → AreApart groups_clash (λ g. g.name) (groups_of people) groups →
-    find (λ u. is_no_group u.groups) people ≡ None → is_some (index_of users (codes "root")) ≡ false → IsDirectoryFault (directory_fault people machines) NoRoot
-refused-root people machines users hosts groups i j k grouped missing =
-    inr (last-faults people machines users hosts groups i j k
-    ∙ none-later (ungrouped_fault people) (root_fault people) (ungrouped-none people grouped)
-    ∙ ap (λ b. cond b None (Some NoRoot)) (root-known people users i ∙ missing))
+-- what `root` being among the users, or not, leaves of the last faults
+root-decides :
+    (people : List Person) (users : List (List ℕ × ℕ)) (known : Bool) → AreApart same_user (λ u. u.name) people users → find (λ u. is_no_group u.groups) people ≡ None →
+    is_some (index_of users (codes "root")) ≡ known → last_fault people ≡ cond known None (Some NoRoot)
+root-decides people users known i grouped is =
+    none-later (ungrouped_fault people) (root_fault people) (ungrouped-none people grouped)
+    ∙ ap (λ b. cond b None (Some NoRoot)) (root-known people users i ∙ is)
 
-pub faultless :
-    (people : List Person) (machines : List Machine) (users hosts groups : List (List ℕ × ℕ)) → AreApart same_user (λ u. u.name) people users →
-    AreApart same_host (λ m. lower_text m.name) machines hosts → AreApart groups_clash (λ g. g.name) (groups_of people) groups →
-    find (λ u. is_no_group u.groups) people ≡ None → is_some (index_of users (codes "root")) ≡ true → directory_fault people machines ≡ None
-faultless people machines users hosts groups i j k grouped known =
-    last-faults people machines users hosts groups i j k
-    ∙ none-later (ungrouped_fault people) (root_fault people) (ungrouped-none people grouped)
-    ∙ ap (λ b. cond b None (Some NoRoot)) (root-known people users i ∙ known)
+pub refused-root :
+    (people : List Person) (users : List (List ℕ × ℕ)) → AreApart same_user (λ u. u.name) people users → find (λ u. is_no_group u.groups) people ≡ None →
+    is_some (index_of users (codes "root")) ≡ false → IsDirectoryFault (last_fault people) NoRoot
+refused-root people users i grouped missing = inr (root-decides people users false i grouped missing)
+
+pub root-faultless :
+    (people : List Person) (users : List (List ℕ × ℕ)) → AreApart same_user (λ u. u.name) people users → find (λ u. is_no_group u.groups) people ≡ None →
+    is_some (index_of users (codes "root")) ≡ true → last_fault people ≡ None
+root-faultless people users i grouped known = root-decides people users true i grouped known
 
 pub kept :
     (people : List Person) (machines : List Machine) (users hosts groups : List (List ℕ × ℕ)) (positions : List GroupPosition) (root : ℕ) → AreApart same_user (λ u. u.name) people users →

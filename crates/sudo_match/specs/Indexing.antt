@@ -5,9 +5,10 @@ use Rattle.sudo_match.specs.declared.people.Group.{Group}
 use Rattle.sudo_match.specs.declared.people.Machine.{Machine}
 use Rattle.sudo_base.specs.Indexes.{IndexesRows}
 use Rattle.sudo_base.specs.NameIndices.{index_of}
+use Rattle.sudo_match.specs.declared.fault.DirFault.{DirFault}
 use Rattle.sudo_match.specs.declared.positions.GroupPosition.{GroupPosition}
 use Rattle.sudo_match.specs.Class.{lower_text}
-use Rattle.sudo_match.specs.KnownRows.{first_clash, groups_of, directory_fault}
+use Rattle.sudo_match.specs.KnownRows.{first_clash, groups_of, or_else, ungrouped_fault, root_fault, directory_fault}
 
 -- no row clashes with an earlier one, and each name has the index of the first row that has it
 pub record AreApart {A : Type 0} (clashes : A → A → Bool) (key : A → List ℕ) (rows : List A) (names : List (List ℕ × ℕ)) : Type 0 where
@@ -30,6 +31,10 @@ ArePositions people positions = map (group_there people) positions ≡ map Some 
 abbrev pub differs : {A : Type 0} → (A → Bool) → Option A → Bool
 differs test None = false
 differs test (Some x) = not (test x)
+
+-- the first fault of the last two kinds
+abbrev pub last_fault : List Person → Option DirFault
+last_fault people = or_else (ungrouped_fault people) (root_fault people)
 
 -- the invariant of a directory: its indexes are those of its rows and of root, and the rows have no fault
 pub record IsKept (people : List Person) (machines : List Machine) (users hosts groups : List (List ℕ × ℕ)) (positions : List GroupPosition) (root : ℕ) : Type 0 where

@@ -1,8 +1,10 @@
 //! The directory of known users and hosts.
-ghost use Rattle.std.specs.Prelude.{◌≡◌, find, bytes_eq, codes, IfOk, IfErr, None};
+ghost use Rattle.std.specs.Prelude.{◌≡◌, find, bytes_eq, codes, IfOk, IfErr, Some, None};
 ghost use Rattle.std.specs.Option.{option_copied};
 ghost use Rattle.sudo_match.specs.Class.{lower_text};
-ghost use Rattle.sudo_match.specs.KnownRows.{user_named, host_named, group_named, directory_fault, is_no_group, IsDirectoryFault};
+ghost use Rattle.sudo_base.specs.NameIndices.{index_of};
+ghost use Rattle.sudo_match.specs.Indexing.{AreApart, ArePositions, IsKept, last_fault};
+ghost use Rattle.sudo_match.specs.KnownRows.{user_named, host_named, group_named, same_user, groups_clash, groups_of, group_fault, directory_fault, is_no_group, IsDirectoryFault};
 
 use crate::indexing::{group_names, host_names, host_place, user_names};
 use crate::positions::{GroupPosition, group_found, positions_of};
@@ -53,29 +55,15 @@ impl Directory {
         ensures fault { IfErr result (IsDirectoryFault (directory_fault people.items
             machines.items)) }
     {
-        Directory::of_rows(alloc, Seq::from_vec(people), Seq::from_vec(machines))
-    }
-
-    // Creates a directory of these rows, or returns their fault.
-    fn of_rows(
-        alloc: Global,
-        people: Seq<Person>,
-        machines: Seq<Machine>,
-    ) -> Result<Directory, DirFault>
-        ensures known { IfOk result (λ d. (d.people ≡ people) × (d.machines ≡ machines)) }
-        ensures faultless { IfOk result (λ d. directory_fault people machines ≡ None) }
-        ensures fault { IfErr result (IsDirectoryFault (directory_fault people machines)) }
-    {
-        let users = user_names(alloc, people.as_slice())?;
-        let hosts = host_names(alloc, machines.as_slice())?;
-        let positions = positions_of(alloc, people.as_slice())?;
-        let groups = group_names(alloc, people.as_slice(), positions.as_slice())?;
-        if let Some(person) = ungrouped(people.as_slice()) {
-            return Err(DirFault::no_group(alloc, person.name.as_slice()));
-        }
-        let Some(root) = users.get(b"root") else {
-            return Err(DirFault::NoRoot);
-        };
+        let people = Seq::from_vec(people);
+        let machines = Seq::from_vec(machines);
+        let RowNames {
+            users,
+            hosts,
+            groups,
+            positions,
+            root,
+        } = row_names(alloc, people.as_slice(), machines.as_slice())?;
         Ok(Directory {
             people,
             machines,
@@ -129,6 +117,63 @@ impl Directory {
             self.positions.as_slice(),
             self.groups.get(name),
         )
+    }
+}
+
+// The names of rows, where their groups are, and the index of the user root.
+#[derive(Drop)]
+struct RowNames {
+    users: Names,
+    hosts: Names,
+    groups: Names,
+    positions: Vec<GroupPosition>,
+    root: usize,
+}
+
+// Returns the names of these rows, or the fault of the rows.
+fn row_names(alloc: Global, people: &[Person], machines: &[Machine]) -> Result<RowNames, DirFault>
+    ensures kept { IfOk result (λ n. IsKept people.now machines.now n.users n.hosts n.groups
+        n.positions.items n.root) }
+    ensures fault { IfErr result (IsDirectoryFault (directory_fault people.now machines.now)) }
+{
+    let users = user_names(alloc, people)?;
+    let hosts = host_names(alloc, machines)?;
+    let (positions, groups) = grouped(alloc, people)?;
+    let root = root_index(alloc, people, &users)?;
+    Ok(RowNames {
+        users,
+        hosts,
+        groups,
+        positions,
+        root,
+    })
+}
+
+// Returns where the groups of these users are, and the indices of the groups by name.
+fn grouped(alloc: Global, people: &[Person]) -> Result<(Vec<GroupPosition>, Names), DirFault>
+    ensures positions { IfOk result (λ g. ArePositions people.now g.0.items) }
+    ensures names { IfOk result (λ g. AreApart groups_clash (λ g. g.name) (groups_of people.now)
+        g.1) }
+    ensures fault { IfErr result (IsDirectoryFault (group_fault people.now)) }
+{
+    let positions = positions_of(alloc, people)?;
+    let names = group_names(alloc, people, positions.as_slice())?;
+    Ok((positions, names))
+}
+
+// Returns the index of the user root. Returns `NoGroup` if a user has no group, and else `NoRoot` if there is no such user.
+fn root_index(alloc: Global, people: &[Person], users: &Names) -> Result<usize, DirFault>
+    requires { AreApart same_user (λ u. u.name) people.now users.now }
+    ensures root { IfOk result (λ root. index_of users.now (codes "root") ≡ Some root) }
+    ensures faultless { IfOk result (λ root. last_fault people.now ≡ None) }
+    ensures fault { IfErr result (IsDirectoryFault (last_fault people.now)) }
+{
+    if let Some(person) = ungrouped(people) {
+        return Err(DirFault::no_group(alloc, person.name.as_slice()));
+    }
+    match users.get(b"root") {
+        Some(root) => Ok(root),
+        None => Err(DirFault::NoRoot),
     }
 }
 

@@ -4,7 +4,7 @@ use crate::Seq;
 use std::fmt;
 
 /// The place of a logical line: its file, and the number of its first physical line.
-#[derive(Clone, Copy, Debug, PartialEq, Eq, PartialOrd, Ord, Hash)]
+#[derive(Clone, Copy, Debug, PartialEq, Eq)]
 pub struct Place {
     /// The number of the file, from 0, in the order in which files are read.
     pub file: u32,

@@ -1,12 +1,13 @@
 -- The effect of the threads of an audit on their passes. Only the proofs of bodies use these
 -- definitions.
-use Rattle.std.specs.Prelude.{◌≡◌, ℕ, ◌+◌, List, [], ◌∷◌, ◌++◌, Option, Ok, Err, map}
+use Rattle.std.specs.Prelude.{◌≡◌, ℕ, ◌+◌, Bool, true, false, List, [], ◌∷◌, ◌++◌, Option, Ok, Err, map}
 use Rattle.std.specs.List.{AllZip}
 use Rattle.audit_files.specs.Faults.{IsNotOutOfMemory}
 use Rattle.audit_files.specs.Feeding.{Ahead}
 use Rattle.audit_files.specs.Files.{IsStatedBy}
 use Rattle.audit_files.specs.Requests.{requests_of_file}
 use Rattle.audit_run.specs.declared.message.Job.{Job}
+use Rattle.audit_run.specs.declared.message.Job.TheVariants.{Stop}
 use Rattle.audit_run.specs.declared.message.Names.{Names}
 use Rattle.audit_run.specs.declared.message.Outcome.{Outcome}
 use Rattle.audit_run.specs.Names.{answer}
@@ -17,6 +18,11 @@ use Rattle.audit_run.specs.Parts.{HasPut, Stated, fault_in}
 -- the pass after these jobs were taken and their answers put
 abbrev pub after_work : Names → PassView → List Job → PassView
 after_work names p jobs = record p { jobs_taken = p.jobs_taken ++ jobs; outcomes_put = p.outcomes_put ++ map (answer names) jobs }
+
+-- a job is another one than `Stop`
+abbrev pub is_not_stop : Job → Bool
+is_not_stop Stop = false
+is_not_stop job = true
 
 -- a worker's pass after its thread: it has put the answer of each job that it took, once
 abbrev pub HasWorked : PassView → PassView → Type 0
