@@ -1,5 +1,5 @@
 -- The contract of `audit` from those of its parts.
-use Rattle.std.proofs.Common.{◌≡◌, ◌≤◌, ℕ, List, Option, Result, Ok, Err, refl, arith}
+use Rattle.std.proofs.Common.{◌≡◌, ℕ, List, Option, Result, Ok, Err, refl}
 use Rattle.std.specs.Prelude.{IfErr, IfOk}
 use Rattle.audit_collect.specs.declared.report.Report.{Report}
 use Rattle.audit_run.specs.Names.{names_under}

@@ -1,10 +1,9 @@
 -- The ends of runs.
-use Rattle.std.proofs.Common.{◌≡◌, ◌<◌, ◌≤◌, ◌⊎◌, ℕ, List, length, take, Option, Result, Ok, Err, inl, inr, refl, sym, subst, ◌∙◌, arith}
+use Rattle.std.proofs.Common.{◌≡◌, ◌<◌, ◌≤◌, ℕ, List, length, take, Result, Ok, Err, inl, inr, refl, sym, subst, ◌∙◌, arith}
 use Rattle.std.specs.Prelude.{IfErr, IfOk}
 use Rattle.audit_commands.specs.Body.Ended.{IsFault, IsPrinted}
-use Rattle.audit_commands.specs.Endings.{WriterStates, Ends, HasWritten, HasWrittenNothing, IsFaultPrinted, IsWell, FailsToWrite, Prints, EndsInFault, PrintsLine}
+use Rattle.audit_commands.specs.Endings.{WriterStates, Ends, HasWritten, HasWrittenNothing, IsFaultPrinted, IsWell, Prints, PrintsLine}
 use Rattle.audit_commands.specs.FaultLines.{fault_text, error_line, printed_of}
-use Rattle.audit_commands.specs.Faults.{status_of}
 use Rattle.audit_commands.specs.declared.fault.Fault.{Fault}
 use Rattle.audit_commands.specs.declared.fault.Fault.TheVariants as faults
 use Rattle.audit_commands.specs.declared.printed.RunOutput.{RunOutput}

@@ -1,5 +1,5 @@
 -- Words that ask for no command.
-use Rattle.std.proofs.Common.{◌≡◌, List, Some, codes, ◌∙◌}
+use Rattle.std.proofs.Common.{◌≡◌, List, Some, codes}
 use Rattle.std.specs.Prelude.{◌≢◌}
 use Rattle.clap.specs.Words.{Row, Text}
 use Rattle.audit_commands.specs.declared.request.Asked.TheVariants.{Check, Expand, Audit}

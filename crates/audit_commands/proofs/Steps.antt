@@ -1,5 +1,5 @@
 -- The contracts of `check` and `expand` from those of their parts.
-use Rattle.std.proofs.Common.{◌≡◌, ◌≤◌, ◌⊎◌, ℕ, Bool, true, false, List, Option, None, Result, Ok, Err, inl, inr, refl, sym, subst, ◌∙◌, arith}
+use Rattle.std.proofs.Common.{◌≡◌, ◌≤◌, ℕ, Bool, true, false, List, Option, Result, Ok, Err, refl, arith}
 use Rattle.std.specs.Prelude.{if◌then◌else◌, IfErr}
 use Rattle.sudo_policy.specs.Found.{has_error}
 use Rattle.sudo_grammar.specs.declared.kind.Kind.{Kind}
@@ -7,8 +7,8 @@ use Rattle.sudo_grammar.specs.declared.policy.Policy.{Policy}
 use Rattle.audit_commands.specs.Endings.{Prints, WriterStates}
 use Rattle.audit_commands.specs.Examining.{IsExamined}
 use Rattle.audit_commands.specs.Expanding.{IsExpanded, IsNotExpanded, IsNotExpandedOf}
-use Rattle.audit_commands.specs.Holding.{HoldsFile, Holdings}
-use Rattle.audit_commands.specs.Loading.{IsChecked, PassesCheck, IsLoaded, IsNoPolicy, IsNotChecked, IsNotCheckedOf, IsUnreadPath}
+use Rattle.audit_commands.specs.Holding.{Holdings}
+use Rattle.audit_commands.specs.Loading.{IsChecked, PassesCheck, IsLoaded, IsNotChecked, IsNotCheckedOf}
 use Rattle.audit_commands.specs.declared.fault.Fault.{Fault}
 use Rattle.audit_commands.specs.declared.fault.Fault.TheVariants as faults
 

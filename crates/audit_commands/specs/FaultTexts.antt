@@ -1,5 +1,5 @@
 -- The texts of faults, as the program prints them.
-use Rattle.std.specs.Prelude.{ℕ, Bool, List, [], ◌∷◌, ◌++◌, codes, decimal, slice_index_or, count_by, bytes_eq, nat_lt, if◌then◌else◌}
+use Rattle.std.specs.Prelude.{ℕ, Bool, List, [], ◌++◌, codes, decimal, slice_index_or, count_by, bytes_eq, nat_lt, if◌then◌else◌}
 use Rattle.audit_collect.specs.declared.fault.CollectFault.{CollectFault}
 use Rattle.audit_collect.specs.declared.fault.CollectFault.TheVariants as collects
 use Rattle.audit_collect.specs.declared.fault.Refused.{Refused}

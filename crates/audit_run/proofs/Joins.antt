@@ -1,5 +1,5 @@
 -- A pass after the passes of threads are joined to it.
-use Rattle.std.proofs.Common.{◌≡◌, ℕ, suc, ◌+◌, List, [], ◌∷◌, ◌++◌, flat_map, map, slice_get, Option, None, Some, Ok, Err, refl, sym, ap, ◌∙◌, arith, append_assoc, append-nil, replicate}
+use Rattle.std.proofs.Common.{◌≡◌, ℕ, suc, ◌+◌, List, [], ◌∷◌, ◌++◌, flat_map, map, Option, None, Some, Ok, Err, refl, sym, ap, ◌∙◌, arith, append_assoc, append-nil, replicate}
 use Rattle.std.specs.List.{AllZip}
 use Rattle.std.proofs.lemmas.List.{map-append}
 use Rattle.std.proofs.lemmas.List.Concat.{flat_map-append}

@@ -11,7 +11,7 @@ use Rattle.sudo_match.specs.declared.positions.GroupPosition.{GroupPosition}
 use Rattle.sudo_match.specs.declared.fault.DirFault.{DirFault}
 use Rattle.sudo_match.specs.declared.fault.DirFault.TheVariants.{UserTwice, HostTwice, GroupClash, NoGroup, NoRoot}
 use Rattle.sudo_match.specs.Class.{lower_text}
-use Rattle.sudo_match.specs.Indexing.{AreApart, ArePositions, IsKept, last_fault}
+use Rattle.sudo_match.specs.Indexing.{AreApart, ArePositions, IsKept, ungrouped_or_root_fault}
 use Rattle.sudo_match.specs.KnownRows.{same_user, same_host, groups_clash, groups_of, is_no_group, or_else, user_fault, host_fault, group_fault, ungrouped_fault, root_fault, directory_fault, IsDirectoryFault}
 
 -- a fault that is passed on as it is
@@ -64,7 +64,7 @@ refused-group people machines users hosts e i j h =
 last-faults :
     (people : List Person) (machines : List Machine) (users hosts groups : List (List ℕ × ℕ)) → AreApart same_user (λ u. u.name) people users →
     AreApart same_host (λ m. lower_text m.name) machines hosts → AreApart groups_clash (λ g. g.name) (groups_of people) groups →
-    directory_fault people machines ≡ or_else (ungrouped_fault people) (root_fault people)
+    directory_fault people machines ≡ ungrouped_or_root_fault people
 unfolding directory_fault
 last-faults people machines users hosts groups i j k =
     none-later (user_fault people) _ (user-none people users i)
@@ -74,7 +74,7 @@ last-faults people machines users hosts groups i j k =
 pub refused-last :
     (people : List Person) (machines : List Machine) (users hosts groups : List (List ℕ × ℕ)) (e : DirFault) → AreApart same_user (λ u. u.name) people users →
     AreApart same_host (λ m. lower_text m.name) machines hosts → AreApart groups_clash (λ g. g.name) (groups_of people) groups →
-    IsDirectoryFault (last_fault people) e → IsDirectoryFault (directory_fault people machines) e
+    IsDirectoryFault (ungrouped_or_root_fault people) e → IsDirectoryFault (directory_fault people machines) e
 refused-last people machines users hosts groups e i j k h =
     let P : Option DirFault → Type 0 = λ o. IsDirectoryFault o e in
     subst P (sym (last-faults people machines users hosts groups i j k)) h
@@ -82,14 +82,14 @@ refused-last people machines users hosts groups e i j k h =
 pub faultless :
     (people : List Person) (machines : List Machine) (users hosts groups : List (List ℕ × ℕ)) → AreApart same_user (λ u. u.name) people users →
     AreApart same_host (λ m. lower_text m.name) machines hosts → AreApart groups_clash (λ g. g.name) (groups_of people) groups →
-    last_fault people ≡ None → directory_fault people machines ≡ None
+    ungrouped_or_root_fault people ≡ None → directory_fault people machines ≡ None
 faultless people machines users hosts groups i j k none = last-faults people machines users hosts groups i j k ∙ none
 
 pub refused-ungrouped :
     (people : List Person) (u : Person) (e : DirFault) → find (λ u. is_no_group u.groups) people ≡ Some u → IsDirectoryFault (Some (NoGroup u.name)) e →
-    IsDirectoryFault (last_fault people) e
+    IsDirectoryFault (ungrouped_or_root_fault people) e
 refused-ungrouped people u e found h =
-    let fault : last_fault people ≡ Some (NoGroup u.name) = ap (λ o. or_else (option_map (λ (v : Person). NoGroup v.name) o) (root_fault people)) found in
+    let fault : ungrouped_or_root_fault people ≡ Some (NoGroup u.name) = ap (λ o. or_else (option_map (λ (v : Person). NoGroup v.name) o) (root_fault people)) found in
     let P : Option DirFault → Type 0 = λ o. IsDirectoryFault o e in
     subst P (sym fault) h
 
@@ -99,22 +99,22 @@ root-known : (people : List Person) (users : List (List ℕ × ℕ)) → AreApar
 root-known people users i =
     ap (list_any (λ (u : Person). bytes_eq u.name (codes "root"))) (sym (take-length people)) ∙ sym (i.indexed.known (codes "root"))
 
--- what `root` being among the users, or not, leaves of the last faults
+-- where each user has a group, whether `root` is among the users decides the fault
 root-decides :
     (people : List Person) (users : List (List ℕ × ℕ)) (known : Bool) → AreApart same_user (λ u. u.name) people users → find (λ u. is_no_group u.groups) people ≡ None →
-    is_some (index_of users (codes "root")) ≡ known → last_fault people ≡ cond known None (Some NoRoot)
+    is_some (index_of users (codes "root")) ≡ known → ungrouped_or_root_fault people ≡ cond known None (Some NoRoot)
 root-decides people users known i grouped is =
     none-later (ungrouped_fault people) (root_fault people) (ungrouped-none people grouped)
     ∙ ap (λ b. cond b None (Some NoRoot)) (root-known people users i ∙ is)
 
 pub refused-root :
     (people : List Person) (users : List (List ℕ × ℕ)) → AreApart same_user (λ u. u.name) people users → find (λ u. is_no_group u.groups) people ≡ None →
-    is_some (index_of users (codes "root")) ≡ false → IsDirectoryFault (last_fault people) NoRoot
+    is_some (index_of users (codes "root")) ≡ false → IsDirectoryFault (ungrouped_or_root_fault people) NoRoot
 refused-root people users i grouped missing = inr (root-decides people users false i grouped missing)
 
 pub root-faultless :
     (people : List Person) (users : List (List ℕ × ℕ)) → AreApart same_user (λ u. u.name) people users → find (λ u. is_no_group u.groups) people ≡ None →
-    is_some (index_of users (codes "root")) ≡ true → last_fault people ≡ None
+    is_some (index_of users (codes "root")) ≡ true → ungrouped_or_root_fault people ≡ None
 root-faultless people users i grouped known = root-decides people users true i grouped known
 
 pub kept :

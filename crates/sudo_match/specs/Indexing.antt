@@ -32,9 +32,9 @@ abbrev pub differs : {A : Type 0} → (A → Bool) → Option A → Bool
 differs test None = false
 differs test (Some x) = not (test x)
 
--- the first fault of the last two kinds
-abbrev pub last_fault : List Person → Option DirFault
-last_fault people = or_else (ungrouped_fault people) (root_fault people)
+-- the first of the two faults that are looked for last
+abbrev pub ungrouped_or_root_fault : List Person → Option DirFault
+ungrouped_or_root_fault people = or_else (ungrouped_fault people) (root_fault people)
 
 -- the invariant of a directory: its indexes are those of its rows and of root, and the rows have no fault
 pub record IsKept (people : List Person) (machines : List Machine) (users hosts groups : List (List ℕ × ℕ)) (positions : List GroupPosition) (root : ℕ) : Type 0 where

@@ -3,7 +3,7 @@ ghost use Rattle.std.specs.Prelude.{◌≡◌, find, bytes_eq, codes, IfOk, IfEr
 ghost use Rattle.std.specs.Option.{option_copied};
 ghost use Rattle.sudo_match.specs.Class.{lower_text};
 ghost use Rattle.sudo_base.specs.NameIndices.{index_of};
-ghost use Rattle.sudo_match.specs.Indexing.{AreApart, ArePositions, IsKept, last_fault};
+ghost use Rattle.sudo_match.specs.Indexing.{AreApart, ArePositions, IsKept, ungrouped_or_root_fault};
 ghost use Rattle.sudo_match.specs.KnownRows.{user_named, host_named, group_named, same_user, groups_clash, groups_of, group_fault, directory_fault, is_no_group, IsDirectoryFault};
 
 use crate::indexing::{group_names, host_names, host_place, user_names};
@@ -161,12 +161,13 @@ fn grouped(alloc: Global, people: &[Person]) -> Result<(Vec<GroupPosition>, Name
     Ok((positions, names))
 }
 
-// Returns the index of the user root. Returns `NoGroup` if a user has no group, and else `NoRoot` if there is no such user.
+// Returns the index of the user root. Returns `NoGroup` for the first user without a group, else `NoRoot` if there is no
+// such user, and `Memory` if allocation fails.
 fn root_index(alloc: Global, people: &[Person], users: &Names) -> Result<usize, DirFault>
     requires { AreApart same_user (λ u. u.name) people.now users.now }
     ensures root { IfOk result (λ root. index_of users.now (codes "root") ≡ Some root) }
-    ensures faultless { IfOk result (λ root. last_fault people.now ≡ None) }
-    ensures fault { IfErr result (IsDirectoryFault (last_fault people.now)) }
+    ensures faultless { IfOk result (λ root. ungrouped_or_root_fault people.now ≡ None) }
+    ensures fault { IfErr result (IsDirectoryFault (ungrouped_or_root_fault people.now)) }
 {
     if let Some(person) = ungrouped(people) {
         return Err(DirFault::no_group(alloc, person.name.as_slice()));

@@ -1,6 +1,6 @@
 -- The effect of the threads of an audit on their passes. Only the proofs of bodies use these
 -- definitions.
-use Rattle.std.specs.Prelude.{◌≡◌, ℕ, ◌+◌, Bool, true, false, List, [], ◌∷◌, ◌++◌, Option, Ok, Err, map}
+use Rattle.std.specs.Prelude.{◌≡◌, ℕ, ◌+◌, Bool, true, false, List, ◌++◌, Option, Ok, Err, map}
 use Rattle.std.specs.List.{AllZip}
 use Rattle.audit_files.specs.Faults.{IsNotOutOfMemory}
 use Rattle.audit_files.specs.Feeding.{Ahead}

@@ -1,4 +1,4 @@
-use Rattle.std.proofs.Common.{◌∙◌, inl, inr, refl, sym}
+use Rattle.std.proofs.Common.{◌∙◌, inl, inr, sym}
 use Rattle.audit_commands.specs.Endings.{writer_states as sent}
 use Rattle.audit_commands.specs.FaultLines.{printed_of}
 use Rattle.audit_commands.specs.Faults.{status_of}

@@ -1,6 +1,6 @@
-use Rattle.std.proofs.Common.{◌≡◌, ◌∙◌, ◌+◌, List, ℕ, [], ◌∷◌, true, false, take, get_or, slice_index_or, ap, sym, subst, arith, rules}
+use Rattle.std.proofs.Common.{◌≡◌, ◌∙◌, ◌+◌, [], true, false, take, get_or, slice_index_or, ap, sym, subst, arith, rules}
 use Rattle.std.proofs.lemmas.List.{get_or_read}
-use Rattle.audit_commands.proofs.Rosters.{first_of, next_of, rest_at, rest_end, rest_new, rest_seen, rest_start, was_seen}
+use Rattle.audit_commands.proofs.Rosters.{first_of, next_of, rest_at, rest_end, rest_new, rest_seen, was_seen}
 use Rattle.audit_commands.proofs.fault_text.sender_at.Goals as goal
 
 pub loop-at-preserved-then-contains : goal.loop-at-preserved-then-contains

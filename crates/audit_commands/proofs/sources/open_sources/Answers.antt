@@ -1,4 +1,4 @@
-use Rattle.std.proofs.Common.{◌≡◌, ◌+◌, ◌<◌, ℕ, List, [], ◌∷◌, ◌++◌, length, get_or, take, map, sym, ap, ◌∙◌, arith, subst, Bor}
+use Rattle.std.proofs.Common.{◌≡◌, ◌+◌, ◌<◌, ℕ, List, [], ◌∷◌, ◌++◌, length, get_or, take, map, sym, arith, subst, Bor}
 use Rattle.std.proofs.lemmas.List.{get_or-map}
 use Rattle.audit_commands.specs.Opening.{AreOpened, Pair}
 use Rattle.audit_commands.proofs.Openings.{opened_more}
