@@ -1,12 +1,13 @@
 """A second body of the verdict, and policies that are drawn at random.
 
 The body writes every list out, tries every grant in the order of the file, and takes the last that applies. It shares nothing with
-the program, and reads no policy: rules are made here, and printed. Whom and what each word of a list is for stands in tables, by
-sudoers(5) and docs/PROFILE.md, for a few users, hosts and commands.
+the program: rules are made here, and printed, or read in the plain form in which they are printed. Whom and what each word of a list
+is for stands in tables, by sudoers(5) and docs/PROFILE.md, for a few users, hosts and commands.
 """
 
 import csv
 import random
+import re
 from collections.abc import Iterator
 from typing import NamedTuple
 
@@ -334,3 +335,63 @@ class Draw:
             self.random.choice([*18 * [""], *2 * sorted(KNOWN_GROUPS), "wheel"]),
             self.random.choice(sorted(COMMANDS)),
         )
+
+
+_TAG = re.compile(r"([A-Z_]+):\s*")
+_RUNAS = re.compile(r"\(([^:)]*)(:[^)]*)?\)\s*")
+_COMMAS = re.compile(r",\s*(?![^(]*\))")
+_SECTIONS = re.compile(r"\s+:\s+(?![^(]*\))")
+
+
+def read_member(text: str) -> Member:
+    """Returns the member that a text spells."""
+    word = text.strip()
+    return Member(len(word) - len(word.lstrip("!")), word.lstrip("!"))
+
+
+def read_members(text: str) -> Members:
+    """Returns the list that a text spells."""
+    return [read_member(word) for word in text.split(",")]
+
+
+def read_command(text: str) -> Command:
+    """Returns the command that a text spells, with its runas and its tags."""
+    runas, tags = None, []
+    if match := _RUNAS.match(text):
+        users, groups = match[1], match[2]
+        runas = Runas(read_members(users) if users else None, read_members(groups[1:]) if groups else None)
+        text = text[match.end() :]
+    while match := _TAG.match(text):
+        tags.append(match[1])
+        text = text[match.end() :]
+    return Command(runas, tags, read_member(text))
+
+
+def read_section(text: str) -> Section:
+    """Returns the section that a text spells."""
+    hosts, _, commands = text.partition(" = ")
+    return Section(read_members(hosts), [read_command(command) for command in _COMMAS.split(commands)])
+
+
+def read_policy(text: str) -> Policy:
+    """Returns the policy that lines spell: rules, definitions of aliases, and comments."""
+    aliases: dict[str, dict[str, Members]] = {kind: {} for kind in FITS}
+    lines: list[Rule | str] = []
+    for line in text.splitlines():
+        first, _, rest = line.partition(" ")
+        if first.endswith("_Alias"):
+            for definition in _SECTIONS.split(rest):
+                name, _, members = definition.partition(" = ")
+                aliases[first.removesuffix("_Alias")][name] = read_members(members)
+        if first.endswith("_Alias") or line.startswith("# "):
+            lines.append(line)
+        else:
+            users, sections = rule_parts(line)
+            lines.append(Rule(read_members(users), [read_section(section) for section in _SECTIONS.split(sections)]))
+    return Policy(aliases, lines)
+
+
+def rule_parts(line: str) -> tuple[str, str]:
+    """Returns the users of a rule and its sections, between which a blank stands that follows no comma."""
+    users, _, sections = re.sub(r"(?<!,) ", "\n", line, count=1).partition("\n")
+    return users, sections

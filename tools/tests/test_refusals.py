@@ -1,86 +1,128 @@
-"""Runs of `tools/refusals`, with a stub in the place of `rt`."""
+"""Runs of the program in which each allocation is refused in turn, and of `tools/refusals`."""
 
+import importlib.machinery
+import importlib.util
 import os
+import shutil
+import subprocess
 import unittest
 
-from support import TOOLS, Case
+from support import PROGRAM, TOOLS, Case, needs_program
 
-TRY = """#!/bin/sh
-echo "$PWD $*" >>"$0.calls"
-[ "$1 $2 $3" = "try --test --fail-alloc" ] || exit 9
-echo tests: 3
-test_of() {{ printf 'test %s ... ' "$1"; }}
-test_of bears; echo ok
-test_of refused
-if [ "$4" -lt 4 ]; then
-  printf '%s\\n' FAILED '    error: AllocError' '    the test failed: its result gives status 1'
-else
-  echo ok
-fi
-test_of odd; {odd}
-echo 'test result: of three'
-exit 4
+needs_compiler = unittest.skipUnless(shutil.which("cc"), "there is no C compiler")
+
+_loader = importlib.machinery.SourceFileLoader("refusals", os.path.join(TOOLS, "refusals"))
+_spec = importlib.util.spec_from_loader("refusals", _loader)
+assert _spec is not None
+refusals = importlib.util.module_from_spec(_spec)
+_loader.exec_module(refusals)
+
+USERS = """user,uid,groups
+root,0,root:0
+alice,1000,alice:1000 adm:4
+bob,1001,bob:1001 operator:37
+operator,11,operator:37
 """
-FAULT = "printf '%s\\n' FAILED '    checked: fault kind=panic at=x.rt:5:1' '    run=fault'"
-WRONG = "printf '%s\\n' FAILED '    assertion failed' '    the test exited with status 101'"
+HOSTS = """host,interfaces
+web1.example.org,10.1.2.3/16 127.0.0.1/8
+web2.example.org,10.2.0.9/16
+"""
+REQUESTS = """number,user,host,runas_user,runas_group,command,arguments
+1,alice,web1.example.org,,,/bin/kill,-9 7
+2,carol,web1.example.org,,,/bin/kill,
+close,2,,,,,
+"""
+TAGS = "alice web1 = NOPASSWD: /bin/kill, /usr/bin/lprm, PASSWD: /bin/ls : web2 = /bin/kill\n"
+CYCLES = "Cmnd_Alias A = B\nCmnd_Alias B = C\nCmnd_Alias C = A\nCmnd_Alias D = A\nHost_Alias WEB = web1\nalice NET = D\n"
+SIGNS = "Cmnd_Alias SAFE = /bin/*, !/bin/su\nalice ALL = !SAFE\nCmnd_Alias Y = !SAFE\n"
+AUDIT = "audit p --users users --hosts hosts --workers 1 s=requests"
+
+# A policy, the words of a run, and how it ends where nothing is refused.
+RUNS = {
+    "a list of members": ("Cmnd_Alias A = /bin/ls, /bin/cat : B = /bin/su\n", "expand p cmnd A", 0),
+    "an alias that is not there": ("Cmnd_Alias A = /bin/ls\n", "expand p cmnd Z", 1),
+    "signs": (SIGNS, "expand p cmnd Y", 0),
+    "quotes and escapes": ('User_Alias X = "%domain users", bo\\x62\n', "expand p user X", 0),
+    "findings": (CYCLES, "check p", 1),
+    "no finding": (TAGS, "check p", 0),
+    "a syntax error": ("alice ALL = ALL,\n", "check p", 1),
+    "includes": ("@include i\n@includedir d\nalice ALL = K\n", "check p", 0),
+    "a missing include": ("@include i\n@include gone\n", "check p", 1),
+    "an audit": (TAGS, AUDIT, 0),
+    "a sender without a close row": (TAGS, AUDIT.replace("=requests", "=open"), 3),
+    "an audit of errors": (CYCLES, AUDIT, 1),
+    "a user twice": (TAGS, AUDIT.replace("users users", "users twice"), 3),
+    "no root": (TAGS, AUDIT.replace("users users", "users rootless"), 3),
+}
+FILES = {
+    "users": USERS,
+    "hosts": HOSTS,
+    "requests": REQUESTS,
+    "open": REQUESTS.replace("close,2,,,,,\n", ""),
+    "twice": USERS + "alice,1,alice:1000\n",
+    "rootless": USERS.replace("root,0,root:0\n", ""),
+    "i": "Cmnd_Alias K = /bin/kill\n",
+    "d/a": "alice ALL = /bin/ls\n",
+    "d/b": "# two\nalice ALL = !/bin/ls, /bin/cat\n",
+}
 
 
+@needs_compiler
 class Refusals(Case):
-    def sweep(self, stub: str, *words: str, status: int) -> tuple[str, str]:
-        """Runs the command over a crate, with a stub of `rt`."""
-        os.makedirs(self.path("crates", "some_trials"), exist_ok=True)
-        os.chmod(self.write("rt", stub), 0o755)
-        given = ("--repository", self.folder, "--rt", self.path("rt"), *words)
-        return self.run_tool("refusals", "some_trials", *given, status=status)
+    """Allocations that are refused one by one."""
 
-    def test_until_all_pass(self) -> None:
-        out, err = self.sweep(TRY.format(odd="echo ok"), "--passing", "2", status=0)
-        self.assertEqual(err, "")
-        self.assertEqual(
-            out.splitlines(),
-            [
-                "5 numbers from 1 on",
-                "",
-                "| Test | Passed | Told | Failed | Faulted | Last that did not pass |",
-                "|---|---|---|---|---|---|",
-                "| `bears` | 5 | 0 | 0 | 0 |  |",
-                "| `refused` | 2 | 3 | 0 | 0 | 3 |",
-                "| `odd` | 5 | 0 | 0 | 0 |  |",
-            ],
-        )
-        calls = self.rows("rt.calls")
-        self.assertEqual(calls[0], f"{os.path.realpath(self.path('crates', 'some_trials'))} try --test --fail-alloc 1")
-        self.assertEqual(len(calls), 5)
+    def setUp(self) -> None:
+        super().setUp()
+        self.library = refusals.built_shim(self.folder)
 
-    def test_a_fault_and_a_failure(self) -> None:
-        odd = f'case "$4" in 2) {FAULT} ;; 3) {WRONG} ;; *) echo ok ;; esac'
-        out = self.sweep(TRY.format(odd=odd), status=1)[0]
-        self.assertIn("2: odd faulted: checked: fault kind=panic at=x.rt:5:1\n3: odd failed: assertion failed\n", out)
-        self.assertIn("| `odd` | 6 | 0 | 1 | 1 | 3 |", out)
+    @needs_program
+    def test_each_allocation_of_each_run(self) -> None:
+        for name, text in FILES.items():
+            self.write(name, text)
+        for title, (policy, words, status) in RUNS.items():
+            self.write("p", policy)
+            with self.subTest(title):
+                run = [PROGRAM, *words.split()]
+                self.assertEqual(refusals.tried(run, self.library, 0, self.folder).ended.status, status)
+                found = refusals.swept(run, self.library, folder=self.folder)
+                self.assertEqual(found.wrong, [])
+                self.assertGreater(found.counts[refusals.MEMORY], 10)
 
-    def test_one_that_needs_a_limit_is_left_out(self) -> None:
-        odd = "printf '%s\\n' FAILED '    error: memory is not limited here' '    the test exited with status 101'"
-        out = self.sweep(TRY.format(odd=odd), "--passing", "2", status=0)[0]
-        self.assertIn("5 numbers from 1 on\n", out)
-        self.assertNotIn("odd", out)
+    @needs_program
+    def test_a_refused_start_of_a_thread(self) -> None:
+        for name, text in {**FILES, "p": TAGS}.items():
+            self.write(name, text)
+        run = [PROGRAM, *AUDIT.replace("--workers 1", "--workers 16").split()]
+        found = refusals.swept(run, self.library, folder=self.folder)
+        self.assertEqual(found.wrong, [])
 
-    def test_first_and_last(self) -> None:
-        out = self.sweep(TRY.format(odd="echo ok"), "--first", "2", "--last", "3", status=0)[0]
-        self.assertIn("2 numbers from 2 on\n", out)
-        self.assertIn("| `refused` | 0 | 2 | 0 | 0 | 3 |", out)
+    def program(self, code: str) -> str:
+        """Returns the path of a C program that runs this code."""
+        path = self.path("sudo_audit")
+        source = self.write("main.c", "#include <stdio.h>\n#include <stdlib.h>\n" + code)
+        subprocess.run(["cc", "-o", path, source], check=True)
+        return path
 
-    def test_no_tests(self) -> None:
-        out, err = self.sweep("#!/bin/sh\necho rt: what is that >&2\nexit 2\n", status=5)
-        self.assertEqual(out, "")
-        self.assertIn(f"refusals: {self.path('rt')} try ran no test: rt: what is that", err)
-        err = self.run_tool("refusals", "sudo_text", "--rt", self.path("none"), status=5)[1]
-        self.assertIn("none: No such file or directory", err)
+    def test_a_run_that_ends_otherwise(self) -> None:
+        code = "int main(void) { void *volatile a = malloc(1), *volatile b = malloc(1);"
+        code += ' if (!a) { fputs("sudo_audit: out of memory\\n", stderr); return 4; } return b ? 0 : 1; }'
+        out = self.run_tool("refusals", "--program", self.program(code), "--", "check", "p", status=1)[0]
+        self.assertEqual(out.splitlines()[0], "2: status 1: ")
+        self.assertEqual(out.splitlines()[-1], "| 0 | 1 | 0 | 1 | 3 |")
+
+    def test_from_a_number_on(self) -> None:
+        code = "int main(void) { for (int at = 0; at < 5; at++) { void *volatile block = malloc(1); free(block); } return 0; }"
+        program = self.program(code)
+        out = self.run_tool("refusals", "--program", program, "--", "check", "p")[0]
+        self.assertEqual(out.splitlines()[-1], "| 5 | 0 | 0 | 0 | 6 |")
+        out = self.run_tool("refusals", "--first", "4", "--program", program, "--", "check", "p")[0]
+        self.assertEqual(out.splitlines()[-1], "| 2 | 0 | 0 | 0 | 6 |")
 
     def test_words(self) -> None:
-        self.assertIn("there is no crate none", self.run_tool("refusals", "none", status=2)[1])
         self.run_tool("refusals", status=2)
-        self.run_tool("refusals", "sudo_text", "--first", "0", status=2)
-        self.assertTrue(os.access(os.path.join(TOOLS, "refusals"), os.X_OK))
+        self.run_tool("refusals", "--first", "0", "--", "check", "p", status=2)
+        err = self.run_tool("refusals", "--program", self.path("none"), "--", "check", "p", status=5)[1]
+        self.assertIn("none: no program", err)
 
 
 if __name__ == "__main__":

@@ -149,9 +149,12 @@ class Tables(Shown):
     def test_words(self) -> None:
         self.check_table("words")
 
+    def test_worked(self) -> None:
+        self.check_table("worked")
+
     def test_all_tables_are_read(self) -> None:
         names = {name.removesuffix(".toml") for name in os.listdir(TABLES)}
-        self.assertEqual(names, {"check", "expand", "audit", "verdict", "cut", "words"})
+        self.assertEqual(names, {"check", "expand", "audit", "verdict", "worked", "cut", "words"})
 
     def test_words_that_are_not_read(self) -> None:
         self.assertTrue(self.shown("check", b"\xff").startswith("2 ! error: invalid UTF-8 was detected in one or more arguments;"))
@@ -193,10 +196,10 @@ class Limits(Shown):
 
     def test_depth(self) -> None:
         lines = [f"Cmnd_Alias A{number} = A{number + 1}\n" for number in range(1, 65)]
-        deep = f"alice ALL = A1\n{''.join(lines[:63])}Cmnd_Alias A64 = /bin/ls\n"
+        deep = f"{''.join(lines[:63])}Cmnd_Alias A64 = /bin/ls\nalice ALL = A1\n"
         self.assertEqual(self.checked(deep), "0 ok;")
         self.assertEqual(self.expanded(deep, "A1"), "0 /bin/ls;")
-        self.judged(deep, {"alice,web1,,,/bin/ls,": "allow,p:1,", "alice,web1,,,/bin/su,": "nomatch,,"})
+        self.judged(deep, {"alice,web1,,,/bin/ls,": "allow,p:65,", "alice,web1,,,/bin/su,": "nomatch,,"})
         deeper = f"alice ALL = A1\n{''.join(lines)}Cmnd_Alias A65 = /bin/ls\n"
         self.assertEqual(self.checked(deeper), "1 p:2: error: too deep Cmnd_Alias A1;")
 

@@ -10,6 +10,20 @@ from support import TOOLS, Case
 CRATES = os.path.join(os.path.dirname(TOOLS), "crates")
 FOLDERS = ("must-fail", "must-fail-further")
 NAME = re.compile(r"[0-9]{2}(\.\w+){2,3}\.edit")
+# A function with its visibility, what stands before its body, and its body, by the indentation of both.
+FUNCTION = re.compile(
+    r"^( *)(pub )?(?:pub\([a-z]+\) )?fn (\w+)((?:(?!\n\1\{\}).)*?)(?:\n\1| )\{\n(.*?)^\1\}", re.MULTILINE | re.DOTALL
+)
+CALL = re.compile(r"\b(\w+)(?:::<[^>]*>)?\(")
+EXPORTED = re.compile(r"^pub use ([\w:]+)(?:::)?(\{[^}]*\})?;", re.MULTILINE)
+# Functions of which no wrong body can be written (docs/DECISIONS.md, "Tests"), two laws, and the program itself, which has no contract.
+WITHOUT = {
+    ("sudo_base", "Seq::new"),
+    ("sudo_policy", "Checked::policy"),
+    ("sudo_match", "Directory::has_no_fault"),
+    ("sudo_policy", "lists_are_written"),
+    ("audit_commands", "run_program"),
+}
 RT = """#!/bin/sh
 echo "$*" >>"$0.calls"
 for crate in $(ls crates); do
@@ -97,7 +111,55 @@ class WrongBodies(Case):
         self.assertIn("there is no folder crates/sudo_audit/must-fail-further", err)
 
 
+def crates_with_contracts() -> list[str]:
+    """Returns the crates of the program, without those of tests alone."""
+    names = sorted(os.listdir(CRATES))
+    return [it for it in names if os.path.isdir(os.path.join(CRATES, it, "must-fail")) and not it.endswith("_trials")]
+
+
+class Functions:
+    """The functions of a crate: their bodies by their names, and those that other crates see."""
+
+    def __init__(self, crate: str) -> None:
+        self.bodies: dict[str, str] = {}
+        self.exported: list[str] = []
+        with open(os.path.join(CRATES, crate, "src", "lib.rt"), encoding="utf-8") as it:
+            words = {word for found in EXPORTED.findall(it.read()) for word in re.findall(r"\w+", "".join(found))}
+        for path in sorted(glob.glob(os.path.join(CRATES, crate, "src", "**", "*.rt"), recursive=True)):
+            with open(path, encoding="utf-8") as it:
+                self._read(it.read(), words)
+
+    def _read(self, text: str, words: set[str]) -> None:
+        """Takes the functions of a file, given the words that the crate exports."""
+        for match in FUNCTION.finditer(text):
+            _, public, name, _, body = match.groups()
+            self.bodies[name] = self.bodies.get(name, "") + body
+            owner = re.findall(r"^impl(?:<[^>]*>)? (\w+)", text[: match.start()], re.MULTILINE) if match[1] else []
+            whole = f"{owner[-1]}::{name}" if owner else name
+            if public and (owner[-1] if owner else name) in words and re.search(r"\w", body):
+                self.exported.append(whole)
+
+    def called_by(self, name: str) -> set[str]:
+        """Returns the names of a function and of those that it calls, by however many steps."""
+        seen, waiting = set(), [name]
+        while waiting:
+            if (now := waiting.pop()) not in seen:
+                seen.add(now)
+                waiting.extend(it for it in CALL.findall(self.bodies[now]) if it in self.bodies)
+        return seen
+
+
 class Texts(unittest.TestCase):
+    def test_each_exported_function_is_turned(self) -> None:
+        for crate in crates_with_contracts():
+            edits = os.listdir(os.path.join(CRATES, crate, FOLDERS[0]))
+            turned = {edit.split(".")[-3] for edit in edits}
+            functions = Functions(crate)
+            for whole in functions.exported:
+                with self.subTest(crate=crate, function=whole):
+                    if (crate, whole) not in WITHOUT:
+                        self.assertTrue(functions.called_by(whole.rpartition("::")[2]) & turned)
+
     def test_each_can_be_put_into_its_crate(self) -> None:
         for folder in FOLDERS:
             for edit in sorted(glob.glob(os.path.join(CRATES, "*", folder, "*"))):

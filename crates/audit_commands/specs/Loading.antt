@@ -2,6 +2,9 @@
 use Rattle.std.specs.Prelude.{◌≡◌, ◌⊎◌, ⊤, ℕ, List, Option, None, Some, Ok, Err, true}
 use Rattle.sudo_grammar.specs.declared.policy.Policy.{Policy}
 use Rattle.sudo_load.specs.declared.fault.LoadFault.{LoadFault}
+use Rattle.sudo_load.specs.declared.fault.LoadFault.TheVariants as load_faults
+use Rattle.sudo_load.specs.declared.fault.Want.{Want}
+use Rattle.sudo_load.specs.declared.fault.Want.TheVariants as wants
 use Rattle.sudo_load.specs.declared.supply.Supply.{Supply}
 use Rattle.sudo_load.specs.Load.{IsLoad}
 use Rattle.sudo_policy.specs.Checking.{FailsCheck, Passes}
@@ -17,16 +20,42 @@ abbrev pub IsLoaded : Option Holdings → List ℕ → Policy → Type 0
 IsLoaded held path policy =
     (text : List ℕ) × (handed : List Supply) × HoldsFile held path (Some text) × AreHeld held handed × IsLoad path text handed (Ok policy)
 
--- the files unfold to no policy, for this reason; `read` are the paths of those that were read
--- until then
-abbrev pub IsUnloaded : Option Holdings → List ℕ → List (List ℕ) → LoadFault → Type 0
-IsUnloaded held path read fault =
+-- the content of the files is refused: no further file is needed, and allocation did not fail
+abbrev pub IsOfContent : LoadFault → Type 0
+IsOfContent (load_faults.Parse fault) = ⊤
+IsOfContent (load_faults.TooNested place) = ⊤
+IsOfContent (load_faults.TooMany place) = ⊤
+IsOfContent (load_faults.Missing place path) = ⊤
+IsOfContent (load_faults.Wanted want) = ⊥
+IsOfContent load_faults.Memory = ⊥
+
+-- the text of the main file, and what was handed in of the files that exist, end in this fault;
+-- `read` are the paths of the files that were read until then
+abbrev pub EndsIn : Option Holdings → List ℕ → List (List ℕ) → LoadFault → Type 0
+EndsIn held path read fault =
     (text : List ℕ) × (handed : List Supply) × HoldsFile held path (Some text) × AreHeld held handed × IsLoad path text handed (Err (read, fault))
 
--- the path cannot be read: reading fails there, or it is that of the main file, which does not
--- exist
+-- the files unfold to no policy, for this reason, which is their content
+abbrev pub IsUnloaded : Option Holdings → List ℕ → List (List ℕ) → LoadFault → Type 0
+IsUnloaded held path read fault = IsOfContent fault × EndsIn held path read fault
+
+-- the path of a file or a folder that is needed
+abbrev pub path_of : Want → List ℕ
+path_of (wants.File path) = path
+path_of (wants.Folder path) = path
+
+-- the path is needed after what was handed in, and reading fails there
+abbrev pub IsUnreadWant : Option Holdings → List ℕ → List ℕ → Type 0
+IsUnreadWant held path unread =
+    (want : Want) × (unread ≡ path_of want) × IsUnreadable held unread × ((read : List (List ℕ)) × EndsIn held path read (load_faults.Wanted want))
+
+-- the main file does not exist, or reading it fails
+abbrev pub IsUnreadMain : Option Holdings → List ℕ → List ℕ → Type 0
+IsUnreadMain held path unread = (unread ≡ path) × (IsUnreadable held path ⊎ HoldsFile held path None)
+
+-- the path cannot be read: it is that of the main file, or it is needed after what was read
 abbrev pub IsUnreadPath : Option Holdings → List ℕ → List ℕ → Type 0
-IsUnreadPath held path unread = IsUnreadable held unread ⊎ ((unread ≡ path) × HoldsFile held path None)
+IsUnreadPath held path unread = IsUnreadMain held path unread ⊎ IsUnreadWant held path unread
 
 -- why there is no policy: a path cannot be read, memory failed, or the content of the files is
 -- refused
@@ -87,3 +116,9 @@ IsNotCheckedOf policy (faults.Hosts fault) = ⊥
 IsNotCheckedOf policy (faults.Directory fault) = ⊥
 IsNotCheckedOf policy (faults.Audit names fault) = ⊥
 IsNotCheckedOf policy (faults.Write written) = ⊥
+
+-- why what is needed is not handed in: memory failed, or reading it fails; only the proofs of bodies
+-- use this definition
+abbrev pub IsNotHanded : Option Holdings → Want → Fault → Type 0
+IsNotHanded held want fault =
+    (fault ≡ faults.Memory) ⊎ ((fault ≡ faults.CannotRead (path_of want)) × IsUnreadable held (path_of want))

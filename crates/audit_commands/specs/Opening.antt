@@ -1,5 +1,5 @@
 -- The files of an audit, opened.
-use Rattle.std.specs.Prelude.{◌≡◌, ⊤, ℕ, true, List, ◌∷◌, ◌++◌, Some, map, slice_get, take, All}
+use Rattle.std.specs.Prelude.{◌≡◌, ◌⊎◌, ⊤, ℕ, true, List, ◌∷◌, ◌++◌, Some, map, slice_get, take, All}
 use Rattle.std.specs.List.{AllZip}
 use Rattle.audit_run.specs.declared.source.Source.{Source}
 use Rattle.audit_commands.specs.Senders.{is_sender_name}
@@ -38,16 +38,49 @@ AreOpened Opens pairs sources = AllZip (λ pair source. (source.name ≡ pair.0)
 abbrev pub AreSources : {R : Type 0} → (List ℕ → R → Type 0) → List (List ℕ) → List (Source R) → Type 0
 AreSources Opens words sources = (pairs : List Pair) × AreSenders words pairs × AreOpened Opens pairs sources
 
--- why the files are not opened: a word is bad, a path has no reader, or memory failed
-abbrev pub IsNotOpened : (List ℕ → Type 0) → List (List ℕ) → Fault → Type 0
-IsNotOpened Closed words (faults.BadSender word) = IsFirstBad words word
-IsNotOpened Closed words (faults.CannotRead path) = Closed path
-IsNotOpened Closed words faults.Memory = ⊤
-IsNotOpened Closed words (faults.Refused files fault) = ⊥
-IsNotOpened Closed words (faults.Errors lines) = ⊥
-IsNotOpened Closed words (faults.NoSuchAlias name) = ⊥
-IsNotOpened Closed words (faults.Users fault) = ⊥
-IsNotOpened Closed words (faults.Hosts fault) = ⊥
-IsNotOpened Closed words (faults.Directory fault) = ⊥
-IsNotOpened Closed words (faults.Audit names fault) = ⊥
-IsNotOpened Closed words (faults.Write written) = ⊥
+-- the first path, in this order, that has no reader
+pub record IsFirstClosed {R : Type 0} (Opens : List ℕ → R → Type 0) (Closed : List ℕ → Type 0) (paths : List (List ℕ)) (path : List ℕ) : Type 0 where
+  pub earlier : List (List ℕ)
+  pub later : List (List ℕ)
+  pub order : paths ≡ earlier ++ path ∷ later
+  pub opened : All (λ p. (reader : R) × Opens p reader) earlier
+  pub closed : Closed path
+
+-- the paths of an audit, in the order in which they are opened: users, hosts, and the requests in
+-- the order of their words
+abbrev pub paths_of : List ℕ → List ℕ → List Pair → List (List ℕ)
+paths_of users hosts pairs = users ∷ hosts ∷ map (λ p. p.1) pairs
+
+-- no word is bad, and this is the first path that has no reader
+abbrev pub IsUnopened : {R : Type 0} → (List ℕ → R → Type 0) → (List ℕ → Type 0) → List ℕ → List ℕ → List (List ℕ) → List ℕ → Type 0
+IsUnopened Opens Closed users hosts words path =
+    (pairs : List Pair) × AreSenders words pairs × IsFirstClosed Opens Closed (paths_of users hosts pairs) path
+
+-- why the files are not opened: a word is bad; no word is, and a path has no reader; or memory failed
+abbrev pub IsNotOpened : {R : Type 0} → (List ℕ → R → Type 0) → (List ℕ → Type 0) → List ℕ → List ℕ → List (List ℕ) → Fault → Type 0
+IsNotOpened Opens Closed users hosts words (faults.BadSender word) = IsFirstBad words word
+IsNotOpened Opens Closed users hosts words (faults.CannotRead path) = IsUnopened Opens Closed users hosts words path
+IsNotOpened Opens Closed users hosts words faults.Memory = ⊤
+IsNotOpened Opens Closed users hosts words (faults.Refused files fault) = ⊥
+IsNotOpened Opens Closed users hosts words (faults.Errors lines) = ⊥
+IsNotOpened Opens Closed users hosts words (faults.NoSuchAlias name) = ⊥
+IsNotOpened Opens Closed users hosts words (faults.Users fault) = ⊥
+IsNotOpened Opens Closed users hosts words (faults.Hosts fault) = ⊥
+IsNotOpened Opens Closed users hosts words (faults.Directory fault) = ⊥
+IsNotOpened Opens Closed users hosts words (faults.Audit names fault) = ⊥
+IsNotOpened Opens Closed users hosts words (faults.Write written) = ⊥
+
+-- Only the proofs of bodies use the definitions below.
+
+-- why words are not senders: the first bad one, or memory failed
+abbrev pub AreNotSenders : List (List ℕ) → Fault → Type 0
+AreNotSenders words fault = (fault ≡ faults.Memory) ⊎ ((word : List ℕ) × (fault ≡ faults.BadSender word) × IsFirstBad words word)
+
+-- why a path is not opened: it has no reader, or memory failed
+abbrev pub HasNoReader : (List ℕ → Type 0) → List ℕ → Fault → Type 0
+HasNoReader Closed path fault = (fault ≡ faults.Memory) ⊎ ((fault ≡ faults.CannotRead path) × Closed path)
+
+-- why paths are not opened: the first that has no reader, or memory failed
+abbrev pub HaveNoReaders : {R : Type 0} → (List ℕ → R → Type 0) → (List ℕ → Type 0) → List (List ℕ) → Fault → Type 0
+HaveNoReaders Opens Closed paths fault =
+    (fault ≡ faults.Memory) ⊎ ((path : List ℕ) × (fault ≡ faults.CannotRead path) × IsFirstClosed Opens Closed paths path)

@@ -4,11 +4,13 @@ use Rattle.std.specs.Str.Parse.{ParsesUnsigned}
 use Rattle.std.specs.declared.num.ParseIntError.{ParseIntError}
 use Rattle.clap.specs.Words.{App, Row, Rule, Text, all_of, first_of, one_of, kind_of, new_app, new_rule, subcommand_of, takes, with_rule, with_subcommand}
 use Rattle.clap.specs.Simple.{on_top}
+use Rattle.clap.specs.Faults.{fault_of}
+use Rattle.clap.specs.Kinds.{IsAmong}
 use Rattle.clap.specs.Lexer.{usize_max}
 use Rattle.clap.specs.declared.builder.value_parser.ValueParser.TheVariants as vp
 use Rattle.clap.specs.declared.error.Error.{Error}
 use Rattle.clap.specs.declared.error.ErrorKind.{ErrorKind}
-use Rattle.clap.specs.declared.error.ErrorKind.TheVariants.{OutOfMemory, ValueValidation}
+use Rattle.clap.specs.declared.error.ErrorKind.TheVariants.{InvalidValue, OutOfMemory, ValueValidation}
 use Rattle.sudo_grammar.specs.declared.kind.Kind.{Kind}
 use Rattle.sudo_grammar.specs.declared.kind.Kind.TheVariants as kind
 use Rattle.audit_commands.specs.declared.request.Asked.{Asked}
@@ -86,15 +88,19 @@ WorkersFit (Audit file users hosts workers senders) = (1 ≤ workers) × (worker
 abbrev pub AsksNothing : Text × List Row → Type 0
 AsksNothing p = (asked : Asked) → HoldsCommand asked p → ⊥
 
--- `clap` does not accept the words, or they ask for no command
-abbrev pub IsMisuse : List Text → Type 0
-IsMisuse words =
-    (takes program_app words ≡ false)
-    ⊎ ((p : Text × List Row) → subcommand_of program_app words ≡ Some p → AsksNothing p)
+-- `clap` does not accept the words, and gives an error of this kind for them
+abbrev pub IsRefusedAs : List Text → ErrorKind → Type 0
+IsRefusedAs words kind = (takes program_app words ≡ false) × IsAmong kind (fault_of program_app words)
 
--- the error for refused words: out of memory, or they are misuse
+-- the words ask for no command, though `clap` may accept them
+abbrev pub AskNothing : List Text → Type 0
+AskNothing words = (p : Text × List Row) → subcommand_of program_app words ≡ Some p → AsksNothing p
+
+-- the error for refused words: out of memory; of the kind that `clap` gives for them; or that of an
+-- invalid value, if KIND is none of the four
 abbrev pub IsErrorOfWords : List Text → Error → Type 0
-IsErrorOfWords words error = (kind_of error ≡ OutOfMemory) ⊎ IsMisuse words
+IsErrorOfWords words error =
+    (kind_of error ≡ OutOfMemory) ⊎ (IsRefusedAs words (kind_of error) ⊎ ((kind_of error ≡ InvalidValue) × AskNothing words))
 
 -- the error for words that cannot be read: misuse, as for an invalid value, or out of memory
 abbrev pub IsUnreadableWord : ErrorKind → Type 0

@@ -2,7 +2,7 @@
 ghost use Rattle.std.specs.Prelude.{◌≡◌, ◌⊎◌, Some, IfErr, IfOk, OnOk};
 ghost use Rattle.sudo_policy.specs.Checking.{Passes};
 ghost use Rattle.audit_commands.specs.Holding.{AreHeld, HoldsFile, IsHeld, IsUnreadable};
-ghost use Rattle.audit_commands.specs.Loading.{IsChecked, IsLoaded, IsNoPolicy, IsNotChecked, IsNotCheckedOf};
+ghost use Rattle.audit_commands.specs.Loading.{IsChecked, IsLoaded, IsNoPolicy, IsNotChecked, IsNotCheckedOf, IsNotHanded, path_of};
 
 use crate::fault::Fault;
 use crate::files::{Files, FilesFault};
@@ -32,7 +32,7 @@ fn main_text<F: Files>(alloc: Global, files: &mut F, path: &[u8]) -> Result<Seq<
     ensures same { F.held files.new ≡ F.held files.old }
     ensures fault { IfErr result (IsNoPolicy (F.held files.old) path.now) }
 {
-    match files.file(alloc, path) {
+    match files.main_file(alloc, path) {
         Ok(Some(text)) => Ok(text),
         Ok(None) | Err(FilesFault::Failed) => Err(unread_main(alloc, path)),
         Err(FilesFault::Memory) => Err(Fault::Memory),
@@ -49,6 +49,7 @@ fn fetch<F: Files>(
     ensures same { F.held files.new ≡ F.held files.old }
     ensures failed { IfErr result (λ e. e.1 ≡ FilesFault.Failed
         → IsUnreadable (F.held files.old) e.0) }
+    ensures path { IfErr result (λ e. e.0 ≡ path_of want) }
 {
     match want {
         Want::File(path) => match files.file(alloc, path.as_slice()) {
@@ -129,8 +130,8 @@ fn read_one<F: Files>(
 }
 
 // Reads ahead what a file includes, so that `load` is rarely called again and no file is parsed
-// repeatedly. It decides nothing: it stops if allocation fails, and what it skipped is read when it
-// is needed.
+// repeatedly. It decides nothing: what it skipped is read when it is needed, and it gives back all that it read if
+// allocation fails, so that `load` has as much memory as without it.
 fn read_ahead<F: Files>(alloc: Global, files: &mut F, path: &[u8], text: &[u8]) -> Vec<Supply>
     ensures held { AreHeld (F.held files.new) result.items }
     ensures same { F.held files.new ≡ F.held files.old }
@@ -147,7 +148,7 @@ fn read_ahead<F: Files>(alloc: Global, files: &mut F, path: &[u8], text: &[u8]) 
             continue;
         }
         if read_one(alloc, files, want, &mut supplies, &mut pending).is_err() {
-            break;
+            return Vec::new(alloc);
         }
     }
     supplies
@@ -157,14 +158,13 @@ fn read_ahead<F: Files>(alloc: Global, files: &mut F, path: &[u8], text: &[u8]) 
 fn push_wanted<F: Files>(
     alloc: Global,
     files: &mut F,
-    path: &[u8],
     want: Want,
     supplies: &mut Vec<Supply>,
 ) -> Result<(), Fault>
     requires { AreHeld (F.held files.old) supplies.old.items }
     ensures held { OnOk result (AreHeld (F.held files.new) supplies.new.items) }
     ensures same { F.held files.new ≡ F.held files.old }
-    ensures fault { IfErr result (IsNoPolicy (F.held files.old) path.now) }
+    ensures fault { IfErr result (IsNotHanded (F.held files.old) want) }
 {
     match fetch(alloc, files, want) {
         Ok(supply) => Ok(supplies.push(supply)?),
@@ -185,7 +185,7 @@ fn hand_in<F: Files>(
     requires { AreHeld (F.held files.old) supplies.old.items }
     ensures held { OnOk result (AreHeld (F.held files.new) supplies.new.items) }
     ensures same { F.held files.new ≡ F.held files.old }
-    ensures fault { IfErr result (IsNoPolicy (F.held files.old) path.now) }
+    ensures fault { IfErr result (IsNotHanded (F.held files.old) want) }
 {
     if supplies.is_empty() {
         *supplies = read_ahead(alloc, files, path, text);
@@ -193,7 +193,7 @@ fn hand_in<F: Files>(
     if is_read(supplies, &want) {
         return Ok(());
     }
-    push_wanted(alloc, files, path, want, supplies)
+    push_wanted(alloc, files, want, supplies)
 }
 
 /// Returns the policy of a file and of all that it includes. Reads what `load` needs, and calls

@@ -1,6 +1,6 @@
 //! Opens the files of an audit.
 ghost use Rattle.std.specs.Prelude.{◌≡◌, ◌≤◌, ℕ, List, IfErr, IfOk, map};
-ghost use Rattle.audit_commands.specs.Opening.{AreOpened, AreSenders, AreSources, IsNotOpened};
+ghost use Rattle.audit_commands.specs.Opening.{AreNotSenders, AreOpened, AreSenders, AreSources, HaveNoReaders, HasNoReader, IsNotOpened};
 
 use crate::audit::{Kept, Work, audit_keeping};
 use crate::ending::report_fault;
@@ -21,7 +21,7 @@ use sudo_text::Seq;
 fn senders_of<'a>(alloc: Global, words: &[&'a str]) -> Result<Vec<(&'a str, &'a str)>, Fault>
     ensures senders { let words = map (λ w. w.now) words.now in
         IfOk result (λ pairs. AreSenders words (map (λ p. (p.0.now, p.1.now)) pairs.items)) }
-    ensures fault { IfErr result (IsNotOpened (λ _. ⊥) (map (λ w. w.now) words.now)) }
+    ensures fault { IfErr result (AreNotSenders (map (λ w. w.now) words.now)) }
 {
     let mut senders = Vec::new(alloc);
     for word in words {
@@ -36,8 +36,7 @@ fn senders_of<'a>(alloc: Global, words: &[&'a str]) -> Result<Vec<(&'a str, &'a 
 // Opens a file. Returns `CannotRead` with its path if that fails.
 fn open<R, O: Opener<R>>(alloc: Global, opener: &O, path: &str) -> Result<R, Fault>
     ensures opened { IfOk result (O.opens opener.now path.now) }
-    ensures fault { (words : List (List ℕ)) → IfErr result
-        (IsNotOpened (O.closed opener.now) words) }
+    ensures fault { IfErr result (HasNoReader (O.closed opener.now) path.now) }
 {
     match opener.open(path) {
         Some(reader) => Ok(reader),
@@ -53,8 +52,7 @@ fn open_source<R, O: Opener<R>>(
     path: &str,
 ) -> Result<Source<R>, Fault>
     ensures opened { IfOk result (λ s. (s.name ≡ name.now) × O.opens opener.now path.now s.reader) }
-    ensures fault { (words : List (List ℕ)) → IfErr result
-        (IsNotOpened (O.closed opener.now) words) }
+    ensures fault { IfErr result (HasNoReader (O.closed opener.now) path.now) }
 {
     let name = match Seq::from_slice(alloc, name.as_bytes()) {
         Ok(name) => name,
@@ -74,8 +72,8 @@ fn open_sources<R: Drop, O: Opener<R>>(
 ) -> Result<Vec<Source<R>>, Fault>
     ensures opened { let pairs = map (λ p. (p.0.now, p.1.now)) senders.now in
         IfOk result (λ s. AreOpened (O.opens opener.now) pairs s.items) }
-    ensures fault { (words : List (List ℕ)) → IfErr result
-        (IsNotOpened (O.closed opener.now) words) }
+    ensures fault { let paths = map (λ p. p.1.now) senders.now in
+        IfErr result (HaveNoReaders (O.opens opener.now) (O.closed opener.now) paths) }
 {
     let mut sources = Vec::new(alloc);
     for (name, path) in senders {
@@ -95,8 +93,10 @@ pub struct OpenedFiles<R> {
     pub sources: Vec<Source<R>>,
 }
 
-/// Opens the files. Returns `BadSender` for a bad sender before any file is opened, and
-/// `CannotRead` with the path of the first file that cannot be opened.
+/// Opens the files: users, hosts, and the requests in the order of their words.
+///
+/// Returns `BadSender` with the first bad word, before any file is opened; `CannotRead` with the path of
+/// the first file, in that order, that cannot be opened; `Memory` if allocation failed.
 pub fn open_all<R: Drop, O: Opener<R>>(
     alloc: Global,
     opener: &O,
@@ -108,7 +108,9 @@ pub fn open_all<R: Drop, O: Opener<R>>(
     ensures hosts { IfOk result (λ files. O.opens opener.now hosts.now files.hosts) }
     ensures sources { let words = map (λ w. w.now) words.now in
         IfOk result (λ files. AreSources (O.opens opener.now) words files.sources.items) }
-    ensures fault { IfErr result (IsNotOpened (O.closed opener.now) (map (λ w. w.now) words.now)) }
+    ensures fault { let words = map (λ w. w.now) words.now in
+        IfErr result (IsNotOpened (O.opens opener.now) (O.closed opener.now)
+        users.now hosts.now words) }
 {
     let senders = senders_of(alloc, words)?;
     let users = match open(alloc, opener, users) {

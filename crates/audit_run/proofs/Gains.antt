@@ -1,5 +1,6 @@
 -- The gains of a pass and the gathered outcomes, step by step.
-use Rattle.std.proofs.Common.{◌≡◌, ℕ, inl, inr, List, [], ◌∷◌, ◌++◌, map, sym, ap, ◌∙◌, ⊎_elim, refl, arith, append_assoc, append-nil}
+use Rattle.std.proofs.Common.{◌≡◌, ℕ, ◌-◌, inl, inr, List, [], ◌∷◌, ◌++◌, map, sym, ap, ◌∙◌, ⊎_elim, refl, arith, append_assoc, append-nil}
+use Rattle.std.specs.Prelude.{count_by}
 use Rattle.audit_collect.proofs.Members.{count_by-append}
 use Rattle.std.proofs.lemmas.List.{map-append}
 use Rattle.audit_collect.specs.declared.arrival.Arrival.{Arrival}
@@ -62,14 +63,20 @@ conducts_more p q r g h k js ks one two = record {
   counted = counts_more g h k one.outcomes two.outcomes one.counted two.counted;
 }
 
--- it does not matter how many threads ran
+-- no thread still runs, so as many have ended as there were
 pub conducted : (p q : PassView) (g h : Gathering) (js : List Job) (sources workers : ℕ)
-    → Conducts p (record g { sources_running = sources; workers_running = workers }) js q h → HasGatheredAll p g js q h
-conducted p q g h js sources workers one = record {
-  outcomes = one.outcomes;
-  pass = one.pass;
-  gathered = record { stuck = one.gathered.stuck; same = one.gathered.same };
-}
+    → Conducts p (record g { sources_running = sources; workers_running = workers }) js q h → h.sources_running ≡ 0 → h.workers_running ≡ 0
+    → HasGatheredAll p g sources workers js q h
+conducted p q g h js sources workers one no_source no_worker =
+    let of_sources : h.sources_running ≡ sources - count_by is_last_outcome one.outcomes = one.counted.sources in
+    let of_workers : h.workers_running ≡ workers - count_by is_stopped one.outcomes = one.counted.workers in
+    record {
+      outcomes = one.outcomes;
+      pass = one.pass;
+      gathered = record { stuck = one.gathered.stuck; same = one.gathered.same };
+      sources_ended = omega (arith, of_sources, no_source);
+      workers_ended = omega (arith, of_workers, no_worker);
+    }
 
 -- the pass was as it is now
 pub conducts_from : (p q r : PassView) (g h : Gathering) (js : List Job) → q ≡ p → Conducts q g js r h → Conducts p g js r h

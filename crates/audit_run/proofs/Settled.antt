@@ -34,7 +34,7 @@ use Rattle.audit_run.proofs.Holding.{lacking, whole as whole_sources}
 use Rattle.audit_run.proofs.Owned.{all_owned, all_rise}
 use Rattle.audit_run.proofs.Refusing.{refused_of_sources}
 use Rattle.audit_run.proofs.Reporting.{reported}
-use Rattle.audit_run.specs.IsAuditResult.{IsAuditResult, IsOutcome, IsReportOfArrived, IsRunOutcome, NoneRefused, most_parts}
+use Rattle.audit_run.specs.IsAuditResult.{IsAuditResult, IsOutcome, IsReportOfArrived, IsRunOutcome, MemoryComesFirst, NoneRefused, most_parts}
 use Rattle.audit_run.specs.Body.Concluded.{Concludes, RefusesSenders}
 use Rattle.audit_run.specs.Arrivals.{arrivals_of}
 use Rattle.audit_run.specs.Body.Gathered.{collector_after, RanOutOfMemory, Gathers, Drains}
@@ -103,7 +103,7 @@ any_arrivals sources faults comes (Ok report) a = absurd (ok_or_err _ _ a.1.1)
   where
     ok_or_err : (x : Refused) (held : List SenderState) → Err x ≡ Ok held → ⊥
     ok_or_err x held e = cc
-any_arrivals sources faults comes (Err (Sender name part fault)) a = absurd (a.1 refl)
+any_arrivals sources faults comes (Err (Sender name part fault)) a = absurd (a.2 refl)
 any_arrivals sources faults comes (Err (Collect (collect.Roster why))) a = a
 any_arrivals sources faults comes (Err (Collect (collect.Refused refused.Memory))) a = a
 any_arrivals sources faults comes (Err (Collect (collect.Refused (refused.Stranger s)))) a = absurd (let e = a.1 in cc)
@@ -161,6 +161,16 @@ arrived_of : (sources : List (List ℕ)) (faults : List (Option FileFault)) (out
 arrived_of sources faults outcomes (Ok report) (sound, (held, ran, finished, is)) =
     subst (IsReportOf (roster sources) (arrivals_of outcomes)) (sym is) (finished_report (roster sources) (arrivals_of outcomes) held ran finished)
 arrived_of sources faults outcomes (Err fault) a = tt
+
+-- a source is refused only if allocation failed for none
+memory_first_of : (sources : List (List ℕ)) (faults : List (Option FileFault)) (comes : Result (List SenderState) Refused) (result : Result Report AuditFault)
+    → Concludes sources faults comes result → MemoryComesFirst faults result
+memory_first_of sources faults comes (Ok report) a = tt
+memory_first_of sources faults comes (Err (Sender name part fault)) a = a.1
+memory_first_of sources faults comes (Err (Collect fault)) a = tt
+memory_first_of sources faults comes (Err NoThread) a = tt
+memory_first_of sources faults comes (Err Memory) a = tt
+memory_first_of sources faults comes (Err TooManyParts) a = tt
 
 -- a result of a run
 audited : (names : Names) (sources : List (List ℕ)) (readable_bytes : List (Option Ahead)) (workers : ℕ) (old new : PassView) (faults : List (Option FileFault)) (comes : Result (List SenderState) Refused) (result : Result Report AuditFault)
@@ -233,6 +243,7 @@ settled names sources readable_bytes count workers p p1 p2 p3 prepared ended g r
       gained = ap (λ (x : PassView). x.outcomes_taken) three;
       all = all;
       outcome = come_to names sources readable_bytes states workers outcomes result stated.1 stated_all decided;
+      memory_first = memory_first_of sources (faults_of states) _ result decided;
       arrived = arrived_of sources (faults_of states) outcomes result decided;
       whole = ap (λ (x : PassView). x.weight) three ∙ whole;
       same_handoff = ap (λ (x : PassView). x.handoff) three;

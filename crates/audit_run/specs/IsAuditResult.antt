@@ -7,6 +7,7 @@ use Rattle.audit_collect.specs.declared.fault.RosterFault.TheVariants as roster_
 use Rattle.audit_collect.specs.declared.report.Report.{Report}
 use Rattle.audit_files.specs.Feeding.{Ahead}
 use Rattle.audit_files.specs.declared.fault.FileFault.{FileFault}
+use Rattle.audit_files.specs.declared.fault.FileFault.TheVariants as file_fault
 use Rattle.audit_files.specs.Faults.{IsNotOutOfMemory}
 use Rattle.audit_run.specs.declared.message.Job.{Job}
 use Rattle.audit_run.specs.declared.message.Job.TheVariants.{Stop}
@@ -41,6 +42,19 @@ IsRefusedSource sources faults name part fault =
     (index : ℕ) × IsFirstFileFault faults index fault × IsNotOutOfMemory fault
     × (slice_get sources index ≡ Some name) × (part ≡ part_number sources index name)
 
+-- allocation failed for no source
+abbrev pub NoneOutOfMemory : List (Option FileFault) → Type 0
+NoneOutOfMemory faults = (index : ℕ) → slice_get faults index ≡ Some (Some file_fault.Memory) → ⊥
+
+-- `Memory` comes before `Sender`: a source is refused only if allocation failed for no source
+abbrev pub MemoryComesFirst : List (Option FileFault) → Result Report AuditFault → Type 0
+MemoryComesFirst faults (Ok report) = ⊤
+MemoryComesFirst faults (Err (Sender name part fault)) = NoneOutOfMemory faults
+MemoryComesFirst faults (Err (Collect fault)) = ⊤
+MemoryComesFirst faults (Err NoThread) = ⊤
+MemoryComesFirst faults (Err Memory) = ⊤
+MemoryComesFirst faults (Err TooManyParts) = ⊤
+
 -- a report is that of the arrivals that the workers put, which are complete
 abbrev pub IsReportOfArrived : List (List ℕ) → List Outcome → Result Report AuditFault → Type 0
 IsReportOfArrived sources outcomes (Ok report) = IsReportOf (roster sources) (arrivals_of outcomes) report
@@ -74,6 +88,7 @@ pub record IsRunOutcome (names : Names) (sources : List (List ℕ)) (readable_by
   pub gained : new.outcomes_taken ≡ old.outcomes_taken ++ outcomes
   pub all : IsPermutation (map (answer names) (replicate workers Stop ++ put)) outcomes
   pub outcome : IsOutcome names sources states result
+  pub memory_first : MemoryComesFirst (faults_of states) result
   pub arrived : IsReportOfArrived sources outcomes result
   pub whole : IsOnlyPass new
   pub same_handoff : new.handoff ≡ old.handoff

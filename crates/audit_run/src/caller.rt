@@ -141,8 +141,8 @@ fn put_stops<R: Wait>(
     }
 }
 
-/// Gathers until each source has ended, stops the workers, and gathers until each has stopped.
-/// Counts each outcome when it is taken, so their order does not matter.
+/// Gathers until as many sources have ended as there are, stops the workers, and gathers until as many
+/// of them have stopped. Counts each outcome when it is taken, so their order does not matter.
 pub fn gather_all<R: Wait>(
     rt: &R,
     handoff: &Handoff,
@@ -153,9 +153,8 @@ pub fn gather_all<R: Wait>(
     workers: usize,
 )
     requires { pass.old.handoff ≡ handoff.now }
-    ensures taken { HasGatheredAll pass.old gathering.old
+    ensures { HasGatheredAll pass.old gathering.old sources workers
         (replicate workers job.Stop) pass.new gathering.new }
-    ensures ended { (gathering.new.sources_running ≡ 0) × (gathering.new.workers_running ≡ 0) }
 {
     gathering.sources_running = sources;
     gathering.workers_running = workers;

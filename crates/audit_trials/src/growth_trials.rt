@@ -5,7 +5,7 @@ use crate::order_trials::{Step, in_order, roster, two_and_one};
 use crate::queue_trials::used;
 use crate::report_trials::{TWO_ANSWERS, two_answers, two_files};
 use crate::rows::{REPORT, SOURCES, sources};
-use audit_collect::{Arrival, Collector, Refused, Report};
+use audit_collect::{Arrival, CollectFault, Collector, Refused, Report, RosterFault, collect_all};
 use audit_files::{
     FileFault, Requests, Script, read_hosts, read_requests, read_users, report_text, write_all_of,
 };
@@ -122,6 +122,84 @@ fn memory_for_arrivals_in_any_of_120_orders(rt: HostRuntime) -> Result<(), Fail>
     let wanted = two_and_one(rt.alloc())?;
     let orders = orders(rt.alloc(), 120, &wanted)?;
     swept(rt.alloc(), &rt, ROOM, &orders)
+}
+
+/// A collector, made, or all arrivals collected by one call.
+#[derive(Clone, Copy)]
+enum Call {
+    New,
+    CollectAll,
+}
+
+/// A call for those arrivals in the first order.
+#[derive(Drop)]
+struct Collecting<'a> {
+    arrivals: Arrivals<'a>,
+    call: Call,
+}
+
+impl Collecting<'_> {
+    /// Makes a collector with little memory, which then collects the arrivals with memory.
+    fn made(&self, memory: &mut Memory) -> Result<End, Fail> {
+        let alloc = self.arrivals.alloc;
+        let arrivals = self.arrivals.arrivals()?;
+        let names = roster(alloc, b"ab")?;
+        memory.take();
+        let answer = Collector::new(alloc, names);
+        memory.give_back();
+        Ok(match answer {
+            Ok(collector) => End::of(makes(collector, arrivals, self.arrivals.wanted)),
+            Err(RosterFault::Memory) => End::Refused,
+            Err(_) => End::Wrong,
+        })
+    }
+
+    /// Collects the arrivals with little memory.
+    fn collected(&self, memory: &mut Memory) -> Result<End, Fail> {
+        let alloc = self.arrivals.alloc;
+        let arrivals = self.arrivals.arrivals()?;
+        let names = roster(alloc, b"ab")?;
+        memory.take();
+        let answer = collect_all(alloc, names, arrivals);
+        memory.give_back();
+        Ok(match answer {
+            Ok(report) => End::of(report == *self.arrivals.wanted),
+            Err(CollectFault::Roster(RosterFault::Memory)) => End::Refused,
+            Err(CollectFault::Refused(Refused::Memory)) => End::Refused,
+            Err(_) => End::Wrong,
+        })
+    }
+}
+
+impl Trial for Collecting<'_> {
+    fn once<R: Threads + Wait + Sync>(&self, _rt: &R, memory: &mut Memory) -> Result<End, Fail> {
+        match self.call {
+            Call::New => self.made(memory),
+            Call::CollectAll => self.collected(memory),
+        }
+    }
+}
+
+#[test]
+fn memory_for_a_collector(rt: HostRuntime) -> Result<(), Fail> {
+    let alloc = rt.alloc();
+    let wanted = two_and_one(alloc)?;
+    let collecting = |call: Call| -> Collecting<'_> {
+        Collecting {
+            arrivals: Arrivals {
+                alloc,
+                order: 0,
+                wanted: &wanted,
+            },
+            call,
+        }
+    };
+    swept(
+        alloc,
+        &rt,
+        ROOM,
+        &[collecting(Call::New), collecting(Call::CollectAll)],
+    )
 }
 
 const USERS: &[u8] = b"user,uid,groups\nroot,0,root:0\nalice,1000,alice:1000 adm:4\n";
@@ -315,7 +393,7 @@ impl Trial for Queues<'_> {
         match answer {
             Ok((handoff, mut pass)) => {
                 let (put, is_back, first) = used(rt, &handoff, &mut pass);
-                Ok(End::of(put == 256 && is_back && first == Some(0)))
+                Ok(End::of(put == 256 && is_back && first == Some(1)))
             }
             Err(_) => Ok(End::Refused),
         }

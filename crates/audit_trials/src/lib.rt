@@ -25,4 +25,6 @@ mod standing_trials;
 #[cfg(test)]
 mod thread_trials;
 #[cfg(test)]
+mod verdict_trials;
+#[cfg(test)]
 mod wake_trials;

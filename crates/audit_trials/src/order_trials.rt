@@ -233,6 +233,25 @@ fn released_len(collector: &Collector, sender: u32) -> Option<usize> {
     }
 }
 
+// Whether the collector answers each step as the step says, and has then released so many answers of the sender 0.
+fn takes(alloc: Global, collector: &mut Collector, steps: &[(Step, Option<Refused>, usize)]) -> bool {
+    for (step, wanted, released) in steps {
+        let is_as_wanted = refusal(collector, arrival(alloc, *step)) == *wanted;
+        if !is_as_wanted || released_len(collector, 0) != Some(*released) {
+            return false;
+        }
+    }
+    true
+}
+
+// Returns the collector of a report that is not finished, and what is missing.
+fn unfinished(collector: Collector) -> Result<(Collector, Unfinished), AllocError> {
+    match collector.finish() {
+        Ok(_report) => Err(AllocError),
+        Err(unfinished) => Ok(unfinished),
+    }
+}
+
 #[test]
 fn what_is_refused_changes_nothing(rt: HostRuntime) -> Result<(), AllocError> {
     let alloc = rt.alloc();
@@ -243,43 +262,36 @@ fn what_is_refused_changes_nothing(rt: HostRuntime) -> Result<(), AllocError> {
         sender: 0,
         number: 2,
     };
+    let zero = Refused::ZeroNumber { sender: 0 };
+    let steps = [
+        (Step::Reply(0, 2), None, 0),
+        (Step::Unknown(0, 2), Some(double), 0),
+        (Step::Reply(1, 1), Some(Refused::Stranger { sender: 1 }), 0),
+        (Step::Reply(0, 0), Some(zero), 0),
+    ];
+    assert!(rt; takes(alloc, &mut collector, &steps));
+    assert!(rt; released_len(&collector, 1).is_none());
+    let (mut collector, open) = unfinished(collector)?;
+    assert!(rt; open == Unfinished::Open { sender: 0 });
     let past = Refused::PastClose {
         sender: 0,
         number: 5,
     };
-    for (step, wanted, released) in [
-        (Step::Reply(0, 2), None, 0),
-        (Step::Unknown(0, 2), Some(double), 0),
-        (Step::Reply(1, 1), Some(Refused::Stranger { sender: 1 }), 0),
-        (
-            Step::Reply(0, 0),
-            Some(Refused::ZeroNumber { sender: 0 }),
-            0,
-        ),
+    let again = Refused::ClosedTwice { sender: 0 };
+    let steps = [
         (Step::Close(0, 4), None, 0),
         (Step::Reply(0, 5), Some(past), 0),
-        (
-            Step::Close(0, 4),
-            Some(Refused::ClosedTwice { sender: 0 }),
-            0,
-        ),
+        (Step::Close(0, 4), Some(again), 0),
+    ];
+    assert!(rt; takes(alloc, &mut collector, &steps));
+    let (mut collector, gap) = unfinished(collector)?;
+    assert!(rt; gap == Unfinished::Gap { sender: 0, number: 1 });
+    let steps = [
         (Step::Reply(0, 4), None, 0),
         (Step::Reply(0, 1), None, 2),
-    ] {
-        assert!(rt; refusal(&mut collector, arrival(alloc, step)) == wanted);
-        assert!(rt; released_len(&collector, 0) == Some(released));
-    }
-    assert!(rt; released_len(&collector, 1).is_none());
-    let missing = Unfinished::Gap {
-        sender: 0,
-        number: 3,
-    };
-    let Err((mut collector, lacking)) = collector.finish() else {
-        return Err(AllocError);
-    };
-    assert!(rt; lacking == missing);
-    assert!(rt; refusal(&mut collector, arrival(alloc, Step::Reply(0, 3))).is_none());
-    assert!(rt; released_len(&collector, 0) == Some(4));
+        (Step::Reply(0, 3), None, 4),
+    ];
+    assert!(rt; takes(alloc, &mut collector, &steps));
     let mut senders = Vec::new(alloc);
     senders.push(sender_report(alloc, b'a', 0, 4)?)?;
     let wanted = Report {

@@ -18,13 +18,13 @@ fn puts_close<R: Wait>(rt: &R, handoff: &Handoff, pass: &mut Pass, count: u32) -
     }
 }
 
-// Puts 256 close marks, and returns how many succeeded.
+// Puts close marks with the counts 1 to 256, and returns how many succeeded.
 fn filled<R: Wait>(rt: &R, handoff: &Handoff, pass: &mut Pass) -> u32
     requires { pass.old.handoff ≡ handoff.now }
     ensures { pass.new.handoff ≡ handoff.now }
 {
     let mut put = 0u32;
-    for count in 0..256u32 {
+    for count in 1..257u32 {
         if puts_close(rt, handoff, pass, count) {
             put = put.saturating_add(1);
         }
@@ -32,14 +32,24 @@ fn filled<R: Wait>(rt: &R, handoff: &Handoff, pass: &mut Pass) -> u32
     put
 }
 
-// Whether putting `Stop` returns it.
-fn hands_stop_back<R: Wait>(rt: &R, handoff: &Handoff, pass: &mut Pass) -> bool
+// Whether putting a close mark with the count 257 hands it back.
+fn hands_back<R: Wait>(rt: &R, handoff: &Handoff, pass: &mut Pass) -> bool
     requires { pass.old.handoff ≡ handoff.now }
     ensures { pass.new.handoff ≡ handoff.now }
 {
-    match handoff.put_job(rt, pass, Job::Stop) {
+    let last = Job::Close {
+        sender: 0,
+        count: 257,
+    };
+    match handoff.put_job(rt, pass, last) {
         Ok(()) => false,
-        Err(back) => matches!(&back, Job::Stop),
+        Err(back) => matches!(
+            &back,
+            Job::Close {
+                sender: 0,
+                count: 257
+            }
+        ),
     }
 }
 
@@ -54,13 +64,13 @@ fn taken_count<R: Wait>(rt: &R, handoff: &Handoff, pass: &mut Pass) -> Option<u3
     }
 }
 
-/// Returns how many close marks were put, whether `Stop` was returned, and the count of the first
-/// close mark taken.
+/// Returns how many of 256 close marks were put, whether the 257th was handed back, and the count of the
+/// first one taken.
 pub(crate) fn used<R: Wait>(rt: &R, handoff: &Handoff, pass: &mut Pass) -> (u32, bool, Option<u32>)
     requires { pass.old.handoff ≡ handoff.now }
 {
     let put = filled(rt, handoff, pass);
-    let is_back = hands_stop_back(rt, handoff, pass);
+    let is_back = hands_back(rt, handoff, pass);
     (put, is_back, taken_count(rt, handoff, pass))
 }
 
@@ -85,6 +95,6 @@ fn a_full_queue_hands_back(rt: HostRuntime) -> Result<(), Fail> {
     let (put, is_back, first) = used_anew(rt.alloc(), &rt)?;
     assert_eq!(rt; put, 256);
     assert!(rt; is_back);
-    assert_eq!(rt; first, Some(0));
+    assert_eq!(rt; first, Some(1));
     Ok(())
 }

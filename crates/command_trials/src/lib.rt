@@ -4,6 +4,8 @@
 #[cfg(test)]
 mod fault_trials;
 #[cfg(test)]
+mod growth_trials;
+#[cfg(test)]
 mod run_trials;
 #[cfg(test)]
 mod runs;

@@ -9,6 +9,7 @@ use std::thread::Threads;
 use sudo_load::{LoadFault, Supply, load};
 use sudo_policy::{
     CheckFault, Checked, ExpandFault, Finding, Kind, Policy, Signed, check, expand, findings,
+    member_text,
 };
 
 /// Aliases `A0` to `A30`, each but the last of which names the next, and a rule for each.
@@ -68,6 +69,40 @@ impl Trial for Expanding {
 #[test]
 fn memory_for_an_alias_written_out(rt: HostRuntime) -> Result<(), Fail> {
     swept(rt.alloc(), &rt, ROOM, &[Expanding::new(rt.alloc())?])
+}
+
+/// A member of an alias that is written out, as text.
+#[derive(Drop)]
+struct Printing {
+    alloc: Global,
+    members: Vec<Signed>,
+}
+
+impl Trial for Printing {
+    fn once<R: Threads + Wait + Sync>(&self, _rt: &R, memory: &mut Memory) -> Result<End, Fail> {
+        let Some(member) = self.members.last() else {
+            return Ok(End::Wrong);
+        };
+        memory.take();
+        let answer = member_text(self.alloc, member);
+        memory.give_back();
+        Ok(match answer {
+            Ok(text) => End::of(text.as_slice() == b"!/bin/c0".as_slice()),
+            Err(_) => End::Refused,
+        })
+    }
+}
+
+#[test]
+fn memory_for_the_text_of_a_member(rt: HostRuntime) -> Result<(), Fail> {
+    let expanding = Expanding::new(rt.alloc())?;
+    let members = expanding.members();
+    drop(expanding);
+    let printing = Printing {
+        alloc: rt.alloc(),
+        members: members?,
+    };
+    swept(rt.alloc(), &rt, ROOM, &[printing])
 }
 
 /// The findings on a policy.

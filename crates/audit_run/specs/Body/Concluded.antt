@@ -12,7 +12,7 @@ use Rattle.audit_collect.specs.declared.report.Report.{Report}
 use Rattle.audit_files.specs.declared.fault.FileFault.{FileFault}
 use Rattle.audit_run.specs.declared.fault.AuditFault.{AuditFault}
 use Rattle.audit_run.specs.declared.fault.AuditFault.TheVariants.{Sender, Collect, NoThread, Memory, TooManyParts}
-use Rattle.audit_run.specs.IsAuditResult.{IsRefusedSource, NoneRefused}
+use Rattle.audit_run.specs.IsAuditResult.{IsRefusedSource, NoneOutOfMemory, NoneRefused}
 
 -- the fault of a roster of these senders
 abbrev pub RefusesSenders : List (List ℕ) → AuditFault → Type 0
@@ -32,7 +32,7 @@ RefusesSenders senders TooManyParts = ⊥
 abbrev pub Concludes : List (List ℕ) → List (Option FileFault) → Result (List SenderState) Refused → Result Report AuditFault → Type 0
 Concludes names faults comes (Ok report) = NoneRefused faults × ((held : List SenderState) × (comes ≡ Ok held) × AllFinished held × (report ≡ report_of held))
 Concludes names faults comes (Err (Sender name part fault)) =
-    IsRefusedSource names faults name part fault × (comes ≡ Err refused.Memory → ⊥)
+    IsRefusedSource names faults name part fault × NoneOutOfMemory faults × (comes ≡ Err refused.Memory → ⊥)
 Concludes names faults comes (Err (Collect (collect.Roster why))) = ⊥
 Concludes names faults comes (Err (Collect (collect.Refused refused.Memory))) = ⊥
 Concludes names faults comes (Err (Collect (collect.Refused (refused.Stranger sender)))) = NoneRefused faults × (comes ≡ Err (refused.Stranger sender))

@@ -1,6 +1,6 @@
 -- The part of the caller's thread: it takes outcomes and offers each arrival to one collector, up
 -- to the first refusal. Only the proofs of bodies use these definitions.
-use Rattle.std.specs.Prelude.{◌≡◌, ◌⊎◌, ℕ, ◌-◌, Bool, true, false, List, [], ◌++◌, map, count_by, Option, Some, None, Result, Err}
+use Rattle.std.specs.Prelude.{◌≡◌, ◌⊎◌, ℕ, ◌-◌, ◌≤◌, Bool, true, false, List, [], ◌++◌, map, count_by, Option, Some, None, Result, Err}
 use Rattle.audit_collect.specs.SenderState.{SenderState, after}
 use Rattle.audit_collect.specs.declared.arrival.Arrival.{Arrival}
 use Rattle.audit_collect.specs.declared.fault.Refused.{Refused}
@@ -63,11 +63,14 @@ pub record Conducts (p : PassView) (g : Gathering) (jobs : List Job) (q : PassVi
   pub gathered : Gathers g outcomes h
   pub counted : Counts g outcomes h
 
--- the same, without the counts of running threads
-pub record HasGatheredAll (p : PassView) (g : Gathering) (jobs : List Job) (q : PassView) (h : Gathering) : Type 0 where
+-- the same, until this many sources and this many workers have ended: the last outcome of each is
+-- among those that were taken
+pub record HasGatheredAll (p : PassView) (g : Gathering) (sources workers : ℕ) (jobs : List Job) (q : PassView) (h : Gathering) : Type 0 where
   pub outcomes : List Outcome
   pub pass : q ≡ with_messages p jobs [] [] outcomes
   pub gathered : Gathers g outcomes h
+  pub sources_ended : sources ≤ count_by is_last_outcome outcomes
+  pub workers_ended : workers ≤ count_by is_stopped outcomes
 
 -- the pass has taken jobs, put their answers, and taken outcomes, and these were gathered
 pub record Drains (names : Names) (p : PassView) (g : Gathering) (q : PassView) (h : Gathering) : Type 0 where

@@ -13,7 +13,7 @@ returns g c = elim c.if-all_workers.branch [
   | then-all_workers w ↦ λ started.
       let (parts, put, read, pass, have_put, faults) = c.join_readers.ensures in
       let (jobs, worked) = c.join_workers.ensures in
-      let gathered = c.gather_all.ensures.taken in
+      let gathered = c.gather_all.ensures in
       let all = w.start_readers-all_started.ensures.all (subst IsTrue w.all_started-is started) in
       let same : map (λ h. part_ahead h.promise.owner (g.F.Feed.ahead h.promise.reader.value)) c.if-all_workers.readers.items ≡ map (λ p. part_ahead p.owner (g.F.Feed.ahead p.reader)) c.args.parts.items = ap (λ v. map (λ h. part_ahead h.promise.owner (g.F.Feed.ahead h.promise.reader.value)) v.items) w.readers-is ∙ all in
       let handles_long = length-map (λ h. part_ahead h.promise.owner (g.F.Feed.ahead h.promise.reader.value)) c.if-all_workers.readers.items in
