@@ -7,7 +7,7 @@ import os
 from collections.abc import Callable, Iterator, Sequence
 from typing import NamedTuple
 
-from kulavemia import compare, directory, probe, program, sorting, unknown
+from kulavemia import compare, directory, probe, program, sorting, unknown, unread
 from kulavemia.command import WORDS, Fault, warn
 from kulavemia.page import REPORT, Inputs, Page, want_jinja
 from kulavemia.page import write as write_page
@@ -81,6 +81,7 @@ class Replay:
         self.probe = ""
         self.changes = ""
         self.gained = False
+        self.unread = False
 
     def _folder(self, name: str) -> str:
         return os.path.join(self.given.out, name)
@@ -103,10 +104,12 @@ class Replay:
     def _read_logs(self) -> None:
         self.requests = self._folder("requests")
         self.given.users = self.given.users or self.found.users
+        self.given.hosts = self.found.hosts
         found = sorting.sort(self.found.logs, self.requests, self.given)
         self.say(f"logs: {sorting.told(found.counts)}")
-        warning = unknown.warning(found.hosts, directory.hosts_in(self.found.hosts))
-        if warning:
+        self.unread = unread.is_most(found.counts)
+        unjudged = unknown.warning(found.hosts, directory.hosts_in(self.found.hosts))
+        for warning in filter(None, [*unread.warnings(found.counts), unjudged]):
             warn(warning)
         self._audit(self.requests, self.found.policy, REPORT)
 
