@@ -12,8 +12,6 @@ from kulavemia.requests import LOG_KEY, Request, Source, Writer, batches, source
 
 AUTH = os.path.join(DATA, "auth.log")
 LINE = "Nov 20 10:01:02 {host} sudo[1]: {user} : TTY=pts/0 ; PWD=/ ; USER={target} ; COMMAND={command}\n"
-
-
 OWN_LINE = "Nov 20 10:01:02 : alice : TTY=pts/0 ; PWD=/ ; USER=root ; COMMAND=/bin/id\n"
 
 
