@@ -72,6 +72,8 @@ def parser(purpose: str, more: Mapping[int, str] | None = None) -> argparse.Argu
 
 def run(main: Callable[[], int]) -> NoReturn:
     """Runs a command and ends the process with its status."""
+    # What is written is its owner's alone, unless the command says otherwise.
+    os.umask(0o077)
     # A stream that is closed is None here.
     sys.stdin, sys.stdout, sys.stderr = (
         stream or open(os.devnull, mode) for stream, mode in ((sys.stdin, "r"), (sys.stdout, "w"), (sys.stderr, "w"))
@@ -80,17 +82,35 @@ def run(main: Callable[[], int]) -> NoReturn:
         stream.reconfigure(encoding="utf-8", errors=errors)
     try:
         status = main()
-        sys.stdout.flush()
+        _flush()
     except Fault as fault:
         tell(str(fault))
         status = fault.status
     except BrokenPipeError:
-        os.dup2(os.open(os.devnull, os.O_WRONLY), sys.stdout.fileno())
+        _drop_output()
         status = FAILED
     except OSError as error:
         place = f"{os.fsdecode(error.filename)}: " if error.filename is not None else ""
         tell(place + (error.strerror or str(error)))
         status = FAILED
+    except MemoryError:
+        tell("out of memory")
+        status = FAILED
     except KeyboardInterrupt:
         status = 130
     sys.exit(status)
+
+
+def _flush() -> None:
+    """Writes out what standard output still holds. Raises `OSError` with its name."""
+    try:
+        sys.stdout.flush()
+    except OSError as error:
+        error.filename = "standard output"
+        _drop_output()
+        raise
+
+
+def _drop_output() -> None:
+    """Drops what standard output cannot take, so that the end of the process does not try again."""
+    os.dup2(os.open(os.devnull, os.O_WRONLY), sys.stdout.fileno())

@@ -6,44 +6,51 @@ Bytes that are no UTF-8 pass through unchanged.
 import contextlib
 import csv
 import io
-import os
 import re
 from collections.abc import Iterable, Iterator, Sequence
+from typing import BinaryIO
 
+from kulavemia import foreign, outputs
 from kulavemia.command import Fault
 
 csv.field_size_limit(1 << 28)
 
+# The longest line of a file of rows, in characters.
+_LINE_LIMIT = 1 << 24
 _QUOTED = re.compile('[",\r\n]')
 
 
 def open_read(path: str) -> io.TextIOWrapper:
     """Opens a file for reading, whatever its bytes are."""
-    return open(path, encoding="utf-8", errors="surrogateescape", newline="")
+    return _text(foreign.opened(path, foreign.TABLE_CAP))
 
 
-def open_write(path: str, mode: str = "w") -> io.TextIOWrapper:
-    """Opens a file for writing, whatever its bytes will be."""
-    return open(path, mode, encoding="utf-8", errors="surrogateescape", newline="")
+@contextlib.contextmanager
+def open_write(path: str, mode: str = "w") -> Iterator[io.TextIOWrapper]:
+    """Opens a file for writing, whatever its bytes will be: what takes its place once it is whole, or (`a`) its end."""
+    with outputs.appended(path) if mode == "a" else outputs.written(path) as file, _written_text(file) as text:
+        yield text
 
 
 @contextlib.contextmanager
 def replacing(path: str) -> Iterator[io.TextIOWrapper]:
-    """Opens what takes the place of a file once all of it is written; what is no regular file is written as it is."""
-    path = os.path.realpath(path)
-    if os.path.exists(path) and not os.path.isfile(path):
-        with open_write(path) as file:
-            yield file
-        return
-    part = path + ".part"
+    """Opens what takes the place of a file once all of it is written; a terminal, a pipe or the like is written as it is."""
+    with outputs.replacing(path) as file, _written_text(file) as text:
+        yield text
+
+
+def _text(file: BinaryIO) -> io.TextIOWrapper:
+    return io.TextIOWrapper(file, encoding="utf-8", errors="surrogateescape", newline="")
+
+
+@contextlib.contextmanager
+def _written_text(file: BinaryIO) -> Iterator[io.TextIOWrapper]:
+    """Yields a file as text, and leaves the file open."""
+    text = _text(file)
     try:
-        with open_write(part) as file:
-            yield file
-        os.replace(part, path)
-    except BaseException:
-        with contextlib.suppress(FileNotFoundError):
-            os.unlink(part)
-        raise
+        yield text
+    finally:
+        text.detach()
 
 
 def row(fields: Sequence[str]) -> str:
@@ -71,9 +78,19 @@ def header_of(path: str) -> list[str]:
     """Returns the first record of a file, empty if it has none."""
     with open_read(path) as file:
         try:
-            return _first(csv.reader(file, strict=True))
+            return _first(csv.reader(_lines(path, file), strict=True))
         except csv.Error as error:
             raise Fault(f"{path}:1: {error}") from None
+
+
+def _lines(path: str, file: io.TextIOWrapper) -> Iterator[str]:
+    """Yields the lines of a file with their ends. Raises `Fault` at one that is too long."""
+    line = 0
+    while text := file.readline(_LINE_LIMIT):
+        line += 1
+        if len(text) == _LINE_LIMIT and not text.endswith("\n"):
+            raise Fault(f"{path}:{line}: the line has more than {_LINE_LIMIT} characters")
+        yield text
 
 
 def _first(reader: Iterator[list[str]]) -> list[str]:
@@ -85,7 +102,7 @@ def _first(reader: Iterator[list[str]]) -> list[str]:
 def records(path: str, header: Sequence[str]) -> Iterator[tuple[int, list[str]]]:
     """Yields each record after the header with its line. Raises `Fault` at another header or number of fields."""
     with open_read(path) as file:
-        reader = csv.reader(file, strict=True)
+        reader = csv.reader(_lines(path, file), strict=True)
         try:
             if _first(reader) != list(header):
                 raise Fault(f"{path}:1: bad header, expected {','.join(header)}")
