@@ -63,11 +63,25 @@ def parser(purpose: str, more: Mapping[int, str] | None = None) -> argparse.Argu
     """Returns a parser whose help says what the command does and how it ends."""
     meanings = dict(sorted({**MEANINGS, **(more or {})}.items()))
     statuses = "\n".join(f"  {status}  {meaning}" for status, meaning in meanings.items())
-    return argparse.ArgumentParser(
+    words = argparse.ArgumentParser(
         description=purpose,
         epilog=f"exit status:\n{statuses}",
         formatter_class=argparse.RawDescriptionHelpFormatter,
     )
+    add_version(words)
+    return words
+
+
+def version() -> str:
+    """Returns the version, which the file VERSION above the folder of the tools has."""
+    tools = os.path.dirname(os.path.dirname(os.path.realpath(__file__)))
+    with open(os.path.join(os.path.dirname(tools), "VERSION"), encoding="utf-8") as file:
+        return file.read().strip()
+
+
+def add_version(words: argparse.ArgumentParser) -> None:
+    """Adds the option that prints the version."""
+    words.add_argument("--version", action="version", version=f"%(prog)s {version()}")
 
 
 def run(main: Callable[[], int]) -> NoReturn:

@@ -7,7 +7,7 @@ import os
 from collections.abc import Callable, Iterator, Sequence
 from typing import NamedTuple
 
-from kulavemia import compare, directory, probe, program, sorting, unknown, unread
+from kulavemia import compare, directory, missing, probe, program, sorting, unknown, unread
 from kulavemia.command import WORDS, Fault, warn
 from kulavemia.page import REPORT, Inputs, Page, want_jinja
 from kulavemia.page import write as write_page
@@ -91,6 +91,9 @@ class Replay:
 
     def run(self) -> None:
         """Runs all steps."""
+        if self.given.collected:
+            for warning in missing.warnings([self.given.collected], self.given.collected):
+                warn(warning)
         found = program.check(self.program, self.found.policy.file(), self.found.policy.root)
         self.say(f"check: {len(found.splitlines()) - 1} warnings")
         if self.found.logs:
