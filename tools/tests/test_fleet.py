@@ -72,6 +72,16 @@ class Parts(FleetCase):
             + ["the folder is a link"],
         )
 
+    def test_what_a_host_could_not_gather_is_a_warning(self) -> None:
+        self.host("web1")
+        self.host("web2")
+        self.write("fleet/web2/missing", "/etc/nsswitch.conf: sudoers: files sss: not gathered\n")
+        self.assertNotIn("warning", self.fleet("--part", "1/1")[1])
+        self.assertIn(
+            "fleet: warning: fleet/web2/missing: /etc/nsswitch.conf: sudoers: files sss: not gathered\n",
+            self.fleet("--join")[1],
+        )
+
     def test_words(self) -> None:
         self.host("web1")
         self.assertIn("name one", self.fleet("--join", "--part", "1/1", status=2)[1])

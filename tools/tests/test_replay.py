@@ -83,7 +83,11 @@ class Replay(Case):
         self.write("web1/group", "root:x:0:\njen:x:1:\n")
         self.write("web1/addr.json", "[]")
         self.write("web1/hostname", "web1.example.org\n")
-        self.replay("--collected", "web1")
+        self.write("web1/missing", "/etc/nsswitch.conf: sudoers: files sss: not gathered\n")
+        self.assertEqual(
+            self.replay("--collected", "web1")[1],
+            "replay: warning: web1/missing: /etc/nsswitch.conf: sudoers: files sss: not gathered\n",
+        )
         self.assertIn(
             "web1_example_org,2,allow,/etc/sudoers.d/10-jen:1,SETENV", self.rows("out", "requests", "report.csv")
         )
