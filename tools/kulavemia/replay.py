@@ -98,6 +98,8 @@ class Replay:
         self.say(f"check: {len(found.splitlines()) - 1} warnings")
         if self.found.logs:
             self._read_logs()
+        else:
+            warn(f"there is no log: {'nothing is' if self.given.no_probe else 'probes alone are'} audited")
         if not self.given.no_probe:
             self._probe()
         if self.found.old_policy:

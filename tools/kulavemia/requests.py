@@ -9,7 +9,7 @@ import re
 from collections.abc import Iterable, Iterator, Sequence
 from typing import NamedTuple
 
-from kulavemia.command import WORDS, Fault
+from kulavemia.command import WORDS, Fault, warn
 from kulavemia.rows import open_write, records, row, write_rows
 
 REQUESTS_LIMIT = 1_000_000
@@ -137,10 +137,15 @@ class Writer:
         return sender.number
 
     def finish(self) -> int:
-        """Closes each sender's list, writes the table of senders, and returns how many requests there are."""
+        """Closes each sender's list, writes the table of senders, and returns how many requests there are.
+
+        Warns where there is no sender: the program audits nothing then, and says nothing of it.
+        """
         for sender in self.senders.values():
             self.files.append(sender.requests, f"close,{sender.number},,,,,\n")
         self.files.flush()
+        if not self.senders:
+            warn(f"{self.folder} has no requests: an audit of it has no source")
         write_rows(os.path.join(self.folder, "senders.csv"), SENDERS_HEADER, self._rows())
         return sum(sender.number for sender in self.senders.values())
 

@@ -5,17 +5,17 @@ from collections.abc import Mapping
 from kulavemia.logs import FORGED, UNREAD
 from kulavemia.messages import ACCEPTED, FAILED, REFUSED
 
-_REQUESTS = (ACCEPTED, REFUSED, FAILED)
+_TAKEN = (ACCEPTED, REFUSED, FAILED, "lists")
 MEANING = "an input is refused, or most of sudo's lines could not be read; what could is written"
 
 
 def is_most(counts: Mapping[str, int]) -> bool:
     """Returns whether more lines under sudo's name were left out than were taken."""
-    return _left_out(counts) > _requests(counts) + counts["lists"]
+    return _left_out(counts) > _taken(counts)
 
 
 def warnings(counts: Mapping[str, int]) -> list[str]:
-    """Returns what to say of lines that were left out, and of a folder without requests."""
+    """Returns what to say of lines that were left out."""
     found = []
     if counts[FORGED]:
         found.append(
@@ -24,16 +24,14 @@ def warnings(counts: Mapping[str, int]) -> list[str]:
         )
     if is_most(counts):
         found.append(
-            f"{_left_out(counts)} of {_left_out(counts) + _requests(counts) + counts['lists']} of sudo's lines could"
-            " not be read: skipped.csv says why; --host names the host of lines without one"
+            f"{_left_out(counts)} of {_left_out(counts) + _taken(counts)} lines under sudo's name could not be read:"
+            " skipped.csv says why; --host names the host of lines without one"
         )
-    if not _requests(counts):
-        found.append("the logs have no requests: an audit of them has no source")
     return found
 
 
-def _requests(counts: Mapping[str, int]) -> int:
-    return sum(counts[outcome] for outcome in _REQUESTS)
+def _taken(counts: Mapping[str, int]) -> int:
+    return sum(counts[kind] for kind in _TAKEN)
 
 
 def _left_out(counts: Mapping[str, int]) -> int:

@@ -23,9 +23,9 @@ alice 192.0.2.0/24, shop1.example.org = (ALL : ALL) NOPASSWD: ALL
 max ALL = ALL, !/usr/bin/su
 """
 ASKED = (
-    ("alice", "/usr/bin/id", ""),
-    ("olga", "/usr/bin/journalctl", "--no-pager -u nginx"),
-    ("max", "/usr/bin/su", ""),
+    ("alice", "/usr/bin/id,"),
+    ("olga", "/usr/bin/journalctl,--no-pager -u nginx"),
+    ("max", "/usr/bin/su,"),
 )
 
 
@@ -41,7 +41,7 @@ class Rules(Case):
 
     @needs_program
     def test_an_audit(self) -> None:
-        rows = [f"{number},{user},shop1.example.org,,,{command},{words}" for number, (user, command, words) in enumerate(ASKED, 1)]
+        rows = [f"{number},{user},shop1.example.org,,,{asked}" for number, (user, asked) in enumerate(ASKED, 1)]
         asked = self.write("asked.csv", REQUESTS_HEADER + "\n".join([*rows, f"close,{len(rows)},,,,,\n"]))
         users = self.write("users.csv", "user,uid,groups\nroot,0,\nalice,1,\nolga,2,ops:901\nmax,3,\n")
         hosts = self.write("hosts.csv", "host,interfaces\nshop1.example.org,\n")
