@@ -96,6 +96,35 @@ class Replay(Case):
         )
         self.assertIn("jen ALL = ALL", self.read("out", "page.html"))
 
+    def test_lines_without_a_host_are_of_the_only_host(self) -> None:
+        self.write("directory/users.csv", "user,uid,groups\nroot,0,root:0\nguest,1,guest:1\n")
+        self.write("directory/hosts.csv", "host,interfaces\nweb1,\n")
+        policy = self.write("policy", "guest ALL = /usr/bin/id\n")
+        self.write("auth.log", "Nov 20 10:04:02 : guest : TTY=pts/0 ; PWD=/ ; USER=root ; COMMAND=/usr/bin/id\n")
+        words = ("--policy", policy, "--directory", "directory", "--no-probe")
+        out, err = self.replay(*words)
+        self.assertIn("logs: 1 accepted, 0 refused and 0 failed requests of 1 senders; 0 to list, 0 other lines\n", out)
+        self.assertEqual(err, "")
+        self.assertIn(f"web1,1,allow,{policy}:1,", self.rows("out", "requests", "report.csv"))
+        self.assertIn("In a file of syslog any user of the host can forge an entry.", self.read("out", "page.html"))
+
+    def test_a_log_of_lines_that_cannot_be_read(self) -> None:
+        self.write("auth.log", LOG.splitlines()[0] + "\n" + LOG.replace("Nov", "on Nov"))
+        example = ("--policy", f"{EXAMPLES}/sudoers", "--directory", EXAMPLES, "--no-probe")
+        out, err = self.replay(*example, status=3)
+        self.assertIn("logs: 1 accepted", out)
+        self.assertIn("4 of 5 lines under sudo's name could not be read", err)
+        self.assertTrue(os.path.exists(self.path("out", "page.html")))
+
+    def test_an_audit_without_a_source_says_so(self) -> None:
+        example = ("--policy", f"{EXAMPLES}/sudoers", "--directory", EXAMPLES, "--no-probe", "--out", "out")
+        self.assertEqual(
+            self.run_tool("replay", *example)[1], "replay: warning: there is no log: nothing is audited\n"
+        )
+        shutil.rmtree(self.path("out"))
+        self.write("auth.log", "Nov 20 10:01:02 web1 sshd[1]: hello\n")
+        self.assertIn("an audit of it has no source", self.run_tool("replay", *example, "auth.log")[1])
+
     def test_a_policy_of_another_machine(self) -> None:
         policy = self.write("web1/sudoers", "@includedir /etc/sudoers.d\n")
         err = self.replay("--policy", policy, "--directory", EXAMPLES, status=3)[1]
