@@ -6,7 +6,7 @@ from kulavemia.logs import FORGED, UNREAD
 from kulavemia.messages import ACCEPTED, FAILED, REFUSED
 
 _TAKEN = (ACCEPTED, REFUSED, FAILED, "lists")
-MEANING = "an input is refused, or most of sudo's lines could not be read; what could is written"
+MEANING = "an input is refused, or more lines under sudo's name were left out than read; what was read is written"
 
 
 def is_most(counts: Mapping[str, int]) -> bool:
