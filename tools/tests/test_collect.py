@@ -95,7 +95,7 @@ class Sources(MachineCase):
         self.write("root/etc/nsswitch.conf", nsswitch)
         words = ["chroot", self.path("root"), "/bin/sh", "-s", "--", "--no-logs"]
         with open(os.path.join(TOOLS, "collect"), "rb") as script:
-            done = subprocess.run(words, stdin=script, stdout=subprocess.PIPE, check=False)
+            done = subprocess.run(words, stdin=script, capture_output=True, check=False)
         with tarfile.open(fileobj=io.BytesIO(done.stdout)) as tar:
             return tar.extractfile("shop1.example.org/missing").read().decode().splitlines()
 
