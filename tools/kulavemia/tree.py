@@ -3,8 +3,9 @@
 import os
 from typing import NamedTuple
 
+from kulavemia import foreign, outputs
 from kulavemia.command import Fault, called
-from kulavemia.policy import Include, Line, beside, include_of, kept_files, lines_of, read, rewritten
+from kulavemia.policy import Include, Line, beside, include_of, is_kept, kept_files, lines_of, read, rewritten
 
 # The program follows includes 128 deep, and refuses a policy that goes deeper.
 DEPTH_LIMIT = 200
@@ -58,14 +59,17 @@ class _Copy:
         self.root = root
         self.seen: set[bytes] = set()
         self.files: dict[bytes, bytes] = {}
+        self.size = 0
 
     def take(self, path: bytes, depth: int = 0) -> None:
         """Takes a file, named as on its own machine, and what it includes."""
-        if path in self.seen or depth > DEPTH_LIMIT or not os.path.lexists(self.tree + path):
+        if path in self.seen or depth > DEPTH_LIMIT or not foreign.exists(self.tree + path, self.tree):
             return
         self.seen.add(path)
-        self._want_inside(path)
-        text = read(self.tree + path)
+        text = foreign.read(self.tree + path, foreign.POLICY_CAP, self.tree)
+        self.size += len(text)
+        if self.size > foreign.TREE_CAP:
+            raise Fault(f"{os.fsdecode(self.tree)}: the policy's files have more than {foreign.TREE_CAP} bytes")
         for include in _includes(text):
             named = beside(path, include.path)
             if b".." in include.path.split(b"/"):
@@ -77,27 +81,24 @@ class _Copy:
         self.files[path] = rewritten(text, self._path_of)
 
     def _take_folder(self, folder: bytes, depth: int) -> None:
-        for found in kept_files(self.tree + folder):
-            self.take(found.removeprefix(self.tree), depth)
+        """Takes the files of an included folder. Anything but files and folders there is refused by name."""
+        whole = self.tree + folder.rstrip(b"/")
+        if not foreign.exists(whole, self.tree):
+            return
+        for entry in foreign.entries(whole, self.tree):
+            name = os.fsencode(entry.name)
+            if is_kept(name) and entry.kind != foreign.FOLDER:
+                self.take(os.path.join(folder, name), depth)
 
     def _path_of(self, include: Include) -> bytes | None:
         return self.root + include.path if include.path.startswith(b"/") else None
-
-    def _want_inside(self, path: bytes) -> None:
-        whole = self.tree + path
-        if os.path.realpath(whole) != os.path.join(os.path.realpath(self.tree), path.lstrip(b"/")):
-            raise Fault(
-                f"{os.fsdecode(whole)}: a link, or a path that is not in its plain form; copied files have none"
-            )
-        if not os.path.isfile(whole):
-            raise Fault(f"{os.fsdecode(whole)}: no file")
 
 
 def files_of_tree(tree: str, main: str, root: bytes) -> dict[bytes, bytes]:
     """Returns the files, by their own paths, of a policy that lies below a tree; its includes are below a root folder."""
     if not main.startswith("/"):
         raise Fault(f"{main}: the policy is named by its path on its own machine, as /etc/sudoers")
-    if not os.path.exists(tree + main):
+    if not foreign.exists(tree + main, tree):
         raise Fault(f"{tree}{main} is not there")
     copy = _Copy(tree, root)
     copy.take(os.fsencode(main))
@@ -109,13 +110,13 @@ def of_tree(tree: str, main: str, root: str) -> Prepared:
     place = os.path.abspath(root)
     for path, text in files_of_tree(tree, main, os.fsencode(place)).items():
         copied = os.fsencode(place) + path
-        os.makedirs(os.path.dirname(copied), exist_ok=True)
-        with open(copied, "wb") as file:
+        outputs.folder(os.fsdecode(os.path.dirname(copied)))
+        with outputs.written(os.fsdecode(copied)) as file:
             file.write(text)
     return Prepared(main, place)
 
 
 def main_of(collected: str) -> str:
     """Returns the path of the main file, as tools/collect noted it."""
-    with open(os.path.join(collected, "policy"), encoding="utf-8", errors="surrogateescape") as file:
-        return file.read().rstrip("\n")
+    text = foreign.read(os.path.join(collected, "policy"), foreign.NAME_CAP, collected)
+    return os.fsdecode(text).rstrip("\n")
