@@ -9,6 +9,7 @@ from collections.abc import Sequence
 from dataclasses import dataclass, field
 from typing import Any, NamedTuple
 
+from kulavemia import outputs
 from kulavemia.answers import answers
 from kulavemia.command import FAILED, Fault
 from kulavemia.compare import CHANGE_HEADER, CHANGES
@@ -201,5 +202,5 @@ def rendered(page: Page) -> str:
 def write(page: Page, path: str) -> None:
     """Writes the page."""
     text = rendered(page)
-    with open(path, "w", encoding="utf-8") as file:
-        file.write(text)
+    with outputs.replacing(path) as file:
+        file.write(text.encode())
