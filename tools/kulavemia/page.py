@@ -25,7 +25,7 @@ REPORT = "report.csv"
 
 
 class Inputs(NamedTuple):
-    """The inputs of a page; empty ones are left out."""
+    """The inputs of a page; empty ones are left out. No link to a log is followed below the folder `collected`."""
 
     title: str
     policy: str = ""
@@ -37,6 +37,7 @@ class Inputs(NamedTuple):
     changes: str = ""
     rows: int = 1000
     facts: Sequence[tuple[str, str]] = ()
+    collected: str = ""
 
 
 class Step(NamedTuple):
@@ -109,7 +110,8 @@ class Page:
         if self.uses is None:
             return {}
         kinds = (self.uses.denied, self.uses.allowed, self.uses.unknown)
-        return texts_of(asked for kind in kinds for asked in kind.list()[: self.inputs.rows])
+        shown = (asked for kind in kinds for asked in kind.list()[: self.inputs.rows])
+        return texts_of(shown, self.inputs.collected or None)
 
     def rule_text(self, place: str) -> str:
         """Returns the text of the rule at a place of the policy."""
