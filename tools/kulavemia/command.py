@@ -1,6 +1,7 @@
 """How the commands begin and end: their options, faults, warnings and exit statuses."""
 
 import argparse
+import errno
 import os
 import sys
 from collections.abc import Callable, Mapping
@@ -14,6 +15,8 @@ WORDS = 2
 REFUSED = 3
 FAILED = 4
 PROGRAM = 5
+
+_NO_ROOM = (errno.ENOSPC, errno.EDQUOT, errno.EFBIG)
 
 MEANINGS = {
     DONE: "done",
@@ -96,7 +99,7 @@ def run(main: Callable[[], int]) -> NoReturn:
         stream.reconfigure(encoding="utf-8", errors=errors)
     try:
         status = main()
-        _flush()
+        sys.stdout.flush()
     except Fault as fault:
         tell(str(fault))
         status = fault.status
@@ -104,8 +107,7 @@ def run(main: Callable[[], int]) -> NoReturn:
         _drop_output()
         status = FAILED
     except OSError as error:
-        place = f"{os.fsdecode(error.filename)}: " if error.filename is not None else ""
-        tell(place + (error.strerror or str(error)))
+        tell(_place_of(error) + (error.strerror or str(error)))
         status = FAILED
     except MemoryError:
         tell("out of memory")
@@ -115,16 +117,17 @@ def run(main: Callable[[], int]) -> NoReturn:
     sys.exit(status)
 
 
-def _flush() -> None:
-    """Writes out what standard output still holds. Raises `OSError` with its name."""
-    try:
-        sys.stdout.flush()
-    except OSError as error:
-        error.filename = "standard output"
-        _drop_output()
-        raise
+def _place_of(error: OSError) -> str:
+    """Returns the path of an error of the system, with a colon. What is written to files names them, so that a full disk
+    without a path is that of standard output."""
+    if error.filename is not None:
+        return f"{os.fsdecode(error.filename)}: "
+    if error.errno not in _NO_ROOM:
+        return ""
+    _drop_output()
+    return "standard output: "
 
 
 def _drop_output() -> None:
-    """Drops what standard output cannot take, so that the end of the process does not try again."""
+    """Drops what standard output does not take, so that the end of the process does not try again."""
     os.dup2(os.open(os.devnull, os.O_WRONLY), sys.stdout.fileno())

@@ -119,11 +119,16 @@ def want_plain(path: str | bytes, cap: int, below: str | bytes | None = None) ->
 
 def kind_of(path: str | bytes, below: str | bytes | None = None) -> str | None:
     """Returns what has a name, or `None`. Raises `Fault` if a folder on the way is something else."""
-    try:
-        with _at(os.fsdecode(path), below) as (folder, name):
-            return _kind(os.stat(name, dir_fd=folder, follow_symlinks=folder is None).st_mode)
-    except FileNotFoundError:
+    shown = os.fsdecode(path)
+    if "\0" in shown:
         return None
+    try:
+        with _at(shown, below) as (folder, name):
+            return _kind(os.stat(name, dir_fd=folder, follow_symlinks=folder is None).st_mode)
+    except OSError as error:
+        if error.errno in (errno.ENOENT, errno.ENAMETOOLONG):
+            return None
+        raise
 
 
 def exists(path: str | bytes, below: str | bytes | None = None) -> bool:

@@ -14,8 +14,9 @@ import sys
 import zlib
 from collections import deque
 from collections.abc import Callable, Collection, Iterator
-from typing import IO, Any, NamedTuple, cast
+from typing import IO, Any, BinaryIO, NamedTuple, cast
 
+from kulavemia import foreign
 from kulavemia.journal import IDENTIFIERS, SUDO_PATHS, forgery_of
 from kulavemia.messages import Event, Pairs, event_of, event_of_json, json_events, noted
 
@@ -56,6 +57,12 @@ _REPEATED = re.compile(r"message repeated (\d+) times: \[ ?(.*)\]$", re.DOTALL)
 _STRING = re.compile(r'"(?:[^"\\]|\\.)*(?:"|$)', re.DOTALL)
 # What reading a log may raise, a compressed one that is damaged among them.
 UNREADABLE = (OSError, EOFError, lzma.LZMAError, zlib.error)
+_DESCRIPTOR = re.compile(r"/dev/stdin|/dev/fd/[0-9]+")
+_PACKED: dict[bytes, Callable[[BinaryIO], Any]] = {
+    b"\x1f\x8b": gzip.open,
+    b"BZh": bz2.open,
+    b"\xfd7zXZ\0": lzma.open,
+}
 _HALVES = re.compile("[\ud800-\udbff\udc00-\udc7f\udd00-\udfff]")
 
 
@@ -67,6 +74,7 @@ class Options(NamedTuple):
     quoting: str = "auto"
     syslog_lengths: Collection[int] = SYSLOG_LENGTHS
     sudo_paths: Collection[str] = SUDO_PATHS
+    below: str | None = None
 
 
 class Found(NamedTuple):
@@ -109,22 +117,31 @@ class _Message:
         return Found(self.line, self.time, event)
 
 
-def opened(path: str) -> tuple[IO[bytes], IO[bytes]]:
-    """Opens a log, also a compressed one; `-` is standard input. Returns the bytes as stored and as they read."""
-    raw = cast(io.BufferedReader, sys.stdin.buffer) if path == "-" else open(path, "rb")
+def opened(path: str, below: str | None = None) -> tuple[IO[bytes], IO[bytes]]:
+    """Opens a log, also a compressed one. Returns the bytes as stored and as they read.
+
+    No link is followed below a folder, where one is named. Raises `Fault` if the log is neither a plain file nor a
+    descriptor that the command was handed, and once it has more bytes than are read, unpacked ones included.
+    """
+    raw = _handed(path) or foreign.opened(path, foreign.LOG_CAP, below)
     start = raw.peek(6)
-    if start.startswith(b"\x1f\x8b"):
-        return raw, gzip.open(raw)
-    if start.startswith(b"BZh"):
-        return raw, bz2.open(raw)
-    if start.startswith(b"\xfd7zXZ\0"):
-        return raw, lzma.open(raw)
+    for magic, unpacked in _PACKED.items():
+        if start.startswith(magic):
+            return raw, foreign.capped(unpacked(raw), path, foreign.LOG_CAP)
     return raw, raw
 
 
-def size_of(path: str) -> int:
-    """Returns how many bytes a log has as it is stored; 0 for standard input."""
-    return 0 if path == "-" else os.stat(path).st_size
+def size_of(path: str, below: str | None = None) -> int:
+    """Returns how many bytes a log has as it is stored; 0 for one that comes by a descriptor."""
+    is_handed = path == "-" or _DESCRIPTOR.fullmatch(path)
+    return 0 if is_handed else foreign.want_plain(path, foreign.LOG_CAP, below)
+
+
+def _handed(path: str) -> io.BufferedReader | None:
+    """Returns a log that comes by a descriptor, as that of a pipe; `-` is standard input."""
+    if path == "-":
+        return cast(io.BufferedReader, sys.stdin.buffer)
+    return open(path, "rb") if _DESCRIPTOR.fullmatch(path) else None
 
 
 class Log:
@@ -134,7 +151,7 @@ class Log:
         self.path = path
         self.options = options
         self.at = at
-        self.raw, inner = opened(path)
+        self.raw, inner = opened(path, options.below)
         self.file = io.TextIOWrapper(inner, encoding="utf-8", errors="surrogateescape", newline="\n")
         newest = os.stat(path).st_mtime if path != "-" else None
         self.newest = datetime.datetime.fromtimestamp(newest) if newest else datetime.datetime.now()

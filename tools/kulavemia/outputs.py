@@ -77,29 +77,28 @@ def naming(path: str) -> Iterator[None]:
 
 
 class Fresh:
-    """A file that is being written. It gets its name when it is kept, and is removed otherwise."""
+    """A file of a folder that is being written. It is removed where it is not kept. Faults name a path, or the folder."""
 
-    def __init__(self, path: str) -> None:
-        self.path = path
-        folder = os.path.dirname(path)
+    def __init__(self, folder: str, path: str = "") -> None:
         want_own(folder)
+        self.shown = path or folder
         self.part = os.path.join(folder, f".{secrets.token_hex(8)}.part")
 
     def __enter__(self) -> "Fresh":
-        with naming(self.path):
+        with naming(self.shown):
             descriptor = os.open(self.part, _NEW, 0o666)
-        self.file = cast(BinaryIO, io.BufferedWriter(_Named(descriptor, self.path)))
+        self.file = cast(BinaryIO, io.BufferedWriter(_Named(descriptor, self.shown)))
         return self
 
     def write(self, data: bytes) -> None:
         """Writes bytes."""
         self.file.write(data)
 
-    def keep(self) -> None:
+    def keep(self, path: str) -> None:
         """Gives the whole file its name."""
         self.file.close()
-        with naming(self.path):
-            os.replace(self.part, self.path)
+        with naming(path):
+            os.replace(self.part, path)
 
     def __exit__(self, kind: type | None, error: BaseException | None, trace: TracebackType | None) -> None:
         # What is left in the buffer of a file that is not kept may find no room.
@@ -112,9 +111,9 @@ class Fresh:
 @contextlib.contextmanager
 def written(path: str) -> Iterator[BinaryIO]:
     """Opens what takes the place of a file once all of it is written."""
-    with Fresh(path) as fresh:
+    with Fresh(os.path.dirname(path), path) as fresh:
         yield fresh.file
-        fresh.keep()
+        fresh.keep(path)
 
 
 @contextlib.contextmanager

@@ -9,6 +9,7 @@ import re
 from collections.abc import Iterable, Iterator, Sequence
 from typing import NamedTuple
 
+from kulavemia import foreign, outputs
 from kulavemia.command import WORDS, Fault, warn
 from kulavemia.rows import open_write, records, row, write_rows
 
@@ -117,9 +118,8 @@ class Writer:
         self.last: dict[str, int] = {}
         self.files = Appender()
         for below in ("requests", "keys"):
-            path = os.path.join(folder, below)
-            os.makedirs(path, exist_ok=True)
-            if os.listdir(path):
+            path = outputs.folder(os.path.join(folder, below))
+            if foreign.entries(path):
                 raise Fault(f"{path} is not empty; remove it, or name another folder", WORDS)
 
     def add(self, name: str, request: Request, key: Sequence[str]) -> int:

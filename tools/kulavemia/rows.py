@@ -22,7 +22,7 @@ _QUOTED = re.compile('[",\r\n]')
 
 def open_read(path: str) -> io.TextIOWrapper:
     """Opens a file for reading, whatever its bytes are."""
-    return _text(foreign.opened(path, foreign.TABLE_CAP))
+    return as_text(foreign.opened(path, foreign.TABLE_CAP))
 
 
 @contextlib.contextmanager
@@ -39,14 +39,15 @@ def replacing(path: str) -> Iterator[io.TextIOWrapper]:
         yield text
 
 
-def _text(file: BinaryIO) -> io.TextIOWrapper:
+def as_text(file: BinaryIO) -> io.TextIOWrapper:
+    """Returns a file as text, whatever its bytes are."""
     return io.TextIOWrapper(file, encoding="utf-8", errors="surrogateescape", newline="")
 
 
 @contextlib.contextmanager
 def _written_text(file: BinaryIO) -> Iterator[io.TextIOWrapper]:
     """Yields a file as text, and leaves the file open."""
-    text = _text(file)
+    text = as_text(file)
     try:
         yield text
     finally:

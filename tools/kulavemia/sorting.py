@@ -209,10 +209,13 @@ class Sorter:
         self.skipped.write(row((log, str(line), time, reason)))
 
 
-def sort(logs: Sequence[str], folder: str, given: argparse.Namespace) -> Sorted:
-    """Sorts the content of logs into a folder, and returns how much there was."""
-    how = reading_of(given)
-    total = sum(size_of(path) for path in logs)
+def sort(logs: Sequence[str], folder: str, given: argparse.Namespace, below: str | None = None) -> Sorted:
+    """Sorts the content of logs into a folder, and returns how much there was.
+
+    No link to a log is followed below another folder, where one is named.
+    """
+    how = reading_of(given)._replace(below=below)
+    total = sum(size_of(path, below) for path in logs)
     writer = Writer(folder, LOG_KEY)
     with (
         open_write(os.path.join(folder, "lists.csv")) as lists,
@@ -226,7 +229,7 @@ def sort(logs: Sequence[str], folder: str, given: argparse.Namespace) -> Sorted:
         for path in logs:
             for found in Log(path, how, lambda done, before=before: progress.at(before + done)):
                 sorter.take(path, found)
-            before += size_of(path)
+            before += size_of(path, below)
         sorter.writer.finish()
         sorter.counts["senders"] = len(sorter.writer.senders)
     return Sorted(sorter.counts, sorter.hosts)

@@ -2,6 +2,7 @@
 
 import json
 import os
+import shutil
 import unittest
 
 from fleet_case import POLICY, FleetCase, requests
@@ -64,12 +65,19 @@ class Parts(FleetCase):
         os.unlink(self.path("fleet", "web2", "requests", "web2.csv"))
         os.mkfifo(self.path("fleet", "web2", "requests", "web2.csv"))
         os.symlink(self.path("fleet", "web1"), self.path("fleet", "web3"))
+        self.host("web4")
+        shutil.rmtree(self.path("fleet", "web4", "tree"))
+        os.symlink("/", self.path("fleet", "web4", "tree"))
         self.fleet("--part", "1/1")
         self.fleet("--join", status=1)
         self.assertEqual(
             [row.split(",", 4)[4] for row in self.rows("out", "status.csv")[1:]],
-            ["users.csv: a link; the folders of a fleet have none", "requests/web2.csv: no file"]
-            + ["the folder is a link"],
+            [
+                '"fleet/web1/users.csv: expected a plain file, found a link"',
+                '"fleet/web2/requests/web2.csv: expected a plain file, found a FIFO"',
+                '"fleet/web3: expected a folder, found a link"',
+                '"fleet/web4/tree: expected a folder, found a link"',
+            ],
         )
 
     def test_what_a_host_could_not_gather_is_a_warning(self) -> None:
