@@ -224,4 +224,4 @@ def write_status(out: str, rows: Sequence[Row]) -> None:
 def told(rows: Sequence[Row]) -> str:
     """Returns how many hosts have each status."""
     counts = Counter(row.status for row in rows)
-    return f"{len(rows)} hosts: " + ", ".join(f"{counts[status]} {status}" for status in STATUSES)
+    return ", ".join(f"{counts[status]} {status}" for status in STATUSES)

@@ -70,7 +70,7 @@ class Walkthrough(Case):
         for name in ("tmp", "dev"):
             os.mkdir(self.path("root", name))
         command = f'exec env PATH=/usr/bin {shutil.which("chroot")} {self.path("root")} /bin/sh -s'
-        self.runnable("bin/ssh", f'[ "$*" = "shop1 sudo sh -s" ] || exit 255\n{command}')
+        self.runnable("bin/ssh", f'[ "$*" = "-- shop1 sudo sh -s --" ] || exit 255\n{command}')
 
     def can_play(self) -> bool:
         """Tells whether a program can be run in the machine's root folder."""
