@@ -3,7 +3,6 @@
 A shard is one audit: of a host, at most so many senders and files as one run of the program takes.
 """
 
-import hashlib
 import os
 import re
 from collections.abc import Iterable, Iterator, Sequence
@@ -14,6 +13,7 @@ from kulavemia.command import Fault
 from kulavemia.fleet_handed import CODE, PACKAGE, PROGRAM_FILE, Handed, packed
 from kulavemia.fleet_work import HOSTS, REQUESTS, ROOT, TREE, USERS, Job
 from kulavemia.requests import FILES_LIMIT, SENDERS_LIMIT
+from kulavemia.sums import digest_of
 from kulavemia.tree import POLICY, files_of_tree, main_of
 
 MAIN = "/etc/sudoers"
@@ -45,15 +45,6 @@ class Host(NamedTuple):
     name: str
     shards: Sequence[Sequence[str]]
     fault: str = ""
-
-
-def digest_of(parts: Sequence[bytes]) -> str:
-    """Returns a digest of byte strings, whatever is in them."""
-    found = hashlib.sha256()
-    for part in parts:
-        found.update(b"%d:" % len(part))
-        found.update(part)
-    return found.hexdigest()
 
 
 def shard_name(host: str, number: int) -> str:

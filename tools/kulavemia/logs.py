@@ -133,8 +133,12 @@ def opened(path: str, below: str | None = None) -> tuple[IO[bytes], IO[bytes]]:
 
 def size_of(path: str, below: str | None = None) -> int:
     """Returns how many bytes a log has as it is stored; 0 for one that comes by a descriptor."""
-    is_handed = path == "-" or _DESCRIPTOR.fullmatch(path)
-    return 0 if is_handed else foreign.want_plain(path, foreign.LOG_CAP, below)
+    return 0 if is_handed(path) else foreign.want_plain(path, foreign.LOG_CAP, below)
+
+
+def is_handed(path: str) -> bool:
+    """Returns whether a log comes by a descriptor that the command was handed, and can be read once."""
+    return path == "-" or _DESCRIPTOR.fullmatch(path) is not None
 
 
 def _handed(path: str) -> io.BufferedReader | None:

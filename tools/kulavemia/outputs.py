@@ -10,7 +10,9 @@ import fcntl
 import io
 import os
 import pwd
+import re
 import secrets
+import shutil
 import stat
 import tempfile
 from collections.abc import Iterator
@@ -23,6 +25,7 @@ PRIVATE = "private"
 SHARED = "shared"
 LOCK = ".lock"
 
+_PART = re.compile(r"\.[0-9a-f]{16}\.part")
 _MASKS = {PRIVATE: 0o077, SHARED: 0o022}
 _OTHERS_WRITE = stat.S_IWGRP | stat.S_IWOTH
 _LINKS_LIMIT = 40
@@ -82,7 +85,7 @@ class Fresh:
     def __init__(self, folder: str, path: str = "") -> None:
         want_own(folder)
         self.shown = path or folder
-        self.part = os.path.join(folder, f".{secrets.token_hex(8)}.part")
+        self.part = os.path.join(folder, _part())
 
     def __enter__(self) -> "Fresh":
         with naming(self.shown):
@@ -147,6 +150,46 @@ def appended(path: str) -> Iterator[BinaryIO]:
         descriptor = os.open(path, _MORE, 0o666)
     with io.BufferedWriter(_Named(descriptor, path)) as file:
         yield cast(BinaryIO, file)
+
+
+@contextlib.contextmanager
+def new(path: str) -> Iterator[BinaryIO]:
+    """Opens a file that is not there yet, in a folder that `folder` or `new_folder` made."""
+    with naming(path):
+        descriptor = os.open(path, _NEW, 0o666)
+    with io.BufferedWriter(_Named(descriptor, path)) as file:
+        yield cast(BinaryIO, file)
+
+
+@contextlib.contextmanager
+def new_folder(path: str) -> Iterator[str]:
+    """Makes a folder that gets its name once all of it is written, and is removed otherwise."""
+    above = os.path.dirname(path)
+    want_own(above)
+    part = os.path.join(above, _part())
+    os.mkdir(part)
+    try:
+        yield part
+        with naming(path):
+            os.rename(part, path)
+    except BaseException:
+        shutil.rmtree(part, ignore_errors=True)
+        raise
+
+
+def remove_parts(path: str) -> None:
+    """Removes what a run left in a folder that was killed. The folder is locked, so that no other run is at it."""
+    for name in filter(_PART.fullmatch, os.listdir(path)):
+        part = os.path.join(path, name)
+        if os.path.isdir(part) and not os.path.islink(part):
+            shutil.rmtree(part)
+        else:
+            os.unlink(part)
+
+
+def _part() -> str:
+    """Returns a name by chance for what has none yet."""
+    return f".{secrets.token_hex(8)}.part"
 
 
 @contextlib.contextmanager

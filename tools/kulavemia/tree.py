@@ -1,6 +1,7 @@
 """The policy of a replay: this machine's own, or a copy of another machine's files."""
 
 import os
+from collections.abc import Mapping
 from typing import NamedTuple
 
 from kulavemia import foreign, outputs
@@ -114,12 +115,17 @@ def files_of_tree(tree: str, main: str, root: bytes, below: str | None = None) -
 def of_tree(tree: str, main: str, root: str, below: str | None = None) -> Prepared:
     """Returns a copy, below a root folder, of the policy whose files lie below a tree."""
     place = os.path.abspath(root)
-    for path, text in files_of_tree(tree, main, os.fsencode(place), below).items():
-        copied = os.fsencode(place) + path
-        outputs.folder(os.fsdecode(os.path.dirname(copied)))
-        with outputs.written(os.fsdecode(copied)) as file:
-            file.write(text)
+    write_copies(place, files_of_tree(tree, main, os.fsencode(place), below))
     return Prepared(main, place)
+
+
+def write_copies(root: str, files: Mapping[bytes, bytes]) -> None:
+    """Writes the files of a policy, by their own paths, below a root folder."""
+    for path, text in files.items():
+        copied = root + os.fsdecode(path)
+        outputs.folder(os.path.dirname(copied))
+        with outputs.written(copied) as file:
+            file.write(text)
 
 
 def main_of(folder: str, below: str) -> str:

@@ -44,7 +44,7 @@ class MachineCase(Case):
         for name in ("tmp", "dev"):
             os.mkdir(self.path("root", name))
         command = f'exec env PATH=/usr/bin {shutil.which("chroot")} {self.path("root")} /bin/sh -s'
-        self.runnable("bin/ssh", f'[ "$*" = "shop1 sudo sh -s" ] || exit 255\n{command}')
+        self.runnable("bin/ssh", f'[ "$*" = "-- shop1 sudo sh -s --" ] || exit 255\n{command}')
         if not self.can_play():
             self.skipTest("chroot cannot be used here")
 
