@@ -154,7 +154,7 @@ class Installed(unittest.TestCase):
         tools = "|".join(name.removeprefix("kulavemia-") for name in os.listdir(self.at("/usr/local/bin")))
         documents = [path for path in all_below(folder) if path.endswith(".md") and path != "CHANGELOG.md"]
         texts = {path: text_of(folder, path) for path in documents}
-        self.assertIn('    ssh web1 sudo sh -s <"$(command -v kulavemia-collect)" >web1.tar\n', texts["docs/TOOLS.md"])
+        self.assertIn('    ssh HOST sudo sh -s <"$(command -v kulavemia-collect)" >HOST.tar\n', texts["docs/TOOLS.md"])
         for path, text in texts.items():
             with self.subTest(path):
                 self.assertEqual(re.findall(rf"[< `]tools/(?:{tools})[ `\n.,;]", text), [])
