@@ -2,9 +2,11 @@
 
 import json
 import os
+import random
 import subprocess
 import sys
 import tempfile
+import time
 import unittest
 
 TESTS = os.path.dirname(os.path.realpath(__file__))
@@ -13,10 +15,13 @@ LINT = os.path.join(TOOLS, "lint")
 STUB = os.path.join(TESTS, "lint_stub")
 sys.path[:0] = [TOOLS, TESTS]
 
+from kulavemia.command import Fault
+from kulavemia.lint_bounds import includes_of
 from kulavemia.lint_answers import FAILED, RULES, fault_of, report_of
 from kulavemia.lint_formats import github_property, github_text, place_text
 from kulavemia.lint_places import physical_place
 from kulavemia.lint_show import picture
+from kulavemia.policy import include_of, lines_of
 from lint_cases import CASES
 from support import PROGRAM, needs_program
 
@@ -356,7 +361,24 @@ class Outside(Folder):
     def test_more_files_than_a_policy_includes(self):
         self.write("sudoers", b"".join(b"@include f%d\n" % number for number in range(1100)))
         status, output, _ = self.lint("sudoers")
-        self.assertEqual((status, output.splitlines()[0]), (4, "sudoers: error: includes more than 1024 files"))
+        self.assertEqual((status, output.splitlines()[0]), (4, "sudoers: error: includes too many files"))
+
+    def test_each_include_line_is_found(self):
+        drawn = random.Random(1)
+        parts = [b"@include", b"#include", b"dir", b"@incl", b"ude", b"/x", b"#", b"y"]
+        parts += [b" ", b"\t", b"\\", b"\n", b"\r", b"\\\n"]
+        for _ in range(20_000):
+            text = b"".join(drawn.choices(parts, k=drawn.randrange(1, 12)))
+            wanted = {include_of(line)[1:] for line in lines_of(text) if include_of(line)}
+            self.assertLessEqual(wanted, {include[1:] for include in includes_of(text)}, text)
+
+    def test_texts_that_are_made_to_be_slow(self):
+        started = time.monotonic()
+        for text in (b"\n" * (1 << 24), b" @include" * (1 << 16), b"@include a\n" * (1 << 15), b"@\\\n" * (1 << 18)):
+            list(includes_of(text))
+        for text in (b"@\\\n" * (1 << 22), b"@include" * (1 << 21), b"@i\n" * (1 << 22), b"@i" + b"\\" * (1 << 23)):
+            self.assertRaises(Fault, list, includes_of(text))
+        self.assertLess(time.monotonic() - started, 30)
 
 
 @needs_program
