@@ -50,8 +50,11 @@ def _written_text(file: BinaryIO) -> Iterator[io.TextIOWrapper]:
     text = as_text(file)
     try:
         yield text
+        text.flush()
     finally:
-        text.detach()
+        # What is left is not to hide why it is.
+        with contextlib.suppress(OSError):
+            text.detach()
 
 
 def row(fields: Sequence[str]) -> str:
