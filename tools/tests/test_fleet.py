@@ -93,7 +93,7 @@ class Parts(FleetCase):
         self.assertEqual(
             [row.split(",", 4)[4] for row in self.rows("out", "status.csv")[1:]],
             [
-                f'"{self.path("fleet", "web1", "tree")}/etc/sudoers: more than 16777216 bytes, and no more are read"',
+                '"fleet/web1/tree/etc/sudoers: more than 16777216 bytes, and no more are read"',
                 "the requests of web2 have more than 1073741824 bytes",
                 "the requests of web3 have more than 1073741824 bytes",
                 "",

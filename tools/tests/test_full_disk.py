@@ -8,7 +8,7 @@ import unittest
 from collections.abc import Sequence
 
 from fleet_case import STUB, USERS, FleetCase, requests
-from support import EXAMPLES, PROGRAM, TOOLS, needs_jinja, needs_program
+from support import EXAMPLES, TOOLS, needs_jinja, needs_program
 
 MOUNT = 'mount -t tmpfs -o size=16k,mode=0700 none "$0" && exec "$@"'
 FULL = "No space left on device"
