@@ -1,8 +1,8 @@
 """Opens of files that come from another machine: bounded in time and in memory, and without following links.
 
 A path of the command line is the user's own, and its links are followed. Below a folder of copied files nothing is
-followed: each folder on the way is opened below the last one, by its descriptor. Anything but a plain file is refused by
-name before it is opened, so that nothing waits at a FIFO and no device is touched.
+followed: each folder on the way is opened below the last one, by its descriptor. Anything but a plain file is refused
+by name before it is opened, so that nothing waits at a FIFO and no device is touched.
 """
 
 import contextlib
@@ -111,7 +111,7 @@ def read(path: str | bytes, cap: int, below: str | bytes | None = None) -> bytes
 
 
 def want_plain(path: str | bytes, cap: int, below: str | bytes | None = None) -> int:
-    """Returns the size of a plain file. Raises `Fault` if something else has its name, or if it has more than `cap` bytes."""
+    """Returns the size of a plain file. Raises `Fault` if something else has its name, or it is longer than `cap`."""
     shown = os.fsdecode(path)
     with _at(shown, below) as (folder, name):
         return _plain_size(shown, os.stat(name, dir_fd=folder, follow_symlinks=folder is None), cap)
@@ -231,7 +231,7 @@ def _held(stack: contextlib.ExitStack, descriptor: int) -> int:
 
 
 def _parts(path: str, below: str) -> list[str]:
-    """Returns the names on the way from a folder to a path below it. Raises `Fault` if they are not in their plain form."""
+    """Returns the names on the way from a folder to a path below it. Raises `Fault` if their form is not plain."""
     start = os.path.join(below, "")
     parts = path.removeprefix(start).split("/")
     if not path.startswith(start) or any(part in ("", ".", "..") for part in parts):

@@ -1,4 +1,4 @@
-"""What tools/collect gathers of many hosts, as it comes or in tars at hand: a folder for each host, and a status of each."""
+"""What tools/collect gathers of many hosts: a folder for each, out of tars as they come or at hand, and its status."""
 
 import functools
 import os
@@ -81,7 +81,7 @@ def command_of(text: str) -> list[str]:
 
 
 def jobs_of(hosts: Sequence[str], tars: Sequence[str], limits: Limits) -> list[Job]:
-    """Returns what is to be done for hosts and tars. Raises `Fault` at a host's name that is not one, or stands twice."""
+    """Returns what is to be done for hosts and tars. Raises `Fault` at a word that is no host, and at one twice."""
     found: dict[str, Job] = {}
     for host in hosts:
         match = _HOST.fullmatch(host)
@@ -162,7 +162,7 @@ class Gathering:
         return row._replace(seconds=time.monotonic() - start)
 
     def _gathered(self, job: Job) -> Row:
-        """Gathers a host, unless its folder stands. Raises `Fault` if that fails, and `OSError` if it cannot be written."""
+        """Gathers a host, unless its folder stands. Raises `Fault` if that fails, and `OSError` if writing does."""
         if job.fault:
             raise Fault(job.fault)
         path = os.path.join(self.out, job.folder)

@@ -34,7 +34,7 @@ def open_write(path: str, mode: str = "w") -> Iterator[io.TextIOWrapper]:
 
 @contextlib.contextmanager
 def replacing(path: str) -> Iterator[io.TextIOWrapper]:
-    """Opens what takes the place of a file once all of it is written; a terminal, a pipe or the like is written as it is."""
+    """Opens what takes the place of a file once it is whole; a terminal, a pipe or the like is written as it is."""
     with outputs.replacing(path) as file, _written_text(file) as text:
         yield text
 

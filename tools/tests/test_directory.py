@@ -155,7 +155,7 @@ class Directory(Case):
         os.symlink(victim, self.path("work", "users.csv"))
         os.chown(self.path("work"), 65534, 65534)
         _, err = self.run_tool("directory", "work", status=2)
-        self.assertIn(f"directory: {self.folder}/work is of the user nobody, who could change what is written there", err)
+        self.assertIn(f"{self.folder}/work is of the user nobody, who could change what is written there", err)
         self.assertEqual((self.read("victim"), os.listdir(self.path("work"))), ("victim", ["users.csv"]))
 
     def test_hosts_that_differ(self) -> None:

@@ -123,7 +123,8 @@ class FullDisk(FleetCase):
         self.write("policy", "root ALL = ALL\n")
         for name, words in (("probe", ("--help",)), ("compare", ("--help",))):
             with open("/dev/full", "wb") as full:
-                done = subprocess.run([os.path.join(TOOLS, name), *words], stdout=full, stderr=subprocess.PIPE, check=False)
+                tool = [os.path.join(TOOLS, name), *words]
+                done = subprocess.run(tool, stdout=full, stderr=subprocess.PIPE, check=False)
             self.assertEqual((done.returncode, done.stderr.decode()), (4, f"{name}: standard output: {FULL}\n"))
 
 

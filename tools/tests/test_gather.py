@@ -132,8 +132,8 @@ class Gather(GatherCase):
             self.gather(*words, status=2)
         self.assertIn("web1 and root@web1 have one folder", self.gather("web1", "root@web1", status=2)[1])
         self.assertIn("name a HOST, or tars by --tar", self.gather(status=2)[1])
-        for words in (("--jobs", "0"), ("--limit", "0"), ("--limit", "nan"), ("--host-size", "1T"), ("--members", "-1")):
-            self.gather("web1", *words, status=2)
+        for option, word in (("jobs", "0"), ("limit", "0"), ("limit", "nan"), ("host-size", "1T"), ("members", "-1")):
+            self.gather("web1", f"--{option}", word, status=2)
         err = self.run_tool("gather", "--command", "/none/such x", "--out", "out", "web1", status=2)[1]
         self.assertIn("there is no such command", err)
         self.assertFalse(os.path.exists(self.path("out")))
@@ -283,7 +283,8 @@ class HostileTars(GatherCase):
     def test_sizes_that_are_none(self) -> None:
         for size in (b"\xff" * 12, b"\x80" + b"\xff" * 11, b"99999999999\0"):
             with self.subTest(size):
-                self.assertRegex(self.fault_of_block(lambda block: block[:124] + size + block[136:]), "bytes|wrong|below 0")
+                fault = self.fault_of_block(lambda block: block[:124] + size + block[136:])
+                self.assertRegex(fault, "bytes|wrong|below 0")
 
     def fault_of_block(self, change: Callable[[bytes], bytes]) -> str:
         """Returns why a tar is refused whose first block is changed, with the right sum."""

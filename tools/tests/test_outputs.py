@@ -55,7 +55,8 @@ class Outputs(Case):
         victim = self.write("victim", "victim")
         os.symlink(victim, self.path("a"))
         self.put("a")
-        self.assertEqual((self.read("victim"), self.read("a"), os.path.islink(self.path("a"))), ("victim", "new", False))
+        self.assertEqual((self.read("victim"), self.read("a")), ("victim", "new"))
+        self.assertFalse(os.path.islink(self.path("a")))
         os.symlink(victim, self.path("b"))
         with self.assertRaises(OSError), outputs.appended(self.path("b")):
             pass
@@ -67,7 +68,7 @@ class Outputs(Case):
         os.makedirs(self.path("open", "work"))
         os.chmod(self.path("open"), 0o777)
         for path in (self.path("open"), self.path("open", "work"), self.path("open", "none")):
-            with self.assertRaisesRegex(Fault, r"open can be written by other users: take that from them \(chmod go-w\)"):
+            with self.assertRaisesRegex(Fault, r"open can be written by other users: take that from them \(chmod"):
                 outputs.folder(path)
         with self.assertRaisesRegex(Fault, "open can be written"):
             self.put("open/work/a")
