@@ -137,11 +137,16 @@ def replacing(path: str) -> Iterator[BinaryIO]:
 
 
 def _is_stream(path: str) -> bool:
-    """Returns whether a path is a terminal, a pipe or the like, or names a descriptor, as /dev/stdout does."""
+    """Returns whether a path is a terminal, a pipe or the like, or names a descriptor, as /dev/stdout does.
+
+    Raises `Fault` at a disk or a socket.
+    """
     try:
         mode = os.stat(path).st_mode
     except FileNotFoundError:
         return False
+    if stat.S_ISBLK(mode) or stat.S_ISSOCK(mode):
+        raise Fault(f"{path}: neither a file nor a stream", WORDS)
     folder = os.path.join(os.path.realpath(os.path.dirname(path)), "")
     return stat.S_ISCHR(mode) or stat.S_ISFIFO(mode) or folder == "/dev/" or folder.startswith("/proc/")
 

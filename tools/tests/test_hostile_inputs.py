@@ -264,20 +264,24 @@ class Sweep(Case):
         """Yields where the secret is shown, or something outside has changed."""
         if SECRET in ended.said:
             yield "the secret is printed"
-        for folder_, _, files in os.walk(place):
-            for path in (os.path.join(folder_, file) for file in files):
-                if stat.S_ISREG(os.lstat(path).st_mode) and os.path.getsize(path) < LONG and path != target:
-                    with open(path, "rb") as file:
-                        if SECRET.encode() in file.read():
-                            yield f"the secret is in {path}"
+        for path in paths_below(place):
+            if stat.S_ISREG(os.lstat(path).st_mode) and os.path.getsize(path) < LONG and path != target:
+                with open(path, "rb") as file:
+                    if SECRET.encode() in file.read():
+                        yield f"the secret is in {path}"
         if self.read("victim") != VICTIM or self.read("secret") != SECRET + "\n":
             yield "something outside has changed"
 
     def test_inputs_as_they_should_be(self) -> None:
         for name, command in COMMANDS.items():
             with self.subTest(name):
-                ended = self.tried(self.copy_of_good(name), command)
+                place = self.copy_of_good(name)
+                before = set(paths_below(place))
+                ended = self.tried(place, command)
                 self.assertEqual((ended.status, faults_of(ended)), (0, []), ended.said)
+                made = set(paths_below(place)) - before
+                self.assertEqual([path for path in made if os.stat(path).st_mode & 0o077], [])
+                self.assertEqual(bool(made), name != "lint")
 
     def test_inputs_that_are_hostile(self) -> None:
         cases = [
@@ -333,6 +337,12 @@ class Sweep(Case):
                 ended = self.tried(place, command)
                 self.assertEqual(faults_of(ended), [], ended.said)
                 self.assertEqual([code for code in CONTROLS if code != "\n" and code in ended.said], [])
+
+
+def paths_below(place: str) -> Iterator[str]:
+    """Yields the paths of the files and folders below a folder."""
+    for above, folders, files in os.walk(place):
+        yield from (os.path.join(above, name) for name in folders + files)
 
 
 def faults_of(ended: Ended) -> list[str]:

@@ -3,6 +3,7 @@
 import os
 import resource
 import signal
+import socket
 import stat
 import subprocess
 import sys
@@ -118,6 +119,11 @@ class Outputs(Case):
         with outputs.replacing("/dev/null") as file:
             file.write(b"new")
         self.assertTrue(stat.S_ISCHR(os.stat("/dev/null").st_mode))
+        with socket.socket(socket.AF_UNIX) as bound:
+            bound.bind(self.path("socket"))
+        with self.assertRaisesRegex(Fault, "socket: neither a file nor a stream"):
+            with outputs.replacing(self.path("socket")):
+                pass
 
     def test_a_full_disk_names_the_file(self) -> None:
         with self.assertRaises(OSError) as raised, outputs.replacing("/dev/full") as file:
