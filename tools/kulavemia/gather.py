@@ -24,10 +24,10 @@ from kulavemia.transport import MISSING, Transport, words_for
 
 STATUS_HEADER = ("host", "status", "fault", "bytes", "members", "seconds")
 DONE = "done"
-STANDS = "stands"
+SKIPPED = "skipped"
 REFUSED = "refused"
 FAILED = "failed"
-STATUSES = (DONE, STANDS, REFUSED, FAILED)
+STATUSES = (DONE, SKIPPED, REFUSED, FAILED)
 
 # What tools/collect puts into a host's folder.
 _NAMES = frozenset(("tree", "policy", "passwd", "group", "addr.json", "hostname", "logs", "missing"))
@@ -104,7 +104,7 @@ def _fits(name: str) -> bool:
 
 
 def _job_of_tar(tar: str, limits: Limits) -> Job:
-    """Returns what is to be done for a tar, whose folder has the name that stands in it."""
+    """Returns what is to be done for a tar, whose folder has the name of the one in the tar."""
     try:
         with foreign.opened(tar, limits.host) as file:
             top = top_of(file.read, limits)
@@ -162,13 +162,13 @@ class Gathering:
         return row._replace(seconds=time.monotonic() - start)
 
     def _gathered(self, job: Job) -> Row:
-        """Gathers a host, unless its folder stands. Raises `Fault` if that fails, and `OSError` if writing does."""
+        """Gathers a host that has no folder yet. Raises `Fault` if that fails, and `OSError` if writing does."""
         if job.fault:
             raise Fault(job.fault)
         path = os.path.join(self.out, job.folder)
         kind = foreign.kind_of(path, self.out)
         if kind == foreign.FOLDER:
-            return Row(job.host, STANDS)
+            return Row(job.host, SKIPPED)
         if kind is not None:
             raise Fault(f"{path}: expected {foreign.FOLDER}, found {kind}")
         with outputs.new_folder(path) as folder:

@@ -232,7 +232,7 @@ def top_of(read: Callable[[int], bytes], limits: Limits) -> str:
 
 
 class Unpacking:
-    """Unpacks a tar into a folder of this machine, which stands for the tar's one folder."""
+    """Unpacks a tar's one folder into a folder of this machine, whatever its name is."""
 
     def __init__(self, tar: Tar, folder: str, names: frozenset[str]) -> None:
         self.tar = tar

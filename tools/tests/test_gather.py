@@ -91,7 +91,7 @@ class GatherCase(Case):
 class Gather(GatherCase):
     def test_hosts_are_unpacked_into_folders_of_their_names(self) -> None:
         out, err = self.gather("web1", "admin@misses")
-        self.assertEqual(out, "2 done, 0 stands, 0 refused, 0 failed\n")
+        self.assertEqual(out, "2 done, 0 skipped, 0 refused, 0 failed\n")
         self.assertEqual(self.read("out", "web1", "tree", "etc", "sudoers"), "root ALL = ALL\n")
         self.assertEqual(self.read("out", "misses", "policy"), "/etc/sudoers\n")
         first = self.rows("out", "status.csv")
@@ -141,7 +141,7 @@ class Gather(GatherCase):
     def test_hosts_that_fail_are_named_and_the_others_go_on(self) -> None:
         hosts = ("web1", "gone", "hangs", "trickles", "shouts", "short", "fails", "nosuch")
         out, err = self.gather(*hosts, "--limit", "2", status=1)
-        self.assertEqual(out, "1 done, 0 stands, 1 refused, 6 failed\n")
+        self.assertEqual(out, "1 done, 0 skipped, 1 refused, 6 failed\n")
         found = self.statuses()
         self.assertEqual(found["web1"], ("done", ""))
         self.assertEqual(found["gone"], ("failed", "ssh: connect to host gone: Connection refused"))
@@ -162,7 +162,7 @@ class Gather(GatherCase):
         os.mkdir(self.path("out", ".0123456789abcdef.part"))
         before = os.stat(self.path("out", "web1")).st_mtime_ns
         out, _ = self.gather("web1", "gone")
-        self.assertEqual(out, "1 done, 1 stands, 0 refused, 0 failed\n")
+        self.assertEqual(out, "1 done, 1 skipped, 0 refused, 0 failed\n")
         self.assertEqual(os.stat(self.path("out", "web1")).st_mtime_ns, before)
         self.assertEqual(sorted(os.listdir(self.path("out"))), ["gone", "status.csv", "web1"])
         self.assertEqual(sum(row.startswith("-- web1 ") for row in self.rows("asked")), 1)
@@ -183,14 +183,14 @@ class Gather(GatherCase):
         tars = [self.tar("a", lambda put: None, tarfile.PAX_FORMAT), self.tar("b", lambda put: None, top="web2")]
         tars += [self.tar("c", lambda put: None), self.write("no.tar", "x" * 5000), self.path("none.tar")]
         out, _ = self.run_tool("gather", "--out", "out", "--tar", *tars, status=1)
-        self.assertEqual(out, "2 done, 0 stands, 3 refused, 0 failed\n")
+        self.assertEqual(out, "2 done, 0 skipped, 3 refused, 0 failed\n")
         self.assertEqual(sorted(os.listdir(self.path("out"))), ["status.csv", "web1", "web2"])
         rows = self.rows("out", "status.csv")
         self.assertIn(f"web1,refused,{tars[2]}: its folder web1 is that of {tars[0]},0,0,0.0", rows)
         self.assertIn("not a tar, or a damaged one", rows[4])
         self.assertIn("none.tar: No such file or directory", rows[5])
         out, _ = self.run_tool("gather", "--out", "out", "--tar", *tars[:2])
-        self.assertEqual(out, "0 done, 2 stands, 0 refused, 0 failed\n")
+        self.assertEqual(out, "0 done, 2 skipped, 0 refused, 0 failed\n")
 
 
 class HostileTars(GatherCase):
