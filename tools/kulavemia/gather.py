@@ -31,6 +31,8 @@ STATUSES = (DONE, SKIPPED, REFUSED, FAILED)
 
 # What tools/collect puts into a host's folder.
 _NAMES = frozenset(("tree", "policy", "passwd", "group", "addr.json", "hostname", "logs", "missing"))
+# Names that mean something else beside the folders of hosts, for a directory or a fleet.
+_TAKEN = _NAMES | {GATHERED, "users.csv", "hosts.csv"}
 _NAME_LIMIT = 200
 _HOST = re.compile(r"(?:[^@\s-][^@\s]*@)?([A-Za-z0-9][A-Za-z0-9._:%-]*)")
 
@@ -100,7 +102,7 @@ def jobs_of(hosts: Sequence[str], tars: Sequence[str], limits: Limits) -> list[J
 
 
 def _fits(name: str) -> bool:
-    return len(os.fsencode(name)) <= _NAME_LIMIT and not name.startswith(".") and name != GATHERED
+    return len(os.fsencode(name)) <= _NAME_LIMIT and not name.startswith(".") and name not in _TAKEN
 
 
 def _job_of_tar(tar: str, limits: Limits) -> Job:

@@ -126,7 +126,7 @@ class Gather(GatherCase):
         self.assertEqual(self.rows("asked"), [f"-- web1 {line}"])
 
     def test_hosts_that_are_none(self) -> None:
-        for host in ("a@-x", "a b", "../x", "web1/..", ".x", "status.csv", "x" * 201, "a\x1b@b", "", "a\n"):
+        for host in ("a@-x", "a b", "../x", "web1/..", ".x", "status.csv", "tree", "x" * 201, "a\x1b@b", "", "a\n"):
             self.assertIn("expected a host's name", self.gather(host, status=2)[1])
         for words in (("-oProxyCommand=x",), ("--", "-oProxyCommand=x"), ("--", "-x@web1"), ("web1", "--", "-x")):
             self.gather(*words, status=2)
@@ -189,6 +189,10 @@ class Gather(GatherCase):
         self.assertIn(f"web1,refused,{tars[2]}: its folder web1 is that of {tars[0]},0,0,0.0", rows)
         self.assertIn("not a tar, or a damaged one", rows[4])
         self.assertIn("none.tar: No such file or directory", rows[5])
+        for top in ("tree", "users.csv", ".x"):
+            tar = self.tar("other", lambda put: None, top=top)
+            _, err = self.run_tool("gather", "--out", "out", "--tar", tar, status=1)
+            self.assertIn(f"{top}: not the name of a host's folder", err)
         out, _ = self.run_tool("gather", "--out", "out", "--tar", *tars[:2])
         self.assertEqual(out, "0 done, 2 skipped, 0 refused, 0 failed\n")
 
