@@ -169,14 +169,20 @@ class Gather(GatherCase):
 
     def test_an_interrupt_ends_what_was_started(self) -> None:
         words = [os.path.join(TOOLS, "gather"), "--command", self.path("stub"), "--out", "out", "web1", "hangs"]
-        with subprocess.Popen(words, cwd=self.folder, stdout=subprocess.DEVNULL) as running:
-            end = time.monotonic() + 30
-            while not os.path.isdir(self.path("out", "web1")) or not os.path.exists(self.path("asked")):
-                self.assertLess(time.monotonic(), end)
-                time.sleep(0.02)
-            time.sleep(0.3)
-            running.send_signal(signal.SIGINT)
-            self.assertEqual(running.wait(10), 130)
+        # Where the tests run in the background, they ignore interrupts, and so would the command.
+        before = signal.signal(signal.SIGINT, signal.default_int_handler)
+        try:
+            running = subprocess.Popen(words, cwd=self.folder, stdout=subprocess.DEVNULL)
+        finally:
+            signal.signal(signal.SIGINT, before)
+        self.addCleanup(running.wait)
+        self.addCleanup(running.kill)
+        end = time.monotonic() + 30
+        while not os.path.isdir(self.path("out", "web1")) or len(self.rows("asked")) < 2:
+            self.assertLess(time.monotonic(), end)
+            time.sleep(0.02)
+        running.send_signal(signal.SIGINT)
+        self.assertEqual(running.wait(10), 130)
         self.assertEqual(os.listdir(self.path("out")), ["web1"])
 
     def test_tars_at_hand(self) -> None:
