@@ -118,8 +118,10 @@ def run(main: Callable[[], int]) -> NoReturn:
 
 
 def _place_of(error: OSError) -> str:
-    """Returns the path of an error of the system, with a colon. What is written to files names them, so that a full disk
-    without a path is that of standard output."""
+    """Returns the path of an error of the system, with a colon.
+
+    Writers of files name them, so that a full disk without a path is that of standard output.
+    """
     if error.filename is not None:
         return f"{os.fsdecode(error.filename)}: "
     if error.errno not in _NO_ROOM:

@@ -99,7 +99,7 @@ class Fleet:
         return [entry.name for entry in foreign.entries(self.folder) if self._is_host(entry)]
 
     def _is_host(self, entry: foreign.Entry) -> bool:
-        """Returns whether an entry of the fleet's folder is a host: a folder, or a link to one, which is then refused."""
+        """Returns whether an entry of the fleet's folder is a host: a folder, or a link to one, which is refused."""
         if entry.name == TREE or entry.name.startswith("."):
             return False
         if entry.kind == foreign.LINK:

@@ -1,8 +1,8 @@
 """Opens of files that come from another machine: bounded in time and in memory, and without following links.
 
 A path of the command line is the user's own, and its links are followed. Below a folder of copied files nothing is
-followed: each folder on the way is opened below the last one, by its descriptor. Anything but a plain file is refused by
-name before it is opened, so that nothing waits at a FIFO and no device is touched.
+followed: each folder on the way is opened below the last one, by its descriptor. Anything but a plain file is refused
+by name before it is opened, so that nothing waits at a FIFO and no device is touched.
 """
 
 import contextlib
@@ -23,6 +23,7 @@ REQUESTS_CAP = 1 << 28
 NAME_CAP = 1 << 12
 LOG_CAP = 1 << 32
 TABLE_CAP = 1 << 34
+TABLE_LINE_CAP = 1 << 24
 # The most bytes of a policy with all that it includes, of the requests of one audit, and the most names of a folder.
 TREE_CAP = 1 << 28
 SHARD_CAP = 1 << 30
@@ -52,13 +53,15 @@ class Entry(NamedTuple):
 
 
 class _Capped(io.RawIOBase):
-    """A stream of which at most so many bytes are read."""
+    """A stream of which at most so many bytes are read, and of a line, if it is read by lines, at most so many."""
 
-    def __init__(self, inner: BinaryIO, path: str, cap: int) -> None:
+    def __init__(self, inner: BinaryIO, path: str, cap: int, line_cap: int = 0) -> None:
         self.inner = inner
         self.path = path
         self.cap = cap
+        self.line_cap = line_cap
         self.count = 0
+        self.line = 0
 
     def readable(self) -> bool:
         return True
@@ -83,7 +86,16 @@ class _Capped(io.RawIOBase):
         self.count += count
         if self.count > self.cap:
             raise _too_long(self.path, self.cap)
+        if self.line_cap:
+            self._want_line(bytes(buffer[:count]))
         return count
+
+    def _want_line(self, data: bytes) -> None:
+        """Raises `Fault` if the line that goes on at the end of these bytes is too long."""
+        last = max(data.rfind(b"\n"), data.rfind(b"\r"))
+        self.line = self.line + len(data) if last < 0 else len(data) - last - 1
+        if self.line > self.line_cap:
+            raise Fault(f"{self.path}: a line of more than {self.line_cap} bytes")
 
     def close(self) -> None:
         if not self.closed:
@@ -96,12 +108,15 @@ def capped(inner: BinaryIO, path: str, cap: int) -> io.BufferedReader:
     return io.BufferedReader(_Capped(inner, path, cap), _BUFFER)
 
 
-def opened(path: str | bytes, cap: int, below: str | bytes | None = None) -> io.BufferedReader:
-    """Opens a plain file for reading at most `cap` bytes. Raises `Fault` if it is something else, or has more."""
+def opened(path: str | bytes, cap: int, below: str | bytes | None = None, line_cap: int = 0) -> io.BufferedReader:
+    """Opens a plain file for reading at most `cap` bytes, and lines of `line_cap` where that is given.
+
+    Raises `Fault` if it is something else, or has more.
+    """
     shown = os.fsdecode(path)
     with _at(shown, below) as (folder, name):
         descriptor = _plain(shown, name, folder, cap)
-    return capped(cast(BinaryIO, io.FileIO(descriptor)), shown, cap)
+    return io.BufferedReader(_Capped(cast(BinaryIO, io.FileIO(descriptor)), shown, cap, line_cap), _BUFFER)
 
 
 def read(path: str | bytes, cap: int, below: str | bytes | None = None) -> bytes:
@@ -111,7 +126,7 @@ def read(path: str | bytes, cap: int, below: str | bytes | None = None) -> bytes
 
 
 def want_plain(path: str | bytes, cap: int, below: str | bytes | None = None) -> int:
-    """Returns the size of a plain file. Raises `Fault` if something else has its name, or if it has more than `cap` bytes."""
+    """Returns the size of a plain file. Raises `Fault` if something else has its name, or it is longer than `cap`."""
     shown = os.fsdecode(path)
     with _at(shown, below) as (folder, name):
         return _plain_size(shown, os.stat(name, dir_fd=folder, follow_symlinks=folder is None), cap)
@@ -231,7 +246,7 @@ def _held(stack: contextlib.ExitStack, descriptor: int) -> int:
 
 
 def _parts(path: str, below: str) -> list[str]:
-    """Returns the names on the way from a folder to a path below it. Raises `Fault` if they are not in their plain form."""
+    """Returns the names on the way from a folder to a path below it. Raises `Fault` if their form is not plain."""
     start = os.path.join(below, "")
     parts = path.removeprefix(start).split("/")
     if not path.startswith(start) or any(part in ("", ".", "..") for part in parts):

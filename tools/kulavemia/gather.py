@@ -1,4 +1,4 @@
-"""What tools/collect gathers of many hosts, as it comes or in tars at hand: a folder for each host, and a status of each."""
+"""What tools/collect gathers of many hosts: a folder for each, out of tars as they come or at hand, and its status."""
 
 import functools
 import os
@@ -24,13 +24,15 @@ from kulavemia.transport import MISSING, Transport, words_for
 
 STATUS_HEADER = ("host", "status", "fault", "bytes", "members", "seconds")
 DONE = "done"
-STANDS = "stands"
+SKIPPED = "skipped"
 REFUSED = "refused"
 FAILED = "failed"
-STATUSES = (DONE, STANDS, REFUSED, FAILED)
+STATUSES = (DONE, SKIPPED, REFUSED, FAILED)
 
 # What tools/collect puts into a host's folder.
 _NAMES = frozenset(("tree", "policy", "passwd", "group", "addr.json", "hostname", "logs", "missing"))
+# Names that mean something else beside the folders of hosts, for a directory or a fleet.
+_TAKEN = _NAMES | {GATHERED, "users.csv", "hosts.csv"}
 _NAME_LIMIT = 200
 _HOST = re.compile(r"(?:[^@\s-][^@\s]*@)?([A-Za-z0-9][A-Za-z0-9._:%-]*)")
 
@@ -81,7 +83,7 @@ def command_of(text: str) -> list[str]:
 
 
 def jobs_of(hosts: Sequence[str], tars: Sequence[str], limits: Limits) -> list[Job]:
-    """Returns what is to be done for hosts and tars. Raises `Fault` at a host's name that is not one, or stands twice."""
+    """Returns what is to be done for hosts and tars. Raises `Fault` at a word that is no host, and at one twice."""
     found: dict[str, Job] = {}
     for host in hosts:
         match = _HOST.fullmatch(host)
@@ -100,11 +102,11 @@ def jobs_of(hosts: Sequence[str], tars: Sequence[str], limits: Limits) -> list[J
 
 
 def _fits(name: str) -> bool:
-    return len(os.fsencode(name)) <= _NAME_LIMIT and not name.startswith(".") and name != GATHERED
+    return len(os.fsencode(name)) <= _NAME_LIMIT and not name.startswith(".") and name not in _TAKEN
 
 
 def _job_of_tar(tar: str, limits: Limits) -> Job:
-    """Returns what is to be done for a tar, whose folder has the name that stands in it."""
+    """Returns what is to be done for a tar, whose folder has the name of the one in the tar."""
     try:
         with foreign.opened(tar, limits.host) as file:
             top = top_of(file.read, limits)
@@ -162,13 +164,13 @@ class Gathering:
         return row._replace(seconds=time.monotonic() - start)
 
     def _gathered(self, job: Job) -> Row:
-        """Gathers a host, unless its folder stands. Raises `Fault` if that fails, and `OSError` if it cannot be written."""
+        """Gathers a host that has no folder yet. Raises `Fault` if that fails, and `OSError` if writing does."""
         if job.fault:
             raise Fault(job.fault)
         path = os.path.join(self.out, job.folder)
         kind = foreign.kind_of(path, self.out)
         if kind == foreign.FOLDER:
-            return Row(job.host, STANDS)
+            return Row(job.host, SKIPPED)
         if kind is not None:
             raise Fault(f"{path}: expected {foreign.FOLDER}, found {kind}")
         with outputs.new_folder(path) as folder:

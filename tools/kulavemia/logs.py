@@ -11,6 +11,7 @@ import lzma
 import os
 import re
 import sys
+import time
 import zlib
 from collections import deque
 from collections.abc import Callable, Collection, Iterator
@@ -157,8 +158,9 @@ class Log:
         self.at = at
         self.raw, inner = opened(path, options.below)
         self.file = io.TextIOWrapper(inner, encoding="utf-8", errors="surrogateescape", newline="\n")
-        newest = os.stat(path).st_mtime if path != "-" else None
-        self.newest = datetime.datetime.fromtimestamp(newest) if newest else datetime.datetime.now()
+        # No line is of a time to come, whatever time the file has.
+        newest = min(max(0, os.stat(path).st_mtime), time.time()) if path != "-" else time.time()
+        self.newest = datetime.datetime.fromtimestamp(newest)
         self.waiting: deque[_Message | Found] = deque()
         self.latest: dict[tuple[str, str], _Message] = {}
         self.dates: dict[tuple[str | Any, ...], str] = {}

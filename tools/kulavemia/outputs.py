@@ -1,7 +1,7 @@
 """Writes: whole or not at all, private, and in folders that no other user can change.
 
-A file is made beside its place under a name by chance, and renamed when it is whole, so that a link in its place is replaced
-and not followed. Faults of the system name the file.
+A file is made beside its place under a name by chance, and renamed when it is whole, so that a link in its place is
+replaced and not followed. Faults of the system name the file.
 """
 
 import argparse
@@ -80,7 +80,7 @@ def naming(path: str) -> Iterator[None]:
 
 
 class Fresh:
-    """A file of a folder that is being written. It is removed where it is not kept. Faults name a path, or the folder."""
+    """A file that is being written in a folder. It is removed if it is not kept. Faults name a path, or the folder."""
 
     def __init__(self, folder: str, path: str = "") -> None:
         want_own(folder)
@@ -121,7 +121,10 @@ def written(path: str) -> Iterator[BinaryIO]:
 
 @contextlib.contextmanager
 def replacing(path: str) -> Iterator[BinaryIO]:
-    """Opens what takes the place of a file that a command line names. A terminal, a pipe or the like is written as it is."""
+    """Opens what takes the place of a file that a command line names.
+
+    A terminal, a pipe or the like is written as it is.
+    """
     if not _is_stream(path):
         with written(path) as file:
             yield file
@@ -134,11 +137,16 @@ def replacing(path: str) -> Iterator[BinaryIO]:
 
 
 def _is_stream(path: str) -> bool:
-    """Returns whether a path is a terminal, a pipe or the like, or names a descriptor, as /dev/stdout does."""
+    """Returns whether a path is a terminal, a pipe or the like, or names a descriptor, as /dev/stdout does.
+
+    Raises `Fault` at a disk or a socket.
+    """
     try:
         mode = os.stat(path).st_mode
     except FileNotFoundError:
         return False
+    if stat.S_ISBLK(mode) or stat.S_ISSOCK(mode):
+        raise Fault(f"{path}: neither a file nor a stream", WORDS)
     folder = os.path.join(os.path.realpath(os.path.dirname(path)), "")
     return stat.S_ISCHR(mode) or stat.S_ISFIFO(mode) or folder == "/dev/" or folder.startswith("/proc/")
 
@@ -242,12 +250,14 @@ def _want_own(path: str, status: os.stat_result) -> None:
     """Raises `Fault` if a folder or a link is of another user, or a folder can be written by others."""
     if status.st_uid not in (0, os.geteuid()):
         raise Fault(
-            f"{path} is of the user {_user(status.st_uid)}, who could change what is written there: name another folder",
+            f"{path} is of the user {_user(status.st_uid)}, who could change what is written there:"
+            " name another folder",
             WORDS,
         )
     is_guarded = status.st_mode & stat.S_ISVTX and status.st_uid == 0
     if stat.S_ISDIR(status.st_mode) and status.st_mode & _OTHERS_WRITE and not is_guarded:
-        raise Fault(f"{path} can be written by other users: take that from them (chmod go-w), or name another folder", WORDS)
+        advice = "take that from them (chmod go-w), or name another folder"
+        raise Fault(f"{path} can be written by other users: {advice}", WORDS)
 
 
 def _user(uid: int) -> str:

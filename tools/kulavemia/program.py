@@ -107,7 +107,7 @@ def audit_words(program: str, policy: Policy, sources: Iterable[Source], workers
 
 def _want_plain(path: str, cap: int) -> None:
     """Raises `Fault` if the program would wait for a file, or read without end. It names a missing one itself."""
-    if foreign.exists(path):
+    if "\0" in path or foreign.exists(path):
         foreign.want_plain(path, cap)
 
 

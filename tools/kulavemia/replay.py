@@ -83,7 +83,7 @@ def _policy(given: argparse.Namespace, main: str, tree: str | None, name: str, b
 
 
 def _own_files(main: str) -> dict[bytes, bytes]:
-    """Returns the texts of the files of a policy of this machine, none where the program will say what is wrong with it."""
+    """Returns the texts of the files of a policy of this machine, none if the program will say what is wrong."""
     try:
         return {path: read(path) for path in map(os.fsencode, files_of(main))}
     except (Fault, OSError):

@@ -15,14 +15,12 @@ from kulavemia.command import Fault
 
 csv.field_size_limit(1 << 28)
 
-# The longest line of a file of rows, in characters.
-_LINE_LIMIT = 1 << 24
 _QUOTED = re.compile('[",\r\n]')
 
 
 def open_read(path: str) -> io.TextIOWrapper:
     """Opens a file for reading, whatever its bytes are."""
-    return as_text(foreign.opened(path, foreign.TABLE_CAP))
+    return as_text(foreign.opened(path, foreign.TABLE_CAP, line_cap=foreign.TABLE_LINE_CAP))
 
 
 @contextlib.contextmanager
@@ -34,7 +32,7 @@ def open_write(path: str, mode: str = "w") -> Iterator[io.TextIOWrapper]:
 
 @contextlib.contextmanager
 def replacing(path: str) -> Iterator[io.TextIOWrapper]:
-    """Opens what takes the place of a file once all of it is written; a terminal, a pipe or the like is written as it is."""
+    """Opens what takes the place of a file once it is whole; a terminal, a pipe or the like is written as it is."""
     with outputs.replacing(path) as file, _written_text(file) as text:
         yield text
 
@@ -50,8 +48,11 @@ def _written_text(file: BinaryIO) -> Iterator[io.TextIOWrapper]:
     text = as_text(file)
     try:
         yield text
+        text.flush()
     finally:
-        text.detach()
+        # What is left is not to hide why it is.
+        with contextlib.suppress(OSError):
+            text.detach()
 
 
 def row(fields: Sequence[str]) -> str:
@@ -79,19 +80,9 @@ def header_of(path: str) -> list[str]:
     """Returns the first record of a file, empty if it has none."""
     with open_read(path) as file:
         try:
-            return _first(csv.reader(_lines(path, file), strict=True))
+            return _first(csv.reader(file, strict=True))
         except csv.Error as error:
             raise Fault(f"{path}:1: {error}") from None
-
-
-def _lines(path: str, file: io.TextIOWrapper) -> Iterator[str]:
-    """Yields the lines of a file with their ends. Raises `Fault` at one that is too long."""
-    line = 0
-    while text := file.readline(_LINE_LIMIT):
-        line += 1
-        if len(text) == _LINE_LIMIT and not text.endswith("\n"):
-            raise Fault(f"{path}:{line}: the line has more than {_LINE_LIMIT} characters")
-        yield text
 
 
 def _first(reader: Iterator[list[str]]) -> list[str]:
@@ -103,7 +94,7 @@ def _first(reader: Iterator[list[str]]) -> list[str]:
 def records(path: str, header: Sequence[str]) -> Iterator[tuple[int, list[str]]]:
     """Yields each record after the header with its line. Raises `Fault` at another header or number of fields."""
     with open_read(path) as file:
-        reader = csv.reader(_lines(path, file), strict=True)
+        reader = csv.reader(file, strict=True)
         try:
             if _first(reader) != list(header):
                 raise Fault(f"{path}:1: bad header, expected {','.join(header)}")

@@ -1,7 +1,7 @@
 """A strict reader of tars that come from other machines.
 
-It unpacks plain files and folders below one folder. A link, a device, a name that leads elsewhere, or more than the limits
-allow is refused by name, before memory or disk is taken for it. Owners and modes are left out.
+It unpacks plain files and folders below one folder. A link, a device, a name that leads elsewhere, or more than the
+limits allow is refused by name, before memory or disk is taken for it. Owners and modes are left out.
 """
 
 import errno
@@ -211,7 +211,7 @@ def _extended(data: bytes) -> dict[bytes, bytes]:
 
 
 def _parts(member: Member) -> list[str]:
-    """Returns the names on the way to a member. Raises `Fault` if they may lead elsewhere, or are not fit to be shown."""
+    """Returns the names on the way to a member. Raises `Fault` if they lead elsewhere, or are not fit to be shown."""
     shown = member.name[:_NAME_LIMIT]
     parts = member.name.split("/")
     if any(part in ("", ".", "..") for part in parts):
@@ -232,7 +232,7 @@ def top_of(read: Callable[[int], bytes], limits: Limits) -> str:
 
 
 class Unpacking:
-    """Unpacks a tar into a folder of this machine, which stands for the tar's one folder."""
+    """Unpacks a tar's one folder into a folder of this machine, whatever its name is."""
 
     def __init__(self, tar: Tar, folder: str, names: frozenset[str]) -> None:
         self.tar = tar

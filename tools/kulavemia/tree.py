@@ -57,8 +57,8 @@ class _Copy:
     """The files of a policy below a tree, by their own paths, as they read where includes stay below a root folder."""
 
     def __init__(self, tree: str, root: bytes, below: str) -> None:
-        self.tree = os.fsencode(os.path.abspath(tree))
-        self.below = os.fsencode(os.path.abspath(below))
+        self.tree = os.fsencode(tree).rstrip(b"/")
+        self.below = os.fsencode(below)
         self.root = root
         self.seen: set[bytes] = set()
         self.files: dict[bytes, bytes] = {}
@@ -102,13 +102,12 @@ def files_of_tree(tree: str, main: str, root: bytes, below: str | None = None) -
 
     No link is followed below a folder, by default the tree.
     """
-    start = tree if below is None else below
     if not main.startswith("/"):
         raise Fault(f"{main}: the policy is named by its path on its own machine, as /etc/sudoers")
-    if not foreign.exists(tree + main, start):
-        raise Fault(f"{tree}{main} is not there")
-    copy = _Copy(tree, root, start)
+    copy = _Copy(tree, root, tree if below is None else below)
     copy.take(os.fsencode(main))
+    if not copy.files:
+        raise Fault(f"{tree}{main} is not there")
     return copy.files
 
 

@@ -148,6 +148,16 @@ class Directory(Case):
             self.assertEqual(found, list(modes))
             shutil.rmtree(self.path("out"))
 
+    @unittest.skipUnless(os.geteuid() == 0, "root alone can make a folder of another user")
+    def test_root_does_not_write_through_another_users_link(self) -> None:
+        victim = self.write("victim", "victim")
+        os.mkdir(self.path("work"))
+        os.symlink(victim, self.path("work", "users.csv"))
+        os.chown(self.path("work"), 65534, 65534)
+        _, err = self.run_tool("directory", "work", status=2)
+        self.assertIn(f"{self.folder}/work is of the user nobody, who could change what is written there", err)
+        self.assertEqual((self.read("victim"), os.listdir(self.path("work"))), ("victim", ["users.csv"]))
+
     def test_hosts_that_differ(self) -> None:
         self.host("all/web1")
         self.host("all/web2", passwd=PASSWD.replace("5002", "6002"))

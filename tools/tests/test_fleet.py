@@ -90,6 +90,37 @@ class Parts(FleetCase):
             self.fleet("--join")[1],
         )
 
+    def test_files_without_end_are_refused_for_their_host_alone(self) -> None:
+        for name in ("web1", "web2", "web3", "web4"):
+            self.host(name)
+        os.truncate(self.path("fleet", "web1", "tree", "etc", "sudoers"), 100 << 30)
+        os.truncate(self.path("fleet", "web2", "requests", "web2.csv"), 100 << 30)
+        for part in range(2, 7):
+            self.write(f"fleet/web3/requests/web3.{part}.csv", "")
+            os.truncate(self.path("fleet", "web3", "requests", f"web3.{part}.csv"), 255 << 20)
+        self.fleet("--part", "1/1")
+        self.fleet("--join", status=1)
+        self.assertEqual(
+            [row.split(",", 4)[4] for row in self.rows("out", "status.csv")[1:]],
+            [
+                '"fleet/web1/tree/etc/sudoers: more than 16777216 bytes, and no more are read"',
+                "the requests of web2 have more than 1073741824 bytes",
+                "the requests of web3 have more than 1073741824 bytes",
+                "",
+            ],
+        )
+        self.want_as_one_machine(without=["web1", "web2", "web3"])
+
+    def test_two_runs_at_once(self) -> None:
+        self.host("web1", POLICY + f"# stub wait {self.path('go')}\n")
+        running = self.start("--part", "1/1")
+        self.wait_until(lambda: os.path.exists(self.path("out", ".lock")))
+        self.assertIn(f"out: the process {running.pid} works in this folder", self.fleet("--join", status=4)[1])
+        self.write("go", "")
+        running.communicate()
+        self.fleet("--join")
+        self.want_as_one_machine()
+
     def test_words(self) -> None:
         self.host("web1")
         self.assertIn("name one", self.fleet("--join", "--part", "1/1", status=2)[1])

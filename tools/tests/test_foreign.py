@@ -85,6 +85,15 @@ class Foreign(Case):
             with self.assertRaisesRegex(Fault, "log: more than 5 bytes"):
                 file.read()
 
+    def test_a_line_is_read_up_to_its_cap(self) -> None:
+        for text, fits in (("1234\n1234\r1234", True), ("1234\n12345", False), ("12345\n" * 3, True)):
+            with foreign.opened(self.write("log", text), 100, line_cap=4) as file:
+                if fits:
+                    self.assertEqual(file.read(), text.encode())
+                    continue
+                with self.assertRaisesRegex(Fault, "log: a line of more than 4 bytes"):
+                    file.read()
+
     def test_unpacked_bytes_count(self) -> None:
         packed = gzip.compress(bytes(1 << 20))
         for cap, fits in ((1 << 20, True), ((1 << 20) - 1, False)):

@@ -91,7 +91,7 @@ class GatherCase(Case):
 class Gather(GatherCase):
     def test_hosts_are_unpacked_into_folders_of_their_names(self) -> None:
         out, err = self.gather("web1", "admin@misses")
-        self.assertEqual(out, "2 done, 0 stands, 0 refused, 0 failed\n")
+        self.assertEqual(out, "2 done, 0 skipped, 0 refused, 0 failed\n")
         self.assertEqual(self.read("out", "web1", "tree", "etc", "sudoers"), "root ALL = ALL\n")
         self.assertEqual(self.read("out", "misses", "policy"), "/etc/sudoers\n")
         first = self.rows("out", "status.csv")
@@ -126,14 +126,14 @@ class Gather(GatherCase):
         self.assertEqual(self.rows("asked"), [f"-- web1 {line}"])
 
     def test_hosts_that_are_none(self) -> None:
-        for host in ("a@-x", "a b", "../x", "web1/..", ".x", "status.csv", "x" * 201, "a\x1b@b", "", "a\n"):
+        for host in ("a@-x", "a b", "../x", "web1/..", ".x", "status.csv", "tree", "x" * 201, "a\x1b@b", "", "a\n"):
             self.assertIn("expected a host's name", self.gather(host, status=2)[1])
         for words in (("-oProxyCommand=x",), ("--", "-oProxyCommand=x"), ("--", "-x@web1"), ("web1", "--", "-x")):
             self.gather(*words, status=2)
         self.assertIn("web1 and root@web1 have one folder", self.gather("web1", "root@web1", status=2)[1])
         self.assertIn("name a HOST, or tars by --tar", self.gather(status=2)[1])
-        for words in (("--jobs", "0"), ("--limit", "0"), ("--limit", "nan"), ("--host-size", "1T"), ("--members", "-1")):
-            self.gather("web1", *words, status=2)
+        for option, word in (("jobs", "0"), ("limit", "0"), ("limit", "nan"), ("host-size", "1T"), ("members", "-1")):
+            self.gather("web1", f"--{option}", word, status=2)
         err = self.run_tool("gather", "--command", "/none/such x", "--out", "out", "web1", status=2)[1]
         self.assertIn("there is no such command", err)
         self.assertFalse(os.path.exists(self.path("out")))
@@ -141,7 +141,7 @@ class Gather(GatherCase):
     def test_hosts_that_fail_are_named_and_the_others_go_on(self) -> None:
         hosts = ("web1", "gone", "hangs", "trickles", "shouts", "short", "fails", "nosuch")
         out, err = self.gather(*hosts, "--limit", "2", status=1)
-        self.assertEqual(out, "1 done, 0 stands, 1 refused, 6 failed\n")
+        self.assertEqual(out, "1 done, 0 skipped, 1 refused, 6 failed\n")
         found = self.statuses()
         self.assertEqual(found["web1"], ("done", ""))
         self.assertEqual(found["gone"], ("failed", "ssh: connect to host gone: Connection refused"))
@@ -162,35 +162,45 @@ class Gather(GatherCase):
         os.mkdir(self.path("out", ".0123456789abcdef.part"))
         before = os.stat(self.path("out", "web1")).st_mtime_ns
         out, _ = self.gather("web1", "gone")
-        self.assertEqual(out, "1 done, 1 stands, 0 refused, 0 failed\n")
+        self.assertEqual(out, "1 done, 1 skipped, 0 refused, 0 failed\n")
         self.assertEqual(os.stat(self.path("out", "web1")).st_mtime_ns, before)
         self.assertEqual(sorted(os.listdir(self.path("out"))), ["gone", "status.csv", "web1"])
         self.assertEqual(sum(row.startswith("-- web1 ") for row in self.rows("asked")), 1)
 
     def test_an_interrupt_ends_what_was_started(self) -> None:
         words = [os.path.join(TOOLS, "gather"), "--command", self.path("stub"), "--out", "out", "web1", "hangs"]
-        with subprocess.Popen(words, cwd=self.folder, stdout=subprocess.DEVNULL) as running:
-            end = time.monotonic() + 30
-            while not os.path.isdir(self.path("out", "web1")) or not os.path.exists(self.path("asked")):
-                self.assertLess(time.monotonic(), end)
-                time.sleep(0.02)
-            time.sleep(0.3)
-            running.send_signal(signal.SIGINT)
-            self.assertEqual(running.wait(10), 130)
+        # Where the tests run in the background, they ignore interrupts, and so would the command.
+        before = signal.signal(signal.SIGINT, signal.default_int_handler)
+        try:
+            running = subprocess.Popen(words, cwd=self.folder, stdout=subprocess.DEVNULL)
+        finally:
+            signal.signal(signal.SIGINT, before)
+        self.addCleanup(running.wait)
+        self.addCleanup(running.kill)
+        end = time.monotonic() + 30
+        while not os.path.isdir(self.path("out", "web1")) or len(self.rows("asked")) < 2:
+            self.assertLess(time.monotonic(), end)
+            time.sleep(0.02)
+        running.send_signal(signal.SIGINT)
+        self.assertEqual(running.wait(10), 130)
         self.assertEqual(os.listdir(self.path("out")), ["web1"])
 
     def test_tars_at_hand(self) -> None:
         tars = [self.tar("a", lambda put: None, tarfile.PAX_FORMAT), self.tar("b", lambda put: None, top="web2")]
         tars += [self.tar("c", lambda put: None), self.write("no.tar", "x" * 5000), self.path("none.tar")]
         out, _ = self.run_tool("gather", "--out", "out", "--tar", *tars, status=1)
-        self.assertEqual(out, "2 done, 0 stands, 3 refused, 0 failed\n")
+        self.assertEqual(out, "2 done, 0 skipped, 3 refused, 0 failed\n")
         self.assertEqual(sorted(os.listdir(self.path("out"))), ["status.csv", "web1", "web2"])
         rows = self.rows("out", "status.csv")
         self.assertIn(f"web1,refused,{tars[2]}: its folder web1 is that of {tars[0]},0,0,0.0", rows)
         self.assertIn("not a tar, or a damaged one", rows[4])
         self.assertIn("none.tar: No such file or directory", rows[5])
+        for top in ("tree", "users.csv", ".x"):
+            tar = self.tar("other", lambda put: None, top=top)
+            _, err = self.run_tool("gather", "--out", "out", "--tar", tar, status=1)
+            self.assertIn(f"{top}: not the name of a host's folder", err)
         out, _ = self.run_tool("gather", "--out", "out", "--tar", *tars[:2])
-        self.assertEqual(out, "0 done, 2 stands, 0 refused, 0 failed\n")
+        self.assertEqual(out, "0 done, 2 skipped, 0 refused, 0 failed\n")
 
 
 class HostileTars(GatherCase):
@@ -283,7 +293,8 @@ class HostileTars(GatherCase):
     def test_sizes_that_are_none(self) -> None:
         for size in (b"\xff" * 12, b"\x80" + b"\xff" * 11, b"99999999999\0"):
             with self.subTest(size):
-                self.assertRegex(self.fault_of_block(lambda block: block[:124] + size + block[136:]), "bytes|wrong|below 0")
+                fault = self.fault_of_block(lambda block: block[:124] + size + block[136:])
+                self.assertRegex(fault, "bytes|wrong|below 0")
 
     def fault_of_block(self, change: Callable[[bytes], bytes]) -> str:
         """Returns why a tar is refused whose first block is changed, with the right sum."""

@@ -97,7 +97,8 @@ class Opens(unittest.TestCase):
         self.assertEqual({key: call for key, call in found.items() if key not in ALLOWED}, {})
 
     def test_each_call_that_is_meant_is_found(self) -> None:
-        text = "class A:\n  def f(self):\n    with open('x'): os.listdir(y)\ndef g(): os.replace(a, b); 'x'.replace('a', 'b')"
+        text = "class A:\n  def f(self):\n    with open('x'): os.listdir(y)\n"
+        text += "def g(): os.replace(a, b); 'x'.replace('a', 'b')"
         self.assertEqual(list(calls_in(text)), [("A.f", "open"), ("A.f", "os.listdir"), ("g", "os.replace")])
 
 

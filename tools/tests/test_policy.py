@@ -106,6 +106,12 @@ class Trees(Case):
         self.assertEqual(self.read("copy/etc/sudoers.d/10"), f"@include {self.path('copy')}/opt/x\n")
         self.assertEqual(self.read("copy/opt/x"), "c ALL = ALL\n")
 
+    def test_a_tree_whose_name_ends_in_a_slash(self) -> None:
+        self.write("tree/etc/sudoers", "@include local\n")
+        self.write("tree/etc/local", "b ALL = ALL\n")
+        of_tree(self.path("tree") + "/", "/etc/sudoers", self.path("copy"))
+        self.assertEqual(self.read("copy/etc/local"), "b ALL = ALL\n")
+
     def test_a_chain_of_files_that_is_too_deep_for_sudo(self) -> None:
         self.write("tree/etc/sudoers", "@include /f0\n")
         for number in range(1200):
