@@ -34,7 +34,7 @@ def _folder_of(path: str) -> str:
 
 
 def reason_to_pass_over(path: str, name: str, bounds: Bounds) -> str | None:
-    """Returns why sudo passes a folder's entry over, or None where it reads it, or might."""
+    """Returns why sudo passes a folder's entry over, or None where the entry is to be checked."""
     if name.endswith("~"):
         return "its name ends in ~"
     if "." in name:
