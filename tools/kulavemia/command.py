@@ -1,6 +1,7 @@
 """How the commands begin and end: their options, faults, warnings and exit statuses."""
 
 import argparse
+import errno
 import os
 import sys
 from collections.abc import Callable, Mapping
@@ -14,6 +15,8 @@ WORDS = 2
 REFUSED = 3
 FAILED = 4
 PROGRAM = 5
+
+_NO_ROOM = (errno.ENOSPC, errno.EDQUOT, errno.EFBIG)
 
 MEANINGS = {
     DONE: "done",
@@ -63,15 +66,31 @@ def parser(purpose: str, more: Mapping[int, str] | None = None) -> argparse.Argu
     """Returns a parser whose help says what the command does and how it ends."""
     meanings = dict(sorted({**MEANINGS, **(more or {})}.items()))
     statuses = "\n".join(f"  {status}  {meaning}" for status, meaning in meanings.items())
-    return argparse.ArgumentParser(
+    words = argparse.ArgumentParser(
         description=purpose,
         epilog=f"exit status:\n{statuses}",
         formatter_class=argparse.RawDescriptionHelpFormatter,
     )
+    add_version(words)
+    return words
+
+
+def version() -> str:
+    """Returns the version, which the file VERSION above the folder of the tools has."""
+    tools = os.path.dirname(os.path.dirname(os.path.realpath(__file__)))
+    with open(os.path.join(os.path.dirname(tools), "VERSION"), encoding="utf-8") as file:
+        return file.read().strip()
+
+
+def add_version(words: argparse.ArgumentParser) -> None:
+    """Adds the option that prints the version."""
+    words.add_argument("--version", action="version", version=f"%(prog)s {version()}")
 
 
 def run(main: Callable[[], int]) -> NoReturn:
     """Runs a command and ends the process with its status."""
+    # What is written is its owner's alone, unless the command says otherwise.
+    os.umask(0o077)
     # A stream that is closed is None here.
     sys.stdin, sys.stdout, sys.stderr = (
         stream or open(os.devnull, mode) for stream, mode in ((sys.stdin, "r"), (sys.stdout, "w"), (sys.stderr, "w"))
@@ -85,12 +104,32 @@ def run(main: Callable[[], int]) -> NoReturn:
         tell(str(fault))
         status = fault.status
     except BrokenPipeError:
-        os.dup2(os.open(os.devnull, os.O_WRONLY), sys.stdout.fileno())
+        _drop_output()
         status = FAILED
     except OSError as error:
-        place = f"{os.fsdecode(error.filename)}: " if error.filename is not None else ""
-        tell(place + (error.strerror or str(error)))
+        tell(_place_of(error) + (error.strerror or str(error)))
+        status = FAILED
+    except MemoryError:
+        tell("out of memory")
         status = FAILED
     except KeyboardInterrupt:
         status = 130
     sys.exit(status)
+
+
+def _place_of(error: OSError) -> str:
+    """Returns the path of an error of the system, with a colon.
+
+    Writers of files name them, so that a full disk without a path is that of standard output.
+    """
+    if error.filename is not None:
+        return f"{os.fsdecode(error.filename)}: "
+    if error.errno not in _NO_ROOM:
+        return ""
+    _drop_output()
+    return "standard output: "
+
+
+def _drop_output() -> None:
+    """Drops what standard output does not take, so that the end of the process does not try again."""
+    os.dup2(os.open(os.devnull, os.O_WRONLY), sys.stdout.fileno())

@@ -1,15 +1,15 @@
 """The changes between two audits of the same requests."""
 
 import contextlib
-import tempfile
 from collections import Counter
 from collections.abc import Iterator, Sequence
 from typing import IO, NamedTuple
 
+from kulavemia import outputs
 from kulavemia.answers import ALLOW, Answer, Verdict, answers, verdicts
 from kulavemia.command import Fault
 from kulavemia.requests import HEADER, Source
-from kulavemia.rows import row
+from kulavemia.rows import as_text, row
 
 CHANGES = ("gained", "gained and lost", "lost", "other")
 GAINS = ("gained", "gained and lost")
@@ -101,12 +101,7 @@ def write(found: Iterator[Change], out: IO[str]) -> Counter[str]:
     """Writes the changes, each kind apart in the order of `CHANGES`, and returns how many of each there are."""
     counts: Counter[str] = Counter()
     with contextlib.ExitStack() as stack:
-        parts = {
-            kind: stack.enter_context(
-                tempfile.TemporaryFile("w+", encoding="utf-8", errors="surrogateescape", newline="")
-            )
-            for kind in CHANGES
-        }
+        parts = {kind: as_text(stack.enter_context(outputs.scratch())) for kind in CHANGES}
         for change in found:
             counts[change.kind] += 1
             parts[change.kind].write(_row(change))

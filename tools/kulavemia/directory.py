@@ -11,13 +11,16 @@ import subprocess
 from collections.abc import Iterable, Iterator, Mapping
 from typing import Any, NamedTuple
 
+from kulavemia import foreign, outputs
 from kulavemia.command import Fault, warn
-from kulavemia.rows import header_of, open_read, records, write_rows
+from kulavemia.rows import as_text, header_of, records, write_rows
 
 USERS_HEADER = ("user", "uid", "groups")
 HOSTS_HEADER = ("host", "interfaces")
 MEMBERSHIPS_HEADER = ("user", "uid", "gid", "group")
 ROWS_LIMIT = 100_000
+# What tools/gather writes beside the folders of hosts.
+GATHERED = "status.csv"
 _ID_LIMIT = 1 << 32
 
 
@@ -171,33 +174,56 @@ def _address(info: Mapping[str, Any]) -> str:
 
 
 def collected(source: str) -> list[Host]:
-    """Returns the hosts whose files a folder has, in the order of their names."""
-    if os.path.exists(os.path.join(source, "passwd")):
-        return [_host(source, os.path.basename(os.path.abspath(source)))]
-    names = sorted(name for name in os.listdir(source) if os.path.exists(os.path.join(source, name, "passwd")))
+    """Returns the hosts whose files a folder has, in the order of their names. Raises `Fault` if two have one name."""
+    if foreign.exists(os.path.join(source, "passwd"), source):
+        return [_host(source, source, os.path.basename(os.path.abspath(source)))]
+    found = [entry for entry in foreign.entries(source) if not _is_no_host(entry.name)]
+    names = [entry.name for entry in found if entry.kind != foreign.FILE and _has_passwd(source, entry.name)]
     if not names:
         raise Fault(f"{source}: no passwd and no HOST/passwd is there")
-    for name in sorted(set(os.listdir(source)) - set(names)):
-        warn(f"{os.path.join(source, name)} has no passwd: passed over")
-    return [_host(os.path.join(source, name), name) for name in names]
+    for entry in found:
+        if entry.name not in names:
+            warn(f"{os.path.join(source, entry.name)} has no passwd: passed over")
+    hosts = [_host(os.path.join(source, name), source, name) for name in names]
+    _want_own_names(source, hosts)
+    return hosts
 
 
-def _host(folder: str, name: str) -> Host:
+def _is_no_host(name: str) -> bool:
+    return name.startswith(".") or name == GATHERED
+
+
+def _has_passwd(source: str, name: str) -> bool:
+    return foreign.exists(os.path.join(source, name, "passwd"), source)
+
+
+def _want_own_names(source: str, hosts: Iterable[Host]) -> None:
+    """Raises `Fault` if two folders have files of hosts of one name."""
+    folders: dict[bytes, str] = {}
+    for host in hosts:
+        # The program compares names of hosts so.
+        first = folders.setdefault(os.fsencode(host.machine.name).lower(), host.folder)
+        if first != host.folder:
+            places = f"{os.path.join(source, first)} and {os.path.join(source, host.folder)}"
+            raise Fault(f"{places} are both of the host {host.machine.name}")
+
+
+def _host(folder: str, below: str, name: str) -> Host:
     groups = Groups()
-    for fields in _lines(os.path.join(folder, "group"), 4, slice(2, 3)):
+    for fields in _lines(os.path.join(folder, "group"), below, 4, slice(2, 3)):
         groups.add(fields[0], int(fields[2]), filter(None, fields[3].split(",")))
     found = (
         Account(fields[0], int(fields[2]), int(fields[3]))
-        for fields in _lines(os.path.join(folder, "passwd"), 7, slice(2, 4))
+        for fields in _lines(os.path.join(folder, "passwd"), below, 7, slice(2, 4))
     )
     people = [groups.person(account) for account in _unique(found, folder)]
-    return Host(name, people, Machine(_host_name(folder, name), _copied_addresses(folder)))
+    return Host(name, people, Machine(_host_name(folder, below, name), _copied_addresses(folder, below)))
 
 
-def _lines(path: str, count: int, numbers: slice) -> Iterator[list[str]]:
+def _lines(path: str, below: str, count: int, numbers: slice) -> Iterator[list[str]]:
     """Yields the lines of a passwd or group file as their fields. Raises `Fault` at one of another form."""
-    with open_read(path) as file:
-        for line, text in enumerate(file, 1):
+    with foreign.opened(path, foreign.ACCOUNTS_CAP, below) as file:
+        for line, text in enumerate(as_text(file), 1):
             text = text.rstrip("\r\n")
             if not text or text.startswith(("#", "+", "-")):
                 if text.startswith(("+", "-")):
@@ -213,24 +239,22 @@ def _is_id(text: str) -> bool:
     return text.isascii() and text.isdecimal() and len(text) < 20 and int(text) < _ID_LIMIT
 
 
-def _host_name(folder: str, name: str) -> str:
+def _host_name(folder: str, below: str, name: str) -> str:
     path = os.path.join(folder, "hostname")
-    if not os.path.exists(path):
+    if not foreign.exists(path, below):
         return name
-    with open_read(path) as file:
-        written = file.readline().strip()
+    written = os.fsdecode(foreign.read(path, foreign.NAME_CAP, below)).partition("\n")[0].strip()
     if not written:
         raise Fault(f"{path}:1: no name")
     return written
 
 
-def _copied_addresses(folder: str) -> tuple[str, ...]:
+def _copied_addresses(folder: str, below: str) -> tuple[str, ...]:
     path = os.path.join(folder, "addr.json")
-    if not os.path.exists(path):
+    if not foreign.exists(path, below):
         warn(f"{path} is not there: the host is written without addresses")
         return ()
-    with open_read(path) as file:
-        return _addresses(file.read(), path)
+    return _addresses(os.fsdecode(foreign.read(path, foreign.ADDRESSES_CAP, below)), path)
 
 
 def merged(hosts: Iterable[Host]) -> list[Person]:
@@ -298,7 +322,7 @@ def numbered(people: Iterable[Person]) -> list[Person]:
 def write(folder: str, people: Iterable[Person], machines: Iterable[Machine]) -> None:
     """Writes users.csv and hosts.csv into a folder: a row for each user, or, where the name of a group has a blank or a
     colon, for each membership."""
-    os.makedirs(folder, exist_ok=True)
+    outputs.folder(folder)
     users = sorted(people)
     groups = {group: None for person in users for group in person.groups}
     _warn_of_clashes(groups)

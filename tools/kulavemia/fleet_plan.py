@@ -3,19 +3,19 @@
 A shard is one audit: of a host, at most so many senders and files as one run of the program takes.
 """
 
-import hashlib
 import os
 import re
 from collections.abc import Iterable, Iterator, Sequence
 from typing import NamedTuple
 
+from kulavemia import foreign
 from kulavemia.command import Fault
 from kulavemia.fleet_handed import CODE, PACKAGE, PROGRAM_FILE, Handed, packed
 from kulavemia.fleet_work import HOSTS, REQUESTS, ROOT, TREE, USERS, Job
 from kulavemia.requests import FILES_LIMIT, SENDERS_LIMIT
-from kulavemia.tree import files_of_tree
+from kulavemia.sums import digest_of
+from kulavemia.tree import POLICY, files_of_tree, main_of
 
-POLICY = "policy"
 MAIN = "/etc/sudoers"
 SIZE_LIMIT = 64 << 20
 NAME_LIMIT = 200
@@ -45,15 +45,6 @@ class Host(NamedTuple):
     name: str
     shards: Sequence[Sequence[str]]
     fault: str = ""
-
-
-def digest_of(parts: Sequence[bytes]) -> str:
-    """Returns a digest of byte strings, whatever is in them."""
-    found = hashlib.sha256()
-    for part in parts:
-        found.update(b"%d:" % len(part))
-        found.update(part)
-    return found.hexdigest()
 
 
 def shard_name(host: str, number: int) -> str:
@@ -91,11 +82,11 @@ class Fleet:
         self.program_sum = digest_of([self.program])
         self.shared: dict[str, bytes] = {}
         for name in (USERS, HOSTS):
-            if os.path.exists(os.path.join(folder, name)):
-                self.shared[name] = _read(folder, name)
-        self.shared_main = _main_of(folder)
-        if os.path.isdir(os.path.join(folder, TREE)):
-            self.shared.update(_tree(folder, self.shared_main))
+            if self._exists(folder, name):
+                self.shared[name] = self._read(folder, name)
+        self.shared_main = self._main_of(folder)
+        if self._exists(folder, TREE):
+            self.shared.update(self._tree(folder, self.shared_main))
 
     def handed(self) -> Handed:
         """Returns what every worker is handed."""
@@ -105,9 +96,15 @@ class Fleet:
 
     def names(self) -> list[str]:
         """Returns the names of the hosts, in the order of their bytes."""
-        with os.scandir(self.folder) as entries:
-            found = [entry.name for entry in entries if entry.is_dir() and not entry.name.startswith(".")]
-        return sorted((name for name in found if name != TREE), key=os.fsencode)
+        return [entry.name for entry in foreign.entries(self.folder) if self._is_host(entry)]
+
+    def _is_host(self, entry: foreign.Entry) -> bool:
+        """Returns whether an entry of the fleet's folder is a host: a folder, or a link to one, which is refused."""
+        if entry.name == TREE or entry.name.startswith("."):
+            return False
+        if entry.kind == foreign.LINK:
+            return os.path.isdir(os.path.join(self.folder, entry.name))
+        return entry.kind == foreign.FOLDER
 
     def host(self, name: str) -> Host:
         """Returns a host with the senders of each of its shards."""
@@ -123,26 +120,21 @@ class Fleet:
         folder = os.path.join(self.folder, name)
         main, policy, shared = self._policy(folder)
         for number, files in enumerate(shards, 1):
-            own = {**policy, **{file.file: _read(folder, file.file) for file in files}}
+            _want_fit(files)
+            own = {**policy, **{file.file: self._read(folder, file.file) for file in files}}
             yield self._job(shard_name(name, number), main, own, shared, [(file.sender, file.file) for file in files])
 
     def _requests(self, name: str) -> list[Requests]:
         """Returns the requests files of a host, by sender and part."""
         if len(os.fsencode(name)) > NAME_LIMIT:
             raise Fault(f"a folder's name is at most {NAME_LIMIT} bytes long")
-        folder = os.path.join(self.folder, name)
-        if os.path.islink(folder):
-            raise Fault("the folder is a link")
-        _want_plain(folder, REQUESTS)
         found = []
-        with os.scandir(os.path.join(folder, REQUESTS)) as entries:
-            for entry in entries:
-                match = _REQUESTS_FILE.fullmatch(entry.name)
-                if match is None:
-                    raise Fault(f"{REQUESTS}/{entry.name}: expected NAME.csv or NAME.PART.csv")
-                size = entry.stat(follow_symlinks=False).st_size
-                part = int(match[2] or 1)
-                found.append(((match[1], part), Requests(match[1], f"{REQUESTS}/{entry.name}", size)))
+        for entry in foreign.entries(os.path.join(self.folder, name, REQUESTS), self.folder):
+            match = _REQUESTS_FILE.fullmatch(entry.name)
+            if match is None:
+                raise Fault(f"{REQUESTS}/{entry.name}: expected NAME.csv or NAME.PART.csv")
+            part = int(match[2] or 1)
+            found.append(((match[1], part), Requests(match[1], f"{REQUESTS}/{entry.name}", entry.size)))
         if not found:
             raise Fault(f"{REQUESTS} has no files")
         return [file for _, file in sorted(found)]
@@ -151,22 +143,39 @@ class Fleet:
         """Returns a policy's path, the files of a host's own policy, users and hosts, and which are the fleet's."""
         own: dict[str, bytes] = {}
         shared = []
-        main = _main_of(folder)
-        if os.path.lexists(os.path.join(folder, TREE)):
-            own.update(_tree(folder, main))
-        elif os.path.isdir(os.path.join(self.folder, TREE)):
+        main = self._main_of(folder)
+        if self._exists(folder, TREE):
+            own.update(self._tree(folder, main))
+        elif self._exists(self.folder, TREE):
             main = self.shared_main
             shared.append(TREE)
         else:
             raise Fault(f"there is no {TREE}")
         for name in (USERS, HOSTS):
-            if os.path.lexists(os.path.join(folder, name)):
-                own[name] = _read(folder, name)
+            if self._exists(folder, name):
+                own[name] = self._read(folder, name)
             elif name in self.shared:
                 shared.append(name)
             else:
                 raise Fault(f"there is no {name}")
         return main, own, shared
+
+    def _main_of(self, folder: str) -> str:
+        """Returns the path of the policy's main file, as tools/collect notes it."""
+        return main_of(folder, self.folder) if self._exists(folder, POLICY) else MAIN
+
+    def _tree(self, folder: str, main: str) -> dict[str, bytes]:
+        """Returns the files of the policy of a folder, by their names below it."""
+        files = files_of_tree(os.path.join(folder, TREE), main, os.fsencode(ROOT), self.folder)
+        return {TREE + os.fsdecode(path): text for path, text in files.items()}
+
+    def _exists(self, folder: str, name: str) -> bool:
+        """Returns whether a folder has a name."""
+        return foreign.exists(os.path.join(folder, name), self.folder)
+
+    def _read(self, folder: str, name: str) -> bytes:
+        """Returns the bytes of a file below a folder."""
+        return foreign.read(os.path.join(folder, name), foreign.REQUESTS_CAP, self.folder)
 
     def _job(
         self, name: str, main: str, own: dict[str, bytes], shared: list[str], sources: list[tuple[str, str]]
@@ -203,38 +212,14 @@ def told(fault: Exception) -> str:
 def _code() -> dict[str, bytes]:
     """Returns the modules that the tools share, by the names that a worker keeps them under."""
     folder = os.path.dirname(__file__)
-    names = [name for name in os.listdir(folder) if name.endswith(".py")]
-    return {f"{CODE}/{PACKAGE}/{name}": _read(folder, name) for name in names}
+    names = [entry.name for entry in foreign.entries(folder) if entry.name.endswith(".py")]
+    return {f"{CODE}/{PACKAGE}/{name}": foreign.read(os.path.join(folder, name), foreign.POLICY_CAP) for name in names}
 
 
-def _main_of(folder: str) -> str:
-    """Returns the path of the policy's main file, as tools/collect notes it."""
-    if not os.path.lexists(os.path.join(folder, POLICY)):
-        return MAIN
-    return os.fsdecode(_read(folder, POLICY)).rstrip("\n")
-
-
-def _tree(folder: str, main: str) -> dict[str, bytes]:
-    """Returns the files of the policy of a folder, by their names below it."""
-    _want_plain(folder, TREE)
-    files = files_of_tree(os.path.join(folder, TREE), main, os.fsencode(ROOT))
-    return {TREE + os.fsdecode(path): text for path, text in files.items()}
-
-
-def _want_plain(folder: str, name: str) -> None:
-    """Raises `Fault` if a name below a folder leads elsewhere."""
-    path = os.path.join(folder, name)
-    if os.path.realpath(path) != os.path.join(os.path.realpath(folder), name):
-        raise Fault(f"{name}: a link; the folders of a fleet have none")
-
-
-def _read(folder: str, name: str) -> bytes:
-    """Returns the bytes of a file below a folder."""
-    _want_plain(folder, name)
-    if not os.path.isfile(os.path.join(folder, name)):
-        raise Fault(f"{name}: no file")
-    with open(os.path.join(folder, name), "rb") as file:
-        return file.read()
+def _want_fit(files: Sequence[Requests]) -> None:
+    """Raises `Fault` if the requests of a shard have more bytes than are read at once."""
+    if sum(file.size for file in files) > foreign.SHARD_CAP:
+        raise Fault(f"the requests of {files[0].sender} have more than {foreign.SHARD_CAP} bytes")
 
 
 def want_own_senders(hosts: Iterable[Host]) -> None:

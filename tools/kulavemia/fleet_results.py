@@ -6,16 +6,16 @@ The first line of a result is a JSON object, and the rows of the shard's report 
 import hashlib
 import json
 import os
-import secrets
 from collections.abc import Iterator
-from types import TracebackType
-from typing import NamedTuple
+from typing import BinaryIO, NamedTuple
 
+from kulavemia import foreign, outputs
 from kulavemia.answers import REPORT_HEADER
 from kulavemia.command import Fault, tell
 from kulavemia.fleet_handed import unpacked
 from kulavemia.fleet_plan import Fleet, told
 from kulavemia.fleet_work import DONE, FAILED, REFUSED, Answer, Job
+from kulavemia.outputs import Fresh as _Fresh
 from kulavemia.rows import row
 
 SHARDS = "shards"
@@ -26,6 +26,7 @@ SUFFIX = ".shard"
 SHOWN = 20
 STATUSES = (DONE, REFUSED, FAILED)
 
+_LINE_LIMIT = 1 << 20
 _FIELDS = {"shard": str, "digest": str, "status": str, "fault": str, "rows": int, "size": int, "sum": str}
 
 
@@ -53,7 +54,7 @@ class Results:
     def __init__(self, out: str) -> None:
         self.out = out
         self.folder = os.path.join(out, SHARDS)
-        os.makedirs(self.folder, exist_ok=True)
+        outputs.folder(self.folder)
 
     def put(self, job: Job, answer: Answer) -> None:
         """Writes the result of a shard, in place of an earlier one."""
@@ -75,9 +76,9 @@ class Results:
     def stands(self, job: Job) -> bool:
         """Returns whether the result of a shard with these inputs exists and need not be made again."""
         path = os.path.join(self.folder, file_of(job.name))
-        if not os.path.exists(path):
-            return False
         try:
+            if not foreign.exists(path, self.folder):
+                return False
             found = read_result(path)
             rows_of(path, found)
         except Fault:
@@ -86,10 +87,10 @@ class Results:
 
     def all(self) -> Iterator[tuple[str, Result | Fault]]:
         """Yields the path of each file of the folder with its first line, or with what is wrong with it."""
-        for name in sorted(os.listdir(self.folder)):
-            if name.startswith("."):
+        for entry in foreign.entries(self.folder):
+            if entry.name.startswith("."):
                 continue
-            path = os.path.join(self.folder, name)
+            path = os.path.join(self.folder, entry.name)
             try:
                 yield path, read_result(path)
             except Fault as fault:
@@ -102,35 +103,14 @@ class Results:
                 os.unlink(os.path.join(self.out, name))
 
 
-class _Fresh:
-    """A file that is being written. It is removed where it is not kept."""
-
-    def __init__(self, folder: str) -> None:
-        self.path = os.path.join(folder, f".{secrets.token_hex(8)}.part")
-
-    def __enter__(self) -> "_Fresh":
-        self.file = open(self.path, "xb")
-        return self
-
-    def write(self, data: bytes) -> None:
-        """Writes bytes."""
-        self.file.write(data)
-
-    def keep(self, path: str) -> None:
-        """Gives the whole file its name."""
-        self.file.close()
-        os.replace(self.path, path)
-
-    def __exit__(self, kind: type | None, error: BaseException | None, trace: TracebackType | None) -> None:
-        self.file.close()
-        if os.path.exists(self.path):
-            os.unlink(self.path)
+def _opened(path: str) -> BinaryIO:
+    return foreign.opened(path, foreign.TABLE_CAP, os.path.dirname(path))
 
 
 def read_result(path: str) -> Result:
     """Returns the first line of a result. Raises `Fault` if the file is no whole result."""
-    with open(path, "rb") as file:
-        line = file.readline()
+    with _opened(path) as file:
+        line = file.readline(_LINE_LIMIT)
         size = os.fstat(file.fileno()).st_size - len(line)
     try:
         fields = json.loads(line)
@@ -145,7 +125,7 @@ def read_result(path: str) -> Result:
 
 def rows_of(path: str, found: Result) -> bytes:
     """Returns the rows of a result. Raises `Fault` if they are not those that were written."""
-    with open(path, "rb") as file:
+    with _opened(path) as file:
         file.readline()
         data = file.read()
     if hashlib.sha256(data).hexdigest() != found.sum:

@@ -61,7 +61,7 @@ def judged(job: Job, shared: str, scratch: str) -> Answer:
             with open(os.path.join(folder, "report"), "w+b") as report:
                 return _asked(job, shared, folder, report)
     except OSError as error:
-        return Answer(UNFIT, error.strerror or str(error))
+        return Answer(UNFIT, f"{scratch}: {error.strerror or error}")
 
 
 def _asked(job: Job, shared: str, folder: str, report: IO[bytes]) -> Answer:

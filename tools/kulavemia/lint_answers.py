@@ -29,6 +29,7 @@ RULES = {
     "too-wide": "An alias written out has at most 65,536 members.",
     "unused": "An alias is defined and not used.",
     "passed-over": "A file of a folder that sudo passes over, so it is not in force.",
+    "leads-out": "A link or an include leads out of the folders that are named, and is not followed.",
     "no-answer": "The program gave no answer that can be read.",
 }
 

@@ -11,16 +11,27 @@ import lzma
 import os
 import re
 import sys
+import time
 import zlib
 from collections import deque
-from collections.abc import Callable, Iterator
-from typing import IO, Any, NamedTuple, cast
+from collections.abc import Callable, Collection, Iterator
+from typing import IO, Any, BinaryIO, NamedTuple, cast
 
-from kulavemia.messages import Event, Pairs, event_of, event_of_json, json_events
+from kulavemia import foreign
+from kulavemia.journal import IDENTIFIERS, SUDO_PATHS, forgery_of
+from kulavemia.messages import Event, Pairs, event_of, event_of_json, json_events, noted
 
 LINE_LIMIT = 1 << 22
 WINDOW = 256
-SYSLOG_LENGTH = 980
+# The default of syslog_maxlen in the sources of sudo, and in its manual.
+SYSLOG_LENGTHS = (960, 980)
+# Why a line has no request: it is not sudo's or asks for nothing, it is sudo's and cannot be read, or it is not sudo's
+# although it says so.
+OTHER = "other"
+UNREAD = "unread"
+FORGED = "forged"
+_COMMAND = "COMMAND="
+_JSON = "@cee:"
 _CONTINUED = "(command continued)"
 _CONTINUED_LENGTH = len("%8s : (command continued) %s") - 5
 
@@ -47,6 +58,12 @@ _REPEATED = re.compile(r"message repeated (\d+) times: \[ ?(.*)\]$", re.DOTALL)
 _STRING = re.compile(r'"(?:[^"\\]|\\.)*(?:"|$)', re.DOTALL)
 # What reading a log may raise, a compressed one that is damaged among them.
 UNREADABLE = (OSError, EOFError, lzma.LZMAError, zlib.error)
+_DESCRIPTOR = re.compile(r"/dev/stdin|/dev/fd/[0-9]+")
+_PACKED: dict[bytes, Callable[[BinaryIO], Any]] = {
+    b"\x1f\x8b": gzip.open,
+    b"BZh": bz2.open,
+    b"\xfd7zXZ\0": lzma.open,
+}
 _HALVES = re.compile("[\ud800-\udbff\udc00-\udc7f\udd00-\udfff]")
 
 
@@ -56,15 +73,18 @@ class Options(NamedTuple):
     host: str = ""
     year: int | None = None
     quoting: str = "auto"
-    syslog_length: int = SYSLOG_LENGTH
+    syslog_lengths: Collection[int] = SYSLOG_LENGTHS
+    sudo_paths: Collection[str] = SUDO_PATHS
+    below: str | None = None
 
 
 class Found(NamedTuple):
-    """A line of a log, with its time and event, or why it has no request."""
+    """A line of a log, with its time and event, or why it has no request, and of which kind that is."""
 
     line: int
     time: str
     event: Event | str
+    kind: str = OTHER
 
 
 class _Message:
@@ -81,11 +101,11 @@ class _Message:
         self.size = len(text)
         self.note = note
 
-    def add(self, text: str, length: int) -> None:
+    def add(self, text: str, lengths: Collection[int]) -> None:
         """Adds a further piece. sudo cuts at a blank, or at its limit of bytes where the piece has no blank."""
         last = self.pieces[-1]
         size = len(last.encode("utf-8", "surrogateescape")) + len(self.user.encode("utf-8", "surrogateescape"))
-        if " " in last or size != length - _CONTINUED_LENGTH:
+        if " " in last or size + _CONTINUED_LENGTH not in lengths:
             self.pieces[-1] += " "
         self.pieces.append(text)
         self.size += len(text)
@@ -94,26 +114,39 @@ class _Message:
         """Returns what the whole message says."""
         event = event_of(self.user, self.host, "".join(self.pieces), quoting)
         if self.note and isinstance(event, Event):
-            event = event._replace(note=f"{event.note}, {self.note}" if event.note else self.note)
+            event = noted(event, self.note)
         return Found(self.line, self.time, event)
 
 
-def opened(path: str) -> tuple[IO[bytes], IO[bytes]]:
-    """Opens a log, also a compressed one; `-` is standard input. Returns the bytes as stored and as they read."""
-    raw = cast(io.BufferedReader, sys.stdin.buffer) if path == "-" else open(path, "rb")
+def opened(path: str, below: str | None = None) -> tuple[IO[bytes], IO[bytes]]:
+    """Opens a log, also a compressed one. Returns the bytes as stored and as they read.
+
+    No link is followed below a folder, where one is named. Raises `Fault` if the log is neither a plain file nor a
+    descriptor that the command was handed, and once it has more bytes than are read, unpacked ones included.
+    """
+    raw = _handed(path) or foreign.opened(path, foreign.LOG_CAP, below)
     start = raw.peek(6)
-    if start.startswith(b"\x1f\x8b"):
-        return raw, gzip.open(raw)
-    if start.startswith(b"BZh"):
-        return raw, bz2.open(raw)
-    if start.startswith(b"\xfd7zXZ\0"):
-        return raw, lzma.open(raw)
+    for magic, unpacked in _PACKED.items():
+        if start.startswith(magic):
+            return raw, foreign.capped(unpacked(raw), path, foreign.LOG_CAP)
     return raw, raw
 
 
-def size_of(path: str) -> int:
-    """Returns how many bytes a log has as it is stored; 0 for standard input."""
-    return 0 if path == "-" else os.stat(path).st_size
+def size_of(path: str, below: str | None = None) -> int:
+    """Returns how many bytes a log has as it is stored; 0 for one that comes by a descriptor."""
+    return 0 if is_handed(path) else foreign.want_plain(path, foreign.LOG_CAP, below)
+
+
+def is_handed(path: str) -> bool:
+    """Returns whether a log comes by a descriptor that the command was handed, and can be read once."""
+    return path == "-" or _DESCRIPTOR.fullmatch(path) is not None
+
+
+def _handed(path: str) -> io.BufferedReader | None:
+    """Returns a log that comes by a descriptor, as that of a pipe; `-` is standard input."""
+    if path == "-":
+        return cast(io.BufferedReader, sys.stdin.buffer)
+    return open(path, "rb") if _DESCRIPTOR.fullmatch(path) else None
 
 
 class Log:
@@ -123,10 +156,11 @@ class Log:
         self.path = path
         self.options = options
         self.at = at
-        self.raw, inner = opened(path)
+        self.raw, inner = opened(path, options.below)
         self.file = io.TextIOWrapper(inner, encoding="utf-8", errors="surrogateescape", newline="\n")
-        newest = os.stat(path).st_mtime if path != "-" else None
-        self.newest = datetime.datetime.fromtimestamp(newest) if newest else datetime.datetime.now()
+        # No line is of a time to come, whatever time the file has.
+        newest = min(max(0, os.stat(path).st_mtime), time.time()) if path != "-" else time.time()
+        self.newest = datetime.datetime.fromtimestamp(newest)
         self.waiting: deque[_Message | Found] = deque()
         self.latest: dict[tuple[str, str], _Message] = {}
         self.dates: dict[tuple[str | Any, ...], str] = {}
@@ -192,8 +226,8 @@ class Log:
         if held is not None:
             yield held[0], " ".join(held[1]), True
 
-    def _skip(self, line: int, reason: str, time: str = "") -> None:
-        self.waiting.append(Found(line, time, reason))
+    def _skip(self, line: int, reason: str, time: str = "", kind: str = OTHER) -> None:
+        self.waiting.append(Found(line, time, reason, kind))
 
     def _read(self, line: int, text: str, is_own: bool) -> None:
         own = _OWN.match(text) if is_own else None
@@ -203,7 +237,8 @@ class Log:
             return
         match = _SYSLOG.match(text) or _FRAMED.match(text)
         if match is None:
-            self._skip(line, "an empty line" if not text.strip() else "no line of a log that is known")
+            reason = "no line of a log that is known" if text.strip() else "an empty line"
+            self._skip(line, reason, kind=UNREAD if _COMMAND in text else OTHER)
             return
         time = self._time(match)
         host, tag, message = match.group("host", "tag", "text")
@@ -217,8 +252,8 @@ class Log:
         repeated = _REPEATED.match(text) if text.startswith("message repeated") else None
         note = f"repeated {repeated[1]} times" if repeated else ""
         text = repeated[2] if repeated else text
-        if text.startswith("@cee:"):
-            self._values(line, time, host, text[5:])
+        if text.startswith(_JSON):
+            self._values(line, time, host, text.removeprefix(_JSON))
             return
         user, colon, rest = text.partition(" : ")
         user = user.strip(" ")
@@ -236,9 +271,9 @@ class Log:
     def _continue(self, line: int, time: str, host: str, user: str, text: str) -> None:
         message = self.latest.get((host, user))
         if message is None or message.size > LINE_LIMIT:
-            self._skip(line, "continues a command that does not stand before it", time)
+            self._skip(line, "continues a command that does not stand before it", time, UNREAD)
         else:
-            message.add(text, self.options.syslog_length)
+            message.add(text, self.options.syslog_lengths)
 
     def _time(self, match: re.Match[str]) -> str:
         if match["iso"] is not None:
@@ -303,7 +338,7 @@ class Log:
                 break
             line, text = following
         if depth > 0:
-            self._skip(start if parts else line, "JSON that does not end")
+            self._skip(start if parts else line, "JSON that does not end", kind=UNREAD)
 
     def _member(self, line: int, text: str, depth: int) -> None:
         text = text.strip().rstrip(",")
@@ -315,7 +350,7 @@ class Log:
         try:
             self._value(line, time, host, parsed(text))
         except ValueError:
-            self._skip(line, "no JSON", time)
+            self._skip(line, "no JSON", time, UNREAD)
 
     def _value(self, line: int, time: str, host: str, value: Any) -> None:
         """Takes a JSON value: events of sudo's own, or an entry of the journal."""
@@ -328,17 +363,25 @@ class Log:
 
     def _journal(self, line: int, fields: dict[str, Any]) -> None:
         time = _journal_time(fields.get("__REALTIME_TIMESTAMP"))
-        if not fields:
-            self._skip(line, "JSON without an event of sudo")
-        elif fields.get("SYSLOG_IDENTIFIER", fields.get("_COMM")) not in ("sudo", "sudoedit"):
+        if "SYSLOG_IDENTIFIER" not in fields:
+            told = any(_COMMAND in value for value in fields.values() if isinstance(value, str))
+            self._skip(line, "JSON without an event of sudo", time, UNREAD if told else OTHER)
+        elif fields["SYSLOG_IDENTIFIER"] not in IDENTIFIERS:
             self._skip(line, "not of sudo", time)
         else:
-            text = _journal_text(fields.get("MESSAGE"))
-            host = fields.get("_HOSTNAME")
-            if text is None:
-                self._skip(line, "no message", time)
-            else:
-                self._message(line, time, host if isinstance(host, str) else "", text)
+            self._entry(line, time, fields)
+
+    def _entry(self, line: int, time: str, fields: dict[str, Any]) -> None:
+        """Takes an entry of the journal under sudo's name. A request that another program wrote is forged."""
+        text = _journal_text(fields.get("MESSAGE"))
+        host = fields.get("_HOSTNAME")
+        forgery = forgery_of(fields, self.options.sudo_paths)
+        if forgery and (text is None or " : " in text or text.startswith(_JSON)):
+            self._skip(line, forgery, time, FORGED)
+        elif text is None:
+            self._skip(line, "no message", time, UNREAD)
+        else:
+            self._message(line, time, host if isinstance(host, str) else self.options.host, text)
 
 
 def _clean(value: Any) -> Any:

@@ -131,7 +131,7 @@ def event_of(user: str, host: str, text: str, quoting: str = "auto") -> Event | 
     head = text[: match.start()]
     leading = _HOST.match(head)
     reason, fields, notes = _fields(head[leading.end() :] if leading else head)
-    host = leading[1] if leading else fields.get("HOST", host)
+    host = (leading[1] if leading else fields.get("HOST")) or host
     path, blank, rest = text[match.end() :].partition(" ")
     arguments, note = arguments_of(rest, quoting) if blank else ("", "")
     if "#0" in path and quoting != "literal":
@@ -143,14 +143,18 @@ def event_of(user: str, host: str, text: str, quoting: str = "auto") -> Event | 
     return Event(request, outcome_of(reason), reason, ", ".join(notes))
 
 
+def noted(event: Event, note: str) -> Event:
+    """Returns the event with a further note."""
+    return event._replace(note=f"{event.note}, {note}" if event.note else note)
+
+
 def with_editor(event: Event, editors: frozenset[str]) -> Event:
     """Returns the event with `sudoedit` in place of an editor with `--`, as sudo 1.9 logs the one by the other."""
     request = event.request
     if not request.arguments.startswith("-- ") or request.command.rpartition("/")[2] not in editors:
         return event
     edit = request._replace(command="sudoedit", arguments=request.arguments[3:])
-    note = f"{event.note}, " if event.note else ""
-    return event._replace(request=edit, note=f"{note}logged as {request.command} --")
+    return noted(event._replace(request=edit), f"logged as {request.command} --")
 
 
 _KINDS = {"accept": ACCEPTED, "reject": REFUSED, "alert": FAILED}

@@ -9,6 +9,7 @@ from collections.abc import Sequence
 from dataclasses import dataclass, field
 from typing import Any, NamedTuple
 
+from kulavemia import outputs
 from kulavemia.answers import answers
 from kulavemia.command import FAILED, Fault
 from kulavemia.compare import CHANGE_HEADER, CHANGES
@@ -24,7 +25,7 @@ REPORT = "report.csv"
 
 
 class Inputs(NamedTuple):
-    """The inputs of a page; empty ones are left out."""
+    """The inputs of a page; empty ones are left out. No link to a log is followed below the folder `collected`."""
 
     title: str
     policy: str = ""
@@ -36,6 +37,7 @@ class Inputs(NamedTuple):
     changes: str = ""
     rows: int = 1000
     facts: Sequence[tuple[str, str]] = ()
+    collected: str = ""
 
 
 class Step(NamedTuple):
@@ -108,7 +110,8 @@ class Page:
         if self.uses is None:
             return {}
         kinds = (self.uses.denied, self.uses.allowed, self.uses.unknown)
-        return texts_of(asked for kind in kinds for asked in kind.list()[: self.inputs.rows])
+        shown = (asked for kind in kinds for asked in kind.list()[: self.inputs.rows])
+        return texts_of(shown, self.inputs.collected or None)
 
     def rule_text(self, place: str) -> str:
         """Returns the text of the rule at a place of the policy."""
@@ -201,5 +204,5 @@ def rendered(page: Page) -> str:
 def write(page: Page, path: str) -> None:
     """Writes the page."""
     text = rendered(page)
-    with open(path, "w", encoding="utf-8") as file:
-        file.write(text)
+    with outputs.replacing(path) as file:
+        file.write(text.encode())

@@ -5,6 +5,7 @@ import re
 from collections.abc import Callable, Iterator
 from typing import NamedTuple
 
+from kulavemia import foreign
 from kulavemia.command import Fault
 from kulavemia.lines import cut, is_comment, pieces
 
@@ -71,21 +72,23 @@ def beside(file: bytes, path: bytes) -> bytes:
     return path if path.startswith(b"/") else file[: file.rfind(b"/") + 1] + path
 
 
+def is_kept(name: bytes) -> bool:
+    """Returns whether sudo reads a file of this name in an included folder."""
+    return b"." not in name and not name.endswith(b"~")
+
+
 def kept_files(folder: bytes) -> list[bytes]:
-    """Returns the files of an included folder that are read, in the order of their names' bytes."""
-    try:
-        names = sorted(os.listdir(folder))
-    except (FileNotFoundError, ValueError):  # (no folder has a NUL in its name)
+    """Returns the files of an included folder of this machine that are read, in the order of their names' bytes."""
+    if not foreign.exists(folder):
         return []
-    start = folder if folder.endswith(b"/") else folder + b"/"
-    kept = [name for name in names if b"." not in name and not name.endswith(b"~")]
-    return [start + name for name in kept if os.path.isfile(start + name)]
+    names = [os.fsencode(entry.name) for entry in foreign.entries(folder)]
+    start = os.path.join(folder, b"")
+    return [start + name for name in names if is_kept(name) and os.path.isfile(start + name)]
 
 
 def read(path: bytes) -> bytes:
-    """Returns the bytes of a policy's file."""
-    with open(path, "rb") as file:
-        return file.read()
+    """Returns the bytes of a policy's file of this machine."""
+    return foreign.read(path, foreign.POLICY_CAP)
 
 
 def files_of(main: str) -> dict[str, list[Line]]:

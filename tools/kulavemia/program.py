@@ -12,8 +12,9 @@ from argparse import ArgumentParser
 from collections.abc import Iterable, Sequence
 from typing import IO, NamedTuple
 
+from kulavemia import foreign, outputs
 from kulavemia.answers import REPORT_HEADER
-from kulavemia.command import PROGRAM, Fault
+from kulavemia.command import FAILED, PROGRAM, Fault
 from kulavemia.progress import Progress
 from kulavemia.requests import Source, batches
 from kulavemia.rows import row
@@ -21,6 +22,7 @@ from kulavemia.rows import row
 NAME = "sudo_audit"
 REPOSITORY = os.path.dirname(os.path.dirname(os.path.dirname(os.path.realpath(__file__))))
 BUILT = os.path.join(REPOSITORY, "crates", NAME, "out", NAME)
+_WRITE_FAILED = b"write failed"
 MEANING = {PROGRAM: "the program sudo_audit is not there, or refuses; its own line is told"}
 
 
@@ -74,6 +76,7 @@ def _said(program: str, done: subprocess.CompletedProcess[bytes], out: bytes, ro
 
 def check(program: str, policy: str, root: str = "") -> str:
     """Returns the program's findings on a policy. Raises `Fault` if it refuses the policy."""
+    _want_plain(policy, foreign.POLICY_CAP)
     done = subprocess.run([program, "check", policy], stdout=subprocess.PIPE, stderr=subprocess.PIPE, check=False)
     if done.returncode != 0:
         raise _said(program, done, done.stdout, root)
@@ -83,9 +86,12 @@ def check(program: str, policy: str, root: str = "") -> str:
 
 def audit(program: str, policy: Policy, sources: Sequence[Source], out: str, workers: int = 2) -> None:
     """Writes the report of all sources, in runs that the program takes. Raises `Fault` if it refuses."""
+    _want_plain(policy.file, foreign.POLICY_CAP)
+    for path in (policy.users, policy.hosts, *(source.file for source in sources)):
+        _want_plain(path, foreign.REQUESTS_CAP)
     total = len(sources)
     done = 0
-    with open(out, "wb") as report, Progress("judging", total) as progress:
+    with outputs.written(out) as report, Progress("judging", total) as progress:
         report.write(os.fsencode(row(REPORT_HEADER)))
         for batch in batches(sources):
             _audit_batch(program, policy, batch, report, workers)
@@ -99,11 +105,19 @@ def audit_words(program: str, policy: Policy, sources: Iterable[Source], workers
     return words + [f"{source.sender}={source.file}" for source in sources]
 
 
+def _want_plain(path: str, cap: int) -> None:
+    """Raises `Fault` if the program would wait for a file, or read without end. It names a missing one itself."""
+    if "\0" in path or foreign.exists(path):
+        foreign.want_plain(path, cap)
+
+
 def _audit_batch(program: str, policy: Policy, batch: Iterable[Source], report: IO[bytes], workers: int) -> None:
     words = audit_words(program, policy, batch, workers)
-    with tempfile.TemporaryFile() as part:
+    with outputs.scratch() as part:
         done = subprocess.run(words, stdout=part, stderr=subprocess.PIPE, check=False)
         part.seek(0)
+        if done.returncode == FAILED and _WRITE_FAILED in done.stderr:
+            raise Fault(f"{tempfile.gettempdir()}: {os.fsdecode(done.stderr).strip()}", FAILED)
         if done.returncode != 0:
             raise _said(program, done, part.read(), policy.root)
         copy_rows(part, report, program, policy.root)

@@ -1,31 +1,54 @@
 """From a policy, a directory and logs to a page: each step in a folder of one run."""
 
 import argparse
-import contextlib
-import glob
 import os
-from collections.abc import Callable, Iterator, Sequence
+from collections import Counter
+from collections.abc import Callable, Iterator, Mapping, Sequence
 from typing import NamedTuple
 
-from kulavemia import compare, directory, probe, program, sorting, unknown
+from kulavemia import compare, directory, foreign, logs, missing, probe, program, sorting, unknown, unread
 from kulavemia.command import WORDS, Fault, warn
 from kulavemia.page import REPORT, Inputs, Page, want_jinja
 from kulavemia.page import write as write_page
+from kulavemia.policy import files_of, read
 from kulavemia.requests import Source, sources_of
 from kulavemia.rows import open_write
-from kulavemia.tree import Prepared, main_of, of_this_machine, of_tree
+from kulavemia.steps import Steps, unlike_any
+from kulavemia.sums import digest_of, sum_of_file, sum_of_files
+from kulavemia.tree import Prepared, files_of_tree, main_of, of_this_machine, write_copies
+
+DIRECTORY = "directory"
+CHANGES = "changes.csv"
+# Options that change where and how fast a page is made, and not the page.
+_NO_INPUTS = ("out", "mode", "workers", "at_most", "program")
 
 Say = Callable[[str], None]
 
 
-class Given(NamedTuple):
-    """The inputs of a replay, all found and named."""
+class Policy(NamedTuple):
+    """A policy of a replay: how it is audited, and the texts of its files, those of another machine's to be copied."""
 
-    policy: Prepared
-    old_policy: Prepared | None
+    prepared: Prepared
+    files: Mapping[bytes, bytes]
+
+
+class Directory(NamedTuple):
+    """The directory of a replay: its files, and what they are made of where nobody made them."""
+
     users: str
     hosts: str
+    people: Sequence[directory.Person] = ()
+    machines: Sequence[directory.Machine] = ()
+
+
+class Given(NamedTuple):
+    """The inputs of a replay, all found and named. No link to a log is followed below the folder `below`."""
+
+    policy: Policy
+    old_policy: Policy | None
+    directory: Directory
     logs: Sequence[str]
+    below: str | None
 
 
 def want(given: argparse.Namespace) -> None:
@@ -39,81 +62,165 @@ def want(given: argparse.Namespace) -> None:
 
 
 def prepared(given: argparse.Namespace) -> Given:
-    """Returns what the command line names, with copies of the policies of other machines and the directory made."""
+    """Returns what the command line names; of other machines' policies and users what is to be written."""
     collected = given.collected
     tree = os.path.join(collected, "tree") if collected else given.tree
-    main = given.policy or (main_of(collected) if collected else "/etc/sudoers")
-    policy = _policy(main, tree, os.path.join(given.out, "policy"), given.this_machine)
+    main = given.policy or (main_of(collected, collected) if collected else "/etc/sudoers")
+    policy = _policy(given, main, tree, "policy", collected)
     old_main = given.old_policy or (main if given.old_tree else "")
-    old = (
-        _policy(old_main, given.old_tree, os.path.join(given.out, "old-policy"), given.this_machine)
-        if old_main
-        else None
-    )
-    users, hosts = _directory(given)
-    logs = given.logs or (sorted(glob.glob(os.path.join(glob.escape(collected), "logs", "*"))) if collected else [])
-    return Given(policy, old, users, hosts, logs)
+    old = _policy(given, old_main, given.old_tree, "old-policy", given.old_tree) if old_main else None
+    if given.logs or not collected:
+        return Given(policy, old, _directory(given), given.logs, None)
+    return Given(policy, old, _directory(given), _collected_logs(collected), collected)
 
 
-def _policy(main: str, tree: str | None, root: str, trusted: bool) -> Prepared:
-    return of_tree(tree, main, root) if tree else of_this_machine(main, trusted)
+def _policy(given: argparse.Namespace, main: str, tree: str | None, name: str, below: str | None) -> Policy:
+    """Returns a policy of this machine, or that of a tree, which is copied to a folder of this name."""
+    if not tree:
+        return Policy(of_this_machine(main, given.this_machine), _own_files(main))
+    root = os.path.abspath(os.path.join(given.out, name))
+    return Policy(Prepared(main, root), files_of_tree(tree, main, os.fsencode(root), below))
 
 
-def _directory(given: argparse.Namespace) -> tuple[str, str]:
-    """Returns the users and hosts files, made out of what was collected where none are named."""
-    folder = given.directory
-    if folder is None:
-        folder = os.path.join(given.out, "directory")
-        hosts = directory.collected(given.collected)
-        directory.write(folder, directory.merged(hosts), [host.machine for host in hosts])
-    return os.path.join(folder, "users.csv"), os.path.join(folder, "hosts.csv")
+def _own_files(main: str) -> dict[bytes, bytes]:
+    """Returns the texts of the files of a policy of this machine, none if the program will say what is wrong."""
+    try:
+        return {path: read(path) for path in map(os.fsencode, files_of(main))}
+    except (Fault, OSError):
+        return {}
+
+
+def _directory(given: argparse.Namespace) -> Directory:
+    """Returns the users and hosts files, to be made out of what was collected where none are named."""
+    folder = given.directory or os.path.join(given.out, DIRECTORY)
+    users, hosts = os.path.join(folder, "users.csv"), os.path.join(folder, "hosts.csv")
+    if given.directory:
+        return Directory(users, hosts)
+    found = directory.collected(given.collected)
+    return Directory(users, hosts, directory.merged(found), [host.machine for host in found])
+
+
+def _collected_logs(collected: str) -> list[str]:
+    """Returns the logs that were collected. Raises `Fault` if there is anything else among them."""
+    folder = os.path.join(collected, "logs")
+    if not foreign.exists(folder, collected):
+        return []
+    paths = [os.path.join(folder, entry.name) for entry in foreign.entries(folder, collected)]
+    for path in paths:
+        foreign.want_plain(path, foreign.LOG_CAP, collected)
+    return paths
+
+
+def sums(given: argparse.Namespace, found: Given) -> dict[str, str]:
+    """Returns a sum of each input that a page is made of."""
+    options = {name: value for name, value in vars(given).items() if name not in _NO_INPUTS}
+    made = {
+        "the command line": digest_of([repr(sorted(options.items())).encode("utf-8", "surrogateescape")]),
+        "the program": program.sum_of(program.find(given.program)),
+        "the policy": sum_of_files(found.policy.files),
+        "the policy before": sum_of_files(found.old_policy.files) if found.old_policy else "",
+        "the directory": _sum_of_directory(given, found.directory),
+        "the list of programs": sum_of_file(given.programs, foreign.TABLE_CAP),
+    }
+    for path in filter(None, (given.host_map, given.users)):
+        made[path] = sum_of_file(path, foreign.TABLE_CAP)
+    for path in found.logs:
+        made[f"the log {path}"] = _sum_of_log(path, found.below)
+    return made
+
+
+def _sum_of_directory(given: argparse.Namespace, found: Directory) -> str:
+    if not given.directory:
+        return digest_of([repr((found.people, found.machines)).encode("utf-8", "surrogateescape")])
+    return " ".join(sum_of_file(path, foreign.REQUESTS_CAP) for path in (found.users, found.hosts))
+
+
+def _sum_of_log(path: str, below: str | None) -> str:
+    """Returns a sum of a log and of its time, which gives its lines their year."""
+    if logs.is_handed(path):
+        return unlike_any()
+    return f"{sum_of_file(path, foreign.LOG_CAP, below)} {os.stat(path).st_mtime_ns}"
 
 
 class Replay:
-    """Runs the steps, and reports each."""
+    """Runs the steps that are still to do, and reports each."""
 
-    def __init__(self, given: argparse.Namespace, found: Given, say: Say) -> None:
+    def __init__(self, given: argparse.Namespace, say: Say) -> None:
         self.given = given
-        self.found = found
+        self.found = prepared(given)
+        self.steps = Steps(given.out, sums(given, self.found))
         self.say = say
         self.program = program.find(given.program)
         self.requests = ""
         self.probe = ""
         self.changes = ""
         self.gained = False
+        self.unread = False
 
     def _folder(self, name: str) -> str:
         return os.path.join(self.given.out, name)
 
     def _judged_by(self, policy: Prepared) -> program.Policy:
-        return program.Policy(policy.file(), self.found.users, self.found.hosts, policy.root)
+        return program.Policy(policy.file(), self.found.directory.users, self.found.directory.hosts, policy.root)
 
     def run(self) -> None:
-        """Runs all steps."""
-        found = program.check(self.program, self.found.policy.file(), self.found.policy.root)
+        """Runs the steps that are not done yet."""
+        if self.given.collected:
+            for warning in missing.warnings([self.given.collected], self.given.collected):
+                warn(warning)
+        self._write_copies()
+        policy, old = self.found.policy.prepared, self.found.old_policy
+        found = program.check(self.program, policy.file(), policy.root)
         self.say(f"check: {len(found.splitlines()) - 1} warnings")
         if self.found.logs:
             self._read_logs()
+        else:
+            warn(f"there is no log: {'nothing is' if self.given.no_probe else 'probes alone are'} audited")
         if not self.given.no_probe:
             self._probe()
-        if self.found.old_policy:
-            self._compare(self.found.old_policy)
+        if old:
+            self._compare(old.prepared)
         self._write_page()
+
+    def _write_copies(self) -> None:
+        """Writes the policies of other machines, and the directory that was collected."""
+        for policy in filter(None, (self.found.policy, self.found.old_policy)):
+            if policy.prepared.root:
+                write_copies(self.steps.begin(os.path.basename(policy.prepared.root)), policy.files)
+        if not self.given.directory:
+            directory.write(self.steps.begin(DIRECTORY), self.found.directory.people, self.found.directory.machines)
 
     def _read_logs(self) -> None:
         self.requests = self._folder("requests")
-        self.given.users = self.given.users or self.found.users
-        found = sorting.sort(self.found.logs, self.requests, self.given)
+        self.given.users = self.given.users or self.found.directory.users
+        self.given.hosts = self.found.directory.hosts
+        found = self._sorted()
         self.say(f"logs: {sorting.told(found.counts)}")
-        warning = unknown.warning(found.hosts, directory.hosts_in(self.found.hosts))
-        if warning:
+        self.unread = unread.is_most(found.counts)
+        unjudged = unknown.warning(found.hosts, directory.hosts_in(self.found.directory.hosts))
+        for warning in filter(None, [*unread.warnings(found.counts), unjudged]):
             warn(warning)
-        self._audit(self.requests, self.found.policy, REPORT)
+        self._audit(self.requests, self.found.policy.prepared, REPORT)
+
+    def _sorted(self) -> sorting.Sorted:
+        """Returns what the logs have; they are read where that is still to do."""
+        if self.steps.result("requests") is None:
+            found = sorting.sort(self.found.logs, self.steps.begin("requests"), self.given, self.found.below)
+            self.steps.end("requests", found)
+        return sorting.Sorted(*map(Counter, self.steps.result("requests")))
 
     def _probe(self) -> None:
         self.probe = self._folder("probe")
+        if self.steps.result("probe") is None:
+            self.steps.end("probe", self._write_probe())
+        self.say(f"probes: {self.steps.result('probe')}")
+        self._audit(self.probe, self.found.policy.prepared, REPORT)
+
+    def _write_probe(self) -> int:
+        """Writes the probes, and returns how many there are. Raises `Fault` at more than the command line allows."""
         programs = probe.programs_of(self.given.programs)
-        users, hosts = list(directory.users_in(self.found.users)), directory.hosts_in(self.found.hosts)
+        users = list(directory.users_in(self.found.directory.users))
+        hosts = directory.hosts_in(self.found.directory.hosts)
         total = len(users) * len(hosts) * len(programs)
         if total > self.given.at_most:
             raise Fault(
@@ -123,24 +230,30 @@ class Replay:
                 ),
                 WORDS,
             )
-        self.say(f"probes: {probe.write(self.probe, users, hosts, programs)}")
-        self._audit(self.probe, self.found.policy, REPORT)
+        return probe.write(self.steps.begin("probe"), users, hosts, programs)
 
     def _audit(self, folder: str, policy: Prepared, report: str) -> str:
+        """Returns the path of a report, which is made where it is still to do; it has its name once it is whole."""
         path = os.path.join(folder, report)
-        program.audit(self.program, self._judged_by(policy), sources_of(folder), path, self.given.workers)
+        if not foreign.exists(path, self.given.out):
+            program.audit(self.program, self._judged_by(policy), sources_of(folder), path, self.given.workers)
         return path
 
     def _compare(self, old: Prepared) -> None:
-        self.changes = self._folder("changes.csv")
-        with contextlib.ExitStack() as stack:
-            out = stack.enter_context(open_write(self.changes))
+        self.changes = self._folder(CHANGES)
+        if self.steps.result(CHANGES) is None:
+            self.steps.end(CHANGES, self._write_changes(old))
+        counts = Counter(self.steps.result(CHANGES))
+        self.gained = any(counts[kind] for kind in compare.GAINS)
+        self.say("changes: " + ", ".join(f"{counts[kind]} {kind}" for kind in compare.CHANGES))
+
+    def _write_changes(self, old: Prepared) -> Counter[str]:
+        """Writes the changes since the policy before, and returns how many of each kind there are."""
+        with open_write(self.changes) as out:
             found = (
                 change for folder in (self.requests, self.probe) if folder for change in self._changes(folder, old)
             )
-            counts = compare.write(found, out)
-        self.gained = any(counts[kind] for kind in compare.GAINS)
-        self.say("changes: " + ", ".join(f"{counts[kind]} {kind}" for kind in compare.CHANGES))
+            return compare.write(found, out)
 
     def _changes(self, folder: str, old: Prepared) -> Iterator[compare.Change]:
         before = self._audit(folder, old, "old-report.csv")
@@ -148,13 +261,14 @@ class Replay:
         return compare.changes(before, os.path.join(folder, REPORT), sources)
 
     def _write_page(self) -> None:
-        old = self.found.old_policy
+        policy = self.found.policy.prepared
+        old = self.found.old_policy.prepared if self.found.old_policy else None
         path = self._folder("page.html")
         facts = [("Program", f"{self.program}, sum {program.sum_of(self.program)[:16]}")]
         inputs = Inputs(
             self.given.title,
-            self.found.policy.main,
-            self.found.policy.root,
+            policy.main,
+            policy.root,
             old.main if old else "",
             old.root if old else "",
             self.probe,
@@ -162,6 +276,7 @@ class Replay:
             self.changes,
             self.given.rows,
             facts,
+            self.found.below or "",
         )
         write_page(Page(inputs), path)
         self.say(f"page: {path}")

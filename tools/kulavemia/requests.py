@@ -9,7 +9,8 @@ import re
 from collections.abc import Iterable, Iterator, Sequence
 from typing import NamedTuple
 
-from kulavemia.command import WORDS, Fault
+from kulavemia import foreign, outputs
+from kulavemia.command import WORDS, Fault, warn
 from kulavemia.rows import open_write, records, row, write_rows
 
 REQUESTS_LIMIT = 1_000_000
@@ -117,9 +118,8 @@ class Writer:
         self.last: dict[str, int] = {}
         self.files = Appender()
         for below in ("requests", "keys"):
-            path = os.path.join(folder, below)
-            os.makedirs(path, exist_ok=True)
-            if os.listdir(path):
+            path = outputs.folder(os.path.join(folder, below))
+            if foreign.entries(path):
                 raise Fault(f"{path} is not empty; remove it, or name another folder", WORDS)
 
     def add(self, name: str, request: Request, key: Sequence[str]) -> int:
@@ -137,10 +137,15 @@ class Writer:
         return sender.number
 
     def finish(self) -> int:
-        """Closes each sender's list, writes the table of senders, and returns how many requests there are."""
+        """Closes each sender's list, writes the table of senders, and returns how many requests there are.
+
+        Warns where there is no sender: the program audits nothing then, and says nothing of it.
+        """
         for sender in self.senders.values():
             self.files.append(sender.requests, f"close,{sender.number},,,,,\n")
         self.files.flush()
+        if not self.senders:
+            warn(f"{self.folder} has no requests: an audit of it has no source")
         write_rows(os.path.join(self.folder, "senders.csv"), SENDERS_HEADER, self._rows())
         return sum(sender.number for sender in self.senders.values())
 

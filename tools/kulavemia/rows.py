@@ -6,10 +6,11 @@ Bytes that are no UTF-8 pass through unchanged.
 import contextlib
 import csv
 import io
-import os
 import re
 from collections.abc import Iterable, Iterator, Sequence
+from typing import BinaryIO
 
+from kulavemia import foreign, outputs
 from kulavemia.command import Fault
 
 csv.field_size_limit(1 << 28)
@@ -19,31 +20,39 @@ _QUOTED = re.compile('[",\r\n]')
 
 def open_read(path: str) -> io.TextIOWrapper:
     """Opens a file for reading, whatever its bytes are."""
-    return open(path, encoding="utf-8", errors="surrogateescape", newline="")
+    return as_text(foreign.opened(path, foreign.TABLE_CAP, line_cap=foreign.TABLE_LINE_CAP))
 
 
-def open_write(path: str, mode: str = "w") -> io.TextIOWrapper:
-    """Opens a file for writing, whatever its bytes will be."""
-    return open(path, mode, encoding="utf-8", errors="surrogateescape", newline="")
+@contextlib.contextmanager
+def open_write(path: str, mode: str = "w") -> Iterator[io.TextIOWrapper]:
+    """Opens a file for writing, whatever its bytes will be: what takes its place once it is whole, or (`a`) its end."""
+    with outputs.appended(path) if mode == "a" else outputs.written(path) as file, _written_text(file) as text:
+        yield text
 
 
 @contextlib.contextmanager
 def replacing(path: str) -> Iterator[io.TextIOWrapper]:
-    """Opens what takes the place of a file once all of it is written; what is no regular file is written as it is."""
-    path = os.path.realpath(path)
-    if os.path.exists(path) and not os.path.isfile(path):
-        with open_write(path) as file:
-            yield file
-        return
-    part = path + ".part"
+    """Opens what takes the place of a file once it is whole; a terminal, a pipe or the like is written as it is."""
+    with outputs.replacing(path) as file, _written_text(file) as text:
+        yield text
+
+
+def as_text(file: BinaryIO) -> io.TextIOWrapper:
+    """Returns a file as text, whatever its bytes are."""
+    return io.TextIOWrapper(file, encoding="utf-8", errors="surrogateescape", newline="")
+
+
+@contextlib.contextmanager
+def _written_text(file: BinaryIO) -> Iterator[io.TextIOWrapper]:
+    """Yields a file as text, and leaves the file open."""
+    text = as_text(file)
     try:
-        with open_write(part) as file:
-            yield file
-        os.replace(part, path)
-    except BaseException:
-        with contextlib.suppress(FileNotFoundError):
-            os.unlink(part)
-        raise
+        yield text
+        text.flush()
+    finally:
+        # What is left is not to hide why it is.
+        with contextlib.suppress(OSError):
+            text.detach()
 
 
 def row(fields: Sequence[str]) -> str:

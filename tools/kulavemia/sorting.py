@@ -6,9 +6,11 @@ from collections import Counter
 from collections.abc import Sequence
 from typing import IO, NamedTuple
 
-from kulavemia.directory import users_in
-from kulavemia.logs import SYSLOG_LENGTH, Log, Options, size_of
-from kulavemia.messages import ASKED_TO_LIST, EDITORS, Event, with_editor
+from kulavemia.command import Fault
+from kulavemia.directory import hosts_in, users_in
+from kulavemia.journal import SUDO_PATHS
+from kulavemia.logs import FORGED, OTHER, SYSLOG_LENGTHS, UNREAD, Found, Log, Options, size_of
+from kulavemia.messages import ASKED_TO_LIST, EDITORS, Event, noted, with_editor
 from kulavemia.progress import Progress
 from kulavemia.requests import LOG_KEY, Request, Writer, fault_of
 from kulavemia.rows import open_write, records, row
@@ -83,10 +85,25 @@ def _add_reading_options(words: argparse.ArgumentParser) -> None:
     words.add_argument(
         "--syslog-length",
         type=int,
-        default=SYSLOG_LENGTH,
         metavar="N",
-        help=f"sudo's syslog_maxlen (default {SYSLOG_LENGTH})",
+        help=f"sudo's syslog_maxlen (default: {' and '.join(map(str, SYSLOG_LENGTHS))}, either)",
     )
+    words.add_argument(
+        "--sudo-path",
+        action="append",
+        default=[],
+        metavar="PATH",
+        help=(
+            "the path of sudo's program: entries of the journal that another program wrote count as forged; may be given"
+            f" again (default {' and '.join(SUDO_PATHS)})"
+        ),
+    )
+
+
+def reading_of(given: argparse.Namespace) -> Options:
+    """Returns how logs are read, as the options say."""
+    lengths = SYSLOG_LENGTHS if given.syslog_length is None else (given.syslog_length,)
+    return Options(given.host, given.year, given.quoting, lengths, given.sudo_path or SUDO_PATHS)
 
 
 def _link(word: str) -> tuple[str, str]:
@@ -149,14 +166,17 @@ class Sorter:
         self.skipped = skipped
         self.counts: Counter[str] = Counter()
         self.hosts: Counter[str] = Counter()
+        self.hosts_file = given.hosts
+        self.known_hosts = hosts_in(given.hosts) if given.hosts else []
 
-    def take(self, log: str, line: int, time: str, event: Event | str) -> None:
-        """Takes the content of a line."""
+    def take(self, log: str, found: Found) -> None:
+        """Takes the content of a line. Raises `Fault` if it has no host, and several hosts are known."""
+        line, time, event, kind = found
         if isinstance(event, str):
-            self._skip(log, line, time, event)
+            self._skip(log, line, time, event, kind)
             return
-        event = with_editor(event, self.editors)
-        request = self.names.named(event.request)
+        event = self._placed(log, line, with_editor(event, self.editors))
+        request = event.request
         if request.command in ASKED_TO_LIST:
             self.counts["lists"] += 1
             self.lists.write(row((log, str(line), time, *request, event.outcome, event.reason)))
@@ -164,22 +184,38 @@ class Sorter:
         reason = fault_of(request)
         if reason:
             said = f": {event.reason}" if event.reason else ""
-            self._skip(log, line, time, f"{reason} ({request.command[:80]}){said}")
+            kind = OTHER if request.user and request.host else UNREAD
+            self._skip(log, line, time, f"{reason} ({request.command[:80]}){said}", kind)
             return
         self.counts[event.outcome] += 1
         self.hosts[request.host] += 1
         name = request.host if self.by == "host" else request.user if self.by == "user" else "log"
         self.writer.add(name, request, (log, str(line), time, event.outcome, event.reason, event.note))
 
-    def _skip(self, log: str, line: int, time: str, reason: str) -> None:
-        self.counts["skipped"] += 1
+    def _placed(self, log: str, line: int, event: Event) -> Event:
+        """Returns the event with its names as the directory writes them; without a host it is of the only one known."""
+        event = event._replace(request=self.names.named(event.request))
+        if event.request.host or not self.known_hosts:
+            return event
+        if len(self.known_hosts) > 1:
+            raise Fault(
+                f"{log}:{line}: the line has no host, and {self.hosts_file} has {len(self.known_hosts)}: name the log's"
+                " by --host"
+            )
+        return noted(event._replace(request=event.request._replace(host=self.known_hosts[0])), "no host logged")
+
+    def _skip(self, log: str, line: int, time: str, reason: str, kind: str) -> None:
+        self.counts[kind] += 1
         self.skipped.write(row((log, str(line), time, reason)))
 
 
-def sort(logs: Sequence[str], folder: str, given: argparse.Namespace) -> Sorted:
-    """Sorts the content of logs into a folder, and returns how much there was."""
-    how = Options(given.host, given.year, given.quoting, given.syslog_length)
-    total = sum(size_of(path) for path in logs)
+def sort(logs: Sequence[str], folder: str, given: argparse.Namespace, below: str | None = None) -> Sorted:
+    """Sorts the content of logs into a folder, and returns how much there was.
+
+    No link to a log is followed below another folder, where one is named.
+    """
+    how = reading_of(given)._replace(below=below)
+    total = sum(size_of(path, below) for path in logs)
     writer = Writer(folder, LOG_KEY)
     with (
         open_write(os.path.join(folder, "lists.csv")) as lists,
@@ -191,9 +227,9 @@ def sort(logs: Sequence[str], folder: str, given: argparse.Namespace) -> Sorted:
         sorter = Sorter(given, writer, lists, skipped)
         before = 0
         for path in logs:
-            for line, time, event in Log(path, how, lambda done, before=before: progress.at(before + done)):
-                sorter.take(path, line, time, event)
-            before += size_of(path)
+            for found in Log(path, how, lambda done, before=before: progress.at(before + done)):
+                sorter.take(path, found)
+            before += size_of(path, below)
         sorter.writer.finish()
         sorter.counts["senders"] = len(sorter.writer.senders)
     return Sorted(sorter.counts, sorter.hosts)
@@ -201,7 +237,8 @@ def sort(logs: Sequence[str], folder: str, given: argparse.Namespace) -> Sorted:
 
 def told(counts: Counter[str]) -> str:
     """Returns what was found, in a line."""
+    forged = f", {counts[FORGED]} forged" if counts[FORGED] else ""
     return (
         f"{counts['accepted']} accepted, {counts['refused']} refused and {counts['failed']} failed requests of "
-        f"{counts['senders']} senders; {counts['lists']} to list, {counts['skipped']} other lines"
+        f"{counts['senders']} senders; {counts['lists']} to list, {counts[OTHER] + counts[UNREAD]} other lines{forged}"
     )

@@ -1,11 +1,14 @@
 """The policy of a replay: this machine's own, or a copy of another machine's files."""
 
 import os
+from collections.abc import Mapping
 from typing import NamedTuple
 
+from kulavemia import foreign, outputs
 from kulavemia.command import Fault, called
-from kulavemia.policy import Include, Line, beside, include_of, kept_files, lines_of, read, rewritten
+from kulavemia.policy import Include, Line, beside, include_of, is_kept, kept_files, lines_of, read, rewritten
 
+POLICY = "policy"
 # The program follows includes 128 deep, and refuses a policy that goes deeper.
 DEPTH_LIMIT = 200
 HOW = f"gather its files by {called('collect')} and name their folder by --collected, or the copied files by --tree"
@@ -53,19 +56,23 @@ def _includes(text: bytes) -> list[Include]:
 class _Copy:
     """The files of a policy below a tree, by their own paths, as they read where includes stay below a root folder."""
 
-    def __init__(self, tree: str, root: bytes) -> None:
-        self.tree = os.fsencode(os.path.abspath(tree))
+    def __init__(self, tree: str, root: bytes, below: str) -> None:
+        self.tree = os.fsencode(tree).rstrip(b"/")
+        self.below = os.fsencode(below)
         self.root = root
         self.seen: set[bytes] = set()
         self.files: dict[bytes, bytes] = {}
+        self.size = 0
 
     def take(self, path: bytes, depth: int = 0) -> None:
         """Takes a file, named as on its own machine, and what it includes."""
-        if path in self.seen or depth > DEPTH_LIMIT or not os.path.lexists(self.tree + path):
+        if path in self.seen or depth > DEPTH_LIMIT or not foreign.exists(self.tree + path, self.below):
             return
         self.seen.add(path)
-        self._want_inside(path)
-        text = read(self.tree + path)
+        text = foreign.read(self.tree + path, foreign.POLICY_CAP, self.below)
+        self.size += len(text)
+        if self.size > foreign.TREE_CAP:
+            raise Fault(f"{os.fsdecode(self.tree)}: the policy's files have more than {foreign.TREE_CAP} bytes")
         for include in _includes(text):
             named = beside(path, include.path)
             if b".." in include.path.split(b"/"):
@@ -77,45 +84,49 @@ class _Copy:
         self.files[path] = rewritten(text, self._path_of)
 
     def _take_folder(self, folder: bytes, depth: int) -> None:
-        for found in kept_files(self.tree + folder):
-            self.take(found.removeprefix(self.tree), depth)
+        """Takes the files of an included folder. Anything but files and folders there is refused by name."""
+        whole = self.tree + folder.rstrip(b"/")
+        if not foreign.exists(whole, self.below):
+            return
+        for entry in foreign.entries(whole, self.below):
+            name = os.fsencode(entry.name)
+            if is_kept(name) and entry.kind != foreign.FOLDER:
+                self.take(os.path.join(folder, name), depth)
 
     def _path_of(self, include: Include) -> bytes | None:
         return self.root + include.path if include.path.startswith(b"/") else None
 
-    def _want_inside(self, path: bytes) -> None:
-        whole = self.tree + path
-        if os.path.realpath(whole) != os.path.join(os.path.realpath(self.tree), path.lstrip(b"/")):
-            raise Fault(
-                f"{os.fsdecode(whole)}: a link, or a path that is not in its plain form; copied files have none"
-            )
-        if not os.path.isfile(whole):
-            raise Fault(f"{os.fsdecode(whole)}: no file")
 
+def files_of_tree(tree: str, main: str, root: bytes, below: str | None = None) -> dict[bytes, bytes]:
+    """Returns the files, by their own paths, of a policy that lies below a tree; its includes are below a root folder.
 
-def files_of_tree(tree: str, main: str, root: bytes) -> dict[bytes, bytes]:
-    """Returns the files, by their own paths, of a policy that lies below a tree; its includes are below a root folder."""
+    No link is followed below a folder, by default the tree.
+    """
     if not main.startswith("/"):
         raise Fault(f"{main}: the policy is named by its path on its own machine, as /etc/sudoers")
-    if not os.path.exists(tree + main):
-        raise Fault(f"{tree}{main} is not there")
-    copy = _Copy(tree, root)
+    copy = _Copy(tree, root, tree if below is None else below)
     copy.take(os.fsencode(main))
+    if not copy.files:
+        raise Fault(f"{tree}{main} is not there")
     return copy.files
 
 
-def of_tree(tree: str, main: str, root: str) -> Prepared:
+def of_tree(tree: str, main: str, root: str, below: str | None = None) -> Prepared:
     """Returns a copy, below a root folder, of the policy whose files lie below a tree."""
     place = os.path.abspath(root)
-    for path, text in files_of_tree(tree, main, os.fsencode(place)).items():
-        copied = os.fsencode(place) + path
-        os.makedirs(os.path.dirname(copied), exist_ok=True)
-        with open(copied, "wb") as file:
-            file.write(text)
+    write_copies(place, files_of_tree(tree, main, os.fsencode(place), below))
     return Prepared(main, place)
 
 
-def main_of(collected: str) -> str:
-    """Returns the path of the main file, as tools/collect noted it."""
-    with open(os.path.join(collected, "policy"), encoding="utf-8", errors="surrogateescape") as file:
-        return file.read().rstrip("\n")
+def write_copies(root: str, files: Mapping[bytes, bytes]) -> None:
+    """Writes the files of a policy, by their own paths, below a root folder."""
+    for path, text in files.items():
+        copied = root + os.fsdecode(path)
+        outputs.folder(os.path.dirname(copied))
+        with outputs.written(copied) as file:
+            file.write(text)
+
+
+def main_of(folder: str, below: str) -> str:
+    """Returns the path of the main file, as tools/collect noted it in a folder."""
+    return os.fsdecode(foreign.read(os.path.join(folder, POLICY), foreign.NAME_CAP, below)).rstrip("\n")

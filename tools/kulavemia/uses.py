@@ -2,12 +2,13 @@
 
 import itertools
 from collections import Counter
-from collections.abc import Iterable
+from collections.abc import Iterable, Iterator
 from dataclasses import dataclass, field
-from typing import NamedTuple
+from typing import IO, NamedTuple
 
 from kulavemia.answers import ALLOW, Answer, Verdict
-from kulavemia.logs import UNREADABLE, opened
+from kulavemia.command import Fault
+from kulavemia.logs import LINE_LIMIT, UNREADABLE, opened
 from kulavemia.messages import ACCEPTED, FAILED, REFUSED
 from kulavemia.requests import Request
 
@@ -104,36 +105,46 @@ class Uses:
         return None
 
 
-def texts_of(asked: Iterable[Asked]) -> dict[tuple[str, int], str]:
-    """Returns the text of each log line that is shown, where its log can be read."""
+def texts_of(asked: Iterable[Asked], below: str | None = None) -> dict[tuple[str, int], str]:
+    """Returns the text of each log line that is shown, where its log can be read; see `logs.opened` for `below`."""
     wanted: dict[str, set[int]] = {}
     for line in itertools.chain.from_iterable(request.lines for request in asked):
         wanted.setdefault(line.log, set()).add(line.line)
     found = {}
     for log, numbers in wanted.items():
-        for number, text in _lines(log, numbers):
+        for number, text in _lines(log, numbers, below):
             found[log, number] = text
     return found
 
 
-def _lines(log: str, numbers: set[int]) -> Iterable[tuple[int, str]]:
+def _lines(log: str, numbers: set[int], below: str | None) -> Iterable[tuple[int, str]]:
     """Yields these lines of a log; what is folded behind one belongs to it."""
     if log == "-":
         return
     try:
-        raw, file = opened(log)
-    except OSError:
+        raw, file = opened(log, below)
+    except (OSError, Fault):
         return
     with raw, file:
         try:
-            yield from _unfolded(file, numbers)
-        except UNREADABLE:
+            yield from _unfolded(_numbered(file), numbers)
+        except (*UNREADABLE, Fault):
             return
 
 
-def _unfolded(file: Iterable[bytes], numbers: set[int]) -> Iterable[tuple[int, str]]:
+def _numbered(file: IO[bytes]) -> Iterator[tuple[int, bytes]]:
+    """Yields the lines of a log with their numbers, of a line that is too long its start."""
+    number, begins = 0, True
+    while piece := file.readline(LINE_LIMIT):
+        number += begins
+        if begins:
+            yield number, piece
+        begins = piece.endswith(b"\n")
+
+
+def _unfolded(lines: Iterable[tuple[int, bytes]], numbers: set[int]) -> Iterable[tuple[int, str]]:
     open_line, text, left = 0, "", len(numbers)
-    for number, line in enumerate(file, 1):
+    for number, line in lines:
         if open_line and line.startswith(b"    "):
             if len(text) < TEXT_LIMIT:
                 text += " " + line.decode("utf-8", "surrogateescape").strip()

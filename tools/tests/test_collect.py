@@ -6,6 +6,7 @@ import subprocess
 import tarfile
 import unittest
 
+from machine import MachineCase
 from support import TOOLS, Case
 
 
@@ -79,6 +80,38 @@ class Collect(Case):
         self.addCleanup(os.environ.pop, "TMPDIR")
         self.collect("--policy", main, "--no-logs")
         self.assertEqual(os.listdir(self.path("tmp")), [])
+
+    def test_the_version(self) -> None:
+        with open(os.path.join(os.path.dirname(TOOLS), "VERSION"), encoding="utf-8") as file:
+            self.assertEqual(self.run_tool("collect", "--version")[0], f"collect {file.read()}")
+        self.assertIn("does not know it", self.collect("--version", status=2)[1])
+
+
+class Sources(MachineCase):
+    """Where a machine says that sudo's rules are."""
+
+    def missing_with(self, nsswitch: str) -> list[str]:
+        """Returns what is missing on a machine with this nsswitch.conf."""
+        self.write("root/etc/nsswitch.conf", nsswitch)
+        words = ["chroot", self.path("root"), "/bin/sh", "-s", "--", "--no-logs"]
+        with open(os.path.join(TOOLS, "collect"), "rb") as script:
+            done = subprocess.run(words, stdin=script, capture_output=True, check=False)
+        with tarfile.open(fileobj=io.BytesIO(done.stdout)) as tar:
+            return tar.extractfile("shop1.example.org/missing").read().decode().splitlines()
+
+    def test_other_sources_than_files_are_missing(self) -> None:
+        self.make_machine()
+        for line in ("sudoers: files sss", "sudoers:ldap", "SUDOERS:\tldap [SUCCESS=return] files"):
+            wanted = f"/etc/nsswitch.conf: {line}: the rules of other sources than files are not gathered"
+            with self.subTest(line):
+                missing = self.missing_with(f"passwd: files\n# sudoers: nis\n  {line} # x\nsudoers: files\n")
+                self.assertEqual(missing, [wanted])
+
+    def test_files_alone_lack_nothing(self) -> None:
+        self.make_machine()
+        for text in ("", "passwd: sss\n", "sudoers: files\nsudoers: sss\n", "sudoers: FILES [NOTFOUND=return]\n"):
+            with self.subTest(text):
+                self.assertEqual(self.missing_with(text), [])
 
 
 if __name__ == "__main__":

@@ -1,6 +1,9 @@
 """Users and hosts."""
 
+import os
+import shutil
 import unittest
+from collections.abc import Callable
 
 from support import Case, Fault, needs_program
 
@@ -106,6 +109,54 @@ class Directory(Case):
         self.assertEqual(self.rows("out", "hosts.csv")[1:], ["web1,192.0.2.7/24", "web2.example.org,"])
         self.assertEqual(len(self.rows("out", "users.csv")), 9)
         self.assertIn("all/notes has no passwd: passed over", err)
+
+    def test_two_folders_of_one_host_are_refused_by_name(self) -> None:
+        self.host("all/web1")
+        self.host("all/web2")
+        self.write("all/web2/hostname", "WEB1\n")
+        for words in ((), ("--each",)):
+            _, err = self.run_tool("directory", "--from", "all", "out", *words, status=3)
+            self.assertIn("directory: all/web1 and all/web2 are both of the host WEB1", err)
+        self.assertFalse(os.path.exists(self.path("out", "hosts.csv")))
+
+    def test_copied_files_are_plain_files(self) -> None:
+        secret = self.write("secret", "root:x:0:0:canary:/:\n")
+        for name in ("passwd", "group", "hostname", "addr.json"):
+            for make, kind in ((os.mkfifo, "a FIFO"), (os.mkdir, "a folder"), (self.link_to(secret), "a link")):
+                self.host("all/web1")
+                self.write("all/web1/hostname", "web1\n")
+                os.unlink(self.path("all", "web1", name))
+                make(self.path("all", "web1", name))
+                for source in ("all", "all/web1"):
+                    _, err = self.run_tool("directory", "--from", source, "out", status=3)
+                    self.assertEqual(err, f"directory: all/web1/{name}: expected a plain file, found {kind}\n")
+                shutil.rmtree(self.path("all"))
+        self.host("all/web1")
+        os.symlink(self.path("all", "web1"), self.path("all", "web2"))
+        _, err = self.run_tool("directory", "--from", "all", "out", status=3)
+        self.assertEqual(err, "directory: all/web2: expected a folder, found a link\n")
+
+    def link_to(self, target: str) -> Callable[[str], None]:
+        """Returns what makes a link to a path."""
+        return lambda path: os.symlink(target, path)
+
+    def test_what_is_written_is_for_its_owner_unless_it_is_shared(self) -> None:
+        self.host("web1")
+        for words, modes in (((), (0o700, 0o600)), (("--mode", "shared"), (0o755, 0o644))):
+            self.run_tool("directory", "--from", "web1", "out", *words)
+            found = [os.stat(self.path("out", *names)).st_mode & 0o777 for names in ((), ("users.csv",))]
+            self.assertEqual(found, list(modes))
+            shutil.rmtree(self.path("out"))
+
+    @unittest.skipUnless(os.geteuid() == 0, "root alone can make a folder of another user")
+    def test_root_does_not_write_through_another_users_link(self) -> None:
+        victim = self.write("victim", "victim")
+        os.mkdir(self.path("work"))
+        os.symlink(victim, self.path("work", "users.csv"))
+        os.chown(self.path("work"), 65534, 65534)
+        _, err = self.run_tool("directory", "work", status=2)
+        self.assertIn(f"{self.folder}/work is of the user nobody, who could change what is written there", err)
+        self.assertEqual((self.read("victim"), os.listdir(self.path("work"))), ("victim", ["users.csv"]))
 
     def test_hosts_that_differ(self) -> None:
         self.host("all/web1")

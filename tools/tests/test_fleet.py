@@ -2,6 +2,7 @@
 
 import json
 import os
+import shutil
 import unittest
 
 from fleet_case import POLICY, FleetCase, requests
@@ -64,13 +65,61 @@ class Parts(FleetCase):
         os.unlink(self.path("fleet", "web2", "requests", "web2.csv"))
         os.mkfifo(self.path("fleet", "web2", "requests", "web2.csv"))
         os.symlink(self.path("fleet", "web1"), self.path("fleet", "web3"))
+        self.host("web4")
+        shutil.rmtree(self.path("fleet", "web4", "tree"))
+        os.symlink("/", self.path("fleet", "web4", "tree"))
         self.fleet("--part", "1/1")
         self.fleet("--join", status=1)
         self.assertEqual(
             [row.split(",", 4)[4] for row in self.rows("out", "status.csv")[1:]],
-            ["users.csv: a link; the folders of a fleet have none", "requests/web2.csv: no file"]
-            + ["the folder is a link"],
+            [
+                '"fleet/web1/users.csv: expected a plain file, found a link"',
+                '"fleet/web2/requests/web2.csv: expected a plain file, found a FIFO"',
+                '"fleet/web3: expected a folder, found a link"',
+                '"fleet/web4/tree: expected a folder, found a link"',
+            ],
         )
+
+    def test_what_a_host_could_not_gather_is_a_warning(self) -> None:
+        self.host("web1")
+        self.host("web2")
+        self.write("fleet/web2/missing", "/etc/nsswitch.conf: sudoers: files sss: not gathered\n")
+        self.assertNotIn("warning", self.fleet("--part", "1/1")[1])
+        self.assertIn(
+            "fleet: warning: fleet/web2/missing: /etc/nsswitch.conf: sudoers: files sss: not gathered\n",
+            self.fleet("--join")[1],
+        )
+
+    def test_files_without_end_are_refused_for_their_host_alone(self) -> None:
+        for name in ("web1", "web2", "web3", "web4"):
+            self.host(name)
+        os.truncate(self.path("fleet", "web1", "tree", "etc", "sudoers"), 100 << 30)
+        os.truncate(self.path("fleet", "web2", "requests", "web2.csv"), 100 << 30)
+        for part in range(2, 7):
+            self.write(f"fleet/web3/requests/web3.{part}.csv", "")
+            os.truncate(self.path("fleet", "web3", "requests", f"web3.{part}.csv"), 255 << 20)
+        self.fleet("--part", "1/1")
+        self.fleet("--join", status=1)
+        self.assertEqual(
+            [row.split(",", 4)[4] for row in self.rows("out", "status.csv")[1:]],
+            [
+                '"fleet/web1/tree/etc/sudoers: more than 16777216 bytes, and no more are read"',
+                "the requests of web2 have more than 1073741824 bytes",
+                "the requests of web3 have more than 1073741824 bytes",
+                "",
+            ],
+        )
+        self.want_as_one_machine(without=["web1", "web2", "web3"])
+
+    def test_two_runs_at_once(self) -> None:
+        self.host("web1", POLICY + f"# stub wait {self.path('go')}\n")
+        running = self.start("--part", "1/1")
+        self.wait_until(lambda: os.path.exists(self.path("out", ".lock")))
+        self.assertIn(f"out: the process {running.pid} works in this folder", self.fleet("--join", status=4)[1])
+        self.write("go", "")
+        running.communicate()
+        self.fleet("--join")
+        self.want_as_one_machine()
 
     def test_words(self) -> None:
         self.host("web1")

@@ -138,6 +138,29 @@ class Installed(unittest.TestCase):
                 with gzip.open(self.at(f"/usr/local/share/man/man1/{name}.1.gz"), "rt") as page:
                     self.assertNotIn("tools/", page.read())
 
+    def test_each_installed_command_tells_the_version(self):
+        self.do("install")
+        names = [name for name in sorted(os.listdir(self.at("/usr/local/bin"))) if name.startswith("kulavemia-")]
+        self.assertGreater(len(names), 5)
+        for name in names:
+            with self.subTest(name):
+                tool, version = name.removeprefix("kulavemia-"), text_of("VERSION")
+                self.assertEqual(run(self.at(f"/usr/local/bin/{name}"), "--version"), f"{name} {version}")
+                self.assertEqual(run(os.path.join(REPOSITORY, "tools", tool), "--version"), f"{tool} {version}")
+
+    def test_installed_documents_name_the_installed_commands(self):
+        self.do("install")
+        folder = self.at("/usr/local/share/doc/kulavemia")
+        tools = "|".join(name.removeprefix("kulavemia-") for name in os.listdir(self.at("/usr/local/bin")))
+        documents = [path for path in all_below(folder) if path.endswith(".md") and path != "CHANGELOG.md"]
+        texts = {path: text_of(folder, path) for path in documents}
+        self.assertIn('    ssh HOST sudo sh -s <"$(command -v kulavemia-collect)" >HOST.tar\n', texts["docs/TOOLS.md"])
+        for path, text in texts.items():
+            with self.subTest(path):
+                self.assertEqual(re.findall(rf"[< `]tools/(?:{tools})[ `\n.,;]", text), [])
+                for anchor in re.findall(r"\(TOOLS\.md#([^)]*)\)", text):
+                    self.assertIn(f"\n## {anchor}\n", texts["docs/TOOLS.md"])
+
     def test_each_command_has_a_page_and_completions(self):
         self.do("install")
         commands = [name for name in os.listdir(self.at("/usr/local/bin"))]

@@ -2,9 +2,11 @@
 
 import json
 import os
+import random
 import subprocess
 import sys
 import tempfile
+import time
 import unittest
 
 TESTS = os.path.dirname(os.path.realpath(__file__))
@@ -13,12 +15,17 @@ LINT = os.path.join(TOOLS, "lint")
 STUB = os.path.join(TESTS, "lint_stub")
 sys.path[:0] = [TOOLS, TESTS]
 
+from kulavemia.command import Fault
+from kulavemia.lint_bounds import includes_of
 from kulavemia.lint_answers import FAILED, RULES, fault_of, report_of
 from kulavemia.lint_formats import github_property, github_text, place_text
 from kulavemia.lint_places import physical_place
 from kulavemia.lint_show import picture
+from kulavemia.policy import include_of, lines_of
 from lint_cases import CASES
 from support import PROGRAM, needs_program
+
+OUT = "leads out of the folders that are named; --follow reads it"
 
 
 class Folder(unittest.TestCase):
@@ -255,6 +262,125 @@ class Inputs(Folder):
         self.assertEqual((done.returncode, done.stderr), (4, b"lint: standard output: No space left on device\n"))
 
 
+class Outside(Folder):
+    """Links and includes that lead out of the folders that are named."""
+
+    SECRET = b"TOKEN=s3cret ALL = broken\n"
+
+    def setUp(self):
+        super().setUp()
+        self.outside = self.enterContext(tempfile.TemporaryDirectory())
+        self.write("secret", self.SECRET, self.outside)
+        self.secret = os.path.join(self.outside, "secret")
+
+    def link(self, target, name):
+        """Makes a link of the folder."""
+        os.makedirs(os.path.dirname(f"{self.folder}/{name}"), exist_ok=True)
+        os.symlink(target, f"{self.folder}/{name}")
+
+    def refused(self, *words, program=STUB):
+        """Runs the tool in each format on what leads out, and returns its text."""
+        for form in ("json", "sarif", "github", "text"):
+            status, output, complaint = self.lint("--format", form, *words, program=program)
+            self.assertEqual((status, complaint), (4, ""), output)
+            self.assertIn("leads out of the folders that are named", output)
+            for part in ("s3cret", "TOKEN", "PATH="):
+                self.assertNotIn(part, output)
+        return output
+
+    def test_a_link_in_a_folder(self):
+        self.link("/proc/self/environ", "sudoers.d/10-x")
+        self.write("sudoers.d/20-y")
+        self.answer("sudoers.d/20-y", 0, "ok\n")
+        self.assertEqual(self.refused("sudoers.d").splitlines(), [
+            f"sudoers.d/10-x: error: a link to /proc/self/environ {OUT}",
+            "sudoers.d/10-x: not checked", "sudoers.d/20-y: ok"])
+
+    def test_an_include(self):
+        for line in ("@include {}", "#include {}", "@includedir {}", '@include "{}"', "@include \\\n  {}"):
+            with self.subTest(line):
+                self.write("sudoers", ("x ALL = ALL\n" + line.format(self.secret) + "\n").encode())
+                words = "@includedir" if "dir" in line else "@include"
+                output = self.refused("sudoers")
+                self.assertTrue(output.startswith(f"sudoers:2: error: {words} {self.secret} leads out"), output)
+                self.assertTrue(output.endswith("\nsudoers: not checked\n"), output)
+
+    def test_an_include_through_a_link(self):
+        self.link(self.secret, "inner")
+        self.link(self.outside, "folder")
+        self.write("sudoers", b"@includedir d\n@include folder/secret\n@include ../x\n")
+        self.write("d/10-main", b"@include ../inner\n")
+        self.link("../inner", "d/20-link")
+        self.assertEqual([line for line in self.refused("sudoers").splitlines() if ": error: " in line], [
+            f"d/20-link: error: a link to ../inner {OUT}",
+            f"sudoers:2: error: @include folder/secret {OUT}",
+            f"sudoers:3: error: @include ../x {OUT}",
+            f"d/10-main:1: error: @include ../inner {OUT}"])
+
+    def test_a_name_that_is_a_link_or_has_one_on_its_way(self):
+        self.link(self.outside, "d")
+        self.link(self.secret, "sudoers")
+        self.assertIn(f"d: error: a link to {self.outside} leads", self.refused("d"))
+        self.assertIn(f"sudoers: error: a link to {self.secret} leads", self.refused("sudoers"))
+        self.assertIn("d/secret: error: a link on the way", self.refused("d/secret"))
+        self.link(".", "here")
+        self.assertIn("here: error: a link to . leads", self.refused("here"))
+
+    def test_more_links_than_can_be_followed(self):
+        for number in range(1500):
+            self.link(f"l{number + 1}", f"l{number}")
+        self.refused("l0")
+
+    def test_what_the_program_says_of_other_files(self):
+        self.write("sudoers")
+        own = "sudoers:1: error: cycle Cmnd_Alias A\n"
+        self.answer("sudoers", 1, f"{self.secret}:1: error: undefined Cmnd_Alias TOKEN\n{own}")
+        status, output, _ = self.lint("sudoers")
+        self.assertEqual(status, 4)
+        self.assertEqual(output.splitlines(), [
+            "sudoers:1: error: cycle Cmnd_Alias A",
+            "sudoers: error: a finding in a file outside the folders that are named is not shown; --follow shows it",
+            "sudoers: not checked"])
+
+    def test_follow(self):
+        self.link(self.secret, "sudoers")
+        self.answer("sudoers", 1, "", "sudo_audit: sudoers:1:15: syntax error, expected =\n")
+        status, output, _ = self.lint("--follow", "sudoers")
+        self.assertEqual(status, 1)
+        self.assertIn("TOKEN=s3cret", output)
+
+    def test_links_and_includes_that_stay_inside(self):
+        self.write("common/10-x")
+        self.link("../common/10-x", "d/10-x")
+        self.write("sudoers", b"@includedir d\n@include common/10-x\n@include gone\n@include a\0b\n")
+        for name in ("sudoers", "d/10-x"):
+            self.answer(name, 0, "ok\n")
+        self.assertEqual(self.lint("sudoers", "d")[1], "sudoers: ok\nd/10-x: ok\n")
+        self.assertIn("d/10-x: error: a link to ../common/10-x leads out", self.lint("d")[1])
+
+    def test_more_files_than_a_policy_includes(self):
+        self.write("sudoers", b"".join(b"@include f%d\n" % number for number in range(1100)))
+        status, output, _ = self.lint("sudoers")
+        self.assertEqual((status, output.splitlines()[0]), (4, "sudoers: error: includes too many files"))
+
+    def test_each_include_line_is_found(self):
+        drawn = random.Random(1)
+        parts = [b"@include", b"#include", b"dir", b"@incl", b"ude", b"/x", b"#", b"y"]
+        parts += [b" ", b"\t", b"\\", b"\n", b"\r", b"\\\n"]
+        for _ in range(20_000):
+            text = b"".join(drawn.choices(parts, k=drawn.randrange(1, 12)))
+            wanted = {include_of(line)[1:] for line in lines_of(text) if include_of(line)}
+            self.assertLessEqual(wanted, {include[1:] for include in includes_of(text)}, text)
+
+    def test_texts_that_are_made_to_be_slow(self):
+        started = time.monotonic()
+        for text in (b"\n" * (1 << 24), b" @include" * (1 << 16), b"@include a\n" * (1 << 15), b"@\\\n" * (1 << 18)):
+            list(includes_of(text))
+        for text in (b"@\\\n" * (1 << 22), b"@include" * (1 << 21), b"@i\n" * (1 << 22), b"@i" + b"\\" * (1 << 23)):
+            self.assertRaises(Fault, list, includes_of(text))
+        self.assertLess(time.monotonic() - started, 30)
+
+
 @needs_program
 class RealRuns(Folder):
     """Runs of the real program."""
@@ -262,6 +388,13 @@ class RealRuns(Folder):
     def test_example(self):
         example = os.path.join(os.path.dirname(TOOLS), "examples", "sudoers")
         self.assertEqual(self.lint(example, program=PROGRAM)[:2], (0, f"{example}: ok\n"))
+
+    def test_what_leads_out_is_read_to_follow_alone(self):
+        self.write("main", b"@include ../" + os.path.basename(self.answers).encode() + b"/secret\n")
+        self.write("secret", b"TOKEN ALL\n", self.answers)
+        for words, wanted in (((), False), (("--follow",), True)):
+            _, output, _ = self.lint(*words, "main", program=PROGRAM)
+            self.assertEqual("TOKEN" in output, wanted, output)
 
     def test_a_fault_in_an_included_file(self):
         self.write("main", b"@includedir main.d\n")

@@ -3,14 +3,18 @@
 import bz2
 import datetime
 import gzip
+import json
 import lzma
 import os
+import string
 import unittest
 
 from support import DATA, Case
-from kulavemia.logs import Found, Log, Options
+from kulavemia.logs import FORGED, Found, Log, Options
 from kulavemia.messages import Event
 
+WORD = "x" * 1500
+SHORT_WORDS = " ".join(first + second for first in string.ascii_lowercase for second in string.ascii_lowercase)
 ALICE = "Nov 20 10:01:02 web1 sudo[1]: alice : "
 COMMAND = "TTY=pts/0 ; PWD=/ ; USER=root ; COMMAND="
 
@@ -48,8 +52,18 @@ class Logs(Case):
         piece = "x" * (100 - 23 - len("alice"))
         text = f"{ALICE}{COMMAND}/bin/echo\n{ALICE}(command continued) {piece}\n{ALICE}(command continued) y z\n"
         path = self.write("log", text)
-        self.assertEqual(self.commands(path, syslog_length=100), [f"/bin/echo {piece}y z"])
+        self.assertEqual(self.commands(path, syslog_lengths=[100]), [f"/bin/echo {piece}y z"])
         self.assertEqual(self.commands(path), [f"/bin/echo {piece} y z"])
+
+    def test_messages_that_sudo_broke_are_put_together_for_either_default_length(self) -> None:
+        # What sudo 1.9.13p3 and rsyslog wrote, by default and with syslog_maxlen=980.
+        wanted = [WORD, f"before {WORD} after", SHORT_WORDS, f"one {WORD} two {WORD} three", f"{WORD} {WORD}"]
+        wanted.append(f"ä{WORD}")
+        for name in ("broken-960.log", "broken-980.log"):
+            self.assertEqual(self.commands(os.path.join(DATA, name)), [f"/bin/true {text}" for text in wanted], name)
+        of_another_length = self.commands(os.path.join(DATA, "broken-960.log"), syslog_lengths=[980])
+        self.assertNotEqual(of_another_length[0], f"/bin/true {WORD}")
+        self.assertEqual(of_another_length[2], f"/bin/true {SHORT_WORDS}")
 
     def test_the_own_file_says_what_the_json_says(self) -> None:
         own = [event.request for event in self.events(os.path.join(DATA, "sudo.log"))]
@@ -67,6 +81,38 @@ class Logs(Case):
         self.assertEqual(found[0].time, "2025-11-20T10:01:02Z")
         said = [entry.event for entry in found if isinstance(entry.event, str)]
         self.assertEqual(said, ["not of sudo", "no message", "no JSON", "JSON that does not end"])
+
+    def test_entries_of_the_journal_that_another_program_wrote_are_forged(self) -> None:
+        # What sudo, logger, systemd-cat, and other programs of an ordinary user left in a journal.
+        found = self.found(os.path.join(DATA, "journal-forged.json"))
+        self.assertEqual(
+            [entry.event.request.command for entry in found if isinstance(entry.event, Event)],
+            ["/usr/bin/id", "/bin/echo", "/usr/bin/true"],
+        )
+        self.assertEqual(
+            [entry.event for entry in found if entry.kind == FORGED],
+            [
+                "forged: the journal names no program",
+                "forged: written by /usr/bin/logger",
+                "forged: the journal names no program",
+                "forged: the journal names no program",
+                "forged: output of sudo, not its log",
+                "forged: written by /usr/bin/python3.11",
+                "forged: written by /tmp/sudo",
+            ],
+        )
+
+    def test_the_path_of_sudo_in_the_journal_can_be_named(self) -> None:
+        path = os.path.join(DATA, "journal-forged.json")
+        self.assertEqual(self.commands(path, sudo_paths=["/tmp/sudo"]), ["/bin/forged-by-name"])
+        self.assertEqual(len(self.commands(path, sudo_paths=["/usr/bin/sudo", "/usr/bin/logger"])), 4)
+
+    def test_the_name_of_a_process_proves_nothing(self) -> None:
+        entry = {"_COMM": "sudo", "_HOSTNAME": "web1", "_EXE": "/tmp/sudo", "_UID": "0"}
+        for identifier in ({}, {"SYSLOG_IDENTIFIER": "sudo"}, {"SYSLOG_IDENTIFIER": ["sudo", "sudo"]}):
+            for message in (f"alice : {COMMAND}/bin/id", "alice : (command continued) x", "@cee:{}", None):
+                path = self.write("journal", json.dumps({**entry, **identifier, "MESSAGE": message}) + "\n")
+                self.assertEqual(self.events(path), [])
 
     def test_events_over_several_lines(self) -> None:
         found = self.found(os.path.join(DATA, "server.json"))

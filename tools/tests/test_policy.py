@@ -106,6 +106,12 @@ class Trees(Case):
         self.assertEqual(self.read("copy/etc/sudoers.d/10"), f"@include {self.path('copy')}/opt/x\n")
         self.assertEqual(self.read("copy/opt/x"), "c ALL = ALL\n")
 
+    def test_a_tree_whose_name_ends_in_a_slash(self) -> None:
+        self.write("tree/etc/sudoers", "@include local\n")
+        self.write("tree/etc/local", "b ALL = ALL\n")
+        of_tree(self.path("tree") + "/", "/etc/sudoers", self.path("copy"))
+        self.assertEqual(self.read("copy/etc/local"), "b ALL = ALL\n")
+
     def test_a_chain_of_files_that_is_too_deep_for_sudo(self) -> None:
         self.write("tree/etc/sudoers", "@include /f0\n")
         for number in range(1200):
@@ -114,9 +120,19 @@ class Trees(Case):
         self.assertTrue(os.path.exists(self.path("copy/f130")))
         self.assertFalse(os.path.exists(self.path("copy/f1000")))
 
-    def test_a_folder_that_no_system_can_have(self) -> None:
-        self.write("tree/etc/sudoers", "@includedir /etc/a\0b\n")
+    def test_names_that_no_system_can_have(self) -> None:
+        for line in ("@includedir /etc/a\0b\n", "@include /etc/a\0b\n", f"@include /etc/{'a' * 300}\n"):
+            self.write("tree/etc/sudoers", line)
+            of_tree(self.path("tree"), "/etc/sudoers", self.path("copy"))
+
+    def test_a_folder_of_copies_has_files_and_folders_alone(self) -> None:
+        self.write("tree/etc/sudoers", "@includedir /etc/d\n")
+        self.write("tree/etc/d/more/x", "")
+        os.mkfifo(self.path("tree/etc/d/10.no"))
         of_tree(self.path("tree"), "/etc/sudoers", self.path("copy"))
+        os.mkfifo(self.path("tree/etc/d/10"))
+        with self.assertRaisesRegex(Fault, "tree/etc/d/10: expected a plain file, found a FIFO"):
+            of_tree(self.path("tree"), "/etc/sudoers", self.path("copy"))
 
     def test_a_copy_does_not_leave_the_copied_files(self) -> None:
         for text in ("@include /../../etc/passwd\n", "@include ../x\n", "@includedir /etc/..\n"):
@@ -125,7 +141,7 @@ class Trees(Case):
                 of_tree(self.path("tree"), "/etc/sudoers", self.path("copy"))
         self.write("tree/etc/sudoers", "@include /etc/link\n")
         os.symlink("/etc/passwd", self.path("tree/etc/link"))
-        with self.assertRaisesRegex(Fault, "tree/etc/link: a link"):
+        with self.assertRaisesRegex(Fault, "tree/etc/link: expected a plain file, found a link"):
             of_tree(self.path("tree"), "/etc/sudoers", self.path("copy"))
         with self.assertRaisesRegex(Fault, "is not there"):
             of_tree(self.path("tree"), "/etc/gone", self.path("copy"))

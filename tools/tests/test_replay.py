@@ -1,10 +1,13 @@
 """From logs to the page."""
 
 import os
+import shlex
 import shutil
+import subprocess
+import time
 import unittest
 
-from support import EXAMPLES, Case, needs_jinja, needs_program
+from support import EXAMPLES, PROGRAM, TOOLS, Case, needs_jinja, needs_program
 
 LOG = """Nov 20 10:01:02 web1 sudo[1]:    steve : TTY=pts/0 ; PWD=/ ; USER=operator ; COMMAND=/usr/local/op_commands/rotate
 Nov 20 10:02:02 web1 sudo[2]:    jen : TTY=pts/0 ; PWD=/ ; USER=root ; COMMAND=/usr/bin/id <script>alert(1)</script>
@@ -83,7 +86,11 @@ class Replay(Case):
         self.write("web1/group", "root:x:0:\njen:x:1:\n")
         self.write("web1/addr.json", "[]")
         self.write("web1/hostname", "web1.example.org\n")
-        self.replay("--collected", "web1")
+        self.write("web1/missing", "/etc/nsswitch.conf: sudoers: files sss: not gathered\n")
+        self.assertEqual(
+            self.replay("--collected", "web1")[1],
+            "replay: warning: web1/missing: /etc/nsswitch.conf: sudoers: files sss: not gathered\n",
+        )
         self.assertIn(
             "web1_example_org,2,allow,/etc/sudoers.d/10-jen:1,SETENV", self.rows("out", "requests", "report.csv")
         )
@@ -91,6 +98,35 @@ class Replay(Case):
             self.folder, self.read("out", "page.html").partition("<dt>Program</dt>")[2].partition("</dd>")[2]
         )
         self.assertIn("jen ALL = ALL", self.read("out", "page.html"))
+
+    def test_lines_without_a_host_are_of_the_only_host(self) -> None:
+        self.write("directory/users.csv", "user,uid,groups\nroot,0,root:0\nguest,1,guest:1\n")
+        self.write("directory/hosts.csv", "host,interfaces\nweb1,\n")
+        policy = self.write("policy", "guest ALL = /usr/bin/id\n")
+        self.write("auth.log", "Nov 20 10:04:02 : guest : TTY=pts/0 ; PWD=/ ; USER=root ; COMMAND=/usr/bin/id\n")
+        words = ("--policy", policy, "--directory", "directory", "--no-probe")
+        out, err = self.replay(*words)
+        self.assertIn("logs: 1 accepted, 0 refused and 0 failed requests of 1 senders; 0 to list, 0 other lines\n", out)
+        self.assertEqual(err, "")
+        self.assertIn(f"web1,1,allow,{policy}:1,", self.rows("out", "requests", "report.csv"))
+        self.assertIn("In a file of syslog any user of the host can forge an entry.", self.read("out", "page.html"))
+
+    def test_a_log_of_lines_that_cannot_be_read(self) -> None:
+        self.write("auth.log", LOG.splitlines()[0] + "\n" + LOG.replace("Nov", "on Nov"))
+        example = ("--policy", f"{EXAMPLES}/sudoers", "--directory", EXAMPLES, "--no-probe")
+        out, err = self.replay(*example, status=3)
+        self.assertIn("logs: 1 accepted", out)
+        self.assertIn("4 of 5 lines under sudo's name could not be read", err)
+        self.assertTrue(os.path.exists(self.path("out", "page.html")))
+
+    def test_an_audit_without_a_source_says_so(self) -> None:
+        example = ("--policy", f"{EXAMPLES}/sudoers", "--directory", EXAMPLES, "--no-probe", "--out", "out")
+        self.assertEqual(
+            self.run_tool("replay", *example)[1], "replay: warning: there is no log: nothing is audited\n"
+        )
+        shutil.rmtree(self.path("out"))
+        self.write("auth.log", "Nov 20 10:01:02 web1 sshd[1]: hello\n")
+        self.assertIn("an audit of it has no source", self.run_tool("replay", *example, "auth.log")[1])
 
     def test_a_policy_of_another_machine(self) -> None:
         policy = self.write("web1/sudoers", "@includedir /etc/sudoers.d\n")
@@ -117,6 +153,105 @@ class Replay(Case):
         self.assertIn(
             "out is not empty", self.replay("--policy", f"{EXAMPLES}/sudoers", "--directory", EXAMPLES, status=2)[1]
         )
+
+
+CUT = """#!/bin/sh
+[ "$1" = audit ] || exec {program} "$@"
+printf 'x' >>{folder}/audits
+[ "$(cat {folder}/audits)" = {at} ] && kill -9 $PPID
+exec {program} "$@"
+"""
+
+
+@needs_program
+@needs_jinja
+class Continued(Case):
+    """A replay that is cut off, and started again."""
+
+    def setUp(self) -> None:
+        super().setUp()
+        self.write("auth.log", LOG)
+        self.write("programs.csv", PROGRAMS)
+        self.write("policy", "root ALL = ALL\njen ALL = /usr/bin/id\n")
+        self.write("old", "root ALL = ALL\n")
+        self.given = ["--policy", "policy", "--old-policy", "old", "--directory", EXAMPLES, "--domain", "example.org"]
+        self.given += ["--programs", "programs.csv", "auth.log"]
+
+    def replay(self, out: str, *words: str, status: int = 1) -> tuple[str, str]:
+        """Runs the command into a folder."""
+        return self.run_tool("replay", "--out", out, *self.given, *words, status=status)
+
+    def cut(self, at: int) -> str:
+        """Returns a program that kills the command at the audit of this number, and goes on later."""
+        place, named = shlex.quote(self.folder), shlex.quote(os.path.abspath(PROGRAM or ""))
+        text = CUT.format(program=named, folder=place, at="x" * at)
+        os.chmod(self.write("program", text), 0o755)
+        return self.path("program")
+
+    def test_a_run_that_was_cut_off_continues(self) -> None:
+        self.replay("whole")
+        names = ["requests/report.csv", "requests/senders.csv", "probe/report.csv", "changes.csv"]
+        for at in range(1, 5):
+            self.replay(f"out{at}", "--program", self.cut(at), status=-9)
+            if at > 1:
+                before = os.stat(self.path(f"out{at}", "requests", "report.csv"))
+            out, _ = self.replay(f"out{at}", "--program", self.path("program"))
+            self.assertIn("logs: 2 accepted, 1 refused and 1 failed requests of 1 senders", out)
+            self.assertRegex(out, r"changes: [1-9]\d* gained")
+            for name in names:
+                self.assertEqual(self.read("whole", name), self.read(f"out{at}", name), name)
+            if at > 1:
+                after = os.stat(self.path(f"out{at}", "requests", "report.csv"))
+                self.assertEqual((before.st_ino, before.st_mtime_ns), (after.st_ino, after.st_mtime_ns))
+            os.unlink(self.path("audits"))
+
+    def test_what_is_done_is_told_again(self) -> None:
+        first = self.replay("out")
+        before = os.stat(self.path("out", "probe", "report.csv")).st_mtime_ns
+        self.assertEqual(self.replay("out"), first)
+        self.assertEqual(os.stat(self.path("out", "probe", "report.csv")).st_mtime_ns, before)
+
+    def test_other_inputs_are_refused_by_name(self) -> None:
+        self.replay("out")
+        before = {name: self.read("out", name) for name in ("page.html", "changes.csv", ".steps.json")}
+        said = "replay: out is of other inputs ({} differs); remove it, or name another folder\n"
+        for name, shown in (
+            ("auth.log", "the log auth.log"),
+            ("policy", "the policy"),
+            ("old", "the policy before"),
+            ("programs.csv", "the list of programs"),
+        ):
+            text = self.read(name)
+            times = os.stat(self.path(name))
+            self.write(name, text + "\n")
+            self.assertEqual(self.replay("out", status=2)[1], said.format(shown))
+            self.write(name, text)
+            os.utime(self.path(name), ns=(times.st_atime_ns, times.st_mtime_ns))
+        self.assertEqual(self.replay("out", "--year", "2020", status=2)[1], said.format("the command line"))
+        self.assertEqual({name: self.read("out", name) for name in before}, before)
+        self.replay("out", "--workers", "1")
+
+    def test_inputs_may_change_before_any_step_is_done(self) -> None:
+        self.write("policy", "what\n")
+        self.replay("out", status=5)
+        self.write("policy", "root ALL = ALL\njen ALL = /usr/bin/id\n")
+        self.replay("out")
+
+    def test_a_second_run_is_refused_while_the_first_works(self) -> None:
+        program = self.path("program")
+        named = shlex.quote(os.path.abspath(PROGRAM or ""))
+        self.write("program", f"#!/bin/sh\n: >here\nwhile [ ! -e go ]; do sleep 0.05; done\nexec {named} \"$@\"\n")
+        os.chmod(program, 0o755)
+        words = [os.path.join(TOOLS, "replay"), "--out", "out", *self.given, "--program", program]
+        with subprocess.Popen(words, cwd=self.folder, stdout=subprocess.DEVNULL) as running:
+            end = time.monotonic() + 30
+            while not os.path.exists(self.path("here")):
+                self.assertLess(time.monotonic(), end)
+                time.sleep(0.02)
+            said = f"replay: out: the process {running.pid} works in this folder\n"
+            self.assertEqual(self.replay("out", status=4)[1], said)
+            self.write("go", "")
+            self.assertEqual(running.wait(60), 1)
 
 
 if __name__ == "__main__":

@@ -6,16 +6,13 @@ folder of what `ssh` would run there.
 
 import os
 import re
-import shutil
 import subprocess
 import unittest
 
-from support import PROGRAM, TOOLS, Case, needs_jinja, needs_program
+from machine import MachineCase
+from support import PROGRAM, TOOLS, needs_jinja, needs_program
 
 REPOSITORY = os.path.dirname(TOOLS)
-MACHINE = os.path.join(REPOSITORY, "examples", "walkthrough", "machine")
-COPIED = "sh cat chmod cut getent id mkdir mktemp rm sed tar tr".split()
-WRITTEN = {"hostname": "echo shop1.example.org", "ip": "cat /addr.json"}
 
 
 def steps_of(page: str) -> list[tuple[str, str]]:
@@ -40,47 +37,7 @@ def script_of(commands: list[str]) -> str:
     return "exec 2>&1\n" + "".join(f"{command}\nlast=$?; printf '\\0'; (exit $last)\n" for command in commands)
 
 
-def libraries_of(program: str) -> list[str]:
-    """Returns the paths of the libraries that a program is linked with."""
-    said = subprocess.run(["ldd", program], stdout=subprocess.PIPE, check=True, text=True).stdout
-    return re.findall(r"(/\S+) \(0x", said)
-
-
-class Walkthrough(Case):
-    def copy(self, source: str, target: str) -> None:
-        """Copies a file to a path below the test's folder."""
-        os.makedirs(os.path.dirname(self.path(target)), exist_ok=True)
-        shutil.copy(source, self.path(target))
-
-    def runnable(self, name: str, text: str) -> None:
-        """Writes a script of the shell."""
-        os.chmod(self.write(name, f"#!/bin/sh\n{text}\n"), 0o755)
-
-    def make_machine(self) -> None:
-        """Makes the root folder of the machine, and the command `ssh` that reaches it."""
-        shutil.copytree(MACHINE, self.path("root"))
-        for name in COPIED:
-            program = os.path.realpath(shutil.which(name) or "")
-            self.copy(program, f"root/usr/bin/{name}")
-            for library in libraries_of(program):
-                self.copy(library, f"root{library}")
-        for name, text in WRITTEN.items():
-            self.runnable(f"root/usr/bin/{name}", text)
-        os.symlink("usr/bin", self.path("root", "bin"))
-        for name in ("tmp", "dev"):
-            os.mkdir(self.path("root", name))
-        command = f'exec env PATH=/usr/bin {shutil.which("chroot")} {self.path("root")} /bin/sh -s'
-        self.runnable("bin/ssh", f'[ "$*" = "shop1 sudo sh -s" ] || exit 255\n{command}')
-
-    def can_play(self) -> bool:
-        """Tells whether a program can be run in the machine's root folder."""
-        command = [shutil.which("chroot") or "chroot", self.path("root"), "/usr/bin/id"]
-        try:
-            done = subprocess.run(command, stdout=subprocess.DEVNULL, stderr=subprocess.DEVNULL, check=False)
-        except OSError:
-            return False
-        return done.returncode == 0
-
+class Walkthrough(MachineCase):
     def outputs(self, commands: list[str]) -> list[str]:
         """Runs commands as the page says, in a folder like the repository's, and returns what each prints."""
         for name in ("tools", "examples"):
@@ -98,8 +55,6 @@ class Walkthrough(Case):
             steps = steps_of(file.read())
         self.assertGreater(len(steps), 10)
         self.make_machine()
-        if not self.can_play():
-            self.skipTest("chroot cannot be used here")
         outputs = self.outputs([command for command, _ in steps])
         self.assertEqual(len(outputs), len(steps), outputs[-1:])
         for (command, wanted), output in zip(steps, outputs):

@@ -1,0 +1,32 @@
+"""What tools/collect could not gather of a host, as the file `missing` beside the copies says."""
+
+import itertools
+import os
+from collections.abc import Iterable, Iterator
+
+from kulavemia import foreign
+from kulavemia.command import Fault
+
+NAME = "missing"
+SHOWN = 20
+_WIDTH = 200
+
+
+def warnings(folders: Iterable[str], below: str) -> list[str]:
+    """Returns warnings of what these folders lack, the first of them alone where there are many."""
+    found = [(folder, warning) for folder in folders for warning in _lines(folder, below)]
+    further = {folder for folder, _ in found[SHOWN:]}
+    more = [f"the file {NAME} of {len(further)} folders has further lines"] if further else []
+    return [warning for _, warning in found[:SHOWN]] + more
+
+
+def _lines(folder: str, below: str) -> Iterator[str]:
+    """Yields the first lines of the file of a folder, or why it cannot be read."""
+    path = os.path.join(folder, NAME)
+    try:
+        text = foreign.read(path, foreign.POLICY_CAP, below) if foreign.exists(path, below) else b""
+    except (Fault, OSError) as error:
+        yield f"{path}: {error.strerror}" if isinstance(error, OSError) else str(error)
+        return
+    for line in itertools.islice(os.fsdecode(text).splitlines(), SHOWN + 1):
+        yield f"{path}: {line[:_WIDTH]}"

@@ -1,0 +1,378 @@
+"""Each input of each command is replaced by something hostile: the command ends soon, and touches nothing outside.
+
+A file outside has a secret, which no output shows, and another one must stay as it was.
+"""
+
+import os
+import shutil
+import signal
+import stat
+import subprocess
+import tarfile
+import threading
+import time
+import unittest
+from collections.abc import Callable, Iterator, Sequence
+from concurrent.futures import ThreadPoolExecutor
+from typing import NamedTuple
+
+from support import PROGRAM, TOOLS, Case, needs_jinja, needs_program
+
+SECONDS = 10
+SIDE_BY_SIDE = 4
+SECRET = "canary-4711"
+VICTIM = "victim as it was\n"
+LONG = 100 << 20
+SPARSE = 100 << 30
+OTHER_USER = 65534
+LOG = "Nov 20 10:01:02 web1 sudo[1]: jen : TTY=pts/0 ; PWD=/ ; USER=root ; COMMAND=/usr/bin/id\n"
+USERS = "user,uid,groups\njen,1000,jen:1000\nroot,0,root:0\n"
+HOSTS = "host,interfaces\nweb1,10.0.0.1/8\n"
+REQUESTS = "number,user,host,runas_user,runas_group,command,arguments\n1,jen,web1,,,/usr/bin/id,\nclose,1,,,,,\n"
+REPORT = "sender,number,verdict,line,tags\nweb1,1,allow,policy:2,\n"
+SENDERS = "sender,name,requests,file,key\nweb1,web1,1,requests/web1.csv,keys/web1.csv\n"
+POLICY = "root ALL = ALL\njen ALL = /usr/bin/id\n"
+CONTROLS = [chr(code) for code in (*range(1, 32), 127, *range(0x80, 0xA0))]
+
+FILES = {
+    "policy": POLICY,
+    "new": POLICY,
+    "users.csv": USERS,
+    "hosts.csv": HOSTS,
+    "map.csv": "from,to\nweb,web1\n",
+    "programs.csv": "kind,command,arguments\nshell,/usr/bin/bash,\n",
+    "web1.csv": REQUESTS,
+    "report.csv": REPORT,
+    "auth.log": LOG,
+    "hosts/web1/passwd": "root:x:0:0::/:/bin/sh\njen:x:1000:1000::/:/bin/sh\n",
+    "hosts/web1/group": "root:x:0:\njen:x:1000:\n",
+    "hosts/web1/hostname": "web1\n",
+    "hosts/web1/addr.json": "[]",
+    "hosts/web1/policy": "/etc/sudoers\n",
+    "hosts/web1/tree/etc/sudoers": POLICY + "@includedir /etc/sudoers.d\n",
+    "hosts/web1/tree/etc/sudoers.d/10-more": "root ALL = /usr/bin/id\n",
+    "hosts/web1/logs/auth.log": LOG,
+    "fleet/users.csv": USERS,
+    "fleet/hosts.csv": HOSTS,
+    "fleet/web1/policy": "/etc/sudoers\n",
+    "fleet/web1/tree/etc/sudoers": POLICY,
+    "fleet/web1/users.csv": USERS,
+    "fleet/web1/requests/web1.csv": REQUESTS,
+    "asked/senders.csv": SENDERS,
+    "asked/requests/web1.csv": REQUESTS,
+    "asked/keys/web1.csv": "number,log,line,time,outcome,reason,note\n1,auth.log,1,2026-11-20T10:01:02,accepted,,\n",
+    "asked/report.csv": REPORT,
+    "changes.csv": "change,sender,number,user,host,runas_user,runas_group,command,arguments,old_verdict,new_verdict,"
+    "old_tags,new_tags,old_place,new_place\n",
+    "lint/sudoers": POLICY,
+}
+
+
+class Command(NamedTuple):
+    """A command line, the inputs that it names, and those that it finds below a folder of copied files."""
+
+    words: Sequence[str]
+    named: Sequence[str] = ()
+    found: Sequence[str] = ()
+    then: Sequence[str] = ()
+
+
+DIRECTORY = ("--users", "users.csv", "--hosts", "hosts.csv")
+COLLECTED = ("passwd", "group", "hostname", "addr.json")
+TREE = ("policy", "tree", "tree/etc", "tree/etc/sudoers", "tree/etc/sudoers.d/10-more", "logs", "logs/auth.log")
+COMMANDS = {
+    "directory": Command(
+        ["directory", "out", "--from", "hosts"],
+        found=["hosts/web1", *(f"hosts/web1/{name}" for name in COLLECTED)],
+    ),
+    "requests": Command(
+        ["requests", "auth.log", "--out", "out", "--host-map", "map.csv", "--users", "users.csv"],
+        named=["auth.log", "map.csv", "users.csv"],
+    ),
+    "probe": Command(
+        ["probe", *DIRECTORY, "--programs", "programs.csv", "--out", "out"],
+        named=["users.csv", "hosts.csv", "programs.csv"],
+    ),
+    "compare": Command(
+        ["compare", "policy", "new", *DIRECTORY, "web1=web1.csv", "--out", "out.csv"],
+        named=["policy", "new", "users.csv", "hosts.csv", "web1.csv"],
+    ),
+    "compare of a folder": Command(
+        ["compare", "policy", "new", *DIRECTORY, "--requests", "asked", "--out", "out.csv"],
+        named=["asked", "asked/senders.csv", "asked/requests/web1.csv"],
+    ),
+    "compare of reports": Command(
+        ["compare", "--reports", "report.csv", "asked/report.csv", "web1=web1.csv", "--out", "out.csv"],
+        named=["report.csv", "asked/report.csv", "web1.csv"],
+    ),
+    "page": Command(
+        ["page", "--policy", "policy", "--requests", "asked", "--changes", "changes.csv", "--out", "page.html"],
+        named=["policy", "changes.csv", *(f"asked/{name}" for name in ("senders.csv", "report.csv", "keys/web1.csv"))],
+    ),
+    "replay": Command(
+        ["replay", "--policy", "policy", "--directory", ".", "--programs", "programs.csv", "--out", "out", "auth.log"],
+        named=["policy", "users.csv", "hosts.csv", "programs.csv", "auth.log"],
+    ),
+    "replay of a host": Command(
+        ["replay", "--collected", "hosts/web1", "--programs", "programs.csv", "--out", "out"],
+        found=[f"hosts/web1/{name}" for name in (*COLLECTED, *TREE)],
+    ),
+    "fleet": Command(
+        ["fleet", "fleet", "--out", "out", "--part", "1/1"],
+        found=[
+            f"fleet/{name}"
+            for name in ("users.csv", "hosts.csv", "web1", "web1/policy", "web1/tree", "web1/tree/etc/sudoers")
+        ]
+        + [f"fleet/web1/{name}" for name in ("users.csv", "requests", "requests/web1.csv")],
+        then=["fleet", "fleet", "--out", "out", "--join"],
+    ),
+    "gather": Command(["gather", "--tar", "web1.tar", "--out", "out"], named=["web1.tar"]),
+    "lint": Command(["lint", "lint/sudoers"], named=["lint/sudoers"]),
+}
+
+
+def secret_link(case: "Sweep", path: str) -> None:
+    """Puts a link to the file with the secret in the place of a file."""
+    os.symlink(case.path("secret"), path)
+
+
+def other_users_link(case: "Sweep", path: str) -> None:
+    """Puts a link to a file of another user in the place of a file."""
+    os.symlink(case.path("of-another"), path)
+
+
+def link_to_root(case: "Sweep", path: str) -> None:
+    """Puts a link to the root folder in the place of a file."""
+    os.symlink("/", path)
+
+
+def fifo(case: "Sweep", path: str) -> None:
+    """Puts a FIFO in the place of a file."""
+    os.mkfifo(path)
+
+
+def device(case: "Sweep", path: str) -> None:
+    """Puts a device that never ends in the place of a file, by a link where only root can make one."""
+    if os.geteuid() == 0:
+        os.mknod(path, stat.S_IFCHR | 0o666, os.makedev(1, 5))
+    else:
+        os.symlink("/dev/zero", path)
+
+
+def sparse(case: "Sweep", path: str) -> None:
+    """Puts a file of 100 GB, none of which is stored, in the place of a file."""
+    with open(path, "wb") as file:
+        file.truncate(SPARSE)
+
+
+def folder(case: "Sweep", path: str) -> None:
+    """Puts a folder in the place of a file."""
+    os.mkdir(path)
+
+
+def long_line(case: "Sweep", path: str) -> None:
+    """Puts 100 MB without a newline in the place of a file."""
+    os.link(case.path("long"), path)
+
+
+# These show the file that they are asked for, and a link is the user's own.
+SHOWN = (("page", "policy"), ("lint", "lint/sudoers"))
+LINKS = (secret_link, other_users_link, link_to_root)
+OTHERS = (fifo, device, sparse, folder, long_line)
+
+
+class Ended(NamedTuple):
+    """How a command ended: its status, what it said, and after how many seconds."""
+
+    status: int
+    said: str
+    seconds: float
+
+
+@needs_program
+@needs_jinja
+class Sweep(Case):
+    def setUp(self) -> None:
+        super().setUp()
+        for name, text in FILES.items():
+            self.write(f"good/{name}", text)
+        with tarfile.open(self.path("good", "web1.tar"), "w") as file:
+            file.add(self.path("good", "hosts", "web1"), "web1")
+        self.write("secret", SECRET + "\n")
+        self.write("of-another", SECRET + "\n")
+        self.write("victim", VICTIM)
+        if os.geteuid() == 0:
+            os.chown(self.path("of-another"), OTHER_USER, OTHER_USER)
+            os.chmod(self.path("of-another"), 0o600)
+        with open(self.path("long"), "wb") as file:
+            for _ in range(100):
+                file.write(b"a" * (LONG // 100))
+
+    def copy_of_good(self, name: str) -> str:
+        """Makes a folder with all inputs as they should be, and returns its path."""
+        place = self.path(name)
+        shutil.copytree(self.path("good"), place)
+        return place
+
+    def run_in(self, place: str, words: Sequence[str]) -> Ended:
+        """Runs a command in a folder for as long as it may take."""
+        start = time.monotonic()
+        running = subprocess.Popen(
+            [os.path.join(TOOLS, words[0]), *words[1:]],
+            cwd=place,
+            stdin=subprocess.DEVNULL,
+            stdout=subprocess.PIPE,
+            stderr=subprocess.STDOUT,
+            env={**os.environ, "SUDO_AUDIT": os.path.abspath(PROGRAM or "")},
+            start_new_session=True,
+        )
+        watch = threading.Timer(2 * SECONDS, os.killpg, (running.pid, signal.SIGKILL))
+        watch.start()
+        out, _ = running.communicate()
+        watch.cancel()
+        return Ended(running.returncode, os.fsdecode(out), time.monotonic() - start)
+
+    def tried(self, place: str, command: Command) -> Ended:
+        """Runs a command, and the one that shows what it did, in a folder."""
+        first = self.run_in(place, command.words)
+        if not command.then or first.status > 1:
+            return first
+        second = self.run_in(place, command.then)
+        return Ended(second.status, first.said + second.said, first.seconds + second.seconds)
+
+    def fault_of(self, name: str, command: Command, path: str, hostile: Callable[["Sweep", str], None]) -> str:
+        """Returns what is wrong with the end of a command one of whose inputs is replaced, or nothing."""
+        place = self.copy_of_good(f"{name}-{path}-{hostile.__name__}".replace("/", "_"))
+        target = os.path.join(place, path)
+        if os.path.isdir(target):
+            if hostile is folder:
+                return ""
+            shutil.rmtree(target)
+        else:
+            os.unlink(target)
+        hostile(self, target)
+        ended = self.tried(place, command)
+        faults = [*faults_of(ended), *self.leaks(place, target, ended)]
+        if is_refused(hostile, path, command) and ended.status in (0, 1) and "refused" not in status_of(place):
+            faults.append(f"status {ended.status}")
+        if ended.status > 1 and not any(os.path.splitext(part)[0] in ended.said for part in path.split("/")):
+            faults.append("the path is not named")
+        shutil.rmtree(place)
+        return f"{name}: {path}: {hostile.__name__}: {'; '.join(faults)}: {ended.said[-300:]}" if faults else ""
+
+    def leaks(self, place: str, target: str, ended: Ended) -> Iterator[str]:
+        """Yields where the secret is shown, or something outside has changed."""
+        if SECRET in ended.said:
+            yield "the secret is printed"
+        for path in paths_below(place):
+            if stat.S_ISREG(os.lstat(path).st_mode) and os.path.getsize(path) < LONG and path != target:
+                with open(path, "rb") as file:
+                    if SECRET.encode() in file.read():
+                        yield f"the secret is in {path}"
+        if self.read("victim") != VICTIM or self.read("secret") != SECRET + "\n":
+            yield "something outside has changed"
+
+    def test_inputs_as_they_should_be(self) -> None:
+        for name, command in COMMANDS.items():
+            with self.subTest(name):
+                place = self.copy_of_good(name)
+                before = set(paths_below(place))
+                ended = self.tried(place, command)
+                self.assertEqual((ended.status, faults_of(ended)), (0, []), ended.said)
+                made = set(paths_below(place)) - before
+                self.assertEqual([path for path in made if os.stat(path).st_mode & 0o077], [])
+                self.assertEqual(bool(made), name != "lint")
+
+    def test_inputs_that_are_hostile(self) -> None:
+        cases = [
+            (name, command, path, hostile)
+            for name, command in COMMANDS.items()
+            for path in (*command.named, *command.found)
+            for hostile in (*LINKS, *OTHERS)
+            if not (hostile in LINKS and (name, path) in SHOWN)
+        ]
+        with ThreadPoolExecutor(SIDE_BY_SIDE) as pool:
+            faults = list(filter(None, pool.map(lambda case: self.fault_of(*case), cases)))
+        self.assertEqual(faults, [])
+        self.assertGreater(len(cases), 300)
+
+    def test_outputs_that_are_links(self) -> None:
+        for name, path in (
+            ("directory", "out/users.csv"),
+            ("requests", "out/lists.csv"),
+            ("requests", "out/requests"),
+            ("probe", "out/senders.csv"),
+            ("compare", "out.csv"),
+            ("page", "page.html"),
+            ("replay", "out/page.html"),
+            ("fleet", "out/report.csv"),
+            ("fleet", "out/shards/web1.1.shard"),
+            ("gather", "out/web1"),
+            ("gather", "out/status.csv"),
+            ("directory", "out/.lock"),
+        ):
+            place = self.copy_of_good(f"{name}-{path}".replace("/", "_"))
+            os.makedirs(os.path.dirname(os.path.join(place, path)), exist_ok=True)
+            os.symlink(self.path("victim"), os.path.join(place, path))
+            with self.subTest(name, path=path):
+                ended = self.tried(place, COMMANDS[name])
+                self.assertEqual(faults_of(ended), [], ended.said)
+                self.assertEqual(self.read("victim"), VICTIM)
+
+    def test_names_with_control_characters(self) -> None:
+        text = FILES["hosts/web1/tree/etc/sudoers.d/10-more"]
+        for name, command, names in (
+            ("directory", COMMANDS["directory"], [f"hosts/w{code}b/passwd" for code in CONTROLS]),
+            ("replay", COMMANDS["replay of a host"], [f"hosts/web1/logs/a{code}b" for code in CONTROLS]),
+            ("tree", COMMANDS["replay of a host"], [f"hosts/web1/tree/etc/sudoers.d/a{code}b" for code in CONTROLS]),
+            ("fleet", COMMANDS["fleet"], [f"fleet/w{code}b/requests/a.csv" for code in CONTROLS]),
+            ("requests", Command(["requests", "--out", "out", *(f"a{code}b" for code in CONTROLS)]), []),
+        ):
+            place = self.copy_of_good(name)
+            for path in names or command.words[3:]:
+                os.makedirs(os.path.dirname(os.path.join(place, path)), exist_ok=True)
+                with open(os.path.join(place, path), "w", encoding="utf-8") as file:
+                    file.write(text if "sudoers.d" in path else LOG)
+            with self.subTest(name):
+                ended = self.tried(place, command)
+                self.assertEqual(faults_of(ended), [], ended.said)
+                self.assertEqual([code for code in CONTROLS if code != "\n" and code in ended.said], [])
+
+
+def paths_below(place: str) -> Iterator[str]:
+    """Yields the paths of the files and folders below a folder."""
+    for above, folders, files in os.walk(place):
+        yield from (os.path.join(above, name) for name in folders + files)
+
+
+def faults_of(ended: Ended) -> list[str]:
+    """Returns what is wrong with an end whatever was asked."""
+    found = [f"took {ended.seconds:.1f} s"] if ended.seconds > SECONDS else []
+    found += ["a traceback"] if "Traceback" in ended.said else []
+    return found + ([] if 0 <= ended.status <= 5 else [f"status {ended.status}"])
+
+
+def is_refused(hostile: Callable[["Sweep", str], None], path: str, command: Command) -> bool:
+    """Returns whether an input is refused: below a folder of copied files each, and otherwise what is no plain file.
+
+    A plain file is refused where it has to have another form, and what is no folder is no host of a fleet. sudo, too,
+    passes over a folder in a folder of policies.
+    """
+    if hostile is long_line:
+        return path.endswith(("users.csv", "hosts.csv", "senders.csv", "report.csv", "passwd"))
+    if hostile is not link_to_root and path == "fleet/web1" or hostile is folder and "sudoers.d" in path:
+        return False
+    return path in command.found or hostile in (fifo, device, sparse)
+
+
+def status_of(place: str) -> str:
+    """Returns the table of what came of each host, where there is one."""
+    path = os.path.join(place, "out", "status.csv")
+    if not os.path.exists(path):
+        return ""
+    with open(path, encoding="utf-8") as file:
+        return file.read()
+
+
+if __name__ == "__main__":
+    unittest.main()
