@@ -13,7 +13,7 @@ from collections.abc import Iterable, Sequence
 from typing import IO, NamedTuple
 
 from kulavemia.answers import REPORT_HEADER
-from kulavemia.command import PROGRAM, Fault
+from kulavemia.command import PROGRAM, Fault, as_word
 from kulavemia.progress import Progress
 from kulavemia.requests import Source, batches
 from kulavemia.rows import row
@@ -67,14 +67,14 @@ def sum_of(program: str) -> str:
 def _said(program: str, done: subprocess.CompletedProcess[bytes], out: bytes, root: str) -> Fault:
     """Returns what the program said where it refused."""
     said = os.fsdecode(done.stderr or out).strip()
-    return Fault(
-        said.replace(root, "") if root and said else said or f"{program} ended with status {done.returncode}", PROGRAM
-    )
+    first, *further = (said.replace(root, "") if root else said).split("\n")
+    return Fault(first or f"{program} ended with status {done.returncode}", PROGRAM, further)
 
 
 def check(program: str, policy: str, root: str = "") -> str:
     """Returns the program's findings on a policy. Raises `Fault` if it refuses the policy."""
-    done = subprocess.run([program, "check", policy], stdout=subprocess.PIPE, stderr=subprocess.PIPE, check=False)
+    words = [program, "check", "--", policy]
+    done = subprocess.run(words, stdout=subprocess.PIPE, stderr=subprocess.PIPE, check=False)
     if done.returncode != 0:
         raise _said(program, done, done.stdout, root)
     found = os.fsdecode(done.stdout)
@@ -94,9 +94,10 @@ def audit(program: str, policy: Policy, sources: Sequence[Source], out: str, wor
 
 
 def audit_words(program: str, policy: Policy, sources: Iterable[Source], workers: int) -> list[str]:
-    """Returns the words of the command line that audits the sources."""
-    words = [program, "audit", policy.file, "--users", policy.users, "--hosts", policy.hosts, "--workers", str(workers)]
-    return words + [f"{source.sender}={source.file}" for source in sources]
+    """Returns the words of the command line that audits the sources; no option is read behind `--`."""
+    directory = ["--users", as_word(policy.users), "--hosts", as_word(policy.hosts)]
+    named = [f"{source.sender}={source.file}" for source in sources]
+    return [program, "audit", *directory, "--workers", str(workers), "--", policy.file, *named]
 
 
 def _audit_batch(program: str, policy: Policy, batch: Iterable[Source], report: IO[bytes], workers: int) -> None:

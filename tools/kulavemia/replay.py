@@ -13,6 +13,7 @@ from kulavemia.page import REPORT, Inputs, Page, want_jinja
 from kulavemia.page import write as write_page
 from kulavemia.requests import Source, sources_of
 from kulavemia.rows import open_write
+from kulavemia.shown import Form
 from kulavemia.tree import Prepared, main_of, of_this_machine, of_tree
 
 Say = Callable[[str], None]
@@ -138,7 +139,7 @@ class Replay:
             found = (
                 change for folder in (self.requests, self.probe) if folder for change in self._changes(folder, old)
             )
-            counts = compare.write(found, out)
+            counts = compare.write(found, out, Form(self.given.spreadsheet))
         self.gained = any(counts[kind] for kind in compare.GAINS)
         self.say("changes: " + ", ".join(f"{counts[kind]} {kind}" for kind in compare.CHANGES))
 
