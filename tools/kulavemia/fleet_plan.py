@@ -6,13 +6,14 @@ A shard is one audit: of a host, at most so many senders and files as one run of
 import hashlib
 import os
 import re
-from collections.abc import Iterable, Iterator, Sequence
+from collections.abc import Iterator, Sequence
 from typing import NamedTuple
 
 from kulavemia.command import Fault
 from kulavemia.fleet_handed import CODE, PACKAGE, PROGRAM_FILE, Handed, packed
 from kulavemia.fleet_work import HOSTS, REQUESTS, ROOT, TREE, USERS, Job
 from kulavemia.requests import FILES_LIMIT, SENDERS_LIMIT
+from kulavemia.text import visible
 from kulavemia.tree import files_of_tree
 
 POLICY = "policy"
@@ -130,6 +131,8 @@ class Fleet:
         """Returns the requests files of a host, by sender and part."""
         if len(os.fsencode(name)) > NAME_LIMIT:
             raise Fault(f"a folder's name is at most {NAME_LIMIT} bytes long")
+        if visible(name) != name:
+            raise Fault("the folder's name has characters that are not printable")
         folder = os.path.join(self.folder, name)
         if os.path.islink(folder):
             raise Fault("the folder is a link")
@@ -174,7 +177,7 @@ class Fleet:
         read = dict(own)
         read.update((file, text) for file, text in self.shared.items() if file.split("/")[0] in shared)
         words = [name, main, *(word for source in sources for word in source)]
-        parts = [b"shard 1", self.program_sum.encode(), b"%d" % len(words), *map(os.fsencode, words)]
+        parts = [b"shard 2", self.program_sum.encode(), b"%d" % len(words), *map(os.fsencode, words)]
         parts += [part for file in sorted(read) for part in (os.fsencode(file), read[file])]
         return Job(
             name=name,
@@ -235,12 +238,3 @@ def _read(folder: str, name: str) -> bytes:
         raise Fault(f"{name}: no file")
     with open(os.path.join(folder, name), "rb") as file:
         return file.read()
-
-
-def want_own_senders(hosts: Iterable[Host]) -> None:
-    """Raises `Fault` if a sender is of two hosts: their rows could not be distinguished."""
-    owners: dict[str, str] = {}
-    for host in hosts:
-        for sender in (sender for shard in host.shards for sender in shard):
-            if owners.setdefault(sender, host.name) != host.name:
-                raise Fault(f"the sender {sender} is of the hosts {owners[sender]} and {host.name}")

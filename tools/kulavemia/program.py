@@ -110,22 +110,26 @@ def _audit_batch(program: str, policy: Policy, batch: Iterable[Source], report: 
         copy_rows(part, report, program, policy.root)
 
 
-def copy_rows(part: IO[bytes], report: IO[bytes], program: str, root: str) -> None:
-    """Copies the rows of a report, their places without the root folder. Raises `Fault` at another header."""
+def copy_rows(part: IO[bytes], report: IO[bytes], program: str, root: str, before: str = "") -> None:
+    """Copies the rows of a report, with their places without the root folder, and their senders behind a text.
+
+    Raises `Fault` at another header.
+    """
     header = part.readline()
     if header != os.fsencode(row(REPORT_HEADER)):
         raise Fault(f"{program}: its report has the header {os.fsdecode(header).strip()}", PROGRAM)
     if root:
-        _copy_shown(part, report, root)
+        _copy_shown(part, report, root, before)
     else:
         shutil.copyfileobj(part, report)
 
 
-def _copy_shown(part: IO[bytes], report: IO[bytes], root: str) -> None:
-    """Copies rows of a report, with their places without the root folder."""
+def _copy_shown(part: IO[bytes], report: IO[bytes], root: str, before: str) -> None:
+    """Copies rows of a report, with their places without the root folder, and their senders behind a text."""
     text = io.TextIOWrapper(part, encoding="utf-8", errors="surrogateescape", newline="")
-    place = REPORT_HEADER.index("line")
+    sender, place = map(REPORT_HEADER.index, ("sender", "line"))
     for fields in csv.reader(text):
+        fields[sender] = before + fields[sender]
         fields[place] = fields[place].removeprefix(root)
         report.write(row(fields).encode("utf-8", "surrogateescape"))
     text.detach()
