@@ -69,7 +69,7 @@ def as_word(path: str) -> str:
     return "./" + path if path.startswith("-") else path
 
 
-class _Parser(argparse.ArgumentParser):
+class Parser(argparse.ArgumentParser):
     """A parser whose errors show foreign text by `visible`."""
 
     def error(self, message: str) -> NoReturn:
@@ -81,7 +81,7 @@ def parser(purpose: str, more: Mapping[int, str] | None = None) -> argparse.Argu
     """Returns a parser whose help says what the command does and how it ends."""
     meanings = dict(sorted({**MEANINGS, **(more or {})}.items()))
     statuses = "\n".join(f"  {status}  {meaning}" for status, meaning in meanings.items())
-    return _Parser(
+    return Parser(
         description=purpose,
         epilog=f"exit status:\n{statuses}",
         formatter_class=argparse.RawDescriptionHelpFormatter,
