@@ -1,8 +1,10 @@
 """Requests of a fleet's host that name another host, as the log of a relay has them. They are judged, and listed."""
 
+import bisect
 import csv
 import io
-from collections.abc import Iterator
+import re
+from collections.abc import Collection, Iterator
 from typing import NamedTuple
 
 from kulavemia.fleet_work import HOSTS, Job
@@ -10,6 +12,8 @@ from kulavemia.unknown import folded
 
 FOREIGN_HEADER = ("host", "sender", "named", "requests", "first")
 _HOST = 2
+_FEW = 16
+_PLAIN = re.compile(rb'[^",\r\n]+')
 
 
 class Foreign(NamedTuple):
@@ -29,32 +33,40 @@ class Foreign(NamedTuple):
 class Foreigners:
     """Finds the requests that name another host.
 
-    A host of the fleet is each host of the hosts file of its own folder. Where that has none, it is each host of the
-    fleet's hosts file that is called as the folder, with or without a domain.
+    A host's own names are those of the hosts file of its own folder; where that has none, those of the fleet's hosts
+    file that are the folder's name, with or without a domain.
     """
 
     def __init__(self, shared_hosts: bytes) -> None:
-        self.shared = _listed(shared_hosts)
+        self.shared = sorted(_listed(shared_hosts))
 
     def of(self, host: str, job: Job) -> Iterator[Foreign]:
         """Yields what a shard of a host has, by sender and named host."""
-        has_own = HOSTS in job.files
-        known = _listed(job.files[HOSTS]) if has_own else self.shared
-        for (sender, named), (count, first) in _named(job).items():
-            name = folded(named)
-            if name not in known or not (has_own or _is_called(name, folded(host))):
+        own = _listed(job.files[HOSTS]) if HOSTS in job.files else self._called(folded(host))
+        for (sender, named), (count, first) in _named(job, own).items():
+            if folded(named) not in own:
                 yield Foreign(host, sender, named, count, first)
 
+    def _called(self, short: bytes) -> frozenset[bytes]:
+        """Returns the shared names that are a short one, with or without a domain."""
+        # What follows `web1.` in any name sorts before `web1/`.
+        ends = (short, short + b"\0", short + b".", short + b"/")
+        first, end, first_long, end_long = (bisect.bisect_left(self.shared, name) for name in ends)
+        return frozenset(self.shared[first:end] + self.shared[first_long:end_long])
 
-def _is_called(name: bytes, short: bytes) -> bool:
-    return name == short or name.startswith(short + b".")
+
+def _listed(hosts: bytes) -> frozenset[bytes]:
+    return frozenset(folded(fields[0]) for fields in _rows(hosts) if fields)
 
 
-def _named(job: Job) -> dict[tuple[str, str], tuple[int, str]]:
-    """Returns which hosts the requests of each sender name, how often, and the number of the first request."""
+def _named(job: Job, own: Collection[bytes]) -> dict[tuple[str, str], tuple[int, str]]:
+    """Returns how often the requests of each sender name a host, and the number of the first request that does so.
+
+    Most requests that name an own host are left out.
+    """
     found: dict[tuple[str, str], tuple[int, str]] = {}
     for sender, file in job.sources:
-        for fields in _rows(job.files[file]):
+        for fields in _rows(_without(own, job.files[file])):
             if len(fields) > _HOST and fields[0] != "close":
                 key = sender, fields[_HOST]
                 count, first = found.get(key, (0, fields[0]))
@@ -62,12 +74,20 @@ def _named(job: Job) -> dict[tuple[str, str], tuple[int, str]]:
     return found
 
 
-def _listed(hosts: bytes) -> frozenset[bytes]:
-    return frozenset(folded(fields[0]) for fields in _rows(hosts) if fields)
+def _without(own: Collection[bytes], text: bytes) -> bytes:
+    """Returns a requests file without the lines that have no quotes and name an own host, where these are few.
+
+    That takes a third of the time that it takes to read their fields.
+    """
+    names = [re.escape(name) for name in own if _PLAIN.fullmatch(name)]
+    if not 0 < len(names) <= _FEW:
+        return text
+    line = rb'^[0-9]++,[^",\r\n]*+,(?:%b),[^"\r\n]*+\n' % b"|".join(names)
+    return re.sub(line, b"", text, flags=re.MULTILINE | re.IGNORECASE)
 
 
 def _rows(text: bytes) -> Iterator[list[str]]:
-    """Yields the rows behind the header of a file that the program has read."""
+    """Returns the rows behind the header of a file that the program has read."""
     rows = csv.reader(io.TextIOWrapper(io.BytesIO(text), encoding="utf-8", errors="surrogateescape", newline=""))
     next(rows, None)
     return rows

@@ -3,11 +3,15 @@
 import json
 import os
 import unittest
+from random import Random
 
-from fleet_case import POLICY, FleetCase, requests
+from fleet_case import HEADER, POLICY, FleetCase, requests
 from support import PROGRAM, needs_program
 
+from kulavemia.fleet_foreign import Foreigners
 from kulavemia.fleet_plan import Requests, cut
+from kulavemia.fleet_work import Job
+from kulavemia.rows import row
 
 
 class Parts(FleetCase):
@@ -197,6 +201,38 @@ class Foreign(FleetCase):
         self.assertEqual(self.rows("out", "foreign.csv")[1:], ["web2,a,=x⟨U+001B⟩,3,2"])
         self.fleet("--join", "--spreadsheet")
         self.assertEqual(self.rows("out", "foreign.csv")[1:], ["web2,a,'=x⟨U+001B⟩,3,2"])
+
+
+class ForeignRows(unittest.TestCase):
+    """Requests files as hostile as the program takes them."""
+
+    USERS = ("u", 'x"y', "a,b", "\r", "n\n1,u,web1,r,,/c,\n", "n\nclose,1,,,,,\n")
+    HOSTS = ("web1", "WEB1", "web1.x", "xweb1", "a,b", "a", "web1\n", "", "\udcff", "close")
+
+    def job(self, random: Random) -> tuple[Job, list[tuple[str, ...]]]:
+        """Returns a shard of random requests, and their rows."""
+
+        def fields(number: int) -> tuple[str, ...]:
+            user, host, arguments = map(random.choice, (self.USERS, self.HOSTS, self.USERS))
+            return str(number), user, host, "", "", "/c", arguments
+
+        rows = [fields(number) for number in range(1, 30)]
+        text = HEADER + "".join(map(row, rows)) + random.choice(("", "close,29,,,,,\n"))
+        files = {"r.csv": text.encode("utf-8", "surrogateescape"), "hosts.csv": b'host,interfaces\nWeb1,\n"a,b",\n'}
+        return Job("h/1", "", "", files, (), (("s", "r.csv"),), 1, 0.0), rows
+
+    def test_each_that_names_another_host_is_counted(self) -> None:
+        for seed in range(300):
+            job, rows = self.job(Random(seed))
+            named = [fields[2] for fields in rows if fields[2] not in ("web1", "WEB1", "a,b")]
+            found = {other.named: (other.requests, other.first) for other in Foreigners(b"").of("h", job)}
+            expected = {host: (named.count(host), next(row[0] for row in rows if row[2] == host)) for host in named}
+            self.assertEqual(found, expected, seed)
+
+    def test_a_host_is_called_as_its_folder(self) -> None:
+        listed = b"host,interfaces\nweb1,\nWEB1.b,\nweb1-x,\nweb10,\nweb1/x,\nweb,\nweb1.,\n"
+        self.assertEqual(Foreigners(listed)._called(b"web1"), {b"web1", b"web1.b", b"web1."})
+        self.assertEqual(Foreigners(b"")._called(b"web1"), set())
 
 
 class Joins(FleetCase):

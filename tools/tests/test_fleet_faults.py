@@ -138,9 +138,7 @@ class Schedulers(FleetCase):
     def test_a_scheduler_with_certificates(self) -> None:
         self.hosts(3)
         err = self.fleet("--scheduler", "tls://127.0.0.1:1", status=4)[1]
-        self.assertEqual(
-            err, "fleet: tls://127.0.0.1:1: Dask's configuration names no certificates for TLS\n"
-        )
+        self.assertEqual(err, "fleet: tls://127.0.0.1:1: Dask's configuration names no certificates for TLS\n")
         self.make_certificates()
         self.scheduler(words=("--protocol", "tls"))
         self.assertTrue(self.address.startswith("tls://"))
@@ -149,8 +147,8 @@ class Schedulers(FleetCase):
 
     def make_certificates(self) -> None:
         """Has Dask make certificates for the run, and names them in the environment as its configuration."""
-        made = "from distributed import Security as s; m = s.temporary(); print(m.tls_ca_file, m.tls_client_key, sep='|')"
-        done = subprocess.run(["/usr/bin/python3", "-c", made], stdout=subprocess.PIPE, text=True, check=True)
+        script = "from distributed import Security as s; m = s.temporary(); print(m.tls_ca_file, '|', m.tls_client_key)"
+        done = subprocess.run(["/usr/bin/python3", "-c", script], stdout=subprocess.PIPE, text=True, check=True)
         certificate, key = done.stdout.split("|")
         place = "DASK_DISTRIBUTED__COMM__TLS__"
         named = {"CA_FILE": self.write("ca.pem", certificate)}

@@ -11,7 +11,7 @@ from support import EXAMPLES, REQUESTS_HEADER, Case, needs_jinja, needs_program
 from kulavemia.requests import sources_of
 from kulavemia.shown import Form, shown_records
 
-LOG = """Nov 20 10:01:02 web1 sudo[1]: jen : TTY=pts/0 ; PWD=/ ; USER=root ; COMMAND=/bin/echo #033[31mred#012next#007 \udcff
+LOG = """Nov 20 10:01:02 web1 sudo[1]: jen : PWD=/ ; USER=root ; COMMAND=/bin/echo #033[31mred#012next#007 \udcff
 Nov 20 10:02:02 web1 sudo[2]: bob : TTY=pts/0 ; PWD=/ ; USER=root ; COMMAND=list -U #033[31mbob
 Nov 20 10:03:02 web1 sudo[3]: #033[31mno \x07request
 Nov 20 10:04:02 web1 sudo[4]: jen : 3 \x9bincorrect attempts ; TTY=pts/0 ; PWD=/ ; USER=root ; COMMAND=/bin/id
@@ -74,8 +74,9 @@ class Logs(Case):
         self.write("new.csv", REPORT + "s,1,allow,p\x1b:1,\ns,2,allow,p:2,\n")
         words = ("old.csv", "new.csv", "--reports", "s=r.csv")
         out, _ = self.run_tool("compare", *words, status=1)
-        shown = "gained,s,1,jen,web1,,,/bin/echo,⟨U+001B⟩[31mred⟨U+000A⟩next⟨U+0007⟩,nomatch,allow,,,,p⟨U+001B⟩:1"
-        self.assertEqual(out.splitlines()[1:], [shown, "gained,s,2,=cmd|⟨U+000A⟩,web1,,,/bin/id,-x,nomatch,allow,,,,p:2"])
+        first = "gained,s,1,jen,web1,,,/bin/echo,⟨U+001B⟩[31mred⟨U+000A⟩next⟨U+0007⟩,nomatch,allow,,,,p⟨U+001B⟩:1"
+        second = "gained,s,2,=cmd|⟨U+000A⟩,web1,,,/bin/id,-x,nomatch,allow,,,,p:2"
+        self.assertEqual(out.splitlines()[1:], [first, second])
         self.run_tool("compare", *words, "--out", "changes.csv", status=1)
         self.assertEqual(self.read("changes.csv"), out)
         self.run_tool("compare", *words, "--out", "changes.csv", "--spreadsheet", status=1)
