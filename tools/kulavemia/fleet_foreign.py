@@ -7,6 +7,7 @@ import re
 from collections.abc import Collection, Iterator
 from typing import NamedTuple
 
+from kulavemia.command import Fault
 from kulavemia.fleet_work import HOSTS, Job
 from kulavemia.unknown import folded
 
@@ -87,7 +88,10 @@ def _without(own: Collection[bytes], text: bytes) -> bytes:
 
 
 def _rows(text: bytes) -> Iterator[list[str]]:
-    """Returns the rows behind the header of a file that the program has read."""
+    """Yields the rows behind the header of a file that the program has read. Raises `Fault` at what is no CSV."""
     rows = csv.reader(io.TextIOWrapper(io.BytesIO(text), encoding="utf-8", errors="surrogateescape", newline=""))
-    next(rows, None)
-    return rows
+    try:
+        next(rows, None)
+        yield from rows
+    except csv.Error as error:
+        raise Fault(str(error)) from None
