@@ -16,6 +16,7 @@ Nov 20 10:02:02 web1 sudo[2]: bob : TTY=pts/0 ; PWD=/ ; USER=root ; COMMAND=list
 Nov 20 10:03:02 web1 sudo[3]: #033[31mno \x07request
 Nov 20 10:04:02 web1 sudo[4]: jen : 3 \x9bincorrect attempts ; TTY=pts/0 ; PWD=/ ; USER=root ; COMMAND=/bin/id
 """
+LINE = "Nov 20 10:01:02 {host} sudo[1]: {user} : PWD=/ ; USER=root ; COMMAND=/bin/id\n"
 REPORT = "sender,number,verdict,line,tags\n"
 FORMULAS = ("=cmd|' /C calc'!A0", "+1", "-1", "@SUM(1)", "\t=1", "\r=1", "'=1")
 PROGRAMS = "kind,command,arguments\nany command,/none/such,\n"
@@ -121,18 +122,18 @@ class Replay(Case):
         return self.run_tool("replay", *given, "--out", "out", *words, "log")
 
     def test_a_host_of_a_log_is_no_option_of_the_program(self) -> None:
-        names = ("-h", "--workers", "--workers=99", "--", "a=b", "x" * 200, "web1\nreplay: page: other.html")
-        log = "".join(event("accept", submituser="jen", submithost=name, command="/bin/id") for name in names)
+        names = ("-h", "--workers", "--workers=99", "--", "a=b", "x" * 200)
+        log = "".join(LINE.format(host=name, user="jen") for name in names)
+        log += event("accept", submituser="jen", submithost="web1\nreplay: page: other.html", command="/bin/id")
         out, err = self.replay(log)
-        self.assertIn(f"logs: {len(names)} accepted, 0 refused and 0 failed requests of {len(names)} senders;", out)
+        self.assertIn("logs: 7 accepted, 0 refused and 0 failed requests of 7 senders;", out)
         verdicts = {row.split(",")[2] for row in self.rows("out", "requests", "report.csv")[1:]}
         self.assertEqual(verdicts, {"unknown-host"})
         self.assertEqual(len(err.splitlines()), 1)
 
     def test_a_user_of_a_log_is_no_option_of_the_program(self) -> None:
-        names = ("-h", "--users", "--help", "a=b", "A=B")
-        log = "".join(event("accept", submituser=name, command="/bin/id") for name in names)
-        self.replay(log, "--by", "user")
+        names = ("-h", "--users", "--help", "a=b", "A=B", "--workers 3")
+        self.replay("".join(LINE.format(host="web1.example.org", user=name) for name in names), "--by", "user")
         self.assertEqual(len(self.rows("out", "requests", "report.csv")), 1 + len(names))
 
     def test_the_page_shows_what_a_spreadsheet_was_spared(self) -> None:
