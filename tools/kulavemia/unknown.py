@@ -19,8 +19,8 @@ def domain_of(hosts: Iterable[str]) -> str:
 def warning(requests: Mapping[str, int], hosts: Iterable[str]) -> str:
     """Returns how many requests name a host that is not among these, and what helps; empty if none does."""
     known = list(hosts)
-    folded = {folded(host) for host in known}
-    missing = [host for host in requests if folded(host) not in folded]
+    named = {folded(host) for host in known}
+    missing = [host for host in requests if folded(host) not in named]
     if not missing:
         return ""
     total = sum(requests[host] for host in missing)

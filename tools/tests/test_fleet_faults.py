@@ -149,7 +149,7 @@ class Schedulers(FleetCase):
         """Has Dask make certificates for the run, and names them in the environment as its configuration."""
         script = "from distributed import Security as s; m = s.temporary(); print(m.tls_ca_file, '|', m.tls_client_key)"
         done = subprocess.run(["/usr/bin/python3", "-c", script], stdout=subprocess.PIPE, text=True, check=True)
-        certificate, key = done.stdout.split("|")
+        certificate, key = done.stdout.split(" | ")
         place = "DASK_DISTRIBUTED__COMM__TLS__"
         named = {"CA_FILE": self.write("ca.pem", certificate)}
         for role in ("SCHEDULER", "WORKER", "CLIENT"):
