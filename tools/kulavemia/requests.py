@@ -211,7 +211,8 @@ def named_sources(words: Iterable[str]) -> list[Source]:
     """Returns the requests files that words `NAME=PATH` name."""
     sources = []
     for word in words:
-        sender, equals, path = word.partition("=")
+        # `plain_words` has put `./` before a name that begins with `-`.
+        sender, equals, path = word.removeprefix("./").partition("=")
         if not equals or not _SENDER.fullmatch(sender):
             raise Fault(f"{word}: expected NAME=PATH with a NAME of 1 to {NAME_LIMIT} letters, digits, _ or -", WORDS)
         sources.append(Source(sender, sender, 0, path, None))
