@@ -7,6 +7,7 @@ from typing import NamedTuple
 from kulavemia.command import Fault
 from kulavemia.requests import HEADER, Request, Source, by_sender, number_of
 from kulavemia.rows import records
+from kulavemia.shown import shown_records
 
 REPORT_HEADER = ("sender", "number", "verdict", "line", "tags")
 ALLOW = "allow"
@@ -43,7 +44,7 @@ def numbered_requests(path: str) -> Iterator[_Numbered]:
 
 def _keys(source: Source, header: Sequence[str]) -> Iterator[_Numbered]:
     assert source.key is not None
-    for line, fields in records(source.key, header):
+    for line, fields in shown_records(source.key, header):
         yield number_of(source.key, line, fields[0]), fields[1:]
 
 

@@ -4,7 +4,7 @@ import argparse
 import errno
 import os
 import sys
-from collections.abc import Callable, Mapping
+from collections.abc import Callable, Mapping, Sequence
 from typing import NoReturn
 
 from kulavemia.text import visible
@@ -27,11 +27,12 @@ MEANINGS = {
 
 
 class Fault(Exception):
-    """Ends a command with a line on standard error and a status."""
+    """Ends a command with a line on standard error, further ones where there are any, and a status."""
 
-    def __init__(self, text: str, status: int = REFUSED) -> None:
+    def __init__(self, text: str, status: int = REFUSED, further: Sequence[str] = ()) -> None:
         super().__init__(text)
         self.status = status
+        self.further = further
 
 
 def name() -> str:
@@ -44,10 +45,14 @@ def called(other: str) -> str:
     return f"kulavemia-{other}" if name().startswith("kulavemia-") else f"tools/{other}"
 
 
+def say(text: str) -> None:
+    """Writes a line to standard output."""
+    print(visible(text), flush=True)
+
+
 def tell(text: str) -> None:
     """Writes a line to standard error."""
-    for line in text.split("\n"):
-        print(f"{name()}: {visible(line)}", file=sys.stderr, flush=True)
+    print(f"{name()}: {visible(text)}", file=sys.stderr, flush=True)
 
 
 def warn(text: str) -> None:
@@ -59,14 +64,27 @@ def plain_words() -> list[str]:
     """Returns the words of the command line, those behind `--` as paths that are no options."""
     words = sys.argv[1:]
     at = words.index("--") if "--" in words else len(words)
-    return words[:at] + ["./" + word if word.startswith("-") and word != "-" else word for word in words[at + 1 :]]
+    return words[:at] + [word if word == "-" else as_word(word) for word in words[at + 1 :]]
+
+
+def as_word(path: str) -> str:
+    """Returns a path as a word that no program takes for an option."""
+    return "./" + path if path.startswith("-") else path
+
+
+class Parser(argparse.ArgumentParser):
+    """A parser whose errors show foreign text by `visible`."""
+
+    def error(self, message: str) -> NoReturn:
+        """Writes a usage error to standard error, and ends the process."""
+        super().error(visible(message))
 
 
 def parser(purpose: str, more: Mapping[int, str] | None = None) -> argparse.ArgumentParser:
     """Returns a parser whose help says what the command does and how it ends."""
     meanings = dict(sorted({**MEANINGS, **(more or {})}.items()))
     statuses = "\n".join(f"  {status}  {meaning}" for status, meaning in meanings.items())
-    words = argparse.ArgumentParser(
+    words = Parser(
         description=purpose,
         epilog=f"exit status:\n{statuses}",
         formatter_class=argparse.RawDescriptionHelpFormatter,
@@ -101,7 +119,8 @@ def run(main: Callable[[], int]) -> NoReturn:
         status = main()
         sys.stdout.flush()
     except Fault as fault:
-        tell(str(fault))
+        for line in (str(fault), *fault.further):
+            tell(line)
         status = fault.status
     except BrokenPipeError:
         _drop_output()

@@ -9,7 +9,8 @@ from kulavemia import outputs
 from kulavemia.answers import ALLOW, Answer, Verdict, answers, verdicts
 from kulavemia.command import Fault
 from kulavemia.requests import HEADER, Source
-from kulavemia.rows import as_text, row
+from kulavemia.rows import as_text
+from kulavemia.shown import Form
 
 CHANGES = ("gained", "gained and lost", "lost", "other")
 GAINS = ("gained", "gained and lost")
@@ -79,33 +80,31 @@ def changes(old: str, new: str, sources: Sequence[Source]) -> Iterator[Change]:
         raise Fault(f"{new}:{further[0]}: request {further[2]} of {further[1]} has no row in {old}")
 
 
-def _row(change: Change) -> str:
+def _fields(change: Change) -> tuple[str, ...]:
     old, new = change.old.verdict, change.new
-    return row(
-        (
-            change.kind,
-            change.old.sender,
-            str(change.old.number),
-            *change.old.request,
-            old.verdict,
-            new.verdict,
-            old.tags,
-            new.tags,
-            old.place,
-            new.place,
-        )
+    return (
+        change.kind,
+        change.old.sender,
+        str(change.old.number),
+        *change.old.request,
+        old.verdict,
+        new.verdict,
+        old.tags,
+        new.tags,
+        old.place,
+        new.place,
     )
 
 
-def write(found: Iterator[Change], out: IO[str]) -> Counter[str]:
+def write(found: Iterator[Change], out: IO[str], form: Form = Form()) -> Counter[str]:
     """Writes the changes, each kind apart in the order of `CHANGES`, and returns how many of each there are."""
     counts: Counter[str] = Counter()
     with contextlib.ExitStack() as stack:
         parts = {kind: as_text(stack.enter_context(outputs.scratch())) for kind in CHANGES}
         for change in found:
             counts[change.kind] += 1
-            parts[change.kind].write(_row(change))
-        out.write(row(CHANGE_HEADER))
+            parts[change.kind].write(form.row(_fields(change)))
+        out.write(form.head(CHANGE_HEADER))
         for part in parts.values():
             part.seek(0)
             out.writelines(part)

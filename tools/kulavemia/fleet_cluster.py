@@ -77,6 +77,7 @@ def _uninterrupted() -> Iterator[None]:
 def at(address: str) -> Iterator[Client]:
     """Yields a client of a scheduler that is there. Raises `Fault` if it does not answer, or has no worker."""
     try:
+        _want_certificates(address)
         client = Client(address, timeout=CONNECTION)
     except (OSError, ValueError) as error:
         raise Fault(f"{address}: {error}", READING_FAILED) from None
@@ -86,6 +87,12 @@ def at(address: str) -> Iterator[Client]:
         except TimeoutError:
             raise Fault(f"{address}: the scheduler has no worker", READING_FAILED) from None
         yield client
+
+
+def _want_certificates(address: str) -> None:
+    """Raises `Fault` if a scheduler is reached by TLS and Dask's configuration has no certificates."""
+    if address.startswith("tls://") and Security().get_connection_args("client").get("ssl_context") is None:
+        raise Fault(f"{address}: Dask's configuration names no certificates for TLS", READING_FAILED)
 
 
 def page_of(client: Client) -> str:

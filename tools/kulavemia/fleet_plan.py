@@ -5,7 +5,7 @@ A shard is one audit: of a host, at most so many senders and files as one run of
 
 import os
 import re
-from collections.abc import Iterable, Iterator, Sequence
+from collections.abc import Iterator, Sequence
 from typing import NamedTuple
 
 from kulavemia import foreign
@@ -14,6 +14,7 @@ from kulavemia.fleet_handed import CODE, PACKAGE, PROGRAM_FILE, Handed, packed
 from kulavemia.fleet_work import HOSTS, REQUESTS, ROOT, TREE, USERS, Job
 from kulavemia.requests import FILES_LIMIT, SENDERS_LIMIT
 from kulavemia.sums import digest_of
+from kulavemia.text import visible
 from kulavemia.tree import POLICY, files_of_tree, main_of
 
 MAIN = "/etc/sudoers"
@@ -128,6 +129,8 @@ class Fleet:
         """Returns the requests files of a host, by sender and part."""
         if len(os.fsencode(name)) > NAME_LIMIT:
             raise Fault(f"a folder's name is at most {NAME_LIMIT} bytes long")
+        if visible(name) != name:
+            raise Fault("the folder's name has characters that are not printable")
         found = []
         for entry in foreign.entries(os.path.join(self.folder, name, REQUESTS), self.folder):
             match = _REQUESTS_FILE.fullmatch(entry.name)
@@ -183,7 +186,7 @@ class Fleet:
         read = dict(own)
         read.update((file, text) for file, text in self.shared.items() if file.split("/")[0] in shared)
         words = [name, main, *(word for source in sources for word in source)]
-        parts = [b"shard 1", self.program_sum.encode(), b"%d" % len(words), *map(os.fsencode, words)]
+        parts = [b"shard 2", self.program_sum.encode(), b"%d" % len(words), *map(os.fsencode, words)]
         parts += [part for file in sorted(read) for part in (os.fsencode(file), read[file])]
         return Job(
             name=name,
@@ -220,12 +223,3 @@ def _want_fit(files: Sequence[Requests]) -> None:
     """Raises `Fault` if the requests of a shard have more bytes than are read at once."""
     if sum(file.size for file in files) > foreign.SHARD_CAP:
         raise Fault(f"the requests of {files[0].sender} have more than {foreign.SHARD_CAP} bytes")
-
-
-def want_own_senders(hosts: Iterable[Host]) -> None:
-    """Raises `Fault` if a sender is of two hosts: their rows could not be distinguished."""
-    owners: dict[str, str] = {}
-    for host in hosts:
-        for sender in (sender for shard in host.shards for sender in shard):
-            if owners.setdefault(sender, host.name) != host.name:
-                raise Fault(f"the sender {sender} is of the hosts {owners[sender]} and {host.name}")

@@ -12,15 +12,18 @@ from typing import BinaryIO, NamedTuple
 from kulavemia import foreign, outputs
 from kulavemia.answers import REPORT_HEADER
 from kulavemia.command import Fault, tell
+from kulavemia.fleet_foreign import FOREIGN_HEADER, Foreigners
 from kulavemia.fleet_handed import unpacked
 from kulavemia.fleet_plan import Fleet, told
-from kulavemia.fleet_work import DONE, FAILED, REFUSED, Answer, Job
+from kulavemia.fleet_work import DONE, FAILED, HOSTS, REFUSED, Answer, Job, host_of
 from kulavemia.outputs import Fresh as _Fresh
 from kulavemia.rows import row
+from kulavemia.shown import Form
 
 SHARDS = "shards"
 REPORT = "report.csv"
 STATUS = "status.csv"
+FOREIGN = "foreign.csv"
 STATUS_HEADER = ("host", "shard", "status", "rows", "fault")
 SUFFIX = ".shard"
 SHOWN = 20
@@ -44,8 +47,7 @@ class Result(NamedTuple):
 
 def file_of(shard: str) -> str:
     """Returns the name of the file that has the result of a shard."""
-    host, _, number = shard.rpartition("/")
-    return f"{host}.{number}{SUFFIX}"
+    return shard.replace("/", ".") + SUFFIX
 
 
 class Results:
@@ -98,7 +100,7 @@ class Results:
 
     def forget(self) -> None:
         """Removes what an earlier run joined."""
-        for name in (REPORT, STATUS):
+        for name in (REPORT, STATUS, FOREIGN):
             if os.path.exists(os.path.join(self.out, name)):
                 os.unlink(os.path.join(self.out, name))
 
@@ -134,25 +136,29 @@ def rows_of(path: str, found: Result) -> bytes:
 
 
 class Joined(NamedTuple):
-    """The content of a fleet's report: rows, and shards by their status."""
+    """The content of a fleet's report: rows, shards by their status, and requests that name another host."""
 
     rows: int
     done: int
     refused: int
     failed: int
+    foreign: int
 
 
 class _Join:
     """Puts the results of a fleet together, and gathers what is wrong with them."""
 
-    def __init__(self, fleet: Fleet, results: Results) -> None:
+    def __init__(self, fleet: Fleet, results: Results, form: Form) -> None:
         self.fleet = fleet
         self.results = results
+        self.form = form
+        self.foreigners = Foreigners(fleet.shared.get(HOSTS, b""))
         self.wrong: list[str] = []
         self.places: dict[str, tuple[str, Result]] = {}
         self.used: set[str] = set()
         self.counts = dict.fromkeys(STATUSES, 0)
         self.rows = 0
+        self.foreign = 0
 
     def read(self) -> None:
         """Reads the first lines of all results."""
@@ -164,19 +170,21 @@ class _Join:
             else:
                 self.places[found.shard] = path, found
 
-    def write(self, report: _Fresh, status: _Fresh) -> None:
+    def write(self, report: _Fresh, status: _Fresh, foreign: _Fresh) -> None:
         """Writes the rows of all hosts, in order."""
-        report.write(_row(REPORT_HEADER))
-        status.write(_row(STATUS_HEADER))
+        report.write(row(REPORT_HEADER).encode())
+        status.write(self.form.head(STATUS_HEADER).encode())
+        foreign.write(self.form.head(FOREIGN_HEADER).encode())
         for name in self.fleet.names():
             try:
                 for number, job in enumerate(self.fleet.jobs(name), 1):
                     found = self._copy(job, report)
                     if found is not None:
-                        status.write(_row((name, str(number), found.status, str(found.rows), found.fault)))
+                        status.write(self._row((name, str(number), found.status, str(found.rows), found.fault)))
+                        self._list_foreign(job, found, foreign)
             except (Fault, OSError) as fault:
                 self.counts[REFUSED] += 1
-                status.write(_row((name, "", REFUSED, "0", told(fault))))
+                status.write(self._row((name, "", REFUSED, "0", told(fault))))
         for shard, (path, _) in self.places.items():
             if shard not in self.used:
                 self.wrong.append(f"{shard}: a stranger, in {path}: the fleet has no such shard")
@@ -208,18 +216,30 @@ class _Join:
         return found
 
 
-def _row(fields: tuple[str, ...]) -> bytes:
-    return row(fields).encode("utf-8", "surrogateescape")
+    def _list_foreign(self, job: Job, found: Result, foreign: _Fresh) -> None:
+        """Writes which requests of a shard that was judged name another host."""
+        if found.status != DONE:
+            return
+        for other in self.foreigners.of(host_of(job.name), job):
+            self.foreign += other.requests
+            foreign.write(self._row(other.fields()))
+
+    def _row(self, fields: tuple[str, ...]) -> bytes:
+        return self.form.row(fields).encode()
 
 
-def join(fleet: Fleet, results: Results) -> Joined:
-    """Writes the joined report and the status of shards. Raises `Fault` if a result is missing, twice or unknown."""
+def join(fleet: Fleet, results: Results, form: Form = Form()) -> Joined:
+    """Writes the joined report, the status of shards and the list of requests that name another host.
+
+    Raises `Fault` if a result is missing, twice or unknown.
+    """
     results.forget()
-    joining = _Join(fleet, results)
+    joining = _Join(fleet, results, form)
     joining.read()
-    with _Fresh(results.out) as report, _Fresh(results.out) as status:
-        joining.write(report, status)
+    with _Fresh(results.out) as report, _Fresh(results.out) as status, _Fresh(results.out) as foreign:
+        joining.write(report, status, foreign)
         joining.want_whole()
+        foreign.keep(os.path.join(results.out, FOREIGN))
         status.keep(os.path.join(results.out, STATUS))
         report.keep(os.path.join(results.out, REPORT))
-    return Joined(joining.rows, *joining.counts.values())
+    return Joined(joining.rows, *joining.counts.values(), joining.foreign)

@@ -50,6 +50,11 @@ class Answer(NamedTuple):
     report: bytes = b""
 
 
+def host_of(shard: str) -> str:
+    """Returns the host of a shard, by its name."""
+    return shard.rpartition("/")[0]
+
+
 def judged(job: Job, shared: str, scratch: str) -> Answer:
     """Returns the result of a shard whose files are packed; a folder has the program and what hosts share.
 
@@ -85,7 +90,7 @@ def _asked(job: Job, shared: str, folder: str, report: IO[bytes]) -> Answer:
         _end(running)
     report.seek(0)
     if running.returncode == 0:
-        return _report_of(report, folder)
+        return _report_of(report, folder, f"{host_of(job.name)}/")
     status = REFUSED if running.returncode in _REFUSING else UNFIT
     said = said or _first_error(os.fsdecode(report.read()))
     ended = f"the program ended with status {running.returncode}"
@@ -107,11 +112,11 @@ def _first_error(text: str) -> str:
     return f"{errors[0]} (and {len(errors) - 1} more)"
 
 
-def _report_of(report: IO[bytes], folder: str) -> Answer:
-    """Returns the answer of a report."""
+def _report_of(report: IO[bytes], folder: str, before: str) -> Answer:
+    """Returns the answer of a report, its senders behind a text."""
     with open(os.path.join(folder, "rows"), "w+b") as rows:
         try:
-            copy_rows(report, rows, "sudo_audit", ROOT)
+            copy_rows(report, rows, "sudo_audit", ROOT, before)
         except Fault as fault:
             return Answer(FAILED, str(fault))
         rows.seek(0)

@@ -15,8 +15,8 @@ from kulavemia.command import FAILED, Fault
 from kulavemia.compare import CHANGE_HEADER, CHANGES
 from kulavemia.requests import LOG_KEY, PROBE_KEY, sources_of
 from kulavemia.roots import LEVELS, Numbering, Roots
-from kulavemia.rows import records
 from kulavemia.rules import Rule, Rules
+from kulavemia.shown import shown_records
 from kulavemia.text import visible
 from kulavemia.uses import TEXT_LIMIT, Uses, texts_of
 
@@ -100,7 +100,7 @@ class Page:
 
     def _changes(self) -> list[Changes]:
         found = {kind: Changes(kind) for kind in CHANGES}
-        for line, fields in records(self.inputs.changes, CHANGE_HEADER):
+        for line, fields in shown_records(self.inputs.changes, CHANGE_HEADER):
             if fields[0] not in found:
                 raise Fault(f"{self.inputs.changes}:{line}: {fields[0]} is no change")
             found[fields[0]].add(dict(zip(CHANGE_HEADER, fields)))

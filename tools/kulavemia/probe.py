@@ -49,7 +49,7 @@ def write(folder: str, users: Sequence[str], hosts: Sequence[str], programs: Seq
     total = len(users) * len(hosts) * len(programs)
     with Progress("writing", total) as progress:
         for at, (request, kind) in enumerate(_requests(users, hosts, programs)):
-            writer.add(f"probe-{at // REQUESTS_LIMIT + 1}", request, (kind,))
+            writer.add(f"probe_{at // REQUESTS_LIMIT + 1}", request, (kind,))
             if at % 4096 == 0:
                 progress.at(at)
         return writer.finish()

@@ -14,7 +14,7 @@ from typing import IO, NamedTuple
 
 from kulavemia import foreign, outputs
 from kulavemia.answers import REPORT_HEADER
-from kulavemia.command import FAILED, PROGRAM, Fault
+from kulavemia.command import FAILED, PROGRAM, Fault, as_word
 from kulavemia.progress import Progress
 from kulavemia.requests import Source, batches
 from kulavemia.rows import row
@@ -69,15 +69,15 @@ def sum_of(program: str) -> str:
 def _said(program: str, done: subprocess.CompletedProcess[bytes], out: bytes, root: str) -> Fault:
     """Returns what the program said where it refused."""
     said = os.fsdecode(done.stderr or out).strip()
-    return Fault(
-        said.replace(root, "") if root and said else said or f"{program} ended with status {done.returncode}", PROGRAM
-    )
+    first, *further = (said.replace(root, "") if root else said).split("\n")
+    return Fault(first or f"{program} ended with status {done.returncode}", PROGRAM, further)
 
 
 def check(program: str, policy: str, root: str = "") -> str:
     """Returns the program's findings on a policy. Raises `Fault` if it refuses the policy."""
     _want_plain(policy, foreign.POLICY_CAP)
-    done = subprocess.run([program, "check", policy], stdout=subprocess.PIPE, stderr=subprocess.PIPE, check=False)
+    words = [program, "check", "--", policy]
+    done = subprocess.run(words, stdout=subprocess.PIPE, stderr=subprocess.PIPE, check=False)
     if done.returncode != 0:
         raise _said(program, done, done.stdout, root)
     found = os.fsdecode(done.stdout)
@@ -100,9 +100,10 @@ def audit(program: str, policy: Policy, sources: Sequence[Source], out: str, wor
 
 
 def audit_words(program: str, policy: Policy, sources: Iterable[Source], workers: int) -> list[str]:
-    """Returns the words of the command line that audits the sources."""
-    words = [program, "audit", policy.file, "--users", policy.users, "--hosts", policy.hosts, "--workers", str(workers)]
-    return words + [f"{source.sender}={source.file}" for source in sources]
+    """Returns the words of the command line that audits the sources; no option is read behind `--`."""
+    directory = ["--users", as_word(policy.users), "--hosts", as_word(policy.hosts)]
+    named = [f"{source.sender}={source.file}" for source in sources]
+    return [program, "audit", *directory, "--workers", str(workers), "--", policy.file, *named]
 
 
 def _want_plain(path: str, cap: int) -> None:
@@ -123,22 +124,26 @@ def _audit_batch(program: str, policy: Policy, batch: Iterable[Source], report: 
         copy_rows(part, report, program, policy.root)
 
 
-def copy_rows(part: IO[bytes], report: IO[bytes], program: str, root: str) -> None:
-    """Copies the rows of a report, their places without the root folder. Raises `Fault` at another header."""
+def copy_rows(part: IO[bytes], report: IO[bytes], program: str, root: str, before: str = "") -> None:
+    """Copies the rows of a report, with their places without the root folder, and their senders behind a text.
+
+    Raises `Fault` at another header.
+    """
     header = part.readline()
     if header != os.fsencode(row(REPORT_HEADER)):
         raise Fault(f"{program}: its report has the header {os.fsdecode(header).strip()}", PROGRAM)
     if root:
-        _copy_shown(part, report, root)
+        _copy_shown(part, report, root, before)
     else:
         shutil.copyfileobj(part, report)
 
 
-def _copy_shown(part: IO[bytes], report: IO[bytes], root: str) -> None:
-    """Copies rows of a report, with their places without the root folder."""
+def _copy_shown(part: IO[bytes], report: IO[bytes], root: str, before: str) -> None:
+    """Copies rows of a report, with their places without the root folder, and their senders behind a text."""
     text = io.TextIOWrapper(part, encoding="utf-8", errors="surrogateescape", newline="")
-    place = REPORT_HEADER.index("line")
+    sender, place = map(REPORT_HEADER.index, ("sender", "line"))
     for fields in csv.reader(text):
+        fields[sender] = before + fields[sender]
         fields[place] = fields[place].removeprefix(root)
         report.write(row(fields).encode("utf-8", "surrogateescape"))
     text.detach()

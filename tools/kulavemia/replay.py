@@ -13,6 +13,7 @@ from kulavemia.page import write as write_page
 from kulavemia.policy import files_of, read
 from kulavemia.requests import Source, sources_of
 from kulavemia.rows import open_write
+from kulavemia.shown import Form
 from kulavemia.steps import Steps, unlike_any
 from kulavemia.sums import digest_of, sum_of_file, sum_of_files
 from kulavemia.tree import Prepared, files_of_tree, main_of, of_this_machine, write_copies
@@ -253,7 +254,7 @@ class Replay:
             found = (
                 change for folder in (self.requests, self.probe) if folder for change in self._changes(folder, old)
             )
-            return compare.write(found, out)
+            return compare.write(found, out, Form(self.given.spreadsheet))
 
     def _changes(self, folder: str, old: Prepared) -> Iterator[compare.Change]:
         before = self._audit(folder, old, "old-report.csv")

@@ -1,7 +1,8 @@
 """Folders of requests files, within what one run of the program takes.
 
-FOLDER/requests has the requests files, FOLDER/keys beside each a file of the same name that says of each request where it
-comes from, and FOLDER/senders.csv a row for each file.
+FOLDER/requests has the requests files, FOLDER/keys beside each a file of the same name that says of each request
+where it comes from, and FOLDER/senders.csv a row for each file. Requests files have foreign text byte for byte, since
+an audit reads them; the others have it as it is shown.
 """
 
 import os
@@ -11,7 +12,8 @@ from typing import NamedTuple
 
 from kulavemia import foreign, outputs
 from kulavemia.command import WORDS, Fault, warn
-from kulavemia.rows import open_write, records, row, write_rows
+from kulavemia.rows import open_write, row
+from kulavemia.shown import Form, shown_records
 
 REQUESTS_LIMIT = 1_000_000
 BYTES_LIMIT = 268_435_456
@@ -26,6 +28,10 @@ PROBE_KEY = ("number", "kind")
 
 _BUFFERED = 4 << 20
 _CLOSE_ROOM = 64
+# The room for what tells names apart that begin alike.
+_NUMBER_ROOM = 8
+_SENDER = re.compile(rf"[A-Za-z0-9_-]{{1,{NAME_LIMIT}}}")
+_NOT_PLAIN = re.compile("[^A-Za-z0-9_]")
 
 
 class Request(NamedTuple):
@@ -83,6 +89,12 @@ class Appender:
         self.size = 0
 
 
+def _plain(name: str) -> str:
+    """Returns a name of ASCII letters, digits and `_`, a letter first, so that no program takes it for an option."""
+    plain = _NOT_PLAIN.sub("_", name)
+    return (plain if plain[:1].isalpha() else f"sender_{plain}")[: NAME_LIMIT - _NUMBER_ROOM]
+
+
 def _stem(sender: str, part: int) -> str:
     return sender if part == 1 else f"{sender}.{part}"
 
@@ -110,9 +122,10 @@ class _Sender:
 class Writer:
     """Writes a folder of requests, a list for each sender, as long files in parts."""
 
-    def __init__(self, folder: str, key_header: Sequence[str]) -> None:
+    def __init__(self, folder: str, key_header: Sequence[str], form: Form = Form()) -> None:
         self.folder = folder
         self.key_header = key_header
+        self.form = form
         self.senders: dict[str, _Sender] = {}
         self.taken: set[str] = set()
         self.last: dict[str, int] = {}
@@ -133,7 +146,7 @@ class Writer:
         sender.parts[-1] += 1
         sender.bytes += size
         self.files.append(sender.requests, text)
-        self.files.append(sender.keys, row((str(sender.number), *key)))
+        self.files.append(sender.keys, self.form.row((str(sender.number), *key)))
         return sender.number
 
     def finish(self) -> int:
@@ -146,7 +159,9 @@ class Writer:
         self.files.flush()
         if not self.senders:
             warn(f"{self.folder} has no requests: an audit of it has no source")
-        write_rows(os.path.join(self.folder, "senders.csv"), SENDERS_HEADER, self._rows())
+        with open_write(os.path.join(self.folder, "senders.csv")) as file:
+            file.write(self.form.head(SENDERS_HEADER))
+            file.writelines(map(self.form.row, self._rows()))
         return sum(sender.number for sender in self.senders.values())
 
     def _new(self, name: str) -> _Sender:
@@ -159,10 +174,10 @@ class Writer:
         sender.start(self.folder)
         sender.bytes = len(row(HEADER))
         self.files.append(sender.requests, row(HEADER))
-        self.files.append(sender.keys, row(self.key_header))
+        self.files.append(sender.keys, self.form.head(self.key_header))
 
     def _sender_name(self, name: str) -> str:
-        plain = re.sub(r"[^A-Za-z0-9_-]", "_", name)[: NAME_LIMIT - 8] or "_"
+        plain = _plain(name)
         sender, more = plain, self.last.get(plain.lower(), 1)
         while sender.lower() in self.taken:
             more += 1
@@ -186,21 +201,25 @@ def number_of(path: str, line: int, text: str) -> int:
 
 
 def sources_of(folder: str) -> list[Source]:
-    """Returns the requests files of a folder that a `Writer` wrote."""
+    """Returns the requests files of a folder that a `Writer` wrote. Raises `Fault` at a sender that is none."""
     path = os.path.join(folder, "senders.csv")
-    return [
-        Source(sender, name, number_of(path, line, requests), os.path.join(folder, file), os.path.join(folder, key))
-        for line, (sender, name, requests, file, key) in records(path, SENDERS_HEADER)
-    ]
+    found = []
+    for line, (sender, name, requests, file, key) in shown_records(path, SENDERS_HEADER):
+        if not _SENDER.fullmatch(sender):
+            raise Fault(f"{path}:{line}: {sender[:80]} is no name of a sender")
+        count = number_of(path, line, requests)
+        found.append(Source(sender, name, count, os.path.join(folder, file), os.path.join(folder, key)))
+    return found
 
 
 def named_sources(words: Iterable[str]) -> list[Source]:
     """Returns the requests files that words `NAME=PATH` name."""
     sources = []
     for word in words:
-        sender, equals, path = word.partition("=")
-        if not equals or not re.fullmatch(r"[A-Za-z0-9_-]{1,64}", sender):
-            raise Fault(f"{word}: expected NAME=PATH with a NAME of 1 to 64 letters, digits, _ or -", WORDS)
+        # `plain_words` has put `./` before a name that begins with `-`.
+        sender, equals, path = word.removeprefix("./").partition("=")
+        if not equals or not _SENDER.fullmatch(sender):
+            raise Fault(f"{word}: expected NAME=PATH with a NAME of 1 to {NAME_LIMIT} letters, digits, _ or -", WORDS)
         sources.append(Source(sender, sender, 0, path, None))
     return sources
 

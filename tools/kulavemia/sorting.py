@@ -13,7 +13,9 @@ from kulavemia.logs import FORGED, OTHER, SYSLOG_LENGTHS, UNREAD, Found, Log, Op
 from kulavemia.messages import ASKED_TO_LIST, EDITORS, Event, noted, with_editor
 from kulavemia.progress import Progress
 from kulavemia.requests import LOG_KEY, Request, Writer, fault_of
-from kulavemia.rows import open_write, records, row
+from kulavemia.rows import open_write, records
+from kulavemia.shown import Form
+from kulavemia.shown import add_option as add_spreadsheet_option
 
 LISTS_HEADER = (
     "log",
@@ -36,6 +38,7 @@ def add_options(words: argparse.ArgumentParser) -> None:
     """Adds the options that say how logs are read and names are written."""
     _add_naming_options(words)
     _add_reading_options(words)
+    add_spreadsheet_option(words)
 
 
 def _add_naming_options(words: argparse.ArgumentParser) -> None:
@@ -162,6 +165,7 @@ class Sorter:
         self.by = given.by
         self.editors = frozenset() if given.plain_editors else EDITORS.union(given.editor)
         self.writer = writer
+        self.form = writer.form
         self.lists = lists
         self.skipped = skipped
         self.counts: Counter[str] = Counter()
@@ -179,7 +183,7 @@ class Sorter:
         request = event.request
         if request.command in ASKED_TO_LIST:
             self.counts["lists"] += 1
-            self.lists.write(row((log, str(line), time, *request, event.outcome, event.reason)))
+            self.lists.write(self.form.row((log, str(line), time, *request, event.outcome, event.reason)))
             return
         reason = fault_of(request)
         if reason:
@@ -206,7 +210,7 @@ class Sorter:
 
     def _skip(self, log: str, line: int, time: str, reason: str, kind: str) -> None:
         self.counts[kind] += 1
-        self.skipped.write(row((log, str(line), time, reason)))
+        self.skipped.write(self.form.row((log, str(line), time, reason)))
 
 
 def sort(logs: Sequence[str], folder: str, given: argparse.Namespace, below: str | None = None) -> Sorted:
@@ -216,14 +220,15 @@ def sort(logs: Sequence[str], folder: str, given: argparse.Namespace, below: str
     """
     how = reading_of(given)._replace(below=below)
     total = sum(size_of(path, below) for path in logs)
-    writer = Writer(folder, LOG_KEY)
+    form = Form(given.spreadsheet)
+    writer = Writer(folder, LOG_KEY, form)
     with (
         open_write(os.path.join(folder, "lists.csv")) as lists,
         open_write(os.path.join(folder, "skipped.csv")) as skipped,
         Progress("reading", total) as progress,
     ):
-        lists.write(row(LISTS_HEADER))
-        skipped.write(row(SKIPPED_HEADER))
+        lists.write(form.head(LISTS_HEADER))
+        skipped.write(form.head(SKIPPED_HEADER))
         sorter = Sorter(given, writer, lists, skipped)
         before = 0
         for path in logs:

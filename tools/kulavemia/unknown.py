@@ -5,22 +5,22 @@ from collections.abc import Iterable, Mapping
 SHOWN = 3
 
 
-def _folded(host: str) -> bytes:
+def folded(host: str) -> bytes:
     """Returns a host's name as the program compares it: with small letters of ASCII."""
     return host.encode("utf-8", "surrogateescape").lower()
 
 
 def domain_of(hosts: Iterable[str]) -> str:
     """Returns the one domain that all hosts are in, by the text behind the first dot; empty if there is none."""
-    domains = {_folded(host).partition(b".")[2] for host in hosts}
+    domains = {folded(host).partition(b".")[2] for host in hosts}
     return domains.pop().decode("utf-8", "surrogateescape") if len(domains) == 1 else ""
 
 
 def warning(requests: Mapping[str, int], hosts: Iterable[str]) -> str:
     """Returns how many requests name a host that is not among these, and what helps; empty if none does."""
     known = list(hosts)
-    folded = {_folded(host) for host in known}
-    missing = [host for host in requests if _folded(host) not in folded]
+    named = {folded(host) for host in known}
+    missing = [host for host in requests if folded(host) not in named]
     if not missing:
         return ""
     total = sum(requests[host] for host in missing)

@@ -20,9 +20,9 @@ POLICY = "root ALL = ALL\njen ALL = /usr/bin/id\n"
 PATIENCE = 60.0
 
 
-def requests(numbers: Sequence[int], close: int | None = None) -> str:
-    """Returns a requests file of these numbers."""
-    rows = "".join(f"{number},jen,web1,,,/usr/bin/id,\n" for number in numbers)
+def requests(numbers: Sequence[int], close: int | None = None, host: str = "web1") -> str:
+    """Returns a requests file of these numbers, which name a host."""
+    rows = "".join(f"{number},jen,{host},,,/usr/bin/id,\n" for number in numbers)
     return HEADER + rows + (f"close,{close},,,,,\n" if close is not None else "")
 
 
@@ -102,7 +102,7 @@ class FleetCase(Case):
         self.assertEqual(self.read("out", "report.csv"), "sender,number,verdict,line,tags\n" + expected)
 
     def of_one_machine(self, name: str) -> str:
-        """Returns the rows of a host's audit."""
+        """Returns the rows of a host's audit, with the host before each sender."""
         place = self.path("fleet", name)
         files = sorted(os.listdir(os.path.join(place, "requests")), key=lambda file: file.split(".")[0])
         sources = [
@@ -114,6 +114,6 @@ class FleetCase(Case):
             out = os.path.join(root, "report.csv")
             audit(self.program, Policy(policy.file(), users, hosts, policy.root), sources, out)
             with open(out, encoding="utf-8", newline="") as file:
-                return "".join(file.readlines()[1:])
+                return "".join(f"{name}/{row}" for row in file.readlines()[1:])
 
 

@@ -68,6 +68,21 @@ class Collect(Case):
         self.assertEqual([name for name in files if name.startswith("tree/")], [f"tree{main}"])
         self.assertEqual(sorted(os.listdir(self.folder)), before)
 
+    def test_a_user_is_not_an_option_of_getent(self) -> None:
+        main = self.write("sudoers", "")
+        for name in ("-s", "--service=files", "root\n--help"):
+            err = self.collect("--policy", main, "--no-logs", "--user", name, status=2)[1]
+            self.assertIn("a user's name is one line and does not begin with -", err)
+        files, _ = self.collect("--policy", main, "--no-logs", "--user", "root")
+        self.assertEqual(files["passwd"].count(b"root:x:0:0:"), 2)
+
+    def test_a_name_with_control_characters_is_harmless_on_a_terminal(self) -> None:
+        main = self.write("sudoers", "@include a\x1b[31m\x9b\x07z\n")
+        files, err = self.collect("--policy", main, "--no-logs", status=3)
+        self.assertIn(f"collect: {self.folder}/a^[[31mM-BM-^[^Gz: cannot be read\n", err)
+        self.assertIn(b"/a^[[31mM-BM-^[^Gz: cannot be read\n", files["missing"])
+        self.assertIn("collect: ^[]0;x is no option", self.collect("\x1b]0;x", status=2)[1])
+
     def test_words(self) -> None:
         for words in (["--wrong"], ["--policy"], ["--policy", "relative"]):
             self.assertIn("collect: ", self.collect(*words, status=2)[1])

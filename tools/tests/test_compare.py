@@ -95,6 +95,10 @@ class Command(Case):
         self.assertNotEqual(self.read("out.csv"), "before\n")
         self.run_tool("compare", "old.csv", "new.csv", "--reports", "s=r.csv", "--out", "/dev/null")
 
+    def test_a_sender_may_begin_with_a_dash(self) -> None:
+        self.write("-old.csv", REPORT + "-h,1,allow,p:1,\n-h,2,nomatch,,\n-h,3,allow,p:1,\n-h,4,deny,p:3,\n")
+        self.run_tool("compare", "--reports", "--", "-old.csv", "-old.csv", "-h=r.csv")
+
     def test_numbers_of_many_digits(self) -> None:
         said = self.compare(f"s,{'9' * 5000},allow,p:1,\n", 3)[1]
         self.assertIn("is no number", said)

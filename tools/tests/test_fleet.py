@@ -4,11 +4,15 @@ import json
 import os
 import shutil
 import unittest
+from random import Random
 
-from fleet_case import POLICY, FleetCase, requests
+from fleet_case import HEADER, POLICY, FleetCase, requests
 from support import PROGRAM, needs_program
 
+from kulavemia.fleet_foreign import Foreigners
 from kulavemia.fleet_plan import Requests, cut
+from kulavemia.fleet_work import Job
+from kulavemia.rows import row
 
 
 class Parts(FleetCase):
@@ -36,7 +40,7 @@ class Parts(FleetCase):
         self.fleet("--part", "1/1")
         self.fleet("--join", status=1)
         self.assertEqual(len(self.rows("out", "report.csv")), 4)
-        self.assertIn("web1,1,allow,/etc/sudoers:1,SETENV", self.rows("out", "report.csv"))
+        self.assertIn("web1/web1,1,allow,/etc/sudoers:1,SETENV", self.rows("out", "report.csv"))
 
     def test_what_is_refused_is_a_row(self) -> None:
         self.host("web1", POLICY + "# stub refuse\n")
@@ -127,12 +131,56 @@ class Parts(FleetCase):
         self.assertIn("expected I/N", self.fleet("--part", "2/1", status=2)[1])
         self.assertIn("below it", self.run_tool("fleet", "fleet", "--out", "fleet/out", status=2)[1])
 
-    def test_a_sender_of_two_hosts(self) -> None:
+    def test_a_sender_of_two_hosts_is_told_apart_by_the_host(self) -> None:
         self.host("web1", senders=["jen"])
         self.host("web2", senders=["jen"])
-        self.assertIn("the sender jen is of the hosts web1 and web2", self.fleet(status=3)[1])
         self.fleet("--part", "1/1")
-        self.assertIn("the sender jen is of the hosts web1 and web2", self.fleet("--join", status=3)[1])
+        self.fleet("--join")
+        self.want_as_one_machine()
+        senders = [row.split(",")[0] for row in self.rows("out", "report.csv")[1:]]
+        self.assertEqual(senders, ["web1/jen"] * 3 + ["web2/jen"] * 3)
+
+    def test_a_folder_with_a_name_that_is_not_printable_is_refused_alone(self) -> None:
+        self.host("web1")
+        for name in ("a\x1b[31m", "b\nc", "d\udcff"):
+            os.rename(self.path("fleet", "web1"), self.path("fleet", name))
+            self.host("web1")
+        self.fleet("--part", "1/1")
+        out, err = self.fleet("--join", status=1)
+        self.assertEqual(out, "3 rows of 1 shards; 3 refused, 0 failed\n")
+        fault = "the folder's name has characters that are not printable"
+        self.assertEqual(
+            self.rows("out", "status.csv")[1:],
+            [f"a⟨U+001B⟩[31m,,refused,0,{fault}", f"b⟨U+000A⟩c,,refused,0,{fault}"]
+            + [f"d⟨byte FF⟩,,refused,0,{fault}", "web1,1,done,3,"],
+        )
+        self.assertEqual(err, "")
+
+    def test_a_fault_with_control_characters_is_shown(self) -> None:
+        self.host("web1")
+        self.write("fleet/web1/requests/\x1b[31m.csv", "")
+        self.fleet("--part", "1/1")
+        self.fleet("--join", status=1)
+        self.assertIn("requests/⟨U+001B⟩[31m.csv: expected NAME.csv", self.read("out", "status.csv"))
+
+    def test_a_spreadsheet_takes_no_host_for_a_formula(self) -> None:
+        self.host("=cmd|x", senders=["a"])
+        self.host("-web1", senders=["a"])
+        self.fleet("--part", "1/1")
+        self.fleet("--join", "--spreadsheet")
+        self.assertEqual(
+            self.rows("out", "status.csv"),
+            ["\ufeffhost,shard,status,rows,fault", "'-web1,1,done,3,", "'=cmd|x,1,done,3,"],
+        )
+        self.want_as_one_machine()
+
+    def test_a_scheduler_of_another_machine_wants_tls(self) -> None:
+        self.host("web1")
+        for address in ("tcp://head:8786", "head:8786", "tcp://127.0.0.1.example.org:8786", "ws://[::1]@head:1"):
+            err = self.fleet("--scheduler", address, status=2)[1]
+            self.assertIn(f"fleet: {address}: policies and users go to another machine by tls://, unless", err)
+            self.assertIn("--without-tls", err)
+        self.assertIn("--without-tls needs --scheduler", self.fleet("--without-tls", status=2)[1])
 
     @needs_program
     def test_shards_of_one_host_give_the_programs_own_report(self) -> None:
@@ -143,7 +191,97 @@ class Parts(FleetCase):
         self.fleet("--part", "1/1", "--senders", "1")
         self.fleet("--join", "--senders", "1")
         self.want_as_one_machine()
-        self.assertIn("b,1,allow,/etc/sudoers:2,", self.rows("out", "report.csv"))
+        self.assertIn("web1/b,1,allow,/etc/sudoers:2,", self.rows("out", "report.csv"))
+
+
+class Foreign(FleetCase):
+    """Logs of a host that have lines of another one."""
+
+    def setUp(self) -> None:
+        super().setUp()
+        for name in ("web1", "web2"):
+            self.host(name, senders=[f"{name}_example_org"])
+            self.write(f"fleet/{name}/hosts.csv", f"host,interfaces\n{name}.example.org,10.0.0.1/8\n")
+            self.ask(name, f"{name}_example_org", f"{name}.example.org")
+
+    def ask(self, folder: str, sender: str, named: str) -> None:
+        """Writes three requests of a sender that name a host."""
+        self.write(f"fleet/{folder}/requests/{sender}.csv", requests((1, 2, 3), 3, named))
+
+    def joined(self) -> str:
+        """Audits and joins, and returns the last line."""
+        self.fleet("--part", "1/1")
+        return self.fleet("--join")[0]
+
+    def of_host(self, name: str, file: str) -> list[str]:
+        """Returns the rows of a host."""
+        return [row for row in self.rows("out", file) if row.startswith(name)]
+
+    def test_the_log_of_a_relay_leaves_the_other_hosts_as_they_are(self) -> None:
+        self.assertEqual(self.joined(), "6 rows of 2 shards; 0 refused, 0 failed\n")
+        before = [self.of_host("web1", file) for file in ("report.csv", "status.csv")]
+        self.assertEqual(self.rows("out", "foreign.csv"), ["host,sender,named,requests,first"])
+        self.ask("web2", "web1_example_org", "web1.example.org")
+        self.ask("web2", "other", "WEB2.example.ORG")
+        said = "12 rows of 2 shards; 0 refused, 0 failed; 3 requests name another host\n"
+        self.assertEqual(self.joined(), said)
+        self.assertEqual(self.rows("out", "foreign.csv")[1:], ["web2,web1_example_org,web1.example.org,3,1"])
+        self.assertEqual([self.of_host("web1", file) for file in ("report.csv", "status.csv")], before)
+        self.want_as_one_machine()
+
+    def test_with_the_hosts_of_the_fleet_a_host_is_called_as_its_folder(self) -> None:
+        for name in ("web1", "web2"):
+            os.unlink(self.path("fleet", name, "hosts.csv"))
+        both = "host,interfaces\nweb1.example.org,10.0.0.1/8\nweb2.example.org,10.0.0.2/8\nweb1x,10.0.0.3/8\n"
+        self.write("fleet/hosts.csv", both)
+        self.ask("web1", "x", "web1x")
+        self.ask("web2", "y", "web2.example.com")
+        self.ask("web2", "z", "web1.example.org")
+        self.assertIn("; 9 requests name another host\n", self.joined())
+        self.assertEqual(
+            self.rows("out", "foreign.csv")[1:],
+            ["web1,x,web1x,3,1", "web2,y,web2.example.com,3,1", "web2,z,web1.example.org,3,1"],
+        )
+
+    def test_a_list_in_parts_is_counted_once(self) -> None:
+        self.write("fleet/web2/requests/a.csv", requests((2,), None, "=x\x1b"))
+        self.write("fleet/web2/requests/a.2.csv", requests((1, 3), 3, "=x\x1b"))
+        self.joined()
+        self.assertEqual(self.rows("out", "foreign.csv")[1:], ["web2,a,=x⟨U+001B⟩,3,2"])
+        self.fleet("--join", "--spreadsheet")
+        self.assertEqual(self.rows("out", "foreign.csv")[1:], ["web2,a,'=x⟨U+001B⟩,3,2"])
+
+
+class ForeignRows(unittest.TestCase):
+    """Requests files as hostile as the program takes them."""
+
+    USERS = ("u", 'x"y', "a,b", "\r", "n\n1,u,web1,r,,/c,\n", "n\nclose,1,,,,,\n")
+    HOSTS = ("web1", "WEB1", "web1.x", "xweb1", "a,b", "a", "web1\n", "", "\udcff", "close")
+
+    def job(self, random: Random) -> tuple[Job, list[tuple[str, ...]]]:
+        """Returns a shard of random requests, and their rows."""
+
+        def fields(number: int) -> tuple[str, ...]:
+            user, host, arguments = map(random.choice, (self.USERS, self.HOSTS, self.USERS))
+            return str(number), user, host, "", "", "/c", arguments
+
+        rows = [fields(number) for number in range(1, 30)]
+        text = HEADER + "".join(map(row, rows)) + random.choice(("", "close,29,,,,,\n"))
+        files = {"r.csv": text.encode("utf-8", "surrogateescape"), "hosts.csv": b'host,interfaces\nWeb1,\n"a,b",\n'}
+        return Job("h/1", "", "", files, (), (("s", "r.csv"),), 1, 0.0), rows
+
+    def test_each_that_names_another_host_is_counted(self) -> None:
+        for seed in range(300):
+            job, rows = self.job(Random(seed))
+            named = [fields[2] for fields in rows if fields[2] not in ("web1", "WEB1", "a,b")]
+            found = {other.named: (other.requests, other.first) for other in Foreigners(b"").of("h", job)}
+            expected = {host: (named.count(host), next(row[0] for row in rows if row[2] == host)) for host in named}
+            self.assertEqual(found, expected, seed)
+
+    def test_a_host_is_called_as_its_folder(self) -> None:
+        listed = b"host,interfaces\nweb1,\nWEB1.b,\nweb1-x,\nweb10,\nweb1/x,\nweb,\nweb1.,\n"
+        self.assertEqual(Foreigners(listed)._called(b"web1"), {b"web1", b"web1.b", b"web1."})
+        self.assertEqual(Foreigners(b"")._called(b"web1"), set())
 
 
 class Joins(FleetCase):
@@ -207,7 +345,7 @@ class Joins(FleetCase):
     def test_the_first_line_of_a_result(self) -> None:
         with open(self.shard("host00"), "rb") as file:
             first = json.loads(file.readline())
-            self.assertEqual(file.readline(), b"host00,1,allow,/etc/sudoers:1,SETENV\n")
+            self.assertEqual(file.readline(), b"host00/host00,1,allow,/etc/sudoers:1,SETENV\n")
         self.assertEqual((first["shard"], first["status"], first["rows"]), ("host00/1", "done", 3))
 
 

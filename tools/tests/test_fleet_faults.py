@@ -2,7 +2,10 @@
 
 import os
 import re
+import subprocess
 import unittest
+from collections.abc import Sequence
+from unittest import mock
 
 from fleet_case import POLICY, FleetCase
 from support import needs_dask
@@ -86,10 +89,10 @@ class Workers(FleetCase):
 class Schedulers(FleetCase):
     """A scheduler of its own, with four workers that are started by hand."""
 
-    def scheduler(self, full: bool = False) -> None:
+    def scheduler(self, full: bool = False, words: Sequence[str] = ()) -> None:
         """Starts a scheduler and four workers; the first has a disk that takes no large file."""
         place = ("--host", "127.0.0.1", "--port", "0", "--dashboard-address", "127.0.0.1:0")
-        self.running = self.process("dask-scheduler", *place, "--scheduler-file", "at.json")
+        self.running = self.process("dask-scheduler", *place, "--scheduler-file", "at.json", *words)
         self.wait_until(lambda: self.address_in("at.json") is not None)
         self.address = self.address_in("at.json")
         for number in range(4):
@@ -129,6 +132,29 @@ class Schedulers(FleetCase):
         self.hosts(1)
         err = self.fleet("--scheduler", "nonsense://127.0.0.1:1", status=4)[1]
         self.assertIn("fleet: nonsense://127.0.0.1:1: ", err)
+        err = self.fleet("--scheduler", "nonsense://head:1", "--without-tls", status=4)[1]
+        self.assertIn("fleet: nonsense://head:1: ", err)
+
+    def test_a_scheduler_with_certificates(self) -> None:
+        self.hosts(3)
+        err = self.fleet("--scheduler", "tls://127.0.0.1:1", status=4)[1]
+        self.assertEqual(err, "fleet: tls://127.0.0.1:1: Dask's configuration names no certificates for TLS\n")
+        self.make_certificates()
+        self.scheduler(words=("--protocol", "tls"))
+        self.assertTrue(self.address.startswith("tls://"))
+        self.fleet("--scheduler", self.address)
+        self.want_as_one_machine()
+
+    def make_certificates(self) -> None:
+        """Has Dask make certificates for the run, and names them in the environment as its configuration."""
+        script = "from distributed import Security as s; m = s.temporary(); print(m.tls_ca_file, '|', m.tls_client_key)"
+        done = subprocess.run(["/usr/bin/python3", "-c", script], stdout=subprocess.PIPE, text=True, check=True)
+        certificate, key = done.stdout.split(" | ")
+        place = "DASK_DISTRIBUTED__COMM__TLS__"
+        named = {"CA_FILE": self.write("ca.pem", certificate)}
+        for role in ("SCHEDULER", "WORKER", "CLIENT"):
+            named |= {f"{role}__CERT": named["CA_FILE"], f"{role}__KEY": self.write("key.pem", key)}
+        self.enterContext(mock.patch.dict(os.environ, {place + name: path for name, path in named.items()}))
 
 
 if __name__ == "__main__":

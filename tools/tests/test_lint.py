@@ -3,6 +3,7 @@
 import json
 import os
 import random
+import re
 import subprocess
 import sys
 import tempfile
@@ -244,6 +245,13 @@ class Inputs(Folder):
     def test_a_name_that_begins_with_a_dash(self):
         self.answer("./-x", 0, "ok\n")
         self.assertEqual(self.lint("--", "-x")[:2], (0, "./-x: ok\n"))
+
+    def test_the_hook_takes_no_path_for_an_option(self):
+        with open(os.path.join(os.path.dirname(TOOLS), ".pre-commit-hooks.yaml"), encoding="utf-8") as file:
+            words = re.search(r"args: \[(.*)\]", file.read().split("- id: ")[1])[1].split(", ")
+        self.write("--program=x/sudoers")
+        self.answer("./--program=x/sudoers", 0, "ok\n")
+        self.assertEqual(self.lint(*words, "--program=x/sudoers")[:2], (0, "./--program=x/sudoers: ok\n"))
 
     def test_an_empty_folder_is_named(self):
         os.mkdir(os.path.join(self.folder, "d"))

@@ -19,7 +19,7 @@ class Probe(Case):
         programs = self.write("programs.csv", "kind,command,arguments\nshell,/bin/sh,\neditor,sudoedit,/etc/passwd\n")
         self.probe("--programs", programs, "--user", "jen", "--user", "bob", "--host", "web1.example.org")
         self.assertEqual(
-            self.rows("out", "requests", "probe-1.csv")[1:],
+            self.rows("out", "requests", "probe_1.csv")[1:],
             [
                 "1,bob,web1.example.org,root,,/bin/sh,",
                 "2,bob,web1.example.org,root,,sudoedit,/etc/passwd",
@@ -29,7 +29,7 @@ class Probe(Case):
             ],
         )
         self.assertEqual(
-            self.rows("out", "keys", "probe-1.csv"), ["number,kind", "1,shell", "2,editor", "3,shell", "4,editor"]
+            self.rows("out", "keys", "probe_1.csv"), ["number,kind", "1,shell", "2,editor", "3,shell", "4,editor"]
         )
 
     def test_the_list_that_comes_with_it(self) -> None:
@@ -42,13 +42,13 @@ class Probe(Case):
         with mock.patch.object(requests, "REQUESTS_LIMIT", 4), mock.patch("kulavemia.probe.REQUESTS_LIMIT", 4):
             write(self.folder, ["a", "b", "c"], ["h", "i"], [Program("shell", "/bin/sh", "")])
         self.assertEqual(
-            self.rows("requests", "probe-2.csv")[1:], ["1,c,h,root,,/bin/sh,", "2,c,i,root,,/bin/sh,", "close,2,,,,,"]
+            self.rows("requests", "probe_2.csv")[1:], ["1,c,h,root,,/bin/sh,", "2,c,i,root,,/bin/sh,", "close,2,,,,,"]
         )
 
     def test_users_by_membership(self) -> None:
         users = self.write("u.csv", "user,uid,gid,group\na,1,5000,domain users\na,1,4,adm\nb,2,,\n")
         self.run_tool("probe", "--users", users, "--hosts", HOSTS, "--out", "out", "--host", "web1.example.org")
-        self.assertEqual({row.split(",")[1] for row in self.rows("out", "requests", "probe-1.csv")[1:-1]}, {"a", "b"})
+        self.assertEqual({row.split(",")[1] for row in self.rows("out", "requests", "probe_1.csv")[1:-1]}, {"a", "b"})
 
     def test_faults(self) -> None:
         self.assertIn("--user nobody-here: there is none", self.probe("--user", "nobody-here", status=2)[1])

@@ -1,5 +1,6 @@
 """Requests files out of logs."""
 
+import csv
 import json
 import os
 import unittest
@@ -97,6 +98,27 @@ class Command(Case):
         self.run_tool("requests", "-", "--out", "out", "--by", "user", stdin=text.encode())
         names = [row.split(",")[0] for row in self.rows("out", "senders.csv")[1:]]
         self.assertEqual(names, ["alice", "Alice_2", "a_b", "x" * 56, "x" * 56 + "_2"])
+
+    def test_no_name_of_a_log_becomes_an_option_or_the_sender_of_another(self) -> None:
+        names = ["-h", "--workers", "--workers=3", "a=b", "a_b", "A_B", "a b", "a/b", "../a", "a_b_2", "10.0.0.1", "_"]
+        names += ["é", "e\u0301", "sender_h", "sender__h", "x" * 200, "x" * 201, "X" * 200]
+        events = [{"accept": {"submituser": name, "submithost": name, "command": "/bin/id"}} for name in names]
+        log = self.write("log", "".join(json.dumps(event) + "\n" for event in events))
+        for kind, column in (("user", 1), ("host", 2)):
+            self.run_tool("requests", log, "--out", kind, "--by", kind)
+            table = list(csv.reader(self.rows(kind, "senders.csv")))[1:]
+            self.assertEqual([row[1] for row in table], names)
+            self.assertEqual(len({row[0].lower() for row in table}), len(names))
+            for sender, name, _, file, _ in table:
+                self.assertRegex(sender, r"\A[A-Za-z][A-Za-z0-9_]{0,63}\Z")
+                self.assertEqual(file, f"requests/{sender}.csv")
+                self.assertEqual(list(csv.reader(self.rows(kind, file)))[1][column], name)
+
+    def test_a_table_of_senders_that_names_an_option_is_refused(self) -> None:
+        for sender in ("-h=x", "", "a/b", "x" * 65):
+            self.write("senders.csv", f"sender,name,requests,file,key\n{sender},web1,1,requests/a.csv,keys/a.csv\n")
+            with self.assertRaisesRegex(Fault, "senders.csv:2: .*is no name of a sender"):
+                sources_of(self.folder)
 
     def test_logs_that_name_no_host(self) -> None:
         log = self.write("log", OWN_LINE)
