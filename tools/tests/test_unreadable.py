@@ -24,13 +24,11 @@ class Unreadable(Case):
         self.program = shutil.copy(PROGRAM, self.path("program"))
         os.chmod(self.program, 0o755)
 
-    def ran(self, *words: str, before: str = ":", stdin: bytes = b"") -> tuple[int, str, str]:
+    def ran(self, *words: str, before: str = ":") -> tuple[int, str, str]:
         """Runs the program behind a command of the shell, and returns its status and what it printed."""
         shell = ["sh", "-c", f'{before}; exec "$0" "$@"', self.program, *words]
         other = {"user": NOBODY, "group": NOBODY, "extra_groups": []} if os.getuid() == 0 else {}
-        done = subprocess.run(
-            shell, input=stdin, capture_output=True, cwd=self.folder, check=False, timeout=SECONDS, **other
-        )
+        done = subprocess.run(shell, capture_output=True, cwd=self.folder, check=False, timeout=SECONDS, **other)
         return done.returncode, os.fsdecode(done.stdout), os.fsdecode(done.stderr)
 
     def assert_cannot_read(self, path: str, *words: str) -> None:
@@ -137,7 +135,10 @@ class Files(Unreadable):
         self.assertEqual(self.ran("check", "p"), (1, "", "sudo_audit: p:1: missing gone\n"))
 
     def test_a_main_file_may_be_a_pipe(self) -> None:
-        self.assertEqual(self.ran("check", "/dev/stdin", stdin=b"alice ALL = ALL\n"), (0, "ok\n", ""))
+        # (the pipe is of the user who runs the test, whom the program runs as here)
+        words = [self.program, "check", "/dev/stdin"]
+        done = subprocess.run(words, input=b"alice ALL = ALL\n", capture_output=True, check=False, timeout=SECONDS)
+        self.assertEqual((done.returncode, done.stdout, done.stderr), (0, b"ok\n", b""))
 
     def test_a_fifo_behind_a_fault(self) -> None:
         os.mkfifo(self.path("fifo"))

@@ -28,7 +28,7 @@ WORDS = {
         "/bin/*": {*listing.LS, *listing.SU, *CATS, *WHO, *DD, "/bin/id,", "/bin/kill,"},
         "/bin/id": {"/bin/id,"},
     },
-    "Host": {"web2": {"web2"}, "10.1.0.0/255.255.0.0": {"web1"}, "10.1.2.3": {"web1"}, "WEB1": {"web1"}},
+    "Host": {"web2": {"web2"}, "10.1.0.0/255.255.0.0": {"web1"}, "10.1.2.3": {"web1"}},
 }
 
 

@@ -8,3 +8,4 @@ pub mod EndingLemmas
 pub mod Steps
 pub mod AuditSteps
 pub mod Openings
+pub mod Wanting

@@ -1,11 +1,14 @@
 -- Words that are read, and files of senders that are opened, one by one.
-use Rattle.std.proofs.Common.{◌≡◌, ◌<◌, ◌+◌, ℕ, List, [], ◌∷◌, ◌++◌, length, get_or, take, suc, sym, ap, ◌∙◌, arith, subst}
-use Rattle.std.proofs.lemmas.List.{map_push}
-use Rattle.std.proofs.lemmas.List.Elements.{All-push}
+use Rattle.std.proofs.Common.{◌≡◌, ◌<◌, ◌+◌, ℕ, List, [], ◌∷◌, ◌++◌, length, get_or, take, drop, map, suc, refl, sym, ap, ◌∙◌, arith, subst, inl, inr}
+use Rattle.std.specs.Prelude.{All}
+use Rattle.std.proofs.lemmas.List.{drop_more, map-append, map_push, take-append-drop}
+use Rattle.std.proofs.lemmas.List.Elements.{All-cons, All-nil, All-push}
 use Rattle.std.proofs.lemmas.Slice.Zip.{all_zipped_more}
 use lib.Seq.{take-suc}
 use Rattle.audit_run.specs.declared.source.Source.{Source}
-use Rattle.audit_commands.specs.Opening.{AreOpened, AreSenders, IsNamed, Pair, word_of}
+use Rattle.audit_commands.specs.Opening.{AreOpened, AreSenders, HasNoReader, HasReader, HaveNoReaders, IsFirstClosed, IsNamed, IsNotOpened, Pair, paths_of, word_of}
+use Rattle.audit_commands.specs.declared.fault.Fault.{Fault}
+use Rattle.audit_commands.specs.declared.fault.Fault.TheVariants as faults
 
 take_more : {A : Type 0} (xs : List A) (i : ℕ) (d : A) → i < length xs → take (i + 1) xs ≡ take i xs ++ get_or xs i d ∷ []
 take_more xs i d within =
@@ -27,3 +30,67 @@ pub opened_more : {R : Type 0} (Opens : List ℕ → R → Type 0) (pairs : List
 opened_more Opens pairs sources at pair source are within is name opens =
     subst (λ l. AreOpened Opens l (sources ++ source ∷ [])) (sym (take_more pairs at pair within ∙ ap (λ p. take at pairs ++ p ∷ []) is))
     (all_zipped_more (λ pair source. (source.name ≡ pair.0) × Opens pair.1 source.reader) (take at pairs) sources pair source are (name, opens))
+
+-- What is opened has readers.
+readers : {R : Type 0} (Opens : List ℕ → R → Type 0) (pairs : List Pair) (sources : List (Source R)) → AreOpened Opens pairs sources
+    → All (HasReader Opens) (map (λ p. p.1) pairs)
+readers Opens [] sources are = All-nil (HasReader Opens)
+readers Opens (pair ∷ pairs) [] are = absurd are
+readers Opens (pair ∷ pairs) (source ∷ sources) are = All-cons (HasReader Opens) pair.1 (map (λ p. p.1) pairs) (source.reader, are.0.1) (readers Opens pairs sources are.1)
+
+-- The next file has no reader.
+pub first_closed : {R : Type 0} (Opens : List ℕ → R → Type 0) (Closed : List ℕ → Type 0) (pairs : List Pair) (sources : List (Source R)) (at : ℕ) (pair : Pair)
+    → AreOpened Opens (take at pairs) sources → at < length pairs → get_or pairs at pair ≡ pair → Closed pair.1
+    → IsFirstClosed Opens Closed (map (λ p. p.1) pairs) pair.1
+first_closed Opens Closed pairs sources at pair are within is closed = record {
+  earlier = map (λ p. p.1) (take at pairs);
+  later = map (λ p. p.1) (drop (at + 1) pairs);
+  order =
+      ap (map (λ p. p.1)) (sym (take-append-drop at pairs) ∙ ap (λ l. take at pairs ++ l) (drop_more pairs at pair within ∙ ap (λ p. p ∷ drop (at + 1) pairs) is))
+      ∙ map-append (λ p. p.1) (take at pairs) (pair ∷ drop (at + 1) pairs);
+  opened = readers Opens (take at pairs) sources are;
+  closed = closed;
+}
+
+unopened : {R : Type 0} (Opens : List ℕ → R → Type 0) (Closed : List ℕ → Type 0) (users hosts : List ℕ) (words : List (List ℕ)) (pairs : List Pair) (path : List ℕ) (fault : Fault)
+    → AreSenders words pairs → fault ≡ faults.CannotRead path → IsFirstClosed Opens Closed (paths_of users hosts pairs) path → IsNotOpened Opens Closed users hosts words fault
+unopened Opens Closed users hosts words pairs path fault are is first =
+    subst (λ (f : Fault). IsNotOpened Opens Closed users hosts words f) (sym is) (pairs, are, first)
+
+no_memory : {R : Type 0} (Opens : List ℕ → R → Type 0) (Closed : List ℕ → Type 0) (users hosts : List ℕ) (words : List (List ℕ)) (fault : Fault)
+    → fault ≡ faults.Memory → IsNotOpened Opens Closed users hosts words fault
+no_memory Opens Closed users hosts words fault is = subst (λ (f : Fault). IsNotOpened Opens Closed users hosts words f) (sym is) tt
+
+-- The users have no reader.
+pub no_users : {R : Type 0} (Opens : List ℕ → R → Type 0) (Closed : List ℕ → Type 0) (users hosts : List ℕ) (words : List (List ℕ)) (pairs : List Pair) (fault : Fault)
+    → AreSenders words pairs → HasNoReader Closed users fault → IsNotOpened Opens Closed users hosts words fault
+no_users Opens Closed users hosts words pairs fault are why = elim why [
+  | inl memory ↦ no_memory Opens Closed users hosts words fault memory
+  | inr closed ↦ unopened Opens Closed users hosts words pairs users fault are closed.0
+      (record { earlier = []; later = hosts ∷ map (λ p. p.1) pairs; order = refl; opened = All-nil (HasReader Opens); closed = closed.1 })
+]
+
+-- The users have one, and the hosts have none.
+pub no_hosts : {R : Type 0} (Opens : List ℕ → R → Type 0) (Closed : List ℕ → Type 0) (users hosts : List ℕ) (words : List (List ℕ)) (pairs : List Pair) (reader : R) (fault : Fault)
+    → AreSenders words pairs → Opens users reader → HasNoReader Closed hosts fault → IsNotOpened Opens Closed users hosts words fault
+no_hosts Opens Closed users hosts words pairs reader fault are opens why = elim why [
+  | inl memory ↦ no_memory Opens Closed users hosts words fault memory
+  | inr closed ↦ unopened Opens Closed users hosts words pairs hosts fault are closed.0
+      (record { earlier = users ∷ []; later = map (λ p. p.1) pairs; order = refl; opened = All-cons (HasReader Opens) users [] (reader, opens) (All-nil (HasReader Opens)); closed = closed.1 })
+]
+
+-- Both have one, and a requests file has none.
+pub no_sources : {R : Type 0} (Opens : List ℕ → R → Type 0) (Closed : List ℕ → Type 0) (users hosts : List ℕ) (words : List (List ℕ)) (pairs : List Pair) (first second : R) (fault : Fault)
+    → AreSenders words pairs → Opens users first → Opens hosts second → HaveNoReaders Opens Closed (map (λ p. p.1) pairs) fault → IsNotOpened Opens Closed users hosts words fault
+no_sources Opens Closed users hosts words pairs first second fault are opens opens_also why = elim why [
+  | inl memory ↦ no_memory Opens Closed users hosts words fault memory
+  | inr missing ↦
+      let closed = missing.2 in
+      unopened Opens Closed users hosts words pairs missing.0 fault are missing.1 (record {
+        earlier = users ∷ hosts ∷ closed.earlier;
+        later = closed.later;
+        order = ap (λ l. users ∷ hosts ∷ l) closed.order;
+        opened = All-cons (HasReader Opens) users (hosts ∷ closed.earlier) (first, opens) (All-cons (HasReader Opens) hosts closed.earlier (second, opens_also) closed.opened);
+        closed = closed.closed;
+      })
+]

@@ -214,7 +214,9 @@ pub(crate) fn load_policy<F: Files>(
             Ok(policy) => return Ok(policy),
             Err((read, fault)) => match fault {
                 LoadFault::Wanted(want) => {
-                    hand_in(alloc, files, path, text, want, &mut supplies)?;
+                    if let Err(unread) = hand_in(alloc, files, path, text, want, &mut supplies) {
+                        return Err(unread);
+                    }
                 }
                 LoadFault::Memory => return Err(Fault::Memory),
                 fault => return Err(Fault::Refused(read, fault)),
