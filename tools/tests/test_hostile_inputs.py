@@ -253,7 +253,9 @@ class Sweep(Case):
         hostile(self, target)
         ended = self.tried(place, command)
         faults = [*faults_of(ended), *self.leaks(place, target, ended)]
-        if is_refused(hostile, path, command) and ended.status in (0, 1) and "refused" not in status_of(place):
+        # Where status 1 is no refusal, a table may have it.
+        taken = (0,) if name == "lint" else (0, 1)
+        if is_refused(hostile, path, command) and ended.status in taken and "refused" not in status_of(place):
             faults.append(f"status {ended.status}")
         if ended.status > 1 and not any(os.path.splitext(part)[0] in ended.said for part in path.split("/")):
             faults.append("the path is not named")

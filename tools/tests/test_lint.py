@@ -253,6 +253,12 @@ class Inputs(Folder):
         self.answer("./--program=x/sudoers", 0, "ok\n")
         self.assertEqual(self.lint(*words, "--program=x/sudoers")[:2], (0, "./--program=x/sudoers: ok\n"))
 
+    def test_a_fifo_or_a_device_is_not_waited_for(self):
+        os.mkfifo(os.path.join(self.folder, "fifo"))
+        for path, kind in (("fifo", "a FIFO"), ("/dev/zero", "a device")):
+            text = f"{path}: error: {path}: expected a plain file, found {kind}\n{path}: not checked\n"
+            self.assertEqual(self.lint(path)[:2], (4, text))
+
     def test_an_empty_folder_is_named(self):
         os.mkdir(os.path.join(self.folder, "d"))
         self.assertEqual(self.lint("d")[:2], (0, "d: note: no file to check\n"))
