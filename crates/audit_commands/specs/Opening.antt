@@ -40,12 +40,16 @@ AreOpened Opens pairs sources = AllZip (λ pair source. (source.name ≡ pair.0)
 abbrev pub AreSources : {R : Type 0} → (List ℕ → R → Type 0) → List (List ℕ) → List (Source R) → Type 0
 AreSources Opens words sources = (pairs : List Pair) × AreSenders words pairs × AreOpened Opens pairs sources
 
+-- there is a reader of the path
+abbrev pub HasReader : {R : Type 0} → (List ℕ → R → Type 0) → List ℕ → Type 0
+HasReader {R} Opens path = (reader : R) × Opens path reader
+
 -- the first path, in this order, that has no reader
 pub record IsFirstClosed {R : Type 0} (Opens : List ℕ → R → Type 0) (Closed : List ℕ → Type 0) (paths : List (List ℕ)) (path : List ℕ) : Type 0 where
   pub earlier : List (List ℕ)
   pub later : List (List ℕ)
   pub order : paths ≡ earlier ++ path ∷ later
-  pub opened : All (λ p. (reader : R) × Opens p reader) earlier
+  pub opened : All (HasReader Opens) earlier
   pub closed : Closed path
 
 -- the paths of an audit, in the order in which they are opened: users, hosts, and the requests in

@@ -100,9 +100,7 @@ impl Fails for SourcesFault {
 
     fn printed(self, alloc: Global, program: &[u8]) -> Result<Vec<u8>, AllocError> {
         match self {
-            SourcesFault::BadSender(word) => {
-                called_line(alloc, program, b"bad sender ", word.as_slice())
-            }
+            SourcesFault::BadSender(word) => sender_line(alloc, program, word.as_slice()),
             SourcesFault::Unopened(fault) => fault.printed(alloc, program),
         }
     }
@@ -146,9 +144,7 @@ impl Fails for ExpansionFault {
     fn printed(self, alloc: Global, program: &[u8]) -> Result<Vec<u8>, AllocError> {
         match self {
             ExpansionFault::Policy(fault) => fault.printed(alloc, program),
-            ExpansionFault::NoSuchAlias(name) => {
-                called_line(alloc, program, b"no such alias ", name.as_slice())
-            }
+            ExpansionFault::NoSuchAlias(name) => alias_line(alloc, program, name.as_slice()),
             ExpansionFault::Memory => AllocError.printed(alloc, program),
         }
     }
@@ -226,18 +222,24 @@ fn audit_status(fault: &AuditFault) -> u8
     }
 }
 
-// Returns the line of two texts.
-fn called_line(
-    alloc: Global,
-    program: &[u8],
-    first: &[u8],
-    second: &[u8],
-) -> Result<Vec<u8>, AllocError>
+// Returns the line of a word that names no sender.
+fn sender_line(alloc: Global, program: &[u8], word: &[u8]) -> Result<Vec<u8>, AllocError>
     ensures { IfOk result (λ line. line.items
-        ≡ error_line program.now (first.now ++ second.now)) }
+        ≡ error_line program.now (codes "bad sender " ++ word.now)) }
 {
     let mut line = begin_line(alloc, program)?;
-    push_both(&mut line, first, second)?;
+    push_both(&mut line, b"bad sender ", word)?;
+    push(&mut line, b"\n")?;
+    Ok(line)
+}
+
+// Returns the line of an alias that the policy does not have.
+fn alias_line(alloc: Global, program: &[u8], name: &[u8]) -> Result<Vec<u8>, AllocError>
+    ensures { IfOk result (λ line. line.items
+        ≡ error_line program.now (codes "no such alias " ++ name.now)) }
+{
+    let mut line = begin_line(alloc, program)?;
+    push_both(&mut line, b"no such alias ", name)?;
     push(&mut line, b"\n")?;
     Ok(line)
 }

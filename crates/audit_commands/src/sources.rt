@@ -1,7 +1,7 @@
 //! Opens the files of an audit.
 ghost use Rattle.std.specs.Prelude.{◌≡◌, ℕ, List, IfErr, IfOk, map};
 ghost use Rattle.run_base.specs.Opening.{HasNoReader};
-ghost use Rattle.audit_commands.specs.Opening.{AreNotSenders, AreOpened, AreSenders, AreSources, HaveNoReaders, IsNotOpened};
+ghost use Rattle.audit_commands.specs.Opening.{AreNotSenders, AreOpened, AreSenders, AreSources, HaveNoReaders, IsNotOpened, Pair};
 
 use crate::fault::SourcesFault;
 use crate::sender::sender_of;
@@ -55,8 +55,9 @@ fn open_sources<R: Drop, O: Opener<R>>(
 ) -> Result<Vec<Source<R>>, OpenFault>
     ensures opened { let pairs = map (λ p. (p.0.now, p.1.now)) senders.now in
         IfOk result (λ s. AreOpened (O.opens opener.now) pairs s.items) }
-    ensures fault { let paths = map (λ p. p.1.now) senders.now in
-        IfErr result (HaveNoReaders (O.opens opener.now) (O.closed opener.now) paths) }
+    ensures fault { let pairs : List Pair = map (λ p. (p.0.now, p.1.now)) senders.now in
+        IfErr result (HaveNoReaders (O.opens opener.now) (O.closed opener.now)
+        (map (λ p. p.1) pairs)) }
 {
     let mut sources = Vec::new(alloc);
     for (name, path) in senders {

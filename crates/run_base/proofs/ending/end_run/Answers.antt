@@ -17,7 +17,7 @@ returns-in-Ok g c =
     let out = sent g.O.Sink.taken g.O.Sink.stalled_writes c.args.out.now c.write_all_of.new.writer in
     let err = sent g.E.Sink.taken g.E.Sink.stalled_writes c.args.err.now c.report_fault.new.err in
     let stalls = c.in-Err-write_all_of.ensures.stalls in
-    lost_ends told c.args.ended c.in-Ok.printed c.deref.result.now c.in-Err-write_all_of.fault.written c.report_fault.result out err c.in-Ok.is c.deref.ensures.value
+    lost_ends told c.args.ended c.in-Ok.printed c.deref.result.now c.in-Err-write_all_of.lost.written c.report_fault.result out err c.in-Ok.is c.deref.ensures.value
     c.in-Err-write_all_of.ensures.within c.in-Err-write_all_of.ensures.part (λ well. absurd (omega (arith, stalls, well))) c.report_fault.ensures
 
 pub returns : goal.returns
