@@ -1,11 +1,8 @@
 pub mod RowLemmas
 pub mod Refusals
-pub mod HeldSupplies
 pub mod Rosters
 pub mod SenderLemmas
 pub mod Statuses
-pub mod EndingLemmas
 pub mod Steps
 pub mod AuditSteps
 pub mod Openings
-pub mod Wanting

@@ -1,14 +1,16 @@
 -- Words that are read, and files of senders that are opened, one by one.
-use Rattle.std.proofs.Common.{◌≡◌, ◌<◌, ◌+◌, ℕ, List, [], ◌∷◌, ◌++◌, length, get_or, take, drop, map, suc, refl, sym, ap, ◌∙◌, arith, subst, inl, inr}
+use Rattle.std.proofs.Common.{◌≡◌, ◌<◌, ◌+◌, ℕ, List, [], ◌∷◌, ◌++◌, length, get_or, take, drop, map, suc, refl, sym, ap, ◌∙◌, arith, subst}
 use Rattle.std.specs.Prelude.{All}
 use Rattle.std.proofs.lemmas.List.{drop_more, map-append, map_push, take-append-drop}
 use Rattle.std.proofs.lemmas.List.Elements.{All-cons, All-nil, All-push}
 use Rattle.std.proofs.lemmas.Slice.Zip.{all_zipped_more}
 use lib.Seq.{take-suc}
 use Rattle.audit_run.specs.declared.source.Source.{Source}
-use Rattle.audit_commands.specs.Opening.{AreOpened, AreSenders, HasNoReader, HasReader, HaveNoReaders, IsFirstClosed, IsNamed, IsNotOpened, Pair, paths_of, word_of}
-use Rattle.audit_commands.specs.declared.fault.Fault.{Fault}
-use Rattle.audit_commands.specs.declared.fault.Fault.TheVariants as faults
+use Rattle.run_base.specs.Opening.{HasNoReader}
+use Rattle.run_base.specs.declared.fault.OpenFault.{OpenFault}
+use Rattle.run_base.specs.declared.fault.OpenFault.TheVariants as opens
+use Rattle.audit_commands.specs.Opening.{AreOpened, AreSenders, HasReader, HaveNoReaders, IsFirstClosed, IsNamed, IsNotOpened, IsUnopened, Pair, paths_of, word_of}
+use Rattle.audit_commands.specs.declared.fault.SourcesFault.TheVariants as faults
 
 take_more : {A : Type 0} (xs : List A) (i : ℕ) (d : A) → i < length xs → take (i + 1) xs ≡ take i xs ++ get_or xs i d ∷ []
 take_more xs i d within =
@@ -39,7 +41,7 @@ readers Opens (pair ∷ pairs) [] are = absurd are
 readers Opens (pair ∷ pairs) (source ∷ sources) are = All-cons (HasReader Opens) pair.1 (map (λ p. p.1) pairs) (source.reader, are.0.1) (readers Opens pairs sources are.1)
 
 -- The next file has no reader.
-pub first_closed : {R : Type 0} (Opens : List ℕ → R → Type 0) (Closed : List ℕ → Type 0) (pairs : List Pair) (sources : List (Source R)) (at : ℕ) (pair : Pair)
+first_closed : {R : Type 0} (Opens : List ℕ → R → Type 0) (Closed : List ℕ → Type 0) (pairs : List Pair) (sources : List (Source R)) (at : ℕ) (pair : Pair)
     → AreOpened Opens (take at pairs) sources → at < length pairs → get_or pairs at pair ≡ pair → Closed pair.1
     → IsFirstClosed Opens Closed (map (λ p. p.1) pairs) pair.1
 first_closed Opens Closed pairs sources at pair are within is closed = record {
@@ -52,45 +54,42 @@ first_closed Opens Closed pairs sources at pair are within is closed = record {
   closed = closed;
 }
 
-unopened : {R : Type 0} (Opens : List ℕ → R → Type 0) (Closed : List ℕ → Type 0) (users hosts : List ℕ) (words : List (List ℕ)) (pairs : List Pair) (path : List ℕ) (fault : Fault)
-    → AreSenders words pairs → fault ≡ faults.CannotRead path → IsFirstClosed Opens Closed (paths_of users hosts pairs) path → IsNotOpened Opens Closed users hosts words fault
-unopened Opens Closed users hosts words pairs path fault are is first =
-    subst (λ (f : Fault). IsNotOpened Opens Closed users hosts words f) (sym is) (pairs, are, first)
+pub no_source : {R : Type 0} (Opens : List ℕ → R → Type 0) (Closed : List ℕ → Type 0) (pairs : List Pair) (sources : List (Source R)) (at : ℕ) (pair : Pair) (fault : OpenFault)
+    → AreOpened Opens (take at pairs) sources → at < length pairs → get_or pairs at pair ≡ pair → HasNoReader Closed pair.1 fault
+    → HaveNoReaders Opens Closed (map (λ p. p.1) pairs) fault
+no_source Opens Closed pairs sources at pair (opens.CannotRead path) are within is why =
+    subst (λ p. IsFirstClosed Opens Closed (map (λ q. q.1) pairs) p) (sym why.0) (first_closed Opens Closed pairs sources at pair are within is why.1)
+no_source Opens Closed pairs sources at pair opens.Memory are within is why = tt
 
-no_memory : {R : Type 0} (Opens : List ℕ → R → Type 0) (Closed : List ℕ → Type 0) (users hosts : List ℕ) (words : List (List ℕ)) (fault : Fault)
-    → fault ≡ faults.Memory → IsNotOpened Opens Closed users hosts words fault
-no_memory Opens Closed users hosts words fault is = subst (λ (f : Fault). IsNotOpened Opens Closed users hosts words f) (sym is) tt
+unopened : {R : Type 0} (Opens : List ℕ → R → Type 0) (Closed : List ℕ → Type 0) (users hosts : List ℕ) (words : List (List ℕ)) (pairs : List Pair) (path at : List ℕ)
+    → AreSenders words pairs → path ≡ at → IsFirstClosed Opens Closed (paths_of users hosts pairs) at → IsUnopened Opens Closed users hosts words path
+unopened Opens Closed users hosts words pairs path at are is first = subst (λ p. IsUnopened Opens Closed users hosts words p) (sym is) (pairs, are, first)
 
 -- The users have no reader.
-pub no_users : {R : Type 0} (Opens : List ℕ → R → Type 0) (Closed : List ℕ → Type 0) (users hosts : List ℕ) (words : List (List ℕ)) (pairs : List Pair) (fault : Fault)
-    → AreSenders words pairs → HasNoReader Closed users fault → IsNotOpened Opens Closed users hosts words fault
-no_users Opens Closed users hosts words pairs fault are why = elim why [
-  | inl memory ↦ no_memory Opens Closed users hosts words fault memory
-  | inr closed ↦ unopened Opens Closed users hosts words pairs users fault are closed.0
-      (record { earlier = []; later = hosts ∷ map (λ p. p.1) pairs; order = refl; opened = All-nil (HasReader Opens); closed = closed.1 })
-]
+pub no_users : {R : Type 0} (Opens : List ℕ → R → Type 0) (Closed : List ℕ → Type 0) (users hosts : List ℕ) (words : List (List ℕ)) (pairs : List Pair) (fault : OpenFault)
+    → AreSenders words pairs → HasNoReader Closed users fault → IsNotOpened Opens Closed users hosts words (faults.Unopened fault)
+no_users Opens Closed users hosts words pairs (opens.CannotRead path) are why =
+    unopened Opens Closed users hosts words pairs path users are why.0
+    (record { earlier = []; later = hosts ∷ map (λ p. p.1) pairs; order = refl; opened = All-nil (HasReader Opens); closed = why.1 })
+no_users Opens Closed users hosts words pairs opens.Memory are why = tt
 
 -- The users have one, and the hosts have none.
-pub no_hosts : {R : Type 0} (Opens : List ℕ → R → Type 0) (Closed : List ℕ → Type 0) (users hosts : List ℕ) (words : List (List ℕ)) (pairs : List Pair) (reader : R) (fault : Fault)
-    → AreSenders words pairs → Opens users reader → HasNoReader Closed hosts fault → IsNotOpened Opens Closed users hosts words fault
-no_hosts Opens Closed users hosts words pairs reader fault are opens why = elim why [
-  | inl memory ↦ no_memory Opens Closed users hosts words fault memory
-  | inr closed ↦ unopened Opens Closed users hosts words pairs hosts fault are closed.0
-      (record { earlier = users ∷ []; later = map (λ p. p.1) pairs; order = refl; opened = All-cons (HasReader Opens) users [] (reader, opens) (All-nil (HasReader Opens)); closed = closed.1 })
-]
+pub no_hosts : {R : Type 0} (Opens : List ℕ → R → Type 0) (Closed : List ℕ → Type 0) (users hosts : List ℕ) (words : List (List ℕ)) (pairs : List Pair) (reader : R) (fault : OpenFault)
+    → AreSenders words pairs → Opens users reader → HasNoReader Closed hosts fault → IsNotOpened Opens Closed users hosts words (faults.Unopened fault)
+no_hosts Opens Closed users hosts words pairs reader (opens.CannotRead path) are there why =
+    unopened Opens Closed users hosts words pairs path hosts are why.0
+    (record { earlier = users ∷ []; later = map (λ p. p.1) pairs; order = refl; opened = All-cons (HasReader Opens) users [] (reader, there) (All-nil (HasReader Opens)); closed = why.1 })
+no_hosts Opens Closed users hosts words pairs reader opens.Memory are there why = tt
 
 -- Both have one, and a requests file has none.
-pub no_sources : {R : Type 0} (Opens : List ℕ → R → Type 0) (Closed : List ℕ → Type 0) (users hosts : List ℕ) (words : List (List ℕ)) (pairs : List Pair) (first second : R) (fault : Fault)
-    → AreSenders words pairs → Opens users first → Opens hosts second → HaveNoReaders Opens Closed (map (λ p. p.1) pairs) fault → IsNotOpened Opens Closed users hosts words fault
-no_sources Opens Closed users hosts words pairs first second fault are opens opens_also why = elim why [
-  | inl memory ↦ no_memory Opens Closed users hosts words fault memory
-  | inr missing ↦
-      let closed = missing.2 in
-      unopened Opens Closed users hosts words pairs missing.0 fault are missing.1 (record {
-        earlier = users ∷ hosts ∷ closed.earlier;
-        later = closed.later;
-        order = ap (λ l. users ∷ hosts ∷ l) closed.order;
-        opened = All-cons (HasReader Opens) users (hosts ∷ closed.earlier) (first, opens) (All-cons (HasReader Opens) hosts closed.earlier (second, opens_also) closed.opened);
-        closed = closed.closed;
-      })
-]
+pub no_sources : {R : Type 0} (Opens : List ℕ → R → Type 0) (Closed : List ℕ → Type 0) (users hosts : List ℕ) (words : List (List ℕ)) (pairs : List Pair) (first second : R) (fault : OpenFault)
+    → AreSenders words pairs → Opens users first → Opens hosts second → HaveNoReaders Opens Closed (map (λ p. p.1) pairs) fault → IsNotOpened Opens Closed users hosts words (faults.Unopened fault)
+no_sources Opens Closed users hosts words pairs first second (opens.CannotRead path) are there there_too closed =
+    unopened Opens Closed users hosts words pairs path path are refl (record {
+      earlier = users ∷ hosts ∷ closed.earlier;
+      later = closed.later;
+      order = ap (λ l. users ∷ hosts ∷ l) closed.order;
+      opened = All-cons (HasReader Opens) users (hosts ∷ closed.earlier) (first, there) (All-cons (HasReader Opens) hosts closed.earlier (second, there_too) closed.opened);
+      closed = closed.closed;
+    })
+no_sources Opens Closed users hosts words pairs first second opens.Memory are there there_too closed = tt

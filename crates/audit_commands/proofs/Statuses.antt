@@ -12,9 +12,16 @@ use Rattle.audit_run.specs.declared.fault.AuditFault.{AuditFault}
 use Rattle.audit_run.specs.declared.fault.AuditFault.TheVariants as audits
 use Rattle.sudo_match.specs.declared.fault.DirFault.{DirFault}
 use Rattle.sudo_match.specs.declared.fault.DirFault.TheVariants as directories
-use Rattle.audit_commands.specs.declared.fault.Fault.{Fault}
-use Rattle.audit_commands.specs.declared.fault.Fault.TheVariants as faults
-use Rattle.audit_commands.specs.Faults.{audit_status, collect_status, directory_status, file_status, refusal_status, roster_status, status_of}
+use Rattle.run_base.specs.Faults.{policy_status}
+use Rattle.run_base.specs.declared.fault.PolicyFault.{PolicyFault}
+use Rattle.run_base.specs.declared.fault.PolicyFault.TheVariants as policies
+use Rattle.audit_commands.specs.declared.fault.DirectoryFault.{DirectoryFault}
+use Rattle.audit_commands.specs.declared.fault.DirectoryFault.TheVariants as directory_faults
+use Rattle.audit_commands.specs.declared.fault.ExpansionFault.{ExpansionFault}
+use Rattle.audit_commands.specs.declared.fault.ExpansionFault.TheVariants as expansions
+use Rattle.audit_commands.specs.declared.fault.ReportFault.{ReportFault}
+use Rattle.audit_commands.specs.declared.fault.ReportFault.TheVariants as reports
+use Rattle.audit_commands.specs.Faults.{audit_status, both_status, collect_status, directory_status, expansion_status, file_status, refusal_status, report_status, roster_status}
 
 abbrev IsStatus : ℕ → Type 0
 IsStatus status = (0 < status) × (status < 5)
@@ -28,13 +35,19 @@ file_range (file_faults.OutOfOrder row) = (lit< tt, lit< tt)
 file_range (file_faults.RowAfterClose row) = (lit< tt, lit< tt)
 file_range file_faults.TooMany = (lit< tt, lit< tt)
 
-directory_range : (fault : DirFault) → IsStatus (directory_status fault)
-directory_range (directories.UserTwice name) = (lit< tt, lit< tt)
-directory_range (directories.HostTwice name) = (lit< tt, lit< tt)
-directory_range (directories.GroupClash name) = (lit< tt, lit< tt)
-directory_range (directories.NoGroup user) = (lit< tt, lit< tt)
-directory_range directories.NoRoot = (lit< tt, lit< tt)
-directory_range directories.Memory = (lit< tt, lit< tt)
+both_range : (fault : DirFault) → IsStatus (both_status fault)
+both_range (directories.UserTwice name) = (lit< tt, lit< tt)
+both_range (directories.HostTwice name) = (lit< tt, lit< tt)
+both_range (directories.GroupClash name) = (lit< tt, lit< tt)
+both_range (directories.NoGroup user) = (lit< tt, lit< tt)
+both_range directories.NoRoot = (lit< tt, lit< tt)
+both_range directories.Memory = (lit< tt, lit< tt)
+
+directory_range : (fault : DirectoryFault) → IsStatus (directory_status fault)
+directory_range (directory_faults.Users fault) = file_range fault
+directory_range (directory_faults.Hosts fault) = file_range fault
+directory_range (directory_faults.Both fault) = both_range fault
+directory_range directory_faults.Memory = (lit< tt, lit< tt)
 
 roster_range : (fault : RosterFault) → IsStatus (roster_status fault)
 roster_range (rosters.SenderTwice name) = (lit< tt, lit< tt)
@@ -61,25 +74,39 @@ audit_range audits.NoThread = (lit< tt, lit< tt)
 audit_range audits.Memory = (lit< tt, lit< tt)
 audit_range audits.TooManyParts = (lit< tt, lit< tt)
 
-range : (fault : Fault) → IsStatus (status_of fault)
-range (faults.Refused files fault) = (lit< tt, lit< tt)
-range (faults.Errors lines) = (lit< tt, lit< tt)
-range (faults.NoSuchAlias name) = (lit< tt, lit< tt)
-range (faults.BadSender word) = (lit< tt, lit< tt)
-range (faults.Users fault) = file_range fault
-range (faults.Hosts fault) = file_range fault
-range (faults.Directory fault) = directory_range fault
-range (faults.Audit names fault) = audit_range fault
-range (faults.CannotRead path) = (lit< tt, lit< tt)
-range (faults.Write written) = (lit< tt, lit< tt)
-range faults.Memory = (lit< tt, lit< tt)
+policy_range : (fault : PolicyFault) → IsStatus (policy_status fault)
+policy_range (policies.Refused read fault) = (lit< tt, lit< tt)
+policy_range (policies.Errors lines) = (lit< tt, lit< tt)
+policy_range (policies.CannotRead path) = (lit< tt, lit< tt)
+policy_range policies.Memory = (lit< tt, lit< tt)
 
-pub status_low : (fault : Fault) → status_of fault ≡ 0 → ⊥
-status_low fault none =
-    let low = (range fault).0 in
+expansion_range : (fault : ExpansionFault) → IsStatus (expansion_status fault)
+expansion_range (expansions.Policy fault) = policy_range fault
+expansion_range (expansions.NoSuchAlias name) = (lit< tt, lit< tt)
+expansion_range expansions.Memory = (lit< tt, lit< tt)
+
+report_range : (fault : ReportFault) → IsStatus (report_status fault)
+report_range (reports.Policy fault) = policy_range fault
+report_range (reports.Directory fault) = directory_range fault
+report_range (reports.Audit names fault) = audit_range fault
+report_range reports.Memory = (lit< tt, lit< tt)
+
+pub policy_low : (fault : PolicyFault) → policy_status fault ≡ 0 → ⊥
+policy_low fault none =
+    let low = (policy_range fault).0 in
     omega (arith, low, none)
 
-pub status_most : (fault : Fault) → status_of fault ≤ 4
-status_most fault =
-    let high = (range fault).1 in
+pub policy_most : (fault : PolicyFault) → policy_status fault ≤ 4
+policy_most fault =
+    let high = (policy_range fault).1 in
+    omega (arith, high)
+
+pub expansion_most : (fault : ExpansionFault) → expansion_status fault ≤ 4
+expansion_most fault =
+    let high = (expansion_range fault).1 in
+    omega (arith, high)
+
+pub report_most : (fault : ReportFault) → report_status fault ≤ 4
+report_most fault =
+    let high = (report_range fault).1 in
     omega (arith, high)

@@ -3,9 +3,9 @@ use Rattle.std.specs.Prelude.{◌≡◌, ℕ, false, List, [], ◌∷◌, ◌++�
 use Rattle.sudo_policy.specs.Found.{AreFindings, has_error}
 use Rattle.sudo_policy.specs.declared.finding.Finding.{Finding}
 use Rattle.sudo_grammar.specs.declared.policy.Policy.{Policy}
-use Rattle.audit_commands.specs.FindingLines.{finding_lines}
-use Rattle.audit_commands.specs.Holding.{Holdings}
-use Rattle.audit_commands.specs.Loading.{IsLoaded}
+use Rattle.run_base.specs.FindingLines.{finding_lines}
+use Rattle.run_base.specs.Holding.{Holdings}
+use Rattle.run_base.specs.Loading.{IsLoaded}
 
 -- a line for each finding, and `ok` if none is an error
 abbrev pub check_text : List (List ℕ) → List Finding → List ℕ

@@ -1,5 +1,5 @@
 -- The output of `expand`: cvtsudoers(1), aliases written out.
-use Rattle.std.specs.Prelude.{◌≡◌, ℕ, List, [], ◌∷◌, ◌++◌, Option, Some, None, flat_map, ⊤}
+use Rattle.std.specs.Prelude.{◌≡◌, ◌≢◌, ℕ, List, [], ◌∷◌, ◌++◌, Option, Some, None, flat_map, ⊤}
 use Rattle.sudo_grammar.specs.declared.kind.Kind.{Kind}
 use Rattle.sudo_grammar.specs.declared.kind.Member.{Member}
 use Rattle.sudo_grammar.specs.declared.kind.Signed.{Signed}
@@ -7,10 +7,11 @@ use Rattle.sudo_grammar.specs.declared.policy.Policy.{Policy}
 use Rattle.sudo_parser.specs.Texts.{signed_text}
 use Rattle.sudo_policy.specs.Definitions.{in_force}
 use Rattle.sudo_policy.specs.Written.{IsWrittenOut}
-use Rattle.audit_commands.specs.Holding.{Holdings}
-use Rattle.audit_commands.specs.Loading.{IsChecked, IsNotChecked}
-use Rattle.audit_commands.specs.declared.fault.Fault.{Fault}
-use Rattle.audit_commands.specs.declared.fault.Fault.TheVariants as faults
+use Rattle.run_base.specs.Holding.{Holdings}
+use Rattle.run_base.specs.Loading.{IsChecked, IsNotChecked}
+use Rattle.run_base.specs.declared.fault.PolicyFault.TheVariants as policies
+use Rattle.audit_commands.specs.declared.fault.ExpansionFault.{ExpansionFault}
+use Rattle.audit_commands.specs.declared.fault.ExpansionFault.TheVariants as faults
 
 -- the line of a member
 abbrev pub member_line : Signed → List ℕ
@@ -34,29 +35,13 @@ HasNoAlias held path kind name = (policy : Policy) × IsChecked held path policy
 
 -- why there is nothing of an alias to print: no policy passes the check, or it has no alias of this
 -- name, or memory failed
-abbrev pub IsNotExpanded : Option Holdings → List ℕ → Kind → List ℕ → Fault → Type 0
+abbrev pub IsNotExpanded : Option Holdings → List ℕ → Kind → List ℕ → ExpansionFault → Type 0
+IsNotExpanded held path kind name (faults.Policy fault) = (fault ≢ policies.Memory) × IsNotChecked held path fault
 IsNotExpanded held path kind name (faults.NoSuchAlias alias) = (alias ≡ name) × HasNoAlias held path kind name
-IsNotExpanded held path kind name (faults.Refused files fault) = IsNotChecked held path (faults.Refused files fault)
-IsNotExpanded held path kind name (faults.CannotRead unread) = IsNotChecked held path (faults.CannotRead unread)
-IsNotExpanded held path kind name (faults.Errors lines) = IsNotChecked held path (faults.Errors lines)
 IsNotExpanded held path kind name faults.Memory = ⊤
-IsNotExpanded held path kind name (faults.BadSender word) = ⊥
-IsNotExpanded held path kind name (faults.Users fault) = ⊥
-IsNotExpanded held path kind name (faults.Hosts fault) = ⊥
-IsNotExpanded held path kind name (faults.Directory fault) = ⊥
-IsNotExpanded held path kind name (faults.Audit names fault) = ⊥
-IsNotExpanded held path kind name (faults.Write written) = ⊥
 
 -- why a policy has nothing of an alias to print; only the proofs of bodies use this definition
-abbrev pub IsNotExpandedOf : Policy → Kind → List ℕ → Fault → Type 0
+abbrev pub IsNotExpandedOf : Policy → Kind → List ℕ → ExpansionFault → Type 0
+IsNotExpandedOf policy kind name (faults.Policy fault) = ⊥
 IsNotExpandedOf policy kind name (faults.NoSuchAlias alias) = (alias ≡ name) × (in_force kind policy name ≡ None)
 IsNotExpandedOf policy kind name faults.Memory = ⊤
-IsNotExpandedOf policy kind name (faults.Refused files fault) = ⊥
-IsNotExpandedOf policy kind name (faults.CannotRead unread) = ⊥
-IsNotExpandedOf policy kind name (faults.Errors lines) = ⊥
-IsNotExpandedOf policy kind name (faults.BadSender word) = ⊥
-IsNotExpandedOf policy kind name (faults.Users fault) = ⊥
-IsNotExpandedOf policy kind name (faults.Hosts fault) = ⊥
-IsNotExpandedOf policy kind name (faults.Directory fault) = ⊥
-IsNotExpandedOf policy kind name (faults.Audit names fault) = ⊥
-IsNotExpandedOf policy kind name (faults.Write written) = ⊥

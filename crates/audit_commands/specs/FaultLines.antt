@@ -1,42 +1,51 @@
--- The line that is printed for a fault.
-use Rattle.std.specs.Prelude.{ℕ, List, [], ◌∷◌, ◌++◌, codes, decimal}
-use Rattle.audit_commands.specs.FaultTexts.{audit_fault_text, called_fault_text, cannot_read, directory_fault_text, load_fault_text, no_memory}
-use Rattle.audit_commands.specs.declared.fault.Fault.{Fault}
-use Rattle.audit_commands.specs.declared.fault.Fault.TheVariants as faults
+-- The text that the program prints for a fault.
+use Rattle.std.specs.Prelude.{ℕ, List, ◌++◌, codes}
+use Rattle.run_base.specs.Endings.{Notices, notices}
+use Rattle.run_base.specs.FaultLines.{error_line, memory_line, open_printed, policy_printed}
+use Rattle.run_base.specs.Faults.{policy_status}
+use Rattle.run_base.specs.declared.fault.PolicyFault.{PolicyFault}
+use Rattle.audit_commands.specs.FaultTexts.{audit_fault_text, directory_fault_text, file_fault_text}
+use Rattle.audit_commands.specs.Faults.{expansion_status, report_status}
+use Rattle.audit_commands.specs.declared.fault.DirectoryFault.{DirectoryFault}
+use Rattle.audit_commands.specs.declared.fault.DirectoryFault.TheVariants as directories
+use Rattle.audit_commands.specs.declared.fault.ExpansionFault.{ExpansionFault}
+use Rattle.audit_commands.specs.declared.fault.ExpansionFault.TheVariants as expansions
+use Rattle.audit_commands.specs.declared.fault.ReportFault.{ReportFault}
+use Rattle.audit_commands.specs.declared.fault.ReportFault.TheVariants as reports
+use Rattle.audit_commands.specs.declared.fault.SourcesFault.{SourcesFault}
+use Rattle.audit_commands.specs.declared.fault.SourcesFault.TheVariants as sources
 
--- the text of a fault
-abbrev pub fault_text : Fault → List ℕ
-fault_text (faults.CannotRead path) = cannot_read path
-fault_text (faults.Refused files fault) = load_fault_text files fault
-fault_text (faults.Errors lines) = lines.items
-fault_text (faults.NoSuchAlias name) = codes "no such alias " ++ name
-fault_text (faults.BadSender word) = codes "bad sender " ++ word
-fault_text (faults.Users fault) = called_fault_text (codes "users: ") fault
-fault_text (faults.Hosts fault) = called_fault_text (codes "hosts: ") fault
-fault_text (faults.Directory fault) = directory_fault_text fault
-fault_text (faults.Audit names fault) = audit_fault_text names.items fault
-fault_text (faults.Write written) = codes "write failed after " ++ decimal written ++ codes " bytes"
-fault_text faults.Memory = no_memory
+abbrev pub directory_printed : List ℕ → DirectoryFault → List ℕ
+directory_printed program (directories.Users fault) = error_line program (codes "users: " ++ file_fault_text fault)
+directory_printed program (directories.Hosts fault) = error_line program (codes "hosts: " ++ file_fault_text fault)
+directory_printed program (directories.Both fault) = error_line program (directory_fault_text fault)
+directory_printed program directories.Memory = memory_line program
 
--- a text on a line of its own
-abbrev pub error_line : List ℕ → List ℕ
-error_line text = codes "sudo_audit: " ++ text ++ 10 ∷ []
+abbrev pub sources_printed : List ℕ → SourcesFault → List ℕ
+sources_printed program (sources.BadSender word) = error_line program (codes "bad sender " ++ word)
+sources_printed program (sources.Unopened fault) = open_printed program fault
 
--- the text printed for a fault: one line, except for the errors of a policy, which are printed as
--- `check` prints them
-abbrev pub printed_of : Fault → List ℕ
-printed_of (faults.Errors lines) = lines.items
-printed_of (faults.CannotRead path) = error_line (fault_text (faults.CannotRead path))
-printed_of (faults.Refused files fault) = error_line (fault_text (faults.Refused files fault))
-printed_of (faults.NoSuchAlias name) = error_line (fault_text (faults.NoSuchAlias name))
-printed_of (faults.BadSender word) = error_line (fault_text (faults.BadSender word))
-printed_of (faults.Users fault) = error_line (fault_text (faults.Users fault))
-printed_of (faults.Hosts fault) = error_line (fault_text (faults.Hosts fault))
-printed_of (faults.Directory fault) = error_line (fault_text (faults.Directory fault))
-printed_of (faults.Audit names fault) = error_line (fault_text (faults.Audit names fault))
-printed_of (faults.Write written) = error_line (fault_text (faults.Write written))
-printed_of faults.Memory = error_line (fault_text faults.Memory)
+abbrev pub expansion_printed : List ℕ → ExpansionFault → List ℕ
+expansion_printed program (expansions.Policy fault) = policy_printed program fault
+expansion_printed program (expansions.NoSuchAlias name) = error_line program (codes "no such alias " ++ name)
+expansion_printed program expansions.Memory = memory_line program
 
--- the line printed if allocation for the line of a fault failed
-abbrev pub memory_line : List ℕ
-memory_line = error_line no_memory
+abbrev pub report_printed : List ℕ → ReportFault → List ℕ
+report_printed program (reports.Policy fault) = policy_printed program fault
+report_printed program (reports.Directory fault) = directory_printed program fault
+report_printed program (reports.Audit names fault) = error_line program (audit_fault_text names.items fault)
+report_printed program reports.Memory = memory_line program
+
+-- the name of the program
+abbrev pub program_name : List ℕ
+program_name = codes "sudo_audit"
+
+-- what each command prints for its faults
+abbrev pub check_notices : Notices PolicyFault
+check_notices = notices policy_status policy_printed program_name
+
+abbrev pub expand_notices : Notices ExpansionFault
+expand_notices = notices expansion_status expansion_printed program_name
+
+abbrev pub audit_notices : Notices ReportFault
+audit_notices = notices report_status report_printed program_name

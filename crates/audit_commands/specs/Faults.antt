@@ -12,8 +12,15 @@ use Rattle.audit_run.specs.declared.fault.AuditFault.{AuditFault}
 use Rattle.audit_run.specs.declared.fault.AuditFault.TheVariants as audits
 use Rattle.sudo_match.specs.declared.fault.DirFault.{DirFault}
 use Rattle.sudo_match.specs.declared.fault.DirFault.TheVariants as directories
-use Rattle.audit_commands.specs.declared.fault.Fault.{Fault}
-use Rattle.audit_commands.specs.declared.fault.Fault.TheVariants as faults
+use Rattle.run_base.specs.Faults.{open_status, policy_status}
+use Rattle.audit_commands.specs.declared.fault.DirectoryFault.{DirectoryFault}
+use Rattle.audit_commands.specs.declared.fault.DirectoryFault.TheVariants as directory_faults
+use Rattle.audit_commands.specs.declared.fault.ExpansionFault.{ExpansionFault}
+use Rattle.audit_commands.specs.declared.fault.ExpansionFault.TheVariants as expansions
+use Rattle.audit_commands.specs.declared.fault.ReportFault.{ReportFault}
+use Rattle.audit_commands.specs.declared.fault.ReportFault.TheVariants as reports
+use Rattle.audit_commands.specs.declared.fault.SourcesFault.{SourcesFault}
+use Rattle.audit_commands.specs.declared.fault.SourcesFault.TheVariants as sources
 
 -- 1: the policy is refused, has errors or has no such alias. 2: a word of the command line names no
 -- sender. 3: the users, the hosts or the requests are refused. 4: reading, writing, a thread or
@@ -30,14 +37,21 @@ file_status (file_faults.OutOfOrder row) = 3
 file_status (file_faults.RowAfterClose row) = 3
 file_status file_faults.TooMany = 3
 
+-- the status for users and hosts that are refused together
+abbrev pub both_status : DirFault → ℕ
+both_status (directories.UserTwice name) = 3
+both_status (directories.HostTwice name) = 3
+both_status (directories.GroupClash name) = 3
+both_status (directories.NoGroup user) = 3
+both_status directories.NoRoot = 3
+both_status directories.Memory = 4
+
 -- the status for users and hosts that form no directory: they are refused, or memory failed
-abbrev pub directory_status : DirFault → ℕ
-directory_status (directories.UserTwice name) = 3
-directory_status (directories.HostTwice name) = 3
-directory_status (directories.GroupClash name) = 3
-directory_status (directories.NoGroup user) = 3
-directory_status directories.NoRoot = 3
-directory_status directories.Memory = 4
+abbrev pub directory_status : DirectoryFault → ℕ
+directory_status (directory_faults.Users fault) = file_status fault
+directory_status (directory_faults.Hosts fault) = file_status fault
+directory_status (directory_faults.Both fault) = both_status fault
+directory_status directory_faults.Memory = 4
 
 -- the status for senders that form no roster: they are refused, or memory failed
 abbrev pub roster_status : RosterFault → ℕ
@@ -69,16 +83,20 @@ audit_status audits.NoThread = 4
 audit_status audits.Memory = 4
 audit_status audits.TooManyParts = 3
 
--- the exit status for a fault
-abbrev pub status_of : Fault → ℕ
-status_of (faults.Refused files fault) = 1
-status_of (faults.Errors lines) = 1
-status_of (faults.NoSuchAlias name) = 1
-status_of (faults.BadSender word) = 2
-status_of (faults.Users fault) = file_status fault
-status_of (faults.Hosts fault) = file_status fault
-status_of (faults.Directory fault) = directory_status fault
-status_of (faults.Audit names fault) = audit_status fault
-status_of (faults.CannotRead path) = 4
-status_of (faults.Write written) = 4
-status_of faults.Memory = 4
+-- the status for files that are not opened
+abbrev pub sources_status : SourcesFault → ℕ
+sources_status (sources.BadSender word) = 2
+sources_status (sources.Unopened fault) = open_status fault
+
+-- the status for an alias that is not written out
+abbrev pub expansion_status : ExpansionFault → ℕ
+expansion_status (expansions.Policy fault) = policy_status fault
+expansion_status (expansions.NoSuchAlias name) = 1
+expansion_status expansions.Memory = 4
+
+-- the status for an audit that has no report
+abbrev pub report_status : ReportFault → ℕ
+report_status (reports.Policy fault) = policy_status fault
+report_status (reports.Directory fault) = directory_status fault
+report_status (reports.Audit names fault) = audit_status fault
+report_status reports.Memory = 4

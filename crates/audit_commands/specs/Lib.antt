@@ -1,14 +1,9 @@
 pub mod Words
-pub mod Holding
-pub mod Loading
 pub mod Examining
 pub mod Expanding
 pub mod Auditing
 pub mod Senders
-pub mod FindingLines
 pub mod FaultTexts
 pub mod Faults
 pub mod FaultLines
-pub mod Endings
 pub mod Opening
-pub mod Body

@@ -1,10 +1,12 @@
 -- The files of an audit, opened.
-use Rattle.std.specs.Prelude.{◌≡◌, ◌⊎◌, ⊤, ℕ, true, List, ◌∷◌, ◌++◌, Some, map, slice_get, take, All}
+use Rattle.std.specs.Prelude.{◌≡◌, ⊤, ℕ, true, List, ◌∷◌, ◌++◌, Some, map, slice_get, take, All}
 use Rattle.std.specs.List.{AllZip}
 use Rattle.audit_run.specs.declared.source.Source.{Source}
 use Rattle.audit_commands.specs.Senders.{is_sender_name}
-use Rattle.audit_commands.specs.declared.fault.Fault.{Fault}
-use Rattle.audit_commands.specs.declared.fault.Fault.TheVariants as faults
+use Rattle.run_base.specs.declared.fault.OpenFault.{OpenFault}
+use Rattle.run_base.specs.declared.fault.OpenFault.TheVariants as opens
+use Rattle.audit_commands.specs.declared.fault.SourcesFault.{SourcesFault}
+use Rattle.audit_commands.specs.declared.fault.SourcesFault.TheVariants as faults
 
 -- the name of a sender, and a path
 abbrev pub Pair : Type 0
@@ -61,30 +63,19 @@ IsUnopened Opens Closed users hosts words path =
     (pairs : List Pair) × AreSenders words pairs × IsFirstClosed Opens Closed (paths_of users hosts pairs) path
 
 -- why the files are not opened: a word is bad; no word is, and a path has no reader; or memory failed
-abbrev pub IsNotOpened : {R : Type 0} → (List ℕ → R → Type 0) → (List ℕ → Type 0) → List ℕ → List ℕ → List (List ℕ) → Fault → Type 0
+abbrev pub IsNotOpened : {R : Type 0} → (List ℕ → R → Type 0) → (List ℕ → Type 0) → List ℕ → List ℕ → List (List ℕ) → SourcesFault → Type 0
 IsNotOpened Opens Closed users hosts words (faults.BadSender word) = IsFirstBad words word
-IsNotOpened Opens Closed users hosts words (faults.CannotRead path) = IsUnopened Opens Closed users hosts words path
-IsNotOpened Opens Closed users hosts words faults.Memory = ⊤
-IsNotOpened Opens Closed users hosts words (faults.Refused files fault) = ⊥
-IsNotOpened Opens Closed users hosts words (faults.Errors lines) = ⊥
-IsNotOpened Opens Closed users hosts words (faults.NoSuchAlias name) = ⊥
-IsNotOpened Opens Closed users hosts words (faults.Users fault) = ⊥
-IsNotOpened Opens Closed users hosts words (faults.Hosts fault) = ⊥
-IsNotOpened Opens Closed users hosts words (faults.Directory fault) = ⊥
-IsNotOpened Opens Closed users hosts words (faults.Audit names fault) = ⊥
-IsNotOpened Opens Closed users hosts words (faults.Write written) = ⊥
+IsNotOpened Opens Closed users hosts words (faults.Unopened (opens.CannotRead path)) = IsUnopened Opens Closed users hosts words path
+IsNotOpened Opens Closed users hosts words (faults.Unopened opens.Memory) = ⊤
 
 -- Only the proofs of bodies use the definitions below.
 
 -- why words are not senders: the first bad one, or memory failed
-abbrev pub AreNotSenders : List (List ℕ) → Fault → Type 0
-AreNotSenders words fault = (fault ≡ faults.Memory) ⊎ ((word : List ℕ) × (fault ≡ faults.BadSender word) × IsFirstBad words word)
-
--- why a path is not opened: it has no reader, or memory failed
-abbrev pub HasNoReader : (List ℕ → Type 0) → List ℕ → Fault → Type 0
-HasNoReader Closed path fault = (fault ≡ faults.Memory) ⊎ ((fault ≡ faults.CannotRead path) × Closed path)
+abbrev pub AreNotSenders : List (List ℕ) → SourcesFault → Type 0
+AreNotSenders words (faults.BadSender word) = IsFirstBad words word
+AreNotSenders words (faults.Unopened fault) = fault ≡ opens.Memory
 
 -- why paths are not opened: the first that has no reader, or memory failed
-abbrev pub HaveNoReaders : {R : Type 0} → (List ℕ → R → Type 0) → (List ℕ → Type 0) → List (List ℕ) → Fault → Type 0
-HaveNoReaders Opens Closed paths fault =
-    (fault ≡ faults.Memory) ⊎ ((path : List ℕ) × (fault ≡ faults.CannotRead path) × IsFirstClosed Opens Closed paths path)
+abbrev pub HaveNoReaders : {R : Type 0} → (List ℕ → R → Type 0) → (List ℕ → Type 0) → List (List ℕ) → OpenFault → Type 0
+HaveNoReaders Opens Closed paths (opens.CannotRead path) = IsFirstClosed Opens Closed paths path
+HaveNoReaders Opens Closed paths opens.Memory = ⊤

@@ -1,22 +1,20 @@
 //! `audit`: answers requests.
 ghost use Rattle.std.specs.Prelude.{◌≡◌, ◌≤◌, ℕ, List, Option, IfErr, IfOk, map};
+ghost use Rattle.run_base.specs.Endings.{writer_states as sent, Ends};
+ghost use Rattle.run_base.specs.Holding.{Holdings};
+ghost use Rattle.run_base.specs.Loading.{IsChecked};
 ghost use Rattle.audit_commands.specs.Auditing.{Given, given_by, IsAudited, IsDirectory, IsNoDirectory, IsNotAudited, IsReported, IsUnreported};
-ghost use Rattle.audit_commands.specs.Holding.{Holdings};
-ghost use Rattle.audit_commands.specs.Loading.{IsChecked};
-ghost use Rattle.audit_commands.specs.Endings.{writer_states as sent, Ends};
+ghost use Rattle.audit_commands.specs.FaultLines.{audit_notices};
 
-use crate::ending::end_run;
-use crate::fault::Fault;
-use crate::files::Files;
-use crate::loading::checked_policy;
-use crate::printed::RunOutput;
-use audit_collect::Report;
-use audit_files::{Feed, Sink, read_hosts, read_users, report_text};
-use audit_run::{Handoff, Open, Source, audit};
+use crate::fault::{DirectoryFault, PROGRAM, ReportFault};
+use audit_files::{Feed, FileFault, Sink, read_hosts, read_users, report_text};
+use audit_run::{AuditFault, Handoff, Open, Source, audit};
+use run_base::{Files, PolicyFault, RunOutput, checked_policy, end_run};
 use std::alloc::{AllocError, Global};
+use std::mem;
 use std::sync::Wait;
 use std::thread::Threads;
-use sudo_match::Directory;
+use sudo_match::{DirFault, Directory};
 use sudo_policy::Checked;
 use sudo_text::Seq;
 
@@ -25,21 +23,24 @@ fn directory_of<U: Feed, H: Feed>(
     alloc: Global,
     users: &mut U,
     hosts: &mut H,
-) -> Result<Directory, Fault>
+) -> Result<Directory, DirectoryFault>
     ensures directory { IfOk result (IsDirectory (U.ahead users.old) (H.ahead hosts.old)) }
     ensures fault { IfErr result (IsNoDirectory (U.ahead users.old) (H.ahead hosts.old)) }
 {
     let people = match read_users(alloc, users) {
         Ok(people) => people,
-        Err(fault) => return Err(Fault::Users(fault)),
+        Err(FileFault::Memory) => return Err(DirectoryFault::Memory),
+        Err(fault) => return Err(DirectoryFault::Users(fault)),
     };
     let machines = match read_hosts(alloc, hosts) {
         Ok(machines) => machines,
-        Err(fault) => return Err(Fault::Hosts(fault)),
+        Err(FileFault::Memory) => return Err(DirectoryFault::Memory),
+        Err(fault) => return Err(DirectoryFault::Hosts(fault)),
     };
     match Directory::new(alloc, people, machines) {
         Ok(directory) => Ok(directory),
-        Err(fault) => Err(Fault::Directory(fault)),
+        Err(DirFault::Memory) => Err(DirectoryFault::Memory),
+        Err(fault) => Err(DirectoryFault::Both(fault)),
     }
 }
 
@@ -54,36 +55,15 @@ fn names_of<R>(alloc: Global, sources: &[Source<R>]) -> Result<Vec<Seq<u8>>, All
     Ok(names)
 }
 
-/// What an audit has to do: the sources of requests, and how many workers judge them.
+// What an audit has to do: the sources of requests, and how many workers judge them.
 #[derive(Drop)]
-pub(crate) struct Work<R> {
-    pub sources: Vec<Source<R>>,
-    pub workers: u32,
+struct Work<R> {
+    sources: Vec<Source<R>>,
+    workers: u32,
 }
 
-/// What an audit leaves at its end, for a caller that need not free it.
-#[derive(Drop)]
-pub(crate) struct Kept {
-    policy: Option<Checked>,
-    report: Option<Report>,
-}
-
-impl Kept {
-    /// Creates a place for what an audit leaves.
-    pub(crate) fn new() -> Kept {
-        Kept {
-            policy: None,
-            report: None,
-        }
-    }
-
-    // Keeps the policy.
-    fn keep(&mut self, policy: Checked) {
-        self.policy = Some(policy);
-    }
-}
-
-// Returns the report of the sources, under a policy and a directory. Leaves the answers in `kept`.
+// Returns the report of the sources, under a policy and a directory. Forgets the answers: the run ends here, and texts of
+// many requests are not freed one by one.
 fn report_under<T: Threads + Wait + Sync, R: Feed + Drop + Send>(
     alloc: Global,
     rt: &T,
@@ -91,8 +71,7 @@ fn report_under<T: Threads + Wait + Sync, R: Feed + Drop + Send>(
     directory: &Directory,
     sources: Vec<Source<R>>,
     workers: u32,
-    kept: &mut Option<Report>,
-) -> Result<RunOutput, Fault>
+) -> Result<RunOutput, ReportFault>
     requires { (1 ≤ workers) × (workers ≤ 16) }
     ensures report { let names = map (λ s. s.name) sources.items in
         let readable_bytes = map (λ s. R.ahead s.reader) sources.items in
@@ -112,14 +91,15 @@ fn report_under<T: Threads + Wait + Sync, R: Feed + Drop + Send>(
         Ok(report) => {
             let files = policy.policy().files.as_slice();
             let text = report_text(alloc, &report, files)?;
-            *kept = Some(report);
+            mem::forget(report);
             Ok(RunOutput { text, status: 0 })
         }
-        Err(fault) => Err(Fault::Audit(names, fault)),
+        Err(AuditFault::Memory) => Err(ReportFault::Memory),
+        Err(fault) => Err(ReportFault::Audit(names, fault)),
     }
 }
 
-// Returns the text and the status of an audit of the sources, under the policy of a file. Leaves the answers in `kept`.
+// Returns the text and the status of an audit of the sources, under the policy of a file.
 fn audited<T: Threads + Wait + Sync, U: Feed, H: Feed, R: Feed + Drop + Send>(
     alloc: Global,
     rt: &T,
@@ -127,8 +107,7 @@ fn audited<T: Threads + Wait + Sync, U: Feed, H: Feed, R: Feed + Drop + Send>(
     users: &mut U,
     hosts: &mut H,
     work: Work<R>,
-    kept: &mut Option<Report>,
-) -> Result<RunOutput, Fault>
+) -> Result<RunOutput, ReportFault>
     requires { (1 ≤ work.workers) × (work.workers ≤ 16) }
     ensures report { (held : Option Holdings) (path : List ℕ) → IsChecked held path policy.now →
         let given : Given = given_by held path (U.ahead users.old) (H.ahead hosts.old)
@@ -143,20 +122,20 @@ fn audited<T: Threads + Wait + Sync, U: Feed, H: Feed, R: Feed + Drop + Send>(
 {
     let Work { sources, workers } = work;
     match directory_of(alloc, users, hosts) {
-        Ok(directory) => report_under(alloc, rt, policy, &directory, sources, workers, kept),
-        Err(fault) => Err(fault),
+        Ok(directory) => report_under(alloc, rt, policy, &directory, sources, workers),
+        Err(DirectoryFault::Memory) => Err(ReportFault::Memory),
+        Err(fault) => Err(ReportFault::Directory(fault)),
     }
 }
 
-/// Does what `audit_into` does, and leaves the policy and the answers in `kept`.
-pub(crate) fn audit_keeping<
+// Returns the text and the status of an audit of the sources, under the policy of a file, which it loads. Forgets the
+// policy: the run ends here.
+fn audit_output<
     T: Threads + Wait + Sync,
     F: Files,
     U: Feed,
     H: Feed,
     R: Feed + Drop + Send,
-    O: Sink,
-    E: Sink,
 >(
     alloc: Global,
     rt: &T,
@@ -165,26 +144,25 @@ pub(crate) fn audit_keeping<
     users: &mut U,
     hosts: &mut H,
     work: Work<R>,
-    kept: &mut Kept,
-    out: &mut O,
-    err: &mut E,
-) -> u8
+) -> Result<RunOutput, ReportFault>
     requires { (1 ≤ work.workers) × (work.workers ≤ 16) }
-    ensures most { result ≤ 4 }
-    ensures ends { let given : Given = given_by (F.held files.old) path.now
+    ensures report { let given : Given = given_by (F.held files.old) path.now
         (U.ahead users.old) (H.ahead hosts.old) (map (λ s. s.name) work.sources.items)
         (map (λ s. R.ahead s.reader) work.sources.items) work.workers in
-        Ends (IsAudited given) (IsNotAudited given) result
-        (sent O.taken O.stalled_writes out.old out.new)
-        (sent E.taken E.stalled_writes err.old err.new) }
+        IfOk result (λ p. IsAudited given p.text.items p.status) }
+    ensures fault { let given : Given = given_by (F.held files.old) path.now
+        (U.ahead users.old) (H.ahead hosts.old) (map (λ s. s.name) work.sources.items)
+        (map (λ s. R.ahead s.reader) work.sources.items) work.workers in
+        IfErr result (IsNotAudited given) }
 {
     let policy = match checked_policy(alloc, path, files) {
         Ok(policy) => policy,
-        Err(fault) => return end_run(alloc, Err(fault), out, err),
+        Err(PolicyFault::Memory) => return Err(ReportFault::Memory),
+        Err(fault) => return Err(ReportFault::Policy(fault)),
     };
-    let ended = audited(alloc, rt, &policy, users, hosts, work, &mut kept.report);
-    kept.keep(policy);
-    end_run(alloc, ended, out, err)
+    let ended = audited(alloc, rt, &policy, users, hosts, work);
+    mem::forget(policy);
+    ended
 }
 
 /// Prints on `out` the report of the requests of the sources: for each sender, in the order in
@@ -221,11 +199,11 @@ pub fn audit_into<
     ensures ends { let given : Given = given_by (F.held files.old) path.now
         (U.ahead users.old) (H.ahead hosts.old) (map (λ s. s.name) sources.items)
         (map (λ s. R.ahead s.reader) sources.items) workers in
-        Ends (IsAudited given) (IsNotAudited given) result
+        Ends audit_notices (IsAudited given) (IsNotAudited given) result
         (sent O.taken O.stalled_writes out.old out.new)
         (sent E.taken E.stalled_writes err.old err.new) }
 {
-    let kept = &mut Kept::new();
     let work = Work { sources, workers };
-    audit_keeping(alloc, rt, path, files, users, hosts, work, kept, out, err)
+    let ended = audit_output(alloc, rt, path, files, users, hosts, work);
+    end_run(alloc, PROGRAM, ended, out, err)
 }

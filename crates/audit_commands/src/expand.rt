@@ -1,14 +1,12 @@
 //! `expand`: writes an alias out.
 ghost use Rattle.std.specs.Prelude.{◌≡◌, ◌≤◌, ◌++◌, flat_map, IfErr, IfOk, OnOk};
-ghost use Rattle.audit_commands.specs.Endings.{writer_states as sent, Ends};
+ghost use Rattle.run_base.specs.Endings.{writer_states as sent, Ends};
 ghost use Rattle.audit_commands.specs.Expanding.{member_line, AreAliasLines, IsExpanded, IsNotExpanded, IsNotExpandedOf};
+ghost use Rattle.audit_commands.specs.FaultLines.{expand_notices};
 
-use crate::ending::end_run;
-use crate::fault::Fault;
-use crate::files::Files;
-use crate::loading::checked_policy;
-use crate::printed::RunOutput;
+use crate::fault::{ExpansionFault, PROGRAM};
 use audit_files::Sink;
+use run_base::{Files, PolicyFault, RunOutput, checked_policy, end_run};
 use std::alloc::{AllocError, Global};
 use sudo_grammar::{Kind, Signed};
 use sudo_parser::member_text;
@@ -38,14 +36,21 @@ fn push_member(alloc: Global, lines: &mut Vec<u8>, member: &Signed) -> Result<()
 
 // Returns the lines of an alias of a checked policy. Returns `NoSuchAlias` if the policy has no
 // such alias.
-fn alias_lines(alloc: Global, checked: &Checked, kind: Kind, name: &[u8]) -> Result<Vec<u8>, Fault>
+fn alias_lines(
+    alloc: Global,
+    checked: &Checked,
+    kind: Kind,
+    name: &[u8],
+) -> Result<Vec<u8>, ExpansionFault>
     ensures lines { IfOk result (λ lines. AreAliasLines checked.now kind name.now lines.items) }
     ensures fault { IfErr result (IsNotExpandedOf checked.now kind name.now) }
 {
     match expand(alloc, checked, kind, name) {
         Ok(members) => Ok(member_lines(alloc, members.as_slice())?),
-        Err(ExpandFault::NoSuchAlias) => Err(Fault::NoSuchAlias(Seq::from_slice(alloc, name)?)),
-        Err(ExpandFault::Memory) => Err(Fault::Memory),
+        Err(ExpandFault::NoSuchAlias) => {
+            Err(ExpansionFault::NoSuchAlias(Seq::from_slice(alloc, name)?))
+        }
+        Err(ExpandFault::Memory) => Err(ExpansionFault::Memory),
     }
 }
 
@@ -56,12 +61,16 @@ fn expand_output<F: Files>(
     files: &mut F,
     kind: Kind,
     name: &[u8],
-) -> Result<RunOutput, Fault>
+) -> Result<RunOutput, ExpansionFault>
     ensures printed { IfOk result (λ p. IsExpanded
         (F.held files.old) path.now kind name.now p.text.items p.status) }
     ensures fault { IfErr result (IsNotExpanded (F.held files.old) path.now kind name.now) }
 {
-    let checked = checked_policy(alloc, path, files)?;
+    let checked = match checked_policy(alloc, path, files) {
+        Ok(checked) => checked,
+        Err(PolicyFault::Memory) => return Err(ExpansionFault::Memory),
+        Err(fault) => return Err(ExpansionFault::Policy(fault)),
+    };
     match alias_lines(alloc, &checked, kind, name) {
         Ok(text) => Ok(RunOutput { text, status: 0 }),
         Err(fault) => Err(fault),
@@ -84,11 +93,11 @@ pub fn expand_run<F: Files, O: Sink, E: Sink>(
     err: &mut E,
 ) -> u8
     ensures most { result ≤ 4 }
-    ensures ends { Ends (IsExpanded (F.held files.old) path.now kind name.now)
+    ensures ends { Ends expand_notices (IsExpanded (F.held files.old) path.now kind name.now)
         (IsNotExpanded (F.held files.old) path.now kind name.now) result
         (sent O.taken O.stalled_writes out.old out.new)
         (sent E.taken E.stalled_writes err.old err.new) }
 {
     let ended = expand_output(alloc, path, files, kind, name);
-    end_run(alloc, ended, out, err)
+    end_run(alloc, PROGRAM, ended, out, err)
 }

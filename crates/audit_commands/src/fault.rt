@@ -1,79 +1,199 @@
-//! Faults that end the program with a status other than 0.
-ghost use Rattle.std.specs.Prelude.{◌≡◌};
-ghost use Rattle.audit_commands.specs.Faults.{audit_status as status_of_audit, file_status as status_of_file, status_of};
+//! Faults that end a run of the program, each with its exit status and its line.
+ghost use Rattle.std.specs.Prelude.{◌≡◌, ◌++◌, IfOk, codes};
+ghost use Rattle.run_base.specs.FaultLines.{error_line};
+ghost use Rattle.audit_commands.specs.FaultLines.{directory_printed, expansion_printed, report_printed, sources_printed};
+ghost use Rattle.audit_commands.specs.FaultTexts.{audit_fault_text, directory_fault_text, file_fault_text};
+ghost use Rattle.audit_commands.specs.Faults.{audit_status as status_of_audit, directory_status, expansion_status, file_status as status_of_file, report_status, sources_status};
 
+use crate::fault_text::{push_audit_fault, push_directory_fault, push_file_fault};
 use audit_collect::{CollectFault, Refused, RosterFault};
 use audit_files::FileFault;
 use audit_run::AuditFault;
-use std::alloc::{AllocError, AllocFailed};
-use sudo_load::LoadFault;
+use run_base::{Fails, OpenFault, PolicyFault, begin_line, push, push_both};
+use std::alloc::{AllocError, AllocFailed, Global};
 use sudo_match::DirFault;
 use sudo_text::Seq;
 
-/// The reason why a run did not print its whole text.
+/// The name of the program.
+pub(crate) const PROGRAM: &[u8] = b"sudo_audit";
+
+/// The reason why users and hosts form no directory.
 #[derive(Debug, Drop)]
-pub enum Fault {
-    /// The file or the folder at this path cannot be read.
-    CannotRead(Seq<u8>),
-    /// The files are not a policy: the paths of those that were read, and the fault.
-    Refused(Seq<Seq<u8>>, LoadFault),
-    /// The check finds errors in the policy: their lines.
-    Errors(Vec<u8>),
-    /// The policy has no alias of this name.
-    NoSuchAlias(Seq<u8>),
-    /// This word is not `NAME=PATH` with the name of a sender.
-    BadSender(Seq<u8>),
+pub enum DirectoryFault {
     /// The users file is refused.
     Users(FileFault),
     /// The hosts file is refused.
     Hosts(FileFault),
     /// The users and hosts together are refused.
-    Directory(DirFault),
-    /// The requests are refused: the names of the sources, and the fault.
-    Audit(Vec<Seq<u8>>, AuditFault),
-    /// A write failed after this number of bytes.
-    Write { written: u64 },
+    Both(DirFault),
     /// Out of memory.
     Memory,
 }
 
-impl From<AllocError> for Fault {
-    ghost use Rattle.std.specs.Prelude.{◌≡◌};
-    ghost use Rattle.audit_commands.specs.declared.fault.Fault.TheVariants.{Memory};
+impl Fails for DirectoryFault {
+    ghost status = { directory_status };
 
-    ghost from_gives = { λ _ e. e ≡ Memory };
+    ghost printed = { directory_printed };
 
-    fn from(_: AllocError) -> Fault {
-        Fault::Memory
-    }
-}
-
-impl<T: Drop> From<AllocFailed<T>> for Fault {
-    ghost use Rattle.std.specs.Prelude.{◌≡◌};
-    ghost use Rattle.audit_commands.specs.declared.fault.Fault.TheVariants.{Memory};
-
-    ghost from_gives = { λ _ e. e ≡ Memory };
-
-    fn from(_: AllocFailed<T>) -> Fault {
-        Fault::Memory
-    }
-}
-
-impl Fault {
-    /// Returns the exit status: 1 if the policy is refused, has errors or has no such alias, 2 for
-    /// a bad sender, 3 if the users, the hosts or the requests are refused, 4 if reading, writing,
-    /// a thread or memory failed.
-    pub fn status(&self) -> u8
-        ensures { result ≡ status_of self.now }
-    {
+    fn status(&self) -> u8 {
         match self {
-            Fault::Refused(..) | Fault::Errors(_) | Fault::NoSuchAlias(_) => 1,
-            Fault::BadSender(_) => 2,
-            Fault::Users(fault) | Fault::Hosts(fault) => file_status(*fault),
-            Fault::Directory(DirFault::Memory) => 4,
-            Fault::Directory(_) => 3,
-            Fault::Audit(_, fault) => audit_status(fault),
-            Fault::CannotRead(_) | Fault::Write { .. } | Fault::Memory => 4,
+            DirectoryFault::Users(fault) | DirectoryFault::Hosts(fault) => file_status(*fault),
+            DirectoryFault::Both(DirFault::Memory) | DirectoryFault::Memory => 4,
+            DirectoryFault::Both(_) => 3,
+        }
+    }
+
+    fn printed(self, alloc: Global, program: &[u8]) -> Result<Vec<u8>, AllocError> {
+        match self {
+            DirectoryFault::Users(fault) => file_line(alloc, program, b"users: ", fault),
+            DirectoryFault::Hosts(fault) => file_line(alloc, program, b"hosts: ", fault),
+            DirectoryFault::Both(fault) => directory_line(alloc, program, &fault),
+            DirectoryFault::Memory => AllocError.printed(alloc, program),
+        }
+    }
+}
+
+/// The reason why the files of an audit are not opened.
+#[derive(Debug, Drop)]
+pub enum SourcesFault {
+    /// This word is not `NAME=PATH` with the name of a sender.
+    BadSender(Seq<u8>),
+    /// A file is not opened.
+    Unopened(OpenFault),
+}
+
+impl From<AllocError> for SourcesFault {
+    ghost use Rattle.std.specs.Prelude.{◌≡◌};
+    ghost use Rattle.run_base.specs.declared.fault.OpenFault.TheVariants.{Memory};
+    ghost use Rattle.audit_commands.specs.declared.fault.SourcesFault.TheVariants.{Unopened};
+
+    ghost from_gives = { λ _ e. e ≡ Unopened Memory };
+
+    fn from(_: AllocError) -> SourcesFault {
+        SourcesFault::Unopened(OpenFault::Memory)
+    }
+}
+
+impl<T: Drop> From<AllocFailed<T>> for SourcesFault {
+    ghost use Rattle.std.specs.Prelude.{◌≡◌};
+    ghost use Rattle.run_base.specs.declared.fault.OpenFault.TheVariants.{Memory};
+    ghost use Rattle.audit_commands.specs.declared.fault.SourcesFault.TheVariants.{Unopened};
+
+    ghost from_gives = { λ _ e. e ≡ Unopened Memory };
+
+    fn from(_: AllocFailed<T>) -> SourcesFault {
+        SourcesFault::Unopened(OpenFault::Memory)
+    }
+}
+
+impl Fails for SourcesFault {
+    ghost status = { sources_status };
+
+    ghost printed = { sources_printed };
+
+    fn status(&self) -> u8 {
+        match self {
+            SourcesFault::BadSender(_) => 2,
+            SourcesFault::Unopened(fault) => fault.status(),
+        }
+    }
+
+    fn printed(self, alloc: Global, program: &[u8]) -> Result<Vec<u8>, AllocError> {
+        match self {
+            SourcesFault::BadSender(word) => sender_line(alloc, program, word.as_slice()),
+            SourcesFault::Unopened(fault) => fault.printed(alloc, program),
+        }
+    }
+}
+
+/// The reason why an alias is not written out.
+#[derive(Debug, Drop)]
+pub enum ExpansionFault {
+    /// There is no policy, or it does not pass the check.
+    Policy(PolicyFault),
+    /// The policy has no alias of this name.
+    NoSuchAlias(Seq<u8>),
+    /// Out of memory.
+    Memory,
+}
+
+impl From<AllocError> for ExpansionFault {
+    ghost use Rattle.std.specs.Prelude.{◌≡◌};
+    ghost use Rattle.audit_commands.specs.declared.fault.ExpansionFault.TheVariants.{Memory};
+
+    ghost from_gives = { λ _ e. e ≡ Memory };
+
+    fn from(_: AllocError) -> ExpansionFault {
+        ExpansionFault::Memory
+    }
+}
+
+impl Fails for ExpansionFault {
+    ghost status = { expansion_status };
+
+    ghost printed = { expansion_printed };
+
+    fn status(&self) -> u8 {
+        match self {
+            ExpansionFault::Policy(fault) => fault.status(),
+            ExpansionFault::NoSuchAlias(_) => 1,
+            ExpansionFault::Memory => 4,
+        }
+    }
+
+    fn printed(self, alloc: Global, program: &[u8]) -> Result<Vec<u8>, AllocError> {
+        match self {
+            ExpansionFault::Policy(fault) => fault.printed(alloc, program),
+            ExpansionFault::NoSuchAlias(name) => alias_line(alloc, program, name.as_slice()),
+            ExpansionFault::Memory => AllocError.printed(alloc, program),
+        }
+    }
+}
+
+/// The reason why an audit has no report.
+#[derive(Debug, Drop)]
+pub enum ReportFault {
+    /// There is no policy, or it does not pass the check.
+    Policy(PolicyFault),
+    /// The users and the hosts are refused.
+    Directory(DirectoryFault),
+    /// The requests are refused, or a thread failed: the names of the sources, and the fault.
+    Audit(Vec<Seq<u8>>, AuditFault),
+    /// Out of memory.
+    Memory,
+}
+
+impl From<AllocError> for ReportFault {
+    ghost use Rattle.std.specs.Prelude.{◌≡◌};
+    ghost use Rattle.audit_commands.specs.declared.fault.ReportFault.TheVariants.{Memory};
+
+    ghost from_gives = { λ _ e. e ≡ Memory };
+
+    fn from(_: AllocError) -> ReportFault {
+        ReportFault::Memory
+    }
+}
+
+impl Fails for ReportFault {
+    ghost status = { report_status };
+
+    ghost printed = { report_printed };
+
+    fn status(&self) -> u8 {
+        match self {
+            ReportFault::Policy(fault) => fault.status(),
+            ReportFault::Directory(fault) => fault.status(),
+            ReportFault::Audit(_, fault) => audit_status(fault),
+            ReportFault::Memory => 4,
+        }
+    }
+
+    fn printed(self, alloc: Global, program: &[u8]) -> Result<Vec<u8>, AllocError> {
+        match self {
+            ReportFault::Policy(fault) => fault.printed(alloc, program),
+            ReportFault::Directory(fault) => fault.printed(alloc, program),
+            ReportFault::Audit(names, fault) => audit_line(alloc, program, &names, &fault),
+            ReportFault::Memory => AllocError.printed(alloc, program),
         }
     }
 }
@@ -100,4 +220,74 @@ fn audit_status(fault: &AuditFault) -> u8
         | AuditFault::Memory => 4,
         AuditFault::Collect(_) | AuditFault::TooManyParts => 3,
     }
+}
+
+// Returns the line of a word that names no sender.
+fn sender_line(alloc: Global, program: &[u8], word: &[u8]) -> Result<Vec<u8>, AllocError>
+    ensures { IfOk result (λ line. line.items
+        ≡ error_line program.now (codes "bad sender " ++ word.now)) }
+{
+    let mut line = begin_line(alloc, program)?;
+    push_both(&mut line, b"bad sender ", word)?;
+    push(&mut line, b"\n")?;
+    Ok(line)
+}
+
+// Returns the line of an alias that the policy does not have.
+fn alias_line(alloc: Global, program: &[u8], name: &[u8]) -> Result<Vec<u8>, AllocError>
+    ensures { IfOk result (λ line. line.items
+        ≡ error_line program.now (codes "no such alias " ++ name.now)) }
+{
+    let mut line = begin_line(alloc, program)?;
+    push_both(&mut line, b"no such alias ", name)?;
+    push(&mut line, b"\n")?;
+    Ok(line)
+}
+
+// Returns the line of `called` and the fault of a file.
+fn file_line(
+    alloc: Global,
+    program: &[u8],
+    called: &[u8],
+    fault: FileFault,
+) -> Result<Vec<u8>, AllocError>
+    ensures { IfOk result (λ line. line.items
+        ≡ error_line program.now (called.now ++ file_fault_text fault)) }
+{
+    let mut line = begin_line(alloc, program)?;
+    push(&mut line, called)?;
+    push_file_fault(&mut line, fault)?;
+    push(&mut line, b"\n")?;
+    Ok(line)
+}
+
+// Returns the line of users and hosts that form no directory.
+fn directory_line(
+    alloc: Global,
+    program: &[u8],
+    fault: &DirFault,
+) -> Result<Vec<u8>, AllocError>
+    ensures { IfOk result (λ line. line.items
+        ≡ error_line program.now (directory_fault_text fault.now)) }
+{
+    let mut line = begin_line(alloc, program)?;
+    push_directory_fault(&mut line, fault)?;
+    push(&mut line, b"\n")?;
+    Ok(line)
+}
+
+// Returns the line of an audit without a report, given the names of its sources.
+fn audit_line(
+    alloc: Global,
+    program: &[u8],
+    names: &[Seq<u8>],
+    fault: &AuditFault,
+) -> Result<Vec<u8>, AllocError>
+    ensures { IfOk result (λ line. line.items
+        ≡ error_line program.now (audit_fault_text names.now fault.now)) }
+{
+    let mut line = begin_line(alloc, program)?;
+    push_audit_fault(&mut line, names, fault)?;
+    push(&mut line, b"\n")?;
+    Ok(line)
 }

@@ -1,188 +1,16 @@
 //! The texts of faults, each written once.
 ghost use Rattle.std.specs.Prelude.{◌≡◌, ◌++◌, OnOk, codes, decimal, slice_index_or, []};
 ghost use Rattle.audit_run.specs.Roster.{roster};
-ghost use Rattle.audit_commands.specs.FaultTexts.{audit_fault_text, called_fault_text, cannot_read, collect_fault_text, directory_fault_text, expected_text as text_of_expected, file_fault_text, has_parts as two_have, lack_text, at_column, at_line, load_fault_text, named_sender, no_memory, parse_fault_text, part_text, refusal_text, request_text, roster_fault_text, row_text, sender_by_index, source_fault_text, text_fault_text, unsupported_text as text_of_unsupported, wanted_path as path_of_wanted};
+ghost use Rattle.run_base.specs.FaultTexts.{no_memory};
+ghost use Rattle.audit_commands.specs.FaultTexts.{audit_fault_text, collect_fault_text, directory_fault_text, file_fault_text, has_parts as two_have, lack_text, named_sender, part_text, refusal_text, request_text, roster_fault_text, row_text, sender_by_index, source_fault_text};
 
-use crate::lines::{push, push_both, push_number};
 use audit_collect::{CollectFault, Refused, RosterFault, Unfinished};
-use audit_files::{FileFault, push_path, push_place};
+use audit_files::FileFault;
 use audit_run::AuditFault;
+use run_base::{push, push_both, push_no_memory, push_number};
 use std::alloc::AllocError;
-use sudo_grammar::{Expected, ParseFault, Unsupported};
-use sudo_load::{LoadFault, Want};
 use sudo_match::DirFault;
-use sudo_text::{Place, Seq, TextFault};
-
-/// Appends the text of out of memory.
-pub(crate) fn push_no_memory(line: &mut Vec<u8>) -> Result<(), AllocError>
-    ensures { OnOk result (line.new.items ≡ line.old.items ++ no_memory) }
-{
-    push(line, b"out of memory")
-}
-
-/// Appends that a file or a folder cannot be read.
-pub(crate) fn push_cannot_read(line: &mut Vec<u8>, path: &[u8]) -> Result<(), AllocError>
-    ensures { OnOk result (line.new.items ≡ line.old.items ++ cannot_read path.now) }
-{
-    push_both(line, b"cannot read ", path)
-}
-
-// Returns the text of an expected form.
-fn expected_text(expected: Expected) -> &'static [u8]
-    ensures { result.now ≡ text_of_expected expected }
-{
-    match expected {
-        Expected::AliasName => b"alias name",
-        Expected::Equals => b"=",
-        Expected::Member => b"member",
-        Expected::Command => b"command",
-        Expected::RightParen => b")",
-        Expected::Parameter => b"parameter",
-        Expected::Value => b"value",
-        Expected::Path => b"path",
-        Expected::EndOfLine => b"end of line",
-    }
-}
-
-// Returns the text of an unsupported form.
-fn unsupported_text(what: Unsupported) -> &'static [u8]
-    ensures { result.now ≡ text_of_unsupported what }
-{
-    match what {
-        Unsupported::Netgroup => b"netgroup",
-        Unsupported::Digest => b"digest",
-        Unsupported::RegularExpression => b"regular expression",
-        Unsupported::NonUnixGroup => b"non-Unix group",
-        Unsupported::CommandOption => b"option",
-        Unsupported::List => b"list",
-        Unsupported::HostEscape => b"%h",
-    }
-}
-
-// Appends `PATH:LINE: ` and a fault.
-fn push_at_line(
-    line: &mut Vec<u8>,
-    files: &[Seq<u8>],
-    place: Place,
-    what: &[u8],
-) -> Result<(), AllocError>
-    ensures { OnOk result (line.new.items ≡ line.old.items ++ at_line files.now place what.now) }
-{
-    push_place(line, files, place)?;
-    push(line, b": ")?;
-    push(line, what)
-}
-
-// Appends `PATH:LINE:COLUMN: ` and a fault.
-fn push_at_column(
-    line: &mut Vec<u8>,
-    files: &[Seq<u8>],
-    place: Place,
-    col: u32,
-    what: &[u8],
-) -> Result<(), AllocError>
-    ensures { OnOk result (line.new.items ≡ line.old.items
-        ++ at_column files.now place col what.now) }
-{
-    push_place(line, files, place)?;
-    push(line, b":")?;
-    push_number(line, u64::from(col))?;
-    push(line, b": ")?;
-    push(line, what)
-}
-
-// Appends the fault of a text.
-fn push_text_fault(
-    line: &mut Vec<u8>,
-    files: &[Seq<u8>],
-    fault: &TextFault,
-) -> Result<(), AllocError>
-    ensures { OnOk result (line.new.items ≡ line.old.items ++ text_fault_text files.now fault.now) }
-{
-    match fault {
-        TextFault::BadQuote { place, col } => {
-            push_at_column(line, files, *place, *col, b"bad quote")
-        }
-        TextFault::BadHex { place, col } => {
-            push_at_column(line, files, *place, *col, b"bad hexadecimal")
-        }
-        TextFault::BadEscape { place, col } => {
-            push_at_column(line, files, *place, *col, b"bad escape")
-        }
-        TextFault::NotPrintable { place, col } => {
-            push_at_column(line, files, *place, *col, b"not printable")
-        }
-        TextFault::TooLong { file } => {
-            push_path(line, files, *file)?;
-            push(line, b": text too long")
-        }
-        TextFault::Memory => push_no_memory(line),
-    }
-}
-
-// Appends the fault of a policy file.
-fn push_parse_fault(
-    line: &mut Vec<u8>,
-    files: &[Seq<u8>],
-    fault: &ParseFault,
-) -> Result<(), AllocError>
-    ensures { OnOk result (line.new.items ≡ line.old.items
-        ++ parse_fault_text files.now fault.now) }
-{
-    match fault {
-        ParseFault::Syntax {
-            place,
-            col,
-            expected,
-        } => {
-            push_at_column(line, files, *place, *col, b"syntax error, expected ")?;
-            push(line, expected_text(*expected))
-        }
-        ParseFault::Unsupported { place, what } => {
-            push_at_line(line, files, *place, b"unsupported ")?;
-            push(line, unsupported_text(*what))
-        }
-        ParseFault::NotCommand { place, col } => {
-            push_at_column(line, files, *place, *col, b"not a command")
-        }
-        ParseFault::BadNumber { place, col } => {
-            push_at_column(line, files, *place, *col, b"bad number")
-        }
-        ParseFault::TooMany { place } => push_at_line(line, files, *place, b"too many aliases"),
-        ParseFault::Text(fault) => push_text_fault(line, files, fault),
-        ParseFault::Memory => push_no_memory(line),
-    }
-}
-
-// Returns the path of a needed file or folder.
-fn wanted_path(want: &Want) -> &[u8]
-    ensures { result.now ≡ path_of_wanted want.now }
-{
-    match want {
-        Want::File(path) | Want::Folder(path) => path.as_slice(),
-    }
-}
-
-/// Appends the fault of a policy.
-pub(crate) fn push_load_fault(
-    line: &mut Vec<u8>,
-    files: &[Seq<u8>],
-    fault: &LoadFault,
-) -> Result<(), AllocError>
-    ensures { OnOk result (line.new.items ≡ line.old.items ++ load_fault_text files.now fault.now) }
-{
-    match fault {
-        LoadFault::Parse(fault) => push_parse_fault(line, files, fault),
-        LoadFault::TooNested { place } => push_at_line(line, files, *place, b"includes too deep"),
-        LoadFault::TooMany { place } => push_at_line(line, files, *place, b"too many files"),
-        LoadFault::Missing { place, path } => {
-            push_at_line(line, files, *place, b"missing ")?;
-            push(line, path.as_slice())
-        }
-        LoadFault::Wanted(want) => push_cannot_read(line, wanted_path(want)),
-        LoadFault::Memory => push_no_memory(line),
-    }
-}
+use sudo_text::Seq;
 
 // Appends `row ROW: ` and a fault.
 fn push_row(line: &mut Vec<u8>, row: u32, what: &[u8]) -> Result<(), AllocError>
@@ -194,8 +22,8 @@ fn push_row(line: &mut Vec<u8>, row: u32, what: &[u8]) -> Result<(), AllocError>
     push(line, what)
 }
 
-// Appends the fault of a users file, a hosts file or a requests file.
-fn push_file_fault(line: &mut Vec<u8>, fault: FileFault) -> Result<(), AllocError>
+/// Appends the fault of a users file, a hosts file or a requests file.
+pub(crate) fn push_file_fault(line: &mut Vec<u8>, fault: FileFault) -> Result<(), AllocError>
     ensures { OnOk result (line.new.items ≡ line.old.items ++ file_fault_text fault) }
 {
     match fault {
@@ -207,21 +35,6 @@ fn push_file_fault(line: &mut Vec<u8>, fault: FileFault) -> Result<(), AllocErro
         FileFault::Read => push(line, b"read failed"),
         FileFault::Memory => push_no_memory(line),
     }
-}
-
-/// Appends `called` and the fault of a file, or only the text of out of memory.
-pub(crate) fn push_called_fault(
-    line: &mut Vec<u8>,
-    called: &[u8],
-    fault: FileFault,
-) -> Result<(), AllocError>
-    ensures { OnOk result (line.new.items ≡ line.old.items ++ called_fault_text called.now fault) }
-{
-    if fault == FileFault::Memory {
-        return push_no_memory(line);
-    }
-    push(line, called)?;
-    push_file_fault(line, fault)
 }
 
 // Appends a name between two texts.

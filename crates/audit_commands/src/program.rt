@@ -1,20 +1,62 @@
 //! The program: executes the command that its words ask for.
+ghost use Rattle.std.specs.Prelude.{◌≤◌};
 ghost use Rattle.audit_commands.specs.Words.{WorkersFit};
 
-use crate::check::check_keeping;
-use crate::ending::report_fault;
+use crate::audit::audit_into;
+use crate::check::check_run;
 use crate::expand::expand_run;
-use crate::fault::Fault;
-use crate::files::Disk;
+use crate::fault::PROGRAM;
 use crate::request::Asked;
-use crate::sources::run_audit;
+use crate::sources::{OpenedFiles, open_all};
 use crate::words::{asked, unread};
 use audit_files::Device;
 use clap::Error;
 use clap::error::ErrorKind;
+use run_base::{Disk, SystemOpener, report_fault};
+use std::alloc::AllocError;
+use std::env;
 use std::sync::Wait;
 use std::thread::Threads;
-use std::{env, mem};
+
+// Answers the requests of the files that the words `NAME=PATH` name, and returns the exit status.
+// `threads` is the runtime, if it can start threads.
+fn run_audit<T: Threads + Wait + Sync>(
+    rt: &HostRuntime,
+    threads: &T,
+    file: &str,
+    users: &str,
+    hosts: &str,
+    workers: u32,
+    words: &[&str],
+) -> u8
+    requires { (1 ≤ workers) × (workers ≤ 16) }
+{
+    let alloc = rt.alloc();
+    let mut out = Device::new(rt.stdout());
+    let mut err = Device::new(rt.stderr());
+    match open_all(alloc, &SystemOpener::new(rt), users, hosts, words) {
+        Ok(files) => {
+            let OpenedFiles {
+                mut users,
+                mut hosts,
+                sources,
+            } = files;
+            audit_into(
+                alloc,
+                threads,
+                file.as_bytes(),
+                &mut Disk::new(rt),
+                &mut users,
+                &mut hosts,
+                sources,
+                workers,
+                &mut out,
+                &mut err,
+            )
+        }
+        Err(fault) => report_fault(alloc, PROGRAM, fault, &mut err),
+    }
+}
 
 // Executes a command, and returns the exit status.
 fn run<T: Threads + Wait + Sync>(rt: &HostRuntime, threads: &T, asked: Asked<'_>) -> u8
@@ -26,12 +68,7 @@ fn run<T: Threads + Wait + Sync>(rt: &HostRuntime, threads: &T, asked: Asked<'_>
     let mut disk = Disk::new(rt);
     match asked {
         Asked::Check { file } => {
-            let mut policy = None;
-            let path = file.as_bytes();
-            let status = check_keeping(alloc, path, &mut disk, &mut policy, &mut out, &mut err);
-            // The process ends here, and with it all its memory: freeing a large policy item by item takes a tenth of the time.
-            mem::forget(policy);
-            status
+            check_run(alloc, file.as_bytes(), &mut disk, &mut out, &mut err)
         }
         Asked::Expand { file, kind, name } => expand_run(
             alloc,
@@ -57,7 +94,7 @@ fn run<T: Threads + Wait + Sync>(rt: &HostRuntime, threads: &T, asked: Asked<'_>
 fn refuse(rt: &HostRuntime, error: &Error) -> u8 {
     if error.kind() == ErrorKind::OutOfMemory {
         let mut err = Device::new(rt.stderr());
-        return report_fault(rt.alloc(), &Fault::Memory, &mut err);
+        return report_fault(rt.alloc(), PROGRAM, AllocError, &mut err);
     }
     let printed = error.print(rt);
     if error.use_stderr() {

@@ -1,24 +1,18 @@
 //! Opens the files of an audit.
-ghost use Rattle.std.specs.Prelude.{◌≡◌, ◌≤◌, ℕ, List, IfErr, IfOk, map};
-ghost use Rattle.audit_commands.specs.Opening.{AreNotSenders, AreOpened, AreSenders, AreSources, HaveNoReaders, HasNoReader, IsNotOpened, Pair};
+ghost use Rattle.std.specs.Prelude.{◌≡◌, ℕ, List, IfErr, IfOk, map};
+ghost use Rattle.run_base.specs.Opening.{HasNoReader};
+ghost use Rattle.audit_commands.specs.Opening.{AreNotSenders, AreOpened, AreSenders, AreSources, HaveNoReaders, IsNotOpened, Pair};
 
-use crate::audit::{Kept, Work, audit_keeping};
-use crate::ending::report_fault;
-use crate::fault::Fault;
-use crate::files::Disk;
-use crate::opening::{Opener, SystemOpener};
+use crate::fault::SourcesFault;
 use crate::sender::sender_of;
-use audit_files::Device;
 use audit_run::Source;
+use run_base::{OpenFault, Opener, open};
 use std::alloc::Global;
-use std::mem;
-use std::sync::Wait;
-use std::thread::Threads;
 use sudo_text::Seq;
 
 // Returns the senders and the paths of the words `NAME=PATH`. Returns `BadSender` with the first
 // word that is not of this form.
-fn senders_of<'a>(alloc: Global, words: &[&'a str]) -> Result<Vec<(&'a str, &'a str)>, Fault>
+fn senders_of<'a>(alloc: Global, words: &[&'a str]) -> Result<Vec<(&'a str, &'a str)>, SourcesFault>
     ensures senders { let words = map (λ w. w.now) words.now in
         IfOk result (λ pairs. AreSenders words (map (λ p. (p.0.now, p.1.now)) pairs.items)) }
     ensures fault { IfErr result (AreNotSenders (map (λ w. w.now) words.now)) }
@@ -27,21 +21,10 @@ fn senders_of<'a>(alloc: Global, words: &[&'a str]) -> Result<Vec<(&'a str, &'a 
     for word in words {
         match sender_of(word) {
             Some(sender) => senders.push(sender)?,
-            None => return Err(Fault::BadSender(Seq::from_slice(alloc, word.as_bytes())?)),
+            None => return Err(SourcesFault::BadSender(Seq::from_slice(alloc, word.as_bytes())?)),
         }
     }
     Ok(senders)
-}
-
-// Opens a file. Returns `CannotRead` with its path if that fails.
-fn open<R, O: Opener<R>>(alloc: Global, opener: &O, path: &str) -> Result<R, Fault>
-    ensures opened { IfOk result (O.opens opener.now path.now) }
-    ensures fault { IfErr result (HasNoReader (O.closed opener.now) path.now) }
-{
-    match opener.open(path) {
-        Some(reader) => Ok(reader),
-        None => Err(Fault::CannotRead(Seq::from_slice(alloc, path.as_bytes())?)),
-    }
 }
 
 // Opens the requests file of a sender.
@@ -50,13 +33,13 @@ fn open_source<R, O: Opener<R>>(
     opener: &O,
     name: &str,
     path: &str,
-) -> Result<Source<R>, Fault>
+) -> Result<Source<R>, OpenFault>
     ensures opened { IfOk result (λ s. (s.name ≡ name.now) × O.opens opener.now path.now s.reader) }
     ensures fault { IfErr result (HasNoReader (O.closed opener.now) path.now) }
 {
     let name = match Seq::from_slice(alloc, name.as_bytes()) {
         Ok(name) => name,
-        Err(_) => return Err(Fault::Memory),
+        Err(_) => return Err(OpenFault::Memory),
     };
     match open(alloc, opener, path) {
         Ok(reader) => Ok(Source { name, reader }),
@@ -69,7 +52,7 @@ fn open_sources<R: Drop, O: Opener<R>>(
     alloc: Global,
     opener: &O,
     senders: &[(&str, &str)],
-) -> Result<Vec<Source<R>>, Fault>
+) -> Result<Vec<Source<R>>, OpenFault>
     ensures opened { let pairs = map (λ p. (p.0.now, p.1.now)) senders.now in
         IfOk result (λ s. AreOpened (O.opens opener.now) pairs s.items) }
     ensures fault { let pairs : List Pair = map (λ p. (p.0.now, p.1.now)) senders.now in
@@ -96,15 +79,15 @@ pub struct OpenedFiles<R> {
 
 /// Opens the files: users, hosts, and the requests in the order of their words.
 ///
-/// Returns `BadSender` with the first bad word, before any file is opened; `CannotRead` with the path of
-/// the first file, in that order, that cannot be opened; `Memory` if allocation failed.
+/// Returns `BadSender` with the first bad word, before any file is opened; `Unopened` with the path of the first file, in
+/// that order, that cannot be opened, or with `Memory` if allocation failed.
 pub fn open_all<R: Drop, O: Opener<R>>(
     alloc: Global,
     opener: &O,
     users: &str,
     hosts: &str,
     words: &[&str],
-) -> Result<OpenedFiles<R>, Fault>
+) -> Result<OpenedFiles<R>, SourcesFault>
     ensures users { IfOk result (λ files. O.opens opener.now users.now files.users) }
     ensures hosts { IfOk result (λ files. O.opens opener.now hosts.now files.hosts) }
     ensures sources { let words = map (λ w. w.now) words.now in
@@ -116,11 +99,11 @@ pub fn open_all<R: Drop, O: Opener<R>>(
     let senders = senders_of(alloc, words)?;
     let users = match open(alloc, opener, users) {
         Ok(users) => users,
-        Err(fault) => return Err(fault),
+        Err(fault) => return Err(SourcesFault::Unopened(fault)),
     };
     let hosts = match open(alloc, opener, hosts) {
         Ok(hosts) => hosts,
-        Err(fault) => return Err(fault),
+        Err(fault) => return Err(SourcesFault::Unopened(fault)),
     };
     match open_sources(alloc, opener, &senders) {
         Ok(sources) => Ok(OpenedFiles {
@@ -128,50 +111,6 @@ pub fn open_all<R: Drop, O: Opener<R>>(
             hosts,
             sources,
         }),
-        Err(fault) => Err(fault),
-    }
-}
-
-/// Answers the requests of the files that the words `NAME=PATH` name, and returns the exit status.
-/// `threads` is the runtime, if it can start threads.
-pub(crate) fn run_audit<T: Threads + Wait + Sync>(
-    rt: &HostRuntime,
-    threads: &T,
-    file: &str,
-    users: &str,
-    hosts: &str,
-    workers: u32,
-    words: &[&str],
-) -> u8
-    requires { (1 ≤ workers) × (workers ≤ 16) }
-{
-    let alloc = rt.alloc();
-    let mut out = Device::new(rt.stdout());
-    let mut err = Device::new(rt.stderr());
-    match open_all(alloc, &SystemOpener::new(rt), users, hosts, words) {
-        Ok(files) => {
-            let OpenedFiles {
-                mut users,
-                mut hosts,
-                sources,
-            } = files;
-            let mut kept = Kept::new();
-            let status = audit_keeping(
-                alloc,
-                threads,
-                file.as_bytes(),
-                &mut Disk::new(rt),
-                &mut users,
-                &mut hosts,
-                Work { sources, workers },
-                &mut kept,
-                &mut out,
-                &mut err,
-            );
-            // The process ends here, and with it all its memory: texts of many requests are not freed one by one.
-            mem::forget(kept);
-            status
-        }
-        Err(fault) => report_fault(alloc, &fault, &mut err),
+        Err(fault) => Err(SourcesFault::Unopened(fault)),
     }
 }

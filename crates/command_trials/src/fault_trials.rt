@@ -4,8 +4,9 @@ use crate::runs::{
     FILES, HOSTS, Item, REQUESTS, Readers, Shelf, USERS, audit_shown, check_shown, shown,
     wrong_runs,
 };
-use audit_commands::{Files, FilesFault, expand_run};
+use audit_commands::expand_run;
 use audit_files::{ReadFault, Script, read_whole};
+use run_base::{Files, FilesFault};
 use std::alloc::{AllocError, Global};
 use std::sync::Wait;
 use std::test::Fail;

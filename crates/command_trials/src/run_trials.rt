@@ -1,9 +1,10 @@
 //! Runs in which what cannot be read is not reached, and files that are told beforehand.
 
 use crate::runs::{Item, Shelf};
-use audit_commands::{Files, FilesFault, check_run, unread};
+use audit_commands::{check_run, unread};
 use audit_files::Script;
 use clap::error::ErrorKind;
+use run_base::{Files, FilesFault};
 use std::alloc::{AllocError, Global};
 use std::io::ErrorKind as ReadKind;
 use std::test::Fail;

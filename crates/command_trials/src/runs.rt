@@ -4,9 +4,10 @@
 //! Each line of a table of runs has a word, the first and the last number of the runs, ` =>`, and
 //! the text that each of them shows.
 
-use audit_commands::{Files, FilesFault, audit_into, check_run};
+use audit_commands::{audit_into, check_run};
 use audit_files::Script;
 use audit_run::Source;
+use run_base::{Files, FilesFault};
 use std::alloc::{AllocError, Global};
 use std::sync::Wait;
 use std::test::Fail;

@@ -1,6 +1,7 @@
-use Rattle.std.proofs.Common.{map}
+use Rattle.std.proofs.Common.{◌≡◌, map, rules}
+use Rattle.audit_commands.specs.declared.fault.DirectoryFault.TheVariants as directories
 use Rattle.audit_commands.specs.Auditing.{Given, given_by}
-use Rattle.audit_commands.proofs.AuditSteps.{no_directory, reported_of, unreported_of}
+use Rattle.audit_commands.proofs.AuditSteps.{reported_of, unreported_of}
 use Rattle.audit_commands.proofs.audit.audited.Goals as goal
 
 pub returns-in-Ok-clause-report : goal.returns-in-Ok-clause-report
@@ -15,8 +16,7 @@ returns-in-Ok-clause-fault g c = λ held path is.
     (map (λ s. s.name) c.args.work.sources.items) (map (λ s. g.R.Feed.ahead s.reader) c.args.work.sources.items) c.args.work.workers in
     unreported_of given c.args.policy.now c.in-Ok.directory c.report_under.result is c.in-Ok.ensures.directory c.report_under.ensures.fault
 
-pub returns-in-Err-clause-fault : goal.returns-in-Err-clause-fault
-returns-in-Err-clause-fault g c = λ held path is.
-    let given : Given = given_by held path (g.U.Feed.ahead c.args.users.now) (g.H.Feed.ahead c.args.hosts.now)
-    (map (λ s. s.name) c.args.work.sources.items) (map (λ s. g.R.Feed.ahead s.reader) c.args.work.sources.items) c.args.work.workers in
-    no_directory given c.args.policy.now c.in-Err.fault is c.in-Err.ensures.fault
+pub returns : goal.returns
+returns g c =
+    let other : c.in-Err.fault ≡ directories.Memory → ⊥ = search rules in
+    record { report = λ held path is. tt; fault = λ held path is. (other, (c.args.policy.now, is), c.in-Err.ensures.fault) }

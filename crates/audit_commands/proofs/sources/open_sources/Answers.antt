@@ -1,7 +1,7 @@
-use Rattle.std.proofs.Common.{◌≡◌, ◌+◌, ◌<◌, ℕ, List, [], ◌∷◌, ◌++◌, length, get_or, take, map, sym, arith, subst, inl, inr, Bor}
+use Rattle.std.proofs.Common.{◌≡◌, ◌+◌, ◌<◌, ℕ, List, [], ◌∷◌, ◌++◌, length, get_or, take, map, sym, arith, subst, Bor}
 use Rattle.std.proofs.lemmas.List.{get_or-map}
 use Rattle.audit_commands.specs.Opening.{AreOpened, Pair}
-use Rattle.audit_commands.proofs.Openings.{first_closed, opened_more}
+use Rattle.audit_commands.proofs.Openings.{no_source, opened_more}
 use Rattle.audit_commands.proofs.sources.open_sources.Goals as goal
 use Rattle.sudo_match.proofs.CharsLemmas.{length-map}
 
@@ -34,7 +34,4 @@ returns-in-Err-clause-fault g c =
     let inside : at < length c.args.senders.now = c.loop-name-test.true in
     let within : at < length pairs = omega (arith, long, inside) in
     let is : get_or pairs at pair ≡ pair = get_or-map cut c.args.senders.now at (none, none) pair inside in
-    elim c.in-Err.ensures.fault [
-      | inl memory ↦ inl memory
-      | inr closed ↦ inr (pair.1, closed.0, first_closed (g.O.Opener.opens c.args.opener.now) (g.O.Opener.closed c.args.opener.now) pairs c.loop-name.sources.items at pair c.loop-name.invariant within is closed.1)
-    ]
+    no_source (g.O.Opener.opens c.args.opener.now) (g.O.Opener.closed c.args.opener.now) pairs c.loop-name.sources.items at pair c.in-Err.fault c.loop-name.invariant within is c.in-Err.ensures.fault

@@ -1,8 +1,7 @@
-use Rattle.std.proofs.Common.{◌≡◌, ◌+◌, ◌<◌, ℕ, List, [], ◌∷◌, ◌++◌, length, get_or, take, map, refl, sym, ap, ◌∙◌, Some, arith, subst, inr, Bor}
+use Rattle.std.proofs.Common.{◌≡◌, ◌+◌, ◌<◌, ℕ, List, [], ◌∷◌, ◌++◌, length, get_or, take, map, sym, ◌∙◌, arith, subst, Bor}
 use Rattle.std.proofs.Math.ListN.{get_or-map}
 use Rattle.std.proofs.lemmas.List.{map_push}
-use Rattle.std.proofs.lemmas.Option.{slice_get-get_or}
-use Rattle.audit_commands.specs.Opening.{AreSenders, IsFirstBad, Pair, word_of}
+use Rattle.audit_commands.specs.Opening.{AreSenders, Pair, word_of}
 use Rattle.audit_commands.proofs.Openings.{senders_more}
 use Rattle.audit_commands.proofs.sources.senders_of.Goals as goal
 use Rattle.sudo_match.proofs.CharsLemmas.{length-map}
@@ -22,25 +21,3 @@ loop-word-preserved c =
     senders_more words (map cut c.loop-word.senders.items) at pair c.loop-word.invariant within is c.in-Some.ensures.name in
     subst (λ l. AreSenders (take (at + 1) words) (map cut l)) (sym c.in_ok-push-in-Some.ensures.items)
     (subst (AreSenders (take (at + 1) words)) (sym (map_push cut c.loop-word.senders.items c.in-Some.sender)) more)
-
-pub returns-in-None-clause-fault : goal.returns-in-None-clause-fault
-returns-in-None-clause-fault c =
-    let at : ℕ = c.loop-word.word-index in
-    let text : Bor (List ℕ) → List ℕ = λ w. w.now in
-    let cut : Bor (List ℕ) × Bor (List ℕ) → Pair = λ p. (p.0.now, p.1.now) in
-    let words : List (List ℕ) = map text c.args.words.now in
-    let none : Bor (List ℕ) = record { ref_ptr = (0, 0); now = [] } in
-    let word : List ℕ = c.in_ok-from_slice-in-None.field-0 in
-    let here : List ℕ = text (get_or c.args.words.now at none) in
-    let long = length-map text c.args.words.now in
-    let within : at < length words = omega (arith, long, c.loop-word-test.true) in
-    let same : word ≡ here = c.in_ok-from_slice-in-None.ensures ∙ c.as_bytes.ensures.value in
-    let read : get_or words at [] ≡ word = get_or-map text c.args.words.now at none ∙ sym same in
-    let bad : IsFirstBad words word = record {
-      at = at;
-      pairs = map cut c.loop-word.senders.items;
-      earlier = c.loop-word.invariant;
-      there = slice_get-get_or words at [] within ∙ ap Some read;
-      bad = λ pair e named. c.in-None.ensures.none pair.0 pair.1 (sym same ∙ e) named;
-    } in
-    inr (word, refl, bad)

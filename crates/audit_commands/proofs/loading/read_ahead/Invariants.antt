@@ -1,9 +1,0 @@
-use Rattle.std.proofs.Common.{◌≡◌}
-use Rattle.audit_commands.specs.Holding.{AreHeld}
-use Rattle.audit_commands.proofs.loading.read_ahead.Given as goal
-
-abbrev pub invariant-loop-turn : goal.invariant-loop-turn
-invariant-loop-turn g l = record {
-  held : AreHeld (g.F.Files.held l.files) l.supplies.items;
-  same : g.F.Files.held l.files ≡ g.F.Files.held l.fn.files;
-}

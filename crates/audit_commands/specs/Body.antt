@@ -1,2 +1,0 @@
--- Definitions that only the proofs of bodies use: no contract of a public function cites them.
-pub mod Ended

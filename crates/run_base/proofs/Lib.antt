@@ -1,0 +1,3 @@
+pub mod HeldSupplies
+pub mod EndingLemmas
+pub mod Steps

@@ -1,0 +1,106 @@
+-- The policy of a run.
+use Rattle.std.specs.Prelude.{◌≡◌, ◌⊎◌, ⊤, ℕ, List, Option, None, Some, Ok, Err, true}
+use Rattle.sudo_grammar.specs.declared.policy.Policy.{Policy}
+use Rattle.sudo_load.specs.declared.fault.LoadFault.{LoadFault}
+use Rattle.sudo_load.specs.declared.fault.LoadFault.TheVariants as load_faults
+use Rattle.sudo_load.specs.declared.fault.Want.{Want}
+use Rattle.sudo_load.specs.declared.fault.Want.TheVariants as wants
+use Rattle.sudo_load.specs.declared.supply.Supply.{Supply}
+use Rattle.sudo_load.specs.Load.{IsLoad}
+use Rattle.sudo_policy.specs.Checking.{FailsCheck, Passes}
+use Rattle.sudo_policy.specs.declared.finding.Finding.{Finding}
+use Rattle.run_base.specs.FindingLines.{finding_lines}
+use Rattle.run_base.specs.Holding.{AreHeld, HoldsFile, Holdings, IsUnreadable}
+use Rattle.run_base.specs.declared.fault.PolicyFault.{PolicyFault}
+use Rattle.run_base.specs.declared.fault.PolicyFault.TheVariants as faults
+
+-- the policy is that to which this text of the main file, and these texts and names of what is included, unfold; they are
+-- those of the files that exist, if these are specified
+abbrev pub IsLoadedFrom : Option Holdings → List ℕ → List ℕ → List Supply → Policy → Type 0
+IsLoadedFrom held path text handed policy = HoldsFile held path (Some text) × AreHeld held handed × IsLoad path text handed (Ok policy)
+
+-- the policy is that to which some text of the main file, and some texts and names of what is included, unfold
+abbrev pub IsLoaded : Option Holdings → List ℕ → Policy → Type 0
+IsLoaded held path policy = (text : List ℕ) × (handed : List Supply) × IsLoadedFrom held path text handed policy
+
+-- the content of the files is refused: no further file is needed, and allocation did not fail
+abbrev pub IsOfContent : LoadFault → Type 0
+IsOfContent (load_faults.Parse fault) = ⊤
+IsOfContent (load_faults.TooNested place) = ⊤
+IsOfContent (load_faults.TooMany place) = ⊤
+IsOfContent (load_faults.Missing place path) = ⊤
+IsOfContent (load_faults.Wanted want) = ⊥
+IsOfContent load_faults.Memory = ⊥
+
+-- the text of the main file, and what was handed in of the files that exist, end in this fault;
+-- `read` are the paths of the files that were read until then
+abbrev pub EndsIn : Option Holdings → List ℕ → List (List ℕ) → LoadFault → Type 0
+EndsIn held path read fault =
+    (text : List ℕ) × (handed : List Supply) × HoldsFile held path (Some text) × AreHeld held handed × IsLoad path text handed (Err (read, fault))
+
+-- the files unfold to no policy, for this reason, which is their content
+abbrev pub IsUnloaded : Option Holdings → List ℕ → List (List ℕ) → LoadFault → Type 0
+IsUnloaded held path read fault = IsOfContent fault × EndsIn held path read fault
+
+-- the path of a file or a folder that is needed
+abbrev pub path_of : Want → List ℕ
+path_of (wants.File path) = path
+path_of (wants.Folder path) = path
+
+-- the path is needed after what was handed in, and reading fails there
+abbrev pub IsUnreadWant : Option Holdings → List ℕ → List ℕ → Type 0
+IsUnreadWant held path unread =
+    (want : Want) × (unread ≡ path_of want) × IsUnreadable held unread × ((read : List (List ℕ)) × EndsIn held path read (load_faults.Wanted want))
+
+-- the main file does not exist, or reading it fails
+abbrev pub IsUnreadMain : Option Holdings → List ℕ → List ℕ → Type 0
+IsUnreadMain held path unread = (unread ≡ path) × (IsUnreadable held path ⊎ HoldsFile held path None)
+
+-- the path cannot be read: it is that of the main file, or it is needed after what was read
+abbrev pub IsUnreadPath : Option Holdings → List ℕ → List ℕ → Type 0
+IsUnreadPath held path unread = IsUnreadMain held path unread ⊎ IsUnreadWant held path unread
+
+-- why there is no policy: a path cannot be read, memory failed, or the content of the files is
+-- refused
+abbrev pub IsNoPolicy : Option Holdings → List ℕ → PolicyFault → Type 0
+IsNoPolicy held path (faults.Refused files fault) = IsUnloaded held path files fault
+IsNoPolicy held path (faults.CannotRead unread) = IsUnreadPath held path unread
+IsNoPolicy held path faults.Memory = ⊤
+IsNoPolicy held path (faults.Errors lines) = ⊥
+
+-- the policy is that to which the file at a path unfolds, and it passes the check
+pub record IsChecked (held : Option Holdings) (path : List ℕ) (policy : Policy) : Type 0 where
+  pub loaded : IsLoaded held path policy
+  pub passes : Passes policy
+
+-- the policy at a path, with all that it includes, has no error
+abbrev pub PassesCheck : Option Holdings → List ℕ → Type 0
+PassesCheck held path = (policy : Policy) × IsChecked held path policy
+
+-- these are the lines of the errors that the check finds in a policy, of at least one error
+abbrev pub AreErrorsOf : Policy → List ℕ → Type 0
+AreErrorsOf policy lines = (found : List Finding) × FailsCheck policy found × (lines ≡ finding_lines policy.files true found)
+
+-- these are the lines of the errors of the policy that the file at a path unfolds to
+abbrev pub AreErrors : Option Holdings → List ℕ → List ℕ → Type 0
+AreErrors held path lines = (policy : Policy) × IsLoaded held path policy × AreErrorsOf policy lines
+
+-- why no policy passes the check: there is no policy, or it has errors
+abbrev pub IsNotChecked : Option Holdings → List ℕ → PolicyFault → Type 0
+IsNotChecked held path (faults.Refused files fault) = IsNoPolicy held path (faults.Refused files fault)
+IsNotChecked held path (faults.CannotRead unread) = IsNoPolicy held path (faults.CannotRead unread)
+IsNotChecked held path faults.Memory = ⊤
+IsNotChecked held path (faults.Errors lines) = AreErrors held path lines.items
+
+-- why a loaded policy does not pass the check; only the proofs of bodies use this definition
+abbrev pub IsNotCheckedOf : Policy → PolicyFault → Type 0
+IsNotCheckedOf policy (faults.Errors lines) = AreErrorsOf policy lines.items
+IsNotCheckedOf policy faults.Memory = ⊤
+IsNotCheckedOf policy (faults.Refused files fault) = ⊥
+IsNotCheckedOf policy (faults.CannotRead unread) = ⊥
+
+-- why what is needed is not handed in: memory failed, or reading it fails; only the proofs of bodies
+-- use this definition
+abbrev pub IsNotHanded : Option Holdings → Want → PolicyFault → Type 0
+IsNotHanded held want fault =
+    (fault ≡ faults.Memory) ⊎ ((fault ≡ faults.CannotRead (path_of want)) × IsUnreadable held (path_of want))

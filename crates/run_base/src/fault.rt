@@ -1,0 +1,145 @@
+//! Faults of the first stages of a run: a file is opened, a policy is loaded.
+ghost use Rattle.std.specs.Prelude.{◌≡◌, IfOk};
+ghost use Rattle.run_base.specs.FaultLines.{error_line, open_printed, policy_printed};
+ghost use Rattle.run_base.specs.FaultTexts.{cannot_read, load_fault_text};
+ghost use Rattle.run_base.specs.Faults.{open_status, policy_status};
+
+use crate::fails::Fails;
+use crate::fault_text::{push_cannot_read, push_load_fault};
+use crate::lines::{begin_line, push};
+use std::alloc::{AllocError, AllocFailed, Global};
+use sudo_load::LoadFault;
+use sudo_text::Seq;
+
+/// The reason why a policy is not loaded, or does not pass the check.
+#[derive(Debug, Drop)]
+pub enum PolicyFault {
+    /// The file or the folder at this path cannot be read.
+    CannotRead(Seq<u8>),
+    /// The files are not a policy: the paths of those that were read, and the fault.
+    Refused(Seq<Seq<u8>>, LoadFault),
+    /// The check finds errors in the policy: their lines.
+    Errors(Vec<u8>),
+    /// Out of memory.
+    Memory,
+}
+
+impl From<AllocError> for PolicyFault {
+    ghost use Rattle.std.specs.Prelude.{◌≡◌};
+    ghost use Rattle.run_base.specs.declared.fault.PolicyFault.TheVariants.{Memory};
+
+    ghost from_gives = { λ _ e. e ≡ Memory };
+
+    fn from(_: AllocError) -> PolicyFault {
+        PolicyFault::Memory
+    }
+}
+
+impl<T: Drop> From<AllocFailed<T>> for PolicyFault {
+    ghost use Rattle.std.specs.Prelude.{◌≡◌};
+    ghost use Rattle.run_base.specs.declared.fault.PolicyFault.TheVariants.{Memory};
+
+    ghost from_gives = { λ _ e. e ≡ Memory };
+
+    fn from(_: AllocFailed<T>) -> PolicyFault {
+        PolicyFault::Memory
+    }
+}
+
+impl Fails for PolicyFault {
+    ghost status = { policy_status };
+
+    ghost printed = { policy_printed };
+
+    fn status(&self) -> u8 {
+        match self {
+            PolicyFault::Refused(..) | PolicyFault::Errors(_) => 1,
+            PolicyFault::CannotRead(_) | PolicyFault::Memory => 4,
+        }
+    }
+
+    fn printed(self, alloc: Global, program: &[u8]) -> Result<Vec<u8>, AllocError> {
+        match self {
+            PolicyFault::CannotRead(path) => unread_line(alloc, program, path.as_slice()),
+            PolicyFault::Refused(read, fault) => {
+                refused_line(alloc, program, read.as_slice(), &fault)
+            }
+            PolicyFault::Errors(lines) => Ok(lines),
+            PolicyFault::Memory => AllocError.printed(alloc, program),
+        }
+    }
+}
+
+/// The reason why a file is not opened.
+#[derive(Debug, Drop)]
+pub enum OpenFault {
+    /// The file at this path cannot be opened.
+    CannotRead(Seq<u8>),
+    /// Out of memory.
+    Memory,
+}
+
+impl From<AllocError> for OpenFault {
+    ghost use Rattle.std.specs.Prelude.{◌≡◌};
+    ghost use Rattle.run_base.specs.declared.fault.OpenFault.TheVariants.{Memory};
+
+    ghost from_gives = { λ _ e. e ≡ Memory };
+
+    fn from(_: AllocError) -> OpenFault {
+        OpenFault::Memory
+    }
+}
+
+impl<T: Drop> From<AllocFailed<T>> for OpenFault {
+    ghost use Rattle.std.specs.Prelude.{◌≡◌};
+    ghost use Rattle.run_base.specs.declared.fault.OpenFault.TheVariants.{Memory};
+
+    ghost from_gives = { λ _ e. e ≡ Memory };
+
+    fn from(_: AllocFailed<T>) -> OpenFault {
+        OpenFault::Memory
+    }
+}
+
+impl Fails for OpenFault {
+    ghost status = { open_status };
+
+    ghost printed = { open_printed };
+
+    fn status(&self) -> u8 {
+        4
+    }
+
+    fn printed(self, alloc: Global, program: &[u8]) -> Result<Vec<u8>, AllocError> {
+        match self {
+            OpenFault::CannotRead(path) => unread_line(alloc, program, path.as_slice()),
+            OpenFault::Memory => AllocError.printed(alloc, program),
+        }
+    }
+}
+
+// Returns the line of a path that cannot be read.
+fn unread_line(alloc: Global, program: &[u8], path: &[u8]) -> Result<Vec<u8>, AllocError>
+    ensures { IfOk result (λ line. line.items ≡ error_line program.now (cannot_read path.now)) }
+{
+    let mut line = begin_line(alloc, program)?;
+    push_cannot_read(&mut line, path)?;
+    push(&mut line, b"\n")?;
+    Ok(line)
+}
+
+// Returns the line of files that are not a policy, given the paths of those that were read.
+fn refused_line(
+    alloc: Global,
+    program: &[u8],
+    read: &[Seq<u8>],
+    fault: &LoadFault,
+) -> Result<Vec<u8>, AllocError>
+    ensures { IfOk result (λ line. line.items
+        ≡ error_line program.now (load_fault_text read.now fault.now)) }
+{
+    let mut line = begin_line(alloc, program)?;
+    push_load_fault(&mut line, read, fault)?;
+    push(&mut line, b"\n")?;
+    Ok(line)
+}

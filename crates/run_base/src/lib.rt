@@ -1,0 +1,24 @@
+//! What the programs over a policy share: its files and their loading, the opening of further files, lines, faults and
+//! their texts, and the end of a run.
+#![tactic(auto)]
+
+mod ending;
+mod fails;
+mod failures;
+mod fault;
+mod fault_text;
+mod files;
+mod lines;
+mod loading;
+mod opening;
+mod run_output;
+
+pub use ending::{end_run, report_fault};
+pub use fails::Fails;
+pub use fault::{OpenFault, PolicyFault};
+pub use fault_text::push_no_memory;
+pub use files::{Disk, Files, FilesFault};
+pub use lines::{begin_line, finding_lines, push, push_both, push_number};
+pub use loading::{Loaded, checked_policy, load_files, load_policy};
+pub use opening::{Opener, SystemOpener, open};
+pub use run_output::RunOutput;

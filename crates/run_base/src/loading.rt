@@ -1,0 +1,289 @@
+//! Reads a policy from its files.
+ghost use Rattle.std.specs.Prelude.{◌≡◌, ◌⊎◌, Some, IfErr, IfOk, OnOk};
+ghost use Rattle.sudo_policy.specs.Checking.{Passes};
+ghost use Rattle.run_base.specs.Holding.{AreHeld, HoldsFile, IsHeld, IsUnreadable};
+ghost use Rattle.run_base.specs.Loading.{IsChecked, IsLoaded, IsLoadedFrom, IsNoPolicy, IsNotChecked, IsNotCheckedOf, IsNotHanded, path_of};
+
+use crate::fault::PolicyFault;
+use crate::files::{Files, FilesFault};
+use crate::lines::finding_lines;
+use std::alloc::{AllocError, Global};
+use sudo_grammar::Policy;
+use sudo_load::{LoadFault, Supply, Want, folder_files, included, load};
+use sudo_policy::{CheckFault, Checked, check};
+use sudo_text::Seq;
+
+// Upper bound on the number of reads.
+const MOST_CALLS: usize = 2048;
+
+// Returns the fault of a main file that cannot be read.
+fn unread_main(alloc: Global, path: &[u8]) -> PolicyFault
+    ensures { (result ≡ PolicyFault.Memory) ⊎ (result ≡ PolicyFault.CannotRead path.now) }
+{
+    match Seq::from_slice(alloc, path) {
+        Ok(path) => PolicyFault::CannotRead(path),
+        Err(_) => PolicyFault::Memory,
+    }
+}
+
+// Returns the text of the main file, which must exist.
+fn main_text<F: Files>(alloc: Global, files: &mut F, path: &[u8]) -> Result<Seq<u8>, PolicyFault>
+    ensures held { IfOk result (λ text. HoldsFile (F.held files.old) path.now (Some text)) }
+    ensures same { F.held files.new ≡ F.held files.old }
+    ensures fault { IfErr result (IsNoPolicy (F.held files.old) path.now) }
+{
+    match files.main_file(alloc, path) {
+        Ok(Some(text)) => Ok(text),
+        Ok(None) | Err(FilesFault::Failed) => Err(unread_main(alloc, path)),
+        Err(FilesFault::Memory) => Err(PolicyFault::Memory),
+    }
+}
+
+// Reads a needed file or folder. Returns its path and the fault if that fails.
+fn fetch<F: Files>(
+    alloc: Global,
+    files: &mut F,
+    want: Want,
+) -> Result<Supply, (Seq<u8>, FilesFault)>
+    ensures held { IfOk result (IsHeld (F.held files.old)) }
+    ensures same { F.held files.new ≡ F.held files.old }
+    ensures failed { IfErr result (λ e. e.1 ≡ FilesFault.Failed
+        → IsUnreadable (F.held files.old) e.0) }
+    ensures path { IfErr result (λ e. e.0 ≡ path_of want) }
+{
+    match want {
+        Want::File(path) => match files.file(alloc, path.as_slice()) {
+            Ok(text) => Ok(Supply::File { path, text }),
+            Err(fault) => Err((path, fault)),
+        },
+        Want::Folder(path) => match files.folder(alloc, path.as_slice()) {
+            Ok(names) => Ok(Supply::Folder { path, names }),
+            Err(fault) => Err((path, fault)),
+        },
+    }
+}
+
+// Whether a file or a folder was read before.
+fn is_read(supplies: &[Supply], want: &Want) -> bool {
+    supplies.iter().any(|supply| match (supply, want) {
+        (Supply::File { path, .. }, Want::File(wanted)) => path == wanted,
+        (Supply::Folder { path, .. }, Want::Folder(wanted)) => path == wanted,
+        _ => false,
+    })
+}
+
+// Returns the files and folders that the include lines of a file name, none if there is no such
+// file.
+fn named_by_file(
+    alloc: Global,
+    path: &Seq<u8>,
+    text: &Option<Seq<u8>>,
+) -> Result<Vec<Want>, AllocError> {
+    match text {
+        Some(text) => included(alloc, path.as_slice(), text.as_slice()),
+        None => Ok(Vec::new(alloc)),
+    }
+}
+
+// Returns the files of a folder.
+fn named_by_folder(
+    alloc: Global,
+    path: &Seq<u8>,
+    names: &Seq<Seq<u8>>,
+) -> Result<Vec<Want>, AllocError> {
+    let mut wants = Vec::new(alloc);
+    for file in folder_files(alloc, path.as_slice(), names.as_slice())? {
+        wants.push(Want::File(file))?;
+    }
+    Ok(wants)
+}
+
+// Returns the files and folders that a file or a folder names.
+fn named_by(alloc: Global, supply: &Supply) -> Result<Vec<Want>, AllocError> {
+    match supply {
+        Supply::File { path, text } => named_by_file(alloc, path, text),
+        Supply::Folder { path, names } => named_by_folder(alloc, path, names),
+    }
+}
+
+// Reads a file or a folder, and notes what it names. Skips what cannot be read, since it may not be
+// needed. Returns `AllocError` only if allocation failed.
+fn read_one<F: Files>(
+    alloc: Global,
+    files: &mut F,
+    want: Want,
+    supplies: &mut Vec<Supply>,
+    pending: &mut Vec<Want>,
+) -> Result<(), AllocError>
+    requires { AreHeld (F.held files.old) supplies.old.items }
+    ensures held { AreHeld (F.held files.new) supplies.new.items }
+    ensures same { F.held files.new ≡ F.held files.old }
+{
+    match fetch(alloc, files, want) {
+        Ok(supply) => {
+            pending.append(&mut named_by(alloc, &supply)?)?;
+            Ok(supplies.push(supply)?)
+        }
+        Err((_, FilesFault::Failed)) => Ok(()),
+        Err((_, FilesFault::Memory)) => Err(AllocError),
+    }
+}
+
+// Reads ahead what a file includes, so that `load` is rarely called again and no file is parsed
+// repeatedly. It decides nothing: what it skipped is read when it is needed, and it gives back all that it read if
+// allocation fails, so that `load` has as much memory as without it.
+fn read_ahead<F: Files>(alloc: Global, files: &mut F, path: &[u8], text: &[u8]) -> Vec<Supply>
+    ensures held { AreHeld (F.held files.new) result.items }
+    ensures same { F.held files.new ≡ F.held files.old }
+{
+    let mut supplies = Vec::new(alloc);
+    let Ok(mut pending) = included(alloc, path, text) else {
+        return supplies;
+    };
+    for _turn in 0..MOST_CALLS {
+        let Some(want) = pending.pop() else {
+            break;
+        };
+        if is_read(&supplies, &want) {
+            continue;
+        }
+        if read_one(alloc, files, want, &mut supplies, &mut pending).is_err() {
+            return Vec::new(alloc);
+        }
+    }
+    supplies
+}
+
+// Reads a needed file or folder.
+fn push_wanted<F: Files>(
+    alloc: Global,
+    files: &mut F,
+    want: Want,
+    supplies: &mut Vec<Supply>,
+) -> Result<(), PolicyFault>
+    requires { AreHeld (F.held files.old) supplies.old.items }
+    ensures held { OnOk result (AreHeld (F.held files.new) supplies.new.items) }
+    ensures same { F.held files.new ≡ F.held files.old }
+    ensures fault { IfErr result (IsNotHanded (F.held files.old) want) }
+{
+    match fetch(alloc, files, want) {
+        Ok(supply) => Ok(supplies.push(supply)?),
+        Err((unread, FilesFault::Failed)) => Err(PolicyFault::CannotRead(unread)),
+        Err((_, FilesFault::Memory)) => Err(PolicyFault::Memory),
+    }
+}
+
+// Reads a needed file or folder. The first time, reads ahead all that the main file includes.
+fn hand_in<F: Files>(
+    alloc: Global,
+    files: &mut F,
+    path: &[u8],
+    text: &[u8],
+    want: Want,
+    supplies: &mut Vec<Supply>,
+) -> Result<(), PolicyFault>
+    requires { AreHeld (F.held files.old) supplies.old.items }
+    ensures held { OnOk result (AreHeld (F.held files.new) supplies.new.items) }
+    ensures same { F.held files.new ≡ F.held files.old }
+    ensures fault { IfErr result (IsNotHanded (F.held files.old) want) }
+{
+    if supplies.is_empty() {
+        *supplies = read_ahead(alloc, files, path, text);
+    }
+    if is_read(supplies, &want) {
+        return Ok(());
+    }
+    push_wanted(alloc, files, want, supplies)
+}
+
+/// A policy, and what it was read from: the text of its main file, and the files and folders that were read for it.
+#[derive(Drop)]
+pub struct Loaded {
+    pub text: Seq<u8>,
+    pub supplies: Vec<Supply>,
+    pub policy: Policy,
+}
+
+/// Returns the policy of a file and of all that it includes, with what was read. Reads what `load` needs, and calls `load`
+/// again.
+///
+/// Returns `CannotRead` with the path of the main file, or of what is needed after what was read, if it cannot be read;
+/// `Refused` if the content of the files is refused; `Memory` if allocation failed.
+pub fn load_files<F: Files>(
+    alloc: Global,
+    path: &[u8],
+    files: &mut F,
+) -> Result<Loaded, PolicyFault>
+    ensures loaded { IfOk result (λ loaded. IsLoadedFrom (F.held files.old) path.now
+        loaded.text loaded.supplies.items loaded.policy) }
+    ensures fault { IfErr result (IsNoPolicy (F.held files.old) path.now) }
+{
+    let text = main_text(alloc, files, path)?;
+    let mut supplies = Vec::new(alloc);
+    for _call in 0..MOST_CALLS {
+        match load(alloc, path, text.as_slice(), &supplies) {
+            Ok(policy) => {
+                return Ok(Loaded {
+                    text,
+                    supplies,
+                    policy,
+                });
+            }
+            Err((read, fault)) => match fault {
+                LoadFault::Wanted(want) => {
+                    let bytes = text.as_slice();
+                    match hand_in(alloc, files, path, bytes, want, &mut supplies) {
+                        Ok(()) => {}
+                        Err(fault) => return Err(fault),
+                    }
+                }
+                LoadFault::Memory => return Err(PolicyFault::Memory),
+                fault => return Err(PolicyFault::Refused(read, fault)),
+            },
+        }
+    }
+    Err(PolicyFault::Memory)
+}
+
+/// Returns the policy of a file and of all that it includes. Returns the faults of `load_files`.
+pub fn load_policy<F: Files>(
+    alloc: Global,
+    path: &[u8],
+    files: &mut F,
+) -> Result<Policy, PolicyFault>
+    ensures loaded { IfOk result (λ policy. IsLoaded (F.held files.old) path.now policy) }
+    ensures fault { IfErr result (IsNoPolicy (F.held files.old) path.now) }
+{
+    let loaded = load_files(alloc, path, files)?;
+    Ok(loaded.policy)
+}
+
+/// Returns the policy of a file and of all that it includes, if it passes the check. Returns the faults of `load_files`, or
+/// `Errors` with the lines of the errors that the check finds.
+pub fn checked_policy<F: Files>(
+    alloc: Global,
+    path: &[u8],
+    files: &mut F,
+) -> Result<Checked, PolicyFault>
+    ensures checked { IfOk result (IsChecked (F.held files.old) path.now) }
+    ensures fault { IfErr result (IsNotChecked (F.held files.old) path.now) }
+{
+    let policy = load_policy(alloc, path, files)?;
+    checked_or_errors(alloc, policy)
+}
+
+// Returns a policy that passes the check, or `Errors` with the lines of its errors.
+fn checked_or_errors(alloc: Global, policy: Policy) -> Result<Checked, PolicyFault>
+    ensures same { IfOk result (λ checked. checked ≡ policy) }
+    ensures passes { IfOk result (λ checked. Passes policy) }
+    ensures fault { IfErr result (IsNotCheckedOf policy) }
+{
+    match check(alloc, policy) {
+        Ok(checked) => Ok(checked),
+        Err(CheckFault::Findings(policy, findings)) => {
+            let lines = finding_lines(alloc, policy.files.as_slice(), findings.as_slice(), true)?;
+            Err(PolicyFault::Errors(lines))
+        }
+        Err(CheckFault::Memory(_)) => Err(PolicyFault::Memory),
+    }
+}
