@@ -1,0 +1,159 @@
+"""The rows of docs/PROFILE.md that the peer can show, and how each construct is taken out.
+
+A difference is a row's own where it is gone once the row's construct is. Where a construct has a plain spelling in both readings,
+that is what is put in its place, so that nothing else is excused with it.
+"""
+
+import re
+from collections.abc import Callable, Iterator
+
+from differ import world
+from differ.ask import Answer, Case
+from differ.constructs import NOTHING, Row, in_turn, mapped, pieces_changed, replaced, swapped, where
+from differ.pieces import Piece, pieces_of, plain, spelled
+
+USERS = {user.name for user in world.USERS_KNOWN}
+GROUPS = set(world.GROUP_NUMBERS)
+WORDS = "word quoted"
+LISTS = "user runas host"
+
+
+def _known(name: str, names: set[str]) -> str | None:
+    """Returns the known name that differs from a name in letter case alone."""
+    return next((known for known in sorted(names) if known.lower() == name.lower() and known != name), None)
+
+
+def _case_of_users(piece: Piece) -> str:
+    """Returns a piece that names a user in the letter case of that user."""
+    known = _known(plain(piece.text), USERS) if piece.role in LISTS.split() and piece.kind in WORDS.split() else None
+    return spelled(known) if known else piece.text
+
+
+def _case_of_groups(piece: Piece) -> str:
+    """Returns a piece that names a group in the letter case of that group."""
+    if piece.kind not in WORDS.split() or piece.role not in ("user", "runas"):
+        return piece.text
+    said = plain(piece.text)
+    sign = "%" if said.startswith("%") else ""
+    known = _known(said.removeprefix("%"), GROUPS) if sign or piece.role == "runas" else None
+    return sign + spelled(known) if known else piece.text
+
+
+def _with_runas(change: Callable[[str | None, str | None], str | None]) -> Callable[[str], str]:
+    """Returns a change of what says whom to run as: of the users and the groups, both `None` where nothing is said."""
+
+    def of_text(text: str) -> str:
+        out: list[str] = []
+        wants, inside, colon = False, None, False
+        for piece in pieces_of(text):
+            if wants and piece.kind not in ("blank", "join"):
+                wants = False
+                new = change(None, None) if piece.text != "(" else None
+                out.append(f"({new}) " if new is not None else "")
+            if piece.role == "runas" and piece.text == "(":
+                inside = len(out)
+            out.append(piece.text)
+            if piece.role == "runas" and piece.text == ")" and inside is not None:
+                users, colon, groups = "".join(out[inside + 1 : -1]).partition(":")
+                new = change(users.strip(), groups if colon else None)
+                out[inside:] = out[inside:] if new is None else [f"({new})"]
+                inside = None
+            wants = wants or piece[:2] == ("host", "mark") and piece.text == "="
+        return "".join(out)
+
+    return of_text
+
+
+def _group_beside_root(case: Case) -> Iterator[Case]:
+    """Yields a case in which commands for which no runas is said may be run with any group, if a user and a group are asked for."""
+    asked = case.request
+    if asked and asked.runas_user and asked.runas_group:
+        yield mapped(case, _with_runas(lambda users, groups: "root:ALL" if users is None else None))
+
+
+def _group_alone(case: Case) -> Iterator[Case]:
+    """Yields a case in which any user may be run as where no groups are said, if a group alone is asked for, or oneself beside it."""
+    asked = case.request
+    if asked and asked.runas_group and not asked.runas_user:
+        yield mapped(case, _with_runas(lambda users, groups: "ALL" if groups is None and users != "" else None))
+    elif asked and asked.runas_group and asked.runas_user == asked.user:
+        own = spelled(asked.user)
+        yield mapped(case, _with_runas(lambda users, groups: f"{own}, {users}" if users and groups is None else None))
+
+
+def _denied_oneself(case: Case) -> Iterator[Case]:
+    """Yields a case in which any user may be run as where groups are said, if a group alone is asked for."""
+    asked = case.request
+    if asked and asked.runas_group and not asked.runas_user:
+        yield mapped(case, _with_runas(lambda users, groups: f"ALL:{groups}" if users and groups is not None else None))
+
+
+def _groups_without_group(case: Case) -> Iterator[Case]:
+    """Yields a case in which nobody may be run as where groups alone are said, if no group is asked for."""
+    asked = case.request
+    if asked and not asked.runas_group:
+        yield mapped(case, _with_runas(lambda users, groups: "!ALL" if users == "" and groups and groups.strip() else None))
+
+
+def _asks_for(*commands: str) -> Callable[[Case], bool]:
+    return lambda case: case.request is not None and case.request.command in commands
+
+
+def _without_setenv(answer: Answer) -> Answer:
+    """Returns an answer without the tags SETENV and NOSETENV."""
+    return answer._replace(tags=" ".join(tag for tag in answer.tags.split() if not tag.endswith("SETENV")))
+
+
+def _if_said(pattern: str) -> Callable[[Case], Iterator[Case]]:
+    """Returns what leaves a case as it is, if a pattern is found in one of its texts."""
+
+    def kept(case: Case) -> Iterator[Case]:
+        if any(re.search(pattern, text, re.MULTILINE) for text in (case.text, *(text for _, text in case.files))):
+            yield case
+
+    return kept
+
+
+def _target_number(case: Case) -> Iterator[Case]:
+    """Yields a case that asks for a user by name in place of by number."""
+    if case.request and case.request.runas_user.startswith("#"):
+        number = int(case.request.runas_user[1:])
+        for user in world.USERS_KNOWN:
+            if user.number == number:
+                yield case._replace(request=case.request._replace(runas_user=user.name))
+
+
+GRANTS = (
+    Row("alice ALL = /bin/ls\\", replaced(r"\\\r?\n[ \t]*", " ", "")),
+    Row("alice ALL = /bin/ls foo\\ ", replaced(r"\\[ \t]+\r?\n[ \t]*", " ", "")),
+    Row(" #include /etc/x", replaced(r"^[ \t]+#include", "# include")),
+    Row('"bo\\x62" ALL = ALL', swapped("user runas host", "quoted", r"\\x([0-9A-Fa-f]{2})", lambda found: chr(int(found[1], 16)))),
+    Row('"al\\ice" ALL = ALL', swapped("user runas host", "quoted", r'\\([^"\\])', r"\1")),
+    Row("alice ALL = /bin/ls a\\\\b", swapped("cmnd", "argument", r"\\\\", "z", "")),
+    Row("alice ALL = /usr/bin/passwd [^-]*", swapped("cmnd host", "path argument word", r"\[\^", "[!")),
+    Row("alice ALL = /bin/ls [[\\:word\\:]]", swapped("cmnd host", "path argument word", r"\[\\?:(?!(alnum|alpha|blank|cntrl|digit|graph|lower|print|punct|space|upper|xdigit)\\?:\])\w*\\?:\]", NOTHING)),
+    Row("alice ALL = /bin/ls [[=a=]]", swapped("cmnd host", "path argument word", r"\[(?:\\?=(.)\\?=|\.(.)\.)\]", lambda found: found[1] or found[2])),
+    Row("alice ALL = /usr/bin/[l/]s", swapped("cmnd", "path argument", r"(\[[^\]/]*)/", r"\1z")),
+    Row('alice "web?" = ALL', swapped("host", "quoted", r"[*?\[\]]", "z")),
+    Row("alice web\\* = ALL", swapped("host", WORDS, r"\\x(?:2[aAdD]|3[fF]|5[bBdDeE]|21)|\\(?=[*?\[\]^!\\-])", lambda found: chr(int(found[0][2:], 16)) if len(found[0]) > 1 else "")),
+    Row("alice [[\\:upper\\:]]* = ALL", swapped("host", WORDS, r"\[\\?:(upper|lower)\\?:\]", NOTHING)),
+    Row("\\#1000 ALL = ALL", swapped("user runas", "word", r"^\\(?:#|x23)(?=[0-9])", "#")),
+    Row("Alice ALL = ALL", pieces_changed(_case_of_users)),
+    Row("%ADM ALL = ALL", pieces_changed(_case_of_groups)),
+    Row("alice 010.1.2.3 = ALL", swapped("host", "word", r"^[0-9.]*\b0[0-9]+[0-9./]*$|/0[0-9]+$", "zz")),
+    Row("alice 0.0.0.0/0 = ALL", swapped("host", "word", r"^[0-9.]+/0$", "zz")),
+    Row("alice 127.5.0.1 = ALL", where(lambda case: case.request is not None and case.request.host.startswith("web2"), swapped("host", "word", r"^127\.[0-9./]+$", "10.2.0.9"))),
+    Row("ALL ALL = ALL, !/x/*", where(_asks_for(f"{world.TOP}/b/.hid"), in_turn(swapped("cmnd", "path", r"/(?=[*?])", "/[!.]"), swapped("cmnd", "path", r"/\*", "/[!.]*"), swapped("cmnd", "path", r"/(?=\[)", "/z")))),
+    Row("alice ALL = /x/*", where(_asks_for(world.GONE), swapped("cmnd", "path", r".*[*?\[].*|.*/$", "/nowhere"))),
+    Row("Defaults runas_default=postgres", replaced(r"runas_default=postgres", "insults")),
+    Row("Defaults sudoers_locale=C.UTF-8", replaced(r"sudoers_locale=C.UTF-8", "insults")),
+    Row("alice ALL = /bin/id", _group_beside_root),
+    Row("alice ALL = (operator) /bin/id", _group_alone),
+    Row("alice ALL = (!alice:adm) /bin/id", _denied_oneself),
+    Row("alice ALL = (:operator) /bin/id", _groups_without_group),
+    Row("alice ALL = (#2001) /bin/ls", _target_number),
+    Row("alice ALL = NOSETENV: /bin/ls, ALL", _if_said(r"NOSETENV"), _without_setenv),
+    Row("Cmnd_Alias X = ALL", _if_said(r"Cmn?d_Alias.*ALL"), _without_setenv),
+)
+
+FILES: tuple[Row, ...] = ()
