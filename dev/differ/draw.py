@@ -50,6 +50,7 @@ DEFAULTS = (
     "!case_insensitive_user",
     "!case_insensitive_group",
     "umask=0022",
+    "sudoers_locale=C.UTF-8",
     "logfile=/var/log/x,!syslog",
     "targetpw",
     "insults",
@@ -287,7 +288,8 @@ class Draw:
         text = "\n".join(self._lines()) + "\n"
         if "joins" in self.odd:
             for _ in range(self.random.randint(1, 3)):
-                at = self.random.randrange(len(text))
+                blanks = [found.end() for found in re.finditer(r"[ ,]", text)]
+                at = self.random.choice(blanks) if self.chance(0.6) else self.random.randrange(len(text))
                 text = text[:at] + self.pick(["\\\n", "\\\n  ", "\\\n\t", "\\ \n", "\\\r\n"]) + text[at:]
         if "blanks" in self.odd:
             for _ in range(self.random.randint(1, 4)):

@@ -8,7 +8,7 @@ import re
 from collections.abc import Callable, Iterator
 
 from differ import world
-from differ.ask import Answer, Case
+from differ.ask import PAIRS, Answer, Case
 from differ.constructs import NOTHING, Row, in_turn, mapped, pieces_changed, replaced, swapped, where
 from differ.pieces import Piece, pieces_of, plain, spelled
 
@@ -126,7 +126,7 @@ def _target_number(case: Case) -> Iterator[Case]:
 GRANTS = (
     Row("alice ALL = /bin/ls\\", replaced(r"\\\r?\n[ \t]*", " ", "")),
     Row("alice ALL = /bin/ls foo\\ ", replaced(r"\\[ \t]+\r?\n[ \t]*", " ", "")),
-    Row(" #include /etc/x", replaced(r"^[ \t]+#include", "# include")),
+    Row("#include /etc/x", replaced(r"^[ \t]+#include", "# include")),
     Row('"bo\\x62" ALL = ALL', swapped("user runas host", "quoted", r"\\x([0-9A-Fa-f]{2})", lambda found: chr(int(found[1], 16)))),
     Row('"al\\ice" ALL = ALL', swapped("user runas host", "quoted", r'\\([^"\\])', r"\1")),
     Row("alice ALL = /bin/ls a\\\\b", swapped("cmnd", "argument", r"\\\\", "z", "")),
@@ -143,17 +143,64 @@ GRANTS = (
     Row("alice 010.1.2.3 = ALL", swapped("host", "word", r"^[0-9.]*\b0[0-9]+[0-9./]*$|/0[0-9]+$", "zz")),
     Row("alice 0.0.0.0/0 = ALL", swapped("host", "word", r"^[0-9.]+/0$", "zz")),
     Row("alice 127.5.0.1 = ALL", where(lambda case: case.request is not None and case.request.host.startswith("web2"), swapped("host", "word", r"^127\.[0-9./]+$", "10.2.0.9"))),
-    Row("ALL ALL = ALL, !/x/*", where(_asks_for(f"{world.TOP}/b/.hid"), in_turn(swapped("cmnd", "path", r"/(?=[*?])", "/[!.]"), swapped("cmnd", "path", r"/\*", "/[!.]*"), swapped("cmnd", "path", r"/(?=\[)", "/z")))),
-    Row("alice ALL = /x/*", where(_asks_for(world.GONE), swapped("cmnd", "path", r".*[*?\[].*|.*/$", "/nowhere"))),
+    Row("alice ALL = ALL, !/usr/bin/*", where(_asks_for(f"{world.TOP}/b/.hid"), in_turn(swapped("cmnd", "path", r"/(?=[*?])", "/[!.]"), swapped("cmnd", "path", r"/\*", "/[!.]*"), swapped("cmnd", "path", r"/(?=\[)", "/z")))),
+    Row("alice ALL = /opt/*", where(_asks_for(world.GONE), swapped("cmnd", "path", r".*[*?\[].*|.*/$", "/nowhere"))),
     Row("Defaults runas_default=postgres", replaced(r"runas_default=postgres", "insults")),
     Row("Defaults sudoers_locale=C.UTF-8", replaced(r"sudoers_locale=C.UTF-8", "insults")),
     Row("alice ALL = /bin/id", _group_beside_root),
-    Row("alice ALL = (operator) /bin/id", _group_alone),
+    Row("(operator) /bin/id", _group_alone),
     Row("alice ALL = (!alice:adm) /bin/id", _denied_oneself),
     Row("alice ALL = (:operator) /bin/id", _groups_without_group),
     Row("alice ALL = (#2001) /bin/ls", _target_number),
-    Row("alice ALL = NOSETENV: /bin/ls, ALL", _if_said(r"NOSETENV"), _without_setenv),
+    Row("alice ALL = NOSETENV: /bin/ls, ALL, /bin/cat", _if_said(r"NOSETENV"), _without_setenv),
     Row("Cmnd_Alias X = ALL", _if_said(r"Cmn?d_Alias.*ALL"), _without_setenv),
 )
 
-FILES: tuple[Row, ...] = ()
+OPTIONS = "CWD|CHROOT|TIMEOUT|NOTBEFORE|NOTAFTER|ROLE|TYPE"
+FILES = (
+    # Refused here, read by sudo.
+    Row("alice\\", replaced(r"\\\r?\n[ \t]*", " ", "")),
+    Row("Cmnd_Alias A = /bin/ls, \\ ", replaced(r"\\[ \t]+\r?\n[ \t]*", " ", "")),
+    Row("alice ALL = ALL # note \\", swapped("*", "comment", r"\\+[ \t]*\r?$", "")),
+    Row("#includedir", replaced(r"^[ \t]*#include(dir)?[ \t]*$", "# x")),
+    Row('@include /x/a"b"', replaced(r'^([ \t]*[@#]include(?:dir)?[ \t]+[^"\s]+)"([^"\n]*)"', r"\1\2")),
+    Row("alice ALL = /bin/l=s", swapped("cmnd", "mark", "^=$", "z")),
+    Row("alice #5 = ALL", swapped("*", "comment", r"^#(?=-?[0-9])", "z")),
+    Row("a control byte, outside a comment", replaced(r"[\x00-\x08\x0b-\x1f\x7f]", "z", "")),
+    Row("#4294967296", swapped(LISTS, WORDS, r"^.*[#/].*$|^[0-9.\\]+$", "zz")),
+    Row("bo\\x2 ALL = ALL", swapped("*", WORDS + " value", r"\\x(?![0-9A-Fa-f]{2})", "z")),
+    Row("alice 2001:db8::1 = ALL", replaced(r"[0-9A-Fa-f]*:[0-9A-Fa-f]*:[0-9A-Fa-f:.]*(/\w+)?", "zz")),
+    Row("alice / = ALL", swapped("host", "path", "^/$", "zz")),
+    Row("alice web1 !! = ALL", replaced(r"!!", "")),
+    Row("a file whose last line is one backslash", replaced(r"\\\r?\n?\Z", "")),
+    Row("+netgroup", swapped(LISTS, WORDS, r'^("?)\+', r"\1z")),
+    Row("%:group", replaced(r"%:(?=\S)", "%z")),
+    Row("CWD=", replaced(rf"\b({OPTIONS})[ \t]*=[ \t]*\S+", "")),
+    Row("+netgroup", replaced(r"\^[^#\n]*?\$", "/z")),
+    Row("list", swapped("cmnd", WORDS, r'^"?list"?$', "/z")),
+    Row("Defaults!PAGERS noexec", replaced(r"^([ \t]*Defaults)[:@>!].*[A-Z][A-Z0-9_]*.*$", r"\1 insults")),
+    # Read here, refused by sudo.
+    Row("alice ALL = /bin/ls", replaced(r"\r$", "")),
+    Row("Defaults nonsense", swapped("parameter", "word value quoted", r"^[a-z_]+$", "insults")),
+    Row("alice ALL = /bin/ls ^-l", replaced(r"(?<=[ \t])\^", "z")),
+    Row("alice ALL = /", swapped("cmnd", "path", r"^/$", "/z/")),
+    Row("alice ALL = ALL, ! ! /bin/ls", replaced(r"!(?:[ \t]+!)+", "!")),
+    Row('Defaults "env_reset"', swapped("parameter", "quoted", r"^.*$", "insults")),
+    Row('alice ALL = /bin/ls a\\"b', swapped("cmnd", "argument", r"\\(?![*?\[\]!^:\\,= \t#])", "")),
+    Row("alice ALL = /bin/l\\s", swapped("cmnd", "path", r"\\(?![,:= \t#])", "")),
+    Row("alice ALL = /bin/ls #5", swapped("*", "comment", r"^#(?=-?[0-9])", "# ")),
+    Row("a>b ALL = ALL", swapped(LISTS, "word", ">", "z")),
+    Row("^a$ ALL = ALL", swapped(LISTS, "word", r"^\^", "z")),
+    Row("10.1.2.3 ALL = ALL", swapped("user runas", "word", r"^[0-9.]+(/.*)?$", "zz")),
+    Row("alice %adm = ALL", swapped("host", WORDS, r'^("?)%', r"\1z")),
+    Row("alice ALL = /bin/ -l", replaced(r"/(?=[ \t]+[^\s,:=#(])", "/z")),
+    Row("alice ALL = /bin/ls =", swapped("cmnd", "argument", r"^=$|(?<=\\.)=$", "z")),
+    Row("Defaults web1", swapped("parameter", "word path", r"^.*[^a-z_].*$", "insults")),
+    Row("alice ALL = (bob:) /bin/ls", replaced(r":[ \t]*\)", ")")),
+    Row("alice ALL = (root : %adm) /bin/ls", swapped("runas", WORDS, r'^("?)%', r"\1z")),
+    Row("Cmnd_Alias CWD = /bin/ls", replaced(rf"\b({OPTIONS})\b", "ZZZ")),
+    Row("sha256 ALL = ALL", swapped(LISTS, "word", r"^sha(224|256|384|512)$", "z")),
+    Row("alice @include = ALL", swapped(LISTS, "word", r"^@include(dir)?$", "z")),
+    Row("Host_Alias MAIL = web1", swapped("host user runas cmnd", "word", rf"^(NO)?({'|'.join(PAIRS)})$", "ZZZ")),
+    Row("alice ALL = /usr/bin/sudoedit /etc/x", swapped("cmnd", "path", r"/sudoedit$", "/z")),
+)

@@ -76,7 +76,7 @@ class Search:
             return
         for asked, *answers in zip(requests, here, there):
             self.verdicts += 1
-            self._sort(seed, case._replace(request=asked), Both(*map(alike, answers)))
+            self.sort(seed, case._replace(request=asked), Both(*map(alike, answers)))
 
     def file(self, seed: str) -> None:
         """Compares whether a text is read."""
@@ -85,9 +85,9 @@ class Search:
 
     def _compare(self, seed: str, case: Case, both: Both) -> None:
         self.files += 1
-        self._sort(seed, case, both)
+        self.sort(seed, case, both)
 
-    def _sort(self, seed: str, case: Case, both: Both) -> None:
+    def sort(self, seed: str, case: Case, both: Both) -> None:
         """Counts a difference under the row that explains it, or keeps it."""
         if not both.differ():
             return
@@ -130,12 +130,12 @@ class Search:
         return REFUSED not in both and not both.under(row).differ()
 
     @staticmethod
-    def _rows(case: Case) -> tuple[Row, ...]:
+    def rows(case: Case) -> tuple[Row, ...]:
         return FILES if case.request is None else GRANTS
 
     def _single(self, case: Case) -> Row | None:
         """Returns the row whose construct alone makes the difference."""
-        for row in self._rows(case):
+        for row in self.rows(case):
             for changed in row.change(case):
                 if (changed != case or row.counts is not same_answer) and self._agree(changed, row):
                     return row
@@ -143,7 +143,7 @@ class Search:
 
     def _after_others(self, case: Case) -> Row | None:
         """Returns the row with whose construct the difference goes, where those of other rows are out already."""
-        for row in self._rows(case):
+        for row in self.rows(case):
             if any(changed != case and self._agree(changed, row) for changed in row.change(case)):
                 return row
             case = next((changed for changed in row.change(case) if changed != case), case)
