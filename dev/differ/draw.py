@@ -312,7 +312,7 @@ class Draw:
         """Draws a request."""
         users = [user.name for user in USERS_KNOWN]
         target = self.pick(["root", *users[:-1]]) if self.chance(0.3) else ""
-        target = self.pick(["#1001", "#11", "#2001"]) if self.odds("numbers", 0.02) else target
+        target = self.pick(["#1001", "#11"]) if self.odds("numbers", 0.02) else target
         group = self.pick(list(GROUP_NUMBERS)) if self.odds("groups", 0.5) or self.chance(0.05) else ""
         command = "sudoedit" if self.chance(0.1) else self.pick([*self.commands, GONE])
         host = self.random.choice(HOSTS_KNOWN).name if self.chance(0.6) else "web1.example.org"

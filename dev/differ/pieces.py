@@ -50,9 +50,9 @@ class _Cutter:
         self.last = ""
         self.kind = "rule"
         self.role = "user"
-        self.inside = False
         self.in_arguments = False
         self.has_member = False
+        self.before = ""
 
     def pieces(self) -> Iterator[Piece]:
         """Yields the pieces, which are the whole text together."""
@@ -60,13 +60,15 @@ class _Cutter:
             piece = self._next()
             self.at += len(piece.text)
             yield piece
+            self.before = piece.kind
             if piece.kind == "newline":
                 self._start_line()
             elif piece.kind not in ("blank", "join"):
                 self.last = piece.text
 
     def _next(self) -> Piece:
-        for pattern, kind, here in ((ARGUMENT, "argument", self.in_arguments), (VALUE, "value", self._wants_value())):
+        in_arguments = self.in_arguments and self.before in ("blank", "join", "argument")
+        for pattern, kind, here in ((ARGUMENT, "argument", in_arguments), (VALUE, "value", self._wants_value())):
             found = pattern.match(self.text, self.at) if here else None
             if found and not re.match(JOIN, found[0]):
                 return Piece(self.role, kind, found[0])
@@ -112,16 +114,23 @@ class _Cutter:
             self.kind, self.role = "defaults", "parameter"
             return Piece("name", kind, text)
         if kind == "mark":
+            if text == "!":
+                self._next_list()
             return self._mark(text)
         if self.in_arguments and kind != "word":
             return Piece(role, kind, text)
-        if self.kind == "rule" and self.role == "user" and self.has_member and self.last not in (",", "!"):
-            self.role = role = "host"
-        if self.kind == "defaults" and self.role != "parameter" and self.has_member and self.last not in (",", "!"):
-            self.role = role = "parameter"
+        self._next_list()
         self.has_member = True
         self.in_arguments = self._takes_arguments(kind, text)
-        return Piece(role, kind, text)
+        return Piece(self.role, kind, text)
+
+    def _next_list(self) -> None:
+        """Goes on to the hosts of a rule, or to the parameters of a Defaults line, where no comma stands behind a member."""
+        if self.has_member and self.last not in (",", "!"):
+            if self.kind == "rule" and self.role == "user":
+                self.role = "host"
+            elif self.kind == "defaults" and self.role != "parameter":
+                self.role = "parameter"
 
     def _takes_arguments(self, kind: str, text: str) -> bool:
         """Returns whether arguments may follow: behind a command that is no folder, outside of Defaults lines."""

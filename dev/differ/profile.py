@@ -18,6 +18,11 @@ WORDS = "word quoted"
 LISTS = "user runas host"
 
 
+def _byte(found: re.Match[str]) -> str:
+    """Returns the byte that a found escape stands for."""
+    return chr(int(found[1], 16)) if found[1] else found[2]
+
+
 def _known(name: str, names: set[str]) -> str | None:
     """Returns the known name that differs from a name in letter case alone."""
     return next((known for known in sorted(names) if known.lower() == name.lower() and known != name), None)
@@ -114,6 +119,17 @@ def _if_said(pattern: str) -> Callable[[Case], Iterator[Case]]:
     return kept
 
 
+def _undefined(case: Case) -> Iterator[Case]:
+    """Yields a case in which `ALL` stands for each alias that is not defined."""
+    defined = {piece.text for piece in pieces_of(case.text) if piece.role == "name"}
+
+    def of_piece(piece: Piece) -> str:
+        used = piece.kind == "word" and piece.role != "name" and re.fullmatch(r"[A-Z][A-Z0-9_]*", piece.text)
+        return "ALL" if used and piece.text not in defined else piece.text
+
+    yield from pieces_changed(of_piece)(case)
+
+
 def _target_number(case: Case) -> Iterator[Case]:
     """Yields a case that asks for a user by name in place of by number."""
     if case.request and case.request.runas_user.startswith("#"):
@@ -127,7 +143,7 @@ GRANTS = (
     Row("alice ALL = /bin/ls\\", replaced(r"\\\r?\n[ \t]*", " ", "")),
     Row("alice ALL = /bin/ls foo\\ ", replaced(r"\\[ \t]+\r?\n[ \t]*", " ", "")),
     Row("#include /etc/x", replaced(r"^[ \t]+#include", "# include")),
-    Row('"bo\\x62" ALL = ALL', swapped("user runas host", "quoted", r"\\x([0-9A-Fa-f]{2})", lambda found: chr(int(found[1], 16)))),
+    Row('"bo\\x62" ALL = ALL', swapped("user runas host", "quoted", r"\\x([0-9A-Fa-f]{2})", _byte)),
     Row('"al\\ice" ALL = ALL', swapped("user runas host", "quoted", r'\\([^"\\])', r"\1")),
     Row("alice ALL = /bin/ls a\\\\b", swapped("cmnd", "argument", r"\\\\", "z", "")),
     Row("alice ALL = /usr/bin/passwd [^-]*", swapped("cmnd host", "path argument word", r"\[\^", "[!")),
@@ -164,6 +180,8 @@ FILES = (
     Row("alice ALL = ALL # note \\", swapped("*", "comment", r"\\+[ \t]*\r?$", "")),
     Row("#includedir", replaced(r"^[ \t]*#include(dir)?[ \t]*$", "# x")),
     Row('@include /x/a"b"', replaced(r'^([ \t]*[@#]include(?:dir)?[ \t]+[^"\s]+)"([^"\n]*)"', r"\1\2")),
+    Row("@include /x/a\\x62", swapped("include", "word path", r"\\x([0-9A-Fa-f]{2})", _byte)),
+    Row('@include "/x/a\\x62"', swapped("include", "quoted", r"\\(?:x([0-9A-Fa-f]{2})|([^\"]))", _byte)),
     Row("alice ALL = /bin/l=s", swapped("cmnd", "mark", "^=$", "z")),
     Row("alice #5 = ALL", swapped("*", "comment", r"^#(?=-?[0-9])", "z")),
     Row("a control byte, outside a comment", replaced(r"[\x00-\x08\x0b-\x1f\x7f]", "z", "")),
@@ -179,6 +197,7 @@ FILES = (
     Row("+netgroup", replaced(r"\^[^#\n]*?\$", "/z")),
     Row("list", swapped("cmnd", WORDS, r'^"?list"?$', "/z")),
     Row("Defaults!PAGERS noexec", replaced(r"^([ \t]*Defaults)[:@>!].*[A-Z][A-Z0-9_]*.*$", r"\1 insults")),
+    Row("Runas_Alias A = B", _undefined),
     # Read here, refused by sudo.
     Row("alice ALL = /bin/ls", replaced(r"\r$", "")),
     Row("Defaults nonsense", swapped("parameter", "word value quoted", r"^[a-z_]+$", "insults")),

@@ -1,5 +1,6 @@
 """Draws cases, asks both programs, and sorts how they differ."""
 
+import itertools
 import tempfile
 from collections import Counter
 from collections.abc import Iterator
@@ -14,7 +15,7 @@ from differ.profile import FILES, GRANTS
 from differ.shrink import Shrinker
 
 REQUESTS_A_POLICY = 20
-POLICIES_A_TASK = 25
+VERDICTS_A_TASK = 500
 FILES_A_TASK = 100
 READ, REFUSED = Answer("read"), Answer("refused")
 
@@ -34,8 +35,8 @@ class Both(NamedTuple):
         return Both(row.counts(self.here), row.counts(self.there))
 
 
-class New(NamedTuple):
-    """A difference that no row explains: where it was drawn, made small, and the answers."""
+class Difference(NamedTuple):
+    """A difference, made small: where it was drawn, the case, and the answers."""
 
     seed: str
     case: Case
@@ -43,27 +44,30 @@ class New(NamedTuple):
 
 
 class Found(NamedTuple):
-    """What a task found: how much was compared, how often each row explained a difference, and the differences that none explains."""
+    """What a task found: how much was compared, how often each row explained a difference, examples, and what none explains."""
 
     verdicts: int
     files: int
     explained: Counter[str]
-    new: list[New]
+    examples: dict[str, Difference]
+    new: list[Difference]
 
 
 class Search:
-    """Compares cases in a folder."""
+    """Compares cases in a folder, and keeps an example of each explained difference where that is asked for."""
 
-    def __init__(self, asker: Asker) -> None:
+    def __init__(self, asker: Asker, show: bool = False) -> None:
         self.asker = asker
+        self.show = show
         self.verdicts = 0
         self.files = 0
         self.explained: Counter[str] = Counter()
-        self.new: list[New] = []
+        self.examples: dict[str, Difference] = {}
+        self.new: list[Difference] = []
 
     def found(self) -> Found:
         """Returns what was found."""
-        return Found(self.verdicts, self.files, self.explained, self.new)
+        return Found(self.verdicts, self.files, self.explained, self.examples, self.new)
 
     def policy(self, seed: str) -> None:
         """Compares the verdicts under a policy, or whether it is read where one of both refuses it."""
@@ -91,15 +95,21 @@ class Search:
         """Counts a difference under the row that explains it, or keeps it."""
         if not both.differ():
             return
-        row = self._single(case) or self._after_others(case)
+        row = self._row(case)
         if row is None:
             case = self.small(case, both)
-            both = self.asked(case)
-            row = self._single(case) or self._after_others(case)
+            both, row = self.asked(case), self._row(case)
         if row is None:
-            self.new.append(New(seed, case, both))
-        else:
-            self.explained[row.cell] += 1
+            self.new.append(Difference(seed, case, both))
+            return
+        self.explained[row.cell] += 1
+        if self.show and row.cell not in self.examples:
+            case = self.small(case, both)
+            self.examples[row.cell] = Difference(seed, case, self.asked(case))
+
+    def _row(self, case: Case) -> Row | None:
+        """Returns the row that explains the difference of a case."""
+        return self._single(case) or self._after_others(case)
 
     def _read(self, case: Case) -> Both:
         """Returns whether each of both reads a policy without an error."""
@@ -155,24 +165,27 @@ def alike(answer: Answer) -> Answer:
     return Answer("unknown") if answer.verdict.startswith("unknown-") else answer
 
 
-def task(program: str, peer: Peer, seed: str, policies: bool) -> Found:
-    """Compares a number of policies or of files."""
+def task(program: str, peer: Peer, show: bool, seed: str, policies: bool) -> Found:
+    """Compares a number of verdicts or of files. What one of both refuses counts as a file."""
     with tempfile.TemporaryDirectory(prefix="differential-") as folder:
-        search = Search(Asker(program, peer, folder))
-        for number in range(POLICIES_A_TASK if policies else FILES_A_TASK):
-            (search.policy if policies else search.file)(f"{seed}.{number}")
-        return search.found()
+        search = Search(Asker(program, peer, folder), show)
+        for number in itertools.count():
+            if policies and search.verdicts < VERDICTS_A_TASK:
+                search.policy(f"{seed}.{number}")
+            elif not policies and number < FILES_A_TASK:
+                search.file(f"{seed}.{number}")
+            else:
+                return search.found()
 
 
 def tasks(verdicts: int, files: int, seed: int) -> list[tuple[str, bool]]:
     """Returns the seeds of the tasks, and whether each is of policies, for at least so many verdicts and files."""
-    each = REQUESTS_A_POLICY * POLICIES_A_TASK
-    of_policies = [(f"{seed}.p{number}", True) for number in range(-(-verdicts // each))]
+    of_policies = [(f"{seed}.p{number}", True) for number in range(-(-verdicts // VERDICTS_A_TASK))]
     return of_policies + [(f"{seed}.f{number}", False) for number in range(-(-files // FILES_A_TASK))]
 
 
-def search(program: str, peer: Peer, planned: list[tuple[str, bool]], jobs: int) -> Iterator[Found]:
+def search(program: str, peer: Peer, show: bool, planned: list[tuple[str, bool]], jobs: int) -> Iterator[Found]:
     """Yields what each task found, in the order in which they end."""
     with ProcessPoolExecutor(jobs) as pool:
-        for done in as_completed([pool.submit(task, program, peer, *one) for one in planned]):
+        for done in as_completed([pool.submit(task, program, peer, show, *one) for one in planned]):
             yield done.result()
