@@ -8,7 +8,7 @@ import re
 from collections.abc import Callable, Sequence
 
 from differ.ask import PAIRS, Case
-from differ.world import COMMANDS, GONE, GROUP_NUMBERS, HOSTS_KNOWN, TOP, USERS_KNOWN, Request
+from differ.world import COMMANDS, ENCODING, GONE, GROUP_NUMBERS, HOSTS_KNOWN, TOP, USERS_KNOWN, Request
 
 ODDITIES = (
     "addresses",
@@ -97,7 +97,8 @@ class Draw:
     def _spelled(self, name: str) -> str:
         """Returns a name of a user, a group or a host with escapes and quotes, or as plain as it may be."""
         if self.odds("case", 0.3):
-            name = self.pick([name.lower(), name.title(), name.swapcase(), name[:1] + name[1:].upper()])
+            said = name.encode(ENCODING)
+            name = self.random.choice([said.lower(), said.title(), said.swapcase(), said[:1] + said[1:].upper()]).decode(ENCODING)
         if self.odds("quotes", 0.4):
             return self._quoted(name)
         name = re.sub(r'([\\ !=:,()"#>])', r"\\\1", name) if self.chance(0.95) else name
@@ -311,7 +312,7 @@ class Draw:
     def request(self) -> Request:
         """Draws a request."""
         users = [user.name for user in USERS_KNOWN]
-        target = self.pick(["root", *users[:-1]]) if self.chance(0.3) else ""
+        target = self.pick(["root", *users]) if self.chance(0.3) else ""
         target = self.pick(["#1001", "#11"]) if self.odds("numbers", 0.02) else target
         group = self.pick(list(GROUP_NUMBERS)) if self.odds("groups", 0.5) or self.chance(0.05) else ""
         command = "sudoedit" if self.chance(0.1) else self.pick([*self.commands, GONE])

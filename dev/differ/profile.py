@@ -8,9 +8,9 @@ import re
 from collections.abc import Callable, Iterator
 
 from differ import world
-from differ.ask import PAIRS, Answer, Case
+from differ.ask import Answer, Case
 from differ.constructs import NOTHING, Row, in_turn, mapped, pieces_changed, replaced, swapped, where
-from differ.pieces import Piece, pieces_of, plain, spelled
+from differ.pieces import TAG, Piece, pieces_of, plain, spelled
 
 USERS = {user.name for user in world.USERS_KNOWN}
 GROUPS = set(world.GROUP_NUMBERS)
@@ -25,7 +25,8 @@ def _byte(found: re.Match[str]) -> str:
 
 def _known(name: str, names: set[str]) -> str | None:
     """Returns the known name that differs from a name in letter case alone."""
-    return next((known for known in sorted(names) if known.lower() == name.lower() and known != name), None)
+    said = name.encode(world.ENCODING).lower()
+    return next((known for known in sorted(names) if known.encode(world.ENCODING).lower() == said and known != name), None)
 
 
 def _case_of_users(piece: Piece) -> str:
@@ -119,6 +120,26 @@ def _if_said(pattern: str) -> Callable[[Case], Iterator[Case]]:
     return kept
 
 
+def _blank_before_parameters(case: Case) -> Iterator[Case]:
+    """Yields a case in which a blank stands between the list of a Defaults line and its parameters."""
+
+    def of_text(text: str) -> str:
+        before, out = "parameter", []
+        for piece in pieces_of(text):
+            bound = piece.role == "parameter" and before in LISTS.split() + ["cmnd"]
+            out.append(f" {piece.text}" if bound else piece.text)
+            before = "parameter" if piece.kind in ("blank", "join", "newline") else piece.role
+        return "".join(out)
+
+    yield mapped(case, of_text)
+
+
+def _aliases_like_tags(case: Case) -> Iterator[Case]:
+    """Yields a case in which aliases that have the name of a tag have another."""
+    names = {piece.text for piece in pieces_of(case.text) if piece.role == "name" and TAG.match(piece.text)}
+    yield from pieces_changed(lambda piece: f"Z{piece.text}" if piece.text in names else piece.text)(case)
+
+
 def _undefined(case: Case) -> Iterator[Case]:
     """Yields a case in which `ALL` stands for each alias that is not defined."""
     defined = {piece.text for piece in pieces_of(case.text) if piece.role == "name"}
@@ -140,18 +161,20 @@ def _target_number(case: Case) -> Iterator[Case]:
 
 
 GRANTS = (
+    Row("alice ALL = NOSETENV: /bin/ls, ALL, /bin/cat", _if_said(r"NOSETENV"), _without_setenv),
+    Row("Cmnd_Alias X = ALL", _if_said(r"Cmn?d_Alias.*ALL"), _without_setenv),
     Row("alice ALL = /bin/ls\\", replaced(r"\\\r?\n[ \t]*", " ", "")),
     Row("alice ALL = /bin/ls foo\\ ", replaced(r"\\[ \t]+\r?\n[ \t]*", " ", "")),
     Row("#include /etc/x", replaced(r"^[ \t]+#include", "# include")),
     Row('"bo\\x62" ALL = ALL', swapped("user runas host", "quoted", r"\\x([0-9A-Fa-f]{2})", _byte)),
     Row('"al\\ice" ALL = ALL', swapped("user runas host", "quoted", r'\\([^"\\])', r"\1")),
     Row("alice ALL = /bin/ls a\\\\b", swapped("cmnd", "argument", r"\\\\", "z", "")),
-    Row("alice ALL = /usr/bin/passwd [^-]*", swapped("cmnd host", "path argument word", r"\[\^", "[!")),
+    Row("alice ALL = /usr/bin/passwd [^-]*", swapped("cmnd host", "path argument word", r"\[\^", "[!", "[\\\\!")),
     Row("alice ALL = /bin/ls [[\\:word\\:]]", swapped("cmnd host", "path argument word", r"\[\\?:(?!(alnum|alpha|blank|cntrl|digit|graph|lower|print|punct|space|upper|xdigit)\\?:\])\w*\\?:\]", NOTHING)),
     Row("alice ALL = /bin/ls [[=a=]]", swapped("cmnd host", "path argument word", r"\[(?:\\?=(.)\\?=|\.(.)\.)\]", lambda found: found[1] or found[2])),
     Row("alice ALL = /usr/bin/[l/]s", swapped("cmnd", "path argument", r"(\[[^\]/]*)/", r"\1z")),
     Row('alice "web?" = ALL', swapped("host", "quoted", r"[*?\[\]]", "z")),
-    Row("alice web\\* = ALL", swapped("host", WORDS, r"\\x(?:2[aAdD]|3[fF]|5[bBdDeE]|21)|\\(?=[*?\[\]^!\\-])", lambda found: chr(int(found[0][2:], 16)) if len(found[0]) > 1 else "")),
+    Row("alice web\\* = ALL", swapped("host", WORDS, r"\\x(?:2[aAdD]|3[fF]|5[bBdDeE])|\\(?=[*?\[\]^\\-])", lambda found: chr(int(found[0][2:], 16)) if len(found[0]) > 1 else "")),
     Row("alice [[\\:upper\\:]]* = ALL", swapped("host", WORDS, r"\[\\?:(upper|lower)\\?:\]", NOTHING)),
     Row("\\#1000 ALL = ALL", swapped("user runas", "word", r"^\\(?:#|x23)(?=[0-9])", "#")),
     Row("Alice ALL = ALL", pieces_changed(_case_of_users)),
@@ -168,8 +191,6 @@ GRANTS = (
     Row("alice ALL = (!alice:adm) /bin/id", _denied_oneself),
     Row("alice ALL = (:operator) /bin/id", _groups_without_group),
     Row("alice ALL = (#2001) /bin/ls", _target_number),
-    Row("alice ALL = NOSETENV: /bin/ls, ALL, /bin/cat", _if_said(r"NOSETENV"), _without_setenv),
-    Row("Cmnd_Alias X = ALL", _if_said(r"Cmn?d_Alias.*ALL"), _without_setenv),
 )
 
 OPTIONS = "CWD|CHROOT|TIMEOUT|NOTBEFORE|NOTAFTER|ROLE|TYPE"
@@ -183,12 +204,12 @@ FILES = (
     Row("@include /x/a\\x62", swapped("include", "word path", r"\\x([0-9A-Fa-f]{2})", _byte)),
     Row('@include "/x/a\\x62"', swapped("include", "quoted", r"\\(?:x([0-9A-Fa-f]{2})|([^\"]))", _byte)),
     Row("alice ALL = /bin/l=s", swapped("cmnd", "mark", "^=$", "z")),
-    Row("alice #5 = ALL", swapped("*", "comment", r"^#(?=-?[0-9])", "z")),
-    Row("a control byte, outside a comment", replaced(r"[\x00-\x08\x0b-\x1f\x7f]", "z", "")),
+    Row("alice #5 = ALL", swapped("*", "comment", r"^#(?=-?[0-9])", " z")),
+    Row("a control byte, outside a comment", replaced(r"[\x00-\x08\x0b-\x1f\x7f]", "z", "", " z ")),
     Row("#4294967296", swapped(LISTS, WORDS, r"^.*[#/].*$|^[0-9.\\]+$", "zz")),
     Row("bo\\x2 ALL = ALL", swapped("*", WORDS + " value", r"\\x(?![0-9A-Fa-f]{2})", "z")),
     Row("alice 2001:db8::1 = ALL", replaced(r"[0-9A-Fa-f]*:[0-9A-Fa-f]*:[0-9A-Fa-f:.]*(/\w+)?", "zz")),
-    Row("alice / = ALL", swapped("host", "path", "^/$", "zz")),
+    Row("alice / = ALL", swapped(LISTS, "path", "^/$", "zz")),
     Row("alice web1 !! = ALL", replaced(r"!!", "")),
     Row("a file whose last line is one backslash", replaced(r"\\\r?\n?\Z", "")),
     Row("+netgroup", swapped(LISTS, WORDS, r'^("?)\+', r"\1z")),
@@ -206,7 +227,8 @@ FILES = (
     Row("alice ALL = ALL, ! ! /bin/ls", replaced(r"!(?:[ \t]+!)+", "!")),
     Row('Defaults "env_reset"', swapped("parameter", "quoted", r"^.*$", "insults")),
     Row('alice ALL = /bin/ls a\\"b', swapped("cmnd", "argument", r"\\(?![*?\[\]!^:\\,= \t#])", "")),
-    Row("alice ALL = /bin/l\\s", swapped("cmnd", "path", r"\\(?![,:= \t#])", "")),
+    Row("alice ALL = /bin/l\\s", swapped("cmnd", "path", r"\\(?![,:= \t#])", "z")),
+    Row("a tab behind a backslash", swapped("*", "word", r"\\\t", "z")),
     Row("alice ALL = /bin/ls #5", swapped("*", "comment", r"^#(?=-?[0-9])", "# ")),
     Row("a>b ALL = ALL", swapped(LISTS, "word", ">", "z")),
     Row("^a$ ALL = ALL", swapped(LISTS, "word", r"^\^", "z")),
@@ -214,12 +236,14 @@ FILES = (
     Row("alice %adm = ALL", swapped("host", WORDS, r'^("?)%', r"\1z")),
     Row("alice ALL = /bin/ -l", replaced(r"/(?=[ \t]+[^\s,:=#(])", "/z")),
     Row("alice ALL = /bin/ls =", swapped("cmnd", "argument", r"^=$|(?<=\\.)=$", "z")),
+    Row('Defaults:"bob"env_reset', _blank_before_parameters),
+    Row('Defaults badpass_message=""', swapped("parameter", "quoted", '^""$', '"z"')),
     Row("Defaults web1", swapped("parameter", "word path", r"^.*[^a-z_].*$", "insults")),
     Row("alice ALL = (bob:) /bin/ls", replaced(r":[ \t]*\)", ")")),
     Row("alice ALL = (root : %adm) /bin/ls", swapped("runas", WORDS, r'^("?)%', r"\1z")),
     Row("Cmnd_Alias CWD = /bin/ls", replaced(rf"\b({OPTIONS})\b", "ZZZ")),
     Row("sha256 ALL = ALL", swapped(LISTS, "word", r"^sha(224|256|384|512)$", "z")),
     Row("alice @include = ALL", swapped(LISTS, "word", r"^@include(dir)?$", "z")),
-    Row("Host_Alias MAIL = web1", swapped("host user runas cmnd", "word", rf"^(NO)?({'|'.join(PAIRS)})$", "ZZZ")),
+    Row("Host_Alias MAIL = web1", _aliases_like_tags),
     Row("alice ALL = /usr/bin/sudoedit /etc/x", swapped("cmnd", "path", r"/sudoedit$", "/z")),
 )

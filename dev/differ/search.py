@@ -30,9 +30,16 @@ class Both(NamedTuple):
         """Returns whether they are not the same."""
         return self.here != self.there
 
-    def under(self, row: Row) -> "Both":
-        """Returns what counts of them beside a row."""
-        return Both(row.counts(self.here), row.counts(self.there))
+    def agree(self, rows: list[Row]) -> bool:
+        """Returns whether both read the policy, and answer alike in what counts beside rows."""
+        here, there = self
+        for row in rows:
+            here, there = row.counts(here), row.counts(there)
+        return REFUSED not in self and here == there
+
+    def still(self, before: "Both") -> bool:
+        """Returns whether neither refuses a policy that it read before."""
+        return all(now != REFUSED or then == REFUSED for now, then in zip(self, before))
 
 
 class Difference(NamedTuple):
@@ -104,7 +111,7 @@ class Search:
             return
         self.explained[row.cell] += 1
         if self.show and row.cell not in self.examples:
-            case = self.small(case, both)
+            case = self.small(case, both, row)
             self.examples[row.cell] = Difference(seed, case, self.asked(case))
 
     def _row(self, case: Case) -> Row | None:
@@ -125,38 +132,43 @@ class Search:
         there = self.asker.peer_verdict(case, case.request)
         return Both(REFUSED if here is None else alike(here[0]), REFUSED if there is None else alike(there))
 
-    def small(self, case: Case, both: Both) -> Case:
-        """Returns a small case that differs in the same way."""
+    def small(self, case: Case, both: Both, row: Row | None = None) -> Case:
+        """Returns a small case that differs in the same way, and by the construct of a row where that is given."""
 
         def differs(tried: Case) -> bool:
             found = self.asked(tried)
-            return found.differ() and [answer.verdict for answer in found] == [answer.verdict for answer in both]
+            same = found.differ() and [answer.verdict for answer in found] == [answer.verdict for answer in both]
+            return same and (row is None or self._goes(tried, row))
 
         return Shrinker(differs).shrunk(case)
 
-    def _agree(self, case: Case, row: Row) -> bool:
-        """Returns whether both read a case and answer alike in what counts beside a row."""
-        both = self.asked(case)
-        return REFUSED not in both and not both.under(row).differ()
-
     @staticmethod
     def rows(case: Case) -> tuple[Row, ...]:
+        """Returns the rows that may explain a difference of a case."""
         return FILES if case.request is None else GRANTS
 
     def _single(self, case: Case) -> Row | None:
         """Returns the row whose construct alone makes the difference."""
-        for row in self.rows(case):
-            for changed in row.change(case):
-                if (changed != case or row.counts is not same_answer) and self._agree(changed, row):
-                    return row
-        return None
+        return next((row for row in self.rows(case) if self._goes(case, row)), None)
+
+    def _goes(self, case: Case, row: Row) -> bool:
+        """Returns whether the difference of a case goes when the construct of a row is taken out."""
+        tried = (changed for changed in row.change(case) if changed != case or row.counts is not same_answer)
+        return any(self.asked(changed).agree([row]) for changed in tried)
 
     def _after_others(self, case: Case) -> Row | None:
         """Returns the row with whose construct the difference goes, where those of other rows are out already."""
+        out: list[Row] = []
+        last = self.asked(case)
         for row in self.rows(case):
-            if any(changed != case and self._agree(changed, row) for changed in row.change(case)):
-                return row
-            case = next((changed for changed in row.change(case) if changed != case), case)
+            for changed in row.change(case):
+                both = self.asked(changed)
+                if both.agree([*out, row]):
+                    return row
+                if both.still(last):
+                    case, last = changed, both
+                    out.append(row)
+                    break
         return None
 
 

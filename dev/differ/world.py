@@ -65,7 +65,6 @@ USERS_KNOWN = (
     User("bo\\x62", 1004, ("operator", "adm")),
     User("a b", 1007, ("domain users",)),
     User("\xc3\xa9ric", 1005, ("Staff", "operator")),
-    User("#1001", 1008, ("operator",)),
 )
 HOSTS_KNOWN = (
     Host("web1.example.org", "10.1.2.3/16 127.0.0.1/8", "10.1.2.3/255.255.0.0"),
