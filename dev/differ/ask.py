@@ -53,7 +53,9 @@ class Asker:
         self.written: tuple[str, ...] = ()
         world.write(folder)
 
-    def _run(self, words: Sequence[str], given: bytes, environment: dict[str, str]) -> subprocess.CompletedProcess[bytes]:
+    def _run(
+        self, words: Sequence[str], given: bytes, environment: dict[str, str]
+    ) -> subprocess.CompletedProcess[bytes]:
         """Runs a process. Raises `Fault` if it does not end in time."""
         try:
             return subprocess.run(
@@ -111,7 +113,17 @@ class Asker:
 
     def peer_verdict(self, case: Case, asked: Request) -> Answer | None:
         """Returns the peer's answer to a request, `None` if it does not read the whole policy."""
-        words = [self.peer.testsudoers, "-U", str(os.getuid()), "-G", str(os.getgid()), "-p", world.PASSWD, "-P", world.GROUP]
+        words = [
+            self.peer.testsudoers,
+            "-U",
+            str(os.getuid()),
+            "-G",
+            str(os.getgid()),
+            "-p",
+            world.PASSWD,
+            "-P",
+            world.GROUP,
+        ]
         words += ["-h", asked.host]
         words += ["-u", asked.runas_user] if asked.runas_user else []
         words += ["-g", asked.runas_group] if asked.runas_group else []

@@ -1,4 +1,4 @@
-"""How a construct of a row of docs/PROFILE.md is taken out of a policy: helpers that change one kind of piece and nothing else."""
+"""How the construct of a row of docs/PROFILE.md is taken out of a policy: changes of one kind of piece alone."""
 
 import re
 from collections.abc import Callable, Iterator, Sequence
@@ -42,7 +42,7 @@ def pieces_changed(change: Callable[[Piece], str]) -> Change:
 
 
 def swapped(roles: str, kinds: str, pattern: str, *replacements: str | Callable[[re.Match[str]], str]) -> Change:
-    """Returns a change of what a pattern finds in pieces of these roles and kinds, `*` for all, to each of the replacements."""
+    """Returns a change of what a pattern finds in pieces of these roles and kinds (`*` for all) to each replacement."""
     wanted = re.compile(pattern, re.DOTALL)
 
     def with_one(case: Case, replacement: str | Callable[[re.Match[str]], str]) -> Case:

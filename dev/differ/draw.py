@@ -1,6 +1,6 @@
 """Policies and requests at random. A seed always draws the same.
 
-Each policy has a few of the kinds of oddity below, so that most policies are read by both, and most differences have one cause.
+Each policy has a few of the kinds of oddity below, so that most are read by both, and most differences have one cause.
 """
 
 import random
@@ -11,34 +11,18 @@ from differ.ask import PAIRS, Case
 from differ.world import COMMANDS, ENCODING, GONE, GROUP_NUMBERS, HOSTS_KNOWN, TOP, USERS_KNOWN, Request
 
 ODDITIES = (
-    "addresses",
-    "all",
-    "arguments",
-    "blanks",
-    "brackets",
-    "bytes",
-    "case",
-    "defaults",
-    "escapes",
-    "groups",
-    "hashes",
-    "includes",
-    "joins",
-    "numbers",
-    "paths",
-    "quotes",
-    "signs",
-    "tags",
-)
+    "addresses all arguments blanks brackets bytes case defaults escapes groups hashes includes joins numbers paths quotes"
+    " signs tags"
+).split()
 KEYWORDS = {"user": "User_Alias", "runas": "Runas_Alias", "host": "Host_Alias", "cmnd": "Cmnd_Alias"}
-ARGUMENTS = ("", "", "-l", "-l -a", "ab", "a\\b", "*", "x]", "w]", "x", "\\", "\\x", "^a", "a b", "A", "\xc3\xa9", "/etc/motd", "=")
+ARGUMENTS = (*"-l ab a\\b * x] w] x \\ \\x ^a A \xc3\xa9 /etc/motd =".split(), "", "", "-l -a", "a b")
 CLASSES = ("alpha", "upper", "lower", "digit", "alnum", "punct", "space", "word", "ALPHA", "xdigit", "")
 DEFAULTS = (
     "env_reset",
     "!lecture",
     'secure_path="/usr/sbin:/usr/bin"',
     "passwd_tries=3",
-    "env_keep += \"A B\"",
+    'env_keep += "A B"',
     "env_keep -= HOME",
     "timestamp_timeout = -1",
     "badpass_message=x\\ y",
@@ -59,11 +43,13 @@ DEFAULTS = (
 )
 # What is put into a text that is to be checked alone.
 TOKENS = (
-    "! !! , : = ( ) \" \\ # % + - @ > ^ $ / * ? [ ] . ~ ; ' & < { } | ` 0 5 x A Z _ ALL Defaults Defaults: Defaults@ Defaults! "
-    "Defaults> User_Alias Host_Alias Cmnd_Alias Runas_Alias Cmd_Alias NOPASSWD: NOEXEC : PASSWD SETENV sudoedit list sha256 "
-    "sha224: CWD=/x CWD TIMEOUT=5 NOTBEFORE CHROOT @include @includedir #include #includedir %adm %# %: +net #5 #-1 "
-    "10.1.2.3 10.1.0.0/16 ::1 fe80::1/64 1.2.3 ^a$ \\x41 \\x4 \"a\" \"\" += -= += 1.2.3.4/255.0.0.0 MAIL alice web1 /bin/ls"
-).split() + [" ", "  ", "\t", "\n", "\r\n", "\\\n", "\\ \n", "\x01", "\x80", "\xff", "\x0b", "\x7f", "\n\n", " #", "# x"]
+    *"! !! , : = ( ) \" \\ # % + - @ > ^ $ / * ? [ ] . ~ ; ' & < { } | ` 0 5 x A Z _ ALL NOPASSWD: NOEXEC : PASSWD".split(),
+    *"Defaults Defaults: Defaults@ Defaults! Defaults> User_Alias Host_Alias Cmnd_Alias Runas_Alias Cmd_Alias".split(),
+    *"SETENV MAIL sudoedit list sha256 sha224: CWD=/x CWD TIMEOUT=5 NOTBEFORE CHROOT @include @includedir".split(),
+    *"#include #includedir %adm %# %: +net #5 #-1 10.1.2.3 10.1.0.0/16 ::1 fe80::1/64 1.2.3 1.2.3.4/255.0.0.0".split(),
+    *'^a$ \\x41 \\x4 "a" "" += -= += alice web1 /bin/ls'.split(),
+    *(" ", "  ", "\t", "\n", "\r\n", "\\\n", "\\ \n", "\x01", "\x80", "\xff", "\x0b", "\x7f", "\n\n", " #", "# x"),
+)
 
 
 class Draw:
@@ -98,7 +84,9 @@ class Draw:
         """Returns a name of a user, a group or a host with escapes and quotes, or as plain as it may be."""
         if self.odds("case", 0.3):
             said = name.encode(ENCODING)
-            name = self.random.choice([said.lower(), said.title(), said.swapcase(), said[:1] + said[1:].upper()]).decode(ENCODING)
+            name = self.random.choice(
+                [said.lower(), said.title(), said.swapcase(), said[:1] + said[1:].upper()]
+            ).decode(ENCODING)
         if self.odds("quotes", 0.4):
             return self._quoted(name)
         name = re.sub(r'([\\ !=:,()"#>])', r"\\\1", name) if self.chance(0.95) else name
@@ -108,13 +96,17 @@ class Draw:
         """Returns a text with backslashes put in, and some bytes written by their values."""
         if not self.odds("escapes", 0.6):
             return text
-        said = [self.pick([f"\\{one}", f"\\x{ord(one):02x}"]) if self.chance(part) and one != "\\" else one for one in text]
+        said = [
+            self.pick([f"\\{one}", f"\\x{ord(one):02x}"]) if self.chance(part) and one != "\\" else one for one in text
+        ]
         return "".join(said)
 
     def _quoted(self, name: str) -> str:
         """Returns a name in double quotes."""
         if self.odds("escapes", 0.5):
-            name = "".join(self.pick([one, f"\\{one}", f"\\x{ord(one):02x}"]) if self.chance(0.3) else one for one in name)
+            name = "".join(
+                self.pick([one, f"\\{one}", f"\\x{ord(one):02x}"]) if self.chance(0.3) else one for one in name
+            )
         return f'"{name}"'
 
     def _user(self) -> str:
@@ -130,7 +122,9 @@ class Draw:
 
     def _number(self, user: int, group: int) -> str:
         """Returns an ID, some of them odd ones."""
-        form = self.pick(["#{0}", "#{0}", "%#{1}", "#0{0}", "\\#{0}", "\\x23{0}", '"#{0}"', '"%#{1}"', "%\\#{1}", "\\%#{1}"])
+        form = self.pick(
+            ["#{0}", "#{0}", "%#{1}", "#0{0}", "\\#{0}", "\\x23{0}", '"#{0}"', '"%#{1}"', "%\\#{1}", "\\%#{1}"]
+        )
         odd = ["#-1", "#4294967295", "#4294967296", "%#-1", "#5x", "#1001\\ ", "#\\1001"]
         return form.format(user, group) if self.chance(0.97) else self.pick(odd)
 
@@ -156,7 +150,22 @@ class Draw:
     def _address(self) -> str:
         first = self.pick(["10.1", "10.2", "010.1", "127.5", "192.168", "0.0", "10.001", "300.1", "10.99"])
         last = self.pick(["2.3", "0.0", "0.9", "7.1", "7.0", "9.9", "0.1", "2.03"])
-        bits = ["", "", "/16", "/24", "/30", "/32", "/0", "/8", "/016", "/33", "/255.255.0.0", "/255.0.0.0", "/255.0.255.0", "/0.0.0.0"]
+        bits = [
+            "",
+            "",
+            "/16",
+            "/24",
+            "/30",
+            "/32",
+            "/0",
+            "/8",
+            "/016",
+            "/33",
+            "/255.255.0.0",
+            "/255.0.0.0",
+            "/255.0.255.0",
+            "/0.0.0.0",
+        ]
         return self._escaped(f"{first}.{last}{self.pick(bits)}", 0.05)
 
     def _bracket(self, inside: str) -> str:
@@ -167,8 +176,30 @@ class Draw:
 
     def _item(self, inside: str) -> str:
         colon = self.pick(["\\:", "\\:", ":"])
-        choices = [inside, inside, f"{inside}-z", f"a-{inside}", "a-z", "z-a", "]", "-", "!", "^", "/", "\\]", "\\-", "A-Z", "[", "0-9"]
-        choices += [f"[{colon}{self.pick(CLASSES)}{colon}]", f"[{colon}{self.pick(CLASSES)}{colon}]", f"[={inside}=]", f"[.{inside}.]"]
+        choices = [
+            inside,
+            inside,
+            f"{inside}-z",
+            f"a-{inside}",
+            "a-z",
+            "z-a",
+            "]",
+            "-",
+            "!",
+            "^",
+            "/",
+            "\\]",
+            "\\-",
+            "A-Z",
+            "[",
+            "0-9",
+        ]
+        choices += [
+            f"[{colon}{self.pick(CLASSES)}{colon}]",
+            f"[{colon}{self.pick(CLASSES)}{colon}]",
+            f"[={inside}=]",
+            f"[.{inside}.]",
+        ]
         return self.pick([*choices, "\\[", "[:", "[\\:", "\\\\", "*", "?", "\\*", "\xc3-\xff", ".-\\=", "\\,"])
 
     def _path(self) -> str:
@@ -187,13 +218,19 @@ class Draw:
         said = re.sub(r"([\\,:= #])", r"\\\1", text)
         if self.odds("escapes", 0.1) or self.odds("paths", 0.1):
             at = self.random.randrange(len(said) + 1)
-            said = said[:at] + self.pick(["\\", "\\*", "\\x", "\\\\", "\\,", "\\!", "=", "!", "\"", "(", "@"]) + said[at:]
+            said = (
+                said[:at] + self.pick(["\\", "\\*", "\\x", "\\\\", "\\,", "\\!", "=", "!", '"', "(", "@"]) + said[at:]
+            )
         return said
 
     def _command(self) -> str:
         kind = self.random.random()
         if kind < 0.1:
-            return "sudoedit" + self._arguments() if self.chance(0.9) else self.pick(["sudoedit!x", "/usr/bin/sudoedit", 'sudoedit"a"'])
+            return (
+                "sudoedit" + self._arguments()
+                if self.chance(0.9)
+                else self.pick(["sudoedit!x", "/usr/bin/sudoedit", 'sudoedit"a"'])
+            )
         if kind < 0.25 or self.odds("all", 0.3):
             return "ALL"
         path = self._path()
@@ -207,10 +244,20 @@ class Draw:
         if self.odds("arguments", 0.4):
             said = self.pick([*ARGUMENTS, '""', "^", "sub=x", "a=", "!", '"a"', "\\\\", "a\\\\b", "\\^a$"])
         if self.odds("brackets", 0.6):
-            said = self.pick([said, said[:1], ""]) + self._bracket(self.pick(["a", "x", "-", "]", "b"])) + self.pick(["", "", "*", "]"])
+            said = (
+                self.pick([said, said[:1], ""])
+                + self._bracket(self.pick(["a", "x", "-", "]", "b"]))
+                + self.pick(["", "", "*", "]"])
+            )
         if self.odds("escapes", 0.5):
             at = self.random.randrange(len(said) + 1)
-            said = said[:at] + self.pick(["\\\\", "\\*", "\\?", "\\[", "\\]", "\\!", "\\^", "\\:", "\\ ", "\\\t", "\\#", "\\=", "\\x41"]) + said[at:]
+            said = (
+                said[:at]
+                + self.pick(
+                    ["\\\\", "\\*", "\\?", "\\[", "\\]", "\\!", "\\^", "\\:", "\\ ", "\\\t", "\\#", "\\=", "\\x41"]
+                )
+                + said[at:]
+            )
         self.arguments += [said, re.sub(r"\\(.)", r"\1", said), re.sub(r"\[.*\]", "a", said), re.sub("[*?]", "a", said)]
         return f" {said}"
 
@@ -231,12 +278,18 @@ class Draw:
         names = [group.replace(" ", "\\ ").replace("\\d", "\\\\d") for group in GROUP_NUMBERS]
         group = self.pick([*names, "ALL", "!adm", "#4", "\\#37", '"adm"', "Adm", *self.aliases["runas"]])
         group = "%adm" if self.chance(0.01) else group
-        groups = f":{group}" if self.odds("groups", 0.7) or self.chance(0.1) else self.pick(["", "", "", ":"] if users == "" else [""])
+        groups = (
+            f":{group}"
+            if self.odds("groups", 0.7) or self.chance(0.1)
+            else self.pick(["", "", "", ":"] if users == "" else [""])
+        )
         return f"({users}{groups}) "
 
     def _tags(self) -> str:
         count = self.random.choice((1, 1, 2)) if self.odds("tags", 0.6) else 0
-        return "".join(f"{self.pick(['', 'NO'])}{self.pick(PAIRS)}{self.pick([':', ': ', ' : '])}" for _ in range(count))
+        return "".join(
+            f"{self.pick(['', 'NO'])}{self.pick(PAIRS)}{self.pick([':', ': ', ' : '])}" for _ in range(count)
+        )
 
     def _rule(self) -> str:
         sections = []
@@ -250,7 +303,9 @@ class Draw:
 
     def _alias(self) -> str:
         kind = self.pick(list(KEYWORDS))
-        names = ["A", "B1", "C_", "ADM", "WEB", "LS", "X9_Y", "MAIL", "NOEXEC"] + (["CWD", "TIMEOUT", "TYPES"] if self.chance(0.05) else [])
+        names = ["A", "B1", "C_", "ADM", "WEB", "LS", "X9_Y", "MAIL", "NOEXEC"] + (
+            ["CWD", "TIMEOUT", "TYPES"] if self.chance(0.05) else []
+        )
         name = self.pick([name for name in names if name not in self.aliases[kind]])
         said = f"{KEYWORDS[kind]} {name} = {self.members_of(kind, 3)}"
         self.aliases[kind].append(name)
@@ -258,8 +313,11 @@ class Draw:
 
     def _default(self) -> str:
         name = self.pick(self.aliases["user"] or ["alice"])
-        bound = self.pick(["", "", "", ":alice", "@web1", ">root", "!/bin/ls", f":{name}", ": bob", ":%adm", "@10.0.0.0/8", ':"a b"'])
-        return f"Defaults{bound} {self.pick([', ', ','])[:].join(self.pick(DEFAULTS) for _ in range(self.random.randint(1, 2)))}"
+        bound = self.pick(
+            ["", "", "", ":alice", "@web1", ">root", "!/bin/ls", f":{name}", ": bob", ":%adm", "@10.0.0.0/8", ':"a b"']
+        )
+        parameters = [self.pick(DEFAULTS) for _ in range(self.random.randint(1, 2))]
+        return f"Defaults{bound} {self.pick([', ', ',']).join(parameters)}"
 
     def _lines(self) -> list[str]:
         lines = [self._alias() for _ in range(self.random.choice((0, 0, 1, 2, 3)))]
@@ -267,7 +325,10 @@ class Draw:
         if self.odds("defaults", 0.8):
             lines.insert(self.random.randrange(len(lines) + 1), self._default())
         if self.odds("hashes", 0.5):
-            lines.insert(self.random.randrange(len(lines) + 1), self.pick(["# x", "#", "#x \\", "# 5", "#-x", "#include", "#includedir x"]))
+            lines.insert(
+                self.random.randrange(len(lines) + 1),
+                self.pick(["# x", "#", "#x \\", "# 5", "#-x", "#include", "#includedir x"]),
+            )
         if self.odds("includes", 0.9):
             said = self._include()
             lines.insert(self.random.randrange(len(lines) + 1), said)
@@ -275,8 +336,24 @@ class Draw:
 
     def _include(self) -> str:
         sign = self.pick(["@", "#"])
-        path = self.pick(["more", "more", "d/a", '"more"', "\\more", "m\\x6fre", '"m\\x6fre"', "./more", '"mo\\re"', "more\\ x", '"more x"'])
-        said = f"{sign}include {path}" if self.chance(0.7) else f"{sign}includedir {self.pick(['d', 'd/', './d', 'gone'])}"
+        path = self.pick(
+            [
+                "more",
+                "more",
+                "d/a",
+                '"more"',
+                "\\more",
+                "m\\x6fre",
+                '"m\\x6fre"',
+                "./more",
+                '"mo\\re"',
+                "more\\ x",
+                '"more x"',
+            ]
+        )
+        said = (
+            f"{sign}include {path}" if self.chance(0.7) else f"{sign}includedir {self.pick(['d', 'd/', './d', 'gone'])}"
+        )
         return self.pick(["", "", "", " ", "\t"]) + said + self.pick(["", "", "", " ", " # x", "\t"])
 
     def files(self) -> tuple[tuple[str, str], ...]:
@@ -294,11 +371,14 @@ class Draw:
                 text = text[:at] + self.pick(["\\\n", "\\\n  ", "\\\n\t", "\\ \n", "\\\r\n"]) + text[at:]
         if "blanks" in self.odd:
             for _ in range(self.random.randint(1, 4)):
-                at = self.pick([str(found.start()) for found in re.finditer(r"[ ,:=()\n]", text)])
-                text = text[: int(at)] + self.pick([" ", "\t", "  ", "\n", "\r"] if self.chance(0.2) else [" ", "\t"]) + text[int(at) :]
+                at = self.random.choice([found.start() for found in re.finditer(r"[ ,:=()\n]", text)])
+                put = self.pick(["\n", "\r"] if self.chance(0.1) else [" ", "\t", "  "])
+                text = text[:at] + put + text[at:]
         if self.odds("bytes", 0.3):
             at = self.random.randrange(len(text))
-            text = text[:at] + self.pick(["\x80", "\xff", "\xc3\xa9", "\xef\xbb\xbf", "\x01", "\x7f", "\x0c"]) + text[at:]
+            text = (
+                text[:at] + self.pick(["\x80", "\xff", "\xc3\xa9", "\xef\xbb\xbf", "\x01", "\x7f", "\x0c"]) + text[at:]
+            )
         return text if self.chance(0.97) else text.removesuffix("\n")
 
     def damaged(self, text: str) -> str:
@@ -318,7 +398,14 @@ class Draw:
         command = "sudoedit" if self.chance(0.1) else self.pick([*self.commands, GONE])
         host = self.random.choice(HOSTS_KNOWN).name if self.chance(0.6) else "web1.example.org"
         asked = self.pick(self.arguments) if self.chance(0.7) else ""
-        return Request(self.pick(users), host, target, group, command, asked.replace("\n", "").strip(" ") if self.chance(0.9) else "")
+        return Request(
+            self.pick(users),
+            host,
+            target,
+            group,
+            command,
+            asked.replace("\n", "").strip(" ") if self.chance(0.9) else "",
+        )
 
 
 def drawn_policy(seed: str, requests: int) -> tuple[Case, list[Request]]:

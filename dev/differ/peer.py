@@ -1,7 +1,7 @@
 """The peer: sudo's own testsudoers and visudo, built from Debian's source package of sudo.
 
-Two changes are made before the build. The addresses of interfaces come from the environment in place of the machine, and each
-command that is tried is printed with its place and tags. All that reads and matches policies stays as it is.
+Two changes are made before the build: the addresses of interfaces come from the environment in place of the machine, and
+each command that is tried is printed with its place and tags. All that reads and matches policies stays as it is.
 """
 
 import glob

@@ -7,7 +7,13 @@ import re
 from collections.abc import Iterator
 from typing import NamedTuple
 
-KEYWORD_ROLES = {"User_Alias": "user", "Runas_Alias": "user", "Host_Alias": "host", "Cmnd_Alias": "cmnd", "Cmd_Alias": "cmnd"}
+KEYWORD_ROLES = {
+    "User_Alias": "user",
+    "Runas_Alias": "user",
+    "Host_Alias": "host",
+    "Cmnd_Alias": "cmnd",
+    "Cmd_Alias": "cmnd",
+}
 BOUND_ROLES = {"@": "host", ":": "user", ">": "user", "!": "cmnd"}
 TAG = re.compile(r"(NO)?(EXEC|FOLLOW|INTERCEPT|LOG_INPUT|LOG_OUTPUT|MAIL|PASSWD|SETENV)$")
 BEFORE_NUMBER = ("!", ",", "(", ":", "=", "@", ">")
@@ -171,7 +177,12 @@ def pieces_of(text: str) -> list[Piece]:
 def plain(text: str) -> str:
     """Returns the bytes that a word or a quoted word stands for."""
     text = text[1:-1] if text.startswith('"') else text
-    return re.sub(r"\\(?:x([0-9A-Fa-f]{2})|(.))", lambda found: chr(int(found[1], 16)) if found[1] else found[2], text, flags=re.DOTALL)
+    return re.sub(
+        r"\\(?:x([0-9A-Fa-f]{2})|(.))",
+        lambda found: chr(int(found[1], 16)) if found[1] else found[2],
+        text,
+        flags=re.DOTALL,
+    )
 
 
 def spelled(name: str) -> str:

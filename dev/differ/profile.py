@@ -1,7 +1,7 @@
 """The rows of docs/PROFILE.md that the peer can show, and how each construct is taken out.
 
-A difference is a row's own where it is gone once the row's construct is. Where a construct has a plain spelling in both readings,
-that is what is put in its place, so that nothing else is excused with it.
+A row explains a difference that goes when the row's construct goes. Where the construct has a spelling that both read
+alike, that takes its place, so that nothing else is excused with it.
 """
 
 import re
@@ -26,7 +26,9 @@ def _byte(found: re.Match[str]) -> str:
 def _known(name: str, names: set[str]) -> str | None:
     """Returns the known name that differs from a name in letter case alone."""
     said = name.encode(world.ENCODING).lower()
-    return next((known for known in sorted(names) if known.encode(world.ENCODING).lower() == said and known != name), None)
+    return next(
+        (known for known in sorted(names) if known.encode(world.ENCODING).lower() == said and known != name), None
+    )
 
 
 def _case_of_users(piece: Piece) -> str:
@@ -50,7 +52,8 @@ def _with_runas(change: Callable[[str | None, str | None], str | None]) -> Calla
 
     def of_text(text: str) -> str:
         out: list[str] = []
-        wants, inside, colon = False, None, False
+        wants = False
+        inside: int | None = None
         for piece in pieces_of(text):
             if wants and piece.kind not in ("blank", "join"):
                 wants = False
@@ -60,8 +63,8 @@ def _with_runas(change: Callable[[str | None, str | None], str | None]) -> Calla
                 inside = len(out)
             out.append(piece.text)
             if piece.role == "runas" and piece.text == ")" and inside is not None:
-                users, colon, groups = "".join(out[inside + 1 : -1]).partition(":")
-                new = change(users.strip(), groups if colon else None)
+                users, *groups = "".join(out[inside + 1 : -1]).split(":", 1)
+                new = change(users.strip(), groups[0] if groups else None)
                 out[inside:] = out[inside:] if new is None else [f"({new})"]
                 inside = None
             wants = wants or piece[:2] == ("host", "mark") and piece.text == "="
@@ -71,14 +74,14 @@ def _with_runas(change: Callable[[str | None, str | None], str | None]) -> Calla
 
 
 def _group_beside_root(case: Case) -> Iterator[Case]:
-    """Yields a case in which commands for which no runas is said may be run with any group, if a user and a group are asked for."""
+    """Yields a case in which commands without a runas may have any group, if a user and a group are asked for."""
     asked = case.request
     if asked and asked.runas_user and asked.runas_group:
         yield mapped(case, _with_runas(lambda users, groups: "root:ALL" if users is None else None))
 
 
 def _group_alone(case: Case) -> Iterator[Case]:
-    """Yields a case in which any user may be run as where no groups are said, if a group alone is asked for, or oneself beside it."""
+    """Yields a case in which any user is allowed where no groups are said, if the request is for a group alone."""
     asked = case.request
     if asked and asked.runas_group and not asked.runas_user:
         yield mapped(case, _with_runas(lambda users, groups: "ALL" if groups is None and users != "" else None))
@@ -98,7 +101,9 @@ def _groups_without_group(case: Case) -> Iterator[Case]:
     """Yields a case in which nobody may be run as where groups alone are said, if no group is asked for."""
     asked = case.request
     if asked and not asked.runas_group:
-        yield mapped(case, _with_runas(lambda users, groups: "!ALL" if users == "" and groups and groups.strip() else None))
+        yield mapped(
+            case, _with_runas(lambda users, groups: "!ALL" if users == "" and groups and groups.strip() else None)
+        )
 
 
 def _asks_for(*commands: str) -> Callable[[Case], bool]:
@@ -146,7 +151,7 @@ def _undefined(case: Case) -> Iterator[Case]:
 
     def of_piece(piece: Piece) -> str:
         used = piece.kind == "word" and piece.role != "name" and re.fullmatch(r"[A-Z][A-Z0-9_]*", piece.text)
-        return "ALL" if used and piece.text not in defined else piece.text
+        return "ALL" if used and piece.text not in defined and not TAG.match(piece.text) else piece.text
 
     yield from pieces_changed(of_piece)(case)
 
@@ -170,21 +175,57 @@ GRANTS = (
     Row('"al\\ice" ALL = ALL', swapped("user runas host", "quoted", r'\\([^"\\])', r"\1")),
     Row("alice ALL = /bin/ls a\\\\b", swapped("cmnd", "argument", r"\\\\", "z", "")),
     Row("alice ALL = /usr/bin/passwd [^-]*", swapped("cmnd host", "path argument word", r"\[\^", "[!", "[\\\\!")),
-    Row("alice ALL = /bin/ls [[\\:word\\:]]", swapped("cmnd host", "path argument word", r"\[\\?:(?!(alnum|alpha|blank|cntrl|digit|graph|lower|print|punct|space|upper|xdigit)\\?:\])\w*\\?:\]", NOTHING)),
-    Row("alice ALL = /bin/ls [[=a=]]", swapped("cmnd host", "path argument word", r"\[(?:\\?=(.)\\?=|\.(.)\.)\]", lambda found: found[1] or found[2])),
+    Row(
+        "alice ALL = /bin/ls [[\\:word\\:]]",
+        swapped(
+            "cmnd host",
+            "path argument word",
+            r"\[\\?:(?!(alnum|alpha|blank|cntrl|digit|graph|lower|print|punct|space|upper|xdigit)\\?:\])\w*\\?:\]",
+            NOTHING,
+        ),
+    ),
+    Row(
+        "alice ALL = /bin/ls [[=a=]]",
+        swapped("cmnd host", "path argument word", r"\[(?:\\?=(.)\\?=|\.(.)\.)\]", lambda found: found[1] or found[2]),
+    ),
     Row("alice ALL = /usr/bin/[l/]s", swapped("cmnd", "path argument", r"(\[[^\]/]*)/", r"\1z")),
     Row('alice "web?" = ALL', swapped("host", "quoted", r"[*?\[\]]", "z")),
-    Row("alice web\\* = ALL", swapped("host", WORDS, r"\\x(?:2[aAdD]|3[fF]|5[bBdDeE])|\\(?=[*?\[\]^\\-])", lambda found: chr(int(found[0][2:], 16)) if len(found[0]) > 1 else "")),
+    Row(
+        "alice web\\* = ALL",
+        swapped(
+            "host",
+            WORDS,
+            r"\\x(?:2[aAdD]|3[fF]|5[bBdDeE])|\\(?=[*?\[\]^\\-])",
+            lambda found: chr(int(found[0][2:], 16)) if len(found[0]) > 1 else "",
+        ),
+    ),
     Row("alice [[\\:upper\\:]]* = ALL", swapped("host", WORDS, r"\[\\?:(upper|lower)\\?:\]", NOTHING)),
     Row("\\#1000 ALL = ALL", swapped("user runas", "word", r"^\\(?:#|x23)(?=[0-9])", "#")),
     Row("Alice ALL = ALL", pieces_changed(_case_of_users)),
     Row("%ADM ALL = ALL", pieces_changed(_case_of_groups)),
     Row("alice 010.1.2.3 = ALL", swapped("host", "word", r"^[0-9.]*\b0[0-9]+[0-9./]*$|/0[0-9]+$", "zz")),
     Row("alice 0.0.0.0/0 = ALL", swapped("host", "word", r"^[0-9.]+/0$", "zz")),
-    Row("alice 127.5.0.1 = ALL", where(lambda case: case.request is not None and case.request.host.startswith("web2"), swapped("host", "word", r"^127\.[0-9./]+$", "10.2.0.9"))),
-    Row("alice ALL = ALL, !/usr/bin/*", where(_asks_for(f"{world.TOP}/b/.hid"), in_turn(swapped("cmnd", "path", r"/(?=[*?])", "/[!.]"), swapped("cmnd", "path", r"/\*", "/[!.]*"), swapped("cmnd", "path", r"/(?=\[)", "/z")))),
+    Row(
+        "alice 127.5.0.1 = ALL",
+        where(
+            lambda case: case.request is not None and case.request.host.startswith("web2"),
+            swapped("host", "word", r"^127\.[0-9./]+$", "10.2.0.9"),
+        ),
+    ),
+    Row(
+        "alice ALL = ALL, !/usr/bin/*",
+        where(
+            _asks_for(f"{world.TOP}/b/.hid"),
+            in_turn(
+                swapped("cmnd", "path", r"/(?=[*?])", "/[!.]"),
+                swapped("cmnd", "path", r"/\*", "/[!.]*"),
+                swapped("cmnd", "path", r"/(?=\[)", "/z"),
+            ),
+        ),
+    ),
     Row("alice ALL = /opt/*", where(_asks_for(world.GONE), swapped("cmnd", "path", r".*[*?\[].*|.*/$", "/nowhere"))),
     Row("Defaults runas_default=postgres", replaced(r"runas_default=postgres", "insults")),
+    Row("Defaults fast_glob", replaced(r"fast_glob", "insults")),
     Row("Defaults sudoers_locale=C.UTF-8", replaced(r"sudoers_locale=C.UTF-8", "insults")),
     Row("alice ALL = /bin/id", _group_beside_root),
     Row("(operator) /bin/id", _group_alone),

@@ -51,7 +51,7 @@ class Difference(NamedTuple):
 
 
 class Found(NamedTuple):
-    """What a task found: how much was compared, how often each row explained a difference, examples, and what none explains."""
+    """What a task found: how much it compared, how often each row explained a difference, examples, and what is new."""
 
     verdicts: int
     files: int
@@ -81,13 +81,14 @@ class Search:
         case, requests = drawn_policy(seed, REQUESTS_A_POLICY)
         self.asker.write(case)
         here = self.asker.audit(requests)
-        there = [self.asker.peer_verdict(case, asked) for asked in requests[: 1 if here is None else None]]
-        if here is None or None in there:
+        answers = [self.asker.peer_verdict(case, asked) for asked in requests] if here is not None else []
+        there = [answer for answer in answers if answer is not None]
+        if here is None or len(there) < len(requests):
             self._compare(seed, case, self._read(case))
             return
-        for asked, *answers in zip(requests, here, there):
+        for asked, one, other in zip(requests, here, there):
             self.verdicts += 1
-            self.sort(seed, case._replace(request=asked), Both(*map(alike, answers)))
+            self.sort(seed, case._replace(request=asked), Both(alike(one), alike(other)))
 
     def file(self, seed: str) -> None:
         """Compares whether a text is read."""
@@ -181,13 +182,12 @@ def task(program: str, peer: Peer, show: bool, seed: str, policies: bool) -> Fou
     """Compares a number of verdicts or of files. What one of both refuses counts as a file."""
     with tempfile.TemporaryDirectory(prefix="differential-") as folder:
         search = Search(Asker(program, peer, folder), show)
-        for number in itertools.count():
-            if policies and search.verdicts < VERDICTS_A_TASK:
-                search.policy(f"{seed}.{number}")
-            elif not policies and number < FILES_A_TASK:
-                search.file(f"{seed}.{number}")
-            else:
-                return search.found()
+        numbers = itertools.count()
+        while policies and search.verdicts < VERDICTS_A_TASK:
+            search.policy(f"{seed}.{next(numbers)}")
+        for number in range(0 if policies else FILES_A_TASK):
+            search.file(f"{seed}.{number}")
+        return search.found()
 
 
 def tasks(verdicts: int, files: int, seed: int) -> list[tuple[str, bool]]:

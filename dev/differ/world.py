@@ -1,7 +1,7 @@
 """Users, groups, hosts and commands that the program and the peer both see.
 
-A text has a character for each byte. Commands are files below a case's folder, which is the current one of the peer; no two of them
-have one last name, since testsudoers takes files of one last name for one file.
+A text has a character for each byte. Commands are files below a case's folder, which is the peer's current one; no two
+have the same last name, since testsudoers takes files of one last name for one file.
 """
 
 import os
@@ -108,7 +108,9 @@ def write(folder: str) -> None:
     for user in USERS_KNOWN:
         for group in user.groups[1:]:
             members[group].append(user.name)
-    rows = [(user.name, str(user.number), str(GROUP_NUMBERS[group]), group) for user in USERS_KNOWN for group in user.groups]
+    rows = [
+        (user.name, str(user.number), str(GROUP_NUMBERS[group]), group) for user in USERS_KNOWN for group in user.groups
+    ]
     _write(folder, USERS, [row(fields) for fields in [("user", "uid", "gid", "group"), *rows]])
     _write(folder, HOSTS, [row(fields) for fields in [("host", "interfaces"), *(host[:2] for host in HOSTS_KNOWN)]])
     passwd = [f"{user.name}:x:{user.number}:{GROUP_NUMBERS[user.groups[0]]}::/:/bin/sh\n" for user in USERS_KNOWN]

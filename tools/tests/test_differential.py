@@ -26,7 +26,9 @@ PEER = peer.standing(peer.cache())
 # Policies that sudo reads in part, or whose files are not there: visudo refuses them.
 READ_IN_PART = ("alice ALL = = ALL", "@include gone", '@include /x/a"b"')
 needs_peer = unittest.skipUnless(PEER, "the peer of dev/differential is not built")
-needs_both = unittest.skipUnless(PROGRAM and PEER, "the program sudo_audit, or the peer of dev/differential, is not built")
+needs_both = unittest.skipUnless(
+    PROGRAM and PEER, "the program sudo_audit, or the peer of dev/differential, is not built"
+)
 
 
 def cells():
@@ -52,7 +54,9 @@ class Drawn(unittest.TestCase):
 
     def test_pieces_have_the_role_of_their_list(self):
         text = 'alice, "b c" web1 = (root : #4) NOPASSWD: /bin/ls -l, sudoedit /x : db = ALL # x\n'
-        members = [(piece.role, piece.text) for piece in pieces_of(text) if piece.kind not in ("blank", "mark", "newline")]
+        members = [
+            (piece.role, piece.text) for piece in pieces_of(text) if piece.kind not in ("blank", "mark", "newline")
+        ]
         users = [("user", "alice"), ("user", '"b c"'), ("host", "web1"), ("runas", "root"), ("runas", "#4")]
         commands = ["NOPASSWD", "/bin/ls", "-l", "sudoedit", "/x"]
         self.assertEqual(members[:5], users)
@@ -101,7 +105,9 @@ class Words(Case):
                 self.differential(*words, status=2)
 
     def test_a_peer_that_cannot_be_had(self):
-        said = self.differential("--program", "/bin/true", "--peer", "gone", status=4, environment={"PATH": self.folder})
+        said = self.differential(
+            "--program", "/bin/true", "--peer", "gone", status=4, environment={"PATH": self.folder}
+        )
         self.assertRegex(said, "^differential: (apt-get is not installed|the peer is built on Debian alone)")
 
     @needs_both

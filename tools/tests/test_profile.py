@@ -102,6 +102,7 @@ GRANTS = [
     Grant("alice 010.1.2.3 = ALL", "alice", "", "", "/bin/ls", "", "allow", "nomatch"),
     Grant("Defaults !fqdn\nalice web1.example.org = ALL", "alice", "", "", "/bin/ls", "", "allow"),
     Grant("Defaults sudoers_locale=C.UTF-8\nalice ALL = /bin/echo ?", "alice", "", "", "/bin/echo", "é", "nomatch", "allow"),
+    Grant("Defaults fast_glob\nalice ALL = /usr/*/", "alice", "", "", "/usr/bin/ls", "", "allow", "nomatch"),
     Grant("Defaults requiretty\nalice ALL = ALL", "alice", "", "", "/bin/ls", "", "allow"),
     Grant("alice [[\\:upper\\:]]* = ALL", "alice", "", "", "/bin/sh", "", "nomatch", "allow", "WEB1"),
     Grant("alice [[\\:ALPHA\\:]]* = ALL", "alice", "", "", "/bin/sh", "", "allow", "nomatch", "web1.example.org"),
