@@ -7,6 +7,7 @@ import csv
 import re
 import subprocess
 import unittest
+from typing import NamedTuple
 
 from support import PROGRAM, Case, needs_program
 from test_documents import CODE, prose_of, rows_of
@@ -14,55 +15,99 @@ from test_documents import CODE, prose_of, rows_of
 USERS = """user,uid,groups
 root,0,root:0
 alice,1000,alice:1000 adm:4
-bob,1001,bob:1001
+bob,1001,bob:1001 EXAMPLEadmins:6000
+eve,1004,EXAMPLE\\admins:6001
 operator,11,operator:37
 postgres,33,postgres:33
 bo\\x62,1002,bob:1001
+al\\ice,1003,bob:1001
 """
 HOSTS = """host,interfaces
 web1.example.org,10.1.2.3/16 127.0.0.1/8
+WEB1,
+lo,10.9.9.9/32 127.5.0.1/8
 """
 HEADER = "number,user,host,runas_user,runas_group,command,arguments"
 FAULT = re.compile(r"^`((?:\d+:\d+: )?[a-z][^`]*)`")
 
-# A policy of the tables "Another grant", a request under it (user, user and group to run as, command, arguments), and the
-# verdict.
+
+class Grant(NamedTuple):
+    """A policy of the tables "Another grant", a request under it, and the verdicts, sudo's where the peer can show it."""
+
+    policy: str
+    user: str
+    runas_user: str
+    runas_group: str
+    command: str
+    arguments: str
+    verdict: str
+    sudo: str = ""
+    host: str = "web1.example.org"
+
+
 GRANTS = [
-    ("alice ALL = /bin/ls\\\n-l", "alice", "", "", "/bin/ls-l", "", "allow"),
-    ("alice ALL = /bin/ls\\\n-l", "alice", "", "", "/bin/ls", "-l", "nomatch"),
-    ("alice ALL = /usr/bin/ls -l\\\n    -a", "alice", "", "", "/usr/bin/ls", "-l-a", "allow"),
-    ("alice ALL = /usr/bin/ls -l\\\n    -a", "alice", "", "", "/usr/bin/ls", "-l -a", "nomatch"),
-    ("alice ALL = /bin/ls foo\\ \nbob ALL = ALL", "bob", "", "", "/bin/sh", "", "allow"),
-    ("User_Alias A = ali\\\nce\nA ALL = ALL", "alice", "", "", "/bin/sh", "", "allow"),
-    ("alice web\\\n1 = ALL", "alice", "", "", "/bin/sh", "", "allow"),
-    ('"bo\\x62" ALL = ALL', "bob", "", "", "/bin/sh", "", "allow"),
-    ('"bo\\x62" ALL = ALL', "bo\\x62", "", "", "/bin/sh", "", "nomatch"),
-    ("alice ALL = /bin/ls a\\\\b", "alice", "", "", "/bin/ls", "a\\b", "allow"),
-    ("alice ALL = /bin/ls a\\\\b", "alice", "", "", "/bin/ls", "ab", "nomatch"),
-    ("alice ALL = /usr/bin/passwd [^-]*", "alice", "", "", "/usr/bin/passwd", "-l", "allow"),
-    ("alice ALL = /usr/bin/passwd [^-]*", "alice", "", "", "/usr/bin/passwd", "bob", "nomatch"),
-    ("alice ALL = /bin/ls [[\\:word\\:]]", "alice", "", "", "/bin/ls", "w]", "allow"),
-    ('alice "web?" = ALL', "alice", "", "", "/bin/sh", "", "nomatch"),
-    ("Alice ALL = ALL", "alice", "", "", "/bin/sh", "", "nomatch"),
-    ("%ADM ALL = ALL", "alice", "", "", "/bin/sh", "", "nomatch"),
-    ("alice ALL = (Postgres) ALL", "alice", "postgres", "", "/bin/sh", "", "nomatch"),
-    ("alice ALL = ALL, !/bin/sh", "alice", "", "", "/usr/bin/sh", "", "allow"),
-    ("alice ALL = /bin/ls", "alice", "", "", "/usr/bin/ls", "", "nomatch"),
-    ("alice ALL = /usr/bin/*", "alice", "", "", "/bin/ls", "", "nomatch"),
-    ("alice ALL = /bin/ls", "alice", "", "", "/usr/bin/../bin/ls", "", "nomatch"),
-    ("alice ALL = /usr/bin/sudoedit /etc/x", "alice", "", "", "sudoedit", "/etc/x", "nomatch"),
-    ("alice ALL = ALL, !/usr/bin/sudoedit", "alice", "", "", "sudoedit", "/etc/x", "allow"),
-    ("alice ALL = (#2001) /bin/ls", "alice", "#2001", "", "/bin/ls", "", "unknown-target"),
-    ("Defaults runas_default=postgres\nalice ALL = /bin/ls", "alice", "root", "", "/bin/ls", "", "allow"),
-    ("Defaults runas_default=postgres\nalice ALL = /bin/ls", "alice", "postgres", "", "/bin/ls", "", "nomatch"),
-    ("Defaults !root_sudo\nroot ALL = ALL", "root", "", "", "/bin/ls", "", "allow"),
-    ("Defaults !authenticate\nalice ALL = /bin/ls", "alice", "", "", "/bin/ls", "", "allow"),
-    ("Defaults targetpw\nALL ALL = (ALL) ALL", "bob", "", "", "/bin/ls", "", "allow"),
-    ("Defaults runas_check_shell\nalice ALL = (ALL) /bin/ls", "alice", "bob", "", "/bin/ls", "", "allow"),
-    ("alice ALL = /bin/id", "alice", "root", "adm", "/bin/id", "", "nomatch"),
-    ("alice ALL = /bin/id", "alice", "", "adm", "/bin/id", "", "nomatch"),
-    ("alice ALL = (!alice:adm) /bin/id", "alice", "", "adm", "/bin/id", "", "nomatch"),
-    ("alice ALL = (:operator) /bin/id", "alice", "", "", "/bin/id", "", "allow"),
+    Grant("alice ALL = /bin/ls\\\n-l", "alice", "", "", "/bin/ls-l", "", "allow", "nomatch"),
+    Grant("alice ALL = /bin/ls\\\n-l", "alice", "", "", "/bin/ls", "-l", "nomatch", "allow"),
+    Grant("alice ALL = /usr/bin/ls -l\\\n    -a", "alice", "", "", "/usr/bin/ls", "-l-a", "allow", "nomatch"),
+    Grant("alice ALL = /usr/bin/ls -l\\\n    -a", "alice", "", "", "/usr/bin/ls", "-l -a", "nomatch", "allow"),
+    Grant("alice ALL = /bin/ls foo\\ \nbob ALL=ALL", "bob", "", "", "/bin/sh", "", "allow", "nomatch"),
+    Grant("User_Alias A = ali\\\nce\nA ALL = ALL", "alice", "", "", "/bin/sh", "", "allow", "refused"),
+    Grant("alice web\\\n1 = ALL", "alice", "", "", "/bin/sh", "", "allow", "refused"),
+    Grant('"bo\\x62" ALL = ALL', "bob", "", "", "/bin/sh", "", "allow", "nomatch"),
+    Grant('"bo\\x62" ALL = ALL', "bo\\x62", "", "", "/bin/sh", "", "nomatch", "allow"),
+    Grant("alice ALL = /bin/ls a\\\\b", "alice", "", "", "/bin/ls", "a\\b", "allow", "nomatch"),
+    Grant("alice ALL = /bin/ls a\\\\b", "alice", "", "", "/bin/ls", "ab", "nomatch", "allow"),
+    Grant("alice ALL = /usr/bin/passwd [^-]*", "alice", "", "", "/usr/bin/passwd", "-l", "allow", "nomatch"),
+    Grant("alice ALL = /usr/bin/passwd [^-]*", "alice", "", "", "/usr/bin/passwd", "bob", "nomatch", "allow"),
+    Grant("alice ALL = /bin/ls [[\\:word\\:]]", "alice", "", "", "/bin/ls", "w]", "allow", "nomatch"),
+    Grant('alice "web?" = ALL', "alice", "", "", "/bin/sh", "", "nomatch", "allow"),
+    Grant("Alice ALL = ALL", "alice", "", "", "/bin/sh", "", "nomatch", "allow"),
+    Grant("%ADM ALL = ALL", "alice", "", "", "/bin/sh", "", "nomatch", "allow"),
+    Grant("alice ALL = (Postgres) ALL", "alice", "postgres", "", "/bin/sh", "", "nomatch", "allow"),
+    Grant("alice ALL = ALL, !/bin/sh", "alice", "", "", "/usr/bin/sh", "", "allow"),
+    Grant("alice ALL = /bin/ls", "alice", "", "", "/usr/bin/ls", "", "nomatch"),
+    Grant("alice ALL = /usr/bin/*", "alice", "", "", "/bin/ls", "", "nomatch", "allow"),
+    Grant("alice ALL = /bin/ls", "alice", "", "", "/usr/bin/../bin/ls", "", "nomatch"),
+    Grant("alice ALL = /usr/bin/sudoedit /etc/x", "alice", "", "", "sudoedit", "/etc/x", "nomatch", "refused"),
+    Grant("alice ALL = ALL, !/usr/bin/sudoedit", "alice", "", "", "sudoedit", "/etc/x", "allow", "refused"),
+    Grant("alice ALL = (#2001) /bin/ls", "alice", "#2001", "", "/bin/ls", "", "unknown-target", "allow"),
+    Grant("Defaults runas_default=postgres\nalice ALL = /bin/ls", "alice", "root", "", "/bin/ls", "", "allow", "nomatch"),
+    Grant("Defaults runas_default=postgres\nalice ALL = /bin/ls", "alice", "postgres", "", "/bin/ls", "", "nomatch", "allow"),
+    Grant("Defaults !root_sudo\nroot ALL = ALL", "root", "", "", "/bin/ls", "", "allow"),
+    Grant("Defaults !authenticate\nalice ALL = /bin/ls", "alice", "", "", "/bin/ls", "", "allow"),
+    Grant("Defaults targetpw\nALL ALL = (ALL) ALL", "bob", "", "", "/bin/ls", "", "allow"),
+    Grant("Defaults runas_check_shell\nalice ALL = (ALL) /bin/ls", "alice", "bob", "", "/bin/ls", "", "allow"),
+    Grant("alice ALL = /bin/id", "alice", "root", "adm", "/bin/id", "", "nomatch", "allow"),
+    Grant("alice ALL = /bin/id", "alice", "", "adm", "/bin/id", "", "nomatch", "allow"),
+    Grant("alice ALL = (!alice:adm) /bin/id", "alice", "", "adm", "/bin/id", "", "nomatch", "allow"),
+    Grant("alice ALL = (:operator) /bin/id", "alice", "", "", "/bin/id", "", "allow", "nomatch"),
+    Grant('"al\\ice" ALL = ALL', "alice", "", "", "/bin/sh", "", "allow", "nomatch"),
+    Grant('"al\\ice" ALL = ALL', "al\\ice", "", "", "/bin/sh", "", "nomatch", "allow"),
+    Grant('"%EXAMPLE\\admins" ALL = ALL', "bob", "", "", "/bin/sh", "", "allow", "nomatch"),
+    Grant('"%EXAMPLE\\admins" ALL = ALL', "eve", "", "", "/bin/sh", "", "nomatch", "allow"),
+    Grant("\\#1000 ALL = ALL", "alice", "", "", "/bin/sh", "", "nomatch", "allow"),
+    Grant("alice web\\* = ALL", "alice", "", "", "/bin/sh", "", "nomatch", "allow"),
+    Grant("alice ALL = /bin/ls \\\\*", "alice", "", "", "/bin/ls", "\\x", "allow", "nomatch"),
+    Grant("alice ALL = /bin/ls \\\\*", "alice", "", "", "/bin/ls", "*", "nomatch", "allow"),
+    Grant("alice ALL = /bin/ls [\\\\]", "alice", "", "", "/bin/ls", "\\", "allow", "nomatch"),
+    Grant("alice ALL = /bin/ls [\\\\]", "alice", "", "", "/bin/ls", "[]", "nomatch", "allow"),
+    Grant("alice ALL = /bin/ls [[=a=]]", "alice", "", "", "/bin/ls", "a]", "allow", "nomatch"),
+    Grant("alice ALL = /bin/ls [[=a=]]", "alice", "", "", "/bin/ls", "a", "nomatch", "allow"),
+    Grant("alice ALL = /usr/bin/[l/]s", "alice", "", "", "/usr/bin/ls", "", "allow", "nomatch"),
+    Grant("alice ALL = ALL, !/usr/bin/*", "alice", "", "", "/usr/bin/.x", "", "deny", "allow"),
+    Grant("alice ALL = /opt/*", "alice", "", "", "/opt/x", "", "allow", "nomatch"),
+    Grant("alice ALL = sudoedit!x", "alice", "", "", "sudoedit", "!x", "nomatch", "allow"),
+    Grant('alice ALL = /bin/ls ""', "alice", "", "", "/bin/ls", "", "allow"),
+    Grant("alice 0.0.0.0/0 = ALL", "alice", "", "", "/bin/ls", "", "allow", "nomatch"),
+    Grant("alice 010.1.2.3 = ALL", "alice", "", "", "/bin/ls", "", "allow", "nomatch"),
+    Grant("Defaults !fqdn\nalice web1.example.org = ALL", "alice", "", "", "/bin/ls", "", "allow"),
+    Grant("Defaults sudoers_locale=C.UTF-8\nalice ALL = /bin/echo ?", "alice", "", "", "/bin/echo", "é", "nomatch", "allow"),
+    Grant("Defaults fast_glob\nalice ALL = /usr/*/", "alice", "", "", "/usr/bin/ls", "", "allow", "nomatch"),
+    Grant("Defaults requiretty\nalice ALL = ALL", "alice", "", "", "/bin/ls", "", "allow"),
+    Grant("alice [[\\:upper\\:]]* = ALL", "alice", "", "", "/bin/sh", "", "nomatch", "allow", "WEB1"),
+    Grant("alice [[\\:ALPHA\\:]]* = ALL", "alice", "", "", "/bin/sh", "", "allow", "nomatch", "web1.example.org"),
+    Grant("alice 10.9.9.9 = ALL", "alice", "", "", "/bin/sh", "", "allow", "nomatch", "lo"),
+    Grant("alice 127.5.0.1 = ALL", "alice", "", "", "/bin/sh", "", "nomatch", "allow", "lo"),
 ]
 
 
@@ -89,12 +134,12 @@ class Profile(Case):
         done = subprocess.run([PROGRAM, "check", path], capture_output=True, text=True, check=False)
         return done.returncode, done.stdout + done.stderr
 
-    def verdict(self, policy, user, runas_user, runas_group, command, arguments):
-        """Returns the verdict on a request."""
-        request = ["1", user, "web1.example.org", runas_user, runas_group, command, arguments]
+    def verdict(self, grant):
+        """Returns the verdict on the request of a grant."""
+        request = ["1", grant.user, grant.host, grant.runas_user, grant.runas_group, grant.command, grant.arguments]
         requests = self.write("requests.csv", "\n".join([HEADER, ",".join(request), "close,1,,,,,", ""]))
         words = ["--users", self.write("users.csv", USERS), "--hosts", self.write("hosts.csv", HOSTS), f"s={requests}"]
-        policy = self.write("policy", policy + "\n")
+        policy = self.write("policy", grant.policy + "\n")
         done = subprocess.run([PROGRAM, "audit", policy, *words], capture_output=True, text=True, check=False)
         self.assertEqual(done.returncode, 0, done.stderr)
         return list(csv.reader(done.stdout.splitlines()))[1][2]
@@ -124,10 +169,10 @@ class Profile(Case):
 
     def test_other_grants(self):
         shown = "\n".join(prose_of("docs/PROFILE.md"))
-        for policy, *request, wanted in GRANTS:
-            with self.subTest(policy=policy, request=request):
-                self.assertEqual(self.verdict(policy, *request), wanted)
-                self.assertIn(f"`{policy.splitlines()[0]}`", shown)
+        for grant in GRANTS:
+            with self.subTest(grant=grant):
+                self.assertEqual(self.verdict(grant), grant.verdict)
+                self.assertIn(f"`{grant.policy.splitlines()[0]}`", shown)
 
 
 if __name__ == "__main__":

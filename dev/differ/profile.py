@@ -1,0 +1,290 @@
+"""The rows of docs/PROFILE.md that the peer can show, and how each construct is taken out.
+
+A row explains a difference that goes when the row's construct goes. Where the construct has a spelling that both read
+alike, that takes its place, so that nothing else is excused with it.
+"""
+
+import re
+from collections.abc import Callable, Iterator
+
+from differ import world
+from differ.ask import Answer, Case
+from differ.constructs import NOTHING, Row, in_turn, mapped, pieces_changed, replaced, swapped, where
+from differ.pieces import TAG, Piece, pieces_of, plain, spelled
+
+USERS = {user.name for user in world.USERS_KNOWN}
+GROUPS = set(world.GROUP_NUMBERS)
+WORDS = "word quoted"
+LISTS = "user runas host"
+
+
+def _byte(found: re.Match[str]) -> str:
+    """Returns the byte that a found escape stands for."""
+    return chr(int(found[1], 16)) if found[1] else found[2]
+
+
+def _known(name: str, names: set[str]) -> str | None:
+    """Returns the known name that differs from a name in letter case alone."""
+    said = name.encode(world.ENCODING).lower()
+    return next(
+        (known for known in sorted(names) if known.encode(world.ENCODING).lower() == said and known != name), None
+    )
+
+
+def _case_of_users(piece: Piece) -> str:
+    """Returns a piece that names a user in the letter case of that user."""
+    known = _known(plain(piece.text), USERS) if piece.role in LISTS.split() and piece.kind in WORDS.split() else None
+    return spelled(known) if known else piece.text
+
+
+def _case_of_groups(piece: Piece) -> str:
+    """Returns a piece that names a group in the letter case of that group."""
+    if piece.kind not in WORDS.split() or piece.role not in ("user", "runas"):
+        return piece.text
+    said = plain(piece.text)
+    sign = "%" if said.startswith("%") else ""
+    known = _known(said.removeprefix("%"), GROUPS) if sign or piece.role == "runas" else None
+    return sign + spelled(known) if known else piece.text
+
+
+def _with_runas(change: Callable[[str | None, str | None], str | None]) -> Callable[[str], str]:
+    """Returns a change of what says whom to run as: of the users and the groups, both `None` where nothing is said."""
+
+    def of_text(text: str) -> str:
+        out: list[str] = []
+        wants = False
+        inside: int | None = None
+        for piece in pieces_of(text):
+            if wants and piece.kind not in ("blank", "join"):
+                wants = False
+                new = change(None, None) if piece.text != "(" else None
+                out.append(f"({new}) " if new is not None else "")
+            if piece.role == "runas" and piece.text == "(":
+                inside = len(out)
+            out.append(piece.text)
+            if piece.role == "runas" and piece.text == ")" and inside is not None:
+                users, *groups = "".join(out[inside + 1 : -1]).split(":", 1)
+                new = change(users.strip(), groups[0] if groups else None)
+                out[inside:] = out[inside:] if new is None else [f"({new})"]
+                inside = None
+            wants = wants or piece[:2] == ("host", "mark") and piece.text == "="
+        return "".join(out)
+
+    return of_text
+
+
+def _group_beside_root(case: Case) -> Iterator[Case]:
+    """Yields a case in which commands without a runas may have any group, if a user and a group are asked for."""
+    asked = case.request
+    if asked and asked.runas_user and asked.runas_group:
+        yield mapped(case, _with_runas(lambda users, groups: "root:ALL" if users is None else None))
+
+
+def _group_alone(case: Case) -> Iterator[Case]:
+    """Yields a case in which any user is allowed where no groups are said, if the request is for a group alone."""
+    asked = case.request
+    if asked and asked.runas_group and not asked.runas_user:
+        yield mapped(case, _with_runas(lambda users, groups: "ALL" if groups is None and users != "" else None))
+    elif asked and asked.runas_group and asked.runas_user == asked.user:
+        own = spelled(asked.user)
+        yield mapped(case, _with_runas(lambda users, groups: f"{own}, {users}" if users and groups is None else None))
+
+
+def _denied_oneself(case: Case) -> Iterator[Case]:
+    """Yields a case in which any user may be run as where groups are said, if a group alone is asked for."""
+    asked = case.request
+    if asked and asked.runas_group and not asked.runas_user:
+        yield mapped(case, _with_runas(lambda users, groups: f"ALL:{groups}" if users and groups is not None else None))
+
+
+def _groups_without_group(case: Case) -> Iterator[Case]:
+    """Yields a case in which nobody may be run as where groups alone are said, if no group is asked for."""
+    asked = case.request
+    if asked and not asked.runas_group:
+        yield mapped(
+            case, _with_runas(lambda users, groups: "!ALL" if users == "" and groups and groups.strip() else None)
+        )
+
+
+def _asks_for(*commands: str) -> Callable[[Case], bool]:
+    return lambda case: case.request is not None and case.request.command in commands
+
+
+def _without_setenv(answer: Answer) -> Answer:
+    """Returns an answer without the tags SETENV and NOSETENV."""
+    return answer._replace(tags=" ".join(tag for tag in answer.tags.split() if not tag.endswith("SETENV")))
+
+
+def _if_said(pattern: str) -> Callable[[Case], Iterator[Case]]:
+    """Returns what leaves a case as it is, if a pattern is found in one of its texts."""
+
+    def kept(case: Case) -> Iterator[Case]:
+        if any(re.search(pattern, text, re.MULTILINE) for text in (case.text, *(text for _, text in case.files))):
+            yield case
+
+    return kept
+
+
+def _blank_before_parameters(case: Case) -> Iterator[Case]:
+    """Yields a case in which a blank stands between the list of a Defaults line and its parameters."""
+
+    def of_text(text: str) -> str:
+        before, out = "parameter", []
+        for piece in pieces_of(text):
+            bound = piece.role == "parameter" and before in LISTS.split() + ["cmnd"]
+            out.append(f" {piece.text}" if bound else piece.text)
+            before = "parameter" if piece.kind in ("blank", "join", "newline") else piece.role
+        return "".join(out)
+
+    yield mapped(case, of_text)
+
+
+def _aliases_like_tags(case: Case) -> Iterator[Case]:
+    """Yields a case in which aliases that have the name of a tag have another."""
+    names = {piece.text for piece in pieces_of(case.text) if piece.role == "name" and TAG.match(piece.text)}
+    yield from pieces_changed(lambda piece: f"Z{piece.text}" if piece.text in names else piece.text)(case)
+
+
+def _undefined(case: Case) -> Iterator[Case]:
+    """Yields a case in which `ALL` stands for each alias that is not defined."""
+    defined = {piece.text for piece in pieces_of(case.text) if piece.role == "name"}
+
+    def of_piece(piece: Piece) -> str:
+        used = piece.kind == "word" and piece.role != "name" and re.fullmatch(r"[A-Z][A-Z0-9_]*", piece.text)
+        return "ALL" if used and piece.text not in defined and not TAG.match(piece.text) else piece.text
+
+    yield from pieces_changed(of_piece)(case)
+
+
+def _target_number(case: Case) -> Iterator[Case]:
+    """Yields a case that asks for a user by name in place of by number."""
+    if case.request and case.request.runas_user.startswith("#"):
+        number = int(case.request.runas_user[1:])
+        for user in world.USERS_KNOWN:
+            if user.number == number:
+                yield case._replace(request=case.request._replace(runas_user=user.name))
+
+
+GRANTS = (
+    Row("alice ALL = NOSETENV: /bin/ls, ALL, /bin/cat", _if_said(r"NOSETENV"), _without_setenv),
+    Row("Cmnd_Alias X = ALL", _if_said(r"Cmn?d_Alias.*ALL"), _without_setenv),
+    Row("alice ALL = /bin/ls\\", replaced(r"\\\r?\n[ \t]*", " ", "")),
+    Row("alice ALL = /bin/ls foo\\ ", replaced(r"\\[ \t]+\r?\n[ \t]*", " ", "")),
+    Row("#include /etc/x", replaced(r"^[ \t]+#include", "# include")),
+    Row('"bo\\x62" ALL = ALL', swapped("user runas host", "quoted", r"\\x([0-9A-Fa-f]{2})", _byte)),
+    Row('"al\\ice" ALL = ALL', swapped("user runas host", "quoted", r'\\([^"\\])', r"\1")),
+    Row("alice ALL = /bin/ls a\\\\b", swapped("cmnd", "argument", r"\\\\", "z", "")),
+    Row("alice ALL = /usr/bin/passwd [^-]*", swapped("cmnd host", "path argument word", r"\[\^", "[!", "[\\\\!")),
+    Row(
+        "alice ALL = /bin/ls [[\\:word\\:]]",
+        swapped(
+            "cmnd host",
+            "path argument word",
+            r"\[\\?:(?!(alnum|alpha|blank|cntrl|digit|graph|lower|print|punct|space|upper|xdigit)\\?:\])\w*\\?:\]",
+            NOTHING,
+        ),
+    ),
+    Row(
+        "alice ALL = /bin/ls [[=a=]]",
+        swapped("cmnd host", "path argument word", r"\[(?:\\?=(.)\\?=|\.(.)\.)\]", lambda found: found[1] or found[2]),
+    ),
+    Row("alice ALL = /usr/bin/[l/]s", swapped("cmnd", "path argument", r"(\[[^\]/]*)/", r"\1z")),
+    Row('alice "web?" = ALL', swapped("host", "quoted", r"[*?\[\]]", "z")),
+    Row(
+        "alice web\\* = ALL",
+        swapped(
+            "host",
+            WORDS,
+            r"\\x(?:2[aAdD]|3[fF]|5[bBdDeE])|\\(?=[*?\[\]^\\-])",
+            lambda found: chr(int(found[0][2:], 16)) if len(found[0]) > 1 else "",
+        ),
+    ),
+    Row("alice [[\\:upper\\:]]* = ALL", swapped("host", WORDS, r"\[\\?:(upper|lower)\\?:\]", NOTHING)),
+    Row("\\#1000 ALL = ALL", swapped("user runas", "word", r"^\\(?:#|x23)(?=[0-9])", "#")),
+    Row("Alice ALL = ALL", pieces_changed(_case_of_users)),
+    Row("%ADM ALL = ALL", pieces_changed(_case_of_groups)),
+    Row("alice 010.1.2.3 = ALL", swapped("host", "word", r"^[0-9.]*\b0[0-9]+[0-9./]*$|/0[0-9]+$", "zz")),
+    Row("alice 0.0.0.0/0 = ALL", swapped("host", "word", r"^[0-9.]+/0$", "zz")),
+    Row(
+        "alice 127.5.0.1 = ALL",
+        where(
+            lambda case: case.request is not None and case.request.host.startswith("web2"),
+            swapped("host", "word", r"^127\.[0-9./]+$", "10.2.0.9"),
+        ),
+    ),
+    Row(
+        "alice ALL = ALL, !/usr/bin/*",
+        where(
+            _asks_for(f"{world.TOP}/b/.hid"),
+            in_turn(
+                swapped("cmnd", "path", r"/(?=[*?])", "/[!.]"),
+                swapped("cmnd", "path", r"/\*", "/[!.]*"),
+                swapped("cmnd", "path", r"/(?=\[)", "/z"),
+            ),
+        ),
+    ),
+    Row("alice ALL = /opt/*", where(_asks_for(world.GONE), swapped("cmnd", "path", r".*[*?\[].*|.*/$", "/nowhere"))),
+    Row("Defaults runas_default=postgres", replaced(r"runas_default=postgres", "insults")),
+    Row("Defaults fast_glob", replaced(r"fast_glob", "insults")),
+    Row("Defaults sudoers_locale=C.UTF-8", replaced(r"sudoers_locale=C.UTF-8", "insults")),
+    Row("alice ALL = /bin/id", _group_beside_root),
+    Row("(operator) /bin/id", _group_alone),
+    Row("alice ALL = (!alice:adm) /bin/id", _denied_oneself),
+    Row("alice ALL = (:operator) /bin/id", _groups_without_group),
+    Row("alice ALL = (#2001) /bin/ls", _target_number),
+)
+
+OPTIONS = "CWD|CHROOT|TIMEOUT|NOTBEFORE|NOTAFTER|ROLE|TYPE"
+FILES = (
+    # Refused here, read by sudo.
+    Row("alice\\", replaced(r"\\\r?\n[ \t]*", " ", "")),
+    Row("Cmnd_Alias A = /bin/ls, \\ ", replaced(r"\\[ \t]+\r?\n[ \t]*", " ", "")),
+    Row("alice ALL = ALL # note \\", swapped("*", "comment", r"\\+[ \t]*\r?$", "")),
+    Row("#includedir", replaced(r"^[ \t]*#include(dir)?[ \t]*$", "# x")),
+    Row('@include /x/a"b"', replaced(r'^([ \t]*[@#]include(?:dir)?[ \t]+[^"\s]+)"([^"\n]*)"', r"\1\2")),
+    Row("@include /x/a\\x62", swapped("include", "word path", r"\\x([0-9A-Fa-f]{2})", _byte)),
+    Row('@include "/x/a\\x62"', swapped("include", "quoted", r"\\(?:x([0-9A-Fa-f]{2})|([^\"]))", _byte)),
+    Row("alice ALL = /bin/l=s", swapped("cmnd", "mark", "^=$", "z")),
+    Row("alice #5 = ALL", swapped("*", "comment", r"^#(?=-?[0-9])", " z")),
+    Row("a control byte, outside a comment", replaced(r"[\x00-\x08\x0b-\x1f\x7f]", "z", "", " z ")),
+    Row("#4294967296", swapped(LISTS, WORDS, r"^.*[#/].*$|^[0-9.\\]+$", "zz")),
+    Row("bo\\x2 ALL = ALL", swapped("*", WORDS + " value", r"\\x(?![0-9A-Fa-f]{2})", "z")),
+    Row("alice 2001:db8::1 = ALL", replaced(r"[0-9A-Fa-f]*:[0-9A-Fa-f]*:[0-9A-Fa-f:.]*(/\w+)?", "zz")),
+    Row("alice / = ALL", swapped(LISTS, "path", "^/$", "zz")),
+    Row("alice web1 !! = ALL", replaced(r"!!", "")),
+    Row("a file whose last line is one backslash", replaced(r"\\\r?\n?\Z", "")),
+    Row("+netgroup", swapped(LISTS, WORDS, r'^("?)\+', r"\1z")),
+    Row("%:group", replaced(r"%:(?=\S)", "%z")),
+    Row("CWD=", replaced(rf"\b({OPTIONS})[ \t]*=[ \t]*\S+", "")),
+    Row("+netgroup", replaced(r"\^[^#\n]*?\$", "/z")),
+    Row("list", swapped("cmnd", WORDS, r'^"?list"?$', "/z")),
+    Row("Defaults!PAGERS noexec", replaced(r"^([ \t]*Defaults)[:@>!].*[A-Z][A-Z0-9_]*.*$", r"\1 insults")),
+    Row("Runas_Alias A = B", _undefined),
+    # Read here, refused by sudo.
+    Row("alice ALL = /bin/ls", replaced(r"\r$", "")),
+    Row("Defaults nonsense", swapped("parameter", "word value quoted", r"^[a-z_]+$", "insults")),
+    Row("alice ALL = /bin/ls ^-l", replaced(r"(?<=[ \t])\^", "z")),
+    Row("alice ALL = /", swapped("cmnd", "path", r"^/$", "/z/")),
+    Row("alice ALL = ALL, ! ! /bin/ls", replaced(r"!(?:[ \t]+!)+", "!")),
+    Row('Defaults "env_reset"', swapped("parameter", "quoted", r"^.*$", "insults")),
+    Row('alice ALL = /bin/ls a\\"b', swapped("cmnd", "argument", r"\\(?![*?\[\]!^:\\,= \t#])", "")),
+    Row("alice ALL = /bin/l\\s", swapped("cmnd", "path", r"\\(?![,:= \t#])", "z")),
+    Row("a tab behind a backslash", swapped("*", "word", r"\\\t", "z")),
+    Row("alice ALL = /bin/ls #5", swapped("*", "comment", r"^#(?=-?[0-9])", "# ")),
+    Row("a>b ALL = ALL", swapped(LISTS, "word", ">", "z")),
+    Row("^a$ ALL = ALL", swapped(LISTS, "word", r"^\^", "z")),
+    Row("10.1.2.3 ALL = ALL", swapped("user runas", "word", r"^[0-9.]+(/.*)?$", "zz")),
+    Row("alice %adm = ALL", swapped("host", WORDS, r'^("?)%', r"\1z")),
+    Row("alice ALL = /bin/ -l", replaced(r"/(?=[ \t]+[^\s,:=#(])", "/z")),
+    Row("alice ALL = /bin/ls =", swapped("cmnd", "argument", r"^=$|(?<=\\.)=$", "z")),
+    Row('Defaults:"bob"env_reset', _blank_before_parameters),
+    Row('Defaults badpass_message=""', swapped("parameter", "quoted", '^""$', '"z"')),
+    Row("Defaults web1", swapped("parameter", "word path", r"^.*[^a-z_].*$", "insults")),
+    Row("alice ALL = (bob:) /bin/ls", replaced(r":[ \t]*\)", ")")),
+    Row("alice ALL = (root : %adm) /bin/ls", swapped("runas", WORDS, r'^("?)%', r"\1z")),
+    Row("Cmnd_Alias CWD = /bin/ls", replaced(rf"\b({OPTIONS})\b", "ZZZ")),
+    Row("sha256 ALL = ALL", swapped(LISTS, "word", r"^sha(224|256|384|512)$", "z")),
+    Row("alice @include = ALL", swapped(LISTS, "word", r"^@include(dir)?$", "z")),
+    Row("Host_Alias MAIL = web1", _aliases_like_tags),
+    Row("alice ALL = /usr/bin/sudoedit /etc/x", swapped("cmnd", "path", r"/sudoedit$", "/z")),
+)
