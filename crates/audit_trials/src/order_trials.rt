@@ -234,7 +234,11 @@ fn released_len(collector: &Collector, sender: u32) -> Option<usize> {
 }
 
 // Whether the collector answers each step as the step says, and has then released so many answers of the sender 0.
-fn takes(alloc: Global, collector: &mut Collector, steps: &[(Step, Option<Refused>, usize)]) -> bool {
+fn takes(
+    alloc: Global,
+    collector: &mut Collector,
+    steps: &[(Step, Option<Refused>, usize)],
+) -> bool {
     for (step, wanted, released) in steps {
         let is_as_wanted = refusal(collector, arrival(alloc, *step)) == *wanted;
         if !is_as_wanted || released_len(collector, 0) != Some(*released) {
@@ -285,7 +289,12 @@ fn what_is_refused_changes_nothing(rt: HostRuntime) -> Result<(), AllocError> {
     ];
     assert!(rt; takes(alloc, &mut collector, &steps));
     let (mut collector, gap) = unfinished(collector)?;
-    assert!(rt; gap == Unfinished::Gap { sender: 0, number: 1 });
+    assert!(rt;
+        gap == Unfinished::Gap {
+            sender: 0,
+            number: 1
+        }
+    );
     let steps = [
         (Step::Reply(0, 4), None, 0),
         (Step::Reply(0, 1), None, 2),

@@ -139,7 +139,12 @@ fn requests(alloc: Global, row: &str) -> Result<Requests, Fail> {
 }
 
 // Returns the verdict on a request by the index, which must be the one by `verdict`.
-fn both(alloc: Global, policy: &Checked, directory: &Directory, request: &Request) -> Result<Verdict, Fail> {
+fn both(
+    alloc: Global,
+    policy: &Checked,
+    directory: &Directory,
+    request: &Request,
+) -> Result<Verdict, Fail> {
     let index = RuleIndex::of(alloc, policy)?;
     let found = index.verdict(policy, directory, request);
     drop(index);
