@@ -357,11 +357,11 @@ def faults_of(ended: Ended) -> list[str]:
 def is_refused(hostile: Callable[["Sweep", str], None], path: str, command: Command) -> bool:
     """Returns whether an input is refused: below a folder of copied files each, and otherwise what is no plain file.
 
-    A plain file is refused where it has to have another form, and what is no folder is no host of a fleet. sudo, too,
-    passes over a folder in a folder of policies.
+    A plain file is refused where it has to have another form, and is read, as the fleet's own users are not here. What
+    is no folder is no host of a fleet. sudo, too, passes over a folder in a folder of policies.
     """
     if hostile is long_line:
-        return path.endswith(("users.csv", "hosts.csv", "senders.csv", "report.csv", "passwd"))
+        return path != "fleet/users.csv" and path.endswith(("users.csv", "hosts.csv", "senders.csv", "report.csv", "passwd"))
     if hostile is not link_to_root and path == "fleet/web1" or hostile is folder and "sudoers.d" in path:
         return False
     return path in command.found or hostile in (fifo, device, sparse)
