@@ -6,11 +6,12 @@ folder of what `ssh` would run there.
 
 import os
 import re
+import shutil
 import subprocess
 import unittest
 
 from machine import MachineCase
-from support import PROGRAM, TOOLS, needs_jinja, needs_program
+from support import EXAMPLES, PROGRAM, TOOLS, needs_jinja, needs_program
 
 REPOSITORY = os.path.dirname(TOOLS)
 
@@ -40,8 +41,8 @@ def script_of(commands: list[str]) -> str:
 class Walkthrough(MachineCase):
     def outputs(self, commands: list[str]) -> list[str]:
         """Runs commands as the page says, in a folder like the repository's, and returns what each prints."""
-        for name in ("tools", "examples"):
-            os.symlink(os.path.join(REPOSITORY, name), self.path(name))
+        os.symlink(TOOLS, self.path("tools"))
+        shutil.copytree(EXAMPLES, self.path("examples"))
         os.symlink(os.path.abspath(PROGRAM or ""), self.path("bin", "sudo_audit"))
         environment = {"PATH": f"{self.path('bin')}:/usr/local/bin:/usr/bin:/bin:/usr/sbin", "LC_ALL": "C.UTF-8"}
         words = ["bash", "-c", script_of(commands)]
