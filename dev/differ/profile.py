@@ -256,7 +256,7 @@ FILES = (
     Row("a file whose last line is one backslash", replaced(r"\\\r?\n?\Z", "")),
     Row("+netgroup", swapped(LISTS, WORDS, r'^("?)\+', r"\1z")),
     Row("%:group", replaced(r"%:(?=\S)", "%z")),
-    Row("CWD=", replaced(rf"(?<!\\)\b({OPTIONS})[ \t]*=[ \t]*\S+", "")),
+    Row("CWD=", replaced(rf"(?<!\\)\b({OPTIONS})[ \t]*=[ \t]*[^\s!,:()#\"]+", "")),
     Row("+netgroup", replaced(r"\^[^#\n]*?\$", "/z")),
     Row("list", swapped("cmnd", WORDS, r'^"?list"?$', "/z")),
     Row("Defaults!PAGERS noexec", where(lambda case: "Defaults" in case.text, _undefined)),
