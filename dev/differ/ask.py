@@ -18,6 +18,7 @@ PAIRS = ("EXEC", "FOLLOW", "INTERCEPT", "LOG_INPUT", "LOG_OUTPUT", "MAIL", "PASS
 # Of the numbers that the peer prints, these two say that the tag with NO holds.
 REVERSED = ("EXEC", "PASSWD")
 PARSES = b"Parses OK\n"
+CANNOT_READ = b"sudo_audit: cannot read "
 TRIED = re.compile(rb"^\tcmnd  (allowed|denied)\n\tgrant (.*):(\d+) ([-\d ]+)$", re.MULTILINE)
 UNKNOWN = re.compile(rb"unknown (user|group) ")
 VERDICTS = {b"allowed": "allow", b"denied": "deny"}
@@ -86,9 +87,14 @@ class Asker:
     def check(self) -> bool:
         """Returns whether the program reads the policy that was written and finds no error."""
         done = self._run([self.program, "check", POLICY], b"", {})
-        if done.returncode not in (0, 1):
+        return not self._refuses(done)
+
+    def _refuses(self, done: subprocess.CompletedProcess[bytes]) -> bool:
+        """Returns whether the program refused the policy. Raises `Fault` if it ended otherwise than it may."""
+        refused = done.returncode == 1 or done.returncode == 4 and CANNOT_READ in done.stdout
+        if done.returncode != 0 and not refused:
             raise _wrong(self.program, done, self._text())
-        return done.returncode == 0
+        return refused
 
     def _text(self) -> bytes:
         with open(os.path.join(self.folder, POLICY), "rb") as file:
@@ -104,10 +110,8 @@ class Asker:
         world.write_requests(self.folder, requests)
         words = [self.program, "audit", POLICY, "--users", world.USERS, "--hosts", world.HOSTS, "--workers", "1"]
         done = self._run([*words, f"{SENDER}={world.REQUESTS}"], b"", {})
-        if done.returncode == 1:
+        if self._refuses(done):
             return None
-        if done.returncode != 0:
-            raise _wrong(self.program, done, self._text())
         body = list(csv.reader(done.stdout.decode(ENCODING).splitlines()))[1:]
         return [Answer(verdict, place, tags) for _, _, verdict, place, tags in body]
 

@@ -150,7 +150,8 @@ def _undefined(case: Case) -> Iterator[Case]:
     defined = {piece.text for piece in pieces_of(case.text) if piece.role == "name"}
 
     def of_piece(piece: Piece) -> str:
-        used = piece.kind == "word" and piece.role != "name" and re.fullmatch(r"[A-Z][A-Z0-9_]*", piece.text)
+        used = piece.kind == "word" and piece.role in (*LISTS.split(), "cmnd")
+        used = used and re.fullmatch(r"[A-Z][A-Z0-9_]*", piece.text) is not None
         return "ALL" if used and piece.text not in defined and not TAG.match(piece.text) else piece.text
 
     yield from pieces_changed(of_piece)(case)
@@ -255,10 +256,10 @@ FILES = (
     Row("a file whose last line is one backslash", replaced(r"\\\r?\n?\Z", "")),
     Row("+netgroup", swapped(LISTS, WORDS, r'^("?)\+', r"\1z")),
     Row("%:group", replaced(r"%:(?=\S)", "%z")),
-    Row("CWD=", replaced(rf"\b({OPTIONS})[ \t]*=[ \t]*\S+", "")),
+    Row("CWD=", replaced(rf"(?<!\\)\b({OPTIONS})[ \t]*=[ \t]*[^\s!,:()#\"]+", "")),
     Row("+netgroup", replaced(r"\^[^#\n]*?\$", "/z")),
     Row("list", swapped("cmnd", WORDS, r'^"?list"?$', "/z")),
-    Row("Defaults!PAGERS noexec", replaced(r"^([ \t]*Defaults)[:@>!].*[A-Z][A-Z0-9_]*.*$", r"\1 insults")),
+    Row("Defaults!PAGERS noexec", where(lambda case: "Defaults" in case.text, _undefined)),
     Row("Runas_Alias A = B", _undefined),
     # Read here, refused by sudo.
     Row("alice ALL = /bin/ls", replaced(r"\r$", "")),

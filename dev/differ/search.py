@@ -161,8 +161,10 @@ class Search:
         """Returns the row with whose construct the difference goes, where those of other rows are out already."""
         out: list[Row] = []
         last = self.asked(case)
-        for row in self.rows(case):
+        for row in 2 * self.rows(case):
             for changed in row.change(case):
+                if changed == case and row.counts is same_answer:
+                    continue
                 both = self.asked(changed)
                 if both.agree([*out, row]):
                     return row
