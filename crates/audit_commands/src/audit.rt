@@ -130,13 +130,7 @@ fn audited<T: Threads + Wait + Sync, U: Feed, H: Feed, R: Feed + Drop + Send>(
 
 // Returns the text and the status of an audit of the sources, under the policy of a file, which it loads. Forgets the
 // policy: the run ends here.
-fn audit_output<
-    T: Threads + Wait + Sync,
-    F: Files,
-    U: Feed,
-    H: Feed,
-    R: Feed + Drop + Send,
->(
+fn audit_output<T: Threads + Wait + Sync, F: Files, U: Feed, H: Feed, R: Feed + Drop + Send>(
     alloc: Global,
     rt: &T,
     path: &[u8],

@@ -262,11 +262,7 @@ fn file_line(
 }
 
 // Returns the line of users and hosts that form no directory.
-fn directory_line(
-    alloc: Global,
-    program: &[u8],
-    fault: &DirFault,
-) -> Result<Vec<u8>, AllocError>
+fn directory_line(alloc: Global, program: &[u8], fault: &DirFault) -> Result<Vec<u8>, AllocError>
     ensures { IfOk result (λ line. line.items
         ≡ error_line program.now (directory_fault_text fault.now)) }
 {

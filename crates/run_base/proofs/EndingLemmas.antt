@@ -1,8 +1,8 @@
 -- The ends of runs.
-use Rattle.std.proofs.Common.{◌≡◌, ◌<◌, ◌≤◌, ◌+◌, ℕ, List, ◌++◌, length, take, Option, Some, None, Result, Ok, Err, inl, inr, refl, sym, ap, subst, ◌∙◌, append_assoc, arith}
+use Rattle.std.proofs.Common.{◌≡◌, ◌<◌, ◌≤◌, ℕ, List, ◌++◌, length, take, Option, Some, None, Result, Ok, Err, inl, inr, refl, sym, ap, subst, ◌∙◌, append_assoc, arith}
 use Rattle.std.specs.Prelude.{IfErr, IfOk}
 use Rattle.std.specs.Io.KnownBytes.{Appends}
-use Rattle.run_base.specs.Endings.{EndsInFault, Ends, HasWritten, HasWrittenNothing, IsFault, IsFaultPrinted, IsPrinted, IsWell, Notices, Prints, PrintsLine, PrintsOrNoMemory, WriterStates}
+use Rattle.run_base.specs.Endings.{Ends, HasWritten, HasWrittenNothing, IsFault, IsFaultPrinted, IsPrinted, IsWell, Notices, Prints, PrintsLine, PrintsOrNoMemory, WriterStates}
 use Rattle.run_base.specs.FaultLines.{write_line}
 use Rattle.run_base.specs.declared.run_output.RunOutput.{RunOutput}
 

@@ -200,7 +200,7 @@ fn hand_in<F: Files>(
 #[derive(Drop)]
 pub struct Loaded {
     pub text: Seq<u8>,
-    pub supplies: Vec<Supply>,
+    pub supplies: Seq<Supply>,
     pub policy: Policy,
 }
 
@@ -215,7 +215,7 @@ pub fn load_files<F: Files>(
     files: &mut F,
 ) -> Result<Loaded, PolicyFault>
     ensures loaded { IfOk result (λ loaded. IsLoadedFrom (F.held files.old) path.now
-        loaded.text loaded.supplies.items loaded.policy) }
+        loaded.text loaded.supplies loaded.policy) }
     ensures fault { IfErr result (IsNoPolicy (F.held files.old) path.now) }
 {
     let text = main_text(alloc, files, path)?;
@@ -225,7 +225,7 @@ pub fn load_files<F: Files>(
             Ok(policy) => {
                 return Ok(Loaded {
                     text,
-                    supplies,
+                    supplies: Seq::from_vec(supplies),
                     policy,
                 });
             }
