@@ -29,7 +29,9 @@ fn check<'a>(alloc: Global) -> Result<Command<'a>, AllocError>
     ensures app { IfOk result (λ c. app_of c ≡ check_app) }
     ensures local { IfOk result (λ c. (fields_of c).has_globals ≡ false) }
 {
-    Command::new(alloc, "check").arg(file(alloc))
+    Command::new(alloc, "check")
+        .about("Lists what is wrong with the aliases of a policy")
+        .arg(file(alloc))
 }
 
 // Returns `expand FILE KIND NAME`.
@@ -38,6 +40,7 @@ fn expand<'a>(alloc: Global) -> Result<Command<'a>, AllocError>
     ensures local { IfOk result (λ c. (fields_of c).has_globals ≡ false) }
 {
     Command::new(alloc, "expand")
+        .about("Prints the members of an alias, written out")
         .arg(file(alloc))?
         .arg(word(alloc, "kind", "user, runas, host or cmnd"))?
         .arg(word(alloc, "name", "The alias"))
@@ -79,6 +82,7 @@ fn audit_paths<'a>(alloc: Global) -> Result<Command<'a>, AllocError>
     ensures local { IfOk result (λ c. (fields_of c).has_globals ≡ false) }
 {
     Command::new(alloc, "audit")
+        .about("Prints what a policy grants to each request")
         .arg(file(alloc))?
         .arg(path_option(alloc, "users", "The known users, as CSV"))?
         .arg(path_option(alloc, "hosts", "The known hosts, as CSV"))
