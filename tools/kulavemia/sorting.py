@@ -199,8 +199,8 @@ class Sorter:
             return event
         if len(self.known_hosts) > 1:
             raise Fault(
-                f"{log}:{line}: the line has no host, and {self.hosts_file} has {len(self.known_hosts)}: name the log's"
-                " by --host"
+                f"{log}:{line}: the line has no host, and {self.hosts_file} has {len(self.known_hosts)} hosts: name the"
+                " log's by --host"
             )
         return noted(event._replace(request=event.request._replace(host=self.known_hosts[0])), "no host logged")
 

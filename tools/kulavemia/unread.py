@@ -19,8 +19,8 @@ def warnings(counts: Mapping[str, int]) -> list[str]:
     found = []
     if counts[FORGED]:
         found.append(
-            f"{counts[FORGED]} entries of the journal are forged: another program wrote them under sudo's name, and"
-            " skipped.csv names each; if sudo itself is at another path, name it by --sudo-path"
+            f"{counts[FORGED]} entries of the journal are forged: sudo's program did not write them, as far as the journal"
+            " knows, and skipped.csv names each; if sudo is at another path, name it by --sudo-path"
         )
     if is_most(counts):
         found.append(

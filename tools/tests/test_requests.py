@@ -126,7 +126,9 @@ class Command(Case):
         log = self.write("log", line("web1") + OWN_LINE)
         hosts = self.write("hosts.csv", "host,interfaces\nweb1,\nweb2,\n")
         err = self.run_tool("requests", log, "--hosts", hosts, "--out", "a", status=3)[1]
-        self.assertEqual(err, f"requests: {log}:2: the line has no host, and {hosts} has 2: name the log's by --host\n")
+        self.assertEqual(
+            err, f"requests: {log}:2: the line has no host, and {hosts} has 2 hosts: name the log's by --host\n"
+        )
         self.run_tool("requests", log, "--hosts", hosts, "--out", "b", "--host", "web2")
         self.assertEqual(len(self.rows("b", "requests", "web2.csv")), 3)
 
