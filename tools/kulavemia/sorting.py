@@ -94,8 +94,8 @@ def _add_reading_options(words: argparse.ArgumentParser) -> None:
         default=[],
         metavar="PATH",
         help=(
-            "the path of sudo's program: entries of the journal that another program wrote count as forged; may be given"
-            f" again (default {' and '.join(SUDO_PATHS)})"
+            "the path of sudo's program: entries of the journal that another program wrote count as forged; may be"
+            f" given again (default {' and '.join(SUDO_PATHS)})"
         ),
     )
 

@@ -105,8 +105,8 @@ class Command(Case):
         self.assertEqual(
             err,
             "requests: warning: a has no requests: an audit of it has no source\n"
-            "requests: warning: 1 of 1 lines under sudo's name could not be read: skipped.csv says why; --host names the"
-            " host of lines without one\n",
+            "requests: warning: 1 of 1 lines under sudo's name are left out: skipped.csv says why; --host names the host"
+            " of lines without one\n",
         )
         self.run_tool("requests", log, "--out", "b", "--host", "web1")
         self.assertIn("1,alice,web1,root,,/bin/id,", self.read("b", "requests", "web1.csv"))
@@ -153,7 +153,7 @@ class Command(Case):
         log = self.write("log", line() * 2 + unknown * 3)
         out, err = self.run_tool("requests", log, "--out", "b", status=3)
         self.assertIn("2 accepted, ", out)
-        self.assertIn("3 of 5 lines under sudo's name could not be read", err)
+        self.assertIn("3 of 5 lines under sudo's name are left out", err)
         self.assertEqual(len(self.rows("b", "requests", "web1.csv")), 4)
         log = self.write("log", json.dumps({"message": line(), "host": "web1"}) + "\n")
         self.assertIn("1 of 1 lines under sudo's", self.run_tool("requests", log, "--out", "c", status=3)[1])
