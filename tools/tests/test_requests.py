@@ -105,8 +105,8 @@ class Command(Case):
         self.assertEqual(
             err,
             "requests: warning: a has no requests: an audit of it has no source\n"
-            "requests: warning: 1 of 1 lines under sudo's name are left out: skipped.csv says why; --host names the host"
-            " of lines without one\n",
+            "requests: warning: 1 of 1 lines under sudo's name are left out: skipped.csv says why; --host names the"
+            " host of lines without one\n",
         )
         self.run_tool("requests", log, "--out", "b", "--host", "web1")
         self.assertIn("1,alice,web1,root,,/bin/id,", self.read("b", "requests", "web1.csv"))
