@@ -97,8 +97,8 @@ def _add_reading_options(words: argparse.ArgumentParser) -> None:
         default=[],
         metavar="PATH",
         help=(
-            "the path of sudo's program: entries of the journal that another program wrote count as forged; may be given"
-            f" again (default {' and '.join(SUDO_PATHS)})"
+            "the path of sudo's program: entries of the journal that another program wrote count as forged; may be"
+            f" given again (default {' and '.join(SUDO_PATHS)})"
         ),
     )
 
@@ -203,8 +203,8 @@ class Sorter:
             return event
         if len(self.known_hosts) > 1:
             raise Fault(
-                f"{log}:{line}: the line has no host, and {self.hosts_file} has {len(self.known_hosts)}: name the log's"
-                " by --host"
+                f"{log}:{line}: the line has no host, and {self.hosts_file} has {len(self.known_hosts)} hosts: name the"
+                " log's by --host"
             )
         return noted(event._replace(request=event.request._replace(host=self.known_hosts[0])), "no host logged")
 

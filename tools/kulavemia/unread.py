@@ -19,12 +19,12 @@ def warnings(counts: Mapping[str, int]) -> list[str]:
     found = []
     if counts[FORGED]:
         found.append(
-            f"{counts[FORGED]} entries of the journal are forged: another program wrote them under sudo's name, and"
-            " skipped.csv names each; if sudo itself is at another path, name it by --sudo-path"
+            f"{counts[FORGED]} entries of the journal are forged: sudo's program did not write them, as far as the"
+            " journal knows, and skipped.csv names each; if sudo is at another path, name it by --sudo-path"
         )
     if is_most(counts):
         found.append(
-            f"{_left_out(counts)} of {_left_out(counts) + _taken(counts)} lines under sudo's name could not be read:"
+            f"{_left_out(counts)} of {_left_out(counts) + _taken(counts)} lines under sudo's name are left out:"
             " skipped.csv says why; --host names the host of lines without one"
         )
     return found

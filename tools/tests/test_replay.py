@@ -116,7 +116,7 @@ class Replay(Case):
         example = ("--policy", f"{EXAMPLES}/sudoers", "--directory", EXAMPLES, "--no-probe")
         out, err = self.replay(*example, status=3)
         self.assertIn("logs: 1 accepted", out)
-        self.assertIn("4 of 5 lines under sudo's name could not be read", err)
+        self.assertIn("4 of 5 lines under sudo's name are left out", err)
         self.assertTrue(os.path.exists(self.path("out", "page.html")))
 
     def test_an_audit_without_a_source_says_so(self) -> None:

@@ -127,7 +127,7 @@ class Command(Case):
         self.assertEqual(
             err,
             "requests: warning: a has no requests: an audit of it has no source\n"
-            "requests: warning: 1 of 1 lines under sudo's name could not be read: skipped.csv says why; --host names the"
+            "requests: warning: 1 of 1 lines under sudo's name are left out: skipped.csv says why; --host names the"
             " host of lines without one\n",
         )
         self.run_tool("requests", log, "--out", "b", "--host", "web1")
@@ -148,7 +148,9 @@ class Command(Case):
         log = self.write("log", line("web1") + OWN_LINE)
         hosts = self.write("hosts.csv", "host,interfaces\nweb1,\nweb2,\n")
         err = self.run_tool("requests", log, "--hosts", hosts, "--out", "a", status=3)[1]
-        self.assertEqual(err, f"requests: {log}:2: the line has no host, and {hosts} has 2: name the log's by --host\n")
+        self.assertEqual(
+            err, f"requests: {log}:2: the line has no host, and {hosts} has 2 hosts: name the log's by --host\n"
+        )
         self.run_tool("requests", log, "--hosts", hosts, "--out", "b", "--host", "web2")
         self.assertEqual(len(self.rows("b", "requests", "web2.csv")), 3)
 
@@ -173,7 +175,7 @@ class Command(Case):
         log = self.write("log", line() * 2 + unknown * 3)
         out, err = self.run_tool("requests", log, "--out", "b", status=3)
         self.assertIn("2 accepted, ", out)
-        self.assertIn("3 of 5 lines under sudo's name could not be read", err)
+        self.assertIn("3 of 5 lines under sudo's name are left out", err)
         self.assertEqual(len(self.rows("b", "requests", "web1.csv")), 4)
         log = self.write("log", json.dumps({"message": line(), "host": "web1"}) + "\n")
         self.assertIn("1 of 1 lines under sudo's", self.run_tool("requests", log, "--out", "c", status=3)[1])
