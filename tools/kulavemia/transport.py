@@ -86,7 +86,7 @@ class Transport:
     def _ready(self) -> set[int]:
         """Returns which streams have something to read, or have ended."""
         left = self.end - time.monotonic()
-        found = {stream for stream, _ in self.poll.poll(max(0, left) * 1000)}
+        found = {stream for stream, _ in self.poll.poll(left * 1000)} if left > 0 else set()
         if not found:
             raise Fault(f"took more than {self.seconds:g} s", FAILED)
         return found
