@@ -200,7 +200,7 @@ def _decimal(field: bytes) -> int:
 
 
 def _extended(data: bytes) -> Iterator[tuple[bytes, bytes]]:
-    """Yields the keys and values of the records `LENGTH KEY=VALUE` of an extended header, those of sparse files as one."""
+    """Yields the keys and values of an extended header's records `LENGTH KEY=VALUE`, with one key for sparse files."""
     place = 0
     while place < len(data):
         length = data[place : place + 9].partition(b" ")[0]
