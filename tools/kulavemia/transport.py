@@ -1,5 +1,6 @@
 """A command that reaches a host, runs tools/collect there, and yields its tar."""
 
+import contextlib
 import os
 import select
 import shlex
@@ -74,7 +75,9 @@ class Transport:
     def kill(self) -> None:
         """Kills the command, with what it has started."""
         if self.running.poll() is None:
-            os.killpg(self.running.pid, signal.SIGKILL)
+            # It may end meanwhile.
+            with contextlib.suppress(ProcessLookupError):
+                os.killpg(self.running.pid, signal.SIGKILL)
 
     def stop(self) -> None:
         """Ends the command and what is read of it."""
