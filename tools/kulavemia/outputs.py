@@ -139,7 +139,7 @@ def replacing(path: str) -> Iterator[BinaryIO]:
 def _is_stream(path: str) -> bool:
     """Returns whether a path is a terminal, a pipe or the like, or names a descriptor, as /dev/stdout does.
 
-    Raises `Fault` at a disk or a socket.
+    Raises `Fault` at a disk or a socket, and at a pipe of another user.
     """
     try:
         mode = os.stat(path).st_mode
@@ -148,7 +148,12 @@ def _is_stream(path: str) -> bool:
     if stat.S_ISBLK(mode) or stat.S_ISSOCK(mode):
         raise Fault(f"{path}: neither a file nor a stream", WORDS)
     folder = os.path.join(os.path.realpath(os.path.dirname(path)), "")
-    return stat.S_ISCHR(mode) or stat.S_ISFIFO(mode) or folder == "/dev/" or folder.startswith("/proc/")
+    if folder == "/dev/" or folder.startswith(("/dev/pts/", "/proc/")):
+        return True
+    if stat.S_ISREG(mode) or stat.S_ISDIR(mode):
+        return False
+    _want_own(path, os.stat(path))
+    return True
 
 
 @contextlib.contextmanager
@@ -274,6 +279,8 @@ def locked(path: str, with_others: bool = False) -> Iterator[None]:
     Raises `Fault` with the process that works there already.
     """
     place = os.path.join(folder(path), LOCK)
+    if os.stat(path).st_mode & _OTHERS_WRITE:
+        raise Fault(f"{path} can be written by other users: name a folder below it", WORDS)
     with naming(place):
         descriptor = _lock(place, path, fcntl.LOCK_SH if with_others else fcntl.LOCK_EX)
     try:

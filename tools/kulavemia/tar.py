@@ -34,6 +34,9 @@ _OTHER_KINDS = {
     b"S": "a sparse file",
 }
 _LONG_NAME, _LONG_LINK, _EXTENDED, _SHARED = b"L", b"K", b"x", b"g"
+# What is read of extended headers.
+_SPARSE = b"GNU.sparse"
+_USED = (b"path", b"size", _SPARSE)
 _CONTINUED = (_LONG_NAME, _LONG_LINK, _EXTENDED, _SHARED)
 
 
@@ -138,13 +141,13 @@ class Tar:
         self._exactly(-header.size % _BLOCK)
         if header.kind == _LONG_NAME:
             return {b"path": data.partition(b"\0")[0]}
-        return _extended(data) if header.kind == _EXTENDED else {}
+        return {key: value for key, value in _extended(data) if key in _USED} if header.kind == _EXTENDED else {}
 
     def _member(self, header: _Header, fields: dict[bytes, bytes]) -> Member:
         name = os.fsdecode(fields.get(b"path", header.name))
         is_folder = name.endswith("/")
         name = name.removesuffix("/")
-        if any(key.startswith(b"GNU.sparse") for key in fields):
+        if _SPARSE in fields:
             raise Fault(f"{name}: a sparse file; plain files and folders alone are unpacked")
         if header.kind not in _KINDS:
             kind = _OTHER_KINDS.get(header.kind, "a member of an unknown kind")
@@ -196,18 +199,18 @@ def _decimal(field: bytes) -> int:
     return int(field)
 
 
-def _extended(data: bytes) -> dict[bytes, bytes]:
-    """Returns the records `LENGTH KEY=VALUE` of an extended header."""
-    found = {}
-    while data:
-        length = data.partition(b" ")[0]
-        size = int(length) if length.isdigit() and len(length) < 9 else 0
-        key, equals, value = data[len(length) + 1 : size - 1].partition(b"=")
-        if not equals or data[size - 1 : size] != b"\n":
+def _extended(data: bytes) -> Iterator[tuple[bytes, bytes]]:
+    """Yields the keys and values of an extended header's records `LENGTH KEY=VALUE`, with one key for sparse files."""
+    place = 0
+    while place < len(data):
+        length = data[place : place + 9].partition(b" ")[0]
+        size = int(length) if length.isdigit() else 0
+        record = data[place + len(length) + 1 : place + size]
+        key, equals, value = record[:-1].partition(b"=")
+        if not equals or not record.endswith(b"\n"):
             raise Fault("not a tar, or a damaged one: an extended header is wrong")
-        found[key] = value
-        data = data[size:]
-    return found
+        yield (_SPARSE if key.startswith(_SPARSE) else key), value
+        place += size
 
 
 def _parts(member: Member) -> list[str]:

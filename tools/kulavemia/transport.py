@@ -1,5 +1,6 @@
 """A command that reaches a host, runs tools/collect there, and yields its tar."""
 
+import contextlib
 import os
 import select
 import shlex
@@ -74,7 +75,9 @@ class Transport:
     def kill(self) -> None:
         """Kills the command, with what it has started."""
         if self.running.poll() is None:
-            os.killpg(self.running.pid, signal.SIGKILL)
+            # It may end meanwhile.
+            with contextlib.suppress(ProcessLookupError):
+                os.killpg(self.running.pid, signal.SIGKILL)
 
     def stop(self) -> None:
         """Ends the command and what is read of it."""
@@ -86,7 +89,7 @@ class Transport:
     def _ready(self) -> set[int]:
         """Returns which streams have something to read, or have ended."""
         left = self.end - time.monotonic()
-        found = {stream for stream, _ in self.poll.poll(max(0, left) * 1000)}
+        found = {stream for stream, _ in self.poll.poll(left * 1000)} if left > 0 else set()
         if not found:
             raise Fault(f"took more than {self.seconds:g} s", FAILED)
         return found

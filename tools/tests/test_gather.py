@@ -27,6 +27,9 @@ printf '%s\\n' "$*" >>{folder}/asked
 case ${{2#*@}} in
   hangs) exec sleep 600 ;;
   trickles) while :; do printf x; sleep 0.1; done ;;
+  pours) exec /usr/bin/python3 -c "import sys
+data = open('{folder}/tars/header', 'rb').read() * 1000
+while True: sys.stdout.buffer.write(data)" ;;
   gone) echo 'ssh: connect to host gone: Connection refused' >&2; exit 255 ;;
   shouts) cat /dev/zero >&2 ;;
   bomb) head -c 512 {folder}/tars/bomb.tar; exec cat /dev/zero ;;
@@ -316,6 +319,29 @@ class HostileTars(GatherCase):
         self.gather("evil", status=1)
         self.assertEqual(self.statuses()["evil"], ("refused", "more than 100000 members"))
         self.assertEqual(os.listdir(self.path("out")), ["status.csv"])
+
+    def test_a_host_that_pours_is_ended_in_time(self) -> None:
+        header = tarfile.TarInfo("web1/x")
+        header.type = tarfile.XGLTYPE
+        self.write("tars/header", header.tobuf(tarfile.GNU_FORMAT))
+        start = time.monotonic()
+        self.gather("pours", "--limit", "1", "--members", "999999999", "--host-size", "900G", status=1)
+        self.assertEqual(self.statuses()["pours"], ("failed", "took more than 1 s"))
+        self.assertLess(time.monotonic() - start, 10)
+
+    def test_extended_headers_with_many_records(self) -> None:
+        header = tarfile.TarInfo("x")
+        header.type = tarfile.XHDTYPE
+        records = b"".join(b"12 %06d=x\n"[:12] % number for number in range(5000))
+        header.size = len(records)
+        with open(self.path("tars", "web1.tar"), "rb") as file:
+            whole = file.read()
+        start = time.monotonic()
+        padded = header.tobuf(tarfile.GNU_FORMAT) + records + bytes(-len(records) % 512)
+        self.unpack(io.BytesIO(padded * 100 + whole).read)
+        with self.assertRaisesRegex(Fault, "an extended header is wrong"):
+            self.unpack(io.BytesIO(padded[:512] + b"9" * len(records) + padded[512 + len(records) :] + whole).read)
+        self.assertLess(time.monotonic() - start, 5)
 
     def test_headers_count_as_members(self) -> None:
         def long(put: Put) -> None:

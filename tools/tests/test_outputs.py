@@ -96,6 +96,13 @@ class Outputs(Case):
         os.chmod(self.path("tmp"), 0o1777)
         self.put("tmp/a")
         outputs.folder(self.path("tmp", "work"))
+        with self.assertRaisesRegex(Fault, "tmp can be written by other users: name a folder below it"):
+            with outputs.locked(self.path("tmp")):
+                pass
+        os.mkfifo(self.path("tmp", "fifo"))
+        os.chown(self.path("tmp", "fifo"), OTHER, OTHER)
+        with self.assertRaisesRegex(Fault, "fifo is of the user nobody"), outputs.replacing(self.path("tmp", "fifo")):
+            pass
         os.chown(self.path("tmp"), OTHER, OTHER)
         with self.assertRaisesRegex(Fault, "tmp is of the user nobody"):
             self.put("tmp/b")
