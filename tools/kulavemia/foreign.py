@@ -17,8 +17,8 @@ from kulavemia.command import Fault
 
 # The most bytes that are read of a file of each kind. `sudo_audit` has the first and the fourth of these limits itself.
 POLICY_CAP = 1 << 24
-ACCOUNTS_CAP = 1 << 26
-ADDRESSES_CAP = 1 << 24
+ACCOUNTS_CAP = 1 << 24
+ADDRESSES_CAP = 1 << 22
 REQUESTS_CAP = 1 << 28
 NAME_CAP = 1 << 12
 LOG_CAP = 1 << 32

@@ -1,10 +1,8 @@
 """Logs with entries of sudo: syslog's lines, sudo's own file, the journal as JSON, and sudo's JSON events."""
 
-import bz2
 import calendar
 import datetime
 import errno
-import gzip
 import io
 import json
 import lzma
@@ -15,11 +13,12 @@ import time
 import zlib
 from collections import deque
 from collections.abc import Callable, Collection, Iterator
-from typing import IO, Any, BinaryIO, NamedTuple, cast
+from typing import IO, Any, NamedTuple, cast
 
 from kulavemia import foreign
 from kulavemia.journal import IDENTIFIERS, SUDO_PATHS, forgery_of
 from kulavemia.messages import Event, Pairs, event_of, event_of_json, json_events, noted
+from kulavemia.packed import unpacked
 
 LINE_LIMIT = 1 << 22
 WINDOW = 256
@@ -59,11 +58,6 @@ _STRING = re.compile(r'"(?:[^"\\]|\\.)*(?:"|$)', re.DOTALL)
 # What reading a log may raise, a compressed one that is damaged among them.
 UNREADABLE = (OSError, EOFError, lzma.LZMAError, zlib.error)
 _DESCRIPTOR = re.compile(r"/dev/stdin|/dev/fd/[0-9]+")
-_PACKED: dict[bytes, Callable[[BinaryIO], Any]] = {
-    b"\x1f\x8b": gzip.open,
-    b"BZh": bz2.open,
-    b"\xfd7zXZ\0": lzma.open,
-}
 _HALVES = re.compile("[\ud800-\udbff\udc00-\udc7f\udd00-\udfff]")
 
 
@@ -125,11 +119,7 @@ def opened(path: str, below: str | None = None) -> tuple[IO[bytes], IO[bytes]]:
     descriptor that the command was handed, and once it has more bytes than are read, unpacked ones included.
     """
     raw = _handed(path) or foreign.opened(path, foreign.LOG_CAP, below)
-    start = raw.peek(6)
-    for magic, unpacked in _PACKED.items():
-        if start.startswith(magic):
-            return raw, foreign.capped(unpacked(raw), path, foreign.LOG_CAP)
-    return raw, raw
+    return raw, unpacked(raw, path, foreign.LOG_CAP)
 
 
 def size_of(path: str, below: str | None = None) -> int:

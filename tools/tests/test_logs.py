@@ -8,6 +8,8 @@ import lzma
 import os
 import string
 import unittest
+import unittest.mock
+import zlib
 
 from support import DATA, Case
 from kulavemia.logs import FORGED, Found, Log, Options
@@ -151,6 +153,23 @@ class Logs(Case):
             os.close(writer)
             self.assertEqual(self.commands(f"/dev/fd/{reader}"), ["/bin/a"])
             os.close(reader)
+
+    def test_xz_streams_behind_each_other(self) -> None:
+        one, two = (lzma.compress(f"{ALICE}{COMMAND}/bin/{name}\n".encode()) for name in "ab")
+        for data in (one + two, one + bytes(8) + two + bytes(4)):
+            for chunk in (1, 7, 1 << 16):
+                with unittest.mock.patch("kulavemia.packed._CHUNK", chunk):
+                    self.assertEqual(self.commands(self.write("log.xz", data)), ["/bin/a", "/bin/b"])
+
+    def test_an_xz_stream_that_asks_for_much_memory(self) -> None:
+        data = bytearray(lzma.compress(b"x"))
+        # The header of the first block, whose last byte before zeros is the size of its dictionary, and its sum.
+        size = 4 * (data[12] + 1)
+        self.assertEqual(data[14:16], b"\x21\x01")
+        data[16] = 40
+        data[8 + size : 12 + size] = zlib.crc32(data[12 : 8 + size]).to_bytes(4, "little")
+        with self.assertRaisesRegex(OSError, "Memory usage limit exceeded"):
+            self.commands(self.write("log.xz", bytes(data)))
 
     def test_compressed_logs_and_those_that_are_cut(self) -> None:
         whole = gzip.compress(f"{ALICE}{COMMAND}/bin/a\n".encode() * 3000)
