@@ -106,6 +106,24 @@ def _groups_without_group(case: Case) -> Iterator[Case]:
         )
 
 
+def _runas_aliases_written_out(case: Case) -> Iterator[Case]:
+    """Yields a case in which the members of aliases stand in whom to run as, if a group is asked for."""
+    if case.request is None or not case.request.runas_group:
+        return
+    found = re.findall(r"(?:^[ \t]*Runas_Alias|:)[ \t]+([A-Z][A-Z0-9_]*)[ \t]*=[ \t]*(.*)$", case.text, re.MULTILINE)
+    members = {name: re.split(r"[ \t]*,[ \t]*", text.strip()) for name, text in found}
+
+    def of_text(text: str) -> str:
+        out, negated = [], False
+        for piece in pieces_of(text):
+            written = members.get(piece.text, []) if piece.role == "runas" and piece.kind == "word" else []
+            out.append((", !" if negated else ", ").join(written) or piece.text)
+            negated = negated != (piece.text == "!") if piece.kind in ("mark", "blank") else False
+        return "".join(out)
+
+    yield mapped(case, of_text)
+
+
 def _asks_for(*commands: str) -> Callable[[Case], bool]:
     return lambda case: case.request is not None and case.request.command in commands
 
@@ -137,6 +155,29 @@ def _blank_before_parameters(case: Case) -> Iterator[Case]:
         return "".join(out)
 
     yield mapped(case, of_text)
+
+
+def _parameters(name: str) -> Callable[[Case], Iterator[Case]]:
+    """Returns a change of the parameters of Defaults lines whose names a pattern fits, with their values, to one that is known."""
+    fits = re.compile(name, re.DOTALL)
+
+    def of_text(text: str) -> str:
+        out: list[str] = []
+        inside = False
+        for piece in pieces_of(text):
+            is_own = piece.role == "parameter" and piece.kind not in ("blank", "join", "newline", "comment")
+            if not is_own or piece.text in (",", "!"):
+                inside = inside and piece.text != "," and piece.kind in ("blank", "join")
+                out.append("" if inside else piece.text)
+            elif not inside:
+                inside = piece.kind in ("word", "path") and fits.fullmatch(piece.text) is not None
+                out.append("insults" if inside else piece.text)
+        return "".join(out)
+
+    def changed(case: Case) -> Iterator[Case]:
+        yield mapped(case, of_text)
+
+    return changed
 
 
 def _aliases_like_tags(case: Case) -> Iterator[Case]:
@@ -175,6 +216,7 @@ GRANTS = (
     Row('"bo\\x62" ALL = ALL', swapped("user runas host", "quoted", r"\\x([0-9A-Fa-f]{2})", _byte)),
     Row('"al\\ice" ALL = ALL', swapped("user runas host", "quoted", r'\\([^"\\])', r"\1")),
     Row("alice ALL = /bin/ls a\\\\b", swapped("cmnd", "argument", r"\\\\", "z", "")),
+    Row("alice ALL = /bin/l!\\*", swapped("cmnd", "path", r'^([^\\]*[>!()"](?:[^\\]|\\[,:= \t#])*)(?=\\[^,:= \t#])', r"\1 ")),
     Row("alice ALL = /usr/bin/passwd [^-]*", swapped("cmnd host", "path argument word", r"\[\^", "[!", "[\\\\!")),
     Row(
         "alice ALL = /bin/ls [[\\:word\\:]]",
@@ -232,6 +274,7 @@ GRANTS = (
     Row("(operator) /bin/id", _group_alone),
     Row("alice ALL = (!alice:adm) /bin/id", _denied_oneself),
     Row("alice ALL = (:operator) /bin/id", _groups_without_group),
+    Row("Runas_Alias R = operator", _runas_aliases_written_out),
     Row("alice ALL = (#2001) /bin/ls", _target_number),
 )
 
@@ -250,8 +293,8 @@ FILES = (
     Row("a control byte, outside a comment", replaced(r"[\x00-\x08\x0b-\x1f\x7f]", "z", "", " z ")),
     Row("#4294967296", swapped(LISTS, WORDS, r"^.*[#/].*$|^[0-9.\\]+$", "zz")),
     Row("bo\\x2 ALL = ALL", swapped("*", WORDS + " value", r"\\x(?![0-9A-Fa-f]{2})", "z")),
-    Row("alice 2001:db8::1 = ALL", replaced(r"[0-9A-Fa-f]*:[0-9A-Fa-f]*:[0-9A-Fa-f:.]*(/\w+)?", "zz")),
-    Row("alice / = ALL", swapped(LISTS, "path", "^/$", "zz")),
+    Row("alice 2001:db8::1 = ALL", replaced(r"[0-9A-Fa-f]*:[0-9A-Fa-f]*:[0-9A-Fa-f:.]*(/\w+)?", "zz", " zz ")),
+    Row("alice / = ALL", swapped(LISTS, "path", r"^/$|^/(?:[^\\]|\\[,:= \t#])*\\[^,:= \t#].*$", "zz")),
     Row("alice web1 !! = ALL", replaced(r"!!", "")),
     Row("a file whose last line is one backslash", replaced(r"\\\r?\n?\Z", "")),
     Row("+netgroup", swapped(LISTS, WORDS, r'^("?)\+', r"\1z")),
@@ -263,7 +306,7 @@ FILES = (
     Row("Runas_Alias A = B", _undefined),
     # Read here, refused by sudo.
     Row("alice ALL = /bin/ls", replaced(r"\r$", "")),
-    Row("Defaults nonsense", swapped("parameter", "word value quoted", r"^[a-z_]+$", "insults")),
+    Row("Defaults nonsense", _parameters("[a-z_]+")),
     Row("alice ALL = /bin/ls ^-l", replaced(r"(?<=[ \t])\^", "z")),
     Row("alice ALL = /", swapped("cmnd", "path", r"^/$", "/z/")),
     Row("alice ALL = ALL, ! ! /bin/ls", replaced(r"!(?:[ \t]+!)+", "!")),
@@ -272,6 +315,7 @@ FILES = (
     Row("alice ALL = /bin/l\\s", swapped("cmnd", "path", r"\\(?![,:= \t#])", "z")),
     Row("a tab behind a backslash", swapped("*", "word", r"\\\t", "z")),
     Row("alice ALL = /bin/ls #5", swapped("*", "comment", r"^#(?=-?[0-9])", "# ")),
+    Row("#-", replaced("#-$", "#")),
     Row("a>b ALL = ALL", swapped(LISTS, "word", ">", "z")),
     Row("^a$ ALL = ALL", swapped(LISTS, "word", r"^\^", "z")),
     Row("10.1.2.3 ALL = ALL", swapped("user runas", "word", r"^[0-9.]+(/.*)?$", "zz")),
@@ -280,7 +324,7 @@ FILES = (
     Row("alice ALL = /bin/ls =", swapped("cmnd", "argument", r"^=$|(?<=\\.)=$", "z")),
     Row('Defaults:"bob"env_reset', _blank_before_parameters),
     Row('Defaults badpass_message=""', swapped("parameter", "quoted", '^""$', '"z"')),
-    Row("Defaults web1", swapped("parameter", "word path", r"^.*[^a-z_].*$", "insults")),
+    Row("Defaults web1", _parameters(".*[^a-z_].*")),
     Row("alice ALL = (bob:) /bin/ls", replaced(r":[ \t]*\)", ")")),
     Row("alice ALL = (root : %adm) /bin/ls", swapped("runas", WORDS, r'^("?)%', r"\1z")),
     Row("Cmnd_Alias CWD = /bin/ls", replaced(rf"\b({OPTIONS})\b", "ZZZ")),
