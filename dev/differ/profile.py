@@ -208,7 +208,7 @@ def _target_number(case: Case) -> Iterator[Case]:
 
 
 GRANTS = (
-    Row("alice ALL = NOSETENV: /bin/ls, ALL, /bin/cat", _if_said(r"NOSETENV"), _without_setenv),
+    Row("alice ALL = NOSETENV: /bin/ls, ALL, /bin/cat", _if_said(r"SETENV[ \t]*:"), _without_setenv),
     Row("Cmnd_Alias X = ALL", _if_said(r"Cmn?d_Alias.*ALL"), _without_setenv),
     Row("alice ALL = /bin/ls\\", replaced(r"\\\r?\n[ \t]*", " ", "")),
     Row("alice ALL = /bin/ls foo\\ ", replaced(r"\\[ \t]+\r?\n[ \t]*", " ", "")),
