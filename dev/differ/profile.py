@@ -187,15 +187,25 @@ def _aliases_like_tags(case: Case) -> Iterator[Case]:
 
 
 def _undefined(case: Case) -> Iterator[Case]:
-    """Yields a case in which `ALL` stands for each alias that is not defined."""
+    """Yields cases in which `ALL` stands for each alias that is not defined, and for those in definitions."""
     defined = {piece.text for piece in pieces_of(case.text) if piece.role == "name"}
 
+    def is_used(piece: Piece) -> bool:
+        in_list = piece.kind == "word" and piece.role in (*LISTS.split(), "cmnd") and not TAG.match(piece.text)
+        return in_list and re.fullmatch(r"[A-Z][A-Z0-9_]*", piece.text) is not None
+
     def of_piece(piece: Piece) -> str:
-        used = piece.kind == "word" and piece.role in (*LISTS.split(), "cmnd")
-        used = used and re.fullmatch(r"[A-Z][A-Z0-9_]*", piece.text) is not None
-        return "ALL" if used and piece.text not in defined and not TAG.match(piece.text) else piece.text
+        return "ALL" if is_used(piece) and piece.text not in defined else piece.text
+
+    def of_text(text: str) -> str:
+        lines = re.split(r"(?m)^(?=.)", text)
+        return "".join(
+            "".join("ALL" if is_used(piece) else piece.text for piece in pieces_of(line)) if "_Alias" in line else line
+            for line in lines
+        )
 
     yield from pieces_changed(of_piece)(case)
+    yield mapped(case, of_text)
 
 
 def _target_number(case: Case) -> Iterator[Case]:
@@ -211,7 +221,7 @@ GRANTS = (
     Row("alice ALL = NOSETENV: /bin/ls, ALL, /bin/cat", _if_said(r"SETENV[ \t]*:"), _without_setenv),
     Row("Cmnd_Alias X = ALL", _if_said(r"Cmn?d_Alias.*ALL"), _without_setenv),
     Row("alice ALL = /bin/ls\\", replaced(r"\\\r?\n[ \t]*", " ", "")),
-    Row("alice ALL = /bin/ls foo\\ ", replaced(r"\\[ \t]+\r?\n[ \t]*", " ", "")),
+    Row("alice ALL = /bin/ls foo\\ ", replaced(r"\\[ \t]+(?:\r?\n[ \t]*|\Z)", " ", "")),
     Row("#include /etc/x", replaced(r"^[ \t]+#include", "# include")),
     Row('"bo\\x62" ALL = ALL', swapped("user runas host", "quoted", r"\\x([0-9A-Fa-f]{2})", _byte)),
     Row('"al\\ice" ALL = ALL', swapped("user runas host", "quoted", r'\\([^"\\])', r"\1")),
@@ -282,7 +292,7 @@ OPTIONS = "CWD|CHROOT|TIMEOUT|NOTBEFORE|NOTAFTER|ROLE|TYPE"
 FILES = (
     # Refused here, read by sudo.
     Row("alice\\", replaced(r"\\\r?\n[ \t]*", " ", "")),
-    Row("Cmnd_Alias A = /bin/ls, \\ ", replaced(r"\\[ \t]+\r?\n[ \t]*", " ", "")),
+    Row("Cmnd_Alias A = /bin/ls, \\ ", replaced(r"\\[ \t]+(?:\r?\n[ \t]*|\Z)", " ", "")),
     Row("alice ALL = ALL # note \\", swapped("*", "comment", r"\\+[ \t]*\r?$", "")),
     Row("#includedir", replaced(r"^[ \t]*#include(dir)?[ \t]*$", "# x")),
     Row('@include /x/a"b"', replaced(r'^([ \t]*[@#]include(?:dir)?[ \t]+[^"\s]+)"([^"\n]*)"', r"\1\2")),
@@ -291,7 +301,7 @@ FILES = (
     Row("alice ALL = /bin/l=s", swapped("cmnd", "mark", "^=$", "z")),
     Row("alice #5 = ALL", swapped("*", "comment", r"^#(?=-?[0-9])", " z")),
     Row("a control byte, outside a comment", replaced(r"[\x00-\x08\x0b-\x1f\x7f]", "z", "", " z ")),
-    Row("#4294967296", swapped(LISTS, WORDS, r"^.*[#/].*$|^[0-9.\\]+$", "zz")),
+    Row("#4294967296", swapped(LISTS, WORDS, r"^.*[#/].*$|^[0-9.\\]+$", "zz", "zz zz")),
     Row("bo\\x2 ALL = ALL", swapped("*", WORDS + " value", r"\\x(?![0-9A-Fa-f]{2})", "z")),
     Row("alice 2001:db8::1 = ALL", replaced(r"[0-9A-Fa-f]*:[0-9A-Fa-f]*:[0-9A-Fa-f:.]*(/\w+)?", "zz", " zz ")),
     Row("alice / = ALL", swapped(LISTS, "path", r"^/$|^/(?:[^\\]|\\[,:= \t#])*\\[^,:= \t#].*$", "zz")),
