@@ -131,7 +131,7 @@ class _Cutter:
         return Piece(self.role, kind, text)
 
     def _next_list(self) -> None:
-        """Goes on to the hosts of a rule, or to the parameters of a Defaults line, where no comma stands behind a member."""
+        """Goes on to the hosts of a rule or the parameters of a Defaults line, if no comma follows the last member."""
         if self.has_member and self.last not in (",", "!"):
             if self.kind == "rule" and self.role == "user":
                 self.role = "host"

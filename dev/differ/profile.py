@@ -158,7 +158,7 @@ def _blank_before_parameters(case: Case) -> Iterator[Case]:
 
 
 def _parameters(name: str) -> Callable[[Case], Iterator[Case]]:
-    """Returns a change of the parameters of Defaults lines whose names a pattern fits, with their values, to one that is known."""
+    """Returns a change of each parameter of Defaults lines whose name a pattern fits to a known one without a value."""
     fits = re.compile(name, re.DOTALL)
 
     def of_text(text: str) -> str:
@@ -226,7 +226,10 @@ GRANTS = (
     Row('"bo\\x62" ALL = ALL', swapped("user runas host", "quoted", r"\\x([0-9A-Fa-f]{2})", _byte)),
     Row('"al\\ice" ALL = ALL', swapped("user runas host", "quoted", r'\\([^"\\])', r"\1")),
     Row("alice ALL = /bin/ls a\\\\b", swapped("cmnd", "argument", r"\\\\", "z", "")),
-    Row("alice ALL = /bin/l!\\*", swapped("cmnd", "path", r'^([^\\]*[>!()"](?:[^\\]|\\[,:= \t#])*)(?=\\[^,:= \t#])', r"\1 ")),
+    Row(
+        "alice ALL = /bin/l!\\*",
+        swapped("cmnd", "path", r'^([^\\]*[>!()"](?:[^\\]|\\[,:= \t#])*)(?=\\[^,:= \t#])', r"\1 "),
+    ),
     Row("alice ALL = /usr/bin/passwd [^-]*", swapped("cmnd host", "path argument word", r"\[\^", "[!", "[\\\\!")),
     Row(
         "alice ALL = /bin/ls [[\\:word\\:]]",
@@ -331,7 +334,7 @@ FILES = (
     Row("10.1.2.3 ALL = ALL", swapped("user runas", "word", r"^[0-9.]+(/.*)?$", "zz")),
     Row("alice %adm = ALL", swapped("host", WORDS, r'^("?)%', r"\1z")),
     Row("alice ALL = /bin/ -l", replaced(r"/(?=[ \t]+[^\s,:=#(])", "/z")),
-    Row("alice ALL = /bin/ls =", swapped("cmnd", "argument", r"^=$|(?<=\\.)=$", "z")),
+    Row("alice ALL = /bin/ls =", swapped("cmnd", "argument", r"(?:^|(?<=\\.))=(?=$|\\)", "z")),
     Row('Defaults:"bob"env_reset', _blank_before_parameters),
     Row('Defaults badpass_message=""', swapped("parameter", "quoted", '^""$', '"z"')),
     Row("Defaults web1", _parameters(".*[^a-z_].*")),
