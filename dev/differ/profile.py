@@ -301,6 +301,10 @@ FILES = (
     Row('@include /x/a"b"', replaced(r'^([ \t]*[@#]include(?:dir)?[ \t]+[^"\s]+)"([^"\n]*)"', r"\1\2")),
     Row("@include /x/a\\x62", swapped("include", "word path", r"\\x([0-9A-Fa-f]{2})", _byte)),
     Row('@include "/x/a\\x62"', swapped("include", "quoted", r"\\(?:x([0-9A-Fa-f]{2})|([^\"]))", _byte)),
+    Row(
+        "a folder with a file whose name is not UTF-8, or a path of an include line that is not",
+        swapped("include", "*", r"[\x80-\xff]", "z"),
+    ),
     Row("alice ALL = /bin/l=s", swapped("cmnd", "mark", "^=$", "z")),
     Row("alice #5 = ALL", swapped("*", "comment", r"^#(?=-?[0-9])", " z")),
     Row("a control byte, outside a comment", replaced(r"[\x00-\x08\x0b-\x1f\x7f]", "z", "", " z ")),

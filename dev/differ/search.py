@@ -200,6 +200,9 @@ def tasks(verdicts: int, files: int, seed: int) -> list[tuple[str, bool]]:
 
 def search(program: str, peer: Peer, show: bool, planned: list[tuple[str, bool]], jobs: int) -> Iterator[Found]:
     """Yields what each task found, in the order in which they end."""
-    with ProcessPoolExecutor(jobs) as pool:
+    pool = ProcessPoolExecutor(jobs)
+    try:
         for done in as_completed([pool.submit(task, program, peer, show, *one) for one in planned]):
             yield done.result()
+    finally:
+        pool.shutdown(cancel_futures=True)
