@@ -4,7 +4,7 @@ The cut follows the tokens that the program reads. It never fails: what fits not
 """
 
 import re
-from collections.abc import Iterator
+from collections.abc import Collection, Iterator
 from typing import NamedTuple
 
 KEYWORD_ROLES = {
@@ -172,6 +172,22 @@ class _Cutter:
 def pieces_of(text: str) -> list[Piece]:
     """Returns the pieces of a text."""
     return list(_Cutter(text).pieces())
+
+
+def definitions(text: str, keywords: Collection[str]) -> dict[str, list[str]]:
+    """Returns the members of the aliases that stand behind one of the keywords, by name."""
+    found: dict[str, list[str]] = {}
+    keyword, members = "", None
+    for piece in pieces_of(text):
+        if piece.kind == "newline" or piece.kind == "mark" and piece.text == ":" and piece.role != "runas":
+            members = None
+        elif piece.role == "name" and piece.kind == "word":
+            keyword = piece.text if piece.text in KEYWORD_ROLES else keyword
+            members = found.setdefault(piece.text, [""]) if keyword in keywords and piece.text != keyword else None
+        elif members is not None and piece.role != "name" and piece.kind not in ("comment", "join"):
+            members += [""] if piece.text == "," else []
+            members[-1] += piece.text if piece.text != "," else ""
+    return {name: [member.strip() for member in members] for name, members in found.items()}
 
 
 def plain(text: str) -> str:

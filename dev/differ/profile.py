@@ -10,7 +10,7 @@ from collections.abc import Callable, Iterator
 from differ import world
 from differ.ask import Answer, Case
 from differ.constructs import NOTHING, Row, in_turn, mapped, pieces_changed, replaced, swapped, where
-from differ.pieces import TAG, Piece, pieces_of, plain, spelled
+from differ.pieces import TAG, Piece, definitions, pieces_of, plain, spelled
 
 USERS = {user.name for user in world.USERS_KNOWN}
 GROUPS = set(world.GROUP_NUMBERS)
@@ -106,22 +106,28 @@ def _groups_without_group(case: Case) -> Iterator[Case]:
         )
 
 
-def _runas_aliases_written_out(case: Case) -> Iterator[Case]:
+def _written_out(text: str, keywords: tuple[str, ...], role: str) -> str:
+    """Returns a text in which the members of aliases stand in place of the aliases, where lists have a role."""
+    members = definitions(text, keywords)
+    out, negated = [], False
+    for piece in pieces_of(text):
+        written = members.get(piece.text, []) if piece.role == role and piece.kind == "word" else []
+        out.append((", !" if negated else ", ").join(written) or piece.text)
+        negated = negated != (piece.text == "!") if piece.kind in ("mark", "blank") else False
+    return "".join(out)
+
+
+def _targets_written_out(case: Case) -> Iterator[Case]:
     """Yields a case in which the members of aliases stand in whom to run as, if a group is asked for."""
-    if case.request is None or not case.request.runas_group:
-        return
-    found = re.findall(r"(?:^[ \t]*Runas_Alias|:)[ \t]+([A-Z][A-Z0-9_]*)[ \t]*=[ \t]*(.*)$", case.text, re.MULTILINE)
-    members = {name: re.split(r"[ \t]*,[ \t]*", text.strip()) for name, text in found}
+    if case.request is not None and case.request.runas_group:
+        yield mapped(case, lambda text: _written_out(text, ("Runas_Alias",), "runas"))
 
-    def of_text(text: str) -> str:
-        out, negated = [], False
-        for piece in pieces_of(text):
-            written = members.get(piece.text, []) if piece.role == "runas" and piece.kind == "word" else []
-            out.append((", !" if negated else ", ").join(written) or piece.text)
-            negated = negated != (piece.text == "!") if piece.kind in ("mark", "blank") else False
-        return "".join(out)
 
-    yield mapped(case, of_text)
+def _commands_written_out(case: Case) -> Iterator[Case]:
+    """Yields cases in which the members of aliases stand in lists of commands, and those of aliases in these."""
+    for _ in range(3):
+        case = mapped(case, lambda text: _written_out(text, ("Cmnd_Alias", "Cmd_Alias"), "cmnd"))
+        yield case
 
 
 def _asks_for(*commands: str) -> Callable[[Case], bool]:
@@ -218,8 +224,10 @@ def _target_number(case: Case) -> Iterator[Case]:
 
 
 GRANTS = (
-    Row("alice ALL = NOSETENV: /bin/ls, ALL, /bin/cat", _if_said(r"SETENV[ \t]*:"), _without_setenv),
-    Row("Cmnd_Alias X = ALL", _if_said(r"Cmn?d_Alias.*ALL"), _without_setenv),
+    Row(
+        "alice ALL = NOSETENV: /bin/ls, ALL, /bin/cat", _if_said(r"SETENV[ \t]*:(?:.*\\\n)*.*\bALL\b"), _without_setenv
+    ),
+    Row("Cmnd_Alias X = ALL", _commands_written_out),
     Row("alice ALL = /bin/ls\\", replaced(r"\\\r?\n[ \t]*", " ", "")),
     Row("alice ALL = /bin/ls foo\\ ", replaced(r"\\[ \t]+(?:\r?\n[ \t]*|\Z)", " ", "")),
     Row("#include /etc/x", replaced(r"^[ \t]+#include", "# include")),
@@ -287,7 +295,7 @@ GRANTS = (
     Row("(operator) /bin/id", _group_alone),
     Row("alice ALL = (!alice:adm) /bin/id", _denied_oneself),
     Row("alice ALL = (:operator) /bin/id", _groups_without_group),
-    Row("Runas_Alias R = operator", _runas_aliases_written_out),
+    Row("Runas_Alias R = operator", _targets_written_out),
     Row("alice ALL = (#2001) /bin/ls", _target_number),
 )
 
