@@ -83,6 +83,7 @@ GRANTS = [
     Grant("Defaults runas_check_shell\nalice ALL = (ALL) /bin/ls", "alice", "bob", "", "/bin/ls", "", "allow"),
     Grant("alice ALL = /bin/id", "alice", "root", "adm", "/bin/id", "", "nomatch", "allow"),
     Grant("alice ALL = /bin/id", "alice", "", "adm", "/bin/id", "", "nomatch", "allow"),
+    Grant("alice ALL = (operator) /bin/id", "alice", "alice", "adm", "/bin/id", "", "nomatch", "allow"),
     Grant("alice ALL = (!alice:adm) /bin/id", "alice", "", "adm", "/bin/id", "", "nomatch", "allow"),
     Grant("alice ALL = (:operator) /bin/id", "alice", "", "", "/bin/id", "", "allow", "nomatch"),
     Grant(ALIAS_OF_USERS, "alice", "operator", "adm", "/bin/id", "", "allow", "nomatch"),
