@@ -3,6 +3,7 @@
 The cut follows the tokens that the program reads. It never fails: what fits nothing is a piece of its own.
 """
 
+import functools
 import re
 from collections.abc import Collection, Iterator
 from typing import NamedTuple
@@ -169,9 +170,10 @@ class _Cutter:
         return found[1] if found else ""
 
 
-def pieces_of(text: str) -> list[Piece]:
+@functools.lru_cache(maxsize=64)
+def pieces_of(text: str) -> tuple[Piece, ...]:
     """Returns the pieces of a text."""
-    return list(_Cutter(text).pieces())
+    return tuple(_Cutter(text).pieces())
 
 
 def definitions(text: str, keywords: Collection[str]) -> dict[str, list[str]]:

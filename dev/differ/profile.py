@@ -252,7 +252,7 @@ GRANTS = (
         "alice ALL = /bin/ls [[=a=]]",
         swapped("cmnd host", "path argument word", r"\[(?:\\?=(.)\\?=|\.(.)\.)\]", lambda found: found[1] or found[2]),
     ),
-    Row("alice ALL = /usr/bin/[l/]s", swapped("cmnd", "path argument", r"(\[[^\]/]*)/", r"\1z")),
+    Row("alice ALL = /usr/bin/[l/]s", swapped("cmnd", "path", r"(\[[^\]/]*)/", r"\1z")),
     Row('alice "web?" = ALL', swapped("host", "quoted", r"[*?\[\]]", "z")),
     Row(
         "alice web\\* = ALL",
