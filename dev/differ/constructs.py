@@ -1,7 +1,7 @@
 """How the construct of a row of docs/PROFILE.md is taken out of a policy: changes of one kind of piece alone."""
 
 import re
-from collections.abc import Callable, Iterator, Sequence
+from collections.abc import Callable, Iterator
 from typing import NamedTuple
 
 from differ.ask import Answer, Case
@@ -86,16 +86,5 @@ def in_turn(*changes: Change) -> Change:
     def changed(case: Case) -> Iterator[Case]:
         for change in changes:
             yield from change(case)
-
-    return changed
-
-
-def all_of(changes: Sequence[Change]) -> Change:
-    """Returns one change out of several, the first form of each."""
-
-    def changed(case: Case) -> Iterator[Case]:
-        for change in changes:
-            case = next(change(case), case)
-        yield case
 
     return changed

@@ -11,8 +11,8 @@ from differ.ask import PAIRS, Case
 from differ.world import COMMANDS, ENCODING, GONE, GROUP_NUMBERS, HOSTS_KNOWN, TOP, USERS_KNOWN, Request
 
 ODDITIES = (
-    "addresses all arguments blanks brackets bytes case defaults escapes groups hashes includes joins numbers paths quotes"
-    " signs tags"
+    "addresses all arguments blanks brackets bytes case defaults escapes groups hashes includes joins numbers paths"
+    " quotes signs tags"
 ).split()
 KEYWORDS = {"user": "User_Alias", "runas": "Runas_Alias", "host": "Host_Alias", "cmnd": "Cmnd_Alias"}
 ARGUMENTS = (*"-l ab a\\b * x] w] x \\ \\x ^a A \xc3\xa9 /etc/motd =".split(), "", "", "-l -a", "a b")
@@ -43,11 +43,12 @@ DEFAULTS = (
 )
 # What is put into a text that is to be checked alone.
 TOKENS = (
-    *"! !! , : = ( ) \" \\ # % + - @ > ^ $ / * ? [ ] . ~ ; ' & < { } | ` 0 5 x A Z _ ALL NOPASSWD: NOEXEC : PASSWD".split(),
-    *"Defaults Defaults: Defaults@ Defaults! Defaults> User_Alias Host_Alias Cmnd_Alias Runas_Alias Cmd_Alias".split(),
-    *"SETENV MAIL sudoedit list sha256 sha224: CWD=/x CWD TIMEOUT=5 NOTBEFORE CHROOT @include @includedir".split(),
+    *"! !! , : = ( ) \" \\ # % + - @ > ^ $ / * ? [ ] . ~ ; ' & < { } | ` 0 5 x A Z _ ALL NOPASSWD: NOEXEC :".split(),
+    *"Defaults Defaults: Defaults@ Defaults! Defaults> User_Alias Host_Alias Cmnd_Alias Runas_Alias".split(),
+    *"Cmd_Alias MAIL alice web1 /bin/ls".split(),
+    *"PASSWD SETENV sudoedit list sha256 sha224: CWD=/x CWD TIMEOUT=5 NOTBEFORE CHROOT @include @includedir".split(),
     *"#include #includedir %adm %# %: +net #5 #-1 10.1.2.3 10.1.0.0/16 ::1 fe80::1/64 1.2.3 1.2.3.4/255.0.0.0".split(),
-    *'^a$ \\x41 \\x4 "a" "" += -= += alice web1 /bin/ls'.split(),
+    *'^a$ \\x41 \\x4 "a" "" += -= +='.split(),
     *(" ", "  ", "\t", "\n", "\r\n", "\\\n", "\\ \n", "\x01", "\x80", "\xff", "\x0b", "\x7f", "\n\n", " #", "# x"),
 )
 
@@ -59,8 +60,8 @@ class Draw:
         self.random = random.Random(seed)
         self.odd = set(self.random.sample(ODDITIES, self.random.randint(1, most)))
         self.aliases: dict[str, list[str]] = {kind: [] for kind in KEYWORDS}
-        self.commands = list(COMMANDS)
-        self.arguments = list(ARGUMENTS)
+        self.used_commands: list[str] = []
+        self.used_arguments: list[str] = []
         self.members: dict[str, Callable[[], str]] = {
             "user": self._user,
             "runas": self._user,
@@ -96,17 +97,16 @@ class Draw:
         """Returns a text with backslashes put in, and some bytes written by their values."""
         if not self.odds("escapes", 0.6):
             return text
-        said = [
-            self.pick([f"\\{one}", f"\\x{ord(one):02x}"]) if self.chance(part) and one != "\\" else one for one in text
-        ]
-        return "".join(said)
+        return "".join(self._byte(one) if self.chance(part) and one != "\\" else one for one in text)
+
+    def _byte(self, one: str) -> str:
+        """Returns a byte with a backslash, or written by its value."""
+        return self.pick([f"\\{one}", f"\\x{ord(one):02x}"])
 
     def _quoted(self, name: str) -> str:
         """Returns a name in double quotes."""
         if self.odds("escapes", 0.5):
-            name = "".join(
-                self.pick([one, f"\\{one}", f"\\x{ord(one):02x}"]) if self.chance(0.3) else one for one in name
-            )
+            name = "".join(self._byte(one) if self.chance(0.2) else one for one in name)
         return f'"{name}"'
 
     def _user(self) -> str:
@@ -150,23 +150,8 @@ class Draw:
     def _address(self) -> str:
         first = self.pick(["10.1", "10.2", "010.1", "127.5", "192.168", "0.0", "10.001", "300.1", "10.99"])
         last = self.pick(["2.3", "0.0", "0.9", "7.1", "7.0", "9.9", "0.1", "2.03"])
-        bits = [
-            "",
-            "",
-            "/16",
-            "/24",
-            "/30",
-            "/32",
-            "/0",
-            "/8",
-            "/016",
-            "/33",
-            "/255.255.0.0",
-            "/255.0.0.0",
-            "/255.0.255.0",
-            "/0.0.0.0",
-        ]
-        return self._escaped(f"{first}.{last}{self.pick(bits)}", 0.05)
+        bits = "/16 /24 /30 /32 /0 /8 /016 /33 /255.255.0.0 /255.0.0.0 /255.0.255.0 /0.0.0.0".split()
+        return self._escaped(f"{first}.{last}{self.pick(['', '', *bits])}", 0.05)
 
     def _bracket(self, inside: str) -> str:
         """Returns a bracket that may hold a byte."""
@@ -176,35 +161,15 @@ class Draw:
 
     def _item(self, inside: str) -> str:
         colon = self.pick(["\\:", "\\:", ":"])
-        choices = [
-            inside,
-            inside,
-            f"{inside}-z",
-            f"a-{inside}",
-            "a-z",
-            "z-a",
-            "]",
-            "-",
-            "!",
-            "^",
-            "/",
-            "\\]",
-            "\\-",
-            "A-Z",
-            "[",
-            "0-9",
-        ]
-        choices += [
-            f"[{colon}{self.pick(CLASSES)}{colon}]",
-            f"[{colon}{self.pick(CLASSES)}{colon}]",
-            f"[={inside}=]",
-            f"[.{inside}.]",
-        ]
+        named = f"[{colon}{self.pick(CLASSES)}{colon}]"
+        choices = [inside, inside, named, named, f"{inside}-z", f"a-{inside}", f"[={inside}=]", f"[.{inside}.]"]
+        choices += "a-z z-a ] - ! ^ / \\] \\- A-Z [ 0-9".split()
         return self.pick([*choices, "\\[", "[:", "[\\:", "\\\\", "*", "?", "\\*", "\xc3-\xff", ".-\\=", "\\,"])
 
     def _path(self) -> str:
         path = self.pick([*COMMANDS, GONE])
         end = path[len(TOP) :]
+        self.used_commands.append(path)
         if self.odds("paths", 0.15):
             return f"{TOP}/{self.pick(['b/', 'b/x/', 's/', '*/', 'b/*/', '?/', 'b/[x]/', 'gone/', ''])}"
         if self.odds("brackets", 0.5) or self.odds("paths", 0.3):
@@ -217,20 +182,19 @@ class Draw:
         """Returns a part of a path with the escapes that it needs, and some that it does not."""
         said = re.sub(r"([\\,:= #])", r"\\\1", text)
         if self.odds("escapes", 0.1) or self.odds("paths", 0.1):
-            at = self.random.randrange(len(said) + 1)
-            said = (
-                said[:at] + self.pick(["\\", "\\*", "\\x", "\\\\", "\\,", "\\!", "=", "!", '"', "(", "@"]) + said[at:]
-            )
+            said = self._with(said, ["\\", "\\*", "\\x", "\\\\", "\\,", "\\!", "=", "!", '"', "(", "@"])
         return said
+
+    def _with(self, text: str, choices: Sequence[str]) -> str:
+        """Returns a text into which one of the choices is put."""
+        at = self.random.randrange(len(text) + 1)
+        return text[:at] + self.pick(choices) + text[at:]
 
     def _command(self) -> str:
         kind = self.random.random()
         if kind < 0.1:
-            return (
-                "sudoedit" + self._arguments()
-                if self.chance(0.9)
-                else self.pick(["sudoedit!x", "/usr/bin/sudoedit", 'sudoedit"a"'])
-            )
+            odd = self.pick(["sudoedit!x", "/usr/bin/sudoedit", 'sudoedit"a"'])
+            return "sudoedit" + self._arguments() if self.chance(0.9) else odd
         if kind < 0.25 or self.odds("all", 0.3):
             return "ALL"
         path = self._path()
@@ -244,21 +208,16 @@ class Draw:
         if self.odds("arguments", 0.4):
             said = self.pick([*ARGUMENTS, '""', "^", "sub=x", "a=", "!", '"a"', "\\\\", "a\\\\b", "\\^a$"])
         if self.odds("brackets", 0.6):
-            said = (
-                self.pick([said, said[:1], ""])
-                + self._bracket(self.pick(["a", "x", "-", "]", "b"]))
-                + self.pick(["", "", "*", "]"])
-            )
+            before, after = self.pick([said, said[:1], ""]), self.pick(["", "", "*", "]"])
+            said = before + self._bracket(self.pick(["a", "x", "-", "]", "b"])) + after
         if self.odds("escapes", 0.5):
-            at = self.random.randrange(len(said) + 1)
-            said = (
-                said[:at]
-                + self.pick(
-                    ["\\\\", "\\*", "\\?", "\\[", "\\]", "\\!", "\\^", "\\:", "\\ ", "\\\t", "\\#", "\\=", "\\x41"]
-                )
-                + said[at:]
-            )
-        self.arguments += [said, re.sub(r"\\(.)", r"\1", said), re.sub(r"\[.*\]", "a", said), re.sub("[*?]", "a", said)]
+            said = self._with(said, ["\\ ", "\\\t", *"\\\\ \\* \\? \\[ \\] \\! \\^ \\: \\# \\= \\x41".split()])
+        self.used_arguments += [
+            said,
+            re.sub(r"\\(.)", r"\1", said),
+            re.sub(r"\[.*\]", "a", said),
+            re.sub("[*?]", "a", said),
+        ]
         return f" {said}"
 
     def member(self, kind: str) -> str:
@@ -278,12 +237,9 @@ class Draw:
         names = [group.replace(" ", "\\ ").replace("\\d", "\\\\d") for group in GROUP_NUMBERS]
         group = self.pick([*names, "ALL", "!adm", "#4", "\\#37", '"adm"', "Adm", *self.aliases["runas"]])
         group = "%adm" if self.chance(0.01) else group
-        groups = (
-            f":{group}"
-            if self.odds("groups", 0.7) or self.chance(0.1)
-            else self.pick(["", "", "", ":"] if users == "" else [""])
-        )
-        return f"({users}{groups}) "
+        if self.odds("groups", 0.7) or self.chance(0.1):
+            return f"({users}:{group}) "
+        return f"({users}{self.pick(['', '', '', ':']) if users == '' else ''}) "
 
     def _tags(self) -> str:
         count = self.random.choice((1, 1, 2)) if self.odds("tags", 0.6) else 0
@@ -303,9 +259,7 @@ class Draw:
 
     def _alias(self) -> str:
         kind = self.pick(list(KEYWORDS))
-        names = ["A", "B1", "C_", "ADM", "WEB", "LS", "X9_Y", "MAIL", "NOEXEC"] + (
-            ["CWD", "TIMEOUT", "TYPES"] if self.chance(0.05) else []
-        )
+        names = "A B1 C_ ADM WEB LS X9_Y MAIL NOEXEC CWD TIMEOUT TYPES".split()[: None if self.chance(0.05) else 9]
         name = self.pick([name for name in names if name not in self.aliases[kind]])
         said = f"{KEYWORDS[kind]} {name} = {self.members_of(kind, 3)}"
         self.aliases[kind].append(name)
@@ -395,17 +349,11 @@ class Draw:
         target = self.pick(["root", *users]) if self.chance(0.3) else ""
         target = self.pick(["#1001", "#11"]) if self.odds("numbers", 0.02) else target
         group = self.pick(list(GROUP_NUMBERS)) if self.odds("groups", 0.5) or self.chance(0.05) else ""
-        command = "sudoedit" if self.chance(0.1) else self.pick([*self.commands, GONE])
+        commands = self.used_commands if self.used_commands and self.chance(0.7) else [*COMMANDS, GONE, "sudoedit"]
+        texts = self.used_arguments if self.used_arguments and self.chance(0.6) else ARGUMENTS
         host = self.random.choice(HOSTS_KNOWN).name if self.chance(0.6) else "web1.example.org"
-        asked = self.pick(self.arguments) if self.chance(0.7) else ""
-        return Request(
-            self.pick(users),
-            host,
-            target,
-            group,
-            command,
-            asked.replace("\n", "").strip(" ") if self.chance(0.9) else "",
-        )
+        asked = self.pick(texts).replace("\n", "").strip(" ")
+        return Request(self.pick(users), host, target, group, self.pick([*commands, "sudoedit"]), asked)
 
 
 def drawn_policy(seed: str, requests: int) -> tuple[Case, list[Request]]:

@@ -1,12 +1,11 @@
 """The peer: sudo's own testsudoers and visudo, built from Debian's source package of sudo.
 
-Two changes are made before the build: the addresses of interfaces come from the environment in place of the machine, and
-each command that is tried is printed with its place and tags. All that reads and matches policies stays as it is.
+Two changes are made before the build: the addresses of interfaces come from the environment in place of the machine,
+and each command that is tried is printed with its place and tags. What reads and matches policies stays as it is.
 """
 
 import glob
 import os
-import shutil
 import subprocess
 import tempfile
 from typing import NamedTuple
@@ -75,7 +74,7 @@ def built(folder: str) -> Peer:
         _step(["make", "-s", jobs, "-C", "plugins/sudoers", TESTSUDOERS, VISUDO], source)
         os.makedirs(folder, exist_ok=True)
         for name in (TESTSUDOERS, VISUDO):
-            shutil.copy(os.path.join(source, "plugins", "sudoers", name), folder)
+            os.replace(os.path.join(source, "plugins", "sudoers", name), os.path.join(folder, name))
     peer = standing(folder)
     if peer is None:
         raise Fault(f"{folder}: the build of sudo left no {TESTSUDOERS} and {VISUDO}", FAILED)

@@ -3,8 +3,9 @@
 The cut follows the tokens that the program reads. It never fails: what fits nothing is a piece of its own.
 """
 
+import functools
 import re
-from collections.abc import Iterator
+from collections.abc import Collection, Iterator
 from typing import NamedTuple
 
 KEYWORD_ROLES = {
@@ -131,7 +132,7 @@ class _Cutter:
         return Piece(self.role, kind, text)
 
     def _next_list(self) -> None:
-        """Goes on to the hosts of a rule, or to the parameters of a Defaults line, where no comma stands behind a member."""
+        """Goes on to the hosts of a rule or the parameters of a Defaults line, if no comma follows the last member."""
         if self.has_member and self.last not in (",", "!"):
             if self.kind == "rule" and self.role == "user":
                 self.role = "host"
@@ -169,9 +170,26 @@ class _Cutter:
         return found[1] if found else ""
 
 
-def pieces_of(text: str) -> list[Piece]:
+@functools.lru_cache(maxsize=64)
+def pieces_of(text: str) -> tuple[Piece, ...]:
     """Returns the pieces of a text."""
-    return list(_Cutter(text).pieces())
+    return tuple(_Cutter(text).pieces())
+
+
+def definitions(text: str, keywords: Collection[str]) -> dict[str, list[str]]:
+    """Returns the members of the aliases that stand behind one of the keywords, by name."""
+    found: dict[str, list[str]] = {}
+    keyword, members = "", None
+    for piece in pieces_of(text):
+        if piece.kind == "newline" or piece.kind == "mark" and piece.text == ":" and piece.role != "runas":
+            members = None
+        elif piece.role == "name" and piece.kind == "word":
+            keyword = piece.text if piece.text in KEYWORD_ROLES else keyword
+            members = found.setdefault(piece.text, [""]) if keyword in keywords and piece.text != keyword else None
+        elif members is not None and piece.role != "name" and piece.kind not in ("comment", "join"):
+            members += [""] if piece.text == "," else []
+            members[-1] += piece.text if piece.text != "," else ""
+    return {name: [member.strip() for member in members] for name, members in found.items()}
 
 
 def plain(text: str) -> str:

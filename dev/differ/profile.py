@@ -10,7 +10,7 @@ from collections.abc import Callable, Iterator
 from differ import world
 from differ.ask import Answer, Case
 from differ.constructs import NOTHING, Row, in_turn, mapped, pieces_changed, replaced, swapped, where
-from differ.pieces import TAG, Piece, pieces_of, plain, spelled
+from differ.pieces import TAG, Piece, definitions, pieces_of, plain, spelled
 
 USERS = {user.name for user in world.USERS_KNOWN}
 GROUPS = set(world.GROUP_NUMBERS)
@@ -106,6 +106,30 @@ def _groups_without_group(case: Case) -> Iterator[Case]:
         )
 
 
+def _written_out(text: str, keywords: tuple[str, ...], role: str) -> str:
+    """Returns a text in which the members of aliases stand in place of the aliases, where lists have a role."""
+    members = definitions(text, keywords)
+    out, negated = [], False
+    for piece in pieces_of(text):
+        written = members.get(piece.text, []) if piece.role == role and piece.kind == "word" else []
+        out.append((", !" if negated else ", ").join(written) or piece.text)
+        negated = negated != (piece.text == "!") if piece.kind in ("mark", "blank") else False
+    return "".join(out)
+
+
+def _targets_written_out(case: Case) -> Iterator[Case]:
+    """Yields a case in which the members of aliases stand in whom to run as, if a group is asked for."""
+    if case.request is not None and case.request.runas_group:
+        yield mapped(case, lambda text: _written_out(text, ("Runas_Alias",), "runas"))
+
+
+def _commands_written_out(case: Case) -> Iterator[Case]:
+    """Yields cases in which the members of aliases stand in lists of commands, and those of aliases in these."""
+    for _ in range(3):
+        case = mapped(case, lambda text: _written_out(text, ("Cmnd_Alias", "Cmd_Alias"), "cmnd"))
+        yield case
+
+
 def _asks_for(*commands: str) -> Callable[[Case], bool]:
     return lambda case: case.request is not None and case.request.command in commands
 
@@ -139,6 +163,29 @@ def _blank_before_parameters(case: Case) -> Iterator[Case]:
     yield mapped(case, of_text)
 
 
+def _parameters(name: str) -> Callable[[Case], Iterator[Case]]:
+    """Returns a change of each parameter of Defaults lines whose name a pattern fits to a known one without a value."""
+    fits = re.compile(name, re.DOTALL)
+
+    def of_text(text: str) -> str:
+        out: list[str] = []
+        inside = False
+        for piece in pieces_of(text):
+            is_own = piece.role == "parameter" and piece.kind not in ("blank", "join", "newline", "comment")
+            if not is_own or piece.text in (",", "!"):
+                inside = inside and piece.text != "," and piece.kind in ("blank", "join")
+                out.append("" if inside else piece.text)
+            elif not inside:
+                inside = piece.kind in ("word", "path") and fits.fullmatch(piece.text) is not None
+                out.append("insults" if inside else piece.text)
+        return "".join(out)
+
+    def changed(case: Case) -> Iterator[Case]:
+        yield mapped(case, of_text)
+
+    return changed
+
+
 def _aliases_like_tags(case: Case) -> Iterator[Case]:
     """Yields a case in which aliases that have the name of a tag have another."""
     names = {piece.text for piece in pieces_of(case.text) if piece.role == "name" and TAG.match(piece.text)}
@@ -146,15 +193,25 @@ def _aliases_like_tags(case: Case) -> Iterator[Case]:
 
 
 def _undefined(case: Case) -> Iterator[Case]:
-    """Yields a case in which `ALL` stands for each alias that is not defined."""
+    """Yields cases in which `ALL` stands for each alias that is not defined, and for those in definitions."""
     defined = {piece.text for piece in pieces_of(case.text) if piece.role == "name"}
 
+    def is_used(piece: Piece) -> bool:
+        in_list = piece.kind == "word" and piece.role in (*LISTS.split(), "cmnd") and not TAG.match(piece.text)
+        return in_list and re.fullmatch(r"[A-Z][A-Z0-9_]*", piece.text) is not None
+
     def of_piece(piece: Piece) -> str:
-        used = piece.kind == "word" and piece.role in (*LISTS.split(), "cmnd")
-        used = used and re.fullmatch(r"[A-Z][A-Z0-9_]*", piece.text) is not None
-        return "ALL" if used and piece.text not in defined and not TAG.match(piece.text) else piece.text
+        return "ALL" if is_used(piece) and piece.text not in defined else piece.text
+
+    def of_text(text: str) -> str:
+        lines = re.split(r"(?m)^(?=.)", text)
+        return "".join(
+            "".join("ALL" if is_used(piece) else piece.text for piece in pieces_of(line)) if "_Alias" in line else line
+            for line in lines
+        )
 
     yield from pieces_changed(of_piece)(case)
+    yield mapped(case, of_text)
 
 
 def _target_number(case: Case) -> Iterator[Case]:
@@ -167,14 +224,20 @@ def _target_number(case: Case) -> Iterator[Case]:
 
 
 GRANTS = (
-    Row("alice ALL = NOSETENV: /bin/ls, ALL, /bin/cat", _if_said(r"NOSETENV"), _without_setenv),
-    Row("Cmnd_Alias X = ALL", _if_said(r"Cmn?d_Alias.*ALL"), _without_setenv),
+    Row(
+        "alice ALL = NOSETENV: /bin/ls, ALL, /bin/cat", _if_said(r"SETENV[ \t]*:(?:.*\\\n)*.*\bALL\b"), _without_setenv
+    ),
+    Row("Cmnd_Alias X = ALL", _commands_written_out),
     Row("alice ALL = /bin/ls\\", replaced(r"\\\r?\n[ \t]*", " ", "")),
-    Row("alice ALL = /bin/ls foo\\ ", replaced(r"\\[ \t]+\r?\n[ \t]*", " ", "")),
+    Row("alice ALL = /bin/ls foo\\ ", replaced(r"\\[ \t]+(?:\r?\n[ \t]*|\Z)", " ", "")),
     Row("#include /etc/x", replaced(r"^[ \t]+#include", "# include")),
     Row('"bo\\x62" ALL = ALL', swapped("user runas host", "quoted", r"\\x([0-9A-Fa-f]{2})", _byte)),
     Row('"al\\ice" ALL = ALL', swapped("user runas host", "quoted", r'\\([^"\\])', r"\1")),
     Row("alice ALL = /bin/ls a\\\\b", swapped("cmnd", "argument", r"\\\\", "z", "")),
+    Row(
+        "alice ALL = /bin/l!\\*",
+        swapped("cmnd", "path", r'^([^\\]*[>!()"](?:[^\\]|\\[,:= \t#])*)(?=\\[^,:= \t#])', r"\1 "),
+    ),
     Row("alice ALL = /usr/bin/passwd [^-]*", swapped("cmnd host", "path argument word", r"\[\^", "[!", "[\\\\!")),
     Row(
         "alice ALL = /bin/ls [[\\:word\\:]]",
@@ -189,7 +252,7 @@ GRANTS = (
         "alice ALL = /bin/ls [[=a=]]",
         swapped("cmnd host", "path argument word", r"\[(?:\\?=(.)\\?=|\.(.)\.)\]", lambda found: found[1] or found[2]),
     ),
-    Row("alice ALL = /usr/bin/[l/]s", swapped("cmnd", "path argument", r"(\[[^\]/]*)/", r"\1z")),
+    Row("alice ALL = /usr/bin/[l/]s", swapped("cmnd", "path", r"(\[[^\]/]*)/", r"\1z")),
     Row('alice "web?" = ALL', swapped("host", "quoted", r"[*?\[\]]", "z")),
     Row(
         "alice web\\* = ALL",
@@ -232,6 +295,7 @@ GRANTS = (
     Row("(operator) /bin/id", _group_alone),
     Row("alice ALL = (!alice:adm) /bin/id", _denied_oneself),
     Row("alice ALL = (:operator) /bin/id", _groups_without_group),
+    Row("Runas_Alias R = operator", _targets_written_out),
     Row("alice ALL = (#2001) /bin/ls", _target_number),
 )
 
@@ -239,19 +303,23 @@ OPTIONS = "CWD|CHROOT|TIMEOUT|NOTBEFORE|NOTAFTER|ROLE|TYPE"
 FILES = (
     # Refused here, read by sudo.
     Row("alice\\", replaced(r"\\\r?\n[ \t]*", " ", "")),
-    Row("Cmnd_Alias A = /bin/ls, \\ ", replaced(r"\\[ \t]+\r?\n[ \t]*", " ", "")),
+    Row("Cmnd_Alias A = /bin/ls, \\ ", replaced(r"\\[ \t]+(?:\r?\n[ \t]*|\Z)", " ", "")),
     Row("alice ALL = ALL # note \\", swapped("*", "comment", r"\\+[ \t]*\r?$", "")),
     Row("#includedir", replaced(r"^[ \t]*#include(dir)?[ \t]*$", "# x")),
     Row('@include /x/a"b"', replaced(r'^([ \t]*[@#]include(?:dir)?[ \t]+[^"\s]+)"([^"\n]*)"', r"\1\2")),
     Row("@include /x/a\\x62", swapped("include", "word path", r"\\x([0-9A-Fa-f]{2})", _byte)),
     Row('@include "/x/a\\x62"', swapped("include", "quoted", r"\\(?:x([0-9A-Fa-f]{2})|([^\"]))", _byte)),
+    Row(
+        "a folder with a file whose name is not UTF-8, or a path of an include line that is not",
+        swapped("include", "*", r"[\x80-\xff]", "z"),
+    ),
     Row("alice ALL = /bin/l=s", swapped("cmnd", "mark", "^=$", "z")),
     Row("alice #5 = ALL", swapped("*", "comment", r"^#(?=-?[0-9])", " z")),
     Row("a control byte, outside a comment", replaced(r"[\x00-\x08\x0b-\x1f\x7f]", "z", "", " z ")),
-    Row("#4294967296", swapped(LISTS, WORDS, r"^.*[#/].*$|^[0-9.\\]+$", "zz")),
+    Row("#4294967296", swapped(LISTS, WORDS, r"^.*[#/].*$|^[0-9.\\]+$", "zz", "zz zz")),
     Row("bo\\x2 ALL = ALL", swapped("*", WORDS + " value", r"\\x(?![0-9A-Fa-f]{2})", "z")),
-    Row("alice 2001:db8::1 = ALL", replaced(r"[0-9A-Fa-f]*:[0-9A-Fa-f]*:[0-9A-Fa-f:.]*(/\w+)?", "zz")),
-    Row("alice / = ALL", swapped(LISTS, "path", "^/$", "zz")),
+    Row("alice 2001:db8::1 = ALL", replaced(r"[0-9A-Fa-f]*:[0-9A-Fa-f]*:[0-9A-Fa-f:.]*(/\w+)?", "zz", " zz ")),
+    Row("alice / = ALL", swapped(LISTS, "path", r"^/$|^/(?:[^\\]|\\[,:= \t#])*\\[^,:= \t#].*$", "zz")),
     Row("alice web1 !! = ALL", replaced(r"!!", "")),
     Row("a file whose last line is one backslash", replaced(r"\\\r?\n?\Z", "")),
     Row("+netgroup", swapped(LISTS, WORDS, r'^("?)\+', r"\1z")),
@@ -263,24 +331,25 @@ FILES = (
     Row("Runas_Alias A = B", _undefined),
     # Read here, refused by sudo.
     Row("alice ALL = /bin/ls", replaced(r"\r$", "")),
-    Row("Defaults nonsense", swapped("parameter", "word value quoted", r"^[a-z_]+$", "insults")),
+    Row("Defaults nonsense", _parameters("[a-z_]+")),
     Row("alice ALL = /bin/ls ^-l", replaced(r"(?<=[ \t])\^", "z")),
     Row("alice ALL = /", swapped("cmnd", "path", r"^/$", "/z/")),
     Row("alice ALL = ALL, ! ! /bin/ls", replaced(r"!(?:[ \t]+!)+", "!")),
     Row('Defaults "env_reset"', swapped("parameter", "quoted", r"^.*$", "insults")),
     Row('alice ALL = /bin/ls a\\"b', swapped("cmnd", "argument", r"\\(?![*?\[\]!^:\\,= \t#])", "")),
     Row("alice ALL = /bin/l\\s", swapped("cmnd", "path", r"\\(?![,:= \t#])", "z")),
-    Row("a tab behind a backslash", swapped("*", "word", r"\\\t", "z")),
+    Row("a tab behind a backslash, in a name", swapped("*", "word", r"\\\t", "z")),
     Row("alice ALL = /bin/ls #5", swapped("*", "comment", r"^#(?=-?[0-9])", "# ")),
+    Row("#-", replaced("#-$", "#")),
     Row("a>b ALL = ALL", swapped(LISTS, "word", ">", "z")),
     Row("^a$ ALL = ALL", swapped(LISTS, "word", r"^\^", "z")),
     Row("10.1.2.3 ALL = ALL", swapped("user runas", "word", r"^[0-9.]+(/.*)?$", "zz")),
     Row("alice %adm = ALL", swapped("host", WORDS, r'^("?)%', r"\1z")),
     Row("alice ALL = /bin/ -l", replaced(r"/(?=[ \t]+[^\s,:=#(])", "/z")),
-    Row("alice ALL = /bin/ls =", swapped("cmnd", "argument", r"^=$|(?<=\\.)=$", "z")),
+    Row("alice ALL = /bin/ls =", swapped("cmnd", "argument", r"(?:^|(?<=\\.))=(?=$|\\)", "z")),
     Row('Defaults:"bob"env_reset', _blank_before_parameters),
     Row('Defaults badpass_message=""', swapped("parameter", "quoted", '^""$', '"z"')),
-    Row("Defaults web1", swapped("parameter", "word path", r"^.*[^a-z_].*$", "insults")),
+    Row("Defaults web1", _parameters(".*[^a-z_].*")),
     Row("alice ALL = (bob:) /bin/ls", replaced(r":[ \t]*\)", ")")),
     Row("alice ALL = (root : %adm) /bin/ls", swapped("runas", WORDS, r'^("?)%', r"\1z")),
     Row("Cmnd_Alias CWD = /bin/ls", replaced(rf"\b({OPTIONS})\b", "ZZZ")),

@@ -66,6 +66,7 @@ class Search:
     def __init__(self, asker: Asker, show: bool = False) -> None:
         self.asker = asker
         self.show = show
+        self.last: Row | None = None
         self.verdicts = 0
         self.files = 0
         self.explained: Counter[str] = Counter()
@@ -110,6 +111,7 @@ class Search:
         if row is None:
             self.new.append(Difference(seed, case, both))
             return
+        self.last = row
         self.explained[row.cell] += 1
         if self.show and row.cell not in self.examples:
             case = self.small(case, both, row)
@@ -149,8 +151,9 @@ class Search:
         return FILES if case.request is None else GRANTS
 
     def _single(self, case: Case) -> Row | None:
-        """Returns the row whose construct alone makes the difference."""
-        return next((row for row in self.rows(case) if self._goes(case, row)), None)
+        """Returns the row whose construct alone makes the difference. That of the last difference is tried first."""
+        last = [row for row in self.rows(case) if row is self.last]
+        return next((row for row in (*last, *self.rows(case)) if self._goes(case, row)), None)
 
     def _goes(self, case: Case, row: Row) -> bool:
         """Returns whether the difference of a case goes when the construct of a row is taken out."""
@@ -200,6 +203,9 @@ def tasks(verdicts: int, files: int, seed: int) -> list[tuple[str, bool]]:
 
 def search(program: str, peer: Peer, show: bool, planned: list[tuple[str, bool]], jobs: int) -> Iterator[Found]:
     """Yields what each task found, in the order in which they end."""
-    with ProcessPoolExecutor(jobs) as pool:
+    pool = ProcessPoolExecutor(jobs)
+    try:
         for done in as_completed([pool.submit(task, program, peer, show, *one) for one in planned]):
             yield done.result()
+    finally:
+        pool.shutdown(cancel_futures=True)

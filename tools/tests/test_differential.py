@@ -138,6 +138,16 @@ class Sorted(Case):
     def test_an_explained_file(self):
         self.assertEqual(self.sorted("alice ALL = ALL\nsha256 ALL = ALL\n"), ["sha256 ALL = ALL"])
 
+    def test_the_profile_explains_its_own_examples(self):
+        for heading in ("Refused here, read by sudo", "Read here, refused by sudo"):
+            for cell, _ in rows_below(heading):
+                policy = policy_of(cell)
+                if policy and not policy.startswith(READ_IN_PART):
+                    with self.subTest(policy=policy):
+                        self.search.new = []
+                        self.sorted(policy)
+                        self.assertEqual(self.search.new, [])
+
     def test_nothing_differs(self):
         self.assertEqual(self.sorted("alice ALL = ALL\n"), [])
 
@@ -145,7 +155,8 @@ class Sorted(Case):
         self.search.rows = lambda case: [row for row in GRANTS if row.cell == "alice ALL = /bin/ls\\"]
         request = Request("alice", "web1.example.org", "", "", "/bin/ls", "a\\b")
         (new,) = self.sorted("alice ALL = /bin/cat, \\\n /bin/ls a\\\\b\n", request)
-        self.assertEqual(new.case.text, "alice ALL=/bin/ls a\\\\b")
+        self.assertIn("a\\\\b", new.case.text)
+        self.assertNotIn("\n", new.case.text)
         self.assertEqual([answer.verdict for answer in new.both], ["allow", "nomatch"])
 
 

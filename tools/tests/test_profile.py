@@ -1,6 +1,6 @@
 """Tests of docs/PROFILE.md: what it says the program does, the program does.
 
-Of its tables "Refused here" and "Read here" each policy is checked; of "Another grant" each policy is audited.
+Of its tables "Refused here" and "Read here" each policy is checked; of "Another grant" policies are audited.
 """
 
 import csv
@@ -32,7 +32,7 @@ FAULT = re.compile(r"^`((?:\d+:\d+: )?[a-z][^`]*)`")
 
 
 class Grant(NamedTuple):
-    """A policy of the tables "Another grant", a request under it, and the verdicts, sudo's where the peer can show it."""
+    """A policy of the page, a request under it, and the verdicts, sudo's where its testsudoers shows it."""
 
     policy: str
     user: str
@@ -45,6 +45,10 @@ class Grant(NamedTuple):
     host: str = "web1.example.org"
 
 
+DEFAULT_TARGET = "Defaults runas_default=postgres\nalice ALL = /bin/ls"
+ALIAS_OF_USERS = "Runas_Alias R = operator\nalice ALL = (R:adm) /bin/id"
+ALIAS_OF_GROUPS = "Runas_Alias G = adm\nalice ALL = (operator:G) /bin/id"
+LOCALE = "Defaults sudoers_locale=C.UTF-8\nalice ALL = /bin/echo ?"
 GRANTS = [
     Grant("alice ALL = /bin/ls\\\n-l", "alice", "", "", "/bin/ls-l", "", "allow", "nomatch"),
     Grant("alice ALL = /bin/ls\\\n-l", "alice", "", "", "/bin/ls", "-l", "nomatch", "allow"),
@@ -71,16 +75,21 @@ GRANTS = [
     Grant("alice ALL = /usr/bin/sudoedit /etc/x", "alice", "", "", "sudoedit", "/etc/x", "nomatch", "refused"),
     Grant("alice ALL = ALL, !/usr/bin/sudoedit", "alice", "", "", "sudoedit", "/etc/x", "allow", "refused"),
     Grant("alice ALL = (#2001) /bin/ls", "alice", "#2001", "", "/bin/ls", "", "unknown-target", "allow"),
-    Grant("Defaults runas_default=postgres\nalice ALL = /bin/ls", "alice", "root", "", "/bin/ls", "", "allow", "nomatch"),
-    Grant("Defaults runas_default=postgres\nalice ALL = /bin/ls", "alice", "postgres", "", "/bin/ls", "", "nomatch", "allow"),
+    Grant(DEFAULT_TARGET, "alice", "root", "", "/bin/ls", "", "allow", "nomatch"),
+    Grant(DEFAULT_TARGET, "alice", "postgres", "", "/bin/ls", "", "nomatch", "allow"),
     Grant("Defaults !root_sudo\nroot ALL = ALL", "root", "", "", "/bin/ls", "", "allow"),
     Grant("Defaults !authenticate\nalice ALL = /bin/ls", "alice", "", "", "/bin/ls", "", "allow"),
     Grant("Defaults targetpw\nALL ALL = (ALL) ALL", "bob", "", "", "/bin/ls", "", "allow"),
     Grant("Defaults runas_check_shell\nalice ALL = (ALL) /bin/ls", "alice", "bob", "", "/bin/ls", "", "allow"),
     Grant("alice ALL = /bin/id", "alice", "root", "adm", "/bin/id", "", "nomatch", "allow"),
     Grant("alice ALL = /bin/id", "alice", "", "adm", "/bin/id", "", "nomatch", "allow"),
+    Grant("alice ALL = (operator) /bin/id", "alice", "alice", "adm", "/bin/id", "", "nomatch", "allow"),
     Grant("alice ALL = (!alice:adm) /bin/id", "alice", "", "adm", "/bin/id", "", "nomatch", "allow"),
     Grant("alice ALL = (:operator) /bin/id", "alice", "", "", "/bin/id", "", "allow", "nomatch"),
+    Grant(ALIAS_OF_USERS, "alice", "operator", "adm", "/bin/id", "", "allow", "nomatch"),
+    Grant(ALIAS_OF_GROUPS, "alice", "operator", "adm", "/bin/id", "", "allow", "nomatch"),
+    Grant("alice ALL = /bin/l!\\*", "alice", "", "", "/bin/l!", "*", "nomatch", "allow"),
+    Grant("alice ALL = /bin/l!\\*", "alice", "", "", "/bin/l!*", "", "allow", "nomatch"),
     Grant('"al\\ice" ALL = ALL', "alice", "", "", "/bin/sh", "", "allow", "nomatch"),
     Grant('"al\\ice" ALL = ALL', "al\\ice", "", "", "/bin/sh", "", "nomatch", "allow"),
     Grant('"%EXAMPLE\\admins" ALL = ALL', "bob", "", "", "/bin/sh", "", "allow", "nomatch"),
@@ -96,12 +105,13 @@ GRANTS = [
     Grant("alice ALL = /usr/bin/[l/]s", "alice", "", "", "/usr/bin/ls", "", "allow", "nomatch"),
     Grant("alice ALL = ALL, !/usr/bin/*", "alice", "", "", "/usr/bin/.x", "", "deny", "allow"),
     Grant("alice ALL = /opt/*", "alice", "", "", "/opt/x", "", "allow", "nomatch"),
+    Grant("alice ALL = /", "alice", "", "", "/init", "", "allow", "refused"),
     Grant("alice ALL = sudoedit!x", "alice", "", "", "sudoedit", "!x", "nomatch", "allow"),
     Grant('alice ALL = /bin/ls ""', "alice", "", "", "/bin/ls", "", "allow"),
     Grant("alice 0.0.0.0/0 = ALL", "alice", "", "", "/bin/ls", "", "allow", "nomatch"),
     Grant("alice 010.1.2.3 = ALL", "alice", "", "", "/bin/ls", "", "allow", "nomatch"),
     Grant("Defaults !fqdn\nalice web1.example.org = ALL", "alice", "", "", "/bin/ls", "", "allow"),
-    Grant("Defaults sudoers_locale=C.UTF-8\nalice ALL = /bin/echo ?", "alice", "", "", "/bin/echo", "é", "nomatch", "allow"),
+    Grant(LOCALE, "alice", "", "", "/bin/echo", "é", "nomatch", "allow"),
     Grant("Defaults fast_glob\nalice ALL = /usr/*/", "alice", "", "", "/usr/bin/ls", "", "allow", "nomatch"),
     Grant("Defaults requiretty\nalice ALL = ALL", "alice", "", "", "/bin/ls", "", "allow"),
     Grant("alice [[\\:upper\\:]]* = ALL", "alice", "", "", "/bin/sh", "", "nomatch", "allow", "WEB1"),
