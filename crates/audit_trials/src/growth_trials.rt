@@ -131,6 +131,16 @@ enum Call {
     CollectAll,
 }
 
+/// How a collection ended that was refused.
+fn end_of_collect_fault(fault: &CollectFault) -> End {
+    match fault {
+        CollectFault::Roster(RosterFault::Memory) | CollectFault::Refused(Refused::Memory) => {
+            End::Refused
+        }
+        _ => End::Wrong,
+    }
+}
+
 /// A call for those arrivals in the first order.
 #[derive(Drop)]
 struct Collecting<'a> {
@@ -164,9 +174,7 @@ impl Collecting<'_> {
         memory.give_back();
         Ok(match answer {
             Ok(report) => End::of(report == *self.arrivals.wanted),
-            Err(CollectFault::Roster(RosterFault::Memory)) => End::Refused,
-            Err(CollectFault::Refused(Refused::Memory)) => End::Refused,
-            Err(_) => End::Wrong,
+            Err(fault) => end_of_collect_fault(&fault),
         })
     }
 }
