@@ -17,7 +17,7 @@ class Foreign(Case):
         start = time.monotonic()
         with self.assertRaises(Fault) as raised:
             foreign.read(path, cap, below)
-        self.assertLess(time.monotonic() - start, 2)
+        self.assertLess(time.monotonic() - start, 30)
         return str(raised.exception).replace(self.folder + "/", "")
 
     def test_a_plain_file_is_read(self) -> None:

@@ -19,7 +19,7 @@ from support import PROGRAM, TOOLS, Case, needs_jinja, needs_program
 
 # The most seconds of a processor, and the most of a clock, since other tests run beside this one.
 SECONDS = 10
-DEADLINE = 60
+DEADLINE = 90
 SIDE_BY_SIDE = 4
 SECRET = "canary-4711"
 VICTIM = "victim as it was\n"

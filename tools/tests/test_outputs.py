@@ -205,7 +205,7 @@ class Locks(Case):
         start = time.monotonic()
         with self.assertRaisesRegex(Fault, "no lock of a run"), outputs.locked(self.path("out")):
             pass
-        self.assertLess(time.monotonic() - start, 2)
+        self.assertLess(time.monotonic() - start, 30)
         self.assertEqual(self.read("victim"), "victim")
 
 
