@@ -106,27 +106,33 @@ def _groups_without_group(case: Case) -> Iterator[Case]:
         )
 
 
-def _written_out(text: str, keywords: tuple[str, ...], role: str) -> str:
-    """Returns a text in which the members of aliases stand in place of the aliases, where lists have a role."""
-    members = definitions(text, keywords)
-    out, negated = [], False
-    for piece in pieces_of(text):
-        written = members.get(piece.text, []) if piece.role == role and piece.kind == "word" else []
-        out.append((", !" if negated else ", ").join(written) or piece.text)
-        negated = negated != (piece.text == "!") if piece.kind in ("mark", "blank") else False
-    return "".join(out)
+def _written_out(case: Case, keywords: tuple[str, ...], role: str) -> Case:
+    """Returns a case in which the members of aliases stand in place of the aliases, where lists have a role."""
+    members: dict[str, list[str]] = {}
+    for text in (case.text, *(text for _, text in case.files)):
+        members |= definitions(text, keywords)
+
+    def of_text(text: str) -> str:
+        out, negated = [], False
+        for piece in pieces_of(text):
+            written = members.get(piece.text, []) if piece.role == role and piece.kind == "word" else []
+            out.append((", !" if negated else ", ").join(written) or piece.text)
+            negated = negated != (piece.text == "!") if piece.kind in ("mark", "blank") else False
+        return "".join(out)
+
+    return mapped(case, of_text)
 
 
 def _targets_written_out(case: Case) -> Iterator[Case]:
     """Yields a case in which the members of aliases stand in whom to run as, if a group is asked for."""
     if case.request is not None and case.request.runas_group:
-        yield mapped(case, lambda text: _written_out(text, ("Runas_Alias",), "runas"))
+        yield _written_out(case, ("Runas_Alias",), "runas")
 
 
 def _commands_written_out(case: Case) -> Iterator[Case]:
     """Yields cases in which the members of aliases stand in lists of commands, and those of aliases in these."""
     for _ in range(3):
-        case = mapped(case, lambda text: _written_out(text, ("Cmnd_Alias", "Cmd_Alias"), "cmnd"))
+        case = _written_out(case, ("Cmnd_Alias", "Cmd_Alias"), "cmnd")
         yield case
 
 
