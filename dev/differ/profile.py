@@ -235,7 +235,7 @@ GRANTS = (
     ),
     Row("Cmnd_Alias X = ALL", _commands_written_out),
     Row("alice ALL = /bin/ls\\", replaced(r"\\\r?\n[ \t]*", " ", "")),
-    Row("alice ALL = /bin/ls foo\\ ", replaced(r"\\[ \t]+(?:\r?\n[ \t]*|\Z)", " ", "")),
+    Row("alice ALL = /bin/ls foo\\ ", replaced(r"\\[ \t]+(?:\r?\n[ \t]*|\Z)", " ", "", r"\\x20\n")),
     Row("#include /etc/x", replaced(r"^[ \t]+#include", "# include")),
     Row('"bo\\x62" ALL = ALL', swapped("user runas host", "quoted", r"\\x([0-9A-Fa-f]{2})", _byte)),
     Row('"al\\ice" ALL = ALL', swapped("user runas host", "quoted", r'\\([^"\\])', r"\1")),
@@ -309,7 +309,7 @@ OPTIONS = "CWD|CHROOT|TIMEOUT|NOTBEFORE|NOTAFTER|ROLE|TYPE"
 FILES = (
     # Refused here, read by sudo.
     Row("alice\\", replaced(r"\\\r?\n[ \t]*", " ", "")),
-    Row("Cmnd_Alias A = /bin/ls, \\ ", replaced(r"\\[ \t]+(?:\r?\n[ \t]*|\Z)", " ", "")),
+    Row("Cmnd_Alias A = /bin/ls, \\ ", replaced(r"\\[ \t]+(?:\r?\n[ \t]*|\Z)", " ", "", r"\\x20\n")),
     Row("alice ALL = ALL # note \\", swapped("*", "comment", r"\\+[ \t]*\r?$", "")),
     Row("#includedir", replaced(r"^[ \t]*#include(dir)?[ \t]*$", "# x")),
     Row('@include /x/a"b"', replaced(r'^([ \t]*[@#]include(?:dir)?[ \t]+[^"\s]+)"([^"\n]*)"', r"\1\2")),
@@ -320,6 +320,7 @@ FILES = (
         swapped("include", "*", r"[\x80-\xff]", "z"),
     ),
     Row("alice ALL = /bin/l=s", swapped("cmnd", "mark", "^=$", "z")),
+    Row("alice ALL = sudoedit>x", swapped("cmnd", "word", "^sudoedit>.*$", "sudoedit")),
     Row("alice #5 = ALL", swapped("*", "comment", r"^#(?=-?[0-9])", " z")),
     Row("a control byte, outside a comment", replaced(r"[\x00-\x08\x0b-\x1f\x7f]", "z", "", " z ")),
     Row("#4294967296", swapped(LISTS, WORDS, r"^.*[#/].*$|^[0-9.\\]+$", "zz", "zz zz")),
