@@ -354,6 +354,7 @@ FILES = (
     Row("alice %adm = ALL", swapped("host", WORDS, r'^("?)%', r"\1z")),
     Row("alice ALL = /bin/ -l", replaced(r"/(?=[ \t]+[^\s,:=#(])", "/z")),
     Row("alice ALL = /bin/ls =", swapped("cmnd", "argument", r"(?:^|(?<=\\.))=(?=$|\\)", "z")),
+    Row('Defaults:" bob" env_reset', replaced(r'^([ \t]*Defaults[:@>!][ \t]*!*")(?=[ \t>!=:,()\\])', r"\1z")),
     Row('Defaults:"bob"env_reset', _blank_before_parameters),
     Row('Defaults badpass_message=""', swapped("parameter", "quoted", '^""$', '"z"')),
     Row("Defaults web1", _parameters(".*[^a-z_].*")),
