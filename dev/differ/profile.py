@@ -106,27 +106,33 @@ def _groups_without_group(case: Case) -> Iterator[Case]:
         )
 
 
-def _written_out(text: str, keywords: tuple[str, ...], role: str) -> str:
-    """Returns a text in which the members of aliases stand in place of the aliases, where lists have a role."""
-    members = definitions(text, keywords)
-    out, negated = [], False
-    for piece in pieces_of(text):
-        written = members.get(piece.text, []) if piece.role == role and piece.kind == "word" else []
-        out.append((", !" if negated else ", ").join(written) or piece.text)
-        negated = negated != (piece.text == "!") if piece.kind in ("mark", "blank") else False
-    return "".join(out)
+def _written_out(case: Case, keywords: tuple[str, ...], role: str) -> Case:
+    """Returns a case in which the members of aliases stand in place of the aliases, where lists have a role."""
+    members: dict[str, list[str]] = {}
+    for text in (case.text, *(text for _, text in case.files)):
+        members |= definitions(text, keywords)
+
+    def of_text(text: str) -> str:
+        out, negated = [], False
+        for piece in pieces_of(text):
+            written = members.get(piece.text, []) if piece.role == role and piece.kind == "word" else []
+            out.append((", !" if negated else ", ").join(written) or piece.text)
+            negated = negated != (piece.text == "!") if piece.kind in ("mark", "blank") else False
+        return "".join(out)
+
+    return mapped(case, of_text)
 
 
 def _targets_written_out(case: Case) -> Iterator[Case]:
     """Yields a case in which the members of aliases stand in whom to run as, if a group is asked for."""
     if case.request is not None and case.request.runas_group:
-        yield mapped(case, lambda text: _written_out(text, ("Runas_Alias",), "runas"))
+        yield _written_out(case, ("Runas_Alias",), "runas")
 
 
 def _commands_written_out(case: Case) -> Iterator[Case]:
     """Yields cases in which the members of aliases stand in lists of commands, and those of aliases in these."""
     for _ in range(3):
-        case = mapped(case, lambda text: _written_out(text, ("Cmnd_Alias", "Cmd_Alias"), "cmnd"))
+        case = _written_out(case, ("Cmnd_Alias", "Cmd_Alias"), "cmnd")
         yield case
 
 
@@ -229,7 +235,7 @@ GRANTS = (
     ),
     Row("Cmnd_Alias X = ALL", _commands_written_out),
     Row("alice ALL = /bin/ls\\", replaced(r"\\\r?\n[ \t]*", " ", "")),
-    Row("alice ALL = /bin/ls foo\\ ", replaced(r"\\[ \t]+(?:\r?\n[ \t]*|\Z)", " ", "")),
+    Row("alice ALL = /bin/ls foo\\ ", replaced(r"\\[ \t]+(?:\r?\n[ \t]*|\Z)", " ", "", r"\\x20\n")),
     Row("#include /etc/x", replaced(r"^[ \t]+#include", "# include")),
     Row('"bo\\x62" ALL = ALL', swapped("user runas host", "quoted", r"\\x([0-9A-Fa-f]{2})", _byte)),
     Row('"al\\ice" ALL = ALL', swapped("user runas host", "quoted", r'\\([^"\\])', r"\1")),
@@ -303,7 +309,7 @@ OPTIONS = "CWD|CHROOT|TIMEOUT|NOTBEFORE|NOTAFTER|ROLE|TYPE"
 FILES = (
     # Refused here, read by sudo.
     Row("alice\\", replaced(r"\\\r?\n[ \t]*", " ", "")),
-    Row("Cmnd_Alias A = /bin/ls, \\ ", replaced(r"\\[ \t]+(?:\r?\n[ \t]*|\Z)", " ", "")),
+    Row("Cmnd_Alias A = /bin/ls, \\ ", replaced(r"\\[ \t]+(?:\r?\n[ \t]*|\Z)", " ", "", r"\\x20\n")),
     Row("alice ALL = ALL # note \\", swapped("*", "comment", r"\\+[ \t]*\r?$", "")),
     Row("#includedir", replaced(r"^[ \t]*#include(dir)?[ \t]*$", "# x")),
     Row('@include /x/a"b"', replaced(r'^([ \t]*[@#]include(?:dir)?[ \t]+[^"\s]+)"([^"\n]*)"', r"\1\2")),
@@ -314,13 +320,14 @@ FILES = (
         swapped("include", "*", r"[\x80-\xff]", "z"),
     ),
     Row("alice ALL = /bin/l=s", swapped("cmnd", "mark", "^=$", "z")),
+    Row("alice ALL = sudoedit>x", swapped("cmnd", "word", "^sudoedit>.*$", "sudoedit")),
     Row("alice #5 = ALL", swapped("*", "comment", r"^#(?=-?[0-9])", " z")),
     Row("a control byte, outside a comment", replaced(r"[\x00-\x08\x0b-\x1f\x7f]", "z", "", " z ")),
     Row("#4294967296", swapped(LISTS, WORDS, r"^.*[#/].*$|^[0-9.\\]+$", "zz", "zz zz")),
     Row("bo\\x2 ALL = ALL", swapped("*", WORDS + " value", r"\\x(?![0-9A-Fa-f]{2})", "z")),
     Row("alice 2001:db8::1 = ALL", replaced(r"[0-9A-Fa-f]*:[0-9A-Fa-f]*:[0-9A-Fa-f:.]*(/\w+)?", "zz", " zz ")),
     Row("alice / = ALL", swapped(LISTS, "path", r"^/$|^/(?:[^\\]|\\[,:= \t#])*\\[^,:= \t#].*$", "zz")),
-    Row("alice web1 !! = ALL", replaced(r"!!", "")),
+    Row("alice web1 !! = ALL", replaced(r"!!", "", " ")),
     Row("a file whose last line is one backslash", replaced(r"\\\r?\n?\Z", "")),
     Row("+netgroup", swapped(LISTS, WORDS, r'^("?)\+', r"\1z")),
     Row("%:group", replaced(r"%:(?=\S)", "%z")),
@@ -347,6 +354,7 @@ FILES = (
     Row("alice %adm = ALL", swapped("host", WORDS, r'^("?)%', r"\1z")),
     Row("alice ALL = /bin/ -l", replaced(r"/(?=[ \t]+[^\s,:=#(])", "/z")),
     Row("alice ALL = /bin/ls =", swapped("cmnd", "argument", r"(?:^|(?<=\\.))=(?=$|\\)", "z")),
+    Row('Defaults:" bob" env_reset', replaced(r'^([ \t]*Defaults[:@>!][ \t]*!*")(?=[ \t>!=:,()\\])', r"\1z")),
     Row('Defaults:"bob"env_reset', _blank_before_parameters),
     Row('Defaults badpass_message=""', swapped("parameter", "quoted", '^""$', '"z"')),
     Row("Defaults web1", _parameters(".*[^a-z_].*")),

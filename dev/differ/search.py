@@ -1,6 +1,7 @@
 """Draws cases, asks both programs, and sorts how they differ."""
 
 import itertools
+import os
 import tempfile
 from collections import Counter
 from collections.abc import Iterator
@@ -17,6 +18,7 @@ from differ.shrink import Shrinker
 REQUESTS_A_POLICY = 20
 VERDICTS_A_TASK = 500
 FILES_A_TASK = 100
+MEMORY = "/dev/shm"
 READ, REFUSED = Answer("read"), Answer("refused")
 
 
@@ -185,7 +187,9 @@ def alike(answer: Answer) -> Answer:
 
 def task(program: str, peer: Peer, show: bool, seed: str, policies: bool) -> Found:
     """Compares a number of verdicts or of files. What one of both refuses counts as a file."""
-    with tempfile.TemporaryDirectory(prefix="differential-") as folder:
+    # Each case writes files anew; on a disk that is most of the time.
+    memory = MEMORY if os.access(MEMORY, os.W_OK) and "TMPDIR" not in os.environ else None
+    with tempfile.TemporaryDirectory(prefix="differential-", dir=memory) as folder:
         search = Search(Asker(program, peer, folder), show)
         numbers = itertools.count()
         while policies and search.verdicts < VERDICTS_A_TASK:
