@@ -176,8 +176,8 @@ def long_line(case: "Sweep", path: str) -> None:
     os.link(case.path("long"), path)
 
 
-# These show the file that they are asked for, and a link is the user's own.
-SHOWN = (("page", "policy"), ("lint", "lint/sudoers"))
+# This shows the file that it is asked for, and a link is the user's own.
+SHOWN = (("page", "policy"),)
 LINKS = (secret_link, other_users_link, link_to_root)
 OTHERS = (fifo, device, sparse, folder, long_line)
 
