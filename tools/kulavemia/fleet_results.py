@@ -170,18 +170,18 @@ class _Join:
             else:
                 self.places[found.shard] = path, found
 
-    def write(self, report: _Fresh, status: _Fresh, foreign: _Fresh) -> None:
+    def write(self, report: _Fresh, status: _Fresh, others: _Fresh) -> None:
         """Writes the rows of all hosts, in order."""
         report.write(row(REPORT_HEADER).encode())
         status.write(self.form.head(STATUS_HEADER).encode())
-        foreign.write(self.form.head(FOREIGN_HEADER).encode())
+        others.write(self.form.head(FOREIGN_HEADER).encode())
         for name in self.fleet.names():
             try:
                 for number, job in enumerate(self.fleet.jobs(name), 1):
                     found = self._copy(job, report)
                     if found is not None:
                         status.write(self._row((name, str(number), found.status, str(found.rows), found.fault)))
-                        self._list_foreign(job, found, foreign)
+                        self._list_foreign(job, found, others)
             except (Fault, OSError) as fault:
                 self.counts[REFUSED] += 1
                 status.write(self._row((name, "", REFUSED, "0", told(fault))))
@@ -216,13 +216,13 @@ class _Join:
         return found
 
 
-    def _list_foreign(self, job: Job, found: Result, foreign: _Fresh) -> None:
+    def _list_foreign(self, job: Job, found: Result, others: _Fresh) -> None:
         """Writes which requests of a shard that was judged name another host."""
         if found.status != DONE:
             return
         for other in self.foreigners.of(host_of(job.name), job):
             self.foreign += other.requests
-            foreign.write(self._row(other.fields()))
+            others.write(self._row(other.fields()))
 
     def _row(self, fields: tuple[str, ...]) -> bytes:
         return self.form.row(fields).encode()
@@ -236,10 +236,10 @@ def join(fleet: Fleet, results: Results, form: Form = Form()) -> Joined:
     results.forget()
     joining = _Join(fleet, results, form)
     joining.read()
-    with _Fresh(results.out) as report, _Fresh(results.out) as status, _Fresh(results.out) as foreign:
-        joining.write(report, status, foreign)
+    with _Fresh(results.out) as report, _Fresh(results.out) as status, _Fresh(results.out) as others:
+        joining.write(report, status, others)
         joining.want_whole()
-        foreign.keep(os.path.join(results.out, FOREIGN))
+        others.keep(os.path.join(results.out, FOREIGN))
         status.keep(os.path.join(results.out, STATUS))
         report.keep(os.path.join(results.out, REPORT))
     return Joined(joining.rows, *joining.counts.values(), joining.foreign)
