@@ -116,6 +116,7 @@ GRANTS = [
     Grant("Defaults requiretty\nalice ALL = ALL", "alice", "", "", "/bin/ls", "", "allow"),
     Grant("alice [[\\:upper\\:]]* = ALL", "alice", "", "", "/bin/sh", "", "nomatch", "allow", "WEB1"),
     Grant("alice [[\\:ALPHA\\:]]* = ALL", "alice", "", "", "/bin/sh", "", "allow", "nomatch", "web1.example.org"),
+    Grant("alice [[\\:al\\pha\\:]]* = ALL", "alice", "", "", "/bin/sh", "", "nomatch", "allow", "web1.example.org"),
     Grant("alice 10.9.9.9 = ALL", "alice", "", "", "/bin/sh", "", "allow", "nomatch", "lo"),
     Grant("alice 127.5.0.1 = ALL", "alice", "", "", "/bin/sh", "", "nomatch", "allow", "lo"),
 ]
