@@ -280,6 +280,7 @@ GRANTS = (
     ),
     Row("alice [[\\:upper\\:]]* = ALL", swapped("host", WORDS, r"\[\\?:(upper|lower)\\?:\]", NOTHING)),
     Row("\\#1000 ALL = ALL", swapped("user runas", "word", r"^\\(?:#|x23)(?=[0-9])", "#")),
+    Row("#-1 ALL = ALL", replaced(r"#(?=-[0-9])", "# ")),
     Row("Alice ALL = ALL", pieces_changed(_case_of_users)),
     Row("%ADM ALL = ALL", pieces_changed(_case_of_groups)),
     Row("alice 010.1.2.3 = ALL", swapped("host", "word", r"^[0-9.]*\b0[0-9]+[0-9./]*$|/0[0-9]+$", "zz")),
