@@ -10,7 +10,7 @@ from collections.abc import Callable, Iterator
 from differ import world
 from differ.ask import Answer, Case
 from differ.constructs import NOTHING, Row, in_turn, mapped, pieces_changed, replaced, swapped, where
-from differ.pieces import TAG, Piece, definitions, pieces_of, plain, spelled
+from differ.pieces import KEYWORD_ROLES, TAG, Piece, definitions, pieces_of, plain, spelled
 
 USERS = {user.name for user in world.USERS_KNOWN}
 GROUPS = set(world.GROUP_NUMBERS)
@@ -127,6 +127,24 @@ def _targets_written_out(case: Case) -> Iterator[Case]:
     """Yields a case in which the members of aliases stand in whom to run as, if a group is asked for."""
     if case.request is not None and case.request.runas_group:
         yield _written_out(case, ("Runas_Alias",), "runas")
+
+
+def _groups_by_name(case: Case) -> Iterator[Case]:
+    """Yields a case in which aliases of targets have groups without `%`, if a group is asked for."""
+
+    def of_text(text: str) -> str:
+        keyword, out = "", []
+        for piece in pieces_of(text):
+            if piece.kind == "newline":
+                keyword = ""
+            elif piece.role == "name" and piece.text in KEYWORD_ROLES:
+                keyword = piece.text
+            is_member = keyword == "Runas_Alias" and piece.role == "user" and piece.kind in WORDS.split()
+            out.append(re.sub(r'^("?)%(?!:)', r"\1", piece.text) if is_member else piece.text)
+        return "".join(out)
+
+    if case.request is not None and case.request.runas_group:
+        yield mapped(case, of_text)
 
 
 def _commands_written_out(case: Case) -> Iterator[Case]:
@@ -312,6 +330,7 @@ GRANTS = (
     Row("alice ALL = (!alice:adm) /bin/id", _denied_oneself),
     Row("alice ALL = (:operator) /bin/id", _groups_without_group),
     Row("Runas_Alias R = operator", _targets_written_out),
+    Row("Runas_Alias G = %operator", _groups_by_name),
     Row("alice ALL = (#2001) /bin/ls", _target_number),
 )
 

@@ -48,6 +48,7 @@ class Grant(NamedTuple):
 DEFAULT_TARGET = "Defaults runas_default=postgres\nalice ALL = /bin/ls"
 ALIAS_OF_USERS = "Runas_Alias R = operator\nalice ALL = (R:adm) /bin/id"
 ALIAS_OF_GROUPS = "Runas_Alias G = adm\nalice ALL = (operator:G) /bin/id"
+ALIAS_OF_MEMBERS = "Runas_Alias G = %operator\nalice ALL = (bob:G) /bin/id"
 LOCALE = "Defaults sudoers_locale=C.UTF-8\nalice ALL = /bin/echo ?"
 GRANTS = [
     Grant("alice ALL = /bin/ls\\\n-l", "alice", "", "", "/bin/ls-l", "", "allow", "nomatch"),
@@ -88,6 +89,7 @@ GRANTS = [
     Grant("alice ALL = (:operator) /bin/id", "alice", "", "", "/bin/id", "", "allow", "nomatch"),
     Grant(ALIAS_OF_USERS, "alice", "operator", "adm", "/bin/id", "", "allow", "nomatch"),
     Grant(ALIAS_OF_GROUPS, "alice", "operator", "adm", "/bin/id", "", "allow", "nomatch"),
+    Grant(ALIAS_OF_MEMBERS, "alice", "", "operator", "/bin/id", "", "allow", "nomatch"),
     Grant("alice ALL = /bin/l!\\*", "alice", "", "", "/bin/l!", "*", "nomatch", "allow"),
     Grant("alice ALL = /bin/l!\\*", "alice", "", "", "/bin/l!*", "", "allow", "nomatch"),
     Grant('"al\\ice" ALL = ALL', "alice", "", "", "/bin/sh", "", "allow", "nomatch"),
