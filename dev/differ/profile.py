@@ -113,11 +113,15 @@ def _written_out(case: Case, keywords: tuple[str, ...], role: str) -> Case:
         members |= definitions(text, keywords)
 
     def of_text(text: str) -> str:
-        out, negated = [], False
+        out: list[str] = []
+        negated = False
         for piece in pieces_of(text):
             written = members.get(piece.text, []) if piece.role == role and piece.kind == "word" else []
-            out.append((", !" if negated else ", ").join(written) or piece.text)
-            negated = negated != (piece.text == "!") if piece.kind in ("mark", "blank") else False
+            if written and negated:
+                del out[max(at for at, said in enumerate(out) if said == "!") :]
+                written = [member[1:].lstrip() if member.startswith("!") else f"!{member}" for member in written]
+            out.append(", ".join(written) or piece.text)
+            negated = negated != (piece.text == "!") if piece.kind in ("mark", "blank", "join") else False
         return "".join(out)
 
     return mapped(case, of_text)
