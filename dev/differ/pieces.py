@@ -81,7 +81,7 @@ class _Cutter:
                 return Piece(self.role, kind, found[0])
         if self.last == "" and DEFAULTS.match(self.text, self.at):
             return self._token("word", "Defaults")
-        if self.last == "Defaults" and self.text[self.at] in "@>":
+        if self._is_behind_defaults() and self.text[self.at] in "@>":
             return self._token("mark", self.text[self.at])
         found = TOKEN.match(self.text, self.at)
         assert found is not None and found.lastgroup is not None
@@ -93,6 +93,10 @@ class _Cutter:
         if self.last == "" and re.match(r"[@#]include(dir)?$", text):
             self.kind = "include"
         return self._token(kind, text)
+
+    def _is_behind_defaults(self) -> bool:
+        """Returns whether nothing, no blank either, stands behind the word that begins a Defaults line."""
+        return self.last == "Defaults" and self.before == "word"
 
     def _wants_value(self) -> bool:
         return self.kind == "defaults" and self.last in ("=", "+=", "-=")
@@ -148,7 +152,7 @@ class _Cutter:
         role = self.role
         self.in_arguments = False
         if self.kind == "defaults":
-            if self.last == "Defaults" and text in BOUND_ROLES:
+            if self._is_behind_defaults() and text in BOUND_ROLES:
                 self.role, self.has_member = BOUND_ROLES[text], False
         elif text == "(" and self.role == "cmnd":
             role = self.role = "runas"

@@ -63,6 +63,17 @@ class Drawn(unittest.TestCase):
         self.assertEqual(members[5:10], [("cmnd", text) for text in commands])
         self.assertEqual(members[10:], [("host", "db"), ("cmnd", "ALL"), ("cmnd", "# x")])
 
+    def test_a_list_of_defaults_stands_right_behind_the_word(self):
+        for text, role in (("Defaults@db x", "host"), ("Defaults @db", "parameter"), ("Defaults!ALL x", "cmnd")):
+            with self.subTest(text):
+                word = next(piece for piece in pieces_of(text) if piece.role != "name" and piece.kind == "word")
+                self.assertEqual(word.role, role)
+
+    def test_aliases_written_out_have_their_signs_turned(self):
+        case = ask.Case("Cmnd_Alias X = !ALL, /p\nbob ALL = ! X, X\n")
+        row = next(row for row in GRANTS if row.cell == "Cmnd_Alias X = ALL")
+        self.assertEqual(next(row.change(case)).text, "Cmnd_Alias X = !ALL, /p\nbob ALL = ALL, !/p, !ALL, /p\n")
+
 
 class Small(unittest.TestCase):
     """How differences are made small."""
