@@ -5,7 +5,7 @@ alike, that takes its place, so that nothing else is excused with it.
 """
 
 import re
-from collections.abc import Callable, Iterator
+from collections.abc import Callable, Iterator, Sequence
 
 from differ import world
 from differ.ask import Answer, Case
@@ -106,6 +106,12 @@ def _groups_without_group(case: Case) -> Iterator[Case]:
         )
 
 
+def _is_tag(pieces: Sequence[Piece]) -> bool:
+    """Returns whether the first of some pieces is a tag: a colon follows it, behind a blank at most."""
+    behind = [piece.text for piece in pieces[1:] if piece.kind not in ("blank", "join")]
+    return TAG.match(pieces[0].text) is not None and behind[:1] == [":"]
+
+
 def _written_out(case: Case, keywords: tuple[str, ...], role: str) -> Case:
     """Returns a case in which the members of aliases stand in place of the aliases, where lists have a role."""
     members: dict[str, list[str]] = {}
@@ -115,10 +121,12 @@ def _written_out(case: Case, keywords: tuple[str, ...], role: str) -> Case:
     def of_text(text: str) -> str:
         out: list[str] = []
         negated = False
-        for piece in pieces_of(text):
-            written = members.get(piece.text, []) if piece.role == role and piece.kind == "word" else []
+        pieces = pieces_of(text)
+        for at, piece in enumerate(pieces):
+            is_alias = piece.role == role and piece.kind == "word" and not _is_tag(pieces[at : at + 3])
+            written = members.get(piece.text, []) if is_alias else []
             if written and negated:
-                del out[max(at for at, said in enumerate(out) if said == "!") :]
+                del out[max(sign for sign, said in enumerate(out) if said == "!") :]
                 written = [member[1:].lstrip() if member.startswith("!") else f"!{member}" for member in written]
             out.append(", ".join(written) or piece.text)
             negated = negated != (piece.text == "!") if piece.kind in ("mark", "blank", "join") else False

@@ -73,6 +73,8 @@ class Drawn(unittest.TestCase):
         case = ask.Case("Cmnd_Alias X = !ALL, /p\nbob ALL = ! X, X\n")
         row = next(row for row in GRANTS if row.cell == "Cmnd_Alias X = ALL")
         self.assertEqual(next(row.change(case)).text, "Cmnd_Alias X = !ALL, /p\nbob ALL = ALL, !/p, !ALL, /p\n")
+        case = ask.Case("Cmnd_Alias MAIL = ALL\nbob ALL = MAIL : MAIL\n")
+        self.assertEqual(next(row.change(case)).text, "Cmnd_Alias MAIL = ALL\nbob ALL = MAIL : ALL\n")
 
 
 class Small(unittest.TestCase):
