@@ -53,7 +53,7 @@ class Difference(NamedTuple):
 
 
 class Found(NamedTuple):
-    """What a task found: how much it compared, how often each row explained a difference, examples, and what is new."""
+    """The result of a task: its verdicts and files, the differences that each row explained, examples, and new differences."""
 
     verdicts: int
     files: int
