@@ -112,7 +112,7 @@ def _codename() -> str:
 
 
 def _change(source: str) -> None:
-    """Makes the source take addresses from the environment, and print each grant's place and tags. Raises `Fault` if the source has another form."""
+    """Makes the source take addresses from the environment and print places and tags. Raises `Fault` if its form is another."""
     with open(os.path.join(source, "src", "net_ifs.c"), "w", encoding="utf-8") as file:
         file.write(ADDRESSES)
     path = os.path.join(source, "plugins", "sudoers", "testsudoers.c")

@@ -53,7 +53,7 @@ class Difference(NamedTuple):
 
 
 class Found(NamedTuple):
-    """The result of a task: its verdicts and files, the differences that each row explained, examples, and new differences."""
+    """The result of a task: its verdicts and files, the differences that each row explained, examples, and new ones."""
 
     verdicts: int
     files: int
