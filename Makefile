@@ -1,16 +1,29 @@
 # All targets do all the set-up there is on a machine that has the Rattle toolchain.
-.PHONY: test run tools-test
+.PHONY: test check lint run tools-test
 
 # Proves every crate from nothing, tries the wrong bodies in must-fail/, runs the tests and the program, and then the tests of
 # the tools on that program.
 test:
-	tools/gate
+	dev/gate
 
-# Runs the tests of the commands in tools/ alone. What they need is installed where that is allowed; else what is missing is
-# told, and what needs it is skipped; so is what needs the program where none is found.
+# Proves one crate, and proves and runs its tests: make check CRATE=sudo_text
+check:
+	@test -d "crates/$(CRATE)/src" || { echo "usage: make check CRATE=NAME, of:" $$(ls crates); exit 2; }
+	cd crates/$(CRATE) && rt check && rt test
+
+# Checks all Python by flake8 and mypy, as pyproject.toml configures them, and the widths of the lines of the crates.
+lint:
+	tools/tests/prepare
+	dev/style
+
+# Runs the tests of the commands in tools/ and dev/ alone: all of them, those of a file, or those of a name.
+#   make tools-test FILE=test_page.py     make tools-test FILE=test_runs.py TEST=table_check
+# What they need is installed where that is allowed. Missing packages are reported, and the tests that need them are skipped;
+# so are those that need the program where none is found.
+FILE ?= test*.py
 tools-test:
 	tools/tests/prepare
-	/usr/bin/python3 -m unittest discover -s tools/tests
+	/usr/bin/python3 -m unittest discover -s tools/tests -p '$(FILE)' $(if $(TEST),-k '$(TEST)')
 
 # Builds the program, checks the example policy, writes two of its aliases out, and audits the example's requests.
 run:

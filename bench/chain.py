@@ -5,20 +5,32 @@ usage: chain.py FILE [--aliases N] [--times N] [--cycle]
 
 With --cycle the first alias names itself, so that every alias leads to a cycle; else it is a command.
 """
+
 import argparse
+from collections.abc import Iterator
+from typing import NamedTuple
 
 
-def options():
-    """Returns what the words ask for."""
+class Chain(NamedTuple):
+    """How many aliases there are, how often each names the one before it, and whether the first names itself."""
+
+    aliases: int
+    times: int
+    cycle: bool
+
+
+def options() -> tuple[str, Chain]:
+    """Returns the file and the chain that the words ask for."""
     parser = argparse.ArgumentParser(description=__doc__, formatter_class=argparse.RawDescriptionHelpFormatter)
     parser.add_argument("file")
     parser.add_argument("--aliases", type=int, default=4000)
     parser.add_argument("--times", type=int, default=100)
     parser.add_argument("--cycle", action="store_true")
-    return parser.parse_args()
+    given = parser.parse_args()
+    return given.file, Chain(given.aliases, given.times, given.cycle)
 
 
-def lines(given):
+def lines(given: Chain) -> Iterator[str]:
     """Yields the lines of the policy."""
     yield "Cmnd_Alias A0 = " + ("A0" if given.cycle else "/bin/ls")
     for number in range(1, given.aliases):
@@ -26,10 +38,10 @@ def lines(given):
     yield f"root ALL = A{given.aliases - 1}"
 
 
-def main():
+def main() -> None:
     """Writes the policy."""
-    given = options()
-    with open(given.file, "w", encoding="ascii") as file:
+    path, given = options()
+    with open(path, "w", encoding="ascii") as file:
         file.writelines(line + "\n" for line in lines(given))
 
 

@@ -8,19 +8,17 @@ import random
 from collections.abc import Callable, Iterable, Iterator, Sequence
 from typing import NamedTuple
 
+from kulavemia import limits
+
 Part = fractions.Fraction
 
-MOST_BYTES = 16 << 20
-ALIASES = 4096
 TIMES = 100
 DOUBLINGS = 16
 DOUBLED_REQUESTS = 1000
 STARS = 1000
 BRACKETS = 10_000
 PATTERN_REQUESTS = 10
-REQUESTS = 1_000_000
-SENDERS, FILES_OF_SENDER = 64, 4
-USERS = 100_000
+FILES_OF_SENDER = limits.SOURCES // limits.SENDERS
 GROUPS_OF_USER, GROUPS = 100, 1000
 
 PLAIN = ("plain-check", "one-file")
@@ -47,7 +45,7 @@ def _write(folder: str, name: str, texts: Iterable[str]) -> None:
 
 def _filled(folder: str, part: Part, first: str, more: str, last: str) -> Input:
     """Writes a policy of a first text, a further one as often as a part of the most bytes has room for, and a last."""
-    times = max(1, (_of(part, MOST_BYTES) - len(first) - len(last)) // len(more))
+    times = max(1, (_of(part, limits.POLICY_BYTES) - len(first) - len(last)) // len(more))
     _write(folder, POLICY, [first, more * times, last])
     shown = more.strip(" ,:\\\n")
     return Input(f"{times:,} times `{shown}`", ["check", POLICY])
@@ -56,7 +54,7 @@ def _filled(folder: str, part: Part, first: str, more: str, last: str) -> Input:
 def plain_check(folder: str, part: Part) -> Input:
     """Writes rules, each of a line."""
     rule = "user{:06} host{:02} = (root) NOPASSWD: /usr/bin/command{:02} -v, /opt/tool\n"
-    count = max(1, _of(part, MOST_BYTES) // len(rule.format(0, 0, 0)))
+    count = max(1, _of(part, limits.POLICY_BYTES) // len(rule.format(0, 0, 0)))
     _write(folder, POLICY, (rule.format(number, number % 50, number % 80) for number in range(count)))
     return Input(f"{count:,} rules", ["check", POLICY])
 
@@ -94,7 +92,7 @@ def _rule(names: Sequence[str]) -> str:
 
 def _chained(folder: str, part: Part, times: int, closed: bool) -> Input:
     """Writes aliases of each kind, each of which names the one before it so often; closed, the first names the last."""
-    count = _of(part, ALIASES)
+    count = _of(part, limits.ALIASES)
     lines = []
     for keyword, member in KEYWORDS.items():
         letter = keyword[0]
@@ -210,7 +208,7 @@ def _long_audit(folder: str) -> None:
 
 def one_file(folder: str, part: Part) -> Input:
     """Writes many requests in one file."""
-    count = _of(part, REQUESTS)
+    count = _of(part, limits.REQUESTS)
     _long_audit(folder)
     rows = ((number, "alice,web1,,,/bin/ls,") for number in range(1, count + 1))
     _write(folder, "requests.csv", _request_rows(count, rows))
@@ -219,19 +217,19 @@ def one_file(folder: str, part: Part) -> Input:
 
 def many_files(folder: str, part: Part) -> Input:
     """Writes as many requests, in 256 files of 64 senders; numbers go round the files of a sender."""
-    count = max(FILES_OF_SENDER, _of(part, REQUESTS) // SENDERS)
+    count = max(FILES_OF_SENDER, _of(part, limits.REQUESTS) // limits.SENDERS)
     _long_audit(folder)
     sources = []
-    for sender, file in itertools.product(range(SENDERS), range(1, FILES_OF_SENDER + 1)):
+    for sender, file in itertools.product(range(limits.SENDERS), range(1, FILES_OF_SENDER + 1)):
         rows = [f"{number},alice,web1,,,/bin/ls,\n" for number in range(file, count + 1, FILES_OF_SENDER)]
         _write(folder, f"{sender}-{file}.csv", [HEADER, *rows, *([f"close,{count},,,,,\n"] if file == 1 else [])])
         sources.append(f"s{sender}={sender}-{file}.csv")
-    return Input(f"{count * SENDERS:,} requests in {len(sources)} files", _audit(sources))
+    return Input(f"{count * limits.SENDERS:,} requests in {len(sources)} files", _audit(sources))
 
 
 def users(folder: str, part: Part) -> Input:
     """Writes many users of a hundred groups each, and a request."""
-    count = _of(part, USERS)
+    count = _of(part, limits.ROWS)
     chance = random.Random(1)
     groups = [f"group{number}:{1000 + number}" for number in range(GROUPS)]
     _long_audit(folder)

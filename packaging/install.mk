@@ -16,10 +16,10 @@ uninstall:
 deb: $(PROGRAM)
 	packaging/deb "$(PROGRAM)"
 
-# A first build proves every crate below the program, which takes about 25 minutes on four idle processors.
+# A first build proves every crate below the program. README says how long that takes.
 $(BUILT):
 	@command -v rt >/dev/null || { echo "$@ is not built, and there is no rt: build it where the toolchain is, or give PROGRAM=PATH"; exit 1; }
-	@echo "proving and building sudo_audit: about 25 minutes on four idle processors where nothing is built yet"
+	@echo "proving and building sudo_audit; README says how long that takes where nothing is built yet"
 	cd crates/sudo_audit && rt run -- --help >/dev/null
 
 try:

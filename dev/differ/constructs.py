@@ -59,13 +59,16 @@ def swapped(roles: str, kinds: str, pattern: str, *replacements: str | Callable[
     return changed
 
 
-def replaced(pattern: str, *replacements: str) -> Change:
+def replaced(pattern: str, *replacements: str | Callable[[re.Match[str]], str]) -> Change:
     """Returns a change of what a pattern finds in the whole text to each of the replacements."""
     wanted = re.compile(pattern, re.MULTILINE)
 
+    def with_one(case: Case, replacement: str | Callable[[re.Match[str]], str]) -> Case:
+        return mapped(case, lambda text: wanted.sub(replacement, text))
+
     def changed(case: Case) -> Iterator[Case]:
         for replacement in replacements:
-            yield mapped(case, lambda text: wanted.sub(replacement, text))
+            yield with_one(case, replacement)
 
     return changed
 

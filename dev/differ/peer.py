@@ -37,9 +37,9 @@ get_net_ifs(char **addresses)
 }}
 """
 TRIED = 'match == DENY ? "denied" : "unmatched");\n'
-PRINTED = """			printf("\\tgrant %s:%d %d %d %d %d %d %d %d %d\\n", us->file, us->line,
-			    cs->tags.noexec, cs->tags.follow, cs->tags.intercept, cs->tags.log_input,
-			    cs->tags.log_output, cs->tags.send_mail, cs->tags.nopasswd, cs->tags.setenv);
+PRINTED = """\t\t\tprintf("\\tgrant %s:%d %d %d %d %d %d %d %d %d\\n", us->file, us->line,
+\t\t\t    cs->tags.noexec, cs->tags.follow, cs->tags.intercept, cs->tags.log_input,
+\t\t\t    cs->tags.log_output, cs->tags.send_mail, cs->tags.nopasswd, cs->tags.setenv);
 """
 
 
@@ -112,7 +112,7 @@ def _codename() -> str:
 
 
 def _change(source: str) -> None:
-    """Makes the source take addresses from the environment and print places and tags. Raises `Fault` if its form is another."""
+    """Makes the source take addresses from the environment and print places. Raises `Fault` if its form is another."""
     with open(os.path.join(source, "src", "net_ifs.c"), "w", encoding="utf-8") as file:
         file.write(ADDRESSES)
     path = os.path.join(source, "plugins", "sudoers", "testsudoers.c")

@@ -23,8 +23,8 @@ TOKEN = re.compile(
     rf"(?P<join>{JOIN})"
     r"|(?P<newline>\r?\n[ \t]*)"
     r"|(?P<blank>[ \t]+)"
-    r'|(?P<quoted>"(?:[^"\\]|\\.|\\\n)*")'
-    r"|(?P<path>/(?:\\.|[^\s,:=#\\])*)"
+    r'|(?P<quoted>"(?:[^"\\\n]|\\[ \t]*\r?\n|\\.)*")'
+    r"|(?P<path>(?:/|sudoedit(?=[!\"()]))(?:\\.|[^\s,:=#\\])*)"
     r"|(?P<mark>[+-]=|[!=,:()])"
     r"|(?P<word>%#?(?:\\.|[^\s!=,:()#\"\\])*|(?:\\.|[^\s!=,:()#\"\\])+)"
     r"|(?P<hash>#)"
@@ -33,6 +33,7 @@ TOKEN = re.compile(
 )
 ARGUMENT = re.compile(r"(?:\\[^\n]|[^\s,:#\\])+")
 DEFAULTS = re.compile(r"Defaults(?=[ \t@:!>]|$)", re.MULTILINE)
+INCLUDE = re.compile(r"[@#]include(dir)?(?=[ \t]|\r?$)", re.MULTILINE)
 VALUE = re.compile(r"(?:\\[^\n]|[^\s,#\"\\])+")
 
 
@@ -55,6 +56,7 @@ class _Cutter:
     def _start_line(self) -> None:
         """Begins a line: nothing is known of it."""
         self.last = ""
+        self.is_tag = False
         self.kind = "rule"
         self.role = "user"
         self.in_arguments = False
@@ -71,6 +73,7 @@ class _Cutter:
             if piece.kind == "newline":
                 self._start_line()
             elif piece.kind not in ("blank", "join"):
+                self.is_tag = piece.kind == "word" and self.last != "!" and TAG.match(piece.text) is not None
                 self.last = piece.text
 
     def _next(self) -> Piece:
@@ -90,7 +93,7 @@ class _Cutter:
             return self._hash()
         if kind in ("join", "newline", "blank"):
             return Piece(self.role, kind, text)
-        if self.last == "" and re.match(r"[@#]include(dir)?$", text):
+        if self.last == "" and INCLUDE.match(self.text, self.at):
             self.kind = "include"
         return self._token(kind, text)
 
@@ -103,7 +106,7 @@ class _Cutter:
 
     def _hash(self) -> Piece:
         """Returns an ID, an include line's word, or a comment with its newline left."""
-        include = re.compile(r"#include(dir)?(?=[ \t]|$)", re.MULTILINE).match(self.text, self.at)
+        include = INCLUDE.match(self.text, self.at)
         if self.last == "" and include:
             self.kind = "include"
             return Piece("include", "word", include[0])
@@ -163,7 +166,7 @@ class _Cutter:
             self.role = "runas"
         elif text == "=":
             self.role = KEYWORD_ROLES.get(self._keyword(), "cmnd") if self.kind == "alias" else "cmnd"
-        elif text == ":" and not TAG.match(self.last):
+        elif text == ":" and not (self.is_tag and self.kind == "rule"):
             self.role = "name" if self.kind == "alias" else "host" if self.role == "cmnd" else self.role
         return Piece(role, "mark", text)
 

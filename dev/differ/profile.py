@@ -16,6 +16,8 @@ USERS = {user.name for user in world.USERS_KNOWN}
 GROUPS = set(world.GROUP_NUMBERS)
 WORDS = "word quoted"
 LISTS = "user runas host"
+# Backslashes that escape one another, before one that begins a construct.
+EVEN = r"(?<!\\)((?:\\\\)*)"
 
 
 def _byte(found: re.Match[str]) -> str:
@@ -45,6 +47,13 @@ def _case_of_groups(piece: Piece) -> str:
     sign = "%" if said.startswith("%") else ""
     known = _known(said.removeprefix("%"), GROUPS) if sign or piece.role == "runas" else None
     return sign + spelled(known) if known else piece.text
+
+
+def _complements(piece: Piece) -> str:
+    """Returns a piece with complements of brackets as both read them; outside of commands a `!` has to be escaped."""
+    if piece.role not in ("cmnd", "host") or piece.kind not in ("path", "argument", "word"):
+        return piece.text
+    return re.sub(rf"{EVEN}\[\^", r"\1[\\!" if piece.role == "host" else r"\1[!", piece.text)
 
 
 def _with_runas(change: Callable[[str | None, str | None], str | None]) -> Callable[[str], str]:
@@ -112,6 +121,21 @@ def _is_tag(pieces: Sequence[Piece]) -> bool:
     return TAG.match(pieces[0].text) is not None and behind[:1] == [":"]
 
 
+def _turned(member: str) -> str:
+    """Returns a member with its sign turned."""
+    return member[1:].lstrip() if member.startswith("!") else f"!{member}"
+
+
+def _flat(members: dict[str, list[str]], name: str, within: tuple[str, ...] = ()) -> list[str]:
+    """Returns the members of an alias, with those of the aliases among them in their places; of a cycle none."""
+    flat: list[str] = []
+    for member in members.get(name, []) if name not in within else []:
+        said = member.lstrip("! \t")
+        inner = _flat(members, said, (*within, name)) or [said]
+        flat += map(_turned, inner) if member[: len(member) - len(said)].count("!") % 2 else inner
+    return flat
+
+
 def _written_out(case: Case, keywords: tuple[str, ...], role: str) -> Case:
     """Returns a case in which the members of aliases stand in place of the aliases, where lists have a role."""
     members: dict[str, list[str]] = {}
@@ -121,13 +145,14 @@ def _written_out(case: Case, keywords: tuple[str, ...], role: str) -> Case:
     def of_text(text: str) -> str:
         out: list[str] = []
         negated = False
-        pieces = pieces_of(text)
+        # sudo reads a carriage return behind the name of an alias, and refuses it behind a path.
+        pieces = pieces_of(text.replace("\r\n", "\n"))
         for at, piece in enumerate(pieces):
             is_alias = piece.role == role and piece.kind == "word" and not _is_tag(pieces[at : at + 3])
-            written = members.get(piece.text, []) if is_alias else []
+            written = _flat(members, piece.text) if is_alias else []
             if written and negated:
                 del out[max(sign for sign, said in enumerate(out) if said == "!") :]
-                written = [member[1:].lstrip() if member.startswith("!") else f"!{member}" for member in written]
+                written = list(map(_turned, written))
             out.append(", ".join(written) or piece.text)
             negated = negated != (piece.text == "!") if piece.kind in ("mark", "blank", "join") else False
         return "".join(out)
@@ -160,10 +185,8 @@ def _groups_by_name(case: Case) -> Iterator[Case]:
 
 
 def _commands_written_out(case: Case) -> Iterator[Case]:
-    """Yields cases in which the members of aliases stand in lists of commands, and those of aliases in these."""
-    for _ in range(3):
-        case = _written_out(case, ("Cmnd_Alias", "Cmd_Alias"), "cmnd")
-        yield case
+    """Yields a case in which the members of aliases stand in lists of commands."""
+    yield _written_out(case, ("Cmnd_Alias", "Cmd_Alias"), "cmnd")
 
 
 def _asks_for(*commands: str) -> Callable[[Case], bool]:
@@ -222,31 +245,98 @@ def _parameters(name: str) -> Callable[[Case], Iterator[Case]]:
     return changed
 
 
+def _quotes_in_included_paths(case: Case) -> Iterator[Case]:
+    """Yields a case in which the paths of include lines have no quotes behind their first byte."""
+    path = re.compile(r'^([ \t]*[@#]include(?:dir)?[ \t]+[^"\s])(\S*)', re.MULTILINE)
+    yield mapped(case, lambda text: path.sub(lambda found: found[1] + found[2].replace('"', ""), text))
+
+
+def _users_of_groups(case: Case) -> Iterator[Case]:
+    """Yields a case in which lists of groups have names in place of groups of users."""
+
+    def without(users: str | None, groups: str | None) -> str | None:
+        return f"{users}:" + re.sub(r'(?<![^\s,!"])%#?', "z", groups) if groups and "%" in groups else None
+
+    yield mapped(case, _with_runas(without))
+
+
+def _is_address(text: str) -> bool:
+    """Returns whether a text is an IPv4 address."""
+    return re.fullmatch(r"[0-9]{1,3}(\.[0-9]{1,3}){3}", text) is not None and all(int(n) < 256 for n in text.split("."))
+
+
+def _is_bad_address(text: str) -> bool:
+    """Returns whether an unquoted host is an address or a network that has no value here."""
+    address, slash, mask = text.partition("/")
+    if not slash:
+        return re.fullmatch(r"[0-9]{1,3}(\.[0-9]{1,3}){3}", text) is not None and not _is_address(text)
+    return not _is_address(address) or not (_is_address(mask) or re.fullmatch("0*([12]?[0-9]|3[0-2])", mask))
+
+
+def _is_bad_number(piece: Piece) -> bool:
+    """Returns whether a piece is an ID, an address or a network that has no value here."""
+    if piece.role not in LISTS.split() or piece.kind not in WORDS.split():
+        return False
+    if piece.role == "host":
+        return piece.kind == "word" and _is_bad_address(piece.text)
+    if not re.match(r'"?(#|%(\\?#|\\x23))', piece.text):
+        return False
+    number = plain(piece.text).lstrip("%").removeprefix("#")
+    return re.fullmatch("[0-9]+", number) is None or int(number) >= 1 << 32
+
+
+def _numbers_read(piece: Piece) -> str:
+    """Returns a piece with a name in place of a bad number."""
+    return "zz" if _is_bad_number(piece) else piece.text
+
+
+def _numbers_cut(piece: Piece) -> str:
+    """Returns a piece with a name in place of a bad number, and with two in place of an ID with letters behind it."""
+    is_cut = re.match(r"%?#-?[0-9]+[^0-9]", piece.text) is not None
+    return "zz zz" if is_cut and _is_bad_number(piece) else _numbers_read(piece)
+
+
 def _aliases_like_tags(case: Case) -> Iterator[Case]:
     """Yields a case in which aliases that have the name of a tag have another."""
     names = {piece.text for piece in pieces_of(case.text) if piece.role == "name" and TAG.match(piece.text)}
-    yield from pieces_changed(lambda piece: f"Z{piece.text}" if piece.text in names else piece.text)(case)
+
+    def of_text(text: str) -> str:
+        out: list[str] = []
+        before, in_rule = "", True
+        pieces = pieces_of(text)
+        for at, piece in enumerate(pieces):
+            is_tag = in_rule and piece.role == "cmnd" and before != "!" and _is_tag(pieces[at : at + 3])
+            out.append(f"Z{piece.text}" if piece.text in names and not is_tag else piece.text)
+            in_rule = piece.kind == "newline" or in_rule and piece.role != "name"
+            before = before if piece.kind in ("blank", "join") else piece.text
+        return "".join(out)
+
+    yield mapped(case, of_text)
+
+
+def _is_use(pieces: Sequence[Piece]) -> bool:
+    """Returns whether the first of some pieces is the name of an alias in a list."""
+    role, kind, text = pieces[0]
+    in_list = kind == "word" and role in (*LISTS.split(), "cmnd") and not _is_tag(pieces)
+    return in_list and re.fullmatch(r"[A-Z][A-Z0-9_]*", text) is not None
 
 
 def _undefined(case: Case) -> Iterator[Case]:
     """Yields cases in which `ALL` stands for each alias that is not defined, and for those in definitions."""
     defined = {piece.text for piece in pieces_of(case.text) if piece.role == "name"}
 
-    def is_used(piece: Piece) -> bool:
-        in_list = piece.kind == "word" and piece.role in (*LISTS.split(), "cmnd") and not TAG.match(piece.text)
-        return in_list and re.fullmatch(r"[A-Z][A-Z0-9_]*", piece.text) is not None
-
-    def of_piece(piece: Piece) -> str:
-        return "ALL" if is_used(piece) and piece.text not in defined else piece.text
+    def without(text: str, kept: set[str]) -> str:
+        pieces = pieces_of(text)
+        return "".join(
+            "ALL" if _is_use(pieces[at : at + 3]) and piece.text not in kept else piece.text
+            for at, piece in enumerate(pieces)
+        )
 
     def of_text(text: str) -> str:
         lines = re.split(r"(?m)^(?=.)", text)
-        return "".join(
-            "".join("ALL" if is_used(piece) else piece.text for piece in pieces_of(line)) if "_Alias" in line else line
-            for line in lines
-        )
+        return "".join(without(line, set()) if "_Alias" in line else line for line in lines)
 
-    yield from pieces_changed(of_piece)(case)
+    yield mapped(case, lambda text: without(text, defined))
     yield mapped(case, of_text)
 
 
@@ -259,22 +349,25 @@ def _target_number(case: Case) -> Iterator[Case]:
                 yield case._replace(request=case.request._replace(runas_user=user.name))
 
 
+BLANK_BEFORE_INCLUDE = Row("#include /etc/x", replaced(r"^[ \t]+#include", "# include"))
 GRANTS = (
     Row(
         "alice ALL = NOSETENV: /bin/ls, ALL, /bin/cat", _if_said(r"SETENV[ \t]*:(?:.*\\\n)*.*\bALL\b"), _without_setenv
     ),
     Row("Cmnd_Alias X = ALL", _commands_written_out),
-    Row("alice ALL = /bin/ls\\", replaced(r"\\\r?\n[ \t]*", " ", "")),
-    Row("alice ALL = /bin/ls foo\\ ", replaced(r"\\[ \t]+(?:\r?\n[ \t]*|\Z)", " ", "", r"\\x20\n")),
-    Row("#include /etc/x", replaced(r"^[ \t]+#include", "# include")),
+    Row("alice ALL = /bin/ls\\", replaced(rf"{EVEN}\\\r?\n[ \t]*", r"\1 ", r"\1")),
+    Row("alice ALL = /bin/ls foo\\ ", replaced(rf"{EVEN}\\[ \t]+(?:\r?\n[ \t]*|\Z)", r"\1 ", r"\1", r"\1\\x20\n")),
+    BLANK_BEFORE_INCLUDE,
     Row('"bo\\x62" ALL = ALL', swapped("user runas host", "quoted", r"\\x([0-9A-Fa-f]{2})", _byte)),
     Row('"al\\ice" ALL = ALL', swapped("user runas host", "quoted", r'\\([^"\\])', r"\1")),
     Row("alice ALL = /bin/ls a\\\\b", swapped("cmnd", "argument", r"\\\\", "z", "")),
     Row(
         "alice ALL = /bin/l!\\*",
-        swapped("cmnd", "path", r'^([^\\]*[>!()"](?:[^\\]|\\[,:= \t#])*)(?=\\[^,:= \t#])', r"\1 "),
+        swapped("cmnd", "path", r'^((?:[^\\]|\\[,:= \t#])*[>!()"](?:[^\\]|\\[,:= \t#])*)(?=\\[^,:= \t#])', r"\1 "),
     ),
-    Row("alice ALL = /usr/bin/passwd [^-]*", swapped("cmnd host", "path argument word", r"\[\^", "[!", "[\\\\!")),
+    Row("alice ALL = sudoedit!x", swapped("cmnd", "path", "^sudoedit", "sudoedit ")),
+    Row("alice ALL = /bin/ls ^a, /bin/cat b$", swapped("cmnd", "argument", r"^\^", r"\\^")),
+    Row("alice ALL = /usr/bin/passwd [^-]*", pieces_changed(_complements)),
     Row(
         "alice ALL = /bin/ls [[\\:word\\:]]",
         swapped(
@@ -288,6 +381,7 @@ GRANTS = (
         "alice ALL = /bin/ls [[=a=]]",
         swapped("cmnd host", "path argument word", r"\[(?:\\?=(.)\\?=|\.(.)\.)\]", lambda found: found[1] or found[2]),
     ),
+    Row("alice ALL = /bin/ls [[.]", swapped("cmnd host", "path argument word", r"(\[[^\]]*)\[\.(?!.\.\])", r"\1.[")),
     Row("alice ALL = /usr/bin/[l/]s", swapped("cmnd", "path", r"(\[[^\]/]*)/", r"\1z")),
     Row('alice "web?" = ALL', swapped("host", "quoted", r"[*?\[\]]", "z")),
     Row(
@@ -346,34 +440,59 @@ GRANTS = (
     Row("alice ALL = (#2001) /bin/ls", _target_number),
 )
 
+
+def _blank_behind_a_backslash(found: re.Match[str]) -> str:
+    """Returns what sudo reads for a backslash, blanks and the end of a line: an escaped blank behind a word, otherwise a join."""
+    before = found.string[: found.start()][-1:]
+    is_behind_a_word = bool(found[1]) or before not in ("", *" \t\r\n!,:=()")
+    return f"{found[1]}\\x20\n" if is_behind_a_word else f"{found[1]} "
+
+
+OPEN_QUOTE = r'(?:[^"\n]*"[^"\n]*")*[^"\n]*"[^"\n]*?'
+BYTE_OF_WORD = r"(?:\\[^\t\n]|[^\s!,:=()#\"\\>])"
+OPTION_VALUE = rf"/(?:\\[,:= \t#]|[^\s,:=#\\])+|{BYTE_OF_WORD}+"
 OPTIONS = "CWD|CHROOT|TIMEOUT|NOTBEFORE|NOTAFTER|ROLE|TYPE"
 FILES = (
     # Refused here, read by sudo.
-    Row("alice\\", replaced(r"\\\r?\n[ \t]*", " ", "")),
-    Row("Cmnd_Alias A = /bin/ls, \\ ", replaced(r"\\[ \t]+(?:\r?\n[ \t]*|\Z)", " ", "", r"\\x20\n")),
+    Row("alice\\", replaced(rf"{EVEN}\\\r?\n[ \t]*", r"\1 ", r"\1")),
+    Row(
+        "Cmnd_Alias A = /bin/ls, \\ ",
+        replaced(rf"{EVEN}\\[ \t]+(?:\r?\n[ \t]*|\Z)", r"\1 ", r"\1", r"\1\\x20\n", _blank_behind_a_backslash),
+    ),
+    Row('User_Alias A = "ali\\\\', replaced(rf'^({OPEN_QUOTE})\\\\[ \t]*\r?\n[ \t]*', r"\1z")),
     Row("alice ALL = ALL # note \\", swapped("*", "comment", r"\\+[ \t]*\r?$", "")),
     Row("#includedir", replaced(r"^[ \t]*#include(dir)?[ \t]*$", "# x")),
-    Row('@include /x/a"b"', replaced(r'^([ \t]*[@#]include(?:dir)?[ \t]+[^"\s]+)"([^"\n]*)"', r"\1\2")),
+    BLANK_BEFORE_INCLUDE,
+    Row('@include /x/a"b"', _quotes_in_included_paths),
+    Row("@includedir,x", replaced(r"^([ \t]*@includedir)(?=[^\s\\])", r"\1 ")),
     Row("@include /x/a\\x62", swapped("include", "word path", r"\\x([0-9A-Fa-f]{2})", _byte)),
     Row('@include "/x/a\\x62"', swapped("include", "quoted", r"\\(?:x([0-9A-Fa-f]{2})|([^\"]))", _byte)),
     Row(
         "a folder with a file whose name is not UTF-8, or a path of an include line that is not",
         swapped("include", "*", r"[\x80-\xff]", "z"),
     ),
-    Row("alice ALL = /bin/l=s", swapped("cmnd", "mark", "^=$", "z")),
+    Row(
+        "Defaults@,bob ALL = ALL",
+        replaced(rf'^([ \t]*)Defaults@(?![ \t]*!*"?(?:#-?[0-9]|{BYTE_OF_WORD}))', r"\1z"),
+    ),
+    Row("alice ALL = /bin/l=s", swapped("cmnd", "mark", "^=$", "z", " z")),
     Row("alice ALL = sudoedit>x", swapped("cmnd", "word", "^sudoedit>.*$", "sudoedit")),
-    Row("alice #5 = ALL", swapped("*", "comment", r"^#(?=-?[0-9])", " z")),
+    Row("alice #5 = ALL", swapped("*", "comment", "^#-?[0-9]+", " z ")),
     Row("a control byte, outside a comment", replaced(r"[\x00-\x08\x0b-\x1f\x7f]", "z", "", " z ")),
-    Row("#4294967296", swapped(LISTS, WORDS, r"^.*[#/].*$|^[0-9.\\]+$", "zz", "zz zz")),
-    Row("bo\\x2 ALL = ALL", swapped("*", WORDS + " value", r"\\x(?![0-9A-Fa-f]{2})", "z")),
+    Row("#4294967296", in_turn(pieces_changed(_numbers_read), pieces_changed(_numbers_cut))),
+    Row("bo\\x2 ALL = ALL", swapped("*", WORDS + " value", rf"{EVEN}\\x(?![0-9A-Fa-f]{{2}})", r"\1z")),
     Row("alice 2001:db8::1 = ALL", replaced(r"[0-9A-Fa-f]*:[0-9A-Fa-f]*:[0-9A-Fa-f:.]*(/\w+)?", "zz", " zz ", "z zz ")),
-    Row("alice / = ALL", swapped(LISTS, "path", r"^/$|^/(?:[^\\]|\\[,:= \t#])*\\[^,:= \t#].*$", "zz")),
+    Row(
+        "alice / = ALL",
+        swapped(LISTS, "path", r'^/$|^/(?:[^\\!()">]|\\[,:= \t#])*\\[^,:= \t#](?:\\.|[^\\!()">])*', "zz"),
+    ),
     Row("alice web1 !! = ALL", replaced(r"!!", "", " ")),
     Row("a file whose last line is one backslash", replaced(r"\\\r?\n?\Z", "")),
+    Row("/bin/ls \\", replaced(r'^[ \t]*(?:(?:/|sudoedit)[^\n]*|"(?:\\"|[^"\n])*)\\[ \t]*\r?\n?\Z', "")),
     Row("+netgroup", swapped(LISTS, WORDS, r'^("?)\+', r"\1z")),
-    Row("%:group", replaced(r"%:(?=\S)", "%z")),
-    Row("CWD=", replaced(rf"(?<!\\)\b({OPTIONS})[ \t]*=[ \t]*[^\s!,:()#\"]+", "")),
-    Row("+netgroup", replaced(r"\^[^#\n]*?\$", "/z")),
+    Row("%:group", replaced(r"(?<=\")%:(?!\")|%(?:\\?:|\\x3[aA])#?(?=[^\s\"])", "%z")),
+    Row("CWD=", replaced(rf"(?<!\\)\b({OPTIONS})[ \t]*=[ \t]*({OPTION_VALUE})", "")),
+    Row("+netgroup", replaced(r"(?<![^\s!,:=()\"])\^(?:\\[#$]|[^#\n$])*\$", "/z")),
     Row("list", swapped("cmnd", WORDS, r'^"?list"?$', "/z")),
     Row("Defaults!PAGERS noexec", where(lambda case: "Defaults" in case.text, _undefined)),
     Row("Runas_Alias A = B", _undefined),
@@ -384,7 +503,7 @@ FILES = (
     Row("alice ALL = /", swapped("cmnd", "path", r"^/$", "/z/")),
     Row("alice ALL = ALL, ! ! /bin/ls", replaced(r"!(?:[ \t]+!)+", "!")),
     Row('Defaults "env_reset"', swapped("parameter", "quoted", r"^.*$", "insults")),
-    Row('alice ALL = /bin/ls a\\"b', swapped("cmnd", "argument", r"\\(?![*?\[\]!^:\\,= \t#])", "")),
+    Row('alice ALL = /bin/ls a\\"b', swapped("cmnd", "argument", r"(\\[*?\[\]!^:\\,= \t#])|\\", r"\1")),
     Row("alice ALL = /bin/l\\s", swapped("cmnd", "path", r"\\(?![,:= \t#])", "z")),
     Row("a tab behind a backslash, in a name", swapped("*", "word", r"\\\t", "z")),
     Row("alice ALL = /bin/ls #5", swapped("*", "comment", r"^#(?=-?[0-9])", "# ")),
@@ -392,16 +511,20 @@ FILES = (
     Row("a>b ALL = ALL", swapped(LISTS, "word", ">", "z")),
     Row("^a$ ALL = ALL", swapped(LISTS, "word", r"^\^", "z")),
     Row("10.1.2.3 ALL = ALL", swapped("user runas", "word", r"^[0-9.]+(/.*)?$", "zz")),
-    Row("alice %adm = ALL", swapped("host", WORDS, r'^("?)%', r"\1z")),
-    Row("alice ALL = /bin/ -l", replaced(r"/(?=[ \t]+[^\s,:=#(])", "/z")),
+    Row("alice %adm = ALL", swapped("host", WORDS, r'^("?)%#?', r"\1z")),
+    Row("%#\\5 ALL = ALL", swapped("user runas", "word", r"^%#(?=\\)", "%")),
+    Row("alice db,#5x = ALL", swapped("host", "word", "^#(?=[0-9]+[^0-9])", "z")),
+    Row("alice ALL = /bin/ -l", replaced(r"/(?=[ \t]+[^\s,:#])", "/z")),
     Row("alice ALL = /bin/ls =", swapped("cmnd", "argument", r"(?:^|(?<=\\.))=(?=$|\\)", "z")),
     Row('Defaults:" bob" env_reset', replaced(r'^([ \t]*Defaults[:@>!][ \t]*!*")(?=[ \t>!=:,()\\])', r"\1z")),
+    Row("Defaults: ! alice !lecture", replaced(r"^([ \t]*Defaults[:@>!][ \t]*!+)[ \t]+", r"\1")),
     Row('Defaults:"bob"env_reset', _blank_before_parameters),
     Row('Defaults badpass_message=""', swapped("parameter", "quoted", '^""$', '"z"')),
+    Row('"a\\\\" ALL = ALL', swapped("*", "quoted", r'(?:\\\\)+"$', 'z"')),
     Row("Defaults web1", _parameters(".*[^a-z_].*")),
     Row("alice ALL = (bob:) /bin/ls", replaced(r":[ \t]*\)", ")")),
-    Row("alice ALL = (root : %adm) /bin/ls", swapped("runas", WORDS, r'^("?)%', r"\1z")),
-    Row("Cmnd_Alias CWD = /bin/ls", replaced(rf"\b({OPTIONS})\b", "ZZZ")),
+    Row("alice ALL = (root : %adm) /bin/ls", _users_of_groups),
+    Row("Cmnd_Alias CWD = /bin/ls", replaced(rf"\b({OPTIONS})\b", r"Z\1")),
     Row("sha256 ALL = ALL", swapped(LISTS, "word", r"^sha(224|256|384|512)$", "z")),
     Row("alice @include = ALL", swapped(LISTS, "word", r"^@include(dir)?$", "z")),
     Row("Host_Alias MAIL = web1", _aliases_like_tags),

@@ -18,6 +18,7 @@ from differ.shrink import Shrinker
 REQUESTS_A_POLICY = 20
 VERDICTS_A_TASK = 500
 FILES_A_TASK = 100
+MOST_PEELED = 8
 MEMORY = "/dev/shm"
 READ, REFUSED = Answer("read"), Answer("refused")
 
@@ -106,12 +107,11 @@ class Search:
         """Counts a difference under the row that explains it, or keeps it."""
         if not both.differ():
             return
-        row = self._row(case)
+        row, left = self._row(case), case
         if row is None:
-            case = self.small(case, both)
-            both, row = self.asked(case), self._row(case)
+            row, left = self._peeled(case, both)
         if row is None:
-            self.new.append(Difference(seed, case, both))
+            self.new.append(Difference(seed, left, self.asked(left)))
             return
         self.last = row
         self.explained[row.cell] += 1
@@ -122,6 +122,38 @@ class Search:
     def _row(self, case: Case) -> Row | None:
         """Returns the row that explains the difference of a case."""
         return self._single(case) or self._after_others(case)
+
+    def _peeled(self, case: Case, both: Both) -> tuple[Row | None, Case]:
+        """Returns a row whose construct is the last to go, and what is left; without a row, a case that none explains.
+
+        A small case may differ by another construct than the case that it was made from. The row that explains it
+        explains that construct alone, which is therefore taken out of the whole case."""
+        out: list[Row] = []
+        for _ in range(MOST_PEELED):
+            small = self.small(case, both)
+            row = self._row(small)
+            if row is None:
+                return None, small
+            out.append(row)
+            changed = self._taken_out(case, both, out)
+            if changed is None:
+                return None, case
+            case, both = changed, self.asked(changed)
+            if both.agree(out):
+                return row, case
+        return None, case
+
+    def _taken_out(self, case: Case, both: Both, out: list[Row]) -> Case | None:
+        """Returns a case without the construct of the last row, `None` if the case does not have it."""
+        still = None
+        for changed in out[-1].change(case):
+            if changed == case and (out[-1].counts is same_answer or out[-1] in out[:-1]):
+                continue
+            found = self.asked(changed)
+            if found.agree(out):
+                return changed
+            still = changed if still is None and found.still(both) else still
+        return still
 
     def _read(self, case: Case) -> Both:
         """Returns whether each of both reads a policy without an error."""

@@ -6,15 +6,18 @@ from typing import NamedTuple
 
 from kulavemia.command import Fault
 from kulavemia.requests import HEADER, Request, Source, by_sender, number_of
-from kulavemia.rows import records
+from kulavemia.rows import header_of, records
 from kulavemia.shown import shown_records
 
+# The header of a report as the program prints it, and as these tools write it, with foreign text as it is shown.
 REPORT_HEADER = ("sender", "number", "verdict", "line", "tags")
+SHOWN_HEADER = ("sender", "number", "verdict", "place", "tags")
 ALLOW = "allow"
 DENY = "deny"
 NO_MATCH = "nomatch"
 
 _Numbered = tuple[int, Sequence[str]]
+_OfSender = tuple[Iterator[_Numbered], Iterator[_Numbered] | None]
 
 
 class Verdict(NamedTuple):
@@ -49,19 +52,21 @@ def _keys(source: Source, header: Sequence[str]) -> Iterator[_Numbered]:
 
 
 def _in_order(parts: Sequence[Iterator[_Numbered]]) -> Iterator[_Numbered]:
-    return parts[0] if len(parts) == 1 else heapq.merge(*parts, key=lambda numbered: numbered[0])
+    return parts[0] if len(parts) == 1 else iter(heapq.merge(*parts, key=lambda numbered: numbered[0]))
 
 
 def verdicts(report: str) -> Iterator[tuple[int, str, int, Verdict]]:
-    """Yields the line, sender, number and verdict of each row of a report."""
-    for line, (sender, number, verdict, place, tags) in records(report, REPORT_HEADER):
+    """Yields the line, sender, number and verdict of each row of a report, of the program or of these tools."""
+    is_shown = header_of(report) == list(SHOWN_HEADER)
+    found = shown_records(report, SHOWN_HEADER) if is_shown else records(report, REPORT_HEADER)
+    for line, (sender, number, verdict, place, tags) in found:
         yield line, sender, number_of(report, line, number), Verdict(verdict, place, tags)
 
 
 def answers(report: str, sources: Sequence[Source], key_header: Sequence[str] | None = None) -> Iterator[Answer]:
     """Yields the answers of a report in its order. Raises `Fault` if it is not of these requests."""
     files = by_sender(sources)
-    senders: dict[str, tuple[Iterator[_Numbered], Iterator[_Numbered] | None]] = {}
+    senders: dict[str, _OfSender] = {}
     for line, sender, number, verdict in verdicts(report):
         if sender not in senders:
             if sender not in files:
@@ -83,7 +88,7 @@ def _taken(numbered: Iterator[_Numbered], number: int, place: str, what: str) ->
     return found[1]
 
 
-def _want_ends(report: str, files: dict[str, list[Source]], senders: dict[str, tuple]) -> None:
+def _want_ends(report: str, files: dict[str, list[Source]], senders: dict[str, _OfSender]) -> None:
     """Raises `Fault` if requests have no row in the report."""
     for sender, sources in files.items():
         left = (

@@ -2,6 +2,7 @@
 
 import argparse
 import errno
+import io
 import os
 import sys
 from collections.abc import Callable, Mapping, Sequence
@@ -33,6 +34,13 @@ class Fault(Exception):
         super().__init__(text)
         self.status = status
         self.further = further
+
+
+def line_of(fault: Exception) -> str:
+    """Returns the line of a fault or of an error of the system."""
+    if isinstance(fault, OSError) and fault.filename is not None:
+        return f"{os.fsdecode(fault.filename)}: {fault.strerror}"
+    return str(fault)
 
 
 def name() -> str:
@@ -109,12 +117,7 @@ def run(main: Callable[[], int]) -> NoReturn:
     """Runs a command and ends the process with its status."""
     # What is written is its owner's alone, unless the command says otherwise.
     os.umask(0o077)
-    # A stream that is closed is None here.
-    sys.stdin, sys.stdout, sys.stderr = (
-        stream or open(os.devnull, mode) for stream, mode in ((sys.stdin, "r"), (sys.stdout, "w"), (sys.stderr, "w"))
-    )
-    for stream, errors in ((sys.stdout, "surrogateescape"), (sys.stderr, "backslashreplace")):
-        stream.reconfigure(encoding="utf-8", errors=errors)
+    _prepare_streams()
     try:
         status = main()
         sys.stdout.flush()
@@ -134,6 +137,17 @@ def run(main: Callable[[], int]) -> NoReturn:
     except KeyboardInterrupt:
         status = 130
     sys.exit(status)
+
+
+def _prepare_streams() -> None:
+    """Opens the null device for each stream that is closed, and has text written as UTF-8."""
+    # A stream that is closed is None here.
+    sys.stdin = sys.stdin or open(os.devnull)
+    sys.stdout = sys.stdout or open(os.devnull, "w")
+    sys.stderr = sys.stderr or open(os.devnull, "w")
+    for stream, errors in ((sys.stdout, "surrogateescape"), (sys.stderr, "backslashreplace")):
+        if isinstance(stream, io.TextIOWrapper):
+            stream.reconfigure(encoding="utf-8", errors=errors)
 
 
 def _place_of(error: OSError) -> str:

@@ -1,5 +1,6 @@
 """Users with their groups, and hosts with their addresses."""
 
+import contextlib
 import grp
 import ipaddress
 import json
@@ -11,14 +12,14 @@ import subprocess
 from collections.abc import Iterable, Iterator, Mapping
 from typing import Any, NamedTuple
 
-from kulavemia import foreign, outputs
-from kulavemia.command import Fault, warn
+from kulavemia import foreign, limits, outputs
+from kulavemia.command import Fault, line_of, warn
 from kulavemia.rows import as_text, header_of, records, write_rows
+from kulavemia.unknown import folded
 
 USERS_HEADER = ("user", "uid", "groups")
 HOSTS_HEADER = ("host", "interfaces")
 MEMBERSHIPS_HEADER = ("user", "uid", "gid", "group")
-ROWS_LIMIT = 100_000
 # What tools/gather writes beside the folders of hosts.
 GATHERED = "status.csv"
 _ID_LIMIT = 1 << 32
@@ -62,6 +63,14 @@ class Host(NamedTuple):
     folder: str
     people: list[Person]
     machine: Machine
+
+
+class _Place(NamedTuple):
+    """Where the files of a host are: a folder, the one below which nothing is followed, and the host's own name."""
+
+    folder: str
+    below: str
+    name: str
 
 
 class Account(NamedTuple):
@@ -175,37 +184,73 @@ def _address(info: Mapping[str, Any]) -> str:
 
 def collected(source: str) -> list[Host]:
     """Returns the hosts whose files a folder has, in the order of their names. Raises `Fault` if two have one name."""
+    hosts = [_host(*place) for place in _places(source)]
+    for fault in _clashes_of_names(source, {host.folder: host.machine.name for host in hosts}).values():
+        raise fault
+    return hosts
+
+
+def each(source: str) -> Iterator[Host | Fault]:
+    """Yields the hosts whose files a folder has, one after the other, and for one that is refused why: the others go on."""
+    places = _places(source)
+    names: dict[str, str] = {}
+    for place in places:
+        with contextlib.suppress(Fault, OSError):
+            names[place.name] = _host_name(*place)
+    faults = _clashes_of_names(source, names)
+    for place in places:
+        try:
+            yield faults.get(place.name) or _host(*place)
+        except (Fault, OSError) as error:
+            yield Fault(line_of(error))
+
+
+def _places(source: str) -> list[_Place]:
+    """Returns where the files of hosts are, in the order of the folders' names. Raises `Fault` if there are none."""
     if foreign.exists(os.path.join(source, "passwd"), source):
-        return [_host(source, source, os.path.basename(os.path.abspath(source)))]
+        return [_Place(source, source, os.path.basename(os.path.abspath(source)))]
     found = [entry for entry in foreign.entries(source) if not _is_no_host(entry.name)]
-    names = [entry.name for entry in found if entry.kind != foreign.FILE and _has_passwd(source, entry.name)]
+    names = [entry.name for entry in found if _may_be_host(source, entry)]
     if not names:
         raise Fault(f"{source}: no passwd and no HOST/passwd is there")
     for entry in found:
         if entry.name not in names:
             warn(f"{os.path.join(source, entry.name)} has no passwd: passed over")
-    hosts = [_host(os.path.join(source, name), source, name) for name in names]
-    _want_own_names(source, hosts)
-    return hosts
+    return [_Place(os.path.join(source, name), source, name) for name in names]
 
 
 def _is_no_host(name: str) -> bool:
     return name.startswith(".") or name == GATHERED
 
 
-def _has_passwd(source: str, name: str) -> bool:
-    return foreign.exists(os.path.join(source, name, "passwd"), source)
+def _may_be_host(source: str, entry: foreign.Entry) -> bool:
+    """Returns whether an entry is a folder that has a passwd, or neither a folder nor a file, as which it is refused."""
+    if entry.kind != foreign.FOLDER:
+        return entry.kind != foreign.FILE
+    try:
+        return foreign.exists(os.path.join(source, entry.name, "passwd"), source)
+    except OSError:
+        # What is wrong is said where the file is read.
+        return True
 
 
-def _want_own_names(source: str, hosts: Iterable[Host]) -> None:
-    """Raises `Fault` if two folders have files of hosts of one name."""
-    folders: dict[bytes, str] = {}
-    for host in hosts:
-        # The program compares names of hosts so.
-        first = folders.setdefault(os.fsencode(host.machine.name).lower(), host.folder)
-        if first != host.folder:
-            places = f"{os.path.join(source, first)} and {os.path.join(source, host.folder)}"
-            raise Fault(f"{places} are both of the host {host.machine.name}")
+def _clashes_of_names(source: str, names: Mapping[str, str]) -> dict[str, Fault]:
+    """Returns why folders are refused whose hosts have one name, by folders with the names of their hosts.
+
+    A folder stands if it alone is called so: a host can call itself what it likes, and is to stop no other.
+    """
+    folders: dict[bytes, list[str]] = {}
+    for folder, host in names.items():
+        folders.setdefault(folded(host), []).append(folder)
+    faults: dict[str, Fault] = {}
+    for name, found in folders.items():
+        called = [folder for folder in found if name.partition(b".")[0] == folded(folder) or name == folded(folder)]
+        for folder in found if len(found) > 1 else ():
+            if called != [folder]:
+                first, second = (found[0], folder) if folder != found[0] else found[:2]
+                places = f"{os.path.join(source, first)} and {os.path.join(source, second)}"
+                faults[folder] = Fault(f"{places} are both of the host {names[second]}")
+    return faults
 
 
 def _host(folder: str, below: str, name: str) -> Host:
@@ -325,19 +370,19 @@ def write(folder: str, people: Iterable[Person], machines: Iterable[Machine]) ->
     outputs.folder(folder)
     users = sorted(people)
     groups = {group: None for person in users for group in person.groups}
-    _warn_of_clashes(groups)
+    _warn_of_clashes(folder, groups)
     if all(user.name != "root" for user in users):
-        warn("there is no user root, and an audit wants one")
-    if all(group.fits_a_list for group in groups):
-        header, rows = USERS_HEADER, [_user(person) for person in users]
-    else:
+        warn(f"{os.path.join(folder, 'users.csv')}: there is no user root, and an audit wants one")
+    header: tuple[str, ...] = USERS_HEADER
+    rows = [_user(person) for person in users]
+    if not all(group.fits_a_list for group in groups):
         header, rows = MEMBERSHIPS_HEADER, [row for person in users for row in _memberships(person)]
-    hosts = [(machine.name, " ".join(machine.interfaces)) for machine in machines]
+    hosts: list[tuple[str, ...]] = [(machine.name, " ".join(machine.interfaces)) for machine in machines]
     kind = "users" if header == USERS_HEADER else "memberships"
     hint = "" if header == USERS_HEADER else "; directory --by-number writes a row for each user"
     for found, said in ((rows, f"{len(rows)} {kind}"), (hosts, f"{len(hosts)} hosts")):
-        if len(found) > ROWS_LIMIT:
-            raise Fault(f"{said}, and an audit takes {ROWS_LIMIT}{hint if found is rows else ''}")
+        if len(found) > limits.ROWS:
+            raise Fault(f"{said}, and an audit takes {limits.ROWS}{hint if found is rows else ''}")
     write_rows(os.path.join(folder, "users.csv"), header, rows)
     write_rows(os.path.join(folder, "hosts.csv"), HOSTS_HEADER, hosts)
 
@@ -353,9 +398,12 @@ def _memberships(person: Person) -> Iterator[tuple[str, ...]]:
         yield person.name, str(person.uid), str(group.gid), group.name
 
 
-def _warn_of_clashes(groups: Iterable[Group]) -> None:
+def _warn_of_clashes(folder: str, groups: Iterable[Group]) -> None:
     """Warns of a group name with two numbers, which an audit refuses."""
     gids: dict[str, int] = {}
     for group in groups:
         if gids.setdefault(group.name, group.gid) != group.gid:
-            warn(f"group {group.name} has the numbers {gids[group.name]} and {group.gid}: an audit refuses that")
+            warn(
+                f"{os.path.join(folder, 'users.csv')}: group {group.name} has the numbers {gids[group.name]} and"
+                f" {group.gid}: an audit refuses that"
+            )

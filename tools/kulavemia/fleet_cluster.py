@@ -27,7 +27,7 @@ from kulavemia.command import FAILED as READING_FAILED
 from kulavemia.command import Fault
 from kulavemia.fleet_handed import Handed, judge
 from kulavemia.fleet_plan import travelling
-from kulavemia.fleet_work import FAILED, UNFIT, Answer, Job
+from kulavemia.fleet_work import FAILED, UNFIT, Answer, Job, settled
 
 # Seconds to reach a scheduler, and to release it if it is gone; seconds to wait for a worker if there is none.
 CONNECTION = 5.0
@@ -188,7 +188,7 @@ class Runner:
 
     def _room(self) -> int:
         """Returns how many shards may wait on the scheduler."""
-        return WAITING * max(1, sum(worker["nthreads"] for worker in self._workers().values()))
+        return WAITING * max(1, sum(int(worker["nthreads"]) for worker in self._workers().values()))
 
     def _submit(self, shard: _Shard) -> None:
         """Hands a shard to the scheduler: for the workers on which it was not tried, if there are any."""
@@ -219,7 +219,7 @@ class Runner:
             elif answer.status == UNFIT and shard.tries <= self.retries:
                 self._submit(shard)
             else:
-                yield shard.job, answer._replace(status=FAILED) if answer.status == UNFIT else answer
+                yield shard.job, settled(answer)
 
     def _ended(self) -> list[tuple[Future, Any]]:
         """Returns the shards that ended since the last call, with what the workers answered: none after a while."""

@@ -1,14 +1,13 @@
 """Requests of a fleet's host that name another host, as the log of a relay has them. They are judged, and listed."""
 
 import bisect
-import csv
-import io
+import itertools
 import re
 from collections.abc import Collection, Iterator
 from typing import NamedTuple
 
-from kulavemia.command import Fault
 from kulavemia.fleet_work import HOSTS, Job
+from kulavemia.rows import read_rows
 from kulavemia.unknown import folded
 
 FOREIGN_HEADER = ("host", "sender", "named", "requests", "first")
@@ -89,9 +88,4 @@ def _without(own: Collection[bytes], text: bytes) -> bytes:
 
 def _rows(text: bytes) -> Iterator[list[str]]:
     """Yields the rows behind the header of a file that the program has read. Raises `Fault` at what is no CSV."""
-    rows = csv.reader(io.TextIOWrapper(io.BytesIO(text), encoding="utf-8", errors="surrogateescape", newline=""))
-    try:
-        next(rows, None)
-        yield from rows
-    except csv.Error as error:
-        raise Fault(str(error)) from None
+    return itertools.islice(read_rows(text), 1, None)

@@ -104,7 +104,7 @@ def judge(job: tuple[Any, ...], handed: str) -> tuple[str, tuple[Any, ...]]:
     from distributed import get_worker
 
     worker = get_worker()
-    plugin = worker.plugins.get(handed)
+    plugin: Any = worker.plugins.get(handed)
     if plugin is None:
         return worker.address, ("unfit", "the program was not handed to the worker")
     return worker.address, plugin.judge(job)

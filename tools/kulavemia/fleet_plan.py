@@ -8,13 +8,11 @@ import re
 from collections.abc import Iterator, Sequence
 from typing import NamedTuple
 
-from kulavemia import foreign
-from kulavemia.command import Fault
+from kulavemia import foreign, limits
+from kulavemia.command import Fault, line_of
 from kulavemia.fleet_handed import CODE, PACKAGE, PROGRAM_FILE, Handed, packed
 from kulavemia.fleet_work import HOSTS, REQUESTS, ROOT, TREE, USERS, Job
-from kulavemia.requests import FILES_LIMIT, SENDERS_LIMIT
 from kulavemia.sums import digest_of
-from kulavemia.text import visible
 from kulavemia.tree import POLICY, files_of_tree, main_of
 
 MAIN = "/etc/sudoers"
@@ -27,7 +25,7 @@ _REQUESTS_FILE = re.compile(r"([A-Za-z0-9_-]{1,64})(?:\.([1-9][0-9]{0,8}))?\.csv
 class Asked(NamedTuple):
     """How shards are cut and judged: the senders of each, the threads of the program, the seconds it may take."""
 
-    senders: int = SENDERS_LIMIT
+    senders: int = limits.SENDERS
     threads: int = 1
     limit: float = 0.0
 
@@ -62,7 +60,7 @@ def cut(files: Sequence[Requests], senders: int) -> list[list[Requests]]:
     count = size = 0
     for group in of_sender.values():
         more = sum(file.size for file in group)
-        full = count == senders or bool(shards) and len(shards[-1]) + len(group) > FILES_LIMIT
+        full = count == senders or bool(shards) and len(shards[-1]) + len(group) > limits.SOURCES
         if not shards or full or size + more > SIZE_LIMIT:
             shards.append([])
             count = size = 0
@@ -112,7 +110,7 @@ class Fleet:
         try:
             shards = cut(self._requests(name), self.asked.senders)
         except (Fault, OSError) as fault:
-            return Host(name, (), told(fault))
+            return Host(name, (), line_of(fault))
         return Host(name, [list(dict.fromkeys(file.sender for file in files)) for files in shards])
 
     def jobs(self, name: str) -> Iterator[Job]:
@@ -129,7 +127,7 @@ class Fleet:
         """Returns the requests files of a host, by sender and part."""
         if len(os.fsencode(name)) > NAME_LIMIT:
             raise Fault(f"a folder's name is at most {NAME_LIMIT} bytes long")
-        if visible(name) != name:
+        if not name.isprintable():
             raise Fault("the folder's name has characters that are not printable")
         found = []
         for entry in foreign.entries(os.path.join(self.folder, name, REQUESTS), self.folder):
@@ -186,7 +184,7 @@ class Fleet:
         read = dict(own)
         read.update((file, text) for file, text in self.shared.items() if file.split("/")[0] in shared)
         words = [name, main, *(word for source in sources for word in source)]
-        parts = [b"shard 2", self.program_sum.encode(), b"%d" % len(words), *map(os.fsencode, words)]
+        parts = [b"shard 3", self.program_sum.encode(), b"%d" % len(words), *map(os.fsencode, words)]
         parts += [part for file in sorted(read) for part in (os.fsencode(file), read[file])]
         return Job(
             name=name,
@@ -203,13 +201,6 @@ class Fleet:
 def travelling(job: Job) -> Job:
     """Returns a job with its files packed."""
     return job._replace(files={name: packed(text) for name, text in job.files.items()})
-
-
-def told(fault: Exception) -> str:
-    """Returns the line of a fault."""
-    if isinstance(fault, OSError):
-        return f"{fault.filename}: {fault.strerror}" if fault.filename is not None else str(fault)
-    return str(fault)
 
 
 def _code() -> dict[str, bytes]:

@@ -6,19 +6,18 @@ The first line of a result is a JSON object, and the rows of the shard's report 
 import hashlib
 import json
 import os
-from collections.abc import Iterator
+from collections.abc import Collection, Iterator
 from typing import BinaryIO, NamedTuple
 
 from kulavemia import foreign, outputs
-from kulavemia.answers import REPORT_HEADER
-from kulavemia.command import Fault, tell
+from kulavemia.answers import SHOWN_HEADER
+from kulavemia.command import Fault, line_of, tell
 from kulavemia.fleet_foreign import FOREIGN_HEADER, Foreigners
 from kulavemia.fleet_handed import unpacked
-from kulavemia.fleet_plan import Fleet, told
+from kulavemia.fleet_plan import Fleet
 from kulavemia.fleet_work import DONE, FAILED, HOSTS, REFUSED, Answer, Job, host_of
 from kulavemia.outputs import Fresh as _Fresh
-from kulavemia.rows import row
-from kulavemia.shown import Form
+from kulavemia.shown import Form, in_form
 
 SHARDS = "shards"
 REPORT = "report.csv"
@@ -172,10 +171,11 @@ class _Join:
 
     def write(self, report: _Fresh, status: _Fresh, others: _Fresh) -> None:
         """Writes the rows of all hosts, in order."""
-        report.write(row(REPORT_HEADER).encode())
+        report.write(self.form.head(SHOWN_HEADER).encode())
         status.write(self.form.head(STATUS_HEADER).encode())
         others.write(self.form.head(FOREIGN_HEADER).encode())
-        for name in self.fleet.names():
+        names = self.fleet.names()
+        for name in names:
             try:
                 for number, job in enumerate(self.fleet.jobs(name), 1):
                     found = self._copy(job, report)
@@ -184,9 +184,16 @@ class _Join:
                         self._list_foreign(job, found, others)
             except (Fault, OSError) as fault:
                 self.counts[REFUSED] += 1
-                status.write(self._row((name, "", REFUSED, "0", told(fault))))
+                status.write(self._row((name, "", REFUSED, "0", line_of(fault))))
+        self._want_known(frozenset(names))
+
+    def _want_known(self, names: Collection[str]) -> None:
+        """Notes results of hosts that the fleet does not have.
+
+        A host may have fewer shards than before, or none since it is refused: what is left of them stops no other host.
+        """
         for shard, (path, _) in self.places.items():
-            if shard not in self.used:
+            if shard not in self.used and host_of(shard) not in names:
                 self.wrong.append(f"{shard}: a stranger, in {path}: the fleet has no such shard")
 
     def want_whole(self) -> None:
@@ -207,14 +214,13 @@ class _Join:
             self.wrong.append(f"{job.name}: its inputs, or the program, changed after its audit")
             return None
         try:
-            report.write(rows_of(path, found))
+            report.write(in_form(rows_of(path, found), self.form))
         except Fault as fault:
             self.wrong.append(str(fault))
             return None
         self.counts[found.status] += 1
         self.rows += found.rows
         return found
-
 
     def _list_foreign(self, job: Job, found: Result, others: _Fresh) -> None:
         """Writes which requests of a shard that was judged name another host."""
@@ -242,4 +248,5 @@ def join(fleet: Fleet, results: Results, form: Form = Form()) -> Joined:
         others.keep(os.path.join(results.out, FOREIGN))
         status.keep(os.path.join(results.out, STATUS))
         report.keep(os.path.join(results.out, REPORT))
-    return Joined(joining.rows, *joining.counts.values(), joining.foreign)
+    done, refused, failed = (joining.counts[status] for status in STATUSES)
+    return Joined(joining.rows, done, refused, failed, joining.foreign)

@@ -9,8 +9,9 @@ from typing import IO, NamedTuple
 
 from kulavemia.command import Fault
 from kulavemia.fleet_handed import PROGRAM_FILE, packed, write_below
-from kulavemia.program import Policy, audit_words, copy_rows
+from kulavemia.program import Policy, Rows, audit_words
 from kulavemia.requests import Source
+from kulavemia.shown import Form
 
 # The program runs in the folder of the policy's tree, and reads it by this path: so nothing that it is asked of the
 # policy, and nothing that it answers, shows where a worker keeps the files.
@@ -48,6 +49,11 @@ class Answer(NamedTuple):
     fault: str = ""
     rows: int = 0
     report: bytes = b""
+
+
+def settled(answer: Answer) -> Answer:
+    """Returns an answer that is not tried elsewhere: it failed where the machine was unfit."""
+    return answer._replace(status=FAILED) if answer.status == UNFIT else answer
 
 
 def host_of(shard: str) -> str:
@@ -116,7 +122,7 @@ def _report_of(report: IO[bytes], folder: str, before: str) -> Answer:
     """Returns the answer of a report, its senders behind a text."""
     with open(os.path.join(folder, "rows"), "w+b") as rows:
         try:
-            copy_rows(report, rows, "sudo_audit", ROOT, before)
+            Rows(rows, Form(), ROOT, before).copy(report, "sudo_audit")
         except Fault as fault:
             return Answer(FAILED, str(fault))
         rows.seek(0)

@@ -11,15 +11,19 @@ import io
 import os
 import stat
 from collections.abc import Callable, Iterator
-from typing import BinaryIO, NamedTuple, cast
+from typing import TYPE_CHECKING, BinaryIO, NamedTuple, cast
 
+from kulavemia import limits
 from kulavemia.command import Fault
 
+if TYPE_CHECKING:
+    from _typeshed import WriteableBuffer
+
 # The most bytes that are read of a file of each kind. `sudo_audit` has the first and the fourth of these limits itself.
-POLICY_CAP = 1 << 24
+POLICY_CAP = limits.POLICY_BYTES
 ACCOUNTS_CAP = 1 << 24
 ADDRESSES_CAP = 1 << 22
-REQUESTS_CAP = 1 << 28
+REQUESTS_CAP = limits.CSV_BYTES
 NAME_CAP = 1 << 12
 LOG_CAP = 1 << 32
 TABLE_CAP = 1 << 34
@@ -78,7 +82,7 @@ class _Capped(io.RawIOBase):
     def fileno(self) -> int:
         return self.inner.fileno()
 
-    def readinto(self, buffer: memoryview) -> int:
+    def readinto(self, buffer: "WriteableBuffer") -> int:
         """Reads some bytes. Raises `Fault` past the cap, and `OSError` where it would have to wait."""
         count = cast(io.RawIOBase, self.inner).readinto(buffer)
         if count is None:
@@ -87,7 +91,7 @@ class _Capped(io.RawIOBase):
         if self.count > self.cap:
             raise _too_long(self.path, self.cap)
         if self.line_cap:
-            self._want_line(bytes(buffer[:count]))
+            self._want_line(bytes(memoryview(buffer)[:count]))
         return count
 
     def _want_line(self, data: bytes) -> None:
@@ -154,7 +158,7 @@ def exists(path: str | bytes, below: str | bytes | None = None) -> bool:
 def entries(path: str | bytes, below: str | bytes | None = None) -> list[Entry]:
     """Returns what a folder has, in the order of the names' bytes. Raises `Fault` if it is none, or has too much."""
     shown = os.fsdecode(path)
-    found = []
+    found: list[Entry] = []
     with _folder(shown, below) as folder, _naming(shown), os.scandir(folder) as listing:
         for entry in listing:
             if len(found) == NAMES_CAP:

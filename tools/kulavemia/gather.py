@@ -17,9 +17,9 @@ from kulavemia.command import FAILED as READING_FAILED
 from kulavemia.command import REFUSED as INPUT_REFUSED
 from kulavemia.command import WORDS, Fault
 from kulavemia.directory import GATHERED
-from kulavemia.rows import write_rows
+from kulavemia.rows import open_write
+from kulavemia.shown import Form
 from kulavemia.tar import EndsEarly, Limits, Tar, Unpacked, Unpacking, top_of
-from kulavemia.text import visible
 from kulavemia.transport import MISSING, Transport, words_for
 
 STATUS_HEADER = ("host", "status", "fault", "bytes", "members", "seconds")
@@ -160,7 +160,7 @@ class Gathering:
             row = self._gathered(job)
         except Fault as fault:
             named = str(fault) if str(fault).startswith(job.tar) else f"{job.tar}: {fault}"
-            row = Row(job.host, REFUSED if fault.status == INPUT_REFUSED else FAILED, visible(named))
+            row = Row(job.host, REFUSED if fault.status == INPUT_REFUSED else FAILED, named)
         return row._replace(seconds=time.monotonic() - start)
 
     def _gathered(self, job: Job) -> Row:
@@ -218,9 +218,11 @@ def _until(end: float, seconds: float, read: Callable[[int], bytes], size: int) 
     return read(size)
 
 
-def write_status(out: str, rows: Sequence[Row]) -> None:
+def write_status(out: str, rows: Sequence[Row], form: Form) -> None:
     """Writes the table of statuses."""
-    write_rows(os.path.join(out, GATHERED), STATUS_HEADER, (row.fields() for row in rows))
+    with open_write(os.path.join(out, GATHERED)) as file:
+        file.write(form.head(STATUS_HEADER))
+        file.writelines(form.row(row.fields()) for row in rows)
 
 
 def told(rows: Sequence[Row]) -> str:

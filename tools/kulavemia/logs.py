@@ -17,18 +17,26 @@ from typing import IO, Any, NamedTuple, cast
 
 from kulavemia import foreign
 from kulavemia.journal import IDENTIFIERS, SUDO_PATHS, forgery_of
-from kulavemia.messages import Event, Pairs, event_of, event_of_json, json_events, noted
+from kulavemia.messages import (
+    FORGED,
+    OTHER,
+    UNREAD,
+    Event,
+    Pairs,
+    Skipped,
+    event_of,
+    event_of_json,
+    json_events,
+    noted,
+)
 from kulavemia.packed import unpacked
 
 LINE_LIMIT = 1 << 22
 WINDOW = 256
+# What begins a line of sudo's own file that goes on with the line above.
+FOLD = "    "
 # The default of syslog_maxlen in the sources of sudo, and in its manual.
 SYSLOG_LENGTHS = (960, 980)
-# Why a line has no request: it is not sudo's or asks for nothing, it is sudo's and cannot be read, or it is not sudo's
-# although it says so.
-OTHER = "other"
-UNREAD = "unread"
-FORGED = "forged"
 _COMMAND = "COMMAND="
 _JSON = "@cee:"
 _CONTINUED = "(command continued)"
@@ -73,12 +81,11 @@ class Options(NamedTuple):
 
 
 class Found(NamedTuple):
-    """A line of a log, with its time and event, or why it has no request, and of which kind that is."""
+    """A line of a log, with its time, and its event or why it has none."""
 
     line: int
     time: str
-    event: Event | str
-    kind: str = OTHER
+    event: Event | Skipped
 
 
 class _Message:
@@ -139,6 +146,134 @@ def _handed(path: str) -> io.BufferedReader | None:
     return open(path, "rb") if _DESCRIPTOR.fullmatch(path) else None
 
 
+class _Line(NamedTuple):
+    """A physical line of a log."""
+
+    number: int
+    text: str
+
+
+class _Entry(NamedTuple):
+    """A line of a log; of sudo's own file with the lines that are folded behind it."""
+
+    line: int
+    text: str
+    is_own: bool
+
+
+class _Value(NamedTuple):
+    """A value of JSON, and the line where it begins."""
+
+    line: int
+    value: Any
+
+
+class _Reader:
+    """Reads the lines and the values of a log, and says of each line that it leaves out why."""
+
+    def __init__(self, file: IO[str], moved: Callable[[], None]) -> None:
+        self.file = file
+        self.moved = moved
+        # Lines that are to be read again.
+        self.back: list[_Line] = []
+
+    def _lines(self) -> Iterator[_Line | Found]:
+        """Yields the physical lines, and why one that is too long is left out."""
+        number = 0
+        while text := self.file.readline(LINE_LIMIT):
+            number += 1
+            if number % 4096 == 0:
+                self.moved()
+            if len(text) == LINE_LIMIT and not text.endswith("\n"):
+                while text and not text.endswith("\n"):
+                    text = self.file.readline(LINE_LIMIT)
+                yield Found(number, "", Skipped("the line is too long"))
+                continue
+            yield _Line(number, text.rstrip("\r\n"))
+            while self.back:
+                yield self.back.pop()
+
+    def entries(self) -> Iterator[_Entry | _Value | Found]:
+        """Yields lines and values; folded lines of sudo's own file, and those of a value, are put together."""
+        held: tuple[int, list[str]] | None = None
+        size = 0
+        lines = self._lines()
+        for read in lines:
+            if isinstance(read, Found):
+                yield read
+                continue
+            line, text = read
+            if held is not None:
+                if text.startswith(FOLD) and size < LINE_LIMIT:
+                    held[1].append(text.removeprefix(FOLD))
+                    size += len(text)
+                    continue
+                yield _Entry(held[0], " ".join(held[1]), True)
+                held = None
+            if _OWN.match(text):
+                held, size = (line, [text]), len(text)
+            elif text.startswith(("{", "[")):
+                yield from self._json(read, lines)
+            else:
+                yield _Entry(line, text, False)
+        if held is not None:
+            yield _Entry(held[0], " ".join(held[1]), True)
+
+    def _json(self, read: _Line, lines: Iterator[_Line | Found]) -> Iterator[_Value | Found]:
+        """Yields the value of a line of JSON, or those of the lines over which it goes."""
+        try:
+            value = parsed(read.text)
+        except ValueError:
+            yield from self._long_json(read, lines)
+        else:
+            yield _Value(read.number, value)
+
+    def _long_json(self, read: _Line, lines: Iterator[_Line | Found]) -> Iterator[_Value | Found]:
+        """Yields the members of an object that goes over several lines, one at a time."""
+        line, text = read
+        depth, start, size = 0, line, 0
+        parts: list[str] = []
+        while True:
+            bare = _STRING.sub("", text)
+            opened_at = depth
+            depth += bare.count("{") + bare.count("[") - bare.count("}") - bare.count("]")
+            if opened_at == 0:
+                text = text.lstrip()[1:]
+            if text.strip(" ,]}") or parts:
+                start = start if parts else line
+                parts.append(text)
+                size += len(text)
+            if depth <= 1 and parts:
+                yield _member(start, "".join(parts), depth)
+                parts, size = [], 0
+            if depth <= 0 or size > LINE_LIMIT:
+                break
+            following = next(lines, None)
+            while isinstance(following, Found):
+                yield following
+                following = next(lines, None)
+            if following is None:
+                break
+            # What begins anew belongs to no value that was cut.
+            if following.text.startswith(("{", "[")) or any(f.match(following.text) for f in (_SYSLOG, _FRAMED, _OWN)):
+                self.back.append(following)
+                break
+            line, text = following
+        if depth > 0:
+            yield Found(start if parts else line, "", Skipped("JSON that does not end", UNREAD))
+
+
+def _member(line: int, text: str, depth: int) -> _Value | Found:
+    """Returns a member of an object, of which what closes the object may stand behind it."""
+    text = text.strip().rstrip(",")
+    if depth <= 0 and text.endswith("}"):
+        text = text[:-1]
+    try:
+        return _Value(line, parsed("{" + text + "}"))
+    except ValueError:
+        return Found(line, "", Skipped("no JSON", UNREAD))
+
+
 class Log:
     """Reads a log from its start to its end."""
 
@@ -154,21 +289,33 @@ class Log:
         self.waiting: deque[_Message | Found] = deque()
         self.latest: dict[tuple[str, str], _Message] = {}
         self.dates: dict[tuple[str | Any, ...], str] = {}
-        # Lines that are to be read again.
-        self.back: list[tuple[int, str]] = []
 
     def __iter__(self) -> Iterator[Found]:
         """Yields the content of each line, in order."""
         with self.raw, self.file:
             try:
-                for line, text, own in self._entries():
-                    self._read(line, text, own)
+                for entry in _Reader(self.file, self._show_place).entries():
+                    self._take(entry)
                     while len(self.waiting) > WINDOW:
                         yield self._next()
             except UNREADABLE as error:
                 raise OSError(getattr(error, "errno", None) or errno.EIO, str(error), self.path) from None
         while self.waiting:
             yield self._next()
+
+    def _show_place(self) -> None:
+        """Says how much of the log is read, where that is known."""
+        if self.path != "-" and self.raw.seekable():
+            self.at(self.raw.tell())
+
+    def _take(self, entry: _Entry | _Value | Found) -> None:
+        """Takes a line or a value."""
+        if isinstance(entry, Found):
+            self.waiting.append(entry)
+        elif isinstance(entry, _Value):
+            self._value(entry.line, "", "", entry.value)
+        else:
+            self._read(*entry)
 
     def _next(self) -> Found:
         first = self.waiting.popleft()
@@ -178,46 +325,8 @@ class Log:
             del self.latest[first.host, first.user]
         return first.found(self.options.quoting)
 
-    def _lines(self) -> Iterator[tuple[int, str]]:
-        """Yields the physical lines; one that is too long is skipped and reported."""
-        line = 0
-        while text := self.file.readline(LINE_LIMIT):
-            line += 1
-            if line % 4096 == 0 and self.path != "-" and self.raw.seekable():
-                self.at(self.raw.tell())
-            if len(text) == LINE_LIMIT and not text.endswith("\n"):
-                while text and not text.endswith("\n"):
-                    text = self.file.readline(LINE_LIMIT)
-                self._skip(line, "the line is too long")
-                continue
-            yield line, text.rstrip("\r\n")
-            while self.back:
-                yield self.back.pop()
-
-    def _entries(self) -> Iterator[tuple[int, str, bool]]:
-        """Yields lines, and whether they are of sudo's own file; its folded lines and those of JSON are put together."""
-        held: tuple[int, list[str]] | None = None
-        size = 0
-        lines = self._lines()
-        for line, text in lines:
-            if held is not None:
-                if text.startswith("    ") and size < LINE_LIMIT:
-                    held[1].append(text[4:])
-                    size += len(text)
-                    continue
-                yield held[0], " ".join(held[1]), True
-                held = None
-            if _OWN.match(text):
-                held, size = (line, [text]), len(text)
-            elif text.startswith(("{", "[")):
-                self._json(line, text, lines)
-            else:
-                yield line, text, False
-        if held is not None:
-            yield held[0], " ".join(held[1]), True
-
     def _skip(self, line: int, reason: str, time: str = "", kind: str = OTHER) -> None:
-        self.waiting.append(Found(line, time, reason, kind))
+        self.waiting.append(Found(line, time, Skipped(reason, kind)))
 
     def _read(self, line: int, text: str, is_own: bool) -> None:
         own = _OWN.match(text) if is_own else None
@@ -291,50 +400,6 @@ class Log:
         while given is None and (month, int(day)) == (2, 29) and not calendar.isleap(year):
             year -= 1
         return f"{year:04}-{month:02}-{int(day):02}T"
-
-    def _json(self, line: int, text: str, lines: Iterator[tuple[int, str]]) -> None:
-        """Takes a line of JSON, or the lines over which a value goes."""
-        try:
-            value = parsed(text)
-        except ValueError:
-            self._long_json(line, text, lines)
-            return
-        self._value(line, "", "", value)
-
-    def _long_json(self, line: int, text: str, lines: Iterator[tuple[int, str]]) -> None:
-        """Takes the members of an object that goes over several lines, one at a time."""
-        depth, start, parts, size = 0, line, [], 0
-        while True:
-            bare = _STRING.sub("", text)
-            opened_at = depth
-            depth += bare.count("{") + bare.count("[") - bare.count("}") - bare.count("]")
-            if opened_at == 0:
-                text = text.lstrip()[1:]
-            if text.strip(" ,]}") or parts:
-                start = start if parts else line
-                parts.append(text)
-                size += len(text)
-            if depth <= 1 and parts:
-                self._member(start, "".join(parts), depth)
-                parts, size = [], 0
-            if depth <= 0 or size > LINE_LIMIT:
-                break
-            following = next(lines, None)
-            if following is None:
-                break
-            # What begins anew belongs to no value that was cut.
-            if following[1].startswith(("{", "[")) or any(f.match(following[1]) for f in (_SYSLOG, _FRAMED, _OWN)):
-                self.back.append(following)
-                break
-            line, text = following
-        if depth > 0:
-            self._skip(start if parts else line, "JSON that does not end", kind=UNREAD)
-
-    def _member(self, line: int, text: str, depth: int) -> None:
-        text = text.strip().rstrip(",")
-        if depth <= 0 and text.endswith("}"):
-            text = text[:-1]
-        self._values(line, "", "", "{" + text + "}")
 
     def _values(self, line: int, time: str, host: str, text: str) -> None:
         try:

@@ -11,6 +11,12 @@ ACCEPTED = "accepted"
 REFUSED = "refused"
 FAILED = "failed"
 
+# Why a line has no request: it is not sudo's or asks for nothing, it is sudo's and cannot be read, or it is not sudo's
+# although it says so.
+OTHER = "other"
+UNREAD = "unread"
+FORGED = "forged"
+
 ASKED_TO_LIST = ("list", "validate", "kill")
 EDITORS = frozenset(
     "ed editor emacs emacsclient joe jed mcedit mg micro nano ne nvim pico rnano rvim sensible-editor vi vim vim.basic "
@@ -36,6 +42,13 @@ class Event(NamedTuple):
     outcome: str
     reason: str
     note: str
+
+
+class Skipped(NamedTuple):
+    """Why a line of a log has no request, and of which kind that is."""
+
+    reason: str
+    kind: str = OTHER
 
 
 def outcome_of(reason: str) -> str:
@@ -123,11 +136,11 @@ def _notes(fields: Mapping[str, str], rest: str) -> list[str]:
     return notes
 
 
-def event_of(user: str, host: str, text: str, quoting: str = "auto") -> Event | str:
+def event_of(user: str, host: str, text: str, quoting: str = "auto") -> Event | Skipped:
     """Returns the event of a message behind a user's name, or why it has none."""
     match = _COMMAND.search(text)
     if match is None:
-        return f"no command: {text.split(' ; ')[0][:80]}" if text.strip() else "an empty message"
+        return Skipped(f"no command: {text.split(' ; ')[0][:80]}" if text.strip() else "an empty message")
     head = text[: match.start()]
     leading = _HOST.match(head)
     reason, fields, notes = _fields(head[leading.end() :] if leading else head)
@@ -175,17 +188,17 @@ def json_events(value: Any) -> list[tuple[str, Pairs]]:
     return found
 
 
-def event_of_json(kind: str, body: Pairs, host: str) -> tuple[str, Event | str]:
+def event_of_json(kind: str, body: Pairs, host: str) -> tuple[str, Event | Skipped]:
     """Returns the time and the event of a body of a JSON log, or why it has none."""
     fields = dict(body)
     time = _json_time(fields)
     if kind not in _KINDS:
-        return time, f"an event of the kind {kind}"
+        return time, Skipped(f"an event of the kind {kind}")
     argv = fields.get("runargv")
     words = [word for word in argv if isinstance(word, str)] if isinstance(argv, list) else []
     command = fields.get("command")
     if not isinstance(command, str):
-        return time, f"no command: {_text(fields, 'alert') or _text(fields, 'reason') or kind}"
+        return time, Skipped(f"no command: {_text(fields, 'alert') or _text(fields, 'reason') or kind}")
     request = Request(
         _text(fields, "submituser"),
         _text(fields, "submithost") or host,

@@ -5,7 +5,7 @@ import os
 from collections.abc import Iterable, Iterator
 
 from kulavemia import foreign
-from kulavemia.command import Fault
+from kulavemia.command import Fault, line_of
 
 NAME = "missing"
 SHOWN = 20
@@ -26,7 +26,7 @@ def _lines(folder: str, below: str) -> Iterator[str]:
     try:
         text = foreign.read(path, foreign.POLICY_CAP, below) if foreign.exists(path, below) else b""
     except (Fault, OSError) as error:
-        yield f"{path}: {error.strerror}" if isinstance(error, OSError) else str(error)
+        yield line_of(error)
         return
     for line in itertools.islice(os.fsdecode(text).splitlines(), SHOWN + 1):
         yield f"{path}: {line[:_WIDTH]}"

@@ -17,9 +17,12 @@ import stat
 import tempfile
 from collections.abc import Iterator
 from types import TracebackType
-from typing import BinaryIO, cast
+from typing import TYPE_CHECKING, BinaryIO, cast
 
 from kulavemia.command import FAILED, WORDS, Fault
+
+if TYPE_CHECKING:
+    from _typeshed import ReadableBuffer
 
 PRIVATE = "private"
 SHARED = "shared"
@@ -57,10 +60,11 @@ class _Named(io.FileIO):
         super().__init__(descriptor, mode)
         self.path = path
 
-    def write(self, data: bytes) -> int | None:
+    def write(self, data: "ReadableBuffer") -> int:
         """Writes bytes."""
         with naming(self.path):
-            return super().write(data)
+            count = super().write(data)
+        return count
 
     def close(self) -> None:
         """Closes the file."""

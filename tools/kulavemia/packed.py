@@ -5,9 +5,12 @@ import gzip
 import io
 import lzma
 from collections.abc import Callable
-from typing import BinaryIO, cast
+from typing import TYPE_CHECKING, BinaryIO, cast
 
 from kulavemia import foreign
+
+if TYPE_CHECKING:
+    from _typeshed import WriteableBuffer
 
 # xz -9 wants half of this; a file may ask for 4 GiB.
 _MEMORY_CAP = 1 << 27
@@ -28,8 +31,9 @@ class _Xz(io.RawIOBase):
     def readable(self) -> bool:
         return True
 
-    def readinto(self, buffer: memoryview) -> int:
+    def readinto(self, buffer: "WriteableBuffer") -> int:
         """Unpacks some bytes. Raises `EOFError` where a stream is cut, and `lzma.LZMAError` where it is damaged."""
+        room = memoryview(buffer)
         while True:
             if self.stream.eof:
                 self.waiting = self._following()
@@ -40,10 +44,10 @@ class _Xz(io.RawIOBase):
                 self.waiting = self.raw.read(_CHUNK)
                 if not self.waiting:
                     raise EOFError("the file ended before the end of its stream")
-            data = self.stream.decompress(self.waiting, len(buffer))
+            data = self.stream.decompress(self.waiting, len(room))
             self.waiting = b""
             if data:
-                buffer[: len(data)] = data
+                room[: len(data)] = data
                 return len(data)
 
     def _following(self) -> bytes:

@@ -5,11 +5,10 @@ import re
 from collections.abc import Callable, Iterator
 from typing import NamedTuple
 
-from kulavemia import foreign
+from kulavemia import foreign, limits
 from kulavemia.command import Fault
 from kulavemia.lines import cut, is_comment, pieces
 
-FILES_LIMIT = 1024
 _INCLUDE = re.compile(rb"[@#]include(dir)?(?:[ \t]+(.*))?$", re.DOTALL)
 _QUOTED_PATH = re.compile(rb'"((?:[^"\\]|\\.)*)"', re.DOTALL)
 _BARE_PATH = re.compile(rb'(?:[^ \t"\\]|\\.)*', re.DOTALL)
@@ -22,7 +21,7 @@ class Line(NamedTuple):
     """A logical line: its first physical line, how many there are, and its text."""
 
     number: int
-    count: int
+    lines: int
     text: bytes
 
     def is_rule(self) -> bool:
@@ -100,8 +99,8 @@ def files_of(main: str) -> dict[str, list[Line]]:
         shown = os.fsdecode(path)
         if shown in found:
             continue
-        if len(found) == FILES_LIMIT:
-            raise Fault(f"{main}: includes more than {FILES_LIMIT} files")
+        if len(found) == limits.POLICY_FILES:
+            raise Fault(f"{main}: includes more than {limits.POLICY_FILES} files")
         found[shown] = list(lines_of(read(path)))
         for line in found[shown]:
             include = include_of(line)
@@ -119,5 +118,5 @@ def rewritten(text: bytes, path_of: Callable[[Include], bytes | None]) -> bytes:
         path = path_of(include) if include is not None else None
         if include is not None and path is not None:
             physical[line.number - 1] = written_include(include.of_folder, path)
-            physical[line.number : line.number - 1 + line.count] = [b""] * (line.count - 1)
+            physical[line.number : line.number - 1 + line.lines] = [b""] * (line.lines - 1)
     return b"\n".join(physical)

@@ -4,8 +4,9 @@ import os
 from collections.abc import Iterator, Sequence
 from typing import NamedTuple
 
+from kulavemia import limits
 from kulavemia.progress import Progress
-from kulavemia.requests import PROBE_KEY, REQUESTS_LIMIT, Request, Writer, fault_of
+from kulavemia.requests import PROBE_KEY, Request, Writer, fault_of
 from kulavemia.command import Fault
 from kulavemia.rows import records
 
@@ -49,7 +50,7 @@ def write(folder: str, users: Sequence[str], hosts: Sequence[str], programs: Seq
     total = len(users) * len(hosts) * len(programs)
     with Progress("writing", total) as progress:
         for at, (request, kind) in enumerate(_requests(users, hosts, programs)):
-            writer.add(f"probe_{at // REQUESTS_LIMIT + 1}", request, (kind,))
+            writer.add(f"probe_{at // limits.REQUESTS + 1}", request, (kind,))
             if at % 4096 == 0:
                 progress.at(at)
         return writer.finish()

@@ -3,6 +3,7 @@
 import csv
 import hashlib
 import io
+import itertools
 import os
 import shutil
 import subprocess
@@ -12,18 +13,22 @@ from argparse import ArgumentParser
 from collections.abc import Iterable, Sequence
 from typing import IO, NamedTuple
 
-from kulavemia import foreign, outputs
-from kulavemia.answers import REPORT_HEADER
+from kulavemia import foreign, limits, outputs
+from kulavemia.answers import REPORT_HEADER, SHOWN_HEADER
 from kulavemia.command import FAILED, PROGRAM, Fault, as_word
 from kulavemia.progress import Progress
 from kulavemia.requests import Source, batches
 from kulavemia.rows import row
+from kulavemia.shown import Form
 
 NAME = "sudo_audit"
 REPOSITORY = os.path.dirname(os.path.dirname(os.path.dirname(os.path.realpath(__file__))))
 BUILT = os.path.join(REPOSITORY, "crates", NAME, "out", NAME)
 _WRITE_FAILED = b"write failed"
-MEANING = {PROGRAM: "the program sudo_audit is not there, or refuses; its own line is told"}
+_PIECE = 1 << 20
+# Bytes of rows that are shown as they are; a quote is none of them, since its field may end in another piece.
+_PLAIN = bytes({*b"\n", *range(0x20, 0x7F)} - {*b'"'})
+MEANING = {PROGRAM: "the program sudo_audit is not there, or refuses; its own line is shown"}
 
 
 class Policy(NamedTuple):
@@ -44,7 +49,7 @@ def add_options(words: ArgumentParser) -> None:
         " repository's own build)",
     )
     words.add_argument(
-        "--workers", type=int, default=2, metavar="N", help="how many threads judge, 1 to 16 (default 2)"
+        "--workers", type=int, default=2, metavar="N", help=f"how many threads judge, 1 to {limits.WORKERS} (default 2)"
     )
 
 
@@ -73,6 +78,14 @@ def _said(program: str, done: subprocess.CompletedProcess[bytes], out: bytes, ro
     return Fault(first or f"{program} ended with status {done.returncode}", PROGRAM, further)
 
 
+def _which(said: Fault, policy: Policy) -> Fault:
+    """Returns the program's refusal behind the path of the users or the hosts, of which it says only that they are these."""
+    for kind, path in (("users", policy.users), ("hosts", policy.hosts)):
+        if str(said).startswith(f"{NAME}: {kind}: "):
+            return Fault(f"{path}: {said}", PROGRAM)
+    return said
+
+
 def check(program: str, policy: str, root: str = "") -> str:
     """Returns the program's findings on a policy. Raises `Fault` if it refuses the policy."""
     _want_plain(policy, foreign.POLICY_CAP)
@@ -84,7 +97,9 @@ def check(program: str, policy: str, root: str = "") -> str:
     return found.replace(root, "") if root else found
 
 
-def audit(program: str, policy: Policy, sources: Sequence[Source], out: str, workers: int = 2) -> None:
+def audit(
+    program: str, policy: Policy, sources: Sequence[Source], out: str, workers: int = 2, form: Form = Form()
+) -> None:
     """Writes the report of all sources, in runs that the program takes. Raises `Fault` if it refuses."""
     _want_plain(policy.file, foreign.POLICY_CAP)
     for path in (policy.users, policy.hosts, *(source.file for source in sources)):
@@ -92,9 +107,9 @@ def audit(program: str, policy: Policy, sources: Sequence[Source], out: str, wor
     total = len(sources)
     done = 0
     with outputs.written(out) as report, Progress("judging", total) as progress:
-        report.write(os.fsencode(row(REPORT_HEADER)))
+        report.write(form.head(SHOWN_HEADER).encode())
         for batch in batches(sources):
-            _audit_batch(program, policy, batch, report, workers)
+            _audit_batch(program, policy, batch, Rows(report, form, policy.root), workers)
             done += len(batch)
             progress.at(done)
 
@@ -112,7 +127,7 @@ def _want_plain(path: str, cap: int) -> None:
         foreign.want_plain(path, cap)
 
 
-def _audit_batch(program: str, policy: Policy, batch: Iterable[Source], report: IO[bytes], workers: int) -> None:
+def _audit_batch(program: str, policy: Policy, batch: Iterable[Source], rows: "Rows", workers: int) -> None:
     words = audit_words(program, policy, batch, workers)
     with outputs.scratch() as part:
         done = subprocess.run(words, stdout=part, stderr=subprocess.PIPE, check=False)
@@ -120,30 +135,41 @@ def _audit_batch(program: str, policy: Policy, batch: Iterable[Source], report: 
         if done.returncode == FAILED and _WRITE_FAILED in done.stderr:
             raise Fault(f"{tempfile.gettempdir()}: {os.fsdecode(done.stderr).strip()}", FAILED)
         if done.returncode != 0:
-            raise _said(program, done, part.read(), policy.root)
-        copy_rows(part, report, program, policy.root)
+            raise _which(_said(program, done, part.read(), policy.root), policy)
+        rows.copy(part, program)
 
 
-def copy_rows(part: IO[bytes], report: IO[bytes], program: str, root: str, before: str = "") -> None:
-    """Copies the rows of a report, with their places without the root folder, and their senders behind a text.
+class Rows:
+    """Copies rows of the program's reports, with foreign text as it is shown.
 
-    Raises `Fault` at another header.
+    Places are without a root folder, and senders stand behind a text.
     """
-    header = part.readline()
-    if header != os.fsencode(row(REPORT_HEADER)):
-        raise Fault(f"{program}: its report has the header {os.fsdecode(header).strip()}", PROGRAM)
-    if root:
-        _copy_shown(part, report, root, before)
-    else:
-        shutil.copyfileobj(part, report)
 
+    def __init__(self, out: IO[bytes], form: Form, root: str = "", before: str = "") -> None:
+        self.out = out
+        self.form = form
+        self.root = root
+        self.before = before
 
-def _copy_shown(part: IO[bytes], report: IO[bytes], root: str, before: str) -> None:
-    """Copies rows of a report, with their places without the root folder, and their senders behind a text."""
-    text = io.TextIOWrapper(part, encoding="utf-8", errors="surrogateescape", newline="")
-    sender, place = map(REPORT_HEADER.index, ("sender", "line"))
-    for fields in csv.reader(text):
-        fields[sender] = before + fields[sender]
-        fields[place] = fields[place].removeprefix(root)
-        report.write(row(fields).encode("utf-8", "surrogateescape"))
-    text.detach()
+    def copy(self, part: IO[bytes], program: str) -> None:
+        """Copies the rows of a report. Raises `Fault` at another header."""
+        header = part.readline()
+        if header != os.fsencode(row(REPORT_HEADER)):
+            raise Fault(f"{program}: its report has the header {os.fsdecode(header).strip()}", PROGRAM)
+        left = b"" if self.root or self.before or self.form.spreadsheet else self._copy_plain(part)
+        self._copy_shown(itertools.chain(io.BytesIO(left), part))
+
+    def _copy_plain(self, part: IO[bytes]) -> bytes:
+        """Copies pieces of a report in which all is shown as it is, and returns the first other one."""
+        while piece := part.read(_PIECE) + part.readline():
+            if piece.translate(None, _PLAIN):
+                return piece
+            self.out.write(piece)
+        return b""
+
+    def _copy_shown(self, lines: Iterable[bytes]) -> None:
+        sender, place = map(REPORT_HEADER.index, ("sender", "line"))
+        for fields in csv.reader(line.decode("utf-8", "surrogateescape") for line in lines):
+            fields[sender] = self.before + fields[sender]
+            fields[place] = fields[place].removeprefix(self.root)
+            self.out.write(self.form.row(fields).encode())

@@ -1,6 +1,6 @@
 """From a policy, a directory and logs to a page: each step in a folder of one run."""
 
-import argparse
+import itertools
 import os
 from collections import Counter
 from collections.abc import Callable, Iterator, Mapping, Sequence
@@ -24,6 +24,29 @@ CHANGES = "changes.csv"
 _NO_INPUTS = ("out", "mode", "workers", "at_most", "program")
 
 Say = Callable[[str], None]
+
+
+class Options(NamedTuple):
+    """What the command line of a replay asks for."""
+
+    logs: Sequence[str]
+    out: str
+    mode: str
+    collected: str | None
+    policy: str | None
+    tree: str | None
+    this_machine: bool
+    old_policy: str | None
+    old_tree: str | None
+    directory: str | None
+    programs: str
+    no_probe: bool
+    at_most: int
+    title: str
+    rows: int
+    program: str | None
+    workers: int
+    sorting: sorting.Sorting
 
 
 class Policy(NamedTuple):
@@ -52,7 +75,7 @@ class Given(NamedTuple):
     below: str | None
 
 
-def want(given: argparse.Namespace) -> None:
+def want(given: Options) -> None:
     """Raises `Fault` if what every run needs is lacking, before anything is written."""
     if given.rows < 0:
         raise Fault("--rows is not below 0", WORDS)
@@ -62,7 +85,7 @@ def want(given: argparse.Namespace) -> None:
     want_jinja()
 
 
-def prepared(given: argparse.Namespace) -> Given:
+def prepared(given: Options) -> Given:
     """Returns what the command line names; of other machines' policies and users what is to be written."""
     collected = given.collected
     tree = os.path.join(collected, "tree") if collected else given.tree
@@ -75,7 +98,7 @@ def prepared(given: argparse.Namespace) -> Given:
     return Given(policy, old, _directory(given), _collected_logs(collected), collected)
 
 
-def _policy(given: argparse.Namespace, main: str, tree: str | None, name: str, below: str | None) -> Policy:
+def _policy(given: Options, main: str, tree: str | None, name: str, below: str | None) -> Policy:
     """Returns a policy of this machine, or that of a tree, which is copied to a folder of this name."""
     if not tree:
         return Policy(of_this_machine(main, given.this_machine), _own_files(main))
@@ -91,12 +114,13 @@ def _own_files(main: str) -> dict[bytes, bytes]:
         return {}
 
 
-def _directory(given: argparse.Namespace) -> Directory:
+def _directory(given: Options) -> Directory:
     """Returns the users and hosts files, to be made out of what was collected where none are named."""
     folder = given.directory or os.path.join(given.out, DIRECTORY)
     users, hosts = os.path.join(folder, "users.csv"), os.path.join(folder, "hosts.csv")
     if given.directory:
         return Directory(users, hosts)
+    assert given.collected is not None
     found = directory.collected(given.collected)
     return Directory(users, hosts, directory.merged(found), [host.machine for host in found])
 
@@ -112,9 +136,9 @@ def _collected_logs(collected: str) -> list[str]:
     return paths
 
 
-def sums(given: argparse.Namespace, found: Given) -> dict[str, str]:
+def sums(given: Options, found: Given) -> dict[str, str]:
     """Returns a sum of each input that a page is made of."""
-    options = {name: value for name, value in vars(given).items() if name not in _NO_INPUTS}
+    options = {name: value for name, value in given._asdict().items() if name not in _NO_INPUTS}
     made = {
         "the command line": digest_of([repr(sorted(options.items())).encode("utf-8", "surrogateescape")]),
         "the program": program.sum_of(program.find(given.program)),
@@ -123,14 +147,14 @@ def sums(given: argparse.Namespace, found: Given) -> dict[str, str]:
         "the directory": _sum_of_directory(given, found.directory),
         "the list of programs": sum_of_file(given.programs, foreign.TABLE_CAP),
     }
-    for path in filter(None, (given.host_map, given.users)):
+    for path in [path for path in (given.sorting.host_map, given.sorting.users) if path]:
         made[path] = sum_of_file(path, foreign.TABLE_CAP)
     for path in found.logs:
         made[f"the log {path}"] = _sum_of_log(path, found.below)
     return made
 
 
-def _sum_of_directory(given: argparse.Namespace, found: Directory) -> str:
+def _sum_of_directory(given: Options, found: Directory) -> str:
     if not given.directory:
         return digest_of([repr((found.people, found.machines)).encode("utf-8", "surrogateescape")])
     return " ".join(sum_of_file(path, foreign.REQUESTS_CAP) for path in (found.users, found.hosts))
@@ -146,7 +170,7 @@ def _sum_of_log(path: str, below: str | None) -> str:
 class Replay:
     """Runs the steps that are still to do, and reports each."""
 
-    def __init__(self, given: argparse.Namespace, say: Say) -> None:
+    def __init__(self, given: Options, say: Say) -> None:
         self.given = given
         self.found = prepared(given)
         self.steps = Steps(given.out, sums(given, self.found))
@@ -193,8 +217,6 @@ class Replay:
 
     def _read_logs(self) -> None:
         self.requests = self._folder("requests")
-        self.given.users = self.given.users or self.found.directory.users
-        self.given.hosts = self.found.directory.hosts
         found = self._sorted()
         self.say(f"logs: {sorting.told(found.counts)}")
         self.unread = unread.is_most(found.counts)
@@ -206,9 +228,12 @@ class Replay:
     def _sorted(self) -> sorting.Sorted:
         """Returns what the logs have; they are read where that is still to do."""
         if self.steps.result("requests") is None:
-            found = sorting.sort(self.found.logs, self.steps.begin("requests"), self.given, self.found.below)
+            users = self.given.sorting.users or self.found.directory.users
+            how = self.given.sorting._replace(users=users, hosts=self.found.directory.hosts)
+            found = sorting.sort(self.found.logs, self.steps.begin("requests"), how, self.found.below)
             self.steps.end("requests", found)
-        return sorting.Sorted(*map(Counter, self.steps.result("requests")))
+        counts, hosts = self.steps.result("requests")
+        return sorting.Sorted(Counter(counts), Counter(hosts))
 
     def _probe(self) -> None:
         self.probe = self._folder("probe")
@@ -237,7 +262,8 @@ class Replay:
         """Returns the path of a report, which is made where it is still to do; it has its name once it is whole."""
         path = os.path.join(folder, report)
         if not foreign.exists(path, self.given.out):
-            program.audit(self.program, self._judged_by(policy), sources_of(folder), path, self.given.workers)
+            form = Form(self.given.sorting.spreadsheet)
+            program.audit(self.program, self._judged_by(policy), sources_of(folder), path, self.given.workers, form)
         return path
 
     def _compare(self, old: Prepared) -> None:
@@ -250,13 +276,12 @@ class Replay:
 
     def _write_changes(self, old: Prepared) -> Counter[str]:
         """Writes the changes since the policy before, and returns how many of each kind there are."""
+        found = [self._changes(folder, old) for folder in (self.requests, self.probe) if folder]
         with open_write(self.changes) as out:
-            found = (
-                change for folder in (self.requests, self.probe) if folder for change in self._changes(folder, old)
-            )
-            return compare.write(found, out, Form(self.given.spreadsheet))
+            return compare.write(itertools.chain.from_iterable(found), out, Form(self.given.sorting.spreadsheet))
 
     def _changes(self, folder: str, old: Prepared) -> Iterator[compare.Change]:
+        """Has the policy before judge the requests of a folder, and returns the changes since."""
         before = self._audit(folder, old, "old-report.csv")
         sources: Sequence[Source] = sources_of(folder)
         return compare.changes(before, os.path.join(folder, REPORT), sources)

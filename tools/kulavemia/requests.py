@@ -10,15 +10,11 @@ import re
 from collections.abc import Iterable, Iterator, Sequence
 from typing import NamedTuple
 
-from kulavemia import foreign, outputs
+from kulavemia import foreign, limits, outputs
 from kulavemia.command import WORDS, Fault, warn
 from kulavemia.rows import open_write, row
 from kulavemia.shown import Form, shown_records
 
-REQUESTS_LIMIT = 1_000_000
-BYTES_LIMIT = 268_435_456
-SENDERS_LIMIT = 64
-FILES_LIMIT = 256
 NAME_LIMIT = 64
 
 HEADER = ("number", "user", "host", "runas_user", "runas_group", "command", "arguments")
@@ -140,7 +136,7 @@ class Writer:
         sender = self.senders.get(name) or self._new(name)
         text = row((str(sender.number + 1), *request))
         size = len(text) if text.isascii() else len(text.encode("utf-8", "surrogateescape"))
-        if sender.parts[-1] >= REQUESTS_LIMIT or sender.bytes + size + _CLOSE_ROOM > BYTES_LIMIT:
+        if sender.parts[-1] >= limits.REQUESTS or sender.bytes + size + _CLOSE_ROOM > limits.CSV_BYTES:
             self._start(sender)
         sender.number += 1
         sender.parts[-1] += 1
@@ -238,8 +234,8 @@ def batches(sources: Iterable[Source]) -> Iterator[list[Source]]:
     senders = requests = 0
     for files in by_sender(sources).values():
         count = sum(source.requests for source in files)
-        full = senders == SENDERS_LIMIT or len(batch) + len(files) > FILES_LIMIT or requests + count > REQUESTS_LIMIT
-        if batch and full:
+        full = senders == limits.SENDERS or len(batch) + len(files) > limits.SOURCES
+        if batch and (full or requests + count > limits.REQUESTS):
             yield batch
             batch, senders, requests = [], 0, 0
         batch = batch + files

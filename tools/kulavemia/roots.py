@@ -132,8 +132,8 @@ class Roots:
         """Returns the users who reach the same together, those who reach most first."""
         levels = self.levels()
         users: dict[int, list[str]] = {}
-        for user, row in zip(self.users.list(), self.row_of):
-            users.setdefault(row, []).append(user)
+        for user, at in zip(self.users.list(), self.row_of):
+            users.setdefault(at, []).append(user)
         found = []
         for number, row in enumerate(self.rows.list()):
             counts = [0] * len(LEVELS)

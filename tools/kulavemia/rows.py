@@ -10,10 +10,10 @@ import re
 from collections.abc import Iterable, Iterator, Sequence
 from typing import BinaryIO
 
-from kulavemia import foreign, outputs
+from kulavemia import foreign, limits, outputs
 from kulavemia.command import Fault
 
-csv.field_size_limit(1 << 28)
+csv.field_size_limit(limits.CSV_BYTES)
 
 _QUOTED = re.compile('[",\r\n]')
 
@@ -87,8 +87,16 @@ def header_of(path: str) -> list[str]:
 
 def _first(reader: Iterator[list[str]]) -> list[str]:
     """Returns the first record that is left, without a byte order mark."""
-    first = next(reader, [])
+    first: list[str] = next(reader, [])
     return [first[0].removeprefix("\ufeff"), *first[1:]] if first else []
+
+
+def read_rows(text: bytes) -> Iterator[list[str]]:
+    """Yields the rows of a text. Raises `Fault` at what is no CSV."""
+    try:
+        yield from csv.reader(as_text(io.BytesIO(text)))
+    except csv.Error as error:
+        raise Fault(str(error)) from None
 
 
 def records(path: str, header: Sequence[str]) -> Iterator[tuple[int, list[str]]]:

@@ -1,14 +1,15 @@
 """CSV that people open: foreign text as it is shown, and, where that is asked for, no field that is a formula.
 
-The form for spreadsheets begins with a byte order mark: so they read UTF-8, and `shown_records` expects apostrophes.
+No two fields are shown alike, so that `shown_records` returns what was written. The form for spreadsheets begins with a
+byte order mark: so they read UTF-8, and `shown_records` expects apostrophes.
 """
 
 from argparse import ArgumentParser
 from collections.abc import Iterator, Sequence
 from typing import NamedTuple
 
-from kulavemia.rows import open_read, records, row
-from kulavemia.text import visible
+from kulavemia.rows import open_read, read_rows, records, row
+from kulavemia.text import exact, is_visible, visible
 
 _MARK = "\ufeff"
 _APOSTROPHE = "'"
@@ -27,6 +28,8 @@ class Form(NamedTuple):
 
     def row(self, fields: Sequence[str]) -> str:
         """Returns a row."""
+        if not self.spreadsheet and is_visible("".join(fields)):
+            return row(fields)
         return row([self._field(field) for field in fields])
 
     def _field(self, text: str) -> str:
@@ -47,8 +50,16 @@ def add_option(words: ArgumentParser) -> None:
 
 
 def shown_records(path: str, header: Sequence[str]) -> Iterator[tuple[int, list[str]]]:
-    """Yields what `records` does of a file that was written in a `Form`, without its apostrophes."""
+    """Yields what `records` does of a file that was written in a `Form`, with the fields that were written."""
     with open_read(path) as file:
-        marked = file.read(1) == _MARK
+        mark = _APOSTROPHE if file.read(1) == _MARK else ""
     for line, fields in records(path, header):
-        yield line, [field.removeprefix(_APOSTROPHE) for field in fields] if marked else fields
+        is_exact = not mark and is_visible("".join(fields))
+        yield line, fields if is_exact else [exact(field.removeprefix(mark)) for field in fields]
+
+
+def in_form(rows: bytes, form: Form) -> bytes:
+    """Returns rows without a header that were written in the plain form, in another one."""
+    if not form.spreadsheet:
+        return rows
+    return "".join(form.row([exact(field) for field in fields]) for fields in read_rows(rows)).encode()

@@ -1,6 +1,7 @@
 """Requests of an audit out of logs: whose list each belongs to, and how its names are written."""
 
 import argparse
+import functools
 import os
 from collections import Counter
 from collections.abc import Sequence
@@ -9,8 +10,8 @@ from typing import IO, NamedTuple
 from kulavemia.command import Fault
 from kulavemia.directory import hosts_in, users_in
 from kulavemia.journal import SUDO_PATHS
-from kulavemia.logs import FORGED, OTHER, SYSLOG_LENGTHS, UNREAD, Found, Log, Options, size_of
-from kulavemia.messages import ASKED_TO_LIST, EDITORS, Event, noted, with_editor
+from kulavemia.logs import SYSLOG_LENGTHS, Found, Log, Options, size_of
+from kulavemia.messages import ASKED_TO_LIST, EDITORS, FORGED, OTHER, UNREAD, Event, Skipped, noted, with_editor
 from kulavemia.progress import Progress
 from kulavemia.requests import LOG_KEY, Request, Writer, fault_of
 from kulavemia.rows import open_write, records
@@ -32,6 +33,35 @@ LISTS_HEADER = (
 )
 SKIPPED_HEADER = ("log", "line", "time", "reason")
 MAP_HEADER = ("from", "to")
+
+
+class Sorting(NamedTuple):
+    """The options that say how logs are read and names are written. Without hosts.csv a line without a host has none."""
+
+    by: str
+    host: str
+    host_map: str | None
+    domain: str | None
+    link: Sequence[tuple[str, str]]
+    users: str | None
+    year: int | None
+    quoting: str
+    editor: Sequence[str]
+    plain_editors: bool
+    syslog_length: int | None
+    sudo_path: Sequence[str]
+    spreadsheet: bool
+    hosts: str | None = None
+
+    def reading(self, below: str | None) -> Options:
+        """Returns how logs are read. No link to one is followed below a folder, where one is named."""
+        lengths = SYSLOG_LENGTHS if self.syslog_length is None else (self.syslog_length,)
+        return Options(self.host, self.year, self.quoting, lengths, self.sudo_path or SUDO_PATHS, below)
+
+
+def sorting_of(given: argparse.Namespace) -> Sorting:
+    """Returns the options that `add_options` adds, out of all of a command line."""
+    return Sorting(**{name: value for name, value in vars(given).items() if name in Sorting._fields})
 
 
 def add_options(words: argparse.ArgumentParser) -> None:
@@ -103,12 +133,6 @@ def _add_reading_options(words: argparse.ArgumentParser) -> None:
     )
 
 
-def reading_of(given: argparse.Namespace) -> Options:
-    """Returns how logs are read, as the options say."""
-    lengths = SYSLOG_LENGTHS if given.syslog_length is None else (given.syslog_length,)
-    return Options(given.host, given.year, given.quoting, lengths, given.sudo_path or SUDO_PATHS)
-
-
 def _link(word: str) -> tuple[str, str]:
     start, _, end = word.partition("=")
     if not start.startswith("/") or not end.startswith("/"):
@@ -119,9 +143,9 @@ def _link(word: str) -> tuple[str, str]:
 class Names:
     """Writes hosts, targets and commands as the directory and the rules write them."""
 
-    def __init__(self, given: argparse.Namespace) -> None:
-        self.links: list[tuple[str, str]] = given.link
-        self.domain: str = f".{given.domain}" if given.domain else ""
+    def __init__(self, given: Sorting) -> None:
+        self.links = given.link
+        self.domain = f".{given.domain}" if given.domain else ""
         self.hosts = (
             {fields[0]: fields[1] for _, fields in records(given.host_map, MAP_HEADER)} if given.host_map else {}
         )
@@ -160,7 +184,7 @@ class Sorted(NamedTuple):
 class Sorter:
     """Sorts the content of logs into the files of a folder."""
 
-    def __init__(self, given: argparse.Namespace, writer: Writer, lists: IO[str], skipped: IO[str]) -> None:
+    def __init__(self, given: Sorting, writer: Writer, lists: IO[str], skipped: IO[str]) -> None:
         self.names = Names(given)
         self.by = given.by
         self.editors = frozenset() if given.plain_editors else EDITORS.union(given.editor)
@@ -175,9 +199,9 @@ class Sorter:
 
     def take(self, log: str, found: Found) -> None:
         """Takes the content of a line. Raises `Fault` if it has no host, and several hosts are known."""
-        line, time, event, kind = found
-        if isinstance(event, str):
-            self._skip(log, line, time, event, kind)
+        line, time, event = found
+        if isinstance(event, Skipped):
+            self._skip(log, line, time, event)
             return
         event = self._placed(log, line, with_editor(event, self.editors))
         request = event.request
@@ -189,7 +213,7 @@ class Sorter:
         if reason:
             said = f": {event.reason}" if event.reason else ""
             kind = OTHER if request.user and request.host else UNREAD
-            self._skip(log, line, time, f"{reason} ({request.command[:80]}){said}", kind)
+            self._skip(log, line, time, Skipped(f"{reason} ({request.command[:80]}){said}", kind))
             return
         self.counts[event.outcome] += 1
         self.hosts[request.host] += 1
@@ -208,17 +232,17 @@ class Sorter:
             )
         return noted(event._replace(request=event.request._replace(host=self.known_hosts[0])), "no host logged")
 
-    def _skip(self, log: str, line: int, time: str, reason: str, kind: str) -> None:
-        self.counts[kind] += 1
-        self.skipped.write(self.form.row((log, str(line), time, reason)))
+    def _skip(self, log: str, line: int, time: str, skipped: Skipped) -> None:
+        self.counts[skipped.kind] += 1
+        self.skipped.write(self.form.row((log, str(line), time, skipped.reason)))
 
 
-def sort(logs: Sequence[str], folder: str, given: argparse.Namespace, below: str | None = None) -> Sorted:
+def sort(logs: Sequence[str], folder: str, given: Sorting, below: str | None = None) -> Sorted:
     """Sorts the content of logs into a folder, and returns how much there was.
 
     No link to a log is followed below another folder, where one is named.
     """
-    how = reading_of(given)._replace(below=below)
+    how = given.reading(below)
     total = sum(size_of(path, below) for path in logs)
     form = Form(given.spreadsheet)
     writer = Writer(folder, LOG_KEY, form)
@@ -232,12 +256,16 @@ def sort(logs: Sequence[str], folder: str, given: argparse.Namespace, below: str
         sorter = Sorter(given, writer, lists, skipped)
         before = 0
         for path in logs:
-            for found in Log(path, how, lambda done, before=before: progress.at(before + done)):
+            for found in Log(path, how, functools.partial(_show, progress, before)):
                 sorter.take(path, found)
             before += size_of(path, below)
         sorter.writer.finish()
         sorter.counts["senders"] = len(sorter.writer.senders)
     return Sorted(sorter.counts, sorter.hosts)
+
+
+def _show(progress: Progress, before: int, done: int) -> None:
+    progress.at(before + done)
 
 
 def told(counts: Counter[str]) -> str:

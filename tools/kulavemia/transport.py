@@ -11,7 +11,6 @@ from collections.abc import Sequence
 from typing import BinaryIO, cast
 
 from kulavemia.command import FAILED, Fault
-from kulavemia.text import visible
 
 COLLECT = os.path.join(os.path.dirname(os.path.dirname(os.path.realpath(__file__))), "collect")
 DONE = 0
@@ -110,4 +109,4 @@ class Transport:
 
     def _last_line(self) -> str:
         lines = os.fsdecode(self.said).strip().splitlines()
-        return visible(lines[-1])[:_SHOWN] if lines else ""
+        return lines[-1][:_SHOWN] if lines else ""

@@ -2,8 +2,7 @@
 
 from collections.abc import Mapping
 
-from kulavemia.logs import FORGED, UNREAD
-from kulavemia.messages import ACCEPTED, FAILED, REFUSED
+from kulavemia.messages import ACCEPTED, FAILED, FORGED, REFUSED, UNREAD
 
 _TAKEN = (ACCEPTED, REFUSED, FAILED, "lists")
 MEANING = "an input is refused, or more lines under sudo's name were left out than read; what was read is written"

@@ -8,7 +8,7 @@ from typing import IO, NamedTuple
 
 from kulavemia.answers import ALLOW, Answer, Verdict
 from kulavemia.command import Fault
-from kulavemia.logs import LINE_LIMIT, UNREADABLE, opened
+from kulavemia.logs import FOLD, LINE_LIMIT, UNREADABLE, opened
 from kulavemia.messages import ACCEPTED, FAILED, REFUSED
 from kulavemia.requests import Request
 
@@ -145,7 +145,7 @@ def _numbered(file: IO[bytes]) -> Iterator[tuple[int, bytes]]:
 def _unfolded(lines: Iterable[tuple[int, bytes]], numbers: set[int]) -> Iterable[tuple[int, str]]:
     open_line, text, left = 0, "", len(numbers)
     for number, line in lines:
-        if open_line and line.startswith(b"    "):
+        if open_line and line.startswith(FOLD.encode()):
             if len(text) < TEXT_LIMIT:
                 text += " " + line.decode("utf-8", "surrogateescape").strip()
             continue

@@ -74,6 +74,7 @@ class FleetCase(Case):
         def end() -> None:
             running.kill()
             running.wait()
+            assert running.stdout is not None
             running.stdout.close()
 
         self.addCleanup(end)
@@ -99,7 +100,7 @@ class FleetCase(Case):
         for name in sorted(os.listdir(self.path("fleet"))):
             if os.path.isdir(self.path("fleet", name)) and name not in without:
                 expected += self.of_one_machine(name)
-        self.assertEqual(self.read("out", "report.csv"), "sender,number,verdict,line,tags\n" + expected)
+        self.assertEqual(self.read("out", "report.csv"), "sender,number,verdict,place,tags\n" + expected)
 
     def of_one_machine(self, name: str) -> str:
         """Returns the rows of a host's audit, with the host before each sender."""
@@ -115,5 +116,3 @@ class FleetCase(Case):
             audit(self.program, Policy(policy.file(), users, hosts, policy.root), sources, out)
             with open(out, encoding="utf-8", newline="") as file:
                 return "".join(f"{name}/{row}" for row in file.readlines()[1:])
-
-

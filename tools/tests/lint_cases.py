@@ -12,7 +12,7 @@ class Case:
 
     policy: bytes
     answer: str
-    places: tuple = ()
+    places: tuple[tuple[int, int | None], ...] = ()
     status: int = 1
 
     @property
@@ -26,9 +26,9 @@ class Case:
         return self.answer if self.answer.startswith("sudo_audit: ") else ""
 
 
-def fault(policy, text, *place):
+def fault(policy: bytes, text: str, line: int, column: int | None) -> Case:
     """Returns the case of a policy that has one fault, at a physical place."""
-    return Case(policy, f"sudo_audit: case:{text}\n", (place,))
+    return Case(policy, f"sudo_audit: case:{text}\n", ((line, column),))
 
 
 CASES = {

@@ -1,8 +1,8 @@
 """A second body of the verdict, and policies that are drawn at random.
 
-The body writes every list out, tries every grant in the order of the file, and takes the last that applies. It shares nothing with
-the program: rules are made here, and printed, or read in the plain form in which they are printed. Whom and what each word of a list
-is for stands in tables, by sudoers(5) and docs/PROFILE.md, for a few users, hosts and commands.
+The body writes every list out, tries every grant in the order of the file, and takes the last that applies. It shares nothing
+with the program: rules are made here, and printed, or read in the plain form in which they are printed. Whom and what each word
+of a list is for stands in tables, by sudoers(5) and docs/PROFILE.md, for a few users, hosts and commands.
 """
 
 import csv
@@ -32,7 +32,7 @@ COMMANDS = {*LS, *SU, *EDITS, "/bin/id,", "/bin/x/id,", "/usr/bin/id,"}
 PAIRS = ("EXEC", "FOLLOW", "INTERCEPT", "LOG_INPUT", "LOG_OUTPUT", "MAIL", "PASSWD", "SETENV")
 
 # Whom or what each word of a list is for.
-FITS = {
+FITS: dict[str, dict[str, set[str]]] = {
     "User": {
         "ALL": set(GROUPS),
         "alice": {"alice"},
@@ -91,7 +91,7 @@ FITS = {
     },
 }
 # For which groups the words of a list of users to run as are, where the list is of groups.
-FITS_GROUP = {
+FITS_GROUP: dict[str, set[str]] = {
     "ALL": KNOWN_GROUPS,
     "root": {"root"},
     "operator": {"operator"},
@@ -245,7 +245,8 @@ def tags_shown(tags: dict[str, bool]) -> str:
 
 def section_says(policy: Policy, section: Section, asked: Request, line: int) -> str | None:
     """Returns the last verdict of a section's commands, as a report has it, or `None` where none of them applies."""
-    said, tags, runas = None, {}, None
+    said, runas = None, None
+    tags: dict[str, bool] = {}
     for command in section.commands:
         runas = runas if command.runas is None else command.runas
         tags |= {tag.removeprefix("NO"): not tag.startswith("NO") for tag in command.tags}
@@ -289,7 +290,8 @@ class Draw:
 
     def __init__(self, seed: int) -> None:
         self.random = random.Random(seed)
-        # Aliases of several kinds have the same names. Each list may name those that were drawn before it, so that none is in a cycle.
+        # Aliases of several kinds have the same names. Each list may name those that were drawn before it, so that there is no
+        # cycle.
         self.aliases: dict[str, dict[str, Members]] = {kind: {} for kind in FITS}
         for kind, of in self.aliases.items():
             for number in range(self.random.randint(0, 3)):
@@ -298,7 +300,7 @@ class Draw:
 
     def members(self, kind: str, most: int = 3) -> Members:
         """Draws a list."""
-        words = [*FITS[kind], "ALL", *2 * [*self.aliases[kind]]]
+        words = [*FITS[kind], "ALL", *self.aliases[kind], *self.aliases[kind]]
         count = self.random.randint(1, most)
         return [Member(self.random.choices((0, 1, 2), (14, 5, 1))[0], self.random.choice(words)) for _ in range(count)]
 
@@ -322,7 +324,7 @@ class Draw:
             Rule(self.members("User"), [self.section() for _ in range(self.random.choice((1, 1, 2)))])
             for _ in range(self.random.randint(1, 6))
         ]
-        lines = [*aliases, *rules, "Defaults env_reset", "Defaults:ALL !authenticate", "# ALL ALL = ALL", ""]
+        lines: list[Rule | str] = [*aliases, *rules, "Defaults env_reset", "Defaults:ALL !authenticate", "# ALL ALL = ALL", ""]
         self.random.shuffle(lines)
         return lines
 

@@ -5,6 +5,7 @@ listed is refused. `faults_of` also looks for what a form cannot say: rules that
 """
 
 import re
+from collections.abc import Callable
 from typing import Any
 
 LEVELS = ("none", "note", "warning", "error")
@@ -50,10 +51,10 @@ def is_uri(value: Any) -> bool:
     return match is not None and (match["scheme"] is not None or ":" not in value.partition("/")[0])
 
 
-VALUES = {
+VALUES: dict[str, Callable[[Any], bool]] = {
     "text": is_text,
     "uri": is_uri,
-    "version": lambda value: value == "2.1.0",
+    "version": lambda value: value in ("2.1.0",),
     "columnKind": lambda value: value in COLUMN_KINDS,
     "level": lambda value: value in LEVELS,
     "truth": lambda value: isinstance(value, bool),
@@ -82,7 +83,7 @@ def form_faults(value: Any, kind: str, place: str = "") -> list[str]:
     return found
 
 
-def place_faults(location: dict) -> list[str]:
+def place_faults(location: dict[str, Any]) -> list[str]:
     """Returns what the standard's text refuses of a place: a base for an absolute URI, or a column of no line."""
     where = location["physicalLocation"]
     artifact, region = where["artifactLocation"], where.get("region", {"startLine": 1})

@@ -8,12 +8,12 @@ import tempfile
 import unittest
 
 TOOLS = os.path.dirname(os.path.dirname(os.path.abspath(__file__)))
+DEV = os.path.join(os.path.dirname(TOOLS), "dev")
 TESTS = os.path.join(TOOLS, "tests")
 DATA = os.path.join(TESTS, "data")
 EXAMPLES = os.path.join(os.path.dirname(TOOLS), "examples")
 REQUESTS_HEADER = "number,user,host,runas_user,runas_group,command,arguments\n"
-if TOOLS not in sys.path:
-    sys.path.insert(0, TOOLS)
+sys.path[:0] = [folder for folder in (TOOLS, DEV) if folder not in sys.path]
 
 from kulavemia.command import Fault  # noqa: E402
 from kulavemia.program import find  # noqa: E402
@@ -39,7 +39,8 @@ def has_dask() -> bool:
     return subprocess.run(["/usr/bin/python3", "-c", found], check=False).returncode == 0
 
 
-PROGRAM = program()
+# Empty where there is none: the tests that need it are skipped.
+PROGRAM = program() or ""
 BROWSER = shutil.which("chromium") or shutil.which("chromium-browser")
 JINJA = has_jinja()
 DASK = has_dask()
@@ -89,10 +90,12 @@ class Case(unittest.TestCase):
         """Returns the lines of a file in the test's folder."""
         return self.read(*names).splitlines()
 
-    def run_tool(self, name: str, *words: str, status: int = 0, stdin: bytes = b"") -> tuple[str, str]:
+    def run_tool(
+        self, name: str, *words: str, status: int = 0, stdin: bytes = b"", folder: str = TOOLS
+    ) -> tuple[str, str]:
         """Runs a command and returns what it wrote, on standard output and on standard error."""
         done = subprocess.run(
-            [os.path.join(TOOLS, name), *words],
+            [os.path.join(folder, name), *words],
             input=stdin,
             stdout=subprocess.PIPE,
             stderr=subprocess.PIPE,
@@ -102,3 +105,7 @@ class Case(unittest.TestCase):
         out, err = os.fsdecode(done.stdout), os.fsdecode(done.stderr)
         self.assertEqual(done.returncode, status, f"{name} {' '.join(words)}\n{out}{err}")
         return out, err
+
+    def run_dev(self, name: str, *words: str, status: int = 0) -> tuple[str, str]:
+        """Runs a command of developers and returns what it wrote, as `run_tool` does."""
+        return self.run_tool(name, *words, status=status, folder=DEV)

@@ -4,10 +4,18 @@ import io
 import os
 import subprocess
 import tarfile
+import time
 import unittest
 
 from machine import MachineCase
 from support import TOOLS, Case
+
+
+def bytes_of(tar: tarfile.TarFile, member: tarfile.TarInfo) -> bytes:
+    """Returns the bytes of a plain file of a tar."""
+    file = tar.extractfile(member)
+    assert file is not None
+    return file.read()
 
 
 class Collect(Case):
@@ -23,7 +31,7 @@ class Collect(Case):
             return {}, err
         with tarfile.open(fileobj=io.BytesIO(done.stdout)) as tar:
             files = [member for member in tar.getmembers() if member.isfile()]
-            return {member.name.partition("/")[2]: tar.extractfile(member).read() for member in files}, err
+            return {member.name.partition("/")[2]: bytes_of(tar, member) for member in files}, err
 
     def test_the_policy_and_what_it_includes(self) -> None:
         main = self.write(
@@ -48,6 +56,28 @@ class Collect(Case):
         files, err = self.collect("--policy", main, "--user", "no-such-user", "--no-logs", status=3)
         self.assertIn(f"{self.folder}/gone: cannot be read", err)
         self.assertIn(b"user no-such-user: not known", files["missing"])
+
+    def test_what_is_no_plain_file_or_too_large_is_named_and_not_read(self) -> None:
+        os.mkfifo(self.path("fifo"))
+        os.symlink("/dev/zero", self.path("zero"))
+        os.mkdir(self.path("folder"))
+        for name, size in (("sparse", 100 << 30), ("large", (16 << 20) + 1), ("most", 16 << 20)):
+            self.write(name, "")
+            os.truncate(self.path(name), size)
+        names = ("fifo", "zero", "folder", "sparse", "large", "most")
+        main = self.write("sudoers", "".join(f"@include {name}\n" for name in names))
+        start = time.monotonic()
+        files, err = self.collect("--policy", main, "--no-logs", status=3)
+        self.assertLess(time.monotonic() - start, 10)
+        said = [f"collect: {self.folder}/{name}: not a plain file\n" for name in names[:3]]
+        said += [f"collect: {self.folder}/{name}: more than 16777216 bytes, and no more are read\n" for name in names[3:5]]
+        self.assertEqual(err, "".join(said))
+        self.assertEqual(files["missing"].decode(), err.replace("collect: ", ""))
+        tree = [name.rpartition("/")[2] for name in files if name.startswith("tree/")]
+        self.assertEqual(sorted(tree), ["most", "sudoers"])
+        for name in names[:4]:
+            _, err = self.collect("--policy", self.path(name), "--no-logs", status=3)
+            self.assertIn(f"collect: {self.folder}/{name}: ", err)
 
     def test_a_last_line_without_its_end_and_ends_of_another_system(self) -> None:
         main = self.write("etc/sudoers", "@include a\r\n@include b")
@@ -102,17 +132,33 @@ class Collect(Case):
         self.assertIn("does not know it", self.collect("--version", status=2)[1])
 
 
-class Sources(MachineCase):
-    """Where a machine says that sudo's rules are."""
+class Machine(MachineCase):
+    """A machine of which something is missing."""
+
+    def collected(self, *words: str) -> dict[str, bytes]:
+        """Returns the files of the machine's tar."""
+        command = ["chroot", self.path("root"), "/bin/sh", "-s", "--", *words]
+        with open(os.path.join(TOOLS, "collect"), "rb") as script:
+            done = subprocess.run(command, stdin=script, capture_output=True, check=False)
+        with tarfile.open(fileobj=io.BytesIO(done.stdout)) as tar:
+            files = [member for member in tar.getmembers() if member.isfile()]
+            return {member.name.partition("/")[2]: bytes_of(tar, member) for member in files}
 
     def missing_with(self, nsswitch: str) -> list[str]:
         """Returns what is missing on a machine with this nsswitch.conf."""
         self.write("root/etc/nsswitch.conf", nsswitch)
-        words = ["chroot", self.path("root"), "/bin/sh", "-s", "--", "--no-logs"]
-        with open(os.path.join(TOOLS, "collect"), "rb") as script:
-            done = subprocess.run(words, stdin=script, capture_output=True, check=False)
-        with tarfile.open(fileobj=io.BytesIO(done.stdout)) as tar:
-            return tar.extractfile("shop1.example.org/missing").read().decode().splitlines()
+        return self.collected("--no-logs")["missing"].decode().splitlines()
+
+    def test_a_log_that_is_too_large_is_missing(self) -> None:
+        self.make_machine()
+        logs = [name for name in self.collected() if name.startswith("logs/")]
+        self.write("root/var/log/auth.log.7", "")
+        os.truncate(self.path("root", "var", "log", "auth.log.7"), 100 << 30)
+        os.mkfifo(self.path("root", "var", "log", "sudo.log"))
+        files = self.collected()
+        self.assertEqual([name for name in files if name.startswith("logs/")], logs)
+        said = "/var/log/auth.log.7: more than 4294967296 bytes, and no more are read\n"
+        self.assertEqual(files["missing"].decode(), said)
 
     def test_other_sources_than_files_are_missing(self) -> None:
         self.make_machine()

@@ -5,13 +5,21 @@ import shutil
 import unittest
 from collections.abc import Callable
 
-from support import Case, Fault, needs_program
+from support import Case, needs_program
 
+from kulavemia.command import Fault
 from kulavemia.directory import Group, Person, write
 
-PASSWD = "root:x:0:0::/root:/bin/sh\njim:x:5001:5000::/home/jim:/bin/sh\nann:x:5002:100::/home/ann:/bin/sh\nghost:x:5003:5999::/:/bin/sh\n"
+PASSWD = """root:x:0:0::/root:/bin/sh
+jim:x:5001:5000::/home/jim:/bin/sh
+ann:x:5002:100::/home/ann:/bin/sh
+ghost:x:5003:5999::/:/bin/sh
+"""
 GROUP = "root:x:0:\nusers:x:100:jim\ndomain users:x:5000:\nit staff:x:5001:jim,ann\nadm:x:4:ann\n"
-ADDR = '[{"ifname":"eth0","addr_info":[{"family":"inet","local":"192.0.2.7","prefixlen":24},{"family":"inet6","local":"fe80::1","prefixlen":64}]},{"ifname":"none"}]'
+ADDR = (
+    '[{"ifname":"eth0","addr_info":[{"family":"inet","local":"192.0.2.7","prefixlen":24},'
+    '{"family":"inet6","local":"fe80::1","prefixlen":64}]},{"ifname":"none"}]'
+)
 
 
 class Directory(Case):
@@ -114,15 +122,79 @@ class Directory(Case):
         self.host("all/web1")
         self.host("all/web2")
         self.write("all/web2/hostname", "WEB1\n")
-        for words in ((), ("--each",)):
-            _, err = self.run_tool("directory", "--from", "all", "out", *words, status=3)
-            self.assertIn("directory: all/web1 and all/web2 are both of the host WEB1", err)
-        self.assertFalse(os.path.exists(self.path("out", "hosts.csv")))
+        for words, status in (((), 3), (("--each",), 1)):
+            _, err = self.run_tool("directory", "--from", "all", "out", *words, status=status)
+            self.assertIn("directory: all/web1 and all/web2 are both of the host WEB1\n", err)
+        self.assertEqual(os.listdir(self.path("out")), ["web1"])
+
+    def test_a_host_that_takes_anothers_name_does_not_stop_it(self) -> None:
+        named = {"a": "Web1", "web1": "web1.example.org", "web2": "WEB1.example.org", "x": "y", "z": "y", "web3": "a"}
+        for folder, name in named.items():
+            self.host(f"all/{folder}")
+            self.write(f"all/{folder}/hostname", f"{name}\n")
+        err = self.run_tool("directory", "--from", "all", "out", "--each", status=1)[1]
+        self.assertEqual(
+            err,
+            "directory: all/web1 and all/web2 are both of the host WEB1.example.org\n"
+            "directory: all/x and all/z are both of the host y\n"
+            "directory: all/x and all/z are both of the host y\n"
+            "directory: 3 of 6 hosts are refused\n",
+        )
+        self.assertEqual(sorted(os.listdir(self.path("out"))), ["a", "web1", "web3"])
+
+    def test_no_host_stops_another(self) -> None:
+        self.host("all/web1")
+        self.host("all/web9", passwd=PASSWD.replace("5002", "6002"))
+        self.run_tool("directory", "--from", "all", "good", "--each")
+        many = "".join(f"u{number}:x:{number}:0:::\n" for number in range(100_001))
+        for name, spoiled, said in (
+            ("/passwd", "root:x:0:0::/root\n", "/passwd:1: not a line of such a file\n"),
+            ("/passwd", "root:x:0:0:::\n" + many, ": 100002 users, and an audit takes 100000\n"),
+            ("/group", "root:x:none:\n", "/group:1: not a line of such a file\n"),
+            ("/group", None, "/group: No such file or directory\n"),
+            ("/hostname", "\n", "/hostname:1: no name\n"),
+            ("/addr.json", "{", "/addr.json: not what ip -j addr writes: "),
+            ("/passwd", os.mkfifo, "/passwd: expected a plain file, found a FIFO\n"),
+            ("/hostname", self.link_to("/etc/hostname"), "/hostname: expected a plain file, found a link\n"),
+            ("", self.link_to("web1"), ": expected a folder, found a link\n"),
+            ("", os.mkfifo, ": expected a folder, found a FIFO\n"),
+        ):
+            self.host("all/web5")
+            self.spoil(f"all/web5{name}", spoiled)
+            _, err = self.run_tool("directory", "--from", "all", "out", "--each", status=1)
+            self.assertIn(f"directory: all/web5{said}", err)
+            self.assertTrue(err.endswith("\ndirectory: 1 of 3 hosts are refused\n"), err)
+            for names in (("web1", "users.csv"), ("web1", "hosts.csv"), ("web9", "users.csv"), ("web9", "hosts.csv")):
+                self.assertEqual(self.read("out", *names), self.read("good", *names))
+            self.assertFalse(os.path.exists(self.path("out", "web5", "users.csv")))
+            shutil.rmtree(self.path("out"))
+            self.spoil("all/web5", None)
+
+    def test_a_warning_names_its_host(self) -> None:
+        self.host("all/web1")
+        self.host("all/web2", passwd="ann:x:1:1:::\n")
+        self.assertEqual(
+            self.run_tool("directory", "--from", "all", "out", "--each")[1],
+            "directory: warning: out/web2/users.csv: there is no user root, and an audit wants one\n",
+        )
+
+    def spoil(self, name: str, spoiled: str | Callable[[str], None] | None) -> None:
+        """Puts something in the place of a file or folder, nothing if there is nothing to put."""
+        path = self.path(name)
+        if os.path.isdir(path) and not os.path.islink(path):
+            shutil.rmtree(path)
+        elif os.path.lexists(path):
+            os.unlink(path)
+        if callable(spoiled):
+            spoiled(path)
+        elif spoiled is not None:
+            self.write(name, spoiled)
 
     def test_copied_files_are_plain_files(self) -> None:
         secret = self.write("secret", "root:x:0:0:canary:/:\n")
         for name in ("passwd", "group", "hostname", "addr.json"):
-            for make, kind in ((os.mkfifo, "a FIFO"), (os.mkdir, "a folder"), (self.link_to(secret), "a link")):
+            makes: list[tuple[Callable[[str], None], str]] = [(os.mkfifo, "a FIFO"), (os.mkdir, "a folder")]
+            for make, kind in (*makes, (self.link_to(secret), "a link")):
                 self.host("all/web1")
                 self.write("all/web1/hostname", "web1\n")
                 os.unlink(self.path("all", "web1", name))

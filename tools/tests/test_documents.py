@@ -10,12 +10,13 @@ import re
 import subprocess
 import tempfile
 import unittest
+from collections.abc import Iterator
 
 from support import PROGRAM, needs_program
 
 REPOSITORY = os.path.dirname(os.path.dirname(os.path.dirname(os.path.realpath(__file__))))
 CRATES = os.path.join(REPOSITORY, "crates")
-DOCUMENTS = ["README.md"] + sorted(
+DOCUMENTS = ["README.md", "CONTRIBUTING.md"] + sorted(
     os.path.relpath(path, REPOSITORY) for path in glob.glob(os.path.join(REPOSITORY, "docs", "*.md"))
 )
 WIDEST = 160
@@ -27,13 +28,13 @@ NAMED_IN_FILE = re.compile(r"`([\w.-]+(?:/[\w.-]+)+)`: ((?:`[\w:]+`(?:, )?)+)")
 FUNCTION = r"^( *)(?:pub(?:\([a-z]+\))? )?fn {name}\b.*?^\1\{{"
 
 
-def text_of(path):
+def text_of(path: str) -> str:
     """Returns the text of a file of the repository."""
     with open(os.path.join(REPOSITORY, path), encoding="utf-8") as file:
         return file.read()
 
 
-def prose_of(document):
+def prose_of(document: str) -> list[str]:
     """Returns the lines of a document, with the lines of its blocks of code left empty."""
     lines, fenced = [], False
     for line in text_of(document).splitlines():
@@ -43,7 +44,7 @@ def prose_of(document):
     return lines
 
 
-def rows_of(document, columns):
+def rows_of(document: str, columns: list[str]) -> Iterator[tuple[str, list[str]]]:
     """Yields the heading above and the cells of each row of the tables that have these columns."""
     heading, inside = "", False
     for line in prose_of(document):
@@ -59,15 +60,15 @@ def rows_of(document, columns):
             yield heading, cells
 
 
-def sources_of(crate, folder, ending):
+def sources_of(crate: str, folder: str, ending: str) -> list[str]:
     """Returns the paths of the files of a folder of a crate."""
     return sorted(glob.glob(os.path.join(CRATES, crate, folder, "**", "*" + ending), recursive=True))
 
 
-def contracts_of(crate, name):
+def contracts_of(crate: str, name: str) -> list[str]:
     """Returns the contracts, before the bodies, of the functions of this name, `Type::name` or `name`."""
     kind, _, function = name.rpartition("::")
-    found = []
+    found: list[str] = []
     for path in sources_of(crate, "src", ".rt"):
         text = text_of(path)
         if kind and not re.search(rf"\b(?:impl|trait)\b[^{{]*\b{kind}\b", text):
@@ -77,13 +78,13 @@ def contracts_of(crate, name):
     return found
 
 
-def has_clause(contract, clause):
+def has_clause(contract: str, clause: str) -> bool:
     """Returns whether a contract ensures a clause of this name; the clause without a name is `unnamed`."""
     name = r"\s*" if clause == "unnamed" else rf"\s+{clause}\s*"
     return re.search(rf"\bensures{name}\{{", contract) is not None
 
 
-def declares(crate, file, word):
+def declares(crate: str, file: str, word: str) -> bool:
     """Returns whether a file of definitions of a crate declares a word."""
     pattern = rf"^(?:abbrev|unfoldable|record|data|opaque)[a-z ]* {word} :|^(?:pub )?record {word}\b"
     pattern += rf"|^[a-z ]*\b{word}\b[^=\n]* : "
@@ -91,20 +92,20 @@ def declares(crate, file, word):
     return any(re.search(pattern, text_of(path), re.MULTILINE) for path in paths)
 
 
-def stands_in(path, word):
+def stands_in(path: str, word: str) -> bool:
     """Returns whether a file of code or of definitions has an item of this name."""
     if path.endswith(".antt"):
         return declares(path.split(os.sep)[1], os.path.basename(path)[:-5], word)
     return re.search(rf"\b(?:fn|struct|enum|trait|const) {word}\b", text_of(path)) is not None
 
 
-def path_of(name):
+def path_of(name: str) -> str:
     """Returns the path of a file that a document names, from the repository or from its crates."""
     crate = name.split("/")[0]
     return os.path.join("crates", name) if os.path.isdir(os.path.join(CRATES, crate)) else name
 
 
-def anchors_of(document):
+def anchors_of(document: str) -> set[str]:
     """Returns the anchors of the headings of a document."""
     headings = [line.lstrip("#").strip() for line in prose_of(document) if line.startswith("#")]
     return {re.sub(r"[^\w -]", "", heading.lower()).replace(" ", "-") for heading in headings}
@@ -113,7 +114,7 @@ def anchors_of(document):
 class Contracts(unittest.TestCase):
     """The names in the tables of contracts."""
 
-    def holds(self, crate, functions, clauses, definitions):
+    def holds(self, crate: str, functions: str, clauses: str, definitions: str) -> None:
         """Fails where a function, a clause or a definition of a row is not there."""
         for name in CODE.findall(functions):
             first, _, rest = name.partition("::")
@@ -126,13 +127,13 @@ class Contracts(unittest.TestCase):
                 for word in CODE.findall(words):
                     self.assertTrue(declares(other or owner, file, word), f"{other or owner}: no {word} in {file}")
 
-    def test_the_readme(self):
+    def test_the_readme(self) -> None:
         rows = list(rows_of("README.md", ["Guarantee", "Function", "Clauses", "Definitions"]))
         self.assertEqual(len(rows), 5)
         for _, (_, functions, clauses, definitions) in rows:
             self.holds("", functions, clauses, definitions)
 
-    def test_the_proofs(self):
+    def test_the_proofs(self) -> None:
         rows = list(rows_of("docs/PROOFS.md", ["Claim", "Function", "Clauses", "Definitions"]))
         self.assertGreater(len(rows), 60)
         for crate, (claim, functions, clauses, definitions) in rows:
@@ -143,24 +144,24 @@ class Contracts(unittest.TestCase):
 class Files(unittest.TestCase):
     """The files and links that documents name."""
 
-    def test_named_files(self):
+    def test_named_files(self) -> None:
         for document in DOCUMENTS:
             for name in CODE.findall("\n".join(prose_of(document))):
                 top = name.split("/")[0]
                 if not FILE.match(name) or not re.search(r"\.(rt|antt|md|py|1|edit)$", name):
                     continue
-                if top in os.listdir(CRATES) + ["docs", "tools", "packaging", "bench", "crates"]:
+                if top in os.listdir(CRATES) + ["docs", "tools", "dev", "packaging", "bench", "crates"]:
                     with self.subTest(document=document, name=name):
                         self.assertTrue(glob.glob(os.path.join(REPOSITORY, path_of(name))))
 
-    def test_words_of_named_files(self):
+    def test_words_of_named_files(self) -> None:
         for document in DOCUMENTS:
             for name, words in NAMED_IN_FILE.findall("\n".join(prose_of(document))):
                 for word in CODE.findall(words):
                     with self.subTest(document=document, file=name, word=word):
                         self.assertTrue(stands_in(path_of(name), word), f"{name} has no {word}")
 
-    def test_links(self):
+    def test_links(self) -> None:
         for document in DOCUMENTS:
             for target in LINK.findall("\n".join(prose_of(document))):
                 if re.match(r"[a-z]+:", target):
@@ -172,15 +173,21 @@ class Files(unittest.TestCase):
                     if anchor:
                         self.assertIn(anchor, anchors_of(path))
 
-    def test_widths(self):
+    def test_no_document_unpacks_a_tar_by_itself(self) -> None:
+        pages = [f"docs/man/{name}" for name in os.listdir(os.path.join(REPOSITORY, "docs", "man"))]
+        for document in [*DOCUMENTS, *pages, "tools/collect", "tools/gather"]:
+            self.assertNotRegex(text_of(document), r"\btar -?x|\btar [^\n]* -x|--extract", document)
+
+    def test_widths(self) -> None:
         for document in DOCUMENTS:
             wide = [number for number, line in enumerate(prose_of(document), 1) if len(line) > WIDEST]
             self.assertEqual(wide, [], document)
 
 
-def examples_of(document):
+def examples_of(document: str) -> Iterator[tuple[str, str]]:
     """Yields each command that an indented block of a document shows behind `$`, with the lines that follow it."""
-    command, shown = None, []
+    command: str | None = None
+    shown: list[str] = []
     for line in text_of(document).splitlines() + ["end"]:
         inside = line.startswith("    ")
         if command and (not inside or line.startswith("    $ ")):
@@ -195,7 +202,7 @@ def examples_of(document):
 class Examples(unittest.TestCase):
     """The examples of the program in documents."""
 
-    def shows(self, document):
+    def shows(self, document: str) -> int:
         """Fails where the program prints something else than the document shows, on the files that the document shows."""
         ran = 0
         with tempfile.TemporaryDirectory() as folder:
@@ -213,11 +220,11 @@ class Examples(unittest.TestCase):
         return ran
 
     @needs_program
-    def test_the_readme(self):
+    def test_the_readme(self) -> None:
         self.assertEqual(self.shows("README.md"), 1)
 
     @needs_program
-    def test_the_definitions(self):
+    def test_the_definitions(self) -> None:
         self.assertEqual(self.shows("docs/DEFINITIONS.md"), 3)
 
 

@@ -1,5 +1,6 @@
 """Fleets in parts and joined, without workers."""
 
+import hashlib
 import json
 import os
 import shutil
@@ -7,7 +8,7 @@ import unittest
 from random import Random
 
 from fleet_case import HEADER, POLICY, FleetCase, requests
-from support import PROGRAM, needs_program
+from support import PROGRAM, TOOLS, needs_program
 
 from kulavemia.fleet_foreign import Foreigners
 from kulavemia.fleet_plan import Requests, cut
@@ -125,6 +126,19 @@ class Parts(FleetCase):
         self.fleet("--join")
         self.want_as_one_machine()
 
+    def test_a_host_for_which_there_is_no_memory_stops_no_other(self) -> None:
+        for name in ("web1", "web2", "web3"):
+            self.host(name, POLICY + ("# stub memory\n" if name == "web2" else ""))
+        err = self.fleet("--part", "1/1", status=4)[1]
+        self.assertEqual(err, "fleet: web2/1: sudo_audit: out of memory\nfleet: 3 shards of 3 hosts; 1 failed\n")
+        self.fleet("--join", status=1)
+        self.assertIn("web2,1,failed,0,sudo_audit: out of memory\n", self.read("out", "status.csv"))
+        self.want_as_one_machine(without=["web2"])
+        self.host("web2")
+        self.assertEqual(self.fleet("--part", "1/1")[1], "fleet: 1 shards of 3 hosts\n")
+        self.fleet("--join")
+        self.want_as_one_machine()
+
     def test_words(self) -> None:
         self.host("web1")
         self.assertIn("name one", self.fleet("--join", "--part", "1/1", status=2)[1])
@@ -172,7 +186,23 @@ class Parts(FleetCase):
             self.rows("out", "status.csv"),
             ["\ufeffhost,shard,status,rows,fault", "'-web1,1,done,3,", "'=cmd|x,1,done,3,"],
         )
+        head, *rows = self.rows("out", "report.csv")
+        self.assertEqual(head, "\ufeffsender,number,verdict,place,tags")
+        self.assertEqual([row[:8] for row in rows], ["'-web1/a"] * 3 + ["'=cmd|x/"] * 3)
+        self.fleet("--join")
         self.want_as_one_machine()
+
+    def test_a_file_of_a_policy_is_shown_in_the_report(self) -> None:
+        for host, name in (("web1", "sudo\x1b[31mers"), ("web2", "sudo⟨U+001B⟩[31mers"), ("web3", "a\ufeff\udcff")):
+            self.host(host)
+            self.write(f"fleet/{host}/tree/etc/{name}", POLICY)
+            self.write(f"fleet/{host}/policy", f"/etc/{name}\n")
+        self.fleet("--part", "1/1")
+        self.fleet("--join")
+        rows = self.rows("out", "report.csv")
+        self.assertEqual(rows[1], "web1/web1,1,allow,/etc/sudo⟨U+001B⟩[31mers:1,SETENV")
+        self.assertEqual(rows[4], "web2/web2,1,allow,/etc/sudo⟨U+27E8⟩U+001B⟩[31mers:1,SETENV")
+        self.assertEqual(rows[7], "web3/web3,1,allow,/etc/a⟨U+FEFF⟩⟨byte FF⟩:1,SETENV")
 
     def test_a_scheduler_of_another_machine_wants_tls(self) -> None:
         self.host("web1")
@@ -262,7 +292,7 @@ class ForeignRows(unittest.TestCase):
         """Returns a shard of random requests, and their rows."""
 
         def fields(number: int) -> tuple[str, ...]:
-            user, host, arguments = map(random.choice, (self.USERS, self.HOSTS, self.USERS))
+            user, host, arguments = (random.choice(names) for names in (self.USERS, self.HOSTS, self.USERS))
             return str(number), user, host, "", "", "/c", arguments
 
         rows = [fields(number) for number in range(1, 30)]
@@ -315,6 +345,40 @@ class Joins(FleetCase):
         self.assertIn("host01/1: a stranger, in out/shards/host01.1.shard", self.refusal())
         self.write("out/shards/notes.txt", "x\n")
         self.assertIn("out/shards/notes.txt: no whole result", self.refusal())
+
+    def test_a_host_with_fewer_shards_than_before_stops_no_other(self) -> None:
+        more = [f"fleet/host01/requests/{sender}.csv" for sender in ("a", "b")]
+        for name in more:
+            self.write(name, requests((1,), 1))
+        self.fleet("--part", "1/1", "--senders", "1")
+        self.fleet("--join", "--senders", "1")
+        self.assertEqual(len(self.rows("out", "status.csv")), 6)
+        for name in more:
+            os.unlink(self.path(name))
+        self.fleet("--part", "1/1", "--senders", "1")
+        self.fleet("--join", "--senders", "1")
+        self.assertEqual(len(self.rows("out", "status.csv")), 4)
+        self.want_as_one_machine()
+
+    def test_a_host_that_is_refused_later_stops_no_other(self) -> None:
+        os.truncate(self.path("fleet", "host01", "tree", "etc", "sudoers"), 100 << 30)
+        self.fleet("--part", "1/1")
+        self.assertIn("; 1 refused, 0 failed\n", self.fleet("--join", status=1)[0])
+        self.assertIn('host01,,refused,0,"fleet/host01/tree/etc/sudoers: more than', self.read("out", "status.csv"))
+        self.want_as_one_machine(without=["host01"])
+
+    def test_a_forged_result_is_joined_as_the_documents_say(self) -> None:
+        # The sums find damage: whoever can write a result is trusted.
+        with open(self.shard("host01"), "rb") as file:
+            head, data = json.loads(file.readline()), file.read()
+        data = data.replace(b",allow,", b",deny,")
+        head = {**head, "size": len(data), "sum": hashlib.sha256(data).hexdigest()}
+        self.write("out/shards/host01.1.shard", json.dumps(head).encode() + b"\n" + data)
+        self.fleet("--join")
+        said = [row.split(",")[2] for row in self.rows("out", "report.csv")[1:]]
+        self.assertEqual(said, ["allow"] * 3 + ["deny"] * 3 + ["allow"] * 3)
+        with open(os.path.join(os.path.dirname(TOOLS), "docs", "FLEET.md"), encoding="utf-8") as file:
+            self.assertIn("can forge each row and status", " ".join(file.read().split()))
 
     def test_other_inputs(self) -> None:
         self.write("fleet/host01/tree/etc/sudoers.d/10-more", "root ALL = ALL\n")

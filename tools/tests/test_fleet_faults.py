@@ -93,17 +93,17 @@ class Schedulers(FleetCase):
         """Starts a scheduler and four workers; the first has a disk that takes no large file."""
         place = ("--host", "127.0.0.1", "--port", "0", "--dashboard-address", "127.0.0.1:0")
         self.running = self.process("dask-scheduler", *place, "--scheduler-file", "at.json", *words)
-        self.wait_until(lambda: self.address_in("at.json") is not None)
+        self.wait_until(lambda: self.address_in("at.json") != "")
         self.address = self.address_in("at.json")
         for number in range(4):
             limit = "ulimit -f 8; " if full and number == 0 else ""
             words = f"--no-nanny --nthreads 1 --no-dashboard --local-directory w{number}"
             self.process("bash", "-c", f"{limit}exec dask-worker {self.address} {words}")
 
-    def address_in(self, name: str) -> str | None:
-        """Returns the scheduler's address, if the file is there and has it already."""
-        found = os.path.exists(self.path(name)) and re.search(r'"address": "([^"]*)"', self.read(name))
-        return found[1] if found else None
+    def address_in(self, name: str) -> str:
+        """Returns the scheduler's address, empty until the file is there and has it."""
+        found = re.search(r'"address": "([^"]*)"', self.read(name)) if os.path.exists(self.path(name)) else None
+        return found[1] if found else ""
 
     def test_a_disk_that_is_full(self) -> None:
         self.hosts(24)

@@ -5,10 +5,12 @@ import os
 import socket
 import time
 import unittest
+from typing import BinaryIO, cast
 
-from support import Case, Fault
+from support import Case
 
 from kulavemia import foreign
+from kulavemia.command import Fault
 
 
 class Foreign(Case):
@@ -98,7 +100,7 @@ class Foreign(Case):
         packed = gzip.compress(bytes(1 << 20))
         for cap, fits in ((1 << 20, True), ((1 << 20) - 1, False)):
             with foreign.opened(self.write("log.gz", packed), 1 << 20) as raw:
-                with foreign.capped(gzip.open(raw), "log.gz", cap) as file:
+                with foreign.capped(cast(BinaryIO, gzip.open(raw)), "log.gz", cap) as file:
                     if fits:
                         self.assertEqual(len(file.read()), 1 << 20)
                         continue

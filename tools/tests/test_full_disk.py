@@ -28,7 +28,7 @@ class FullDisk(FleetCase):
         super().setUp()
         os.mkdir(self.path("disk"))
 
-    def fail(self, *words: str, temporary: str = "", status: int = 4) -> str:
+    def failing(self, *words: str, temporary: str = "", status: int = 4) -> str:
         """Runs a command with a disk of 16 KiB, and returns what it says."""
         done = subprocess.run(
             ["unshare", "--mount", "sh", "-c", MOUNT, self.path("disk"), os.path.join(TOOLS, words[0]), *words[1:]],
@@ -55,20 +55,20 @@ class FullDisk(FleetCase):
         lines = "".join(f"user{number}:x:{number}:{number}::/:/bin/sh\n" for number in range(2000))
         self.write("web1/passwd", "root:x:0:0::/:/bin/sh\n" + lines)
         self.write("web1/group", "root:x:0:\n")
-        said = self.fail("directory", "--from", "web1", "disk/out")
+        said = self.failing("directory", "--from", "web1", "disk/out")
         self.want_named(said, "directory", ["disk/out/users.csv"])
 
     def test_requests(self) -> None:
         line = "Nov 20 10:01:02 web1 sudo[1]: jen : TTY=pts/0 ; PWD=/ ; USER=root ; COMMAND=/usr/bin/id {}\n"
         self.write("auth.log", "".join(line.format(number) for number in range(2000)))
-        said = self.fail("requests", "auth.log", "--out", "disk/out")
+        said = self.failing("requests", "auth.log", "--out", "disk/out")
         self.want_named(said, "requests", ["disk/out/requests/web1.csv", "disk/out/keys/web1.csv"])
         self.write("auth.log", "not of sudo\n" * 5000)
-        self.want_named(self.fail("requests", "auth.log", "--out", "disk/out"), "requests", ["disk/out/skipped.csv"])
+        self.want_named(self.failing("requests", "auth.log", "--out", "disk/out"), "requests", ["disk/out/skipped.csv"])
 
     def test_probe(self) -> None:
         self.write("users.csv", USERS + self.many_users(50))
-        said = self.fail("probe", "--users", "users.csv", "--hosts", f"{EXAMPLES}/hosts.csv", "--out", "disk/out")
+        said = self.failing("probe", "--users", "users.csv", "--hosts", f"{EXAMPLES}/hosts.csv", "--out", "disk/out")
         folders = ("requests", "keys")
         paths = [f"disk/out/{folder}/probe{mark}1.csv" for folder in folders for mark in "-_"]
         self.want_named(said, "probe", paths)
@@ -80,9 +80,9 @@ class FullDisk(FleetCase):
             rows = "".join(f"s,{number},{verdict},,\n" for number in numbers)
             self.write(f"{name}.csv", "sender,number,verdict,line,tags\n" + rows)
         words = ("compare", "--reports", "old.csv", "new.csv", "s=r.csv", "--out")
-        self.want_named(self.fail(*words, "disk/out.csv"), "compare", ["disk/out.csv"])
+        self.want_named(self.failing(*words, "disk/out.csv"), "compare", ["disk/out.csv"])
         place = self.path("disk")
-        self.want_named(self.fail(*words, "out.csv", temporary=place), "compare", [place])
+        self.want_named(self.failing(*words, "out.csv", temporary=place), "compare", [place])
         self.assertFalse(os.path.exists(self.path("out.csv")))
 
     @needs_program
@@ -91,32 +91,32 @@ class FullDisk(FleetCase):
         self.write("policy", "root ALL = ALL\n")
         place = self.path("disk")
         directory = ("--users", f"{EXAMPLES}/users.csv", "--hosts", f"{EXAMPLES}/hosts.csv")
-        said = self.fail("compare", "policy", "policy", *directory, "s=r.csv", temporary=place)
+        said = self.failing("compare", "policy", "policy", *directory, "s=r.csv", temporary=place)
         self.assertIn(f"compare: {place}", said)
 
     @needs_jinja
     def test_page(self) -> None:
         self.write("policy", "root ALL = ALL\n")
-        self.want_named(self.fail("page", "--policy", "policy", "--out", "disk/page.html"), "page", ["disk/page.html"])
+        self.want_named(self.failing("page", "--policy", "policy", "--out", "disk/page.html"), "page", ["disk/page.html"])
 
     @needs_program
     @needs_jinja
     def test_replay(self) -> None:
         self.write("policy", "root ALL = ALL\n")
-        said = self.fail("replay", "--policy", "policy", "--directory", EXAMPLES, "--out", "disk/out")
+        said = self.failing("replay", "--policy", "policy", "--directory", EXAMPLES, "--out", "disk/out")
         self.assertRegex(said, rf"replay: disk/out/probe/\S+: {FULL}")
 
     def test_fleet(self) -> None:
         self.host("web1")
         self.write("fleet/web1/requests/web1.csv", requests(range(1, 2001), 2000))
         words = ("fleet", "fleet", "--out", "disk/out", "--program", STUB)
-        self.want_named(self.fail(*words, "--part", "1/1"), "fleet", ["disk/out/shards"])
+        self.want_named(self.failing(*words, "--part", "1/1"), "fleet", ["disk/out/shards"])
 
     def test_gather(self) -> None:
         self.write("web1/logs/auth.log", "x" * 50_000)
         with tarfile.open(self.path("web1.tar"), "w") as file:
             file.add(self.path("web1"), "web1")
-        said = self.fail("gather", "--tar", "web1.tar", "--out", "disk/out")
+        said = self.failing("gather", "--tar", "web1.tar", "--out", "disk/out")
         self.assertRegex(said, rf"gather: disk/out/\.\w+\.part/logs/auth.log: {FULL}")
 
     def test_standard_output(self) -> None:

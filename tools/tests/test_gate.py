@@ -1,11 +1,11 @@
-"""Tests of `tools/gate`, with a stub in the place of `rt` and tests of its own in the place of the tools'."""
+"""Tests of `dev/gate`, with a stub in the place of `rt` and tests of its own in the place of the tools'."""
 
 import os
 import subprocess
 import time
 import unittest
 
-from support import TOOLS, Case
+from support import DEV, Case
 
 BUILT = "crates/sudo_audit/out/sudo_audit"
 SAMPLES = """import os
@@ -13,34 +13,34 @@ import unittest
 
 
 class Samples(unittest.TestCase):
-    def test_passes(self):
+    def test_passes(self) -> None:
         pass
 
-    def test_finds_the_program(self):
+    def test_finds_the_program(self) -> None:
         self.assertEqual(os.environ.get("SUDO_AUDIT"), os.path.abspath("crates/sudo_audit/out/sudo_audit"))
 
     @unittest.skip("no moon")
-    def test_is_skipped(self):
+    def test_is_skipped(self) -> None:
         pass
 """
 FAILING = """import unittest
 
 
 class Failing(unittest.TestCase):
-    def test_fails_twice(self):
+    def test_fails_twice(self) -> None:
         for part in range(2):
             with self.subTest(part):
                 self.fail()
 
-    def test_has_an_error(self):
+    def test_has_an_error(self) -> None:
         raise ValueError
 
     @unittest.expectedFailure
-    def test_fails_as_expected(self):
+    def test_fails_as_expected(self) -> None:
         self.fail()
 
     @unittest.expectedFailure
-    def test_passes_against_expectation(self):
+    def test_passes_against_expectation(self) -> None:
         pass
 """
 SLEEPING = """import os
@@ -49,7 +49,7 @@ import unittest
 
 
 class Sleeping(unittest.TestCase):
-    def test_sleeps(self):
+    def test_sleeps(self) -> None:
         open(os.environ["PID"], "w").close()
         time.sleep(60)
 """
@@ -75,9 +75,10 @@ class Gate(Case):
         """Starts the gate on the test's folder, with more variables of its environment."""
         environment = {name: value for name, value in os.environ.items() if name not in ("SUDO_AUDIT", "RT_JOBS")}
         environment |= {"PATH": f"{self.path('bin')}:/usr/bin:/bin", **more}
-        words = [os.path.join(TOOLS, "gate"), "--repository", self.folder]
-        streams = {"stdout": subprocess.PIPE, "stderr": subprocess.STDOUT}
-        return subprocess.Popen(words, env=environment, text=True, **streams)
+        words = [os.path.join(DEV, "gate"), "--repository", self.folder]
+        return subprocess.Popen(
+            words, env=environment, text=True, stdout=subprocess.PIPE, stderr=subprocess.STDOUT
+        )
 
     def gate(self, status: int, **more: str) -> list[str]:
         """Runs the gate, and returns the lines that it prints."""
@@ -153,6 +154,7 @@ class Gate(Case):
         self.rt("echo first; echo second; read -r line <$0.pipe; echo 1 passed, 0 failed\n")
         os.mkfifo(self.path("bin", "rt.pipe"))
         with self.start() as child:
+            assert child.stdout is not None
             self.assertEqual(child.stdout.readline(), "first\n")
             with open(self.path("bin", "rt.pipe"), "w", encoding="utf-8"):
                 pass
@@ -161,6 +163,7 @@ class Gate(Case):
     def test_to_stop_the_gate_stops_rt(self) -> None:
         self.rt(f"echo $$ >{self.path('pid')}; echo; echo; exec sleep 60\n")
         with self.start() as child:
+            assert child.stdout is not None
             child.stdout.readline()
             child.terminate()
             child.communicate()

@@ -14,8 +14,9 @@ import time
 import unittest
 from collections.abc import Callable
 
-from support import TOOLS, Case, Fault
+from support import TOOLS, Case
 
+from kulavemia.command import Fault
 from kulavemia.tar import Limits, Tar, Unpacking
 
 NAMES = frozenset(("tree", "policy", "passwd", "hostname", "logs"))
@@ -37,11 +38,17 @@ while True: sys.stdout.buffer.write(data)" ;;
   short) head -c 3000 {folder}/tars/web1.tar ;;
   misses) cat {folder}/tars/web1.tar; exit 3 ;;
   fails) cat {folder}/tars/web1.tar; echo 'sudo: a password is required' >&2; exit 1 ;;
+  lies) printf '=cmd|\\033[31m\\n' >&2; exit 1 ;;
   *) exec cat {folder}/tars/"$2".tar ;;
 esac
 """
 
 Put = Callable[..., None]
+
+
+def having(name: str, data: bytes = b"", **fields: object) -> Callable[[Put], None]:
+    """Returns what puts a further member into a tar."""
+    return lambda put: put(name, data, **fields)
 
 
 class GatherCase(Case):
@@ -156,6 +163,13 @@ class Gather(GatherCase):
         self.assertIn("gather: gone: ssh: connect to host gone: Connection refused\n", err)
         self.assertEqual(sorted(os.listdir(self.path("out"))), ["status.csv", "web1"])
 
+    def test_what_a_host_says_is_harmless(self) -> None:
+        err = self.gather("lies", status=1)[1]
+        self.assertIn("gather: lies: =cmd|⟨U+001B⟩[31m\n", err)
+        self.assertEqual(self.statuses(), {"lies": ("failed", "=cmd|⟨U+001B⟩[31m")})
+        self.gather("lies", "--spreadsheet", status=1)
+        self.assertRegex(self.rows("out", "status.csv")[1], r"^lies,failed,'=cmd\|⟨U\+001B⟩\[31m,0,0,")
+
     def test_a_run_that_was_cut_off_continues(self) -> None:
         self.gather("web1", "gone", status=1)
         self.tar("gone", lambda put: None)
@@ -211,7 +225,7 @@ class HostileTars(GatherCase):
 
     def test_names_that_lead_elsewhere(self) -> None:
         for name in ("web1/../../victim", "/victim", "../victim", "web1/tree/../../../victim", "web1//x", "./web1/x"):
-            fault = self.fault_of("evil", lambda put, name=name: put(name, b"x"))
+            fault = self.fault_of("evil", having(name, b"x"))
             self.assertIn("not the plain form of a path below a folder", fault)
         self.assertFalse(os.path.exists(self.path("victim")))
 
@@ -233,31 +247,30 @@ class HostileTars(GatherCase):
             (b"Z", "a member of an unknown kind"),
         ):
             for name in ("web1/hostname", "web1/tree/etc/sudoers.d"):
-                made = {"type": kind, "linkname": self.path("victim")}
-                fault = self.fault_of("evil", lambda put, name=name, made=made: put(name, **made))
+                fault = self.fault_of("evil", having(name, type=kind, linkname=self.path("victim")))
                 self.assertEqual(fault, f"{name}: {shown}; plain files and folders alone are unpacked")
         self.assertEqual(self.read("victim"), "victim")
 
     def test_two_members_of_one_name(self) -> None:
-        for name, fields in (("web1/passwd", {}), ("web1/tree", {"type": tarfile.DIRTYPE}), ("web1/tree", {})):
-            fault = self.fault_of("evil", lambda put, name=name, fields=fields: put(name, **fields))
+        for name, kind in (("web1/passwd", tarfile.REGTYPE), ("web1/tree", tarfile.DIRTYPE), ("web1/tree", tarfile.REGTYPE)):
+            fault = self.fault_of("evil", having(name, type=kind))
             self.assertEqual(fault, f"{name}: two members have this name")
 
     def test_a_member_below_a_file_or_without_a_folder(self) -> None:
         for name in ("web1/tree/gone/x", "web1/passwd/x"):
-            fault = self.fault_of("evil", lambda put, name=name: put(name))
+            fault = self.fault_of("evil", having(name))
             self.assertEqual(fault, f"{name}: no folder for it comes before it")
 
     def test_what_is_not_gathered_of_a_host(self) -> None:
         for name in ("web1/users.csv", "web1/requests", "web1/.lock", "web1/tools"):
-            fault = self.fault_of("evil", lambda put, name=name: put(name))
+            fault = self.fault_of("evil", having(name))
             self.assertEqual(fault, f"{name}: not what is gathered of a host")
 
     def test_names_with_characters_that_have_no_shape(self) -> None:
         for character in [chr(code) for code in range(1, 32)] + ["\x7f", "\x85", "\u202e", "\udcff"]:
             name = f"web1/logs/a{character}b"
             for form in (tarfile.GNU_FORMAT, tarfile.PAX_FORMAT):
-                path = self.tar("evil", lambda put, name=name: put(name), form)
+                path = self.tar("evil", having(name), form)
                 with open(path, "rb") as file, self.assertRaisesRegex(Fault, "a name that is not printable"):
                     self.unpack(file.read)
         self.assertIn("web1/logs/a⟨U+001B⟩b", self.fault_of("evil", lambda put: put("web1/logs/a\x1bb")))
@@ -266,7 +279,7 @@ class HostileTars(GatherCase):
 
     def test_names_that_are_too_long(self) -> None:
         for name in ("web1/logs/" + "x" * 256, "web1/logs/" + "x/" * 600):
-            self.assertIn("a name that is too long", self.fault_of("evil", lambda put, name=name: put(name)))
+            self.assertIn("a name that is too long", self.fault_of("evil", having(name)))
         fault = self.fault_of("evil", lambda put: put("web1/" + "x" * (1 << 17)))
         self.assertIn("a header of 131078 bytes, and at most 65536 are read", fault)
 
@@ -274,6 +287,27 @@ class HostileTars(GatherCase):
         self.tar("evil", lambda put: put("web1/tree/etc/sh", b"x", mode=0o6777))
         self.gather("evil")
         self.assertEqual(stat.S_IMODE(os.stat(self.path("out", "evil", "tree", "etc", "sh")).st_mode), 0o600)
+
+    def test_no_command_of_the_folder_comes_from_a_tar(self) -> None:
+        repository = self.path("repository")
+        leave = shutil.ignore_patterns("tests", "__pycache__")
+        shutil.copytree(TOOLS, os.path.join(repository, "tools"), ignore=leave)
+        shutil.copy(os.path.join(os.path.dirname(TOOLS), "VERSION"), repository)
+        before = self.read("repository", "tools", "replay")
+        script = f"#!/bin/sh\n: >{shlex.quote(self.path('ran'))}\n".encode()
+        tars = [
+            self.tar("beside", lambda put: put("tools/replay", script, mode=0o755)),
+            self.tar("below", lambda put: put("web1/tools/replay", script, mode=0o755)),
+            self.tar("climbs", lambda put: put("web1/../tools/replay", script, mode=0o755)),
+            self.tar("named", lambda put: put("tools/replay", script, mode=0o755), top="tools"),
+        ]
+        for tar in tars:
+            for words in (["gather", "--out", ".", "--tar", tar], ["replay", "--version"]):
+                command = [os.path.join("tools", words[0]), *words[1:]]
+                subprocess.run(command, cwd=repository, capture_output=True, check=False)
+            self.assertEqual(self.read("repository", "tools", "replay"), before, tar)
+        self.assertEqual(sorted(os.listdir(repository)), ["VERSION", "status.csv", "tools"])
+        self.assertFalse(os.path.exists(self.path("ran")))
 
     def test_bombs(self) -> None:
         self.tar("bomb", lambda put: None)

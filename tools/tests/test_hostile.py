@@ -10,6 +10,7 @@ BENCH = os.path.join(os.path.dirname(TOOLS), "bench")
 sys.path.insert(0, BENCH)
 
 import hostile_inputs  # noqa: E402
+from kulavemia import limits  # noqa: E402
 
 needs_time = unittest.skipUnless(os.access("/usr/bin/time", os.X_OK), "GNU time is not installed")
 HOSTILE = os.path.join("..", "bench", "hostile")
@@ -81,7 +82,7 @@ class Inputs(Case):
     def test_none_is_over_the_limit_of_a_policy(self) -> None:
         for name in ("plain-check", "one-rule", "one-word", "one-alias", "parentheses", "hundred"):
             hostile_inputs.INPUTS[name](self.folder, hostile_inputs.Part(1))
-            self.assertLessEqual(os.path.getsize(self.path("policy")), hostile_inputs.MOST_BYTES, name)
+            self.assertLessEqual(os.path.getsize(self.path("policy")), limits.POLICY_BYTES, name)
 
 
 if __name__ == "__main__":

@@ -15,21 +15,21 @@ REPOSITORY = os.path.dirname(os.path.dirname(TESTS))
 STUB = os.path.join(TESTS, "lint_stub")
 
 
-def text_of(*names):
+def text_of(*names: str) -> str:
     """Returns the text of a file of the repository."""
     with open(os.path.join(REPOSITORY, *names), encoding="utf-8") as file:
         return file.read()
 
 
-def all_below(folder):
+def all_below(folder: str) -> list[str]:
     """Returns the paths of all that stands below a folder."""
     return sorted(os.path.relpath(os.path.join(place, name), folder)
                   for place, folders, files in os.walk(folder) for name in folders + files)
 
 
-def run(*words, **options):
+def run(*words: str, env: dict[str, str] | None = None) -> str:
     """Runs a command that has to succeed, and returns what it prints."""
-    ended = subprocess.run(words, capture_output=True, text=True, **options)
+    ended = subprocess.run(words, capture_output=True, text=True, env=env, check=False)
     if ended.returncode != 0:
         raise AssertionError(f"{words} ended with status {ended.returncode}: {ended.stderr}")
     return ended.stdout
@@ -38,31 +38,31 @@ def run(*words, **options):
 class Installed(unittest.TestCase):
     """An installation below a folder that stands for the root."""
 
-    def setUp(self):
+    def setUp(self) -> None:
         self.root = self.enterContext(tempfile.TemporaryDirectory())
 
-    def at(self, path):
+    def at(self, path: str) -> str:
         """Returns where a path of the installed system stands."""
         return os.path.join(self.root, path.lstrip("/"))
 
-    def do(self, action, prefix="/usr/local"):
+    def do(self, action: str, prefix: str = "/usr/local") -> str:
         """Installs or uninstalls below the folder."""
         return run(os.path.join(REPOSITORY, "packaging", "install"), action, "--prefix", prefix,
                    "--destdir", self.root, "--program", STUB)
 
-    def write(self, path, text=""):
+    def write(self, path: str, text: str = "") -> None:
         """Writes a file below the folder."""
         os.makedirs(os.path.dirname(self.at(path)), exist_ok=True)
         with open(self.at(path), "w", encoding="utf-8") as file:
             file.write(text)
 
-    def test_uninstall_leaves_nothing(self):
+    def test_uninstall_leaves_nothing(self) -> None:
         self.do("install")
         self.assertTrue(os.access(self.at("/usr/local/bin/sudo_audit"), os.X_OK))
         self.do("uninstall")
         self.assertEqual(all_below(self.root), [])
 
-    def test_uninstall_leaves_what_was_there(self):
+    def test_uninstall_leaves_what_was_there(self) -> None:
         self.write("/usr/local/bin/other")
         self.write("/usr/local/lib/kulavemia/notes")
         os.makedirs(self.at("/usr/local/share/man/man1"))
@@ -71,7 +71,7 @@ class Installed(unittest.TestCase):
         self.do("uninstall")
         self.assertEqual(all_below(self.root), before)
 
-    def test_a_second_install_takes_the_place_of_the_first(self):
+    def test_a_second_install_takes_the_place_of_the_first(self) -> None:
         self.do("install")
         first = all_below(self.root)
         self.write("/usr/local/lib/kulavemia/tools/old")
@@ -82,7 +82,7 @@ class Installed(unittest.TestCase):
         self.do("uninstall")
         self.assertEqual(all_below(self.root), [])
 
-    def test_a_program_that_is_not_there_changes_nothing(self):
+    def test_a_program_that_is_not_there_changes_nothing(self) -> None:
         self.do("install")
         first = all_below(self.root)
         done = subprocess.run([os.path.join(REPOSITORY, "packaging", "install"), "install", "--destdir", self.root,
@@ -90,7 +90,7 @@ class Installed(unittest.TestCase):
         self.assertEqual((done.returncode, done.stderr), (1, "/gone: No such file or directory\n"))
         self.assertEqual(all_below(self.root), first)
 
-    def test_what_a_broken_off_install_left_is_no_hindrance(self):
+    def test_what_a_broken_off_install_left_is_no_hindrance(self) -> None:
         self.do("install")
         first = all_below(self.root)
         os.symlink("gone", self.at("/usr/local/bin/kulavemia-lint.new"))
@@ -98,25 +98,25 @@ class Installed(unittest.TestCase):
         self.do("install")
         self.assertEqual(all_below(self.root), first)
 
-    def test_compiled_modules_are_removed(self):
+    def test_compiled_modules_are_removed(self) -> None:
         self.do("install")
         self.write("/usr/local/lib/kulavemia/tools/kulavemia/__pycache__/x.pyc")
         self.do("uninstall")
         self.assertEqual(all_below(self.root), [])
 
     @unittest.skipUnless(shutil.which("make"), "make is not installed")
-    def test_make(self):
+    def test_make(self) -> None:
         words = ["make", "-s", "-C", REPOSITORY, f"DESTDIR={self.root}", "PREFIX=/opt/a b", f"PROGRAM={STUB}"]
         run(*words, "install")
         self.assertEqual(run(self.at("/opt/a b/bin/kulavemia-lint"), "--version"), f"kulavemia-lint {text_of('VERSION')}")
         run(*words, "uninstall")
         self.assertEqual(all_below(self.root), [])
 
-    def test_uninstall_of_nothing_says_so(self):
+    def test_uninstall_of_nothing_says_so(self) -> None:
         with self.assertRaisesRegex(AssertionError, "nothing is installed"):
             self.do("uninstall")
 
-    def test_installed_lint_finds_the_installed_program(self):
+    def test_installed_lint_finds_the_installed_program(self) -> None:
         self.do("install", "/opt/k")
         answers = self.enterContext(tempfile.TemporaryDirectory())
         for kind, text in (("output", "ok\n"), ("complaint", ""), ("status", "0")):
@@ -127,7 +127,7 @@ class Installed(unittest.TestCase):
         self.assertEqual(run(lint, "a", env=environment), "a: ok\n")
         self.assertEqual(run(lint, "--version", env=environment), f"kulavemia-lint {text_of('VERSION')}")
 
-    def test_installed_help_names_the_installed_commands(self):
+    def test_installed_help_names_the_installed_commands(self) -> None:
         self.do("install")
         for name in sorted(os.listdir(self.at("/usr/local/bin"))):
             if name.startswith("kulavemia-"):
@@ -138,7 +138,7 @@ class Installed(unittest.TestCase):
                 with gzip.open(self.at(f"/usr/local/share/man/man1/{name}.1.gz"), "rt") as page:
                     self.assertNotIn("tools/", page.read())
 
-    def test_each_installed_command_tells_the_version(self):
+    def test_each_installed_command_tells_the_version(self) -> None:
         self.do("install")
         names = [name for name in sorted(os.listdir(self.at("/usr/local/bin"))) if name.startswith("kulavemia-")]
         self.assertGreater(len(names), 5)
@@ -148,7 +148,7 @@ class Installed(unittest.TestCase):
                 self.assertEqual(run(self.at(f"/usr/local/bin/{name}"), "--version"), f"{name} {version}")
                 self.assertEqual(run(os.path.join(REPOSITORY, "tools", tool), "--version"), f"{tool} {version}")
 
-    def test_installed_documents_name_the_installed_commands(self):
+    def test_installed_documents_name_the_installed_commands(self) -> None:
         self.do("install")
         folder = self.at("/usr/local/share/doc/kulavemia")
         tools = "|".join(name.removeprefix("kulavemia-") for name in os.listdir(self.at("/usr/local/bin")))
@@ -162,7 +162,14 @@ class Installed(unittest.TestCase):
                 self.assertEqual(re.findall(rf"[< `]tools/(?:{tools})[ `\n.,;]", text), [])
                 self.assertLessEqual(set(re.findall(r"\(TOOLS\.md#([^)]*)\)", text)), anchors)
 
-    def test_each_command_has_a_page_and_completions(self):
+    def test_all_commands_of_users_are_installed_and_no_others(self) -> None:
+        tools = os.path.join(REPOSITORY, "tools")
+        there = {name for name in os.listdir(tools) if os.path.isfile(os.path.join(tools, name))}
+        self.do("install")
+        self.assertEqual({f"kulavemia-{name}" for name in there}, set(os.listdir(self.at("/usr/local/bin"))) - {"sudo_audit"})
+        self.assertEqual(set(os.listdir(self.at("/usr/local/lib/kulavemia/tools"))) - {"kulavemia"}, there)
+
+    def test_each_command_has_a_page_and_completions(self) -> None:
         self.do("install")
         commands = [name for name in os.listdir(self.at("/usr/local/bin"))]
         self.assertIn("kulavemia-lint", commands)
@@ -177,18 +184,18 @@ class Installed(unittest.TestCase):
 class Versions(unittest.TestCase):
     """The version stands in the file VERSION, and the lists of changes and the program have it."""
 
-    def test_lists_of_changes_begin_with_the_version(self):
+    def test_lists_of_changes_begin_with_the_version(self) -> None:
         version = text_of("VERSION").strip()
         # (what is not released yet may stand above)
-        self.assertEqual(re.search(r"^## \[([0-9][^]]*)\]", text_of("CHANGELOG.md"), re.MULTILINE)[1], version)
+        self.assertEqual(re.findall(r"^## \[([0-9][^]]*)\]", text_of("CHANGELOG.md"), re.MULTILINE)[:1], [version])
         self.assertTrue(text_of("packaging", "debian", "changelog").startswith(f"kulavemia ({version}) "))
 
-    def test_source_of_the_program_has_the_version(self):
+    def test_source_of_the_program_has_the_version(self) -> None:
         source = text_of("crates", "audit_commands", "src", "command_line.rt")
         self.assertEqual(re.findall(r"\.version\((.*)\)", source), [f'"{text_of("VERSION").strip()}"'])
 
     @needs_program
-    def test_program_tells_the_version(self):
+    def test_program_tells_the_version(self) -> None:
         self.assertEqual(run(PROGRAM, "--version"), f"sudo_audit {text_of('VERSION')}")
 
 
@@ -196,14 +203,14 @@ class Versions(unittest.TestCase):
 class Package(unittest.TestCase):
     """The package of Debian."""
 
-    def build(self):
+    def build(self) -> str:
         """Builds the package, and returns its path."""
         folder = self.enterContext(tempfile.TemporaryDirectory())
         run(os.path.join(REPOSITORY, "packaging", "deb"), STUB, folder)
         name, = os.listdir(folder)
         return os.path.join(folder, name)
 
-    def test_package(self):
+    def test_package(self) -> None:
         package = self.build()
         fields = run("dpkg-deb", "--field", package)
         self.assertIn("Package: kulavemia\n", fields)
@@ -217,7 +224,7 @@ class Package(unittest.TestCase):
         self.assertNotIn("lib/kulavemia/installed", listing)
         self.assertTrue(all(line.split()[1] == "root/root" for line in listing.splitlines()))
 
-    def test_the_same_tree_gives_the_same_package(self):
+    def test_the_same_tree_gives_the_same_package(self) -> None:
         first, second = self.build(), self.build()
         with open(first, "rb") as one, open(second, "rb") as other:
             self.assertEqual(one.read(), other.read())

@@ -10,10 +10,12 @@ import string
 import unittest
 import unittest.mock
 import zlib
+from collections.abc import Callable
+from typing import Any
 
 from support import DATA, Case
-from kulavemia.logs import FORGED, Found, Log, Options
-from kulavemia.messages import Event
+from kulavemia.logs import Found, Log, Options
+from kulavemia.messages import FORGED, Event, Skipped
 
 WORD = "x" * 1500
 SHORT_WORDS = " ".join(first + second for first in string.ascii_lowercase for second in string.ascii_lowercase)
@@ -22,13 +24,14 @@ COMMAND = "TTY=pts/0 ; PWD=/ ; USER=root ; COMMAND="
 
 
 class Logs(Case):
-    def found(self, path: str, **options: object) -> list[Found]:
-        return list(Log(path, Options(**{"year": 2026, **options})))
+    def found(self, path: str, **options: Any) -> list[Found]:
+        options.setdefault("year", 2026)
+        return list(Log(path, Options(**options)))
 
-    def events(self, path: str, **options: object) -> list[Event]:
+    def events(self, path: str, **options: Any) -> list[Event]:
         return [found.event for found in self.found(path, **options) if isinstance(found.event, Event)]
 
-    def commands(self, path: str, **options: object) -> list[str]:
+    def commands(self, path: str, **options: Any) -> list[str]:
         return [f"{event.request.command} {event.request.arguments}".strip() for event in self.events(path, **options)]
 
     def test_lines_of_syslog(self) -> None:
@@ -38,7 +41,7 @@ class Logs(Case):
         self.assertEqual(times[2], "2026-11-20T10:01:02")
         self.assertEqual(times[5], "2026-11-20T10:03:00.123456+01:00")
         self.assertEqual(times[6], "2026-11-20T10:03:30Z")
-        said = {entry.line: entry.event for entry in found if isinstance(entry.event, str)}
+        said = {entry.line: entry.event.reason for entry in found if isinstance(entry.event, Skipped)}
         self.assertEqual(said[1], "not of sudo")
         self.assertTrue(said[3].startswith("no request: pam_unix"))
         self.assertEqual(said[18], "continues a command that does not stand before it")
@@ -81,7 +84,7 @@ class Logs(Case):
         self.assertEqual(events[1].request.arguments, "\udcff")
         self.assertEqual(events[2].request.arguments, "-u \ufffd")
         self.assertEqual(found[0].time, "2025-11-20T10:01:02Z")
-        said = [entry.event for entry in found if isinstance(entry.event, str)]
+        said = [entry.event.reason for entry in found if isinstance(entry.event, Skipped)]
         self.assertEqual(said, ["not of sudo", "no message", "no JSON", "JSON that does not end"])
 
     def test_entries_of_the_journal_that_another_program_wrote_are_forged(self) -> None:
@@ -92,7 +95,7 @@ class Logs(Case):
             ["/usr/bin/id", "/bin/echo", "/usr/bin/true"],
         )
         self.assertEqual(
-            [entry.event for entry in found if entry.kind == FORGED],
+            [entry.event.reason for entry in found if isinstance(entry.event, Skipped) and entry.event.kind == FORGED],
             [
                 "forged: the journal names no program",
                 "forged: written by /usr/bin/logger",
@@ -100,18 +103,19 @@ class Logs(Case):
                 "forged: the journal names no program",
                 "forged: output of sudo, not its log",
                 "forged: written by /usr/bin/python3.11",
-                "forged: written by /tmp/sudo",
+                "forged: written by /opt/sudo/bin/sudo",
             ],
         )
 
     def test_the_path_of_sudo_in_the_journal_can_be_named(self) -> None:
         path = os.path.join(DATA, "journal-forged.json")
-        self.assertEqual(self.commands(path, sudo_paths=["/tmp/sudo"]), ["/bin/forged-by-name"])
+        self.assertEqual(self.commands(path, sudo_paths=["/opt/sudo/bin/sudo"]), ["/bin/forged-by-name"])
         self.assertEqual(len(self.commands(path, sudo_paths=["/usr/bin/sudo", "/usr/bin/logger"])), 4)
 
     def test_the_name_of_a_process_proves_nothing(self) -> None:
-        entry = {"_COMM": "sudo", "_HOSTNAME": "web1", "_EXE": "/tmp/sudo", "_UID": "0"}
-        for identifier in ({}, {"SYSLOG_IDENTIFIER": "sudo"}, {"SYSLOG_IDENTIFIER": ["sudo", "sudo"]}):
+        entry = {"_COMM": "sudo", "_HOSTNAME": "web1", "_EXE": "/opt/sudo/bin/sudo", "_UID": "0"}
+        identifiers: list[dict[str, Any]] = [{}, {"SYSLOG_IDENTIFIER": "sudo"}, {"SYSLOG_IDENTIFIER": ["sudo", "sudo"]}]
+        for identifier in identifiers:
             for message in (f"alice : {COMMAND}/bin/id", "alice : (command continued) x", "@cee:{}", None):
                 path = self.write("journal", json.dumps({**entry, **identifier, "MESSAGE": message}) + "\n")
                 self.assertEqual(self.events(path), [])
@@ -119,8 +123,9 @@ class Logs(Case):
     def test_events_over_several_lines(self) -> None:
         found = self.found(os.path.join(DATA, "server.json"))
         self.assertEqual([entry.line for entry in found], [1, 3, 8, 11])
-        self.assertEqual(found[1].event.request.arguments, "restart my } unit")
-        self.assertEqual([entry.event for entry in found[2:]], ["an event of the kind exit", "no command: no command"])
+        self.assertEqual(self.events(os.path.join(DATA, "server.json"))[1].request.arguments, "restart my } unit")
+        skipped = [Skipped("an event of the kind exit"), Skipped("no command: no command")]
+        self.assertEqual([entry.event for entry in found[2:]], skipped)
 
     def test_the_year_is_the_last_that_fits(self) -> None:
         path = self.write(
@@ -138,7 +143,8 @@ class Logs(Case):
 
     def test_damaged_archives_are_named(self) -> None:
         text = "".join(f"{ALICE}{COMMAND}/bin/a {number}\n" for number in range(2000)).encode()
-        for pack in (gzip.compress, bz2.compress, lzma.compress):
+        packs: list[Callable[[bytes], bytes]] = [gzip.compress, bz2.compress, lzma.compress]
+        for pack in packs:
             data = bytearray(pack(text))
             data[len(data) // 2 : len(data) // 2 + 20] = bytes(20)
             path = self.write("damaged", bytes(data))
@@ -183,7 +189,7 @@ class Logs(Case):
 
     def test_a_line_that_is_too_long(self) -> None:
         path = self.write("log", "x" * (1 << 23) + f"\n{ALICE}{COMMAND}/bin/a\n")
-        self.assertEqual([entry.event for entry in self.found(path)][0], "the line is too long")
+        self.assertEqual([entry.event for entry in self.found(path)][0], Skipped("the line is too long"))
         self.assertEqual(self.commands(path), ["/bin/a"])
 
     def test_a_damaged_line_takes_no_other_with_it(self) -> None:
@@ -218,7 +224,7 @@ class Logs(Case):
         ):
             found = self.found(self.write("log", text + "\n"))
             self.assertTrue(found, text[:20])
-            self.assertTrue(all(isinstance(entry.event, str) for entry in found), text[:20])
+            self.assertTrue(all(isinstance(entry.event, Skipped) for entry in found), text[:20])
 
 
 if __name__ == "__main__":

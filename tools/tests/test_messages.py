@@ -9,6 +9,7 @@ from kulavemia.messages import (
     FAILED,
     REFUSED,
     Event,
+    Skipped,
     arguments_of,
     event_of,
     outcome_of,
@@ -68,9 +69,9 @@ class Messages(unittest.TestCase):
     def test_no_command(self) -> None:
         self.assertEqual(
             event_of("alice", "web1", "problem with defaults entries ; TTY=pts/0 ; PWD=/ ;"),
-            "no command: problem with defaults entries",
+            Skipped("no command: problem with defaults entries"),
         )
-        self.assertEqual(event_of("alice", "web1", "  "), "an empty message")
+        self.assertEqual(event_of("alice", "web1", "  "), Skipped("an empty message"))
 
     def test_arguments_as_sudo_writes_them(self) -> None:
         written = r"%s 'a b' it\'s c\\d 'x  y' tab#011here esc#033[31m 'q\'u o' 'b\\ s'  end"

@@ -20,7 +20,7 @@ OWN = "the tools' own files"
 HERE = "the one place of such opens"
 WORKER = "a folder of the worker's own, on machines that do not have the tools"
 ALLOWED = {
-    ("command.py", "run"): "the null device",
+    ("command.py", "_prepare_streams"): "the null device",
     ("command.py", "_drop_output"): "the null device",
     ("command.py", "version"): OWN,
     ("fleet_handed.py", "write_below"): WORKER,
@@ -58,7 +58,7 @@ def sources() -> Iterator[tuple[str, str]]:
     with open(os.path.join(os.path.dirname(TOOLS), "packaging", "commands.txt"), encoding="utf-8") as file:
         commands = [line.split(":")[0] for line in file if not line.startswith("#")]
     package = os.path.join(TOOLS, "kulavemia")
-    modules = [name for name in os.listdir(package) if name.endswith(".py") and not name.startswith(("soak", "lint_"))]
+    modules = [name for name in os.listdir(package) if name.endswith(".py")]
     for path in [os.path.join(package, name) for name in modules] + [os.path.join(TOOLS, name) for name in commands]:
         with open(path, encoding="utf-8") as file:
             text = file.read()

@@ -10,9 +10,10 @@ import sys
 import time
 import unittest
 
-from support import TOOLS, Case, Fault
+from support import TOOLS, Case
 
 from kulavemia import outputs
+from kulavemia.command import Fault
 
 needs_root = unittest.skipUnless(os.geteuid() == 0, "root alone can make files of other users")
 OTHER = 65534
@@ -183,6 +184,7 @@ class Locks(Case):
         code = f"import sys, time; sys.path.insert(0, {TOOLS!r})\nfrom kulavemia import outputs\n"
         code += "with outputs.locked('out'): print('locked', flush=True); time.sleep(60)"
         with subprocess.Popen([sys.executable, "-c", code], cwd=self.folder, stdout=subprocess.PIPE) as running:
+            assert running.stdout is not None
             self.assertEqual(running.stdout.readline(), b"locked\n")
             with self.assertRaisesRegex(Fault, f"the process {running.pid} works"), outputs.locked(self.path("out")):
                 pass

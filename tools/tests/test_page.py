@@ -188,6 +188,7 @@ class Made(Case):
         page.uses = Uses()
         page.uses.take_all([asked("accepted", "allow", place=f"{POLICY}:52")])
         text = rendered(page)
+        assert page.rules is not None
         self.assertEqual(
             [rule.place for rule in page.unused()],
             [rule.place for rule in page.rules.all() if rule.place != f"{POLICY}:52"],
@@ -206,7 +207,8 @@ class Made(Case):
         self.has(rendered(page), "2 further requests, each unlike those above, are left out.")
 
     def test_changes(self) -> None:
-        header = "change,sender,number,user,host,runas_user,runas_group,command,arguments,old_verdict,new_verdict,old_tags,new_tags,old_place,new_place\n"
+        header = "change,sender,number,user,host,runas_user,runas_group,command,arguments,old_verdict,new_verdict"
+        header += ",old_tags,new_tags,old_place,new_place\n"
         rows = "".join(f"gained,s,{at},jen,h{at},root,,/bin/x,,nomatch,allow,,,,p:1\n" for at in range(5))
         path = self.write("c.csv", header + rows)
         self.has(rendered(Page(Inputs("t", changes=path))), "5 hosts")

@@ -4,7 +4,7 @@ import unittest
 from unittest import mock
 
 from support import EXAMPLES, Case, needs_program
-from kulavemia import requests
+from kulavemia import limits
 from kulavemia.probe import PROGRAMS, Program, programs_of, write
 
 USERS, HOSTS = f"{EXAMPLES}/users.csv", f"{EXAMPLES}/hosts.csv"
@@ -39,7 +39,7 @@ class Probe(Case):
         self.assertIn("requests of 32 users on 7 hosts", out)
 
     def test_many_requests_are_split(self) -> None:
-        with mock.patch.object(requests, "REQUESTS_LIMIT", 4), mock.patch("kulavemia.probe.REQUESTS_LIMIT", 4):
+        with mock.patch.object(limits, "REQUESTS", 4):
             write(self.folder, ["a", "b", "c"], ["h", "i"], [Program("shell", "/bin/sh", "")])
         self.assertEqual(
             self.rows("requests", "probe_2.csv")[1:], ["1,c,h,root,,/bin/sh,", "2,c,i,root,,/bin/sh,", "close,2,,,,,"]

@@ -4,6 +4,7 @@ Of its tables "Refused here" and "Read here" each policy is checked; of "Another
 """
 
 import csv
+import io
 import re
 import subprocess
 import unittest
@@ -49,6 +50,7 @@ DEFAULT_TARGET = "Defaults runas_default=postgres\nalice ALL = /bin/ls"
 ALIAS_OF_USERS = "Runas_Alias R = operator\nalice ALL = (R:adm) /bin/id"
 ALIAS_OF_GROUPS = "Runas_Alias G = adm\nalice ALL = (operator:G) /bin/id"
 ALIAS_OF_MEMBERS = "Runas_Alias G = %operator\nalice ALL = (bob:G) /bin/id"
+REGULAR_ARGUMENTS = "alice ALL = /bin/ls ^a, /bin/cat b$"
 LOCALE = "Defaults sudoers_locale=C.UTF-8\nalice ALL = /bin/echo ?"
 GRANTS = [
     Grant("alice ALL = /bin/ls\\\n-l", "alice", "", "", "/bin/ls-l", "", "allow", "nomatch"),
@@ -64,6 +66,8 @@ GRANTS = [
     Grant("alice ALL = /bin/ls a\\\\b", "alice", "", "", "/bin/ls", "ab", "nomatch", "allow"),
     Grant("alice ALL = /usr/bin/passwd [^-]*", "alice", "", "", "/usr/bin/passwd", "-l", "allow", "nomatch"),
     Grant("alice ALL = /usr/bin/passwd [^-]*", "alice", "", "", "/usr/bin/passwd", "bob", "nomatch", "allow"),
+    Grant(REGULAR_ARGUMENTS, "alice", "", "", "/bin/cat", "b$", "allow", "nomatch"),
+    Grant(REGULAR_ARGUMENTS, "alice", "", "", "/bin/ls", "a, /bin/cat b", "nomatch", "allow"),
     Grant("alice ALL = /bin/ls [[\\:word\\:]]", "alice", "", "", "/bin/ls", "w]", "allow", "nomatch"),
     Grant('alice "web?" = ALL', "alice", "", "", "/bin/sh", "", "nomatch", "allow"),
     Grant("Alice ALL = ALL", "alice", "", "", "/bin/sh", "", "nomatch", "allow"),
@@ -104,6 +108,7 @@ GRANTS = [
     Grant("alice ALL = /bin/ls [\\\\]", "alice", "", "", "/bin/ls", "[]", "nomatch", "allow"),
     Grant("alice ALL = /bin/ls [[=a=]]", "alice", "", "", "/bin/ls", "a]", "allow", "nomatch"),
     Grant("alice ALL = /bin/ls [[=a=]]", "alice", "", "", "/bin/ls", "a", "nomatch", "allow"),
+    Grant("alice ALL = /bin/ls [[.]", "alice", "", "", "/bin/ls", ".", "allow", "nomatch"),
     Grant("alice ALL = /usr/bin/[l/]s", "alice", "", "", "/usr/bin/ls", "", "allow", "nomatch"),
     Grant("alice ALL = ALL, !/usr/bin/*", "alice", "", "", "/usr/bin/.x", "", "deny", "allow"),
     Grant("alice ALL = /opt/*", "alice", "", "", "/opt/x", "", "allow", "nomatch"),
@@ -124,7 +129,7 @@ GRANTS = [
 ]
 
 
-def policy_of(cell):
+def policy_of(cell: str) -> str | None:
     """Returns the policy that the first cell of a row shows, or `None` if it shows none."""
     lines = CODE.findall(cell)
     if not cell.startswith("lines `") and len(lines) != 1 or not re.match(r"(lines )?`[\w@#!\"%^]", cell):
@@ -132,32 +137,34 @@ def policy_of(cell):
     return "\n".join(lines) + "\n"
 
 
-def rows_below(heading):
+def rows_below(heading: str) -> list[tuple[str, str]]:
     """Returns the first two cells of the rows of a table of the profile."""
-    return [cells[:2] for above, cells in rows_of("docs/PROFILE.md", ["Policy", "Here", "sudo"]) if above == heading]
+    return [(cells[0], cells[1]) for above, cells in rows_of("docs/PROFILE.md", ["Policy", "Here", "sudo"]) if above == heading]
 
 
 @needs_program
 class Profile(Case):
     """The column "Here" of the profile."""
 
-    def check(self, policy):
+    def check(self, policy: str) -> tuple[int, str]:
         """Returns the status of a check of a policy, and what is printed."""
         path = self.write("policy", policy)
         done = subprocess.run([PROGRAM, "check", path], capture_output=True, text=True, check=False)
         return done.returncode, done.stdout + done.stderr
 
-    def verdict(self, grant):
+    def verdict(self, grant: Grant) -> str:
         """Returns the verdict on the request of a grant."""
         request = ["1", grant.user, grant.host, grant.runas_user, grant.runas_group, grant.command, grant.arguments]
-        requests = self.write("requests.csv", "\n".join([HEADER, ",".join(request), "close,1,,,,,", ""]))
+        fields = io.StringIO()
+        csv.writer(fields, lineterminator="\n").writerow(request)
+        requests = self.write("requests.csv", f"{HEADER}\n{fields.getvalue()}close,1,,,,,\n")
         words = ["--users", self.write("users.csv", USERS), "--hosts", self.write("hosts.csv", HOSTS), f"s={requests}"]
         policy = self.write("policy", grant.policy + "\n")
         done = subprocess.run([PROGRAM, "audit", policy, *words], capture_output=True, text=True, check=False)
         self.assertEqual(done.returncode, 0, done.stderr)
         return list(csv.reader(done.stdout.splitlines()))[1][2]
 
-    def test_what_is_refused_here(self):
+    def test_what_is_refused_here(self) -> None:
         tried = 0
         for cell, here in rows_below("Refused here, read by sudo"):
             policy, fault = policy_of(cell), FAULT.match(here)
@@ -169,7 +176,7 @@ class Profile(Case):
                     self.assertIn(fault.group(1), printed)
         self.assertGreater(tried, 10)
 
-    def test_what_is_read_here(self):
+    def test_what_is_read_here(self) -> None:
         tried = 0
         for cell, _ in rows_below("Read here, refused by sudo"):
             policy = policy_of(cell)
@@ -180,7 +187,7 @@ class Profile(Case):
         self.assertGreater(tried, 10)
         self.assertEqual(self.check("alice ALL = /bin/ls\r\n"), (0, "ok\n"))
 
-    def test_other_grants(self):
+    def test_other_grants(self) -> None:
         shown = "\n".join(prose_of("docs/PROFILE.md"))
         for grant in GRANTS:
             with self.subTest(grant=grant):

@@ -15,12 +15,9 @@ class Find(Case):
         super().setUp()
         words = [self.path("bin", "kulavemia-lint")]
         environment = {"PATH": self.path("path")}
-        for patch in (
-            mock.patch("sys.argv", words),
-            mock.patch.dict(os.environ, environment, clear=True),
-            mock.patch.object(program, "BUILT", self.path("built", "sudo_audit")),
-        ):
-            self.enterContext(patch)
+        self.enterContext(mock.patch("sys.argv", words))
+        self.enterContext(mock.patch.dict(os.environ, environment, clear=True))
+        self.enterContext(mock.patch.object(program, "BUILT", self.path("built", "sudo_audit")))
 
     def program(self, name: str, mode: int = 0o755) -> str:
         """Writes a program, and returns its path."""

@@ -1,4 +1,4 @@
-"""Runs of the program in which each allocation is refused in turn, and of `tools/refusals`."""
+"""Runs of the program in which each allocation is refused in turn, and of `dev/refusals`."""
 
 import importlib.machinery
 import importlib.util
@@ -7,11 +7,11 @@ import shutil
 import subprocess
 import unittest
 
-from support import PROGRAM, TOOLS, Case, needs_program
+from support import DEV, PROGRAM, Case, needs_program
 
 needs_compiler = unittest.skipUnless(shutil.which("cc"), "there is no C compiler")
 
-_loader = importlib.machinery.SourceFileLoader("refusals", os.path.join(TOOLS, "refusals"))
+_loader = importlib.machinery.SourceFileLoader("refusals", os.path.join(DEV, "refusals"))
 _spec = importlib.util.spec_from_loader("refusals", _loader)
 assert _spec is not None
 refusals = importlib.util.module_from_spec(_spec)
@@ -106,22 +106,22 @@ class Refusals(Case):
     def test_a_run_that_ends_otherwise(self) -> None:
         code = "int main(void) { void *volatile a = malloc(1), *volatile b = malloc(1);"
         code += ' if (!a) { fputs("sudo_audit: out of memory\\n", stderr); return 4; } return b ? 0 : 1; }'
-        out = self.run_tool("refusals", "--program", self.program(code), "--", "check", "p", status=1)[0]
+        out = self.run_dev("refusals", "--program", self.program(code), "--", "check", "p", status=1)[0]
         self.assertEqual(out.splitlines()[0], "2: status 1: ")
         self.assertEqual(out.splitlines()[-1], "| 0 | 1 | 0 | 1 | 3 |")
 
     def test_from_a_number_on(self) -> None:
         code = "int main(void) { for (int at = 0; at < 5; at++) { void *volatile block = malloc(1); free(block); } return 0; }"
         program = self.program(code)
-        out = self.run_tool("refusals", "--program", program, "--", "check", "p")[0]
+        out = self.run_dev("refusals", "--program", program, "--", "check", "p")[0]
         self.assertEqual(out.splitlines()[-1], "| 5 | 0 | 0 | 0 | 6 |")
-        out = self.run_tool("refusals", "--first", "4", "--program", program, "--", "check", "p")[0]
+        out = self.run_dev("refusals", "--first", "4", "--program", program, "--", "check", "p")[0]
         self.assertEqual(out.splitlines()[-1], "| 2 | 0 | 0 | 0 | 6 |")
 
     def test_words(self) -> None:
-        self.run_tool("refusals", status=2)
-        self.run_tool("refusals", "--first", "0", "--", "check", "p", status=2)
-        err = self.run_tool("refusals", "--program", self.path("none"), "--", "check", "p", status=5)[1]
+        self.run_dev("refusals", status=2)
+        self.run_dev("refusals", "--first", "0", "--", "check", "p", status=2)
+        err = self.run_dev("refusals", "--program", self.path("none"), "--", "check", "p", status=5)[1]
         self.assertIn("none: no program", err)
 
 

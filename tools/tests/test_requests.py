@@ -7,7 +7,7 @@ import unittest
 from unittest import mock
 
 from support import DATA, EXAMPLES, Case, needs_program
-from kulavemia import requests
+from kulavemia import limits
 from kulavemia.command import Fault
 from kulavemia.requests import LOG_KEY, Request, Source, Writer, batches, sources_of
 
@@ -231,7 +231,7 @@ class Command(Case):
 
 class Folders(Case):
     def test_long_lists_go_on_in_further_files(self) -> None:
-        with mock.patch.object(requests, "REQUESTS_LIMIT", 2):
+        with mock.patch.object(limits, "REQUESTS", 2):
             writer = Writer(self.folder, LOG_KEY)
             for at in range(5):
                 writer.add("a", Request("u", "h", "", "", "/c", str(at)), ("log", str(at), "", "", "", ""))
@@ -242,7 +242,7 @@ class Folders(Case):
         self.assertNotIn("close", self.read("requests", "a.csv") + self.read("requests", "a.2.csv"))
 
     def test_files_stay_below_the_limit_of_bytes(self) -> None:
-        with mock.patch.object(requests, "BYTES_LIMIT", 400):
+        with mock.patch.object(limits, "CSV_BYTES", 400):
             writer = Writer(self.folder, LOG_KEY)
             for at in range(20):
                 writer.add("a", Request("u", "h", "", "", "/c", "é" * 20), ("", "", "", "", "", ""))

@@ -5,10 +5,11 @@ of each line. A table has cases. A case has files, beside those of the whole tab
 
 - `runs`: words of the command line, and what is shown.
 - `texts`: texts of the file `of`, and what is shown. `faults`: the same, with the fault of the policy `p` alone.
-- `cuts`: the first and the last number of characters that are left of the file `of`, and what is shown; all numbers stand there.
+- `cuts`: the first and the last number of characters that are left of the file `of`, and what is shown; all numbers stand
+  there.
 - `asks`: the rows of the requests file `of`, without their numbers, and the report on each.
-- `verdicts`: a policy, which goes on after the text `before`, with `;` for the end of a line, then ` | ` and the row of a request,
-  and the report on it.
+- `verdicts`: a policy, which goes on after the text `before`, with `;` for the end of a line, then ` | ` and the row of a
+  request, and the report on it.
 - `sources`: requests files, each as `SENDER: NUMBER=WORD .. close=COUNT`, with `|` between them, and what is shown.
 - `shows`: what the only run shows.
 """
@@ -131,25 +132,25 @@ class Tables(Shown):
                     with self.subTest(words=run.words, files=run.files):
                         self.assertEqual(self.shown(*shlex.split(run.words)), run.shows.replace("\n", ";"))
 
-    def test_checks(self) -> None:
+    def test_table_check(self) -> None:
         self.check_table("check")
 
-    def test_expansions(self) -> None:
+    def test_table_expand(self) -> None:
         self.check_table("expand")
 
-    def test_audits(self) -> None:
+    def test_table_audit(self) -> None:
         self.check_table("audit")
 
-    def test_verdicts(self) -> None:
+    def test_table_verdict(self) -> None:
         self.check_table("verdict")
 
-    def test_cut_files(self) -> None:
+    def test_table_cut(self) -> None:
         self.check_table("cut")
 
-    def test_words(self) -> None:
+    def test_table_words(self) -> None:
         self.check_table("words")
 
-    def test_worked(self) -> None:
+    def test_table_worked(self) -> None:
         self.check_table("worked")
 
     def test_all_tables_are_read(self) -> None:
@@ -157,7 +158,8 @@ class Tables(Shown):
         self.assertEqual(names, {"check", "expand", "audit", "verdict", "worked", "cut", "words"})
 
     def test_words_that_are_not_read(self) -> None:
-        self.assertTrue(self.shown("check", b"\xff").startswith("2 ! error: invalid UTF-8 was detected in one or more arguments;"))
+        shown = self.shown("check", b"\xff")
+        self.assertTrue(shown.startswith("2 ! error: invalid UTF-8 was detected in one or more arguments;"), shown)
 
 
 @needs_program
@@ -218,7 +220,8 @@ class Limits(Shown):
         self.assertEqual(self.checked(hanging), "1 p:1: error: cycle Cmnd_Alias A0;")
 
     def test_groups_and_rules(self) -> None:
-        many = "alice,1000,alice:1000\nmany,1001,many:1001 " + " ".join(f"g{number}:{number + 2000}" for number in range(100)) + "\n"
+        groups = " ".join(f"g{number}:{number + 2000}" for number in range(100))
+        many = f"alice,1000,alice:1000\nmany,1001,many:1001 {groups}\n"
         policy = "".join(f"%g{number % 100} ALL = /bin/c{number}\n" for number in range(1300))
         asks = {f"many,web1,,,/bin/c{number},": f"allow,p:{number + 1}," for number in (0, 700, 1299)}
         self.judged(policy, {**asks, "many,web1,,,/bin/c,": "nomatch,,", "alice,web1,,,/bin/c0,": "nomatch,,"}, many)

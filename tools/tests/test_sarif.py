@@ -3,10 +3,11 @@
 import copy
 import json
 import unittest
+from typing import Any
 
 from support import Case
-from kulavemia.lint_answers import FAILED, RULES, Finding, Report, report_of
-from kulavemia.lint_formats import Context, as_sarif
+from kulavemia.lint.answers import FAILED, RULES, Finding, Report, report_of
+from kulavemia.lint.formats import Context, as_sarif
 from lint_cases import CASES
 from sarif_form import faults_of
 
@@ -25,7 +26,7 @@ PATHS = (
 
 
 class Sarif(Case):
-    def log(self, *reports: Report, status: int = 1) -> dict:
+    def log(self, *reports: Report, status: int = 1) -> Any:
         """Returns the log of reports."""
         return json.loads(as_sarif(list(reports), Context("0.1.0", status, self.folder)))
 

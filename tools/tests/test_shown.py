@@ -2,14 +2,22 @@
 
 import csv
 import glob
+import io
+import itertools
 import json
 import os
+import re
 import shutil
 import unittest
+from collections.abc import Sequence
+from unittest import mock
 
 from support import EXAMPLES, REQUESTS_HEADER, Case, needs_jinja, needs_program
+from kulavemia import program
+from kulavemia.answers import verdicts
 from kulavemia.requests import sources_of
 from kulavemia.shown import Form, shown_records
+from kulavemia.text import exact, visible
 
 LOG = """Nov 20 10:01:02 web1 sudo[1]: jen : PWD=/ ; USER=root ; COMMAND=/bin/echo #033[31mred#012next#007 \udcff
 Nov 20 10:02:02 web1 sudo[2]: bob : TTY=pts/0 ; PWD=/ ; USER=root ; COMMAND=list -U #033[31mbob
@@ -35,10 +43,66 @@ class Forms(Case):
         self.assertEqual(Form().row(fields[:4]), ",".join(fields[:4]) + "\n")
 
     def test_what_is_written_is_read_back(self) -> None:
+        texts = ["=1", "'x", "'", "''-", "\t=1", "a\x1bb", "a⟨U+001B⟩b", "'⟨byte FF⟩", "\udcff", "x\r\ny", "⟨", "⟨⟩", '"']
         for form in (Form(), Form(True)):
-            path = self.write("x.csv", form.head(("a", "b")) + form.row(("=1", "'x")) + form.row(("'", "''-")))
+            path = self.write("x.csv", form.head(("a", "b")) + "".join(form.row((text, text[:1])) for text in texts))
             rows = [fields for _, fields in shown_records(path, ("a", "b"))]
-            self.assertEqual(rows, [["=1", "'x"], ["'", "''-"]])
+            self.assertEqual(rows, [[text, text[:1]] for text in texts])
+
+    def test_no_two_texts_are_shown_alike(self) -> None:
+        characters = [chr(code) for code in range(0x110000) if not 0xD800 <= code < 0xDC80 and not 0xDD00 <= code < 0xE000]
+        for start in range(0, len(characters), 1000):
+            text = "".join(characters[start : start + 1000])
+            self.assertTrue(visible(text).isprintable())
+            self.assertEqual(exact(visible(text)), text)
+        parts = ("⟨", "⟩", "U+001B", "\x1b", "byte FF", "\udcff", "U+27E8", "")
+        texts = {"".join(some) for some in itertools.product(parts, repeat=4)}
+        self.assertEqual(len({visible(text) for text in texts}), len(texts))
+        self.assertTrue(all(exact(visible(text)) == text for text in texts))
+
+    def test_what_is_not_shown_so_stays_as_it_is(self) -> None:
+        for text in ("⟨U+0041⟩", "⟨U+1B⟩", "⟨U+0001B⟩", "⟨U+001b⟩", "⟨byte 41⟩", "⟨U+D800⟩", "⟨U+DC80⟩", "⟨U+FFFFFF⟩", "⟨U+001B"):
+            self.assertEqual(exact(text), text)
+
+
+class Reports(Case):
+    """Rows of the program's reports."""
+
+    ROWS = (
+        ("s", "1", "allow", "/etc/sudoers:2", "NOPASSWD"),
+        ("s", "2", "allow", "/etc/sudoers.d/a\x1b[31m\r\nb:1", ""),
+        ("s", "3", "allow", "/etc/sudoers.d/a⟨U+001B⟩[31m:1", ""),
+        ("s", "4", "allow", '/etc/sudoers.d/a",\udcff:1', ""),
+        ("s", "5", "nomatch", "", ""),
+    )
+
+    def copied(self, form: Form, root: str, found: Sequence[tuple[str, ...]]) -> str:
+        """Returns the copied rows of a report."""
+        out = io.BytesIO()
+        text = io.StringIO(newline="")
+        csv.writer(text, lineterminator="\n").writerows([REPORT.strip().split(","), *found])
+        rows = program.Rows(out, form, root)
+        rows.copy(io.BytesIO(text.getvalue().encode("utf-8", "surrogateescape")), "sudo_audit")
+        return out.getvalue().decode()
+
+    def test_a_name_of_a_file_is_shown_and_read_back(self) -> None:
+        for piece in (1, 40, 1 << 20):
+            for form, root in ((Form(), ""), (Form(True), ""), (Form(), "/etc")):
+                with mock.patch.object(program, "_PIECE", piece):
+                    text = self.copied(form, root, self.ROWS * 3)
+                self.assertEqual([line for line in text.split("\n") if not line.isprintable()], [])
+                head = form.head(("sender", "number", "verdict", "place", "tags"))
+                found = [(verdict.place, verdict.tags) for _, _, _, verdict in verdicts(self.write("r.csv", head + text))]
+                self.assertEqual(found, [(row[3].removeprefix(root), row[4]) for row in self.ROWS] * 3)
+
+    def test_a_report_of_the_program_is_read_as_it_is(self) -> None:
+        path = self.write("r.csv", REPORT + "s,1,allow,a⟨U+001B⟩:1,\ns,2,allow,a\x1b:1,\n")
+        self.assertEqual([verdict.place for *_, verdict in verdicts(path)], ["a⟨U+001B⟩:1", "a\x1b:1"])
+
+    def test_plain_rows_are_copied_as_they_stand(self) -> None:
+        plain = [row for row in self.ROWS if row[3].isascii() and row[3].isprintable()] * 1000
+        text = self.copied(Form(), "", plain)
+        self.assertEqual(text, "".join(",".join(row) + "\n" for row in plain))
 
 
 class Logs(Case):
@@ -144,6 +208,28 @@ class Replay(Case):
             self.replay(log, *words)
             pages.append(self.read("out", "page.html"))
         self.assertEqual(*pages)
+
+    def test_files_of_a_policy_whose_names_are_shown_alike(self) -> None:
+        shown, hidden = "10-⟨U+001B⟩[31m", "10-\x1b[31m"
+        for number, tree in enumerate(("tree", "old"), 1):
+            self.write(f"{tree}/etc/sudoers", "root ALL = ALL\n@includedir /etc/sudoers.d\n")
+            self.write(f"{tree}/etc/sudoers.d/{shown}", f"jen ALL = /bin/shown{number}\n")
+            self.write(f"{tree}/etc/sudoers.d/{hidden}", f"jen ALL = NOPASSWD: /bin/hidden{number}\n")
+        rows = [event("accept", submituser="jen", command=f"/bin/{name}1") for name in ("shown", "hidden")]
+        self.write("log", "".join(rows))
+        words = ("--directory", EXAMPLES, "--tree", "tree", "--old-tree", "old", "--out", "out", "--no-probe", "log")
+        for more in ((), ("--spreadsheet",)):
+            shutil.rmtree(self.path("out"), ignore_errors=True)
+            self.run_tool("replay", *words, *more, status=1)
+            report = self.read("out", "requests", "report.csv")
+            self.assertTrue(report.replace("\n", "").removeprefix("\ufeff").isprintable(), report)
+            places = [verdict.place for *_, verdict in verdicts(self.path("out", "requests", "report.csv"))]
+            self.assertEqual(places, [f"/etc/sudoers.d/{name}:1" for name in (shown, hidden)])
+            self.assertIn("10-⟨U+27E8⟩U+001B⟩[31m:1,", report)
+            page = self.read("out", "page.html")
+            for name, file in (("shown1", "⟨U+27E8⟩U+001B⟩[31m"), ("hidden1", "⟨U+001B⟩[31m")):
+                self.assertRegex(page, rf">/etc/sudoers\.d/10-{re.escape(file)}:1</a><br><code>jen ALL = [^<]*{name}<")
+            self.assertNotIn("\x1b", page)
 
     def test_a_policy_whose_name_begins_with_a_dash(self) -> None:
         shutil.copy(f"{EXAMPLES}/users.csv", self.path("-u.csv"))

@@ -1,12 +1,12 @@
-"""Runs of `tools/soak`, over a stub of the program and over the program."""
+"""Runs of `dev/soak`, over a stub of the program and over the program."""
 
 import os
 import unittest
 
 from support import PROGRAM, Case, needs_program
 
-from kulavemia import soak_case
-from kulavemia.soak import Ended, difference, fault_of
+from soaking import case as soak_case
+from soaking.runs import Ended, difference, fault_of
 
 SIX_MILLISECONDS = "0.0001"
 LAST = 'for last; do :; done\n[ "$1" = audit ] && echo "$last"\n'
@@ -20,7 +20,7 @@ class Soak(Case):
         """Runs a case over a stub with this body, and returns what is printed."""
         os.chmod(self.write("stub", f"#!/bin/sh\n{body}\n"), 0o755)
         given = (SIX_MILLISECONDS, "--program", self.path("stub"), "--seed", "7", *words)
-        out, err = self.run_tool("soak", *given, status=status)
+        out, err = self.run_dev("soak", *given, status=status)
         self.assertEqual(err, "")
         return out
 
@@ -66,15 +66,16 @@ class Soak(Case):
         self.assertIn("7 runs: 7 with status 0", out)
 
     def test_words(self) -> None:
-        for words in ([], ["0"], ["x"], ["-1"], ["1", "--seed", "x"], ["inf"]):
-            self.run_tool("soak", *words, status=2)
-        self.run_tool("soak", "1", "--program", self.path("none"), status=5)
+        wrong: list[list[str]] = [[], ["0"], ["x"], ["-1"], ["1", "--seed", "x"], ["inf"]]
+        for words in wrong:
+            self.run_dev("soak", *words, status=2)
+        self.run_dev("soak", "1", "--program", self.path("none"), status=5)
         self.write("stub", "")
-        self.assertIn("stub is there", self.run_tool("soak", "1", "--keep", "stub", status=2)[1])
+        self.assertIn("stub is there", self.run_dev("soak", "1", "--keep", "stub", status=2)[1])
 
     @needs_program
     def test_the_program(self) -> None:
-        out, _ = self.run_tool("soak", "0.05", "--seed", "1", "--program", PROGRAM)
+        out, _ = self.run_dev("soak", "0.05", "--seed", "1", "--program", PROGRAM)
         self.assertRegex(out, "[0-9]+ cases; [0-9]+ runs: [0-9]+ with status 0.*; [0-9]+ compared\n")
 
 

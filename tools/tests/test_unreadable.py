@@ -20,15 +20,23 @@ class Unreadable(Case):
     def setUp(self) -> None:
         super().setUp()
         os.chmod(self.folder, 0o755)
-        assert PROGRAM is not None
         self.program = shutil.copy(PROGRAM, self.path("program"))
         os.chmod(self.program, 0o755)
 
     def ran(self, *words: str, before: str = ":") -> tuple[int, str, str]:
         """Runs the program behind a command of the shell, and returns its status and what it printed."""
         shell = ["sh", "-c", f'{before}; exec "$0" "$@"', self.program, *words]
-        other = {"user": NOBODY, "group": NOBODY, "extra_groups": []} if os.getuid() == 0 else {}
-        done = subprocess.run(shell, capture_output=True, cwd=self.folder, check=False, timeout=SECONDS, **other)
+        other = NOBODY if os.getuid() == 0 else None
+        done = subprocess.run(
+            shell,
+            capture_output=True,
+            cwd=self.folder,
+            check=False,
+            timeout=SECONDS,
+            user=other,
+            group=other,
+            extra_groups=None if other is None else [],
+        )
         return done.returncode, os.fsdecode(done.stdout), os.fsdecode(done.stderr)
 
     def assert_cannot_read(self, path: str, *words: str) -> None:

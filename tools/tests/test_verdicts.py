@@ -49,7 +49,7 @@ class Verdicts(Case):
     def test_policies_drawn_at_random(self) -> None:
         self.write("users", listing.USERS)
         self.write("hosts", listing.HOSTS)
-        seen = Counter()
+        seen: Counter[str] = Counter()
         for seed in range(300):
             draw = listing.Draw(seed)
             requests = [draw.request() for _ in range(100)]

@@ -1,4 +1,4 @@
-"""Runs of `tools/wrong-bodies`, with a stub in the place of `rt`; and the wrong bodies themselves, as far as text shows."""
+"""Runs of `dev/wrong-bodies`, with a stub in the place of `rt`; and the wrong bodies themselves, as far as text shows."""
 
 import glob
 import os
@@ -16,7 +16,8 @@ FUNCTION = re.compile(
 )
 CALL = re.compile(r"\b(\w+)(?:::<[^>]*>)?\(")
 EXPORTED = re.compile(r"^pub use ([\w:]+)(?:::)?(\{[^}]*\})?;", re.MULTILINE)
-# Functions of which no wrong body can be written (docs/DECISIONS.md, "Tests"), two laws, and the program itself, which has no contract.
+# Functions of which no wrong body can be written (docs/DECISIONS.md, "Tests"), two laws, and the program itself, which has no
+# contract.
 WITHOUT = {
     ("sudo_base", "Seq::new"),
     ("sudo_policy", "Checked::policy"),
@@ -74,7 +75,7 @@ class WrongBodies(Case):
             self.write(f"crates/{path}", said)
         os.chmod(self.write("rt", RT.format(status=ends)), 0o755)
         given = ("--repository", self.folder, "--rt", self.path("rt"), *words)
-        return self.run_tool("wrong-bodies", *given, status=status)
+        return self.run_dev("wrong-bodies", *given, status=status)
 
     def test_all_are_refused(self) -> None:
         further = {
@@ -98,17 +99,28 @@ class WrongBodies(Case):
         further = {"one/must-fail-further/02.one.f.adds_one.edit": MISSED, "one/must-fail-further/03.one.f.x.edit": REFUSED}
         self.assertIn("\n1 refused, 1 not\n", self.trials(further, "one", status=1, ends=1)[0])
 
+    def test_one_that_is_named(self) -> None:
+        for folder in FOLDERS:
+            named = f"one/{folder}/04.one.f.is_named.edit"
+            path = self.path("crates", named)
+            with self.subTest(folder):
+                out = self.trials({named: REFUSED, "one/must-fail-further/02.one.f.x.edit": MISSED}, path, status=0)[0]
+                self.assertEqual(out, f"rt: must-fail one/04.one.f.is_named.edit: {REFUSED}1 refused, 0 not\n")
+            os.unlink(path)
+
     def test_rt_ends_early(self) -> None:
         further = {"one/must-fail-further/02.one.f.adds_one.edit": REFUSED}
         for ends in (1, 2):
             err = self.trials(further, "one", status=5, ends=ends)[1]
             self.assertEqual(err, f"wrong-bodies: {self.path('rt')} must-fail ended with status {ends}\n")
-        err = self.run_tool("wrong-bodies", "sudo_text", "--rt", self.path("none"), status=5)[1]
+        err = self.run_dev("wrong-bodies", "sudo_text", "--rt", self.path("none"), status=5)[1]
         self.assertIn("none: No such file or directory", err)
 
     def test_words(self) -> None:
-        err = self.run_tool("wrong-bodies", "sudo_audit", status=2)[1]
+        err = self.run_dev("wrong-bodies", "sudo_audit", status=2)[1]
         self.assertIn("there is no folder crates/sudo_audit/must-fail-further", err)
+        for path in ("gone.edit", self.write("crates/one/src/01.one.f.edit", "")):
+            self.assertIn(f"{path}: not a file crates/CRATE/must-fail/", self.run_dev("wrong-bodies", path, status=2)[1])
 
 
 def crates_with_contracts() -> list[str]:

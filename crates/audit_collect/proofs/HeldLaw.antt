@@ -1,5 +1,7 @@
 -- The arrivals determine what the state holds.
-use Rattle.std.proofs.Common.{◌≡◌, ◌⊎◌, ℕ, zero, suc, ◌+◌, ◌≤◌, Bool, true, false, cond, ◌&&◌, ◌==◌, List, ◌++◌, length, map, Option, None, Some, Ok, slice_get, is_some, count_by, IsPermutation, sym, ap, subst, ◌∙◌, refl, inl, inr, arith, if◌then◌else◌}
+use Rattle.std.proofs.Common.{◌≡◌, ◌⊎◌, ℕ, zero, suc, ◌+◌, ◌≤◌, Bool, true, false, cond, ◌&&◌, ◌==◌, List, ◌++◌}
+use Rattle.std.proofs.Common.{length, map, Option, None, Some, Ok, slice_get, is_some, count_by, IsPermutation, sym}
+use Rattle.std.proofs.Common.{ap, subst, ◌∙◌, refl, inl, inr, arith, if◌then◌else◌}
 use Rattle.std.proofs.lemmas.Bool.Decides.{nat_tests}
 use Rattle.std.proofs.lemmas.List.{length-map}
 use Rattle.std.proofs.lemmas.Option.{same_Some}
@@ -9,12 +11,13 @@ use Rattle.audit_collect.specs.declared.arrival.Arrival.{Arrival}
 use Rattle.audit_collect.specs.declared.arrival.Arrival.TheVariants.{Reply, Close}
 use Rattle.audit_collect.specs.Faults.{is_close, is_reply}
 use Rattle.audit_collect.specs.SenderState.{SenderState, after, empty_sender, start}
-use Rattle.audit_collect.proofs.Arrived.{arrivals_of, runs}
-use Rattle.audit_collect.proofs.Counts.{both_true, close_held, closes_once, replies_once, reply_held}
+use Rattle.audit_collect.proofs.Arrivals.{arrivals_of, runs}
+use Rattle.audit_collect.proofs.Counts.{close_held, closes_once, replies_once, reply_held}
 use Rattle.audit_collect.proofs.FaultLaw.{arrivals_of-start, close-in-part, part-in-all, reply_in_part, well_at}
 use Rattle.audit_collect.proofs.Members.{Among, Among-permutation, count_by-permutation, count_by_member, found_counted}
 use Rattle.audit_collect.proofs.Well.{AllWell, AllWell-start, named_at}
 use Rattle.std.proofs.lemmas.List.Sorted.{IsPermutation-sym}
+use Rattle.std.proofs.lemmas.Bool.{and_parts}
 
 pub tested : (a b : ℕ) → (a == b) ≡ true → a ≡ b
 tested a b e = grind (arith, nat_tests)
@@ -31,11 +34,13 @@ module _ (names : List (List ℕ)) (arrivals : List Arrival) (held : List Sender
   well = (runs (start names) arrivals held ran).well (AllWell-start 0 names)
 
   same : IsPermutation arrivals (arrivals_of 0 held)
-  same = subst (λ l. IsPermutation (l ++ arrivals) (arrivals_of 0 held)) (arrivals_of-start 0 names) (runs (start names) arrivals held ran).arrived
+  same = subst (λ l. IsPermutation (l ++ arrivals) (arrivals_of 0 held)) (arrivals_of-start 0 names)
+      (runs (start names) arrivals held ran).arrived
 
   -- a sender is held for each name
   pub one_each : length held ≡ length names
-  one_each = sym (length-map held (λ h. h.name)) ∙ ap length (runs (start names) arrivals held ran).names ∙ length-map (start names) (λ h. h.name) ∙ length-map names empty_sender
+  one_each = sym (length-map held (λ h. h.name)) ∙ ap length (runs (start names) arrivals held ran).names
+      ∙ length-map (start names) (λ h. h.name) ∙ length-map names empty_sender
 
   counted : (p : Arrival → Bool) → count_by p (arrivals_of 0 held) ≡ count_by p arrivals
   counted p = count_by-permutation p arrivals (arrivals_of 0 held) same
@@ -56,13 +61,14 @@ module _ (names : List (List ℕ)) (arrivals : List Arrival) (held : List Sender
     no_reply n none (Close t c) m e = absurd (cc)
     no_reply n none (Reply a) m e =
         let found = reply_held 0 held a well m in
-        let tests = both_true (a.sender == s) (a.request.number == n) e in
+        let tests = and_parts (a.sender == s) (a.request.number == n) e in
         let own = tested a.sender s tests.0 in
         let number = tested a.request.number n tests.1 in
         let at = found.at in
         let index : found.index ≡ s = omega (arith, at, own) in
         let sender = same_Some found.sender h (sym found.there ∙ ap (slice_get held) index ∙ there) in
-        let clash : Some a ≡ None = sym found.got ∙ ap (λ (k : SenderState). get k.answers a.request.number) sender ∙ ap (get h.answers) number ∙ none in
+        let clash : Some a ≡ None = sym found.got ∙ ap (λ (k : SenderState). get k.answers a.request.number) sender
+        ∙ ap (get h.answers) number ∙ none in
         cc
 
     -- the close mark of a sender that is closed has arrived
@@ -100,7 +106,8 @@ module _ (names : List (List ℕ)) (arrivals : List Arrival) (held : List Sender
         let member = part-in-all (Reply a) s 0 s held h (omega arith) there (reply_in_part s n a h got) in
         let own : (a.sender == s) ≡ true = ap (λ t. t == s) named.0 ∙ self_tested s in
         let number : (a.request.number == n) ≡ true = ap (λ t. t == n) named.1 ∙ self_tested n in
-        let some = count_by_member (is_reply s n) (Reply a) (arrivals_of 0 held) member (ap (λ b. b && (a.request.number == n)) own ∙ number) in
+        let some = count_by_member (is_reply s n) (Reply a) (arrivals_of 0 held) member
+        (ap (λ b. b && (a.request.number == n)) own ∙ number) in
         let once = replies_once 0 s n held well in
         let all = counted (is_reply s n) in
         omega (arith, some, once, all)

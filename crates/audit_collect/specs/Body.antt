@@ -1,3 +1,4 @@
 -- Definitions that only the proofs of bodies use: no contract of a public function cites them.
 pub mod Answers
 pub mod Sender
+pub mod Code

@@ -1,5 +1,6 @@
 -- The state of a collector, and how a message that is offered changes it.
-use Rattle.std.specs.Prelude.{◌≡◌, ℕ, zero, suc, Bool, false, List, [], ◌∷◌, Option, None, Some, Result, Ok, Err, nat_lt, if◌then◌else◌, slice_get, max, map, is_some, ◌==◌, ◌⊎◌}
+use Rattle.std.specs.Prelude.{◌≡◌, ℕ, zero, suc, Bool, false, List, [], ◌∷◌, Option, None, Some, Result, Ok, Err}
+use Rattle.std.specs.Prelude.{nat_lt, if◌then◌else◌, slice_get, max, map, is_some, ◌==◌, ◌⊎◌}
 use Rattle.std.specs.Ordering.{nat_cmp}
 use Rattle.std.specs.FinMap.{FinMap, empty, insert, contains_key, entries}
 use Rattle.std.specs.Option.{option_map_or}
@@ -95,4 +96,5 @@ IsReply (Close sender count) = ⊥
 -- the refusal with which an arrival is returned: the first that applies, or out of memory for a
 -- reply that is not refused
 abbrev pub IsReturned : List SenderState → Arrival → Refused → Type 0
-IsReturned held arrival refused = (refusal held arrival ≡ Some refused) ⊎ ((refusal held arrival ≡ None) × IsReply arrival × (refused ≡ Memory))
+IsReturned held arrival refused = (refusal held arrival ≡ Some refused)
+    ⊎ ((refusal held arrival ≡ None) × IsReply arrival × (refused ≡ Memory))

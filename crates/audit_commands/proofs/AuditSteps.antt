@@ -1,6 +1,11 @@
 -- The contract of `audit` from those of its parts.
-use Rattle.std.proofs.Common.{◌≡◌, ◌≤◌, ℕ, List, Option, Result, Ok, Err, refl, arith}
-use Rattle.std.specs.Prelude.{IfErr, IfOk}
+use Rattle.std.proofs.Common.{◌≡◌, ◌≤◌, ℕ, List, Option, Some, Result, Ok, Err, refl, sym, subst, arith}
+use Rattle.std.specs.Prelude.{IfErr, IfOk, IsSome}
+use Rattle.audit_collect.specs.declared.fault.CollectFault.TheVariants as collects
+use Rattle.audit_collect.specs.declared.fault.Refused.TheVariants as refusals
+use Rattle.audit_collect.specs.declared.fault.RosterFault.TheVariants as rosters
+use Rattle.audit_run.specs.declared.fault.AuditFault.TheVariants as audits
+use Rattle.audit_commands.specs.NamedFaults.{fault_named}
 use Rattle.audit_collect.specs.declared.report.Report.{Report}
 use Rattle.audit_run.specs.Names.{names_under}
 use Rattle.audit_run.specs.Passes.{PassView}
@@ -12,18 +17,69 @@ use Rattle.sudo_match.specs.KnownRows.{KnownRows}
 use Rattle.sudo_grammar.specs.declared.policy.Policy.{Policy}
 use Rattle.run_base.specs.declared.run_output.RunOutput.{RunOutput}
 use Rattle.run_base.specs.Loading.{IsChecked}
-use Rattle.audit_commands.specs.Auditing.{Answers, Given, IsAudited, IsDirectory, IsNotAudited, IsReported, IsUnreported}
+use Rattle.audit_commands.specs.Auditing.{Answers, Given, IsAudited, IsDirectory, IsNotAudited}
+use Rattle.audit_commands.specs.Body.Auditing.{IsFaultNamed, IsReported, IsUnreported}
 use Rattle.audit_commands.specs.declared.fault.ReportFault.{ReportFault}
 use Rattle.audit_commands.specs.declared.fault.ReportFault.TheVariants as reports
 
-no_report : (given : Given) (policy : Policy) (directory : KnownRows) (fault : ReportFault) → IsChecked given.held given.path policy → IsDirectory given.users given.hosts directory
+no_report : (given : Given) (policy : Policy) (directory : KnownRows) (fault : ReportFault)
+    → IsChecked given.held given.path policy → IsDirectory given.users given.hosts directory
     → IsUnreported policy directory given.sources given.readable_bytes given.workers fault → IsNotAudited given fault
-no_report given policy directory (reports.Audit names fault) is known h = (h.0, (policy, record { is_policy = is; directory = directory; is_directory = known; answers = h.1 }))
+no_report given policy directory (reports.Requests named) is known h =
+    (policy, h.0, record { is_policy = is; directory = directory; is_directory = known; answers = h.1 }, h.2)
 no_report given policy directory reports.Memory is known h = tt
 no_report given policy directory (reports.Policy fault) is known h = absurd h
 no_report given policy directory (reports.Directory fault) is known h = absurd h
 
-a_report : (given : Given) (policy : Policy) (directory : KnownRows) (text : List ℕ) (status : ℕ) → IsChecked given.held given.path policy → IsDirectory given.users given.hosts directory
+-- an audit returns no fault that names nothing, but for memory
+pub is_named : (policy : Policy) (directory : KnownRows) (sources : List (List ℕ)) (readable_bytes : List (Option Ahead))
+    (workers : ℕ) (before after : PassView) (fault : AuditFault) → (fault ≡ audits.Memory → ⊥)
+    → IsAuditResult (names_under policy directory) sources readable_bytes workers before after (Err fault)
+    → IsSome (fault_named sources fault)
+is_named policy directory sources readable_bytes workers before after (audits.Sender name part fault) other h = refl
+is_named policy directory sources readable_bytes workers before after
+    (audits.Collect (collects.Refused (refusals.Double s n))) other h = refl
+is_named policy directory sources readable_bytes workers before after
+    (audits.Collect (collects.Refused (refusals.ClosedTwice s))) other h = refl
+is_named policy directory sources readable_bytes workers before after
+    (audits.Collect (collects.Refused (refusals.PastClose s n))) other h = refl
+is_named policy directory sources readable_bytes workers before after
+    (audits.Collect (collects.Refused (refusals.Stranger s))) other h = absurd h.outcome.1
+is_named policy directory sources readable_bytes workers before after
+    (audits.Collect (collects.Refused (refusals.ZeroNumber s))) other h = absurd h.outcome.1
+is_named policy directory sources readable_bytes workers before after
+    (audits.Collect (collects.Refused refusals.Memory)) other h = absurd h.outcome.1
+is_named policy directory sources readable_bytes workers before after (audits.Collect (collects.Unfinished lack)) other h = refl
+is_named policy directory sources readable_bytes workers before after
+    (audits.Collect (collects.Roster rosters.TooManySenders)) other h = refl
+is_named policy directory sources readable_bytes workers before after
+    (audits.Collect (collects.Roster (rosters.SenderTwice n))) other h = absurd h
+is_named policy directory sources readable_bytes workers before after (audits.Collect (collects.Roster rosters.Memory)) other h = absurd h
+is_named policy directory sources readable_bytes workers before after audits.NoThread other h = refl
+is_named policy directory sources readable_bytes workers before after audits.TooManyParts other h = refl
+is_named policy directory sources readable_bytes workers before after audits.Memory other h = absurd (other refl)
+
+-- the same of names that are those of the sources
+pub named_if_other : (policy : Policy) (directory : KnownRows) (names sources : List (List ℕ))
+    (readable_bytes : List (Option Ahead)) (workers : ℕ) (fault : AuditFault) → names ≡ sources
+    → Answers policy directory sources readable_bytes workers (Err fault)
+    → (fault ≡ audits.Memory → ⊥) → IsSome (fault_named names fault)
+named_if_other policy directory names sources readable_bytes workers fault same h other =
+    subst (λ (ns : List (List ℕ)). IsSome (fault_named ns fault)) (sym same)
+    (is_named policy directory sources readable_bytes workers h.before h.after fault other h.audited)
+
+pub unreported_is : (policy : Policy) (directory : KnownRows) (names sources : List (List ℕ))
+    (readable_bytes : List (Option Ahead)) (workers : ℕ) (fault : AuditFault) (r : ReportFault) → names ≡ sources
+    → Answers policy directory sources readable_bytes workers (Err fault)
+    → IsFaultNamed names fault r → IsUnreported policy directory sources readable_bytes workers r
+unreported_is policy directory names sources readable_bytes workers fault (reports.Requests named) same h is =
+    (fault, h, subst (λ (ns : List (List ℕ)). fault_named ns fault ≡ Some named) same is)
+unreported_is policy directory names sources readable_bytes workers fault reports.Memory same h is = tt
+unreported_is policy directory names sources readable_bytes workers fault (reports.Policy refused) same h is = absurd is
+unreported_is policy directory names sources readable_bytes workers fault (reports.Directory refused) same h is = absurd is
+
+a_report : (given : Given) (policy : Policy) (directory : KnownRows) (text : List ℕ) (status : ℕ)
+    → IsChecked given.held given.path policy → IsDirectory given.users given.hosts directory
     → IsReported policy directory given.sources given.readable_bytes given.workers text status → IsAudited given text status
 a_report given policy directory text status is known h = record {
   policy = policy;
@@ -33,22 +89,29 @@ a_report given policy directory text status is known h = record {
   status_is = h.status_is;
 }
 
-pub reported_of : (given : Given) (policy : Policy) (directory : KnownRows) (r : Result RunOutput ReportFault) → IsChecked given.held given.path policy → IsDirectory given.users given.hosts directory
-    → IfOk r (λ p. IsReported policy directory given.sources given.readable_bytes given.workers p.text.items p.status) → IfOk r (λ p. IsAudited given p.text.items p.status)
+pub reported_of : (given : Given) (policy : Policy) (directory : KnownRows) (r : Result RunOutput ReportFault)
+    → IsChecked given.held given.path policy → IsDirectory given.users given.hosts directory
+    → IfOk r (λ p. IsReported policy directory given.sources given.readable_bytes given.workers p.text.items p.status)
+    → IfOk r (λ p. IsAudited given p.text.items p.status)
 reported_of given policy directory (Ok p) is known h = a_report given policy directory p.text.items p.status is known h
 reported_of given policy directory (Err fault) is known h = tt
 
-pub unreported_of : (given : Given) (policy : Policy) (directory : KnownRows) (r : Result RunOutput ReportFault) → IsChecked given.held given.path policy → IsDirectory given.users given.hosts directory
+pub unreported_of : (given : Given) (policy : Policy) (directory : KnownRows) (r : Result RunOutput ReportFault)
+    → IsChecked given.held given.path policy → IsDirectory given.users given.hosts directory
     → IfErr r (IsUnreported policy directory given.sources given.readable_bytes given.workers) → IfErr r (IsNotAudited given)
 unreported_of given policy directory (Ok p) is known h = tt
 unreported_of given policy directory (Err fault) is known h = no_report given policy directory fault is known h
 
-pub answered : (policy : Policy) (directory : KnownRows) (sources : List (List ℕ)) (readable_bytes : List (Option Ahead)) (workers : ℕ) (before after : PassView) (result : Result Report AuditFault)
-    → IsAuditResult (names_under policy directory) sources readable_bytes workers before after result → Answers policy directory sources readable_bytes workers result
+pub answered : (policy : Policy) (directory : KnownRows) (sources : List (List ℕ))
+    (readable_bytes : List (Option Ahead)) (workers : ℕ) (before after : PassView) (result : Result Report AuditFault)
+    → IsAuditResult (names_under policy directory) sources readable_bytes workers before after result
+    → Answers policy directory sources readable_bytes workers result
 answered policy directory sources readable_bytes workers before after result h = record { before = before; after = after; audited = h }
 
-pub a_text : (policy : Policy) (directory : KnownRows) (sources : List (List ℕ)) (readable_bytes : List (Option Ahead)) (workers : ℕ) (before after : PassView) (report : Report) (text : List ℕ)
-    → IsAuditResult (names_under policy directory) sources readable_bytes workers before after (Ok report) → text ≡ report_text policy.files report → IsReported policy directory sources readable_bytes workers text 0
+pub a_text : (policy : Policy) (directory : KnownRows) (sources : List (List ℕ))
+    (readable_bytes : List (Option Ahead)) (workers : ℕ) (before after : PassView) (report : Report) (text : List ℕ)
+    → IsAuditResult (names_under policy directory) sources readable_bytes workers before after (Ok report)
+    → text ≡ report_text policy.files report → IsReported policy directory sources readable_bytes workers text 0
 a_text policy directory sources readable_bytes workers before after report text h is = record {
   report = report;
   answers = record { before = before; after = after; audited = h };

@@ -1,6 +1,6 @@
 pub mod RowLemmas
 pub mod Refusals
-pub mod Rosters
+pub mod Subcommands
 pub mod SenderLemmas
 pub mod Statuses
 pub mod Steps

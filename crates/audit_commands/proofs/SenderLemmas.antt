@@ -15,4 +15,5 @@ all_others (b ∷ rest) e (suc i) h g = all_others rest (and_parts (is_sender_by
 
 pub no_equals : (name : List ℕ) → is_sender_name name ≡ true → (i : ℕ) → i < length name → get_or name i 0 ≡ 61 → ⊥
 no_equals name e =
-    all_others name (and_parts (nat_le (length name) 64) (list_all is_sender_byte name) (and_parts (nat_lt 0 (length name)) (nat_le (length name) 64 && list_all is_sender_byte name) e).1).1
+    all_others name (and_parts (nat_le (length name) 64) (list_all is_sender_byte name)
+    (and_parts (nat_lt 0 (length name)) (nat_le (length name) 64 && list_all is_sender_byte name) e).1).1

@@ -1,15 +1,7 @@
 -- The status of a fault is 1 to 4.
 use Rattle.std.proofs.Common.{◌≡◌, ℕ, ◌<◌, ◌≤◌, lit<, arith}
-use Rattle.audit_collect.specs.declared.fault.CollectFault.{CollectFault}
-use Rattle.audit_collect.specs.declared.fault.CollectFault.TheVariants as collects
-use Rattle.audit_collect.specs.declared.fault.Refused.{Refused}
-use Rattle.audit_collect.specs.declared.fault.Refused.TheVariants as refusals
-use Rattle.audit_collect.specs.declared.fault.RosterFault.{RosterFault}
-use Rattle.audit_collect.specs.declared.fault.RosterFault.TheVariants as rosters
 use Rattle.audit_files.specs.declared.fault.FileFault.{FileFault}
 use Rattle.audit_files.specs.declared.fault.FileFault.TheVariants as file_faults
-use Rattle.audit_run.specs.declared.fault.AuditFault.{AuditFault}
-use Rattle.audit_run.specs.declared.fault.AuditFault.TheVariants as audits
 use Rattle.sudo_match.specs.declared.fault.DirFault.{DirFault}
 use Rattle.sudo_match.specs.declared.fault.DirFault.TheVariants as directories
 use Rattle.run_base.specs.Faults.{policy_status}
@@ -21,7 +13,9 @@ use Rattle.audit_commands.specs.declared.fault.ExpansionFault.{ExpansionFault}
 use Rattle.audit_commands.specs.declared.fault.ExpansionFault.TheVariants as expansions
 use Rattle.audit_commands.specs.declared.fault.ReportFault.{ReportFault}
 use Rattle.audit_commands.specs.declared.fault.ReportFault.TheVariants as reports
-use Rattle.audit_commands.specs.Faults.{audit_status, both_status, collect_status, directory_status, expansion_status, file_status, refusal_status, report_status, roster_status}
+use Rattle.audit_commands.specs.declared.requests_fault.RequestsFault.{RequestsFault}
+use Rattle.audit_commands.specs.declared.requests_fault.RequestsFault.TheVariants as requests
+use Rattle.audit_commands.specs.Faults.{both_status, directory_status, expansion_status, file_status, report_status, requests_status}
 
 abbrev IsStatus : ℕ → Type 0
 IsStatus status = (0 < status) × (status < 5)
@@ -49,34 +43,22 @@ directory_range (directory_faults.Hosts fault) = file_range fault
 directory_range (directory_faults.Both fault) = both_range fault
 directory_range directory_faults.Memory = (lit< tt, lit< tt)
 
-roster_range : (fault : RosterFault) → IsStatus (roster_status fault)
-roster_range (rosters.SenderTwice name) = (lit< tt, lit< tt)
-roster_range rosters.TooManySenders = (lit< tt, lit< tt)
-roster_range rosters.Memory = (lit< tt, lit< tt)
-
-refusal_range : (fault : Refused) → IsStatus (refusal_status fault)
-refusal_range (refusals.Stranger sender) = (lit< tt, lit< tt)
-refusal_range (refusals.ZeroNumber sender) = (lit< tt, lit< tt)
-refusal_range (refusals.Double sender number) = (lit< tt, lit< tt)
-refusal_range (refusals.ClosedTwice sender) = (lit< tt, lit< tt)
-refusal_range (refusals.PastClose sender number) = (lit< tt, lit< tt)
-refusal_range refusals.Memory = (lit< tt, lit< tt)
-
-collect_range : (fault : CollectFault) → IsStatus (collect_status fault)
-collect_range (collects.Roster fault) = roster_range fault
-collect_range (collects.Refused refused) = refusal_range refused
-collect_range (collects.Unfinished unfinished) = (lit< tt, lit< tt)
-
-audit_range : (fault : AuditFault) → IsStatus (audit_status fault)
-audit_range (audits.Sender name part fault) = file_range fault
-audit_range (audits.Collect fault) = collect_range fault
-audit_range audits.NoThread = (lit< tt, lit< tt)
-audit_range audits.Memory = (lit< tt, lit< tt)
-audit_range audits.TooManyParts = (lit< tt, lit< tt)
+requests_range : (fault : RequestsFault) → IsStatus (requests_status fault)
+requests_range (requests.File sender part fault) = file_range fault
+requests_range (requests.Twice sender number) = (lit< tt, lit< tt)
+requests_range (requests.ClosedTwice sender) = (lit< tt, lit< tt)
+requests_range (requests.PastClose sender number) = (lit< tt, lit< tt)
+requests_range (requests.NotClosed sender) = (lit< tt, lit< tt)
+requests_range (requests.Missing sender number) = (lit< tt, lit< tt)
+requests_range requests.TooManySenders = (lit< tt, lit< tt)
+requests_range requests.TooManyParts = (lit< tt, lit< tt)
+requests_range requests.NoThread = (lit< tt, lit< tt)
 
 policy_range : (fault : PolicyFault) → IsStatus (policy_status fault)
 policy_range (policies.Refused read fault) = (lit< tt, lit< tt)
 policy_range (policies.Errors lines) = (lit< tt, lit< tt)
+policy_range (policies.TooLong path) = (lit< tt, lit< tt)
+policy_range policies.TooManyFiles = (lit< tt, lit< tt)
 policy_range (policies.CannotRead path) = (lit< tt, lit< tt)
 policy_range policies.Memory = (lit< tt, lit< tt)
 
@@ -88,7 +70,7 @@ expansion_range expansions.Memory = (lit< tt, lit< tt)
 report_range : (fault : ReportFault) → IsStatus (report_status fault)
 report_range (reports.Policy fault) = policy_range fault
 report_range (reports.Directory fault) = directory_range fault
-report_range (reports.Audit names fault) = audit_range fault
+report_range (reports.Requests fault) = requests_range fault
 report_range reports.Memory = (lit< tt, lit< tt)
 
 pub policy_low : (fault : PolicyFault) → policy_status fault ≡ 0 → ⊥

@@ -19,6 +19,7 @@ use Rattle.sudo_grammar.specs.declared.policy.Policy.{Policy}
 use Rattle.run_base.specs.Holding.{Holdings}
 use Rattle.run_base.specs.Loading.{IsChecked, PassesCheck, IsNotChecked}
 use Rattle.run_base.specs.declared.fault.PolicyFault.TheVariants as policies
+use Rattle.audit_commands.specs.NamedFaults.{fault_named}
 use Rattle.audit_commands.specs.declared.fault.DirectoryFault.{DirectoryFault}
 use Rattle.audit_commands.specs.declared.fault.DirectoryFault.TheVariants as directories
 use Rattle.audit_commands.specs.declared.fault.ReportFault.{ReportFault}
@@ -72,7 +73,8 @@ IsNoDirectory users hosts (directories.Both fault) = AreRefused users hosts faul
 IsNoDirectory users hosts directories.Memory = ⊤
 
 -- the result of an audit of the sources under a policy and a directory
-pub record Answers (policy : Policy) (directory : KnownRows) (sources : List (List ℕ)) (readable_bytes : List (Option Ahead)) (workers : ℕ) (result : Result Report AuditFault) : Type 0 where
+pub record Answers (policy : Policy) (directory : KnownRows) (sources : List (List ℕ))
+    (readable_bytes : List (Option Ahead)) (workers : ℕ) (result : Result Report AuditFault) : Type 0 where
   pub before : PassView
   pub after : PassView
   pub audited : IsAuditResult (names_under policy directory) sources readable_bytes workers before after result
@@ -94,26 +96,11 @@ pub record IsAudited (given : Given) (text : List ℕ) (status : ℕ) : Type 0 w
   pub status_is : status ≡ 0
 
 -- why there is no report, in this order: no policy passes the check; the users, the hosts or both
--- together are refused; the audit returns a fault, which is printed with the names of the sources;
--- or memory failed
+-- together are refused; the audit returns a fault, which names the sender; or memory failed
 abbrev pub IsNotAudited : Given → ReportFault → Type 0
 IsNotAudited given (reports.Policy fault) = (fault ≢ policies.Memory) × IsNotChecked given.held given.path fault
-IsNotAudited given (reports.Directory fault) = (fault ≢ directories.Memory) × PassesCheck given.held given.path × IsNoDirectory given.users given.hosts fault
-IsNotAudited given (reports.Audit names fault) = (names.items ≡ given.sources) × ((policy : Policy) × IsAnswer given policy (Err fault))
+IsNotAudited given (reports.Directory fault) = (fault ≢ directories.Memory) × PassesCheck given.held given.path
+    × IsNoDirectory given.users given.hosts fault
+IsNotAudited given (reports.Requests named) =
+    (policy : Policy) × (fault : AuditFault) × IsAnswer given policy (Err fault) × (fault_named given.sources fault ≡ Some named)
 IsNotAudited given reports.Memory = ⊤
-
--- Only the proofs of bodies use the definitions below.
-
--- the text of the report of an audit under a policy and a directory
-pub record IsReported (policy : Policy) (directory : KnownRows) (sources : List (List ℕ)) (readable_bytes : List (Option Ahead)) (workers : ℕ) (text : List ℕ) (status : ℕ) : Type 0 where
-  pub report : Report
-  pub answers : Answers policy directory sources readable_bytes workers (Ok report)
-  pub text_is : text ≡ report_text policy.files report
-  pub status_is : status ≡ 0
-
--- why an audit under a policy and a directory has no report
-abbrev pub IsUnreported : Policy → KnownRows → List (List ℕ) → List (Option Ahead) → ℕ → ReportFault → Type 0
-IsUnreported policy directory sources readable_bytes workers (reports.Audit names fault) = (names.items ≡ sources) × Answers policy directory sources readable_bytes workers (Err fault)
-IsUnreported policy directory sources readable_bytes workers reports.Memory = ⊤
-IsUnreported policy directory sources readable_bytes workers (reports.Policy fault) = ⊥
-IsUnreported policy directory sources readable_bytes workers (reports.Directory fault) = ⊥

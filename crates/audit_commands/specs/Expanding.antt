@@ -39,9 +39,3 @@ abbrev pub IsNotExpanded : Option Holdings → List ℕ → Kind → List ℕ �
 IsNotExpanded held path kind name (faults.Policy fault) = (fault ≢ policies.Memory) × IsNotChecked held path fault
 IsNotExpanded held path kind name (faults.NoSuchAlias alias) = (alias ≡ name) × HasNoAlias held path kind name
 IsNotExpanded held path kind name faults.Memory = ⊤
-
--- why a policy has nothing of an alias to print; only the proofs of bodies use this definition
-abbrev pub IsNotExpandedOf : Policy → Kind → List ℕ → ExpansionFault → Type 0
-IsNotExpandedOf policy kind name (faults.Policy fault) = ⊥
-IsNotExpandedOf policy kind name (faults.NoSuchAlias alias) = (alias ≡ name) × (in_force kind policy name ≡ None)
-IsNotExpandedOf policy kind name faults.Memory = ⊤

@@ -4,7 +4,7 @@ use Rattle.run_base.specs.Endings.{Notices, notices}
 use Rattle.run_base.specs.FaultLines.{error_line, memory_line, open_printed, policy_printed}
 use Rattle.run_base.specs.Faults.{policy_status}
 use Rattle.run_base.specs.declared.fault.PolicyFault.{PolicyFault}
-use Rattle.audit_commands.specs.FaultTexts.{audit_fault_text, directory_fault_text, file_fault_text}
+use Rattle.audit_commands.specs.FaultTexts.{directory_fault_text, file_fault_text, requests_fault_text}
 use Rattle.audit_commands.specs.Faults.{expansion_status, report_status}
 use Rattle.audit_commands.specs.declared.fault.DirectoryFault.{DirectoryFault}
 use Rattle.audit_commands.specs.declared.fault.DirectoryFault.TheVariants as directories
@@ -33,7 +33,7 @@ expansion_printed program expansions.Memory = memory_line program
 abbrev pub report_printed : List ℕ → ReportFault → List ℕ
 report_printed program (reports.Policy fault) = policy_printed program fault
 report_printed program (reports.Directory fault) = directory_printed program fault
-report_printed program (reports.Audit names fault) = error_line program (audit_fault_text names.items fault)
+report_printed program (reports.Requests fault) = error_line program (requests_fault_text fault)
 report_printed program reports.Memory = memory_line program
 
 -- the name of the program

@@ -1,15 +1,7 @@
 -- Faults that end the program with a status other than 0.
 use Rattle.std.specs.Prelude.{ℕ}
-use Rattle.audit_collect.specs.declared.fault.CollectFault.{CollectFault}
-use Rattle.audit_collect.specs.declared.fault.CollectFault.TheVariants as collects
-use Rattle.audit_collect.specs.declared.fault.Refused.{Refused}
-use Rattle.audit_collect.specs.declared.fault.Refused.TheVariants as refusals
-use Rattle.audit_collect.specs.declared.fault.RosterFault.{RosterFault}
-use Rattle.audit_collect.specs.declared.fault.RosterFault.TheVariants as rosters
 use Rattle.audit_files.specs.declared.fault.FileFault.{FileFault}
 use Rattle.audit_files.specs.declared.fault.FileFault.TheVariants as file_faults
-use Rattle.audit_run.specs.declared.fault.AuditFault.{AuditFault}
-use Rattle.audit_run.specs.declared.fault.AuditFault.TheVariants as audits
 use Rattle.sudo_match.specs.declared.fault.DirFault.{DirFault}
 use Rattle.sudo_match.specs.declared.fault.DirFault.TheVariants as directories
 use Rattle.run_base.specs.Faults.{open_status, policy_status}
@@ -21,6 +13,8 @@ use Rattle.audit_commands.specs.declared.fault.ReportFault.{ReportFault}
 use Rattle.audit_commands.specs.declared.fault.ReportFault.TheVariants as reports
 use Rattle.audit_commands.specs.declared.fault.SourcesFault.{SourcesFault}
 use Rattle.audit_commands.specs.declared.fault.SourcesFault.TheVariants as sources
+use Rattle.audit_commands.specs.declared.requests_fault.RequestsFault.{RequestsFault}
+use Rattle.audit_commands.specs.declared.requests_fault.RequestsFault.TheVariants as requests
 
 -- 1: the policy is refused, has errors or has no such alias. 2: a word of the command line names no
 -- sender. 3: the users, the hosts or the requests are refused. 4: reading, writing, a thread or
@@ -53,35 +47,17 @@ directory_status (directory_faults.Hosts fault) = file_status fault
 directory_status (directory_faults.Both fault) = both_status fault
 directory_status directory_faults.Memory = 4
 
--- the status for senders that form no roster: they are refused, or memory failed
-abbrev pub roster_status : RosterFault → ℕ
-roster_status (rosters.SenderTwice name) = 3
-roster_status rosters.TooManySenders = 3
-roster_status rosters.Memory = 4
-
--- the status for a refusal of the collector: the requests are refused, or memory failed
-abbrev pub refusal_status : Refused → ℕ
-refusal_status (refusals.Stranger sender) = 3
-refusal_status (refusals.ZeroNumber sender) = 3
-refusal_status (refusals.Double sender number) = 3
-refusal_status (refusals.ClosedTwice sender) = 3
-refusal_status (refusals.PastClose sender number) = 3
-refusal_status refusals.Memory = 4
-
--- the status for requests that make no report; those that lack something are refused
-abbrev pub collect_status : CollectFault → ℕ
-collect_status (collects.Roster fault) = roster_status fault
-collect_status (collects.Refused refused) = refusal_status refused
-collect_status (collects.Unfinished unfinished) = 3
-
--- the status for an audit without a report: a source is refused as a file is, the requests are
--- refused, there are too many sources, or a thread or memory failed
-abbrev pub audit_status : AuditFault → ℕ
-audit_status (audits.Sender name part fault) = file_status fault
-audit_status (audits.Collect fault) = collect_status fault
-audit_status audits.NoThread = 4
-audit_status audits.Memory = 4
-audit_status audits.TooManyParts = 3
+-- the status for requests that have no report: a file is refused, the requests are, or a thread could not be started
+abbrev pub requests_status : RequestsFault → ℕ
+requests_status (requests.File sender part fault) = file_status fault
+requests_status (requests.Twice sender number) = 3
+requests_status (requests.ClosedTwice sender) = 3
+requests_status (requests.PastClose sender number) = 3
+requests_status (requests.NotClosed sender) = 3
+requests_status (requests.Missing sender number) = 3
+requests_status requests.TooManySenders = 3
+requests_status requests.TooManyParts = 3
+requests_status requests.NoThread = 4
 
 -- the status for files that are not opened
 abbrev pub sources_status : SourcesFault → ℕ
@@ -98,5 +74,5 @@ expansion_status expansions.Memory = 4
 abbrev pub report_status : ReportFault → ℕ
 report_status (reports.Policy fault) = policy_status fault
 report_status (reports.Directory fault) = directory_status fault
-report_status (reports.Audit names fault) = audit_status fault
+report_status (reports.Requests fault) = requests_status fault
 report_status reports.Memory = 4

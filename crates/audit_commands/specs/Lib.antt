@@ -3,7 +3,9 @@ pub mod Examining
 pub mod Expanding
 pub mod Auditing
 pub mod Senders
+pub mod NamedFaults
 pub mod FaultTexts
 pub mod Faults
 pub mod FaultLines
 pub mod Opening
+pub mod Body

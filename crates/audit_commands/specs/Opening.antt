@@ -3,7 +3,6 @@ use Rattle.std.specs.Prelude.{◌≡◌, ⊤, ℕ, true, List, ◌∷◌, ◌++�
 use Rattle.std.specs.List.{AllZip}
 use Rattle.audit_run.specs.declared.source.Source.{Source}
 use Rattle.audit_commands.specs.Senders.{is_sender_name}
-use Rattle.run_base.specs.declared.fault.OpenFault.{OpenFault}
 use Rattle.run_base.specs.declared.fault.OpenFault.TheVariants as opens
 use Rattle.audit_commands.specs.declared.fault.SourcesFault.{SourcesFault}
 use Rattle.audit_commands.specs.declared.fault.SourcesFault.TheVariants as faults
@@ -45,7 +44,8 @@ abbrev pub HasReader : {R : Type 0} → (List ℕ → R → Type 0) → List ℕ
 HasReader {R} Opens path = (reader : R) × Opens path reader
 
 -- the first path, in this order, that has no reader
-pub record IsFirstClosed {R : Type 0} (Opens : List ℕ → R → Type 0) (Closed : List ℕ → Type 0) (paths : List (List ℕ)) (path : List ℕ) : Type 0 where
+pub record IsFirstClosed {R : Type 0} (Opens : List ℕ → R → Type 0) (Closed : List ℕ → Type 0) (paths : List (List ℕ))
+    (path : List ℕ) : Type 0 where
   pub earlier : List (List ℕ)
   pub later : List (List ℕ)
   pub order : paths ≡ earlier ++ path ∷ later
@@ -67,15 +67,3 @@ abbrev pub IsNotOpened : {R : Type 0} → (List ℕ → R → Type 0) → (List 
 IsNotOpened Opens Closed users hosts words (faults.BadSender word) = IsFirstBad words word
 IsNotOpened Opens Closed users hosts words (faults.Unopened (opens.CannotRead path)) = IsUnopened Opens Closed users hosts words path
 IsNotOpened Opens Closed users hosts words (faults.Unopened opens.Memory) = ⊤
-
--- Only the proofs of bodies use the definitions below.
-
--- why words are not senders: the first bad one, or memory failed
-abbrev pub AreNotSenders : List (List ℕ) → SourcesFault → Type 0
-AreNotSenders words (faults.BadSender word) = IsFirstBad words word
-AreNotSenders words (faults.Unopened fault) = fault ≡ opens.Memory
-
--- why paths are not opened: the first that has no reader, or memory failed
-abbrev pub HaveNoReaders : {R : Type 0} → (List ℕ → R → Type 0) → (List ℕ → Type 0) → List (List ℕ) → OpenFault → Type 0
-HaveNoReaders Opens Closed paths (opens.CannotRead path) = IsFirstClosed Opens Closed paths path
-HaveNoReaders Opens Closed paths opens.Memory = ⊤

@@ -1,12 +1,15 @@
 //! `audit`: answers requests.
-ghost use Rattle.std.specs.Prelude.{◌≡◌, ◌≤◌, ℕ, List, Option, IfErr, IfOk, map};
+ghost use Rattle.std.specs.Prelude.{◌≡◌, ◌≢◌, ◌≤◌, ℕ, List, Option, IfErr, IfOk, IsSome, map};
 ghost use Rattle.run_base.specs.Endings.{writer_states as sent, Ends};
 ghost use Rattle.run_base.specs.Holding.{Holdings};
 ghost use Rattle.run_base.specs.Loading.{IsChecked};
-ghost use Rattle.audit_commands.specs.Auditing.{Given, given_by, IsAudited, IsDirectory, IsNoDirectory, IsNotAudited, IsReported, IsUnreported};
+ghost use Rattle.audit_commands.specs.Auditing.{Given, given_by, IsAudited, IsDirectory, IsNoDirectory, IsNotAudited};
+ghost use Rattle.audit_commands.specs.Body.Auditing.{IsFaultNamed, IsReported, IsUnreported};
 ghost use Rattle.audit_commands.specs.FaultLines.{audit_notices};
+ghost use Rattle.audit_commands.specs.NamedFaults.{fault_named};
 
 use crate::fault::{DirectoryFault, PROGRAM, ReportFault};
+use crate::requests_fault::named_fault;
 use audit_files::{Feed, FileFault, Sink, read_hosts, read_users, report_text};
 use audit_run::{AuditFault, Handoff, Open, Source, audit};
 use run_base::{Files, PolicyFault, RunOutput, checked_policy, end_run};
@@ -44,7 +47,7 @@ fn directory_of<U: Feed, H: Feed>(
     }
 }
 
-// Returns a copy of the names of the sources, for the texts of faults.
+// Returns a copy of the names of the sources, for the faults of their audit.
 fn names_of<R>(alloc: Global, sources: &[Source<R>]) -> Result<Vec<Seq<u8>>, AllocError>
     ensures { IfOk result (λ names. names.items ≡ map (λ s. s.name) sources.now) }
 {
@@ -53,6 +56,20 @@ fn names_of<R>(alloc: Global, sources: &[Source<R>]) -> Result<Vec<Seq<u8>>, All
         names.push(Seq::from_slice(alloc, source.name.as_slice())?)?;
     }
     Ok(names)
+}
+
+// Returns the fault of an audit of sources with these names that has no report.
+fn unreported(alloc: Global, names: &[Seq<u8>], fault: AuditFault) -> ReportFault
+    requires { fault ≢ AuditFault.Memory → IsSome (fault_named names.now fault) }
+    ensures { IsFaultNamed names.now fault result }
+{
+    match fault {
+        AuditFault::Memory => ReportFault::Memory,
+        fault => match named_fault(alloc, names, fault) {
+            Ok(named) => ReportFault::Requests(named),
+            Err(_) => ReportFault::Memory,
+        },
+    }
 }
 
 // What an audit has to do: the sources of requests, and how many workers judge them.
@@ -94,8 +111,7 @@ fn report_under<T: Threads + Wait + Sync, R: Feed + Drop + Send>(
             mem::forget(report);
             Ok(RunOutput { text, status: 0 })
         }
-        Err(AuditFault::Memory) => Err(ReportFault::Memory),
-        Err(fault) => Err(ReportFault::Audit(names, fault)),
+        Err(fault) => Err(unreported(alloc, &names, fault)),
     }
 }
 

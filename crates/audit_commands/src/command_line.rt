@@ -2,7 +2,8 @@
 ghost use Rattle.std.specs.Prelude.{◌≡◌, IfOk, IsOkAnd, codes, false};
 ghost use Rattle.clap.specs.Words.{AddsSubcommand, app_of, rule_of};
 ghost use Rattle.clap.specs.declared.builder.command.Command.TheViews.{out-Command as fields_of};
-ghost use Rattle.audit_commands.specs.Words.{audit_app, audit_paths_app, check_app, expand_app, named_app, required_word, required_option, program_app, senders_rule, workers_rule};
+ghost use Rattle.audit_commands.specs.Words.{audit_app, audit_paths_app, check_app, expand_app, named_app};
+ghost use Rattle.audit_commands.specs.Words.{required_word, required_option, program_app, senders_rule, workers_rule};
 
 use clap::builder::ValueParser;
 use clap::{Arg, Command};

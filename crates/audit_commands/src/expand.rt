@@ -1,7 +1,8 @@
 //! `expand`: writes an alias out.
 ghost use Rattle.std.specs.Prelude.{◌≡◌, ◌≤◌, ◌++◌, flat_map, IfErr, IfOk, OnOk};
 ghost use Rattle.run_base.specs.Endings.{writer_states as sent, Ends};
-ghost use Rattle.audit_commands.specs.Expanding.{member_line, AreAliasLines, IsExpanded, IsNotExpanded, IsNotExpandedOf};
+ghost use Rattle.audit_commands.specs.Expanding.{member_line, AreAliasLines, IsExpanded, IsNotExpanded};
+ghost use Rattle.audit_commands.specs.Body.Expanding.{IsNotExpandedOf};
 ghost use Rattle.audit_commands.specs.FaultLines.{expand_notices};
 
 use crate::fault::{ExpansionFault, PROGRAM};

@@ -2,13 +2,14 @@
 ghost use Rattle.std.specs.Prelude.{◌≡◌, ◌++◌, IfOk, codes};
 ghost use Rattle.run_base.specs.FaultLines.{error_line};
 ghost use Rattle.audit_commands.specs.FaultLines.{directory_printed, expansion_printed, report_printed, sources_printed};
-ghost use Rattle.audit_commands.specs.FaultTexts.{audit_fault_text, directory_fault_text, file_fault_text};
-ghost use Rattle.audit_commands.specs.Faults.{audit_status as status_of_audit, directory_status, expansion_status, file_status as status_of_file, report_status, sources_status};
+ghost use Rattle.audit_commands.specs.FaultTexts.{directory_fault_text, file_fault_text, requests_fault_text};
+ghost use Rattle.audit_commands.specs.Faults.{directory_status, expansion_status};
+ghost use Rattle.audit_commands.specs.Faults.{file_status as status_of_file, report_status};
+ghost use Rattle.audit_commands.specs.Faults.{requests_status as status_of_requests, sources_status};
 
-use crate::fault_text::{push_audit_fault, push_directory_fault, push_file_fault};
-use audit_collect::{CollectFault, Refused, RosterFault};
+use crate::fault_text::{push_directory_fault, push_file_fault, push_requests_fault};
+use crate::requests_fault::RequestsFault;
 use audit_files::FileFault;
-use audit_run::AuditFault;
 use run_base::{Fails, OpenFault, PolicyFault, begin_line, push, push_both};
 use std::alloc::{AllocError, AllocFailed, Global};
 use sudo_match::DirFault;
@@ -157,8 +158,8 @@ pub enum ReportFault {
     Policy(PolicyFault),
     /// The users and the hosts are refused.
     Directory(DirectoryFault),
-    /// The requests are refused, or a thread failed: the names of the sources, and the fault.
-    Audit(Vec<Seq<u8>>, AuditFault),
+    /// The requests are refused, or a thread could not be started.
+    Requests(RequestsFault),
     /// Out of memory.
     Memory,
 }
@@ -183,7 +184,7 @@ impl Fails for ReportFault {
         match self {
             ReportFault::Policy(fault) => fault.status(),
             ReportFault::Directory(fault) => fault.status(),
-            ReportFault::Audit(_, fault) => audit_status(fault),
+            ReportFault::Requests(fault) => requests_status(fault),
             ReportFault::Memory => 4,
         }
     }
@@ -192,7 +193,7 @@ impl Fails for ReportFault {
         match self {
             ReportFault::Policy(fault) => fault.printed(alloc, program),
             ReportFault::Directory(fault) => fault.printed(alloc, program),
-            ReportFault::Audit(names, fault) => audit_line(alloc, program, &names, &fault),
+            ReportFault::Requests(fault) => requests_line(alloc, program, &fault),
             ReportFault::Memory => AllocError.printed(alloc, program),
         }
     }
@@ -208,17 +209,14 @@ fn file_status(fault: FileFault) -> u8
     }
 }
 
-// Returns the exit status for an audit without a report.
-fn audit_status(fault: &AuditFault) -> u8
-    ensures { result ≡ status_of_audit fault.now }
+// Returns the exit status for requests that have no report.
+fn requests_status(fault: &RequestsFault) -> u8
+    ensures { result ≡ status_of_requests fault.now }
 {
     match fault {
-        AuditFault::Sender { fault, .. } => file_status(*fault),
-        AuditFault::Collect(CollectFault::Roster(RosterFault::Memory))
-        | AuditFault::Collect(CollectFault::Refused(Refused::Memory))
-        | AuditFault::NoThread
-        | AuditFault::Memory => 4,
-        AuditFault::Collect(_) | AuditFault::TooManyParts => 3,
+        RequestsFault::File { fault, .. } => file_status(*fault),
+        RequestsFault::NoThread => 4,
+        _ => 3,
     }
 }
 
@@ -272,18 +270,17 @@ fn directory_line(alloc: Global, program: &[u8], fault: &DirFault) -> Result<Vec
     Ok(line)
 }
 
-// Returns the line of an audit without a report, given the names of its sources.
-fn audit_line(
+// Returns the line of requests that have no report.
+fn requests_line(
     alloc: Global,
     program: &[u8],
-    names: &[Seq<u8>],
-    fault: &AuditFault,
+    fault: &RequestsFault,
 ) -> Result<Vec<u8>, AllocError>
     ensures { IfOk result (λ line. line.items
-        ≡ error_line program.now (audit_fault_text names.now fault.now)) }
+        ≡ error_line program.now (requests_fault_text fault.now)) }
 {
     let mut line = begin_line(alloc, program)?;
-    push_audit_fault(&mut line, names, fault)?;
+    push_requests_fault(&mut line, fault)?;
     push(&mut line, b"\n")?;
     Ok(line)
 }

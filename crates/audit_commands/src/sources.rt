@@ -1,7 +1,8 @@
 //! Opens the files of an audit.
 ghost use Rattle.std.specs.Prelude.{◌≡◌, ℕ, List, IfErr, IfOk, map};
 ghost use Rattle.run_base.specs.Opening.{HasNoReader};
-ghost use Rattle.audit_commands.specs.Opening.{AreNotSenders, AreOpened, AreSenders, AreSources, HaveNoReaders, IsNotOpened, Pair};
+ghost use Rattle.audit_commands.specs.Opening.{AreOpened, AreSenders, AreSources, IsNotOpened, Pair};
+ghost use Rattle.audit_commands.specs.Body.Opening.{AreNotSenders, HaveNoReaders};
 
 use crate::fault::SourcesFault;
 use crate::sender::sender_of;

@@ -1,7 +1,12 @@
 //! The words of the command line.
-ghost use Rattle.std.specs.Prelude.{◌≡◌, ◌≢◌, ◌≤◌, [], None, Some, IfErr, IfOk, IfSome, List, map, unwrap_or};
-ghost use Rattle.clap.specs.Words.{Row, Text, all_of, app_of, first_of, found_of, kind_of as error_kind, rows_of, subcommand_of};
-ghost use Rattle.audit_commands.specs.Words.{AsksNothing, IsNumberIn, IsErrorOfWords, IsUnreadableWord, HoldsCommand, WorkersFit, kind_word, program_app};
+ghost use Rattle.std.specs.Prelude.{◌≡◌, ◌≢◌, ◌≤◌, [], None, Some, IfErr, IfOk, IfSome, List, codes, map, option_map};
+ghost use Rattle.std.specs.Prelude.{unwrap_or};
+ghost use Rattle.clap.specs.Words.{Row, Text, all_of, app_of, first_of, found_of, kind_of as error_kind, rows_of};
+ghost use Rattle.clap.specs.Words.{subcommand_of, subcommand_rows_of};
+ghost use Rattle.audit_commands.specs.Words.{AsksNothing, IsNumberIn, IsErrorOfWords, IsUnaskedKind};
+ghost use Rattle.audit_commands.specs.Body.Words.{HasNoWorkers};
+ghost use Rattle.audit_commands.specs.Words.{IsUnreadableWord, HoldsCommand};
+ghost use Rattle.audit_commands.specs.Words.{WorkersFit, kind_word, program_app};
 
 use crate::command_line::program;
 use crate::request::Asked;
@@ -32,83 +37,177 @@ fn kind_of(word: &str) -> Option<Kind>
     None
 }
 
-// Returns the value of a required argument.
-#[tactic(auto, using(crate::proofs::RowLemmas::row_lemmas))]
-fn value<'a>(given: &ArgMatches<'a>, id: &str) -> Result<&'a str, Error>
-    ensures value { IfOk result (λ text. first_of id.now (rows_of (found_of given.now))
-        ≡ Some text.now) }
-    ensures memory { IfErr result (λ e. error_kind e ≡ ErrorKind.OutOfMemory) }
-{
-    match given.get_str(id) {
-        Some(text) => Ok(text),
-        None => Err(Error::from(AllocError)),
+// The reason why a subcommand with its values asks for no command.
+#[derive(Clone, Copy)]
+enum Unasked {
+    // A required argument has no value, or the number of workers is outside 1 to 16.
+    Missing,
+    // KIND names no kind of alias.
+    BadKind,
+    // Out of memory.
+    Memory,
+}
+
+impl From<AllocError> for Unasked {
+    ghost use Rattle.std.specs.Prelude.{◌≡◌};
+    ghost use Rattle.audit_commands.specs.declared.words.Unasked.TheVariants.{Memory};
+
+    ghost from_gives = { λ _ e. e ≡ Memory };
+
+    fn from(_: AllocError) -> Unasked {
+        Unasked::Memory
     }
+}
+
+// Returns the value of a required argument, or `None` if it has none.
+#[tactic(auto, using(crate::proofs::RowLemmas::row_lemmas))]
+fn value<'a>(given: &ArgMatches<'a>, id: &str) -> Option<&'a str>
+    ensures { option_map (λ s. s.now) result ≡ first_of id.now (rows_of (found_of given.now)) }
+{
+    given.get_str(id)
 }
 
 // Returns the values of an argument, possibly none.
 #[tactic(auto, using(crate::proofs::RowLemmas::row_lemmas))]
-fn values<'a>(alloc: Global, given: &ArgMatches<'a>, id: &str) -> Result<Vec<&'a str>, Error>
-    ensures values { IfOk result (λ v. unwrap_or (all_of id.now (rows_of (found_of given.now))) []
+fn values<'a>(alloc: Global, given: &ArgMatches<'a>, id: &str) -> Result<Vec<&'a str>, AllocError>
+    ensures { IfOk result (λ v. unwrap_or (all_of id.now (rows_of (found_of given.now))) []
         ≡ map (λ s. s.now) v.items) }
-    ensures memory { IfErr result (λ e. error_kind e ≡ ErrorKind.OutOfMemory) }
 {
     match given.get_strs(id) {
-        Some(words) => Ok(Vec::from_slice(alloc, words)?),
+        Some(words) => Vec::from_slice(alloc, words),
         None => Ok(Vec::new(alloc)),
     }
 }
 
-// Returns the number of workers.
+// Returns the number of workers, or `None` if it is none from 1 to 16.
 #[tactic(auto, using(crate::proofs::RowLemmas::row_lemmas))]
-fn workers(given: &ArgMatches<'_>) -> Result<u32, Error>
-    ensures few { IfOk result (λ n. (1 ≤ n) × (n ≤ 16)) }
-    ensures read { IfOk result (λ n. IsNumberIn n (rows_of (found_of given.now))) }
-    ensures memory { IfErr result (λ e. error_kind e ≡ ErrorKind.OutOfMemory) }
+fn workers(given: &ArgMatches<'_>) -> Option<u32>
+    ensures few { IfSome result (λ n. (1 ≤ n) × (n ≤ 16)) }
+    ensures read { IfSome result (λ n. IsNumberIn n (rows_of (found_of given.now))) }
+    ensures none { result ≡ None → HasNoWorkers (rows_of (found_of given.now)) }
 {
     match given.get_one::<u32>("workers") {
-        Some(count @ 1..=16) => Ok(count),
-        _ => Err(Error::from(AllocError)),
+        Some(count) if 1 <= count && count <= 16 => Some(count),
+        _ => None,
     }
 }
 
-// Returns the command that a subcommand asks for, or `None` if its KIND is invalid.
-fn asked_by<'a>(
-    alloc: Global,
-    name: &str,
-    given: &ArgMatches<'a>,
-) -> Result<Option<Asked<'a>>, Error>
-    ensures stated { IfOk result (λ o. IfSome o
-        (λ a. HoldsCommand a (name.now, rows_of (found_of given.now)))) }
-    ensures workers { IfOk result (λ o. IfSome o WorkersFit) }
-    ensures none { IfOk result (λ o. o ≡ None
+// Returns the command of the values of `check`.
+fn asked_check<'a>(given: &ArgMatches<'a>) -> Result<Asked<'a>, Unasked>
+    ensures stated { IfOk result
+        (λ a. HoldsCommand a (codes "check", rows_of (found_of given.now))) }
+    ensures workers { IfOk result WorkersFit }
+    ensures nothing { IfErr result (λ _. AsksNothing (codes "check", rows_of (found_of given.now))) }
+{
+    let Some(file) = value(given, "file") else {
+        return Err(Unasked::Missing);
+    };
+    Ok(Asked::Check { file })
+}
+
+// Returns the command of the values of `expand`.
+fn asked_expand<'a>(given: &ArgMatches<'a>) -> Result<Asked<'a>, Unasked>
+    ensures stated { IfOk result
+        (λ a. HoldsCommand a (codes "expand", rows_of (found_of given.now))) }
+    ensures workers { IfOk result WorkersFit }
+    ensures nothing { IfErr result (λ _. AsksNothing (codes "expand", rows_of (found_of given.now))) }
+{
+    let Some(file) = value(given, "file") else {
+        return Err(Unasked::Missing);
+    };
+    let Some(word) = value(given, "kind") else {
+        return Err(Unasked::Missing);
+    };
+    let Some(kind) = kind_of(word) else {
+        return Err(Unasked::BadKind);
+    };
+    let Some(name) = value(given, "name") else {
+        return Err(Unasked::Missing);
+    };
+    Ok(Asked::Expand { file, kind, name })
+}
+
+// Returns the command of the values of `audit`.
+fn asked_audit<'a>(alloc: Global, given: &ArgMatches<'a>) -> Result<Asked<'a>, Unasked>
+    ensures stated { IfOk result
+        (λ a. HoldsCommand a (codes "audit", rows_of (found_of given.now))) }
+    ensures workers { IfOk result WorkersFit }
+    ensures nothing { IfErr result (λ e. e ≢ Unasked.Memory
+        → AsksNothing (codes "audit", rows_of (found_of given.now))) }
+{
+    let Some(file) = value(given, "file") else {
+        return Err(Unasked::Missing);
+    };
+    let Some(users) = value(given, "users") else {
+        return Err(Unasked::Missing);
+    };
+    let Some(hosts) = value(given, "hosts") else {
+        return Err(Unasked::Missing);
+    };
+    let Some(workers) = workers(given) else {
+        return Err(Unasked::Missing);
+    };
+    let senders = values(alloc, given, "senders")?;
+    Ok(Asked::Audit {
+        file,
+        users,
+        hosts,
+        workers,
+        senders,
+    })
+}
+
+// Returns the command that a subcommand asks for.
+fn asked_by<'a>(alloc: Global, name: &str, given: &ArgMatches<'a>) -> Result<Asked<'a>, Unasked>
+    ensures stated { IfOk result (λ a. HoldsCommand a (name.now, rows_of (found_of given.now))) }
+    ensures workers { IfOk result WorkersFit }
+    ensures nothing { IfErr result (λ e. e ≢ Unasked.Memory
         → AsksNothing (name.now, rows_of (found_of given.now))) }
-    ensures memory { IfErr result (λ e. error_kind e ≡ ErrorKind.OutOfMemory) }
 {
     if name == "check" {
-        return Ok(Some(Asked::Check {
-            file: value(given, "file")?,
-        }));
+        return asked_check(given);
     }
     if name == "expand" {
-        let Some(kind) = kind_of(value(given, "kind")?) else {
-            return Ok(None);
-        };
-        return Ok(Some(Asked::Expand {
-            file: value(given, "file")?,
-            kind,
-            name: value(given, "name")?,
-        }));
+        return asked_expand(given);
     }
     if name == "audit" {
-        return Ok(Some(Asked::Audit {
-            file: value(given, "file")?,
-            users: value(given, "users")?,
-            hosts: value(given, "hosts")?,
-            workers: workers(given)?,
-            senders: values(alloc, given, "senders")?,
-        }));
+        return asked_audit(alloc, given);
     }
-    Ok(None)
+    Err(Unasked::Missing)
+}
+
+// Returns the command that the subcommand asks for.
+fn asked_subcommand<'a>(alloc: Global, matches: &ArgMatches<'a>) -> Result<Asked<'a>, Unasked>
+    ensures stated { IfOk result (λ a. (p : Text × List Row)
+        × (subcommand_rows_of matches.now ≡ Some p) × HoldsCommand a p) }
+    ensures workers { IfOk result WorkersFit }
+    ensures nothing { IfErr result (λ e. e ≢ Unasked.Memory → (p : Text × List Row)
+        → subcommand_rows_of matches.now ≡ Some p → AsksNothing p) }
+{
+    match matches.subcommand() {
+        Some((name, given)) => asked_by(alloc, name, given),
+        None => Err(Unasked::Missing),
+    }
+}
+
+// Returns the error for words that ask for no command.
+fn unasked_error(command: &mut Command<'_>, unasked: Unasked) -> Result<Error, AllocError>
+    ensures memory { unasked ≡ Unasked.Memory
+        → IfOk result (λ e. error_kind e ≡ ErrorKind.OutOfMemory) }
+    ensures kinds { unasked ≢ Unasked.Memory
+        → IfOk result (λ e. IsUnaskedKind (error_kind e)) }
+{
+    match unasked {
+        Unasked::Missing => command.error(
+            ErrorKind::MissingRequiredArgument,
+            "a required argument was not provided",
+        ),
+        Unasked::BadKind => command.error(
+            ErrorKind::InvalidValue,
+            "KIND is user, runas, host or cmnd",
+        ),
+        Unasked::Memory => Ok(Error::from(AllocError)),
+    }
 }
 
 // Returns the command that the words ask for, as the program's command reads them.
@@ -124,13 +223,10 @@ fn asked_of<'a, S: AsStr>(
     ensures refused { IfErr result (λ e. IsErrorOfWords (map S.text words.entry.now) e) }
 {
     let matches = command.try_get_matches_from_mut(words)?;
-    if let Some((name, given)) = matches.subcommand() {
-        if let Some(asked) = asked_by(alloc, name, given)? {
-            return Ok(asked);
-        }
+    match asked_subcommand(alloc, &matches) {
+        Ok(asked) => Ok(asked),
+        Err(unasked) => Err(unasked_error(command, unasked)?),
     }
-    let text = "KIND is user, runas, host or cmnd";
-    Err(command.error(ErrorKind::InvalidValue, text)?)
 }
 
 /// Returns the command that the words ask for, the program's own name first, as `clap` reads them:

@@ -1,12 +1,14 @@
 -- One more row of a file with one row per membership.
-use Rattle.std.proofs.Common.{◌≡◌, ◌<◌, ◌∙◌, true, false, List, [], ◌∷◌, ◌++◌, refl, ap, sym, append_assoc, length, Option, Some, None, filter_map, nat_le}
+use Rattle.std.proofs.Common.{◌≡◌, ◌<◌, ◌∙◌, true, false, List, [], ◌∷◌, ◌++◌, refl, ap, sym, append_assoc, length}
+use Rattle.std.proofs.Common.{Option, Some, None, filter_map, nat_le}
 use Rattle.std.specs.Prelude.{bytes_eq, is_some}
 use Rattle.std.proofs.lemmas.Bool.{lt-leb}
 use Rattle.std.proofs.lemmas.List.Sums.{fold_push}
 use Rattle.sudo_match.specs.declared.people.Person.{Person}
 use Rattle.audit_files.specs.Rows.{Fields}
-use Rattle.audit_files.specs.Users.{followed_by, last_of, member_of, membership_fault, row_behind, row_fault, row_limit, users_of, users_of_rows, with_row}
-use Rattle.audit_files.proofs.Gathered.{gathers_some}
+use Rattle.audit_files.specs.Users.{followed_by, last_of, member_of, membership_fault, row_behind, row_fault}
+use Rattle.audit_files.specs.Users.{row_limit, users_of, users_of_rows, with_row}
+use Rattle.audit_files.proofs.RequestRecords.{gathers_some}
 
 -- a row behind the rows of the last of these users
 pub with_row-last : (front : List Person) (p row : Person) → with_row (front ++ p ∷ []) row ≡ front ++ followed_by p row

@@ -18,7 +18,8 @@ at_start fault start all = record { records = refl; first = refl }
 
 -- one more record
 pub one_more : (fault : Judging) (start all done : List Fields) (fields : Fields) (left after : List Fields)
-    → Reaches fault start all done left → left ≡ fields ∷ after → fault done fields ≡ None → Reaches fault start all (done ++ fields ∷ []) after
+    → Reaches fault start all done left → left ≡ fields ∷ after → fault done fields ≡ None
+    → Reaches fault start all (done ++ fields ∷ []) after
 one_more fault start all done fields left after far next faultless = record {
   records = rw next at far.records ∙ sym (append_assoc done (fields ∷ []) after);
   first = far.first ∙ rw (next, faultless) refl;

@@ -1,5 +1,6 @@
 -- The text of a record, field by field.
-use Rattle.std.proofs.Common.{◌≡◌, ◌<◌, ◌+◌, ◌∙◌, ℕ, suc, Bool, true, false, List, [], ◌∷◌, ◌++◌, length, drop, get_or, refl, sym, ap, cond, add-one, append_assoc, append-nil, drop-cons}
+use Rattle.std.proofs.Common.{◌≡◌, ◌<◌, ◌+◌, ◌∙◌, ℕ, suc, Bool, true, false, List, [], ◌∷◌, ◌++◌, length, drop}
+use Rattle.std.proofs.Common.{get_or, refl, sym, ap, cond, add-one, append_assoc, append-nil, drop-cons}
 use Rattle.std.specs.Prelude.{◌==◌}
 use Rattle.std.proofs.lemmas.Bool.{ne_eqb}
 use Rattle.csv.specs.Writing.{default_writer, escaped, field_text, fields_text, is_blank, row_text}
@@ -9,7 +10,8 @@ unfolding escaped
 escaped-cons b rest = by (b == 34)
   where
     by : (is_quote : Bool)
-        → cond is_quote (34 ∷ b ∷ escaped default_writer rest) (b ∷ escaped default_writer rest) ≡ cond is_quote (34 ∷ b ∷ []) (b ∷ []) ++ escaped default_writer rest
+        → cond is_quote (34 ∷ b ∷ escaped default_writer rest) (b ∷ escaped default_writer rest) ≡ cond is_quote
+        (34 ∷ b ∷ []) (b ∷ []) ++ escaped default_writer rest
     by true = refl
     by false = refl
 
@@ -28,7 +30,8 @@ pub escaped-next : (done field all : List ℕ) (i : ℕ) → i < length field �
 escaped-next done field all i h e =
     rw add-one
     (append_assoc done (escaped default_writer (get_or field i 0 ∷ [])) (escaped default_writer (drop (suc i) field))
-    ∙ ap (λ (t : List ℕ). done ++ t) (sym (escaped-cons (get_or field i 0) (drop (suc i) field)) ∙ ap (λ (t : List ℕ). escaped default_writer t) (sym (drop-cons field i 0 h)))
+    ∙ ap (λ (t : List ℕ). done ++ t) (sym (escaped-cons (get_or field i 0) (drop (suc i) field))
+    ∙ ap (λ (t : List ℕ). escaped default_writer t) (sym (drop-cons field i 0 h)))
     ∙ e)
 
 -- both quotes, and the bytes between them
@@ -44,7 +47,8 @@ regrouped s a b c d e t = simp (append_assoc, append-nil)
 
 -- a record of five fields
 pub five_fields : (start a b c d e : List ℕ)
-    → (((((start ++ field_text default_writer a) ++ 44 ∷ field_text default_writer b) ++ 44 ∷ field_text default_writer c) ++ 44 ∷ field_text default_writer d) ++ 44 ∷ field_text default_writer e) ++ 10 ∷ []
+    → (((((start ++ field_text default_writer a) ++ 44 ∷ field_text default_writer b) ++ 44
+    ∷ field_text default_writer c) ++ 44 ∷ field_text default_writer d) ++ 44 ∷ field_text default_writer e) ++ 10 ∷ []
     ≡ start ++ row_text default_writer (a ∷ b ∷ c ∷ d ∷ e ∷ [])
 unfolding fields_text is_blank
 five_fields start a b c d e =

@@ -15,21 +15,25 @@ abbrev user : List ℕ → ℕ → List Group → Person
 user name uid groups = record { name = name; uid = uid; groups = groups }
 
 -- one row a user, and the same users by their memberships
-pub by_user : people (codes "user,uid,groups\nb,2,\na,1,g:7 h:8\n") ≡ Ok (user (codes "b") 2 [] ∷ user (codes "a") 1 (group (codes "g") 7 ∷ group (codes "h") 8 ∷ []) ∷ [])
+pub by_user : people (codes "user,uid,groups\nb,2,\na,1,g:7 h:8\n") ≡ Ok (user (codes "b") 2 [] ∷ user (codes "a") 1
+    (group (codes "g") 7 ∷ group (codes "h") 8 ∷ []) ∷ [])
 unfolding records_from strip_bom next_record
 by_user = refl
 
-pub by_membership : people (codes "user,uid,gid,group\nb,2,,\na,1,7,g\na,1,8,h\n") ≡ Ok (user (codes "b") 2 [] ∷ user (codes "a") 1 (group (codes "g") 7 ∷ group (codes "h") 8 ∷ []) ∷ [])
+pub by_membership : people (codes "user,uid,gid,group\nb,2,,\na,1,7,g\na,1,8,h\n") ≡ Ok
+    (user (codes "b") 2 [] ∷ user (codes "a") 1 (group (codes "g") 7 ∷ group (codes "h") 8 ∷ []) ∷ [])
 unfolding records_from strip_bom next_record
 by_membership = refl
 
 -- names that a list of groups cannot hold
-pub any_name : people (codes "user,uid,gid,group\na,1,5,x y\na,1,6,x:y\n") ≡ Ok (user (codes "a") 1 (group (codes "x y") 5 ∷ group (codes "x:y") 6 ∷ []) ∷ [])
+pub any_name : people (codes "user,uid,gid,group\na,1,5,x y\na,1,6,x:y\n") ≡ Ok
+    (user (codes "a") 1 (group (codes "x y") 5 ∷ group (codes "x:y") 6 ∷ []) ∷ [])
 unfolding records_from strip_bom next_record
 any_name = refl
 
 -- rows that come back are a further user
-pub comes_back : people (codes "user,uid,gid,group\na,1,7,g\nb,2,,\na,3,8,h\n") ≡ Ok (user (codes "a") 1 (group (codes "g") 7 ∷ []) ∷ user (codes "b") 2 [] ∷ user (codes "a") 3 (group (codes "h") 8 ∷ []) ∷ [])
+pub comes_back : people (codes "user,uid,gid,group\na,1,7,g\nb,2,,\na,3,8,h\n") ≡ Ok
+    (user (codes "a") 1 (group (codes "g") 7 ∷ []) ∷ user (codes "b") 2 [] ∷ user (codes "a") 3 (group (codes "h") 8 ∷ []) ∷ [])
 unfolding records_from strip_bom next_record
 comes_back = refl
 

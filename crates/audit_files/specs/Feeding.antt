@@ -1,5 +1,6 @@
 -- The bytes that a reader has ahead, if it specifies them.
-use Rattle.std.specs.Prelude.{◌≡◌, ◌<◌, ◌+◌, ◌-◌, ◌*◌, ℕ, Bool, true, false, List, [], ◌++◌, length, take, min, nat_lt, if◌then◌else◌, ⊤, Option, Some, None, Result, Ok, Err}
+use Rattle.std.specs.Prelude.{◌≡◌, ◌<◌, ◌+◌, ◌-◌, ◌*◌, ℕ, Bool, true, false, List, [], ◌++◌, length, take, min}
+use Rattle.std.specs.Prelude.{nat_lt, if◌then◌else◌, ⊤, Option, Some, None, Result, Ok, Err}
 use Rattle.audit_files.specs.declared.failed.Failed.{Failed}
 
 -- the bytes that reads will return from here on, and whether reading then fails or ends
@@ -17,7 +18,8 @@ failures_of (Err e) = 1
 abbrev pub Reads : Option Ahead → Option Ahead → Result ℕ Failed → List ℕ → Type 0
 Reads None new result buffer = ⊤
 Reads (Some a) None result buffer = ⊥
-Reads (Some a) (Some b) (Ok n) buffer = (a.bytes ≡ take n buffer ++ b.bytes) × (a.fails ≡ b.fails) × (n ≡ 0 → 0 < length buffer → (a.bytes ≡ []) × (a.fails ≡ false))
+Reads (Some a) (Some b) (Ok n) buffer = (a.bytes ≡ take n buffer ++ b.bytes) × (a.fails ≡ b.fails)
+    × (n ≡ 0 → 0 < length buffer → (a.bytes ≡ []) × (a.fails ≡ false))
 Reads (Some a) (Some b) (Err e) buffer = (a.bytes ≡ []) × (a.fails ≡ true) × (b ≡ a)
 
 -- how many bytes the reads before the read with this number return, each a whole step as long as

@@ -1,6 +1,7 @@
 -- The content of a file: from the bytes of a reader to its records, and to the value that they
 -- state.
-use Rattle.std.specs.Prelude.{◌≡◌, ⊤, ℕ, Bool, List, [], ◌∷◌, length, nat_eq, nat_lt, slice_index_or, Option, Some, None, Result, Ok, Err, if◌then◌else◌}
+use Rattle.std.specs.Prelude.{◌≡◌, ⊤, ℕ, Bool, List, [], ◌∷◌, length, nat_eq, nat_lt, Option, Some}
+use Rattle.std.specs.Prelude.{None, Result, Ok, Err, if◌then◌else◌}
 use Rattle.std.specs.Cmp.Lexicographic.{pointwise}
 use Rattle.audit_files.specs.Feeding.{Ahead}
 use Rattle.audit_files.specs.Faults.{IsNotOutOfMemory, unless}
@@ -12,28 +13,21 @@ use Rattle.audit_files.specs.declared.fault.FileFault.TheVariants.{Header, TooMa
 abbrev pub same_fields : Fields → Fields → Bool
 same_fields = pointwise (pointwise nat_eq)
 
--- the field at this index
-abbrev pub field_in : Fields → ℕ → List ℕ
-field_in fields at = slice_index_or fields at []
-
 -- the records after the header, if the first record is the header
 abbrev pub after_header : Fields → List Fields → Option (List Fields)
 after_header header [] = None
 after_header header (first ∷ rest) = if same_fields first header then Some rest else None
 
--- the first fault of the records after the header, or `Header` without a header
-abbrev pub first_record_fault : (List Fields → Fields → Option FileFault) → Option (List Fields) → Option FileFault
-first_record_fault fault None = Some Header
-first_record_fault fault (Some rest) = first_fault fault [] rest
-
 -- the value that the records after the header state, or their fault
-abbrev pub stated_by : {T : Type 0} → (List Fields → Fields → Option FileFault) → (List Fields → T) → Option (List Fields) → Result T FileFault
+abbrev pub stated_by : {T : Type 0} → (List Fields → Fields → Option FileFault) → (List Fields → T)
+    → Option (List Fields) → Result T FileFault
 stated_by fault value None = Err Header
 stated_by fault value (Some rest) = unless (first_fault fault [] rest) (value rest)
 
 -- the value that the records of a file state under this header; `Header` if the header is another
 -- or missing
-abbrev pub value_in_file : {T : Type 0} → Fields → (List Fields → Fields → Option FileFault) → (List Fields → T) → List Fields → Result T FileFault
+abbrev pub value_in_file : {T : Type 0} → Fields → (List Fields → Fields → Option FileFault) → (List Fields → T)
+    → List Fields → Result T FileFault
 value_in_file header fault value all = stated_by fault value (after_header header all)
 
 -- the most bytes that a file may have
@@ -66,7 +60,8 @@ MayBeAhead None a = ⊤
 MayBeAhead (Some readable_bytes) a = a ≡ readable_bytes
 
 -- these may be the bytes ahead of the reader, and this result is read from them
-pub record IsRead {T : Type 0} (meaning : List ℕ → Result T FileFault) (readable_bytes : Option Ahead) (result : Result T FileFault) : Type 0 where
+pub record IsRead {T : Type 0} (meaning : List ℕ → Result T FileFault) (readable_bytes : Option Ahead)
+    (result : Result T FileFault) : Type 0 where
   pub ahead : Ahead
   pub gives : MayBeAhead readable_bytes ahead
   pub states : read_as meaning ahead ≡ result

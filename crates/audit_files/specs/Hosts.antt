@@ -1,5 +1,6 @@
 -- The content of a hosts file.
-use Rattle.std.specs.Prelude.{◌≡◌, refl, Bool, true, false, nat_le, ℕ, List, [], ◌∷◌, ◌+◌, ◌*◌, nat_lt, codes, filter_map, Option, Some, None, Result, option_map, option_and_then, if◌then◌else◌}
+use Rattle.std.specs.Prelude.{◌≡◌, refl, Bool, true, false, nat_le, ℕ, List, [], ◌∷◌, ◌+◌, ◌*◌, nat_lt, codes}
+use Rattle.std.specs.Prelude.{filter_map, Option, Some, None, Result, option_map, option_and_then, if◌then◌else◌}
 use Rattle.std.proofs.lemmas.Bool.{leb-true}
 use Rattle.sudo_match.specs.declared.people.Interface.{Interface}
 use Rattle.sudo_match.specs.declared.people.Machine.{Machine}
@@ -32,7 +33,8 @@ address_by _ _ _ _ = None
 abbrev pub host_address : List ℕ → Option ℕ
 host_address text =
     option_and_then (λ p. option_and_then (λ q. option_and_then (λ r.
-    address_by (address_byte p.0) (address_byte q.0) (address_byte r.0) (address_byte r.1)) (cut_at 46 q.1)) (cut_at 46 p.1)) (cut_at 46 text)
+    address_by (address_byte p.0) (address_byte q.0) (address_byte r.0) (address_byte r.1)) (cut_at 46 q.1))
+    (cut_at 46 p.1)) (cut_at 46 text)
 
 -- an interface with this number of bits, if they are at most 32
 abbrev pub interface_if : (addr bits : ℕ) (fits : Bool) → nat_le bits 32 ≡ fits → Option Interface
@@ -45,7 +47,8 @@ interface_with addr bits = interface_if addr bits (nat_le bits 32) refl
 -- an address, a slash, and the number of its network bits, up to 32
 abbrev pub interface_of : List ℕ → Option Interface
 interface_of word =
-    option_and_then (λ p. option_and_then (λ a. option_and_then (λ n. interface_with a n) (numeral_value p.1)) (host_address p.0)) (cut_at 47 word)
+    option_and_then (λ p. option_and_then (λ a. option_and_then (λ n. interface_with a n) (numeral_value p.1))
+    (host_address p.0)) (cut_at 47 word)
 
 -- a nonempty host, and interfaces separated by one space
 abbrev pub machine_of : Fields → Option Machine

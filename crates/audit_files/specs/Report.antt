@@ -66,7 +66,8 @@ verdict_tags (Unknown w) = []
 
 -- the fields of an answer's record
 abbrev pub answer_fields : List (List ℕ) → List ℕ → Answer → List (List ℕ)
-answer_fields files sender a = sender ∷ decimal a.request.number ∷ verdict_word a.verdict ∷ verdict_place files a.verdict ∷ verdict_tags a.verdict ∷ []
+answer_fields files sender a = sender ∷ decimal a.request.number ∷ verdict_word a.verdict
+    ∷ verdict_place files a.verdict ∷ verdict_tags a.verdict ∷ []
 
 -- one record for each answer of a sender, in order
 abbrev pub sender_text : List (List ℕ) → SenderReport → List ℕ

@@ -1,5 +1,7 @@
 -- The content of a requests file.
-use Rattle.std.specs.Prelude.{⊤, ◌<◌, ℕ, suc, Bool, false, not, List, [], ◌∷◌, ◌+◌, ◌-◌, ◌==◌, ◌&&◌, ◌||◌, nat_le, nat_eq, length, codes, filter_map, slice_get, is_some, Option, Some, None, Result, option_map, if◌then◌else◌}
+use Rattle.std.specs.Prelude.{⊤, ◌<◌, ℕ, suc, Bool, false, not, List, [], ◌∷◌, ◌+◌, ◌-◌, ◌==◌, ◌&&◌, ◌||◌, nat_le}
+use Rattle.std.specs.Prelude.{nat_eq, length, codes, filter_map, slice_get, is_some, Option, Some, None, Result}
+use Rattle.std.specs.Prelude.{option_map, if◌then◌else◌}
 use Rattle.std.specs.Option.{option_map_or}
 use Rattle.std.specs.Cmp.Lexicographic.{pointwise}
 use Rattle.sudo_match.specs.declared.request.Request.{Request}
@@ -9,7 +11,6 @@ use Rattle.sudo_match.specs.Matching.{is_empty}
 use Rattle.audit_files.specs.Rows.{Fields, records_of}
 use Rattle.audit_files.specs.declared.fault.FileFault.{FileFault}
 use Rattle.audit_files.specs.declared.fault.FileFault.TheVariants.{BadRow, OutOfOrder, RowAfterClose, TooMany}
-use Rattle.audit_files.specs.declared.requests.RequestRow.{RequestRow}
 use Rattle.audit_files.specs.declared.requests.Requests.{Requests}
 
 abbrev pub same_text : List ℕ → List ℕ → Bool
@@ -17,7 +18,8 @@ same_text = pointwise nat_eq
 
 -- the header of a requests file
 abbrev pub requests_header : Fields
-requests_header = codes "number" ∷ codes "user" ∷ codes "host" ∷ codes "runas_user" ∷ codes "runas_group" ∷ codes "command" ∷ codes "arguments" ∷ []
+requests_header = codes "number" ∷ codes "user" ∷ codes "host" ∷ codes "runas_user" ∷ codes "runas_group"
+    ∷ codes "command" ∷ codes "arguments" ∷ []
 
 -- the target that a field asks for: none if it is empty
 abbrev pub asked_for : List ℕ → Option (List ℕ)
@@ -53,14 +55,11 @@ request_of (number ∷ user ∷ host ∷ runas_user ∷ runas_group ∷ command 
     }) (asked_number number user host command)
 request_of _ = None
 
--- the fields of a row
-abbrev pub fields_in : RequestRow → Fields
-fields_in row = row.number.now ∷ row.user.now ∷ row.host.now ∷ row.runas_user.now ∷ row.runas_group.now ∷ row.command.now ∷ row.arguments.now ∷ []
-
 -- the count of a close row: the word, the count and five empty fields
 abbrev pub close_of : Fields → Option ℕ
 close_of (word ∷ count ∷ host ∷ runas_user ∷ runas_group ∷ command ∷ arguments ∷ []) =
-    if same_text word (codes "close") && (is_empty host && (is_empty runas_user && (is_empty runas_group && (is_empty command && is_empty arguments))))
+    if same_text word (codes "close")
+    && (is_empty host && (is_empty runas_user && (is_empty runas_group && (is_empty command && is_empty arguments))))
     then numeral_value count
     else None
 close_of _ = None

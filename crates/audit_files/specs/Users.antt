@@ -1,5 +1,7 @@
 -- The content of a users file.
-use Rattle.std.specs.Prelude.{⊤, ◌≡◌, ℕ, Bool, true, false, not, List, [], ◌∷◌, ◌++◌, ◌+◌, ◌-◌, ◌==◌, ◌&&◌, ◌||◌, nat_le, length, codes, bytes_eq, filter_map, flat_map, fold, map, slice_get, is_some, Option, Some, None, Result, option_map, option_and_then, if◌then◌else◌}
+use Rattle.std.specs.Prelude.{⊤, ◌≡◌, ℕ, Bool, true, false, not, List, [], ◌∷◌, ◌++◌, ◌+◌, ◌-◌, ◌==◌, ◌&&◌, ◌||◌}
+use Rattle.std.specs.Prelude.{nat_le, length, codes, bytes_eq, filter_map, flat_map, fold, map, slice_get, is_some}
+use Rattle.std.specs.Prelude.{Option, Some, None, Result, option_map, option_and_then, if◌then◌else◌}
 use Rattle.sudo_match.specs.declared.people.Group.{Group}
 use Rattle.sudo_match.specs.declared.people.Person.{Person}
 use Rattle.audit_files.specs.Files.{after_header, value_in_file}
@@ -18,13 +20,15 @@ users_header = codes "user" ∷ codes "uid" ∷ codes "groups" ∷ []
 -- a nonempty name, a colon, and a number
 abbrev pub membership_of : List ℕ → Option Group
 membership_of word =
-    option_and_then (λ p. if is_empty p.0 then None else option_map (λ n. record { name = p.0; gid = n }) (numeral_value p.1)) (cut_at 58 word)
+    option_and_then (λ p. if is_empty p.0 then None else option_map (λ n. record { name = p.0; gid = n })
+    (numeral_value p.1)) (cut_at 58 word)
 
 -- a nonempty user, a number, and groups separated by one space
 abbrev pub person_of : Fields → Option Person
 person_of (user ∷ uid ∷ groups ∷ []) =
     if is_empty user then None
-    else option_and_then (λ n. option_map (λ gs. record { name = user; uid = n; groups = gs }) (items_of membership_of groups)) (numeral_value uid)
+    else option_and_then (λ n. option_map (λ gs. record { name = user; uid = n; groups = gs })
+    (items_of membership_of groups)) (numeral_value uid)
 person_of _ = None
 
 -- the most rows that a users or a hosts file may have
@@ -55,7 +59,8 @@ groups_of_row gid name =
 abbrev pub member_of : Fields → Option Person
 member_of (user ∷ uid ∷ gid ∷ group ∷ []) =
     if is_empty user then None
-    else option_and_then (λ n. option_map (λ gs. record { name = user; uid = n; groups = gs }) (groups_of_row gid group)) (numeral_value uid)
+    else option_and_then (λ n. option_map (λ gs. record { name = user; uid = n; groups = gs })
+    (groups_of_row gid group)) (numeral_value uid)
 member_of _ = None
 
 -- the users after a row that follows a row of this user: a row of the same user adds its group, and

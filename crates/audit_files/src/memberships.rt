@@ -5,7 +5,8 @@ ghost use Rattle.csv.specs.Records.{fields_of};
 ghost use Rattle.audit_files.specs.Faults.{IsNotOutOfMemory, failures_in};
 ghost use Rattle.audit_files.specs.Files.{after_header, same_fields, value_in_file};
 ghost use Rattle.audit_files.specs.Rows.{records_of};
-ghost use Rattle.audit_files.specs.Users.{goes_after, groups_of_row, has_groups as group_test, last_of, member_of, membership_fault, memberships_header, row_behind, users_of, with_row};
+ghost use Rattle.audit_files.specs.Users.{goes_after, groups_of_row, has_groups as group_test, last_of, member_of};
+ghost use Rattle.audit_files.specs.Users.{membership_fault, memberships_header, row_behind, users_of, with_row};
 
 use crate::FileFault;
 use crate::fields::field;

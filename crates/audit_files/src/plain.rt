@@ -2,7 +2,7 @@
 ghost use Rattle.std.specs.Prelude.{◌≡◌, ◌≤◌, ◌<◌, ◌∷◌, ◌++◌, [], ℕ, List, true, IfSome, length, take};
 ghost use Rattle.std.specs.List.{list_all};
 ghost use Rattle.csv.specs.Reading.{default_config, records};
-ghost use Rattle.audit_files.specs.Requests.{fields_in};
+ghost use Rattle.audit_files.specs.Body.Requests.{fields_in};
 ghost use Rattle.audit_files.specs.Rows.{records_of};
 ghost use Rattle.audit_files.specs.Body.Plain.{IsBehind, IsFieldBefore, is_field_byte as field_test};
 

@@ -44,8 +44,9 @@ fn push_quoted(text: &mut Vec<u8>, field: &[u8]) -> Result<(), AllocError>
     Ok(())
 }
 
-/// Appends a field, between quotes if it has a byte that calls for them.
-pub(crate) fn push_field(text: &mut Vec<u8>, field: &[u8]) -> Result<(), AllocError>
+/// Appends a field of a CSV record, between quotes if it has a byte that calls for them. Returns `AllocError` if
+/// allocation failed.
+pub fn push_field(text: &mut Vec<u8>, field: &[u8]) -> Result<(), AllocError>
     ensures { OnOk result (text.new.items
         ≡ text.old.items ++ field_text default_writer field.now) }
 {

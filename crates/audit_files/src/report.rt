@@ -1,7 +1,9 @@
 //! The text of a report, record by record.
 ghost use Rattle.std.specs.Prelude.{◌≡◌, ◌++◌, ◌∷◌, [], ℕ, List, IfOk, OnOk};
 ghost use Rattle.csv.specs.Writing.{default_writer, field_text};
-ghost use Rattle.audit_files.specs.Report.{answer_fields, header, line, report_text as text_of, sender_text, tags_text, verdict_place, verdict_tags, verdict_word, with_tag_name, with_tag};
+ghost use Rattle.audit_files.specs.Report.{answer_fields, header, line, report_text as text_of, sender_text};
+ghost use Rattle.audit_files.specs.Report.{tags_text, verdict_place, verdict_tags, verdict_word, with_tag_name};
+ghost use Rattle.audit_files.specs.Report.{with_tag};
 
 use crate::places::push_place;
 use crate::quoting::{push_field, push_four};
@@ -62,8 +64,9 @@ fn put_tag(text: &mut Vec<u8>, pair: TagPair, choice: Option<bool>) -> Result<()
     }
 }
 
-// Puts the tags that are set.
-fn put_tags(text: &mut Vec<u8>, tags: &Tags) -> Result<(), AllocError>
+/// Puts the names of the tags that are set, in the order of the pairs and separated by a space, into an empty text. Returns
+/// `AllocError` if allocation failed.
+pub fn put_tags(text: &mut Vec<u8>, tags: &Tags) -> Result<(), AllocError>
     requires { text.old.items ≡ [] }
     ensures { OnOk result (text.new.items ≡ tags_text tags.now) }
 {

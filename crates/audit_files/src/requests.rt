@@ -1,11 +1,17 @@
 //! Requests files.
-ghost use Rattle.std.specs.Prelude.{◌≡◌, ◌≢◌, ◌<◌, ◌+◌, ◌∷◌, ◌++◌, [], Some, Ok, Err, List, ℕ, IfOk, OnOk, IfErr, IfSome, IfNone, length, slice_get, take};
+ghost use Rattle.std.specs.Prelude.{◌≡◌, ◌≢◌, ◌<◌, ◌+◌, ◌∷◌, ◌++◌, [], Some, Ok, Err, List, ℕ, IfOk, OnOk, IfErr};
+ghost use Rattle.std.specs.Prelude.{IfSome, IfNone, length, slice_get, take};
 ghost use Rattle.csv.specs.Records.{fields_of};
 ghost use Rattle.audit_files.specs.Faults.{IsNotOutOfMemory, failures_in, read_failures};
 ghost use Rattle.audit_files.specs.Body.Gathering.{HoldsRecords};
-ghost use Rattle.audit_files.specs.Files.{IsStatedBy, after_header, first_record_fault, same_fields};
+ghost use Rattle.audit_files.specs.Files.{IsStatedBy, after_header, same_fields};
+ghost use Rattle.audit_files.specs.Body.Files.{first_record_fault};
 ghost use Rattle.audit_files.specs.Rows.{Fields, first_fault, records_of};
-ghost use Rattle.audit_files.specs.Requests.{asked_for, asked_number as number_asked, close_of, closes_in, fields_in, request_fault, requests_header, requests_in, requests_of_file, is_command as command_test, last_number as number_of_last, order_fault as fault_of_order, request_of};
+ghost use Rattle.audit_files.specs.Requests.{asked_for, asked_number as number_asked, close_of, closes_in};
+ghost use Rattle.audit_files.specs.Body.Requests.{fields_in};
+ghost use Rattle.audit_files.specs.Requests.{request_fault, requests_header, requests_in, requests_of_file};
+ghost use Rattle.audit_files.specs.Requests.{is_command as command_test, last_number as number_of_last};
+ghost use Rattle.audit_files.specs.Requests.{order_fault as fault_of_order, request_of};
 
 use crate::fields::field;
 use crate::number::number;

@@ -97,7 +97,7 @@ impl Feed for Script {
 
     ghost failed_reads = { λ s. times s.failed_reads };
 
-    #[tactic(auto, using(crate::proofs::Took::front_and_rest))]
+    #[tactic(auto, using(crate::proofs::WholeReads::front_and_rest))]
     fn read(&mut self, buffer: &mut [u8]) -> Result<usize, Failed> {
         let count = copy_front(&self.text[self.at..], buffer, self.step.max(1));
         if self.fails && self.at == self.text.len() {
@@ -143,7 +143,7 @@ impl Sink for Script {
 
 impl Script {
     ghost use Rattle.audit_files.specs.Script.{stalled_of, taken_of, writes_of};
-    ghost use Rattle.audit_files.specs.Sinking.{CountsDown};
+    ghost use Rattle.audit_files.specs.Body.Sinking.{CountsDown};
 
     // Writes once, without counting a failure.
     fn take(&mut self, bytes: &[u8]) -> Result<usize, Failed>

@@ -2,9 +2,11 @@
 ghost use Rattle.std.specs.Prelude.{◌≡◌, ◌+◌, ◌∷◌, ◌++◌, [], ℕ, List, Option, Some, None, length, OnOk, IfErr};
 ghost use Rattle.csv.specs.Records.{fields_of};
 ghost use Rattle.audit_files.specs.Faults.{IsNotOutOfMemory, failures_in};
-ghost use Rattle.audit_files.specs.Files.{first_record_fault, after_header, same_fields};
+ghost use Rattle.audit_files.specs.Files.{after_header, same_fields};
+ghost use Rattle.audit_files.specs.Body.Files.{first_record_fault};
 ghost use Rattle.audit_files.specs.declared.fault.FileFault.{FileFault};
-ghost use Rattle.audit_files.specs.Rows.{Fields, IsReading, first_fault, records_of, rows_left};
+ghost use Rattle.audit_files.specs.Rows.{Fields, first_fault, records_of};
+ghost use Rattle.audit_files.specs.Body.Rows.{IsReading, rows_left};
 
 use crate::FileFault;
 use crate::rows::Rows;

@@ -13,13 +13,26 @@ use Rattle.audit_run.specs.Names.{answer}
 use Rattle.audit_run.specs.Passes.{PassView, with_job_taken, with_outcome_put, with_job_put}
 use Rattle.audit_run.specs.Body.FreshPasses.{with_messages}
 use Rattle.audit_run.specs.Arrivals.{arrivals_of}
-use Rattle.audit_run.specs.Body.Gathered.{collector_after, is_last_outcome, is_stopped, RanOutOfMemory, Counts, Gathers, Conducts, HasGatheredAll, Drains}
+use Rattle.audit_run.specs.Body.Gathered.{collector_after, is_last_outcome, is_stopped, RanOutOfMemory, Counts}
+use Rattle.audit_run.specs.Body.Gathered.{Gathers, Conducts, HasGatheredAll, Drains}
 
 pub gaining_none : (p : PassView) → with_messages p [] [] [] [] ≡ p
-gaining_none p = λ i. record p { jobs_put = append-nil p.jobs_put i; jobs_taken = append-nil p.jobs_taken i; outcomes_put = append-nil p.outcomes_put i; outcomes_taken = append-nil p.outcomes_taken i }
+gaining_none p = λ i. record p {
+  jobs_put = append-nil p.jobs_put i;
+  jobs_taken = append-nil p.jobs_taken i;
+  outcomes_put = append-nil p.outcomes_put i;
+  outcomes_taken = append-nil p.outcomes_taken i;
+}
 
-pub gaining_more : (p : PassView) (a b : List Job) (c d : List Outcome) (a' b' : List Job) (c' d' : List Outcome) → with_messages (with_messages p a b c d) a' b' c' d' ≡ with_messages p (a ++ a') (b ++ b') (c ++ c') (d ++ d')
-gaining_more p a b c d a' b' c' d' = λ i. record p { jobs_put = append_assoc p.jobs_put a a' i; jobs_taken = append_assoc p.jobs_taken b b' i; outcomes_put = append_assoc p.outcomes_put c c' i; outcomes_taken = append_assoc p.outcomes_taken d d' i }
+pub gaining_more : (p : PassView) (a b : List Job) (c d : List Outcome) (a' b' : List Job) (c' d' : List Outcome)
+    → with_messages (with_messages p a b c d) a' b' c' d' ≡ with_messages p (a ++ a') (b ++ b') (c ++ c') (d ++ d')
+gaining_more p a b c d a' b' c' d' = λ i. record p {
+  jobs_put = append_assoc p.jobs_put a a' i;
+  jobs_taken = append_assoc p.jobs_taken b b' i;
+  outcomes_put = append_assoc p.outcomes_put c c' i;
+  outcomes_taken =
+      append_assoc p.outcomes_taken d d' i;
+}
 
 pub arrivals_of-append : (xs ys : List Outcome) → arrivals_of (xs ++ ys) ≡ arrivals_of xs ++ arrivals_of ys
 arrivals_of-append [] ys = refl
@@ -34,11 +47,14 @@ pub gathers_more : (g h k : Gathering) (xs ys : List Outcome) → Gathers g xs h
 gathers_more g h k xs ys one two = record {
   stuck = λ m. two.stuck (one.stuck m);
   same = ⊎_elim (λ (m : RanOutOfMemory k). inl m)
-      (λ (t : (rest : List Arrival) → collector_after h.collector h.refused (arrivals_of ys ++ rest) ≡ collector_after k.collector k.refused rest).
+      (λ (t : (rest : List Arrival) → collector_after h.collector h.refused (arrivals_of ys ++ rest) ≡ collector_after
+      k.collector k.refused rest).
       ⊎_elim (λ (m : RanOutOfMemory h). inl (two.stuck m))
-      (λ (o : (rest : List Arrival) → collector_after g.collector g.refused (arrivals_of xs ++ rest) ≡ collector_after h.collector h.refused rest).
+      (λ (o : (rest : List Arrival) → collector_after g.collector g.refused (arrivals_of xs ++ rest) ≡ collector_after
+      h.collector h.refused rest).
       inr (λ rest. ap (λ l. collector_after g.collector g.refused (l ++ rest)) (arrivals_of-append xs ys)
-      ∙ (ap (collector_after g.collector g.refused) (append_assoc (arrivals_of xs) (arrivals_of ys) rest) ∙ (o (arrivals_of ys ++ rest) ∙ t rest))))
+      ∙ (ap (collector_after g.collector g.refused) (append_assoc (arrivals_of xs) (arrivals_of ys) rest)
+      ∙ (o (arrivals_of ys ++ rest) ∙ t rest))))
       one.same)
       two.same;
 }
@@ -55,7 +71,8 @@ counts_more g h k xs ys one two = record {
 pub conducts_none : (p : PassView) (g : Gathering) → Conducts p g [] p g
 conducts_none p g = record { outcomes = []; pass = sym (gaining_none p); gathered = gathers_none g; counted = counts_none g }
 
-pub conducts_more : (p q r : PassView) (g h k : Gathering) (js ks : List Job) → Conducts p g js q h → Conducts q h ks r k → Conducts p g (js ++ ks) r k
+pub conducts_more : (p q r : PassView) (g h k : Gathering) (js ks : List Job) → Conducts p g js q h
+    → Conducts q h ks r k → Conducts p g (js ++ ks) r k
 conducts_more p q r g h k js ks one two = record {
   outcomes = one.outcomes ++ two.outcomes;
   pass = two.pass ∙ (ap (λ x. with_messages x ks [] [] two.outcomes) one.pass ∙ gaining_more p js [] [] one.outcomes ks [] [] two.outcomes);
@@ -80,12 +97,25 @@ conducted p q g h js sources workers one no_source no_worker =
 
 -- the pass was as it is now
 pub conducts_from : (p q r : PassView) (g h : Gathering) (js : List Job) → q ≡ p → Conducts q g js r h → Conducts p g js r h
-conducts_from p q r g h js same one = record { outcomes = one.outcomes; pass = one.pass ∙ ap (λ x. with_messages x js [] [] one.outcomes) same; gathered = one.gathered; counted = one.counted }
+conducts_from p q r g h js same one = record {
+  outcomes = one.outcomes;
+  pass = one.pass
+      ∙ ap (λ x. with_messages x js [] [] one.outcomes) same;
+  gathered = one.gathered;
+  counted = one.counted;
+}
 
-pub conducts_put : (p q r : PassView) (g h : Gathering) (js : List Job) (job : Job) → Conducts p g js q h → r ≡ with_job_put q job → Conducts p g (js ++ job ∷ []) r h
+pub conducts_put : (p q r : PassView) (g h : Gathering) (js : List Job) (job : Job) → Conducts p g js q h
+    → r ≡ with_job_put q job → Conducts p g (js ++ job ∷ []) r h
 conducts_put p q r g h js job one put = record {
   outcomes = one.outcomes;
-  pass = put ∙ (ap (λ x. with_job_put x job) one.pass ∙ (λ i. record p { jobs_put = append_assoc p.jobs_put js (job ∷ []) i; jobs_taken = p.jobs_taken ++ []; outcomes_put = p.outcomes_put ++ []; outcomes_taken = p.outcomes_taken ++ one.outcomes }));
+  pass = put ∙ (ap (λ x. with_job_put x job) one.pass
+      ∙ (λ i. record p {
+        jobs_put = append_assoc p.jobs_put js (job ∷ []) i;
+        jobs_taken = p.jobs_taken ++ [];
+        outcomes_put = p.outcomes_put ++ [];
+        outcomes_taken = p.outcomes_taken ++ one.outcomes;
+      }));
   gathered = one.gathered;
   counted = one.counted;
 }
@@ -93,26 +123,37 @@ conducts_put p q r g h js job one put = record {
 pub drains_none : (names : Names) (p : PassView) (g : Gathering) → Drains names p g p g
 drains_none names p g = record { jobs = []; outcomes = []; pass = sym (gaining_none p); gathered = gathers_none g }
 
-pub drains_gathering : (names : Names) (p q r : PassView) (g h k : Gathering) → Drains names p g q h → Conducts q h [] r k → Drains names p g r k
+pub drains_gathering : (names : Names) (p q r : PassView) (g h k : Gathering) → Drains names p g q h
+    → Conducts q h [] r k → Drains names p g r k
 drains_gathering names p q r g h k one two =
     let done : List Outcome = map (answer names) one.jobs in
     let more = gaining_more p [] one.jobs done one.outcomes [] [] [] two.outcomes in
     record {
       jobs = one.jobs;
       outcomes = one.outcomes ++ two.outcomes;
-      pass = two.pass ∙ (ap (λ x. with_messages x [] [] [] two.outcomes) one.pass ∙ (more ∙ (λ i. with_messages p [] (append-nil one.jobs i) (append-nil done i) (one.outcomes ++ two.outcomes))));
+      pass = two.pass ∙ (ap (λ x. with_messages x [] [] [] two.outcomes) one.pass
+          ∙ (more ∙ (λ i. with_messages p [] (append-nil one.jobs i) (append-nil done i) (one.outcomes ++ two.outcomes))));
       gathered = gathers_more g h k one.outcomes two.outcomes one.gathered two.gathered;
     }
 
-pub drains_answer : (names : Names) (p q r s : PassView) (g h : Gathering) (job : Job) → Drains names p g q h → r ≡ with_job_taken q job → s ≡ with_outcome_put r (answer names job) → Drains names p g s h
+pub drains_answer : (names : Names) (p q r s : PassView) (g h : Gathering) (job : Job) → Drains names p g q h
+    → r ≡ with_job_taken q job → s ≡ with_outcome_put r (answer names job) → Drains names p g s h
 drains_answer names p q r s g h job one taken put =
     let done : List Outcome = map (answer names) one.jobs in
-    let after = put ∙ (ap (λ x. with_outcome_put x (answer names job)) taken ∙ ap (λ x. with_outcome_put (with_job_taken x job) (answer names job)) one.pass) in
+    let after = put ∙ (ap (λ x. with_outcome_put x (answer names job)) taken
+    ∙ ap (λ x. with_outcome_put (with_job_taken x job) (answer names job)) one.pass) in
     let all : (p.outcomes_put ++ done) ++ answer names job ∷ [] ≡ p.outcomes_put ++ map (answer names) (one.jobs ++ job ∷ []) =
-    append_assoc p.outcomes_put done (answer names job ∷ []) ∙ ap (λ l. p.outcomes_put ++ l) (sym (map-append (answer names) one.jobs (job ∷ []))) in
+    append_assoc p.outcomes_put done (answer names job ∷ [])
+    ∙ ap (λ l. p.outcomes_put ++ l) (sym (map-append (answer names) one.jobs (job ∷ []))) in
     record {
       jobs = one.jobs ++ job ∷ [];
       outcomes = one.outcomes;
-      pass = after ∙ (λ i. record p { jobs_put = p.jobs_put ++ []; jobs_taken = append_assoc p.jobs_taken one.jobs (job ∷ []) i; outcomes_put = all i; outcomes_taken = p.outcomes_taken ++ one.outcomes });
+      pass = after ∙ (λ i. record p {
+        jobs_put = p.jobs_put ++ [];
+        jobs_taken = append_assoc p.jobs_taken one.jobs
+            (job ∷ []) i;
+        outcomes_put = all i;
+        outcomes_taken = p.outcomes_taken ++ one.outcomes;
+      });
       gathered = one.gathered;
     }

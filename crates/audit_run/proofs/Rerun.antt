@@ -16,9 +16,9 @@ use Rattle.audit_run.specs.Parts.{AreRead, Stated, faults_of, parts_by_owner}
 use Rattle.audit_run.specs.Passes.{PassView}
 use Rattle.audit_run.specs.Roster.{roster}
 use Rattle.audit_run.specs.Shards.{AreDisjoint, AreShards, IsJoined, IsNoneOfSources, MayReturn, joined_report, names_of_sources, told_of}
-use Rattle.audit_run.proofs.Excluding.{one_report, whole_not_lacking, whole_not_refused}
-use Rattle.audit_run.proofs.Owned.{all_owned}
-use Rattle.audit_run.proofs.Sharded.{outcome_cut, outcome_joined}
+use Rattle.audit_run.proofs.WholeSources.{one_report, whole_not_lacking, whole_not_refused}
+use Rattle.audit_run.proofs.SourceContent.{all_owned}
+use Rattle.audit_run.proofs.ShardLaw.{outcome_cut, outcome_joined}
 
 -- the bytes ahead state one thing
 reads : (a : Ahead) (state : Stated) → IsRead requests_of_file (Some a) state → read_as requests_of_file a ≡ state
@@ -27,7 +27,8 @@ reads a state is = ap (read_as requests_of_file) (sym is.gives) ∙ is.states
 same_state : (a : Ahead) (one other : Stated) → IsRead requests_of_file (Some a) one → IsRead requests_of_file (Some a) other → one ≡ other
 same_state a one other is also = sym (reads a one is) ∙ reads a other also
 
-same_states : (sources : List (List ℕ × Ahead)) (states more : List Stated) → AreRead (told_of sources) states → AreRead (told_of sources) more → NoneRefused (faults_of states) → NoneRefused (faults_of more) → states ≡ more
+same_states : (sources : List (List ℕ × Ahead)) (states more : List Stated) → AreRead (told_of sources) states
+    → AreRead (told_of sources) more → NoneRefused (faults_of states) → NoneRefused (faults_of more) → states ≡ more
 same_states [] [] [] read also none none2 = refl
 same_states [] [] (s ∷ more) read also none none2 = absurd also
 same_states [] (s ∷ states) more read also none none2 = absurd read
@@ -36,10 +37,12 @@ same_states (source ∷ sources) (s ∷ states) [] read also none none2 = absurd
 same_states (source ∷ sources) (Err fault ∷ states) (t ∷ more) read also none none2 = absurd (none 0 fault refl)
 same_states (source ∷ sources) (Ok x ∷ states) (Err fault ∷ more) read also none none2 = absurd (none2 0 fault refl)
 same_states (source ∷ sources) (Ok x ∷ states) (Ok y ∷ more) read also none none2 = λ i.
-    same_state source.1 (Ok x) (Ok y) read.0 also.0 i ∷ same_states sources states more read.1 also.1 (λ index fault there. none (suc index) fault there) (λ index fault there. none2 (suc index) fault there) i
+    same_state source.1 (Ok x) (Ok y) read.0 also.0 i ∷ same_states sources states more read.1 also.1
+    (λ index fault there. none (suc index) fault there) (λ index fault there. none2 (suc index) fault there) i
 
 -- what states something is not refused
-not_refused : (sources : List (List ℕ × Ahead)) (states more : List Stated) → AreRead (told_of sources) states → AreRead (told_of sources) more → NoneRefused (faults_of more)
+not_refused : (sources : List (List ℕ × Ahead)) (states more : List Stated) → AreRead (told_of sources) states
+    → AreRead (told_of sources) more → NoneRefused (faults_of more)
     → (index : ℕ) (fault : FileFault) → IsNotOutOfMemory fault → slice_get (faults_of states) index ≡ Some (Some fault) → ⊥
 not_refused [] [] more read also none index fault of there = cc
 not_refused [] (s ∷ states) more read also none index fault of there = read
@@ -54,7 +57,8 @@ not_refused (source ∷ sources) (Err why ∷ states) (Ok y ∷ more) read also 
 not_refused (source ∷ sources) (s ∷ states) (Ok y ∷ more) read also none (suc index) fault of there =
     not_refused sources states more read.1 also.1 (λ p f at. none (suc p) f at) index fault of there
 
-read_joined : (first second : List (List ℕ × Ahead)) (states more : List Stated) → AreRead (told_of first) states → AreRead (told_of second) more → AreRead (told_of (first ++ second)) (states ++ more)
+read_joined : (first second : List (List ℕ × Ahead)) (states more : List Stated) → AreRead (told_of first) states
+    → AreRead (told_of second) more → AreRead (told_of (first ++ second)) (states ++ more)
 read_joined [] second [] more read also = also
 read_joined [] second (s ∷ states) more read also = absurd read
 read_joined (source ∷ first) second [] more read also = absurd read
@@ -68,32 +72,40 @@ record ReadInTwo (first second : List (List ℕ × Ahead)) (states : List Stated
   pub read : AreRead (told_of first) front
   pub also : AreRead (told_of second) rest
 
-read_in_two : (first second : List (List ℕ × Ahead)) (states : List Stated) → AreRead (told_of (first ++ second)) states → ReadInTwo first second states
+read_in_two : (first second : List (List ℕ × Ahead)) (states : List Stated)
+    → AreRead (told_of (first ++ second)) states → ReadInTwo first second states
 read_in_two [] second states read = record { front = []; rest = states; is = refl; read = tt; also = read }
 read_in_two (source ∷ first) second [] read = absurd read
 read_in_two (source ∷ first) second (s ∷ states) read =
     let more = read_in_two first second states read.1 in
     record { front = s ∷ more.front; rest = more.rest; is = ap (λ l. s ∷ l) more.is; read = (read.0, more.read); also = more.also }
 
-read_long : (sources : List (List ℕ × Ahead)) (states : List Stated) → AreRead (told_of sources) states → length states ≡ length (names_of_sources sources)
+read_long : (sources : List (List ℕ × Ahead)) (states : List Stated) → AreRead (told_of sources) states
+    → length states ≡ length (names_of_sources sources)
 read_long [] [] read = refl
 read_long [] (s ∷ states) read = absurd read
 read_long (source ∷ sources) [] read = absurd read
 read_long (source ∷ sources) (s ∷ states) read = ap suc (read_long sources states read.1)
 
 -- where what the bytes state has a report, an audit returns no other, and no fault of the sources
-module _ (names : Names) (sources : List (List ℕ × Ahead)) (states : List Stated) (report : Report) (read : AreRead (told_of sources) states) (outcome : IsOutcome names (names_of_sources sources) states (Ok report)) where
-  outcome_of : (states2 : List Stated) → AreRead (told_of sources) states2 → NoneRefused (faults_of states2) → IsOutcome names (names_of_sources sources) states2 (Ok report)
-  outcome_of states2 read2 none = subst (λ l. IsOutcome names (names_of_sources sources) l (Ok report)) (sym (same_states sources states2 states read2 read none outcome.0)) outcome
+module _ (names : Names) (sources : List (List ℕ × Ahead)) (states : List Stated) (report : Report)
+    (read : AreRead (told_of sources) states) (outcome : IsOutcome names (names_of_sources sources) states (Ok report)) where
+  outcome_of : (states2 : List Stated) → AreRead (told_of sources) states2 → NoneRefused (faults_of states2)
+      → IsOutcome names (names_of_sources sources) states2 (Ok report)
+  outcome_of states2 read2 none = subst (λ l. IsOutcome names (names_of_sources sources) l (Ok report))
+      (sym (same_states sources states2 states read2 read none outcome.0)) outcome
 
   one_returned : (whole : Report) → MayReturn names sources (Ok whole) → whole ≡ report
   one_returned whole returned =
-      let run : IsRunOutcome names (names_of_sources sources) (told_of sources) returned.workers returned.old returned.new (Ok whole) = returned.audited in
+      let run : IsRunOutcome names (names_of_sources sources) (told_of sources) returned.workers returned.old
+      returned.new (Ok whole) = returned.audited in
       let own = run.outcome in
       let made = outcome_of run.states run.read own.0 in
-      one_report names (roster (names_of_sources sources)) (parts_by_owner (names_of_sources sources) run.states) own.1 whole report own.2 made.2
+      one_report names (roster (names_of_sources sources)) (parts_by_owner (names_of_sources sources) run.states)
+      own.1 whole report own.2 made.2
 
-  no_fault_ran : (fault : AuditFault) (workers : ℕ) (old new : PassView) → IsRunOutcome names (names_of_sources sources) (told_of sources) workers old new (Err fault) → IsNoneOfSources fault
+  no_fault_ran : (fault : AuditFault) (workers : ℕ) (old new : PassView)
+      → IsRunOutcome names (names_of_sources sources) (told_of sources) workers old new (Err fault) → IsNoneOfSources fault
   no_fault_ran (Sender name part why) workers old new run =
       let (index, is_first, of_file, named, part_is) = run.outcome in
       not_refused sources run.states states run.read read outcome.0 index why of_file is_first.there
@@ -101,25 +113,31 @@ module _ (names : Names) (sources : List (List ℕ × Ahead)) (states : List Sta
   no_fault_ran (Collect (collect.Refused why)) workers old new run =
       let own = run.outcome in
       let made = outcome_of run.states run.read own.0 in
-      whole_not_refused (length (roster (names_of_sources sources))) (parts_by_owner (names_of_sources sources) run.states) why (all_owned (names_of_sources sources) run.states) made.1 own.1
+      whole_not_refused (length (roster (names_of_sources sources)))
+      (parts_by_owner (names_of_sources sources) run.states) why (all_owned (names_of_sources sources) run.states) made.1 own.1
   no_fault_ran (Collect (collect.Unfinished what)) workers old new run =
       let own = run.outcome in
       let made = outcome_of run.states run.read own.0 in
-      whole_not_lacking (length (roster (names_of_sources sources))) (parts_by_owner (names_of_sources sources) run.states) what made.1 own.1
+      whole_not_lacking (length (roster (names_of_sources sources)))
+      (parts_by_owner (names_of_sources sources) run.states) what made.1 own.1
   no_fault_ran NoThread workers old new run = tt
   no_fault_ran Memory workers old new run = tt
   no_fault_ran TooManyParts workers old new run = tt
 
   no_fault_returned : (fault : AuditFault) → MayReturn names sources (Err fault) → IsNoneOfSources fault
-  no_fault_returned (Sender name part why) returned = no_fault_ran (Sender name part why) returned.workers returned.old returned.new returned.audited
+  no_fault_returned (Sender name part why) returned =
+      no_fault_ran (Sender name part why) returned.workers returned.old returned.new returned.audited
   no_fault_returned (Collect (collect.Roster why)) returned = tt
-  no_fault_returned (Collect (collect.Refused why)) returned = no_fault_ran (Collect (collect.Refused why)) returned.workers returned.old returned.new returned.audited
-  no_fault_returned (Collect (collect.Unfinished what)) returned = no_fault_ran (Collect (collect.Unfinished what)) returned.workers returned.old returned.new returned.audited
+  no_fault_returned (Collect (collect.Refused why)) returned =
+      no_fault_ran (Collect (collect.Refused why)) returned.workers returned.old returned.new returned.audited
+  no_fault_returned (Collect (collect.Unfinished what)) returned =
+      no_fault_ran (Collect (collect.Unfinished what)) returned.workers returned.old returned.new returned.audited
   no_fault_returned NoThread returned = tt
   no_fault_returned Memory returned = tt
   no_fault_returned TooManyParts returned = tt
 
-module _ (names : Names) (first second : List (List ℕ × Ahead)) (apart : AreDisjoint (names_of_sources first) (names_of_sources second)) where
+module _ (names : Names) (first second : List (List ℕ × Ahead)) (apart : AreDisjoint (names_of_sources first)
+    (names_of_sources second)) where
   in_order : names_of_sources (first ++ second) ≡ names_of_sources first ++ names_of_sources second
   in_order = map-append (λ (source : List ℕ × Ahead). source.0) first second
 
@@ -140,13 +158,16 @@ module _ (names : Names) (first second : List (List ℕ × Ahead)) (apart : AreD
     outcome : IsOutcome names (names_of_sources (first ++ second)) (ran.states ++ ran_also.states) (Ok (joined_report report other))
     outcome =
         subst (λ sources. IsOutcome names sources (ran.states ++ ran_also.states) (Ok (joined_report report other))) (sym in_order)
-        (outcome_joined names (names_of_sources first) (names_of_sources second) ran.states ran_also.states (shards ran.states ran.read) report other ran.outcome ran_also.outcome)
+        (outcome_joined names (names_of_sources first) (names_of_sources second) ran.states ran_also.states
+        (shards ran.states ran.read) report other ran.outcome ran_also.outcome)
 
     pub one_report_of_both : (whole : Report) → MayReturn names (first ++ second) (Ok whole) → whole ≡ joined_report report other
-    one_report_of_both whole returned = one_returned names (first ++ second) (ran.states ++ ran_also.states) (joined_report report other) read outcome whole returned
+    one_report_of_both whole returned = one_returned names (first ++ second) (ran.states ++ ran_also.states)
+        (joined_report report other) read outcome whole returned
 
     pub no_fault_of_both : (fault : AuditFault) → MayReturn names (first ++ second) (Err fault) → IsNoneOfSources fault
-    no_fault_of_both fault returned = no_fault_returned names (first ++ second) (ran.states ++ ran_also.states) (joined_report report other) read outcome fault returned
+    no_fault_of_both fault returned = no_fault_returned names (first ++ second) (ran.states ++ ran_also.states)
+        (joined_report report other) read outcome fault returned
 
   -- an audit of both that returns a report: what each list states has one
   module _ (whole : Report) (is : MayReturn names (first ++ second) (Ok whole)) where
@@ -158,7 +179,8 @@ module _ (names : Names) (first second : List (List ℕ × Ahead)) (apart : AreD
 
     joined : IsJoined names (names_of_sources first) (names_of_sources second) in_two.front in_two.rest whole
     joined =
-        outcome_cut names (names_of_sources first) (names_of_sources second) in_two.front in_two.rest (shards in_two.front in_two.read) whole
+        outcome_cut names (names_of_sources first) (names_of_sources second) in_two.front in_two.rest
+        (shards in_two.front in_two.read) whole
         (subst (λ l. IsOutcome names (names_of_sources first ++ names_of_sources second) l (Ok whole)) in_two.is
         (subst (λ sources. IsOutcome names sources ran_both.states (Ok whole)) in_order ran_both.outcome))
 

@@ -1,5 +1,6 @@
 -- A number that is asked for twice is asked for by two sources.
-use Rattle.std.proofs.Common.{◌≡◌, ◌≢◌, ◌⊎◌, ℕ, suc, ◌+◌, ◌≤◌, Bool, true, false, cond, ◌==◌, List, [], ◌∷◌, Some, slice_get, count_by, All, ap, ◌∙◌, refl, inl, inr, arith}
+use Rattle.std.proofs.Common.{◌≡◌, ◌≢◌, ◌⊎◌, ℕ, suc, ◌+◌, ◌≤◌, Bool, true, false, cond, ◌==◌, List, [], ◌∷◌, Some}
+use Rattle.std.proofs.Common.{slice_get, count_by, All, ap, ◌∙◌, refl, inl, inr, arith}
 use Rattle.std.proofs.lemmas.List.Elements.{All-head, All-tail}
 use Rattle.audit_collect.proofs.HeldLaw.{tested, zero_or_some}
 use Rattle.audit_collect.proofs.Members.{count_by-append, count_by-cons}
@@ -65,7 +66,8 @@ part-asks s n part h = by (part.0 == s) refl h
     by true own asks = record { of = tested part.0 s own; asks = asks }
     by false other none = absurd (omega (arith, none))
 
-pub here_and_rest : (s n : ℕ) (part : ℕ × Stated) (parts : List (ℕ × Stated)) → times_asked s n (part ∷ parts) ≡ count_by (has_number n) (values_of_sender s requests_stated part) + times_asked s n parts
+pub here_and_rest : (s n : ℕ) (part : ℕ × Stated) (parts : List (ℕ × Stated))
+    → times_asked s n (part ∷ parts) ≡ count_by (has_number n) (values_of_sender s requests_stated part) + times_asked s n parts
 here_and_rest s n part parts = count_by-append (has_number n) (values_of_sender s requests_stated part) (asked_of s parts)
 
 pub no_zero : (s : ℕ) (parts : List (ℕ × Stated)) → All Rises parts → times_asked s 0 parts ≡ 0
@@ -87,7 +89,9 @@ one_asks : (s n : ℕ) (parts : List (ℕ × Stated)) → 1 ≤ times_asked s n 
 one_asks s n [] h = absurd (omega (arith, h))
 one_asks s n (part ∷ parts) h = by (zero_or_some (count_by (has_number n) (values_of_sender s requests_stated part))) (one_asks s n parts)
   where
-    by : (count_by (has_number n) (values_of_sender s requests_stated part) ≡ 0) ⊎ (1 ≤ count_by (has_number n) (values_of_sender s requests_stated part)) → (1 ≤ times_asked s n parts → OneAsks s n parts) → OneAsks s n (part ∷ parts)
+    by : (count_by (has_number n) (values_of_sender s requests_stated part) ≡ 0)
+        ⊎ (1 ≤ count_by (has_number n) (values_of_sender s requests_stated part))
+        → (1 ≤ times_asked s n parts → OneAsks s n parts) → OneAsks s n (part ∷ parts)
     by (inl none) rest =
         let sum = here_and_rest s n part parts in
         let found = rest (omega (arith, sum, none, h)) in
@@ -96,9 +100,13 @@ one_asks s n (part ∷ parts) h = by (zero_or_some (count_by (has_number n) (val
 
 pub ask_in_two : (s n : ℕ) (parts : List (ℕ × Stated)) → All Rises parts → 2 ≤ times_asked s n parts → AskInTwo s n parts
 ask_in_two s n [] rise h = absurd (omega (arith, h))
-ask_in_two s n (part ∷ parts) rise h = by (zero_or_some (count_by (has_number n) (values_of_sender s requests_stated part))) (ask_in_two s n parts (All-tail Rises part parts rise))
+ask_in_two s n (part ∷ parts) rise h =
+    by (zero_or_some (count_by (has_number n) (values_of_sender s requests_stated part)))
+    (ask_in_two s n parts (All-tail Rises part parts rise))
   where
-    by : (count_by (has_number n) (values_of_sender s requests_stated part) ≡ 0) ⊎ (1 ≤ count_by (has_number n) (values_of_sender s requests_stated part)) → (2 ≤ times_asked s n parts → AskInTwo s n parts) → AskInTwo s n (part ∷ parts)
+    by : (count_by (has_number n) (values_of_sender s requests_stated part) ≡ 0)
+        ⊎ (1 ≤ count_by (has_number n) (values_of_sender s requests_stated part))
+        → (2 ≤ times_asked s n parts → AskInTwo s n parts) → AskInTwo s n (part ∷ parts)
     by (inl none) rest =
         let sum = here_and_rest s n part parts in
         let found = rest (omega (arith, sum, none, h)) in

@@ -1,5 +1,6 @@
 -- The result of an audit, and its effect on the pass.
-use Rattle.std.specs.Prelude.{◌≡◌, ℕ, ◌<◌, ◌≤◌, ◌++◌, ⊤, List, map, length, slice_get, Option, Some, None, Result, Ok, Err, IsPermutation, replicate}
+use Rattle.std.specs.Prelude.{◌≡◌, ℕ, ◌<◌, ◌≤◌, ◌++◌, ⊤, List, map, length, slice_get, Option, Some, None, Result, Ok}
+use Rattle.std.specs.Prelude.{Err, IsPermutation, replicate}
 use Rattle.audit_collect.specs.Complete.{IsReportOf}
 use Rattle.audit_collect.specs.Roster.{IsRoster, most_senders}
 use Rattle.audit_collect.specs.declared.fault.CollectFault.TheVariants as collect
@@ -65,11 +66,14 @@ IsReportOfArrived sources outcomes (Err fault) = ⊤
 -- collector refuses or what is missing; `NoThread` and `Memory` are not constrained
 abbrev pub IsOutcome : Names → List (List ℕ) → List Stated → Result Report AuditFault → Type 0
 IsOutcome names sources states (Ok report) =
-    NoneRefused (faults_of states) × AreWhole (length (roster sources)) (parts_by_owner sources states) × IsReport names (roster sources) (parts_by_owner sources states) report
+    NoneRefused (faults_of states) × AreWhole (length (roster sources)) (parts_by_owner sources states)
+    × IsReport names (roster sources) (parts_by_owner sources states) report
 IsOutcome names sources states (Err (Sender name part fault)) = IsRefusedSource sources (faults_of states) name part fault
 IsOutcome names sources states (Err (Collect (collect.Roster why))) = ⊥
-IsOutcome names sources states (Err (Collect (collect.Refused why))) = NoneRefused (faults_of states) × HaveRefused (parts_by_owner sources states) why
-IsOutcome names sources states (Err (Collect (collect.Unfinished what))) = NoneRefused (faults_of states) × Lack (length (roster sources)) (parts_by_owner sources states) what
+IsOutcome names sources states (Err (Collect (collect.Refused why))) = NoneRefused (faults_of states)
+    × HaveRefused (parts_by_owner sources states) why
+IsOutcome names sources states (Err (Collect (collect.Unfinished what))) = NoneRefused (faults_of states)
+    × Lack (length (roster sources)) (parts_by_owner sources states) what
 IsOutcome names sources states (Err NoThread) = ⊤
 IsOutcome names sources states (Err Memory) = ⊤
 IsOutcome names sources states (Err TooManyParts) = ⊥
@@ -77,7 +81,8 @@ IsOutcome names sources states (Err TooManyParts) = ⊥
 -- the threads ran on sources with these names and these bytes ahead, and the result is the outcome
 -- of their content; the pass is whole again with nothing left, and has gained the answers of all
 -- jobs that were put, one `Stop` for each worker among them, in some order
-pub record IsRunOutcome (names : Names) (sources : List (List ℕ)) (readable_bytes : List (Option Ahead)) (workers : ℕ) (old new : PassView) (result : Result Report AuditFault) : Type 0 where
+pub record IsRunOutcome (names : Names) (sources : List (List ℕ)) (readable_bytes : List (Option Ahead)) (workers : ℕ)
+    (old new : PassView) (result : Result Report AuditFault) : Type 0 where
   pub few : length sources ≤ most_parts
   pub is_roster : IsRoster (roster sources)
   pub states : List Stated
@@ -98,13 +103,19 @@ pub record IsRunOutcome (names : Names) (sources : List (List ℕ)) (readable_by
 -- faults of the roster are returned before any thread starts, with the pass unchanged; `NoThread`
 -- only if the roster has none; the pass is unspecified after `NoThread` and `Memory`
 abbrev pub IsAuditResult : Names → List (List ℕ) → List (Option Ahead) → ℕ → PassView → PassView → Result Report AuditFault → Type 0
-IsAuditResult names sources readable_bytes workers old new (Ok report) = IsRunOutcome names sources readable_bytes workers old new (Ok report)
-IsAuditResult names sources readable_bytes workers old new (Err (Sender name part fault)) = IsRunOutcome names sources readable_bytes workers old new (Err (Sender name part fault))
+IsAuditResult names sources readable_bytes workers old new (Ok report) =
+    IsRunOutcome names sources readable_bytes workers old new (Ok report)
+IsAuditResult names sources readable_bytes workers old new (Err (Sender name part fault)) =
+    IsRunOutcome names sources readable_bytes workers old new (Err (Sender name part fault))
 IsAuditResult names sources readable_bytes workers old new (Err (Collect (collect.Roster roster_fault.Memory))) = ⊥
-IsAuditResult names sources readable_bytes workers old new (Err (Collect (collect.Roster roster_fault.TooManySenders))) = (length sources ≤ most_parts) × (most_senders < length (roster sources)) × (new ≡ old)
+IsAuditResult names sources readable_bytes workers old new
+    (Err (Collect (collect.Roster roster_fault.TooManySenders))) = (length sources ≤ most_parts)
+    × (most_senders < length (roster sources)) × (new ≡ old)
 IsAuditResult names sources readable_bytes workers old new (Err (Collect (collect.Roster (roster_fault.SenderTwice name)))) = ⊥
-IsAuditResult names sources readable_bytes workers old new (Err (Collect (collect.Refused why))) = IsRunOutcome names sources readable_bytes workers old new (Err (Collect (collect.Refused why)))
-IsAuditResult names sources readable_bytes workers old new (Err (Collect (collect.Unfinished what))) = IsRunOutcome names sources readable_bytes workers old new (Err (Collect (collect.Unfinished what)))
+IsAuditResult names sources readable_bytes workers old new (Err (Collect (collect.Refused why))) =
+    IsRunOutcome names sources readable_bytes workers old new (Err (Collect (collect.Refused why)))
+IsAuditResult names sources readable_bytes workers old new (Err (Collect (collect.Unfinished what))) =
+    IsRunOutcome names sources readable_bytes workers old new (Err (Collect (collect.Unfinished what)))
 IsAuditResult names sources readable_bytes workers old new (Err NoThread) = (length sources ≤ most_parts) × IsRoster (roster sources)
 IsAuditResult names sources readable_bytes workers old new (Err Memory) = ⊤
 IsAuditResult names sources readable_bytes workers old new (Err TooManyParts) = (most_parts < length sources) × (new ≡ old)

@@ -41,7 +41,10 @@ IsRight names outcome.Stopped = ⊤
 -- only the model of a pass uses these: the names of a queue's first pass are set after it is
 -- created
 abbrev pub nobody : Names
-nobody = record { policy = record { files = []; entries = []; placed = refl; unfolded = refl }; directory = record { people = []; machines = [] } }
+nobody = record {
+  policy = record { files = []; entries = []; placed = refl; unfolded = refl };
+  directory = record { people = []; machines = [] };
+}
 
 abbrev pub names_in : Option Names → Names
 names_in None = nobody

@@ -84,7 +84,8 @@ pub record IsRow (names : Names) (roster : List (List ℕ)) (parts : List (ℕ �
   pub name : slice_get roster sender ≡ Some row.name
   pub closed : counts_of sender parts ≡ length row.answers ∷ []
   pub answers : (index : ℕ) (answer : Answer) → slice_get row.answers index ≡ Some answer
-      → (request : Request) × Contains (asked_of sender parts) request × (request.number ≡ index + 1) × (answer ≡ answer_to names sender request)
+      → (request : Request) × Contains (asked_of sender parts) request × (request.number ≡ index + 1)
+      × (answer ≡ answer_to names sender request)
 
 -- the report of the sources: a row for each sender, in the order of the roster
 pub record IsReport (names : Names) (roster : List (List ℕ)) (parts : List (ℕ × Stated)) (report : Report) : Type 0 where

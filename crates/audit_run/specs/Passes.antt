@@ -25,7 +25,15 @@ pub record PassView : Type 0 where
   pub outcomes_taken : List Outcome
 
 abbrev pub new_pass : HandoffId → Policy → KnownRows → PassView
-new_pass handoff policy directory = record { handoff = handoff; names = names_under policy directory; weight = 1024; jobs_put = []; jobs_taken = []; outcomes_put = []; outcomes_taken = [] }
+new_pass handoff policy directory = record {
+  handoff = handoff;
+  names = names_under policy directory;
+  weight = 1024;
+  jobs_put = [];
+  jobs_taken = [];
+  outcomes_put = [];
+  outcomes_taken = [];
+}
 
 abbrev pub with_job_put : PassView → Job → PassView
 with_job_put p job = record p { jobs_put = p.jobs_put ++ job ∷ [] }
@@ -44,7 +52,15 @@ abbrev pub after_split : PassView → PassView
 after_split p = record p { weight = p.weight - 1 }
 
 abbrev pub split_off : PassView → PassView
-split_off p = record { handoff = p.handoff; names = p.names; weight = 1; jobs_put = []; jobs_taken = []; outcomes_put = []; outcomes_taken = [] }
+split_off p = record {
+  handoff = p.handoff;
+  names = p.names;
+  weight = 1;
+  jobs_put = [];
+  jobs_taken = [];
+  outcomes_put = [];
+  outcomes_taken = [];
+}
 
 -- a join adds the weights and appends the lists of the joined pass
 abbrev pub with_joined : PassView → PassView → PassView

@@ -1,5 +1,7 @@
 //! A whole audit: starts the threads, gathers their answers, and joins them.
-ghost use Rattle.std.specs.Prelude.{◌≡◌, ◌+◌, ◌<◌, ◌≤◌, [], Ok, Err, ℕ, List, IfOk, IfErr, OnOk, None, Some, Option, MatchOption, map, slice_get, vec_len, vec_capacity, length, IsTrue, IfSome, IfNone, ◌↔◌};
+ghost use Rattle.std.specs.Prelude.{◌≡◌, ◌+◌, ◌<◌, ◌≤◌, [], Ok, Err, ℕ, List, IfOk, IfErr, OnOk, None, Some, Option};
+ghost use Rattle.std.specs.Prelude.{MatchOption, map, slice_get, vec_len, vec_capacity, length, IsTrue, IfSome};
+ghost use Rattle.std.specs.Prelude.{IfNone, ◌↔◌};
 ghost use Rattle.std.specs.List.{zip};
 ghost use Rattle.audit_files.specs.declared.fault.FileFault.TheVariants.{Memory};
 ghost use Rattle.audit_run.specs.Names.{names_under};

@@ -56,7 +56,7 @@ fn gather_one<R: Wait>(
     true
 }
 
-// Gathers an outcome if there is one, and else passes the time.
+// Gathers an outcome if there is one; otherwise backs off.
 fn gather_or_wait<R: Wait>(
     rt: &R,
     handoff: &Handoff,

@@ -2,7 +2,9 @@
 ghost use Rattle.std.specs.Prelude.{◌≡◌, ◌<◌, ◌≤◌, List, Some, None, true, IfOk, IfSome, MatchResult, MatchOption, length, [], ◌∷◌};
 ghost use Rattle.std.specs.Bool.{MatchBool};
 ghost use Rattle.audit_run.specs.Names.{names_under, IsRight};
-ghost use Rattle.audit_run.specs.Passes.{new_pass, with_job_put, with_job_taken, with_outcome_put, with_outcome_taken, after_split, split_off, with_joined, IsEmpty, IsOnlyPass, JobsLeft, OutcomesLeft};
+ghost use Rattle.audit_run.specs.Passes.{new_pass, with_job_put, with_job_taken, with_outcome_put};
+ghost use Rattle.audit_run.specs.Passes.{with_outcome_taken, after_split, split_off, with_joined, IsEmpty};
+ghost use Rattle.audit_run.specs.Passes.{IsOnlyPass, JobsLeft, OutcomesLeft};
 ghost use Rattle.audit_run.specs.declared.message.Job.{Job};
 ghost use Rattle.audit_run.specs.declared.message.Outcome.{Outcome};
 

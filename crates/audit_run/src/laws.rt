@@ -20,7 +20,8 @@ ghost use Rattle.audit_run.specs.IsAuditResult.{IsOutcome, NoneRefused};
 ghost use Rattle.audit_run.specs.Outcome.{AreWhole, HaveRefused, IsReport, Lack};
 ghost use Rattle.audit_run.specs.Parts.{AreRead, Stated, faults_of, parts_by_owner, run_jobs};
 ghost use Rattle.audit_run.specs.Roster.{roster};
-ghost use Rattle.audit_run.specs.Shards.{AreDisjoint, AreShards, IsJoined, IsNoneOfSources, IsOfEither, MayReturn, fault_after, joined_report, names_of_sources};
+ghost use Rattle.audit_run.specs.Shards.{AreDisjoint, AreShards, IsJoined, IsNoneOfSources, IsOfEither, MayReturn};
+ghost use Rattle.audit_run.specs.Shards.{fault_after, joined_report, names_of_sources};
 
 /// If a collector refuses an arrival, the sources have the fault that it names, whatever the order of the answers to
 /// all jobs and the number of workers.

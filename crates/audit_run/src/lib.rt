@@ -38,4 +38,5 @@ pub use fault::AuditFault;
 pub use gate::{Gate, Open};
 pub use handoff::{Handoff, Pass};
 pub use message::{Job, Names, Outcome};
+pub use roster::roster_of;
 pub use source::Source;

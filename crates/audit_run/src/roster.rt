@@ -51,8 +51,9 @@ fn index_within(names: &[Seq<u8>], name: &[u8]) -> usize
     index
 }
 
-// Returns each name once, in the order of first appearance.
-fn roster_of(alloc: Global, names: &[Seq<u8>]) -> Result<Vec<Seq<u8>>, AllocError>
+/// Returns each name once, in the order of first appearance: the senders of sources with these names. Returns `AllocError`
+/// if allocation failed.
+pub fn roster_of(alloc: Global, names: &[Seq<u8>]) -> Result<Vec<Seq<u8>>, AllocError>
     ensures names { IfOk result (λ r. r.items ≡ roster names.now) }
     ensures few { IfOk result (λ r. vec_len r ≤ length names.now) }
 {

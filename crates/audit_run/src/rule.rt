@@ -4,10 +4,12 @@
 //! The rule is in `specs/Body/Rule.antt`. Each kind of step (a queue created with its first pass, a
 //! pass split, a push with or without success, a pop with or without a message, passes joined)
 //! keeps it, whichever threads take the steps and in whatever order.
-ghost use Rattle.std.specs.Prelude.{◌≡◌, ◌<◌, ◌≤◌, List, Option, Some, None, Ok, Err, true, IfOk, IfSome, MatchResult, MatchOption, length, [], ◌∷◌};
+ghost use Rattle.std.specs.Prelude.{◌≡◌, ◌<◌, ◌≤◌, List, Option, Some, None, Ok, Err, true, IfOk, IfSome};
+ghost use Rattle.std.specs.Prelude.{MatchResult, MatchOption, length, [], ◌∷◌};
 ghost use Rattle.std.specs.Bool.{MatchBool};
 ghost use Rattle.crossbeam_queue.specs.Passes.{view, IsPassOf, IsSamePass, ruled_capacity};
-ghost use Rattle.audit_run.specs.Body.Rule.{tally, putting, taking, kept_by_split, given_by_split, joined, Leaves, Suits, PutsMessage, TakesMessage};
+ghost use Rattle.audit_run.specs.Body.Rule.{tally, putting, taking, kept_by_split, given_by_split, joined, Leaves};
+ghost use Rattle.audit_run.specs.Body.Rule.{Suits, PutsMessage, TakesMessage};
 
 use crossbeam_queue::protocol::{Join, Lesson, Outcome, Protocol, Split};
 use crossbeam_queue::{Pass, RuledArrayQueue};

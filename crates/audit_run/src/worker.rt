@@ -129,7 +129,7 @@ pub fn answer_job<R: Wait, G: Gate>(rt: &R, shared: Shared<'_>, gate: &G, pass: 
     put_outcome_waiting(rt, shared, pass, outcome);
 }
 
-// Takes a job and puts its outcome. Returns whether it was another one than `Stop`.
+// Takes a job and puts its outcome. Returns false for `Stop`.
 fn answer_next<R: Wait, G: Gate>(
     rt: &R,
     shared: Shared<'_>,

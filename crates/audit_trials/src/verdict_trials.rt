@@ -70,22 +70,32 @@ alice ALL = (ALL:ALL, !adm) /bin/id | alice,web1.example.org,,adm,/bin/id, => no
 ";
 
 const COMMANDS: &str = "
-alice web1 = NOPASSWD: /bin/kill, /usr/bin/lprm, PASSWD: /bin/ls : web2 = /bin/kill | alice,web1.example.org,,,/bin/kill, => allow,p:1,NOPASSWD
-alice web1 = NOPASSWD: /bin/kill, /usr/bin/lprm, PASSWD: /bin/ls : web2 = /bin/kill | alice,web1.example.org,,,/usr/bin/lprm, => allow,p:1,NOPASSWD
+alice web1 = NOPASSWD: /bin/kill, /usr/bin/lprm, PASSWD: /bin/ls : web2 = \
+    /bin/kill | alice,web1.example.org,,,/bin/kill, => allow,p:1,NOPASSWD
+alice web1 = NOPASSWD: /bin/kill, /usr/bin/lprm, PASSWD: /bin/ls : web2 = \
+    /bin/kill | alice,web1.example.org,,,/usr/bin/lprm, => allow,p:1,NOPASSWD
 alice web1 = NOPASSWD: /bin/kill, /usr/bin/lprm, PASSWD: /bin/ls : web2 = /bin/kill | alice,web1.example.org,,,/bin/ls, => allow,p:1,PASSWD
 alice web1 = NOPASSWD: /bin/kill, /usr/bin/lprm, PASSWD: /bin/ls : web2 = /bin/kill | alice,web2.example.org,,,/bin/kill, => allow,p:1,
 alice web1 = NOPASSWD: /bin/kill, /usr/bin/lprm, PASSWD: /bin/ls : web2 = /bin/kill | alice,web2.example.org,,,/bin/ls, => nomatch,,
 alice web1 = NOPASSWD: /bin/kill, /usr/bin/lprm, PASSWD: /bin/ls : web2 = /bin/kill | carol,web1.example.org,,,/bin/kill, => unknown-user,,
-alice ALL = /usr/bin/, /bin/cat *, /bin/who \"\", sudoedit /etc/*, /bin/dd if=/dev/zero | alice,web1.example.org,,,/usr/bin/id,-u => allow,p:1,
-alice ALL = /usr/bin/, /bin/cat *, /bin/who \"\", sudoedit /etc/*, /bin/dd if=/dev/zero | alice,web1.example.org,,,/usr/bin/X11/xterm, => nomatch,,
+alice ALL = /usr/bin/, /bin/cat *, /bin/who \"\", sudoedit /etc/*, /bin/dd if=/dev/zero \
+    | alice,web1.example.org,,,/usr/bin/id,-u => allow,p:1,
+alice ALL = /usr/bin/, /bin/cat *, /bin/who \"\", sudoedit /etc/*, /bin/dd if=/dev/zero \
+    | alice,web1.example.org,,,/usr/bin/X11/xterm, => nomatch,,
 alice ALL = /usr/bin/, /bin/cat *, /bin/who \"\", sudoedit /etc/*, /bin/dd if=/dev/zero | alice,web1.example.org,,,/usr/bin/, => nomatch,,
-alice ALL = /usr/bin/, /bin/cat *, /bin/who \"\", sudoedit /etc/*, /bin/dd if=/dev/zero | alice,web1.example.org,,,/bin/cat,/var/log/messages => allow,p:1,
+alice ALL = /usr/bin/, /bin/cat *, /bin/who \"\", sudoedit /etc/*, /bin/dd if=/dev/zero \
+    | alice,web1.example.org,,,/bin/cat,/var/log/messages => allow,p:1,
 alice ALL = /usr/bin/, /bin/cat *, /bin/who \"\", sudoedit /etc/*, /bin/dd if=/dev/zero | alice,web1.example.org,,,/bin/who, => allow,p:1,
-alice ALL = /usr/bin/, /bin/cat *, /bin/who \"\", sudoedit /etc/*, /bin/dd if=/dev/zero | alice,web1.example.org,,,/bin/who,am i => nomatch,,
-alice ALL = /usr/bin/, /bin/cat *, /bin/who \"\", sudoedit /etc/*, /bin/dd if=/dev/zero | alice,web1.example.org,,,sudoedit,/etc/motd => allow,p:1,
-alice ALL = /usr/bin/, /bin/cat *, /bin/who \"\", sudoedit /etc/*, /bin/dd if=/dev/zero | alice,web1.example.org,,,sudoedit,/etc/a/b => nomatch,,
-alice ALL = /usr/bin/, /bin/cat *, /bin/who \"\", sudoedit /etc/*, /bin/dd if=/dev/zero | alice,web1.example.org,,,/bin/dd,if=/dev/zero => allow,p:1,
-alice ALL = /usr/bin/, /bin/cat *, /bin/who \"\", sudoedit /etc/*, /bin/dd if=/dev/zero | alice,web1.example.org,,,/bin/dd,if=/dev/null => nomatch,,
+alice ALL = /usr/bin/, /bin/cat *, /bin/who \"\", sudoedit /etc/*, /bin/dd if=/dev/zero \
+    | alice,web1.example.org,,,/bin/who,am i => nomatch,,
+alice ALL = /usr/bin/, /bin/cat *, /bin/who \"\", sudoedit /etc/*, /bin/dd if=/dev/zero \
+    | alice,web1.example.org,,,sudoedit,/etc/motd => allow,p:1,
+alice ALL = /usr/bin/, /bin/cat *, /bin/who \"\", sudoedit /etc/*, /bin/dd if=/dev/zero \
+    | alice,web1.example.org,,,sudoedit,/etc/a/b => nomatch,,
+alice ALL = /usr/bin/, /bin/cat *, /bin/who \"\", sudoedit /etc/*, /bin/dd if=/dev/zero \
+    | alice,web1.example.org,,,/bin/dd,if=/dev/zero => allow,p:1,
+alice ALL = /usr/bin/, /bin/cat *, /bin/who \"\", sudoedit /etc/*, /bin/dd if=/dev/zero \
+    | alice,web1.example.org,,,/bin/dd,if=/dev/null => nomatch,,
 ";
 
 const MACHINES: &str = "

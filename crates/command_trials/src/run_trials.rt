@@ -32,7 +32,11 @@ impl Files for Locked<'_> {
 
     fn folder(&mut self, alloc: Global, path: &[u8]) -> Result<Seq<Seq<u8>>, FilesFault> {
         if path == self.path {
-            return Err(self.fault);
+            // A folder is never too long.
+            return Err(match self.fault {
+                FilesFault::Failed | FilesFault::TooLong => FilesFault::Failed,
+                FilesFault::Memory => FilesFault::Memory,
+            });
         }
         self.shelf.folder(alloc, path)
     }
@@ -68,13 +72,15 @@ fn leaves_what_is_not_reached(rt: HostRuntime) -> Result<(), Fail> {
     let missing = b"@include gone\n@include locked\n@includedir locked\n";
     let broken = b"alice ALL =\n@include locked\n";
     let reached = b"@include locked\n@include gone\n";
-    for fault in [FilesFault::Failed, FilesFault::Memory] {
+    for fault in [FilesFault::Failed, FilesFault::TooLong, FilesFault::Memory] {
         assert!(rt; checks_locked(alloc, missing, fault, 1, b"sudo_audit: p:1: missing gone\n")?);
         let line = b"sudo_audit: p:1:12: syntax error, expected command\n";
         assert!(rt; checks_locked(alloc, broken, fault, 1, line)?);
     }
     let line = b"sudo_audit: cannot read locked\n";
     assert!(rt; checks_locked(alloc, reached, FilesFault::Failed, 4, line)?);
+    let line = b"sudo_audit: locked: text too long\n";
+    assert!(rt; checks_locked(alloc, reached, FilesFault::TooLong, 1, line)?);
     let line = b"sudo_audit: out of memory\n";
     assert!(rt; checks_locked(alloc, reached, FilesFault::Memory, 4, line)?);
     Ok(())

@@ -23,8 +23,10 @@ pub(crate) const HOSTS: &[u8] =
     b"host,interfaces\nweb1.example.org,10.1.2.3/16 127.0.0.1/8\nweb2.example.org,10.2.0.9/16\n";
 
 /// The bytes of a requests file.
-pub(crate) const REQUESTS: &[u8] =
-    b"number,user,host,runas_user,runas_group,command,arguments\n1,alice,web1.example.org,,,/bin/kill,-9 7\n2,carol,web1.example.org,,,/bin/kill,\nclose,2,,,,,\n";
+pub(crate) const REQUESTS: &[u8] = b"number,user,host,runas_user,runas_group,command,arguments\n\
+1,alice,web1.example.org,,,/bin/kill,-9 7\n\
+2,carol,web1.example.org,,,/bin/kill,\n\
+close,2,,,,,\n";
 
 /// The policy `p`.
 pub(crate) const FILES: [Item<'static>; 1] = [Item {

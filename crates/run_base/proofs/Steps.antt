@@ -5,23 +5,32 @@ use Rattle.sudo_grammar.specs.declared.policy.Policy.{Policy}
 use Rattle.sudo_load.specs.declared.fault.LoadFault.TheVariants as load_faults
 use Rattle.sudo_load.specs.declared.fault.Want.{Want}
 use Rattle.run_base.specs.Holding.{Holdings}
-use Rattle.run_base.specs.Loading.{EndsIn, IsLoaded, IsNoPolicy, IsNotChecked, IsNotCheckedOf, IsNotHanded}
+use Rattle.run_base.specs.Loading.{EndsIn, IsLoaded, IsNoPolicy, IsNotChecked}
+use Rattle.run_base.specs.Body.Loading.{IsNotCheckedOf, IsNotHanded}
 use Rattle.run_base.specs.declared.fault.PolicyFault.{PolicyFault}
 use Rattle.run_base.specs.declared.fault.PolicyFault.TheVariants as faults
 
-not_passed : (held : Option Holdings) (path : List ℕ) (policy : Policy) (fault : PolicyFault) → IsLoaded held path policy → IsNotCheckedOf policy fault → IsNotChecked held path fault
+not_passed : (held : Option Holdings) (path : List ℕ) (policy : Policy) (fault : PolicyFault)
+    → IsLoaded held path policy → IsNotCheckedOf policy fault → IsNotChecked held path fault
 not_passed held path policy (faults.Errors lines) loaded h = (policy, loaded, h)
 not_passed held path policy faults.Memory loaded h = tt
 not_passed held path policy (faults.Refused files fault) loaded h = absurd h
 not_passed held path policy (faults.CannotRead unread) loaded h = absurd h
+not_passed held path policy (faults.TooLong long) loaded h = absurd h
+not_passed held path policy faults.TooManyFiles loaded h = absurd h
 
-pub not_passed_of : {T : Type 0} (held : Option Holdings) (path : List ℕ) (policy : Policy) (r : Result T PolicyFault) → IsLoaded held path policy → IfErr r (IsNotCheckedOf policy) → IfErr r (IsNotChecked held path)
+pub not_passed_of : {T : Type 0} (held : Option Holdings) (path : List ℕ) (policy : Policy) (r : Result T PolicyFault)
+    → IsLoaded held path policy → IfErr r (IsNotCheckedOf policy) → IfErr r (IsNotChecked held path)
 not_passed_of held path policy (Ok x) loaded h = tt
 not_passed_of held path policy (Err fault) loaded h = not_passed held path policy fault loaded h
 
 -- What is needed is not handed in.
-pub wanted_unread : (held : Option Holdings) (path : List ℕ) (want : Want) (read : List (List ℕ)) (fault : PolicyFault) → EndsIn held path read (load_faults.Wanted want) → IsNotHanded held want fault → IsNoPolicy held path fault
+pub wanted_unread : (held : Option Holdings) (path : List ℕ) (want : Want) (read : List (List ℕ))
+    (fault : PolicyFault) → EndsIn held path read (load_faults.Wanted want) → IsNotHanded held want fault → IsNoPolicy held path fault
 wanted_unread held path want read fault ends not = elim not [
   | inl memory ↦ subst (IsNoPolicy held path) (sym memory) tt
-  | inr unread ↦ subst (IsNoPolicy held path) (sym unread.0) (inr (want, refl, unread.1, (read, ends)))
+  | inr rest ↦ elim rest [
+    | inl unread ↦ subst (IsNoPolicy held path) (sym unread.0) (inr (want, refl, unread.1, (read, ends)))
+    | inr long ↦ subst (IsNoPolicy held path) (sym long.0) (long.1, inr (want, refl, (read, ends)))
+  ]
 ]

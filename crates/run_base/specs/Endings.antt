@@ -79,7 +79,8 @@ pub record FailsToWrite (program : List ℕ) (Good : List ℕ → ℕ → Type 0
 
 -- the end of a run that may print such a text with such a status, and may end with such a fault
 abbrev pub Ends : {F : Type 0} → Notices F → (List ℕ → ℕ → Type 0) → (F → Type 0) → ℕ → WriterStates → WriterStates → Type 0
-Ends told Good Bad status out err = Prints Good status out err ⊎ (EndsInFault told Bad status out err ⊎ FailsToWrite told.program Good status out err)
+Ends told Good Bad status out err = Prints Good status out err
+    ⊎ (EndsInFault told Bad status out err ⊎ FailsToWrite told.program Good status out err)
 
 -- the result of a run, before it is printed, is this text, with this status
 abbrev pub IsPrinted : {F : Type 0} → Result RunOutput F → List ℕ → ℕ → Type 0

@@ -29,6 +29,8 @@ write_printed program fault = write_line program fault.written
 -- the errors of a policy are printed as `check` prints them, any other fault as a line
 abbrev pub policy_printed : List ℕ → PolicyFault → List ℕ
 policy_printed program (policies.CannotRead path) = error_line program (cannot_read path)
+policy_printed program (policies.TooLong path) = error_line program (path ++ codes ": text too long")
+policy_printed program policies.TooManyFiles = error_line program (codes "too many files")
 policy_printed program (policies.Refused read fault) = error_line program (load_fault_text read fault)
 policy_printed program (policies.Errors lines) = lines.items
 policy_printed program policies.Memory = memory_line program

@@ -11,6 +11,8 @@ use Rattle.run_base.specs.declared.fault.PolicyFault.TheVariants as policies
 abbrev pub policy_status : PolicyFault → ℕ
 policy_status (policies.Refused read fault) = 1
 policy_status (policies.Errors lines) = 1
+policy_status (policies.TooLong path) = 1
+policy_status policies.TooManyFiles = 1
 policy_status (policies.CannotRead path) = 4
 policy_status policies.Memory = 4
 

@@ -26,7 +26,8 @@ class_text Unused = codes ": warning: unused "
 
 -- the line of a finding on a policy with these files
 abbrev pub finding_line : List (List ℕ) → Finding → List ℕ
-finding_line files finding = place_text files finding.place ++ class_text finding.class ++ keyword_text finding.kind ++ codes " " ++ finding.name ++ 10 ∷ []
+finding_line files finding = place_text files finding.place ++ class_text finding.class ++ keyword_text finding.kind
+    ++ codes " " ++ finding.name ++ 10 ∷ []
 
 -- the line of a finding, if it is listed: a warning is not, if only errors are
 abbrev pub listed_line : List (List ℕ) → Bool → Finding → List ℕ

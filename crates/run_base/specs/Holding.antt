@@ -1,8 +1,9 @@
 -- The files and folders that exist, if they are specified.
-use Rattle.std.specs.Prelude.{◌≡◌, ⊤, ℕ, List, [], ◌∷◌, Option, None, Some, unwrap_or, Contains}
+use Rattle.std.specs.Prelude.{◌≡◌, ◌<◌, ⊤, ℕ, length, List, [], ◌∷◌, Option, None, Some, unwrap_or, Contains}
 use Rattle.sudo_load.specs.declared.supply.Supply.{Supply}
 use Rattle.sudo_load.specs.declared.supply.Supply.TheVariants as supplies
 use Rattle.sudo_load.specs.Supplies.{supplied_file, supplied_folder}
+use Rattle.sudo_text.specs.Lines.{text_limit}
 
 -- the files and folders that exist, and the paths at which reading fails
 pub record Holdings : Type 0 where
@@ -31,6 +32,11 @@ HoldsFolder (Some held) path names = names ≡ folder_at held.supplies path
 abbrev pub IsUnreadable : Option Holdings → List ℕ → Type 0
 IsUnreadable None path = ⊤
 IsUnreadable (Some held) path = Contains held.unreadable path
+
+-- the file at a path may be longer than a file of a policy may be
+abbrev pub IsTooLong : Option Holdings → List ℕ → Type 0
+IsTooLong None path = ⊤
+IsTooLong (Some held) path = (text : List ℕ) × (file_at held.supplies path ≡ Some text) × (text_limit < length text)
 
 -- this supply may exist
 abbrev pub IsHeld : Option Holdings → Supply → Type 0

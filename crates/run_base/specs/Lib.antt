@@ -6,3 +6,4 @@ pub mod Faults
 pub mod Endings
 pub mod Loading
 pub mod Opening
+pub mod Body

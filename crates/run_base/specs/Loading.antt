@@ -1,5 +1,5 @@
 -- The policy of a run.
-use Rattle.std.specs.Prelude.{◌≡◌, ◌⊎◌, ⊤, ℕ, List, Option, None, Some, Ok, Err, true}
+use Rattle.std.specs.Prelude.{◌≡◌, ◌≤◌, ◌⊎◌, ⊤, ℕ, length, List, Option, None, Some, Ok, Err, true}
 use Rattle.sudo_grammar.specs.declared.policy.Policy.{Policy}
 use Rattle.sudo_load.specs.declared.fault.LoadFault.{LoadFault}
 use Rattle.sudo_load.specs.declared.fault.LoadFault.TheVariants as load_faults
@@ -10,7 +10,7 @@ use Rattle.sudo_load.specs.Load.{IsLoad}
 use Rattle.sudo_policy.specs.Checking.{FailsCheck, Passes}
 use Rattle.sudo_policy.specs.declared.finding.Finding.{Finding}
 use Rattle.run_base.specs.FindingLines.{finding_lines}
-use Rattle.run_base.specs.Holding.{AreHeld, HoldsFile, Holdings, IsUnreadable}
+use Rattle.run_base.specs.Holding.{AreHeld, HoldsFile, Holdings, IsTooLong, IsUnreadable}
 use Rattle.run_base.specs.declared.fault.PolicyFault.{PolicyFault}
 use Rattle.run_base.specs.declared.fault.PolicyFault.TheVariants as faults
 
@@ -36,7 +36,8 @@ IsOfContent load_faults.Memory = ⊥
 -- `read` are the paths of the files that were read until then
 abbrev pub EndsIn : Option Holdings → List ℕ → List (List ℕ) → LoadFault → Type 0
 EndsIn held path read fault =
-    (text : List ℕ) × (handed : List Supply) × HoldsFile held path (Some text) × AreHeld held handed × IsLoad path text handed (Err (read, fault))
+    (text : List ℕ) × (handed : List Supply) × HoldsFile held path (Some text) × AreHeld held handed
+    × IsLoad path text handed (Err (read, fault))
 
 -- the files unfold to no policy, for this reason, which is their content
 abbrev pub IsUnloaded : Option Holdings → List ℕ → List (List ℕ) → LoadFault → Type 0
@@ -50,7 +51,8 @@ path_of (wants.Folder path) = path
 -- the path is needed after what was handed in, and reading fails there
 abbrev pub IsUnreadWant : Option Holdings → List ℕ → List ℕ → Type 0
 IsUnreadWant held path unread =
-    (want : Want) × (unread ≡ path_of want) × IsUnreadable held unread × ((read : List (List ℕ)) × EndsIn held path read (load_faults.Wanted want))
+    (want : Want) × (unread ≡ path_of want) × IsUnreadable held unread
+    × ((read : List (List ℕ)) × EndsIn held path read (load_faults.Wanted want))
 
 -- the main file does not exist, or reading it fails
 abbrev pub IsUnreadMain : Option Holdings → List ℕ → List ℕ → Type 0
@@ -60,11 +62,27 @@ IsUnreadMain held path unread = (unread ≡ path) × (IsUnreadable held path ⊎
 abbrev pub IsUnreadPath : Option Holdings → List ℕ → List ℕ → Type 0
 IsUnreadPath held path unread = IsUnreadMain held path unread ⊎ IsUnreadWant held path unread
 
--- why there is no policy: a path cannot be read, memory failed, or the content of the files is
--- refused
+-- the file at a path is too long: it is the main file, or it is needed after what was handed in
+abbrev pub IsLongPath : Option Holdings → List ℕ → List ℕ → Type 0
+IsLongPath held path long =
+    IsTooLong held long × ((long ≡ path) ⊎ ((want : Want) × (long ≡ path_of want)
+    × ((read : List (List ℕ)) × EndsIn held path read (load_faults.Wanted want))))
+
+-- the most files and folders that are handed in
+abbrev pub most_supplies : ℕ
+most_supplies = 2048
+
+-- as many files and folders exist as are handed in at most
+abbrev pub AreTooMany : Option Holdings → Type 0
+AreTooMany held = (handed : List Supply) × AreHeld held handed × (most_supplies ≤ length handed)
+
+-- why there is no policy: a path cannot be read, a file is too long, too many files are needed, memory failed, or the
+-- content of the files is refused
 abbrev pub IsNoPolicy : Option Holdings → List ℕ → PolicyFault → Type 0
 IsNoPolicy held path (faults.Refused files fault) = IsUnloaded held path files fault
 IsNoPolicy held path (faults.CannotRead unread) = IsUnreadPath held path unread
+IsNoPolicy held path (faults.TooLong long) = IsLongPath held path long
+IsNoPolicy held path faults.TooManyFiles = AreTooMany held
 IsNoPolicy held path faults.Memory = ⊤
 IsNoPolicy held path (faults.Errors lines) = ⊥
 
@@ -89,18 +107,7 @@ AreErrors held path lines = (policy : Policy) × IsLoaded held path policy × Ar
 abbrev pub IsNotChecked : Option Holdings → List ℕ → PolicyFault → Type 0
 IsNotChecked held path (faults.Refused files fault) = IsNoPolicy held path (faults.Refused files fault)
 IsNotChecked held path (faults.CannotRead unread) = IsNoPolicy held path (faults.CannotRead unread)
+IsNotChecked held path (faults.TooLong long) = IsNoPolicy held path (faults.TooLong long)
+IsNotChecked held path faults.TooManyFiles = IsNoPolicy held path faults.TooManyFiles
 IsNotChecked held path faults.Memory = ⊤
 IsNotChecked held path (faults.Errors lines) = AreErrors held path lines.items
-
--- why a loaded policy does not pass the check; only the proofs of bodies use this definition
-abbrev pub IsNotCheckedOf : Policy → PolicyFault → Type 0
-IsNotCheckedOf policy (faults.Errors lines) = AreErrorsOf policy lines.items
-IsNotCheckedOf policy faults.Memory = ⊤
-IsNotCheckedOf policy (faults.Refused files fault) = ⊥
-IsNotCheckedOf policy (faults.CannotRead unread) = ⊥
-
--- why what is needed is not handed in: memory failed, or reading it fails; only the proofs of bodies
--- use this definition
-abbrev pub IsNotHanded : Option Holdings → Want → PolicyFault → Type 0
-IsNotHanded held want fault =
-    (fault ≡ faults.Memory) ⊎ ((fault ≡ faults.CannotRead (path_of want)) × IsUnreadable held (path_of want))

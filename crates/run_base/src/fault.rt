@@ -1,12 +1,12 @@
 //! Faults of the first stages of a run: a file is opened, a policy is loaded.
-ghost use Rattle.std.specs.Prelude.{◌≡◌, IfOk};
+ghost use Rattle.std.specs.Prelude.{◌≡◌, ◌++◌, IfOk, codes};
 ghost use Rattle.run_base.specs.FaultLines.{error_line, open_printed, policy_printed};
 ghost use Rattle.run_base.specs.FaultTexts.{cannot_read, load_fault_text};
 ghost use Rattle.run_base.specs.Faults.{open_status, policy_status};
 
 use crate::fails::Fails;
 use crate::fault_text::{push_cannot_read, push_load_fault};
-use crate::lines::{begin_line, push};
+use crate::lines::{begin_line, push, push_both};
 use std::alloc::{AllocError, AllocFailed, Global};
 use sudo_load::LoadFault;
 use sudo_text::Seq;
@@ -16,6 +16,10 @@ use sudo_text::Seq;
 pub enum PolicyFault {
     /// The file or the folder at this path cannot be read.
     CannotRead(Seq<u8>),
+    /// The file at this path is longer than a file of a policy may be.
+    TooLong(Seq<u8>),
+    /// More files and folders are needed than are handed in at most.
+    TooManyFiles,
     /// The files are not a policy: the paths of those that were read, and the fault.
     Refused(Seq<Seq<u8>>, LoadFault),
     /// The check finds errors in the policy: their lines.
@@ -53,7 +57,10 @@ impl Fails for PolicyFault {
 
     fn status(&self) -> u8 {
         match self {
-            PolicyFault::Refused(..) | PolicyFault::Errors(_) => 1,
+            PolicyFault::TooLong(_)
+            | PolicyFault::TooManyFiles
+            | PolicyFault::Refused(..)
+            | PolicyFault::Errors(_) => 1,
             PolicyFault::CannotRead(_) | PolicyFault::Memory => 4,
         }
     }
@@ -61,6 +68,8 @@ impl Fails for PolicyFault {
     fn printed(self, alloc: Global, program: &[u8]) -> Result<Vec<u8>, AllocError> {
         match self {
             PolicyFault::CannotRead(path) => unread_line(alloc, program, path.as_slice()),
+            PolicyFault::TooLong(path) => long_line(alloc, program, path.as_slice()),
+            PolicyFault::TooManyFiles => many_line(alloc, program),
             PolicyFault::Refused(read, fault) => {
                 refused_line(alloc, program, read.as_slice(), &fault)
             }
@@ -124,6 +133,27 @@ fn unread_line(alloc: Global, program: &[u8], path: &[u8]) -> Result<Vec<u8>, Al
 {
     let mut line = begin_line(alloc, program)?;
     push_cannot_read(&mut line, path)?;
+    push(&mut line, b"\n")?;
+    Ok(line)
+}
+
+// Returns the line of a file that is too long.
+fn long_line(alloc: Global, program: &[u8], path: &[u8]) -> Result<Vec<u8>, AllocError>
+    ensures { IfOk result (λ line. line.items
+        ≡ error_line program.now (path.now ++ codes ": text too long")) }
+{
+    let mut line = begin_line(alloc, program)?;
+    push_both(&mut line, path, b": text too long")?;
+    push(&mut line, b"\n")?;
+    Ok(line)
+}
+
+// Returns the line of a policy of too many files.
+fn many_line(alloc: Global, program: &[u8]) -> Result<Vec<u8>, AllocError>
+    ensures { IfOk result (λ line. line.items ≡ error_line program.now (codes "too many files")) }
+{
+    let mut line = begin_line(alloc, program)?;
+    push(&mut line, b"too many files")?;
     push(&mut line, b"\n")?;
     Ok(line)
 }

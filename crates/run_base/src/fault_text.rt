@@ -1,6 +1,8 @@
 //! The texts of faults of a policy, each written once.
 ghost use Rattle.std.specs.Prelude.{◌≡◌, ◌++◌, OnOk, codes, decimal};
-ghost use Rattle.run_base.specs.FaultTexts.{cannot_read, expected_text as text_of_expected, no_memory, at_column, at_line, load_fault_text, parse_fault_text, text_fault_text, unsupported_text as text_of_unsupported, wanted_path as path_of_wanted};
+ghost use Rattle.run_base.specs.FaultTexts.{cannot_read, expected_text as text_of_expected, no_memory, at_column};
+ghost use Rattle.run_base.specs.FaultTexts.{at_line, load_fault_text, parse_fault_text, text_fault_text};
+ghost use Rattle.run_base.specs.FaultTexts.{unsupported_text as text_of_unsupported, wanted_path as path_of_wanted};
 
 use crate::lines::{push, push_both, push_number};
 use audit_files::{push_path, push_place};

@@ -1,6 +1,6 @@
 //! The files and folders of a policy.
-ghost use Rattle.std.specs.Prelude.{◌≡◌, Option, None, IfErr, IfOk};
-ghost use Rattle.run_base.specs.Holding.{Holdings, HoldsFile, HoldsFolder, IsUnreadable};
+ghost use Rattle.std.specs.Prelude.{◌≡◌, ◌≢◌, Option, None, IfErr, IfOk};
+ghost use Rattle.run_base.specs.Holding.{Holdings, HoldsFile, HoldsFolder, IsTooLong, IsUnreadable};
 
 use audit_files::{Device, ReadFault, read_whole};
 use std::alloc::{AllocError, Global};
@@ -17,12 +17,20 @@ pub enum FilesFault {
     /// Opening or reading failed, or a name is not text.
     #[error("failed")]
     Failed,
+    /// The file is longer than a file of a policy may be, 16,777,216 bytes.
+    #[error("too long")]
+    TooLong,
     /// Out of memory.
     #[error("out of memory")]
     Memory,
 }
 
 impl From<AllocError> for FilesFault {
+    ghost use Rattle.std.specs.Prelude.{◌≡◌};
+    ghost use Rattle.run_base.specs.declared.files.FilesFault.TheVariants.{Memory};
+
+    ghost from_gives = { λ _ e. e ≡ Memory };
+
     fn from(_: AllocError) -> FilesFault {
         FilesFault::Memory
     }
@@ -34,12 +42,14 @@ pub trait Files {
     // specifies them.
     ghost held: { Self → Option Holdings };
 
-    /// Returns the text of a file, or `None` if there is no such file. Of a file above the limit for a
-    /// text, returns some text above that limit. Returns `Failed` if reading failed, and `Memory` if allocation failed.
+    /// Returns the text of a file, or `None` if there is no such file. Returns `TooLong` if it is longer than a file of a
+    /// policy may be, `Failed` if reading failed, and `Memory` if allocation failed.
     fn file(&mut self, alloc: Global, path: &[u8]) -> Result<Option<Seq<u8>>, FilesFault>
         ensures text { IfOk result (λ text. HoldsFile (held self.old) path.now text) }
         ensures failed { IfErr result (λ e. e ≡ FilesFault.Failed
             → IsUnreadable (held self.old) path.now) }
+        ensures long { IfErr result (λ e. e ≡ FilesFault.TooLong
+            → IsTooLong (held self.old) path.now) }
         ensures same { held self.new ≡ held self.old };
 
     /// Returns the text of the main file, as `file` does. The main file may be a pipe or another device, also where
@@ -48,6 +58,8 @@ pub trait Files {
         ensures text { IfOk result (λ text. HoldsFile (held self.old) path.now text) }
         ensures failed { IfErr result (λ e. e ≡ FilesFault.Failed
             → IsUnreadable (held self.old) path.now) }
+        ensures long { IfErr result (λ e. e ≡ FilesFault.TooLong
+            → IsTooLong (held self.old) path.now) }
         ensures same { held self.new ≡ held self.old }
     {
         self.file(alloc, path)
@@ -60,6 +72,7 @@ pub trait Files {
         ensures names { IfOk result (λ names. HoldsFolder (held self.old) path.now names) }
         ensures failed { IfErr result (λ e. e ≡ FilesFault.Failed
             → IsUnreadable (held self.old) path.now) }
+        ensures long { IfErr result (λ e. e ≢ FilesFault.TooLong) }
         ensures same { held self.new ≡ held self.old };
 }
 
@@ -76,15 +89,10 @@ impl<'a> Disk<'a> {
     }
 }
 
-// Returns a text that is longer than the limit, in place of one whose content does not matter.
-fn too_long(alloc: Global) -> Result<Seq<u8>, FilesFault> {
-    let mut text = Vec::new(alloc);
-    text.resize(TEXT_LIMIT + 1, 0)?;
-    Ok(Seq::from_vec(text))
-}
-
 // Returns the fault of a file or a folder that exists and that the system does not let be read.
-fn fault_of(error: &io::Error) -> FilesFault {
+fn fault_of(error: &io::Error) -> FilesFault
+    ensures { result ≢ FilesFault.TooLong }
+{
     match error.kind() {
         ErrorKind::OutOfMemory => FilesFault::Memory,
         _ => FilesFault::Failed,
@@ -100,7 +108,7 @@ fn text_at(rt: &HostRuntime, alloc: Global, path: &str) -> Result<Option<Seq<u8>
     };
     match read_whole(alloc, &mut Device::new(file), TEXT_LIMIT) {
         Ok(text) => Ok(Some(Seq::from_vec(text))),
-        Err(ReadFault::TooLong) => Ok(Some(too_long(alloc)?)),
+        Err(ReadFault::TooLong) => Err(FilesFault::TooLong),
         Err(ReadFault::Failed) => Err(FilesFault::Failed),
         Err(ReadFault::Memory) => Err(FilesFault::Memory),
     }

@@ -1,8 +1,9 @@
 //! Reads a policy from its files.
-ghost use Rattle.std.specs.Prelude.{◌≡◌, ◌⊎◌, Some, IfErr, IfOk, OnOk};
+ghost use Rattle.std.specs.Prelude.{◌≡◌, ◌<◌, ◌⊎◌, Some, IfErr, IfOk, OnOk, length, true, vec_len};
 ghost use Rattle.sudo_policy.specs.Checking.{Passes};
-ghost use Rattle.run_base.specs.Holding.{AreHeld, HoldsFile, IsHeld, IsUnreadable};
-ghost use Rattle.run_base.specs.Loading.{IsChecked, IsLoaded, IsLoadedFrom, IsNoPolicy, IsNotChecked, IsNotCheckedOf, IsNotHanded, path_of};
+ghost use Rattle.run_base.specs.Holding.{AreHeld, HoldsFile, IsHeld, IsTooLong, IsUnreadable};
+ghost use Rattle.run_base.specs.Loading.{IsChecked, IsLoaded, IsLoadedFrom, IsNoPolicy, IsNotChecked, path_of};
+ghost use Rattle.run_base.specs.Body.Loading.{IsNotCheckedOf, IsNotHanded};
 
 use crate::fault::PolicyFault;
 use crate::files::{Files, FilesFault};
@@ -13,8 +14,8 @@ use sudo_load::{LoadFault, Supply, Want, folder_files, included, load};
 use sudo_policy::{CheckFault, Checked, check};
 use sudo_text::Seq;
 
-// Upper bound on the number of reads.
-const MOST_CALLS: usize = 2048;
+// The most files and folders that are handed in. `load` needs at most 1,024 of each.
+const MOST_SUPPLIES: usize = 2048;
 
 // Returns the fault of a main file that cannot be read.
 fn unread_main(alloc: Global, path: &[u8]) -> PolicyFault
@@ -22,6 +23,16 @@ fn unread_main(alloc: Global, path: &[u8]) -> PolicyFault
 {
     match Seq::from_slice(alloc, path) {
         Ok(path) => PolicyFault::CannotRead(path),
+        Err(_) => PolicyFault::Memory,
+    }
+}
+
+// Returns the fault of a main file that is too long.
+fn long_main(alloc: Global, path: &[u8]) -> PolicyFault
+    ensures { (result ≡ PolicyFault.Memory) ⊎ (result ≡ PolicyFault.TooLong path.now) }
+{
+    match Seq::from_slice(alloc, path) {
+        Ok(path) => PolicyFault::TooLong(path),
         Err(_) => PolicyFault::Memory,
     }
 }
@@ -35,6 +46,7 @@ fn main_text<F: Files>(alloc: Global, files: &mut F, path: &[u8]) -> Result<Seq<
     match files.main_file(alloc, path) {
         Ok(Some(text)) => Ok(text),
         Ok(None) | Err(FilesFault::Failed) => Err(unread_main(alloc, path)),
+        Err(FilesFault::TooLong) => Err(long_main(alloc, path)),
         Err(FilesFault::Memory) => Err(PolicyFault::Memory),
     }
 }
@@ -49,6 +61,8 @@ fn fetch<F: Files>(
     ensures same { F.held files.new ≡ F.held files.old }
     ensures failed { IfErr result (λ e. e.1 ≡ FilesFault.Failed
         → IsUnreadable (F.held files.old) e.0) }
+    ensures long { IfErr result (λ e. e.1 ≡ FilesFault.TooLong
+        → IsTooLong (F.held files.old) e.0) }
     ensures path { IfErr result (λ e. e.0 ≡ path_of want) }
 {
     match want {
@@ -64,7 +78,9 @@ fn fetch<F: Files>(
 }
 
 // Whether a file or a folder was read before.
-fn is_read(supplies: &[Supply], want: &Want) -> bool {
+fn is_read(supplies: &[Supply], want: &Want) -> bool
+    ensures { result ≡ true → 0 < length supplies.now }
+{
     supplies.iter().any(|supply| match (supply, want) {
         (Supply::File { path, .. }, Want::File(wanted)) => path == wanted,
         (Supply::Folder { path, .. }, Want::Folder(wanted)) => path == wanted,
@@ -124,7 +140,7 @@ fn read_one<F: Files>(
             pending.append(&mut named_by(alloc, &supply)?)?;
             Ok(supplies.push(supply)?)
         }
-        Err((_, FilesFault::Failed)) => Ok(()),
+        Err((_, FilesFault::Failed | FilesFault::TooLong)) => Ok(()),
         Err((_, FilesFault::Memory)) => Err(AllocError),
     }
 }
@@ -140,7 +156,7 @@ fn read_ahead<F: Files>(alloc: Global, files: &mut F, path: &[u8], text: &[u8]) 
     let Ok(mut pending) = included(alloc, path, text) else {
         return supplies;
     };
-    for _turn in 0..MOST_CALLS {
+    for _turn in 0..MOST_SUPPLIES {
         let Some(want) = pending.pop() else {
             break;
         };
@@ -163,12 +179,14 @@ fn push_wanted<F: Files>(
 ) -> Result<(), PolicyFault>
     requires { AreHeld (F.held files.old) supplies.old.items }
     ensures held { OnOk result (AreHeld (F.held files.new) supplies.new.items) }
+    ensures more { OnOk result (vec_len supplies.old < vec_len supplies.new) }
     ensures same { F.held files.new ≡ F.held files.old }
     ensures fault { IfErr result (IsNotHanded (F.held files.old) want) }
 {
     match fetch(alloc, files, want) {
         Ok(supply) => Ok(supplies.push(supply)?),
         Err((unread, FilesFault::Failed)) => Err(PolicyFault::CannotRead(unread)),
+        Err((long, FilesFault::TooLong)) => Err(PolicyFault::TooLong(long)),
         Err((_, FilesFault::Memory)) => Err(PolicyFault::Memory),
     }
 }
@@ -184,14 +202,15 @@ fn hand_in<F: Files>(
 ) -> Result<(), PolicyFault>
     requires { AreHeld (F.held files.old) supplies.old.items }
     ensures held { OnOk result (AreHeld (F.held files.new) supplies.new.items) }
+    ensures more { OnOk result (vec_len supplies.old < vec_len supplies.new) }
     ensures same { F.held files.new ≡ F.held files.old }
     ensures fault { IfErr result (IsNotHanded (F.held files.old) want) }
 {
     if supplies.is_empty() {
         *supplies = read_ahead(alloc, files, path, text);
-    }
-    if is_read(supplies, &want) {
-        return Ok(());
+        if is_read(supplies, &want) {
+            return Ok(());
+        }
     }
     push_wanted(alloc, files, want, supplies)
 }
@@ -207,8 +226,9 @@ pub struct Loaded {
 /// Returns the policy of a file and of all that it includes, with what was read. Reads what `load` needs, and calls `load`
 /// again.
 ///
-/// Returns `CannotRead` with the path of the main file, or of what is needed after what was read, if it cannot be read;
-/// `Refused` if the content of the files is refused; `Memory` if allocation failed.
+/// Returns `CannotRead` with the path of the main file, or of what is needed after what was read, if it cannot be read,
+/// `TooLong` if it is longer than a file of a policy may be; `TooManyFiles` if 2,048 files and folders were read and
+/// more are needed; `Refused` if the content of the files is refused; `Memory` if allocation failed.
 pub fn load_files<F: Files>(
     alloc: Global,
     path: &[u8],
@@ -220,7 +240,7 @@ pub fn load_files<F: Files>(
 {
     let text = main_text(alloc, files, path)?;
     let mut supplies = Vec::new(alloc);
-    for _call in 0..MOST_CALLS {
+    for _call in 0..MOST_SUPPLIES {
         match load(alloc, path, text.as_slice(), &supplies) {
             Ok(policy) => {
                 return Ok(Loaded {
@@ -242,7 +262,7 @@ pub fn load_files<F: Files>(
             },
         }
     }
-    Err(PolicyFault::Memory)
+    Err(PolicyFault::TooManyFiles)
 }
 
 /// Returns the policy of a file and of all that it includes. Returns the faults of `load_files`.

@@ -1,3 +1,3 @@
-pub mod Indexes
 pub mod NameEntry
 pub mod NameIndices
+pub mod Body

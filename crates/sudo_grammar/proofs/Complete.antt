@@ -1,5 +1,7 @@
 -- Each written form of an entry is read as that entry.
-use Rattle.std.proofs.Common.{inl, inr, cond, Bool, lt-ltb, append-nil, ◌≡◌, ℕ, zero, suc, ◌+◌, ◌≤◌, ◌<◌, List, [], ◌∷◌, ◌++◌, length, refl, ap, sym, ◌∙◌, subst, append_assoc, arith, add-zero, length-append, Option, None, Some, Result, Ok, true, false}
+use Rattle.std.proofs.Common.{inl, inr, cond, Bool, lt-ltb, append-nil, ◌≡◌, ℕ, zero, suc, ◌+◌, ◌≤◌, ◌<◌, List, []}
+use Rattle.std.proofs.Common.{◌∷◌, ◌++◌, length, refl, ap, sym, ◌∙◌, subst, append_assoc, arith, add-zero}
+use Rattle.std.proofs.Common.{length-append, Option, None, Some, Result, Ok, true, false}
 use Rattle.sudo_text.specs.declared.token.Mark.{Mark}
 use Rattle.sudo_text.specs.declared.token.Mark.TheVariants as marks
 use Rattle.sudo_text.specs.declared.token.Token.{Token}
@@ -30,8 +32,18 @@ use Rattle.sudo_grammar.specs.declared.policy.Parameter.{Parameter}
 use Rattle.sudo_grammar.specs.declared.policy.Parameter.TheVariants as parameters
 use Rattle.sudo_grammar.specs.declared.policy.Operator.{Operator}
 use Rattle.sudo_grammar.specs.Members.{atom_of}
-use Rattle.sudo_grammar.specs.Forms.{binding_mark, binding, the_word, parameter, more_parameters, parameter_list, defaults, rule, include, groups, runas, optional, spec, more_specs, specs, more_sections, sections, last_as_tag, tag, tags, ◌▸◌, one, mark, bangs, member, item, more_items, list, name, definition, more_definitions, definition_list, keyword_form, Writes}
-use Rattle.sudo_grammar.specs.States.{Binds, DefaultsStart, AtParameter, AfterSwitch, AtValue, AfterValue, at_parameter, at_value, at_operator, after_switch, after_value, at_binding, after_defaults, bound_to, Included, Users, Hosts, RunasUsers, RunasGroups, RunasStart, GroupsStart, after_runas, at_runas, at_groups, after_item, Granting, Command, AfterCommand, at_command, command_state, after_command, after_colon, Purpose, Defines, kind_for, State, Start, AliasName, AfterName, Item, AfterItem, Room, at_item, member_state, after_member, at_alias_name, at_start, step}
+use Rattle.sudo_grammar.specs.Forms.{binding_mark, binding, the_word, parameter, more_parameters, parameter_list}
+use Rattle.sudo_grammar.specs.Forms.{defaults, rule, include, groups, runas, optional, spec, more_specs, specs}
+use Rattle.sudo_grammar.specs.Forms.{more_sections, sections, last_as_tag, tag, tags, ◌▸◌, one, mark, bangs, member}
+use Rattle.sudo_grammar.specs.Forms.{item, more_items, list, name, definition, more_definitions, definition_list}
+use Rattle.sudo_grammar.specs.Forms.{keyword_form, Writes}
+use Rattle.sudo_grammar.specs.States.{Binds, DefaultsStart, AtParameter, AfterSwitch, AtValue, AfterValue}
+use Rattle.sudo_grammar.specs.States.{at_parameter, at_value, at_operator, after_switch, after_value, at_binding}
+use Rattle.sudo_grammar.specs.States.{after_defaults, bound_to, Included, Users, Hosts, RunasUsers, RunasGroups}
+use Rattle.sudo_grammar.specs.States.{RunasStart, GroupsStart, after_runas, at_runas, at_groups, after_item, Granting}
+use Rattle.sudo_grammar.specs.States.{Command, AfterCommand, at_command, command_state, after_command, after_colon}
+use Rattle.sudo_grammar.specs.States.{Purpose, Defines, kind_for, State, Start, AliasName, AfterName, Item, AfterItem}
+use Rattle.sudo_grammar.specs.States.{Room, at_item, member_state, after_member, at_alias_name, at_start, step}
 use Rattle.sudo_grammar.specs.Reading.{reading}
 use Rattle.sudo_grammar.specs.Faults.{HasRoom}
 
@@ -73,12 +85,20 @@ tag-alias kind x h = go (plain_word kind) refl h
     go (Some w) is h = named (bytes_eq w (codes "ALL")) (is_name w) refl refl h
       where
         spelled : atom_of kinds.Cmnd kind ≡ plain_atom kinds.Cmnd kind w
-        spelled = ap (λ o. elim o as (λ _. Result Atom Refusal) [ Some w ↦ plain_atom kinds.Cmnd kind w | None ↦ other_atom kinds.Cmnd kind ]) is
+        spelled = ap (λ o. elim o as (λ _. Result Atom Refusal) [
+          | Some w ↦ plain_atom kinds.Cmnd kind w
+          | None ↦
+              other_atom kinds.Cmnd kind
+        ]) is
 
         named : (all name : Bool) → bytes_eq w (codes "ALL") ≡ all → is_name w ≡ name
             → tag_in (cond name (Some w) None) ≡ Some x → (a : Atom) × (atom_of kinds.Cmnd kind ≡ Ok a)
         named all false e f h = cc
-        named true true e f h = (atoms.All, spelled ∙ ap (λ b. cond b (Ok atoms.All) (cond (is_name w) (Ok (atoms.Alias w)) (other_atom kinds.Cmnd kind))) e)
+        named true true e f h = (
+          atoms.All,
+          spelled
+              ∙ ap (λ b. cond b (Ok atoms.All) (cond (is_name w) (Ok (atoms.Alias w)) (other_atom kinds.Cmnd kind))) e,
+        )
         named false true e f h = (
           atoms.Alias w,
           spelled
@@ -95,7 +115,8 @@ at_command-member g r d n t _ a h = refl
 
 pub at_command-takes : (g : Granting) (r : Option Runas) (d : List Tag) (n : ℕ) (t : Token) (a : Atom)
     → atom_of kinds.Cmnd t.kind ≡ Ok a
-    → at_command g r d n t t.kind ≡ Some (AfterCommand g (record { runas = r; tags = d; command = record { bangs = n; token = t; atom = a } }))
+    → at_command g r d n t t.kind ≡ Some
+    (AfterCommand g (record { runas = r; tags = d; command = record { bangs = n; token = t; atom = a } }))
 at_command-takes g r d n t a h = at_command-member g r d n t t.kind a h ∙ ap (command_state g r d n t) h
 
 -- the state after a command and further ones
@@ -270,8 +291,19 @@ module _ (room : Room) where
               → reading room (AfterCommand g (record { runas = r; tags = d; command = record { bangs = 0; token = t; atom = a } })) ts
               ≡ reading room (Command g r (d ++ x ∷ []) 0) rest
           colon_on [] h' = absurd h'
-          colon_on (c ∷ ts) h' = reading-step room (AfterCommand g (record { runas = r; tags = d; command = record { bangs = 0; token = t; atom = a } })) (Command g r (d ++ x ∷ []) 0) c ts
-              (ap (after_command g (record { runas = r; tags = d; command = record { bangs = 0; token = t; atom = a } })) h'.0 ∙ ap (λ o. Some (after_colon g (record { runas = r; tags = d; command = record { bangs = 0; token = t; atom = a } }) o)) h.1.0.0)
+          colon_on (c ∷ ts) h' = reading-step room
+              (AfterCommand g (record { runas = r; tags = d; command = record { bangs = 0; token = t; atom = a } }))
+              (Command g r (d ++ x ∷ []) 0) c ts
+              (ap (after_command g (record {
+                runas = r;
+                tags = d;
+                command = record {
+                  bangs = 0;
+                  token = t;
+                  atom = a;
+                };
+              })) h'.0 ∙ ap (λ o. Some
+              (after_colon g (record { runas = r; tags = d; command = record { bangs = 0; token = t; atom = a } }) o)) h.1.0.0)
               ∙ rw h'.1 refl
 
   tags-read : (g : Granting) (r : Option Runas) (d xs : List Tag) (ts rest : List Token) → tags xs ts rest
@@ -352,7 +384,8 @@ module _ (room : Room) where
   groups-read g us (Some gs) ts middle rest (after, (colon, listed)) close =
       mark-read (users_state g us) (GroupsStart g us) marks.Colon ts after (users-colon g us) colon
       ∙ enter_list (RunasGroups g us) (GroupsStart g us) gs after middle (λ t next h. groups-first g us t next t.kind refl h) listed
-      ∙ mark-read (AfterItem (RunasGroups g us) gs) (after_runas g us (Some gs)) marks.RightParen middle rest (λ t is. ap (after_item (RunasGroups g us) gs t) is) close
+      ∙ mark-read (AfterItem (RunasGroups g us) gs) (after_runas g us (Some gs)) marks.RightParen middle rest
+      (λ t is. ap (after_item (RunasGroups g us) gs t) is) close
 
   runas-read : (g : Granting) (r : Option Runas) (ts rest : List Token) → optional runas r ts rest
       → reading room (Command g None [] 0) ts ≡ reading room (Command g r [] 0) rest
@@ -409,20 +442,34 @@ module _ (room : Room) where
   more_sections-read us done hosts c cs [] ts h =
       ap (reading room (last_place (record { users = us; sections = done; hosts = hosts; commands = [] }) c cs)) h
       ∙ last-ends (record { users = us; sections = done; hosts = hosts; commands = [] }) c cs
-  more_sections-read us done hosts c cs (y ∷ ys) ts (a, ((none, same), (b, (colon, (d, ((f, (listed, (k, (equals, commands)))), further)))))) =
+  more_sections-read us done hosts c cs (y ∷ ys) ts
+      (a, ((none, same), (b, (colon, (d, ((f, (listed, (k, (equals, commands)))), further)))))) =
       ap (reading room (last_place (record { users = us; sections = done; hosts = hosts; commands = [] }) c cs)) same
       ∙ mark-read (last_place (record { users = us; sections = done; hosts = hosts; commands = [] }) c cs)
       (Item (Hosts us (done ++ record { hosts = hosts; commands = c ∷ cs } ∷ [])) 0 []) marks.Colon a b
       (λ t is. last-colon (record { users = us; sections = done; hosts = hosts; commands = [] }) c cs t is none) colon
       ∙ list-read (Hosts us (done ++ record { hosts = hosts; commands = c ∷ cs } ∷ [])) y.hosts b f listed
-      ∙ go y.commands commands further (λ c' cs'. more_sections-read us (done ++ record { hosts = hosts; commands = c ∷ cs } ∷ []) y.hosts c' cs' ys d)
+      ∙ go y.commands commands further
+      (λ c' cs'. more_sections-read us (done ++ record { hosts = hosts; commands = c ∷ cs } ∷ []) y.hosts c' cs' ys d)
     where
       go : (commands : List CommandSpec) → specs commands k d → more_sections (record { hosts = y.hosts; commands = commands }) ys d []
           → ((c' : CommandSpec) (cs' : List CommandSpec) → more_sections (record { hosts = y.hosts; commands = c' ∷ cs' }) ys d []
-          → reading room (last_place (record { users = us; sections = done ++ record { hosts = hosts; commands = c ∷ cs } ∷ []; hosts = y.hosts; commands = [] }) c' cs') d
-          ≡ Ok (entries.Rule us ((done ++ record { hosts = hosts; commands = c ∷ cs } ∷ []) ++ record { hosts = y.hosts; commands = c' ∷ cs' } ∷ ys)))
+          → reading room (last_place (record {
+            users = us;
+            sections = done ++ record {
+              hosts = hosts;
+              commands = c ∷ cs;
+            } ∷ [];
+            hosts = y.hosts;
+            commands = [];
+          }) c' cs') d
+          ≡ Ok (entries.Rule us ((done ++ record { hosts = hosts; commands = c ∷ cs } ∷ [])
+          ++ record { hosts = y.hosts; commands = c' ∷ cs' } ∷ ys)))
           → reading room (AfterItem (Hosts us (done ++ record { hosts = hosts; commands = c ∷ cs } ∷ [])) y.hosts) f
-          ≡ Ok (entries.Rule us (done ++ record { hosts = hosts; commands = c ∷ cs } ∷ record { hosts = y.hosts; commands = commands } ∷ ys))
+          ≡ Ok (entries.Rule us (done ++ record { hosts = hosts; commands = c ∷ cs } ∷ record {
+            hosts = y.hosts;
+            commands = commands;
+          } ∷ ys))
       go [] h more again = absurd h
       go (c' ∷ cs') h more again =
           section-read us (done ++ record { hosts = hosts; commands = c ∷ cs } ∷ []) y.hosts c' cs' f k d equals h
@@ -478,7 +525,8 @@ module _ (room : Room) where
       → reading room (AtValue b d w o) ts ≡ reading room (AfterValue b (d ++ parameters.Assign w o v ∷ [])) rest
   value-read b d w o v [] rest h = absurd h
   value-read b d w o v (t ∷ ts) rest h =
-      reading-step room (AtValue b d w o) (AfterValue b (d ++ parameters.Assign w o t ∷ [])) t ts (word-value b d w o t t.kind h.0.1) ∙ rw (h.1, h.0.0) refl
+      reading-step room (AtValue b d w o) (AfterValue b (d ++ parameters.Assign w o t ∷ [])) t ts
+      (word-value b d w o t t.kind h.0.1) ∙ rw (h.1, h.0.0) refl
 
   parameter-read : (b : Option Binding) (d : List Parameter) (x : Parameter) (ts rest : List Token) → parameter x ts rest
       → reading room (AtParameter b d 0) ts ≡ reading room (parameter_state b d x) rest

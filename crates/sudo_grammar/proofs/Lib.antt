@@ -6,4 +6,4 @@ pub mod Stops
 pub mod OneFault
 pub mod Vectors
 pub mod SyntaxWords
-pub mod Standing
+pub mod ExpectedTokens

@@ -1,5 +1,6 @@
 -- An entry that is read is within the limits of definitions.
-use Rattle.std.proofs.Common.{cond, ◌≡◌, ℕ, suc, ◌+◌, ◌≤◌, ◌<◌, List, [], ◌∷◌, ◌++◌, length, refl, ap, sym, ◌∙◌, arith, length-append, ltb, ltb-true, None, Some, Result, Ok, Err, true, false, Bool}
+use Rattle.std.proofs.Common.{cond, ◌≡◌, ℕ, suc, ◌+◌, ◌≤◌, ◌<◌, List, [], ◌∷◌, ◌++◌, length, refl, ap, sym, ◌∙◌}
+use Rattle.std.proofs.Common.{arith, length-append, ltb, ltb-true, None, Some, Result, Ok, Err, true, false, Bool}
 use Rattle.sudo_text.specs.declared.token.Token.{Token}
 use Rattle.sudo_grammar.specs.declared.kind.Kind.{Kind}
 use Rattle.sudo_grammar.specs.declared.policy.Definition.{Definition}
@@ -26,7 +27,8 @@ module _ (room : Room) where
       go : (b : Bool) → ltb (length d) (room k) ≡ b → length d < room k
       go true is = ltb-true (length d) (room k) is
       go false is =
-          let none : step room (AliasName k d) t ≡ None = ap (at_alias_name room k d) h.0 ∙ ap (λ b. cond b (Some (AfterName k d w)) None) is in
+          let none : step room (AliasName k d) t ≡ None = ap (at_alias_name room k d) h.0
+          ∙ ap (λ b. cond b (Some (AfterName k d w)) None) is in
           let stops : ◌≡◌ {A = Result EntryBody Stop} (Ok e) (Err (stop_at (AliasName k d) (t ∷ ts))) =
           sym read ∙ reading-stops room (AliasName k d) t ts none in
           cc

@@ -1,7 +1,10 @@
 -- Tokens that are read as an entry are a written form of it: from each state on they have the forms that are left
 -- there. One lemma for each step, from the state after a token back to the state before it.
-use Rattle.std.proofs.Common.{inl, inr, cond, ◌≡◌, ℕ, zero, suc, ◌+◌, List, [], ◌∷◌, ◌++◌, length, refl, zero-add, add-zero, ap, sym, ◌∙◌, subst, append_assoc, append-nil, arith, ltb, Option, None, Some, Result, Ok, Err, true, false, Bool}
+use Rattle.std.proofs.Common.{inl, inr, cond, ◌≡◌, ℕ, zero, suc, ◌+◌, List, [], ◌∷◌, ◌++◌, length, refl, zero-add}
+use Rattle.std.proofs.Common.{add-zero, ap, sym, ◌∙◌, subst, append_assoc, append-nil, arith, ltb, Option, None, Some}
+use Rattle.std.proofs.Common.{Result, Ok, Err, true, false, Bool}
 use Rattle.std.proofs.Math.Dec.{eqb-suc-zero}
+use Rattle.sudo_base.proofs.Options.{some_injective, none_some}
 use Rattle.sudo_text.specs.declared.token.Mark.TheVariants as marks
 use Rattle.sudo_text.specs.declared.token.Token.{Token}
 use Rattle.sudo_text.specs.declared.token.TokenKind.{TokenKind}
@@ -22,32 +25,35 @@ use Rattle.sudo_grammar.specs.declared.policy.EntryBody.{EntryBody}
 use Rattle.sudo_grammar.specs.declared.fault.Refusal.{Refusal}
 use Rattle.sudo_grammar.specs.Words.{name_of, tag_of}
 use Rattle.sudo_grammar.specs.Members.{atom_of}
-use Rattle.sudo_grammar.specs.Openings.{Opening, Keyword, DefaultsLine, Directive, BadDirective, Other, opening_of, is_direct, kind_of_mark, is_word, operator_of}
+use Rattle.sudo_grammar.specs.Openings.{Opening, Keyword, DefaultsLine, Directive, BadDirective, Other, opening_of}
+use Rattle.sudo_grammar.specs.Openings.{is_direct, kind_of_mark, is_word, operator_of}
 use Rattle.sudo_grammar.specs.Forms.{mark, bangs, list, spec, binding, parameter, as_tag, last_as_tag, Writes}
-use Rattle.sudo_grammar.specs.States.{Granting, Purpose, Defines, Users, Hosts, RunasUsers, RunasGroups, Binds, kind_for, bound_to, closed_section, Room, State, Start, AliasName, AfterName, Item, AfterItem, Command, AfterCommand, RunasStart, GroupsStart, DefaultsStart, AtParameter, AfterSwitch, AtValue, AfterValue, Included, at_item, member_state, after_item, after_list, after_name, at_alias_name, at_command, command_state, at_paren, after_command, after_colon, at_runas, at_groups, at_binding, after_defaults, at_parameter, at_operator, after_switch, at_value, after_value, at_start, step, entry_after_list}
+use Rattle.sudo_grammar.specs.States.{Granting, Purpose, Defines, Users, Hosts, RunasUsers, RunasGroups, Binds}
+use Rattle.sudo_grammar.specs.States.{kind_for, bound_to, closed_section, Room, State, Start, AliasName, AfterName}
+use Rattle.sudo_grammar.specs.States.{Item, AfterItem, Command, AfterCommand, RunasStart, GroupsStart, DefaultsStart}
+use Rattle.sudo_grammar.specs.States.{AtParameter, AfterSwitch, AtValue, AfterValue, Included, at_item, member_state}
+use Rattle.sudo_grammar.specs.States.{after_item, after_list, after_name, at_alias_name, at_command, command_state}
+use Rattle.sudo_grammar.specs.States.{at_paren, after_command, after_colon, at_runas, at_groups, at_binding}
+use Rattle.sudo_grammar.specs.States.{after_defaults, at_parameter, at_operator, after_switch, at_value, after_value}
+use Rattle.sudo_grammar.specs.States.{at_start, step, entry_after_list}
 use Rattle.sudo_grammar.specs.Reading.{entry_or_stop, reading, stop_at, Stop}
-use Rattle.sudo_grammar.specs.Remaining.{AfterSpec, AtCommand, AtTags, AtSpec, AtGroups, AfterList, InList, AtItem, parameter_left, Completes}
+use Rattle.sudo_grammar.specs.Remaining.{AfterSpec, AtCommand, AtTags, AtSpec, AtGroups, AfterList, InList, AtItem}
+use Rattle.sudo_grammar.specs.Remaining.{parameter_left, Completes}
 
-pub some-injective : {A : Type 0} {x y : A} → Some x ≡ Some y → x ≡ y
-some-injective h = cc
-
-none-some : {A : Type 0} {x : A} → ◌≡◌ {A = Option A} None (Some x) → ⊥
-none-some h = cc
-
-pub ok-injective : {A B : Type 0} {x y : A} → ◌≡◌ {A = Result A B} (Ok x) (Ok y) → x ≡ y
-ok-injective h = cc
+pub ok_injective : {A B : Type 0} {x y : A} → ◌≡◌ {A = Result A B} (Ok x) (Ok y) → x ≡ y
+ok_injective h = cc
 
 -- what goes on from the next state
 on : (state next : State) (e : EntryBody) (ts : List Token) → Some state ≡ Some next → Completes next e ts → Completes state e ts
-on state next e ts h g = subst (λ x. Completes x e ts) (sym (some-injective h)) g
+on state next e ts h g = subst (λ x. Completes x e ts) (sym (some_injective _ _ h)) g
 
 -- where a line may end, it goes on with no token
 ends : (state : State) (e : EntryBody) → entry_after_list state ≡ Some e → Completes state e []
-ends (AfterItem (Defines k done w) d) e h = ([], ([], (refl, ([], (refl, rw append-nil (sym (some-injective h)))))))
-ends (AfterCommand g s) e h = inl ([], ([], (([], (refl, refl)), sym (some-injective h))))
-ends (AfterSwitch b d n name) e h = inl ([], (refl, sym (some-injective h)))
-ends (AfterValue b d) e h = ([], (refl, rw append-nil (sym (some-injective h))))
-ends (Included folder hash path) e h = (refl, sym (some-injective h))
+ends (AfterItem (Defines k done w) d) e h = ([], ([], (refl, ([], (refl, rw append-nil (sym (some_injective _ _ h)))))))
+ends (AfterCommand g s) e h = inl ([], ([], (([], (refl, refl)), sym (some_injective _ _ h))))
+ends (AfterSwitch b d n name) e h = inl ([], (refl, sym (some_injective _ _ h)))
+ends (AfterValue b d) e h = ([], (refl, rw append-nil (sym (some_injective _ _ h))))
+ends (Included folder hash path) e h = (refl, sym (some_injective _ _ h))
 ends _ e h = cc
 
 -- Lists.
@@ -67,7 +73,19 @@ back-member : (p : Purpose) (n : ℕ) (d : List Member) (t : Token) (ts : List T
 back-member p n d t ts e next (Err r) is h g = cc
 back-member p n d t ts e next (Ok a) is h g = (
   record { bangs = n; token = t; atom = a },
-  (0, (ts, (sym (add-zero n), ((t ∷ ts, (refl, ((refl, is), refl))), on (AfterItem p (d ++ record { bangs = n; token = t; atom = a } ∷ [])) next e ts h g)))),
+  (
+    0,
+    (
+      ts,
+      (
+        sym (add-zero n),
+        (
+          (t ∷ ts, (refl, ((refl, is), refl))),
+          on (AfterItem p (d ++ record { bangs = n; token = t; atom = a } ∷ [])) next e ts h g,
+        ),
+      ),
+    ),
+  ),
 )
 
 back-item : (p : Purpose) (n : ℕ) (d : List Member) (t : Token) (ts : List Token) (e : EntryBody) (next : State)
@@ -139,7 +157,7 @@ signed-no-tag : (n : ℕ) (t : Token) (a : Atom) (x : Tag) → as_tag (record { 
 signed-no-tag n t a x h =
     let none : as_tag (record { bangs = suc n; token = t; atom = a }) ≡ None = ap (λ b. cond b (tag_of t.kind) None) (eqb-suc-zero n) in
     let same : ◌≡◌ {A = Option Tag} None (Some x) = sym none ∙ h in
-    none-some same
+    none_some _ same
 
 -- a name before a colon was a tag
 back-tag : (g : Granting) (r : Option Runas) (d : List Tag) (n : ℕ) (t : Token) (a : Atom) (ts : List Token) (e : EntryBody)
@@ -263,8 +281,17 @@ back-groups g us t ts e is (Some gs, (after, ((middle, (listed, close)), rest)))
 back-runas : (g : Granting) (t : Token) (ts : List Token) (e : EntryBody) (next : State)
     (kind : TokenKind) → t.kind ≡ kind → at_runas g t kind ≡ Some next
     → Completes next e ts → Completes (RunasStart g) e (t ∷ ts)
-back-runas g t ts e next (tokens.Mark marks.RightParen) is h g' =
-    (None, (t ∷ ts, (refl, back-close g None t ts e is (on (Command g (Some (record { users = None; groups = None })) [] 0) next e ts h g'))))
+back-runas g t ts e next (tokens.Mark marks.RightParen) is h g' = (
+  None,
+  (
+    t ∷ ts,
+    (
+      refl,
+      back-close g None t ts e is
+          (on (Command g (Some (record { users = None; groups = None })) [] 0) next e ts h g'),
+    ),
+  ),
+)
 back-runas g t ts e next (tokens.Mark marks.Colon) is h g' =
     (None, (t ∷ ts, (refl, back-groups g None t ts e is (on (GroupsStart g None) next e ts h g'))))
 back-runas g t ts e next kind is h g' = go (whole_list (RunasUsers g) e (t ∷ ts) (back-item (RunasUsers g) 0 [] t ts e next kind is h g'))
@@ -514,7 +541,7 @@ pub sound : (room : Room) (state : State) (ts : List Token) (e : EntryBody) → 
 sound room state [] e h = go (entry_after_list state) refl h
   where
     go : (r : Option EntryBody) → entry_after_list state ≡ r → entry_or_stop state r ≡ Ok e → Completes state e []
-    go (Some x) is h = ends state e (is ∙ ap Some (ok-injective h))
+    go (Some x) is h = ends state e (is ∙ ap Some (ok_injective h))
     go None is h = cc
 sound room state (t ∷ ts) e h = go (step room state t) refl h (λ next. sound room next ts e)
   where

@@ -2,7 +2,10 @@
 -- tokens up to it begin a form; and no form begins with a further token that no step takes, since reading stops there
 -- whatever follows.
 use Rattle.std.specs.Prelude.{codes, map}
-use Rattle.std.proofs.Common.{cond, inl, inr, ◌⊎◌, ◌≡◌, ℕ, suc, ◌+◌, ◌≤◌, ◌<◌, List, [], ◌∷◌, ◌++◌, length, refl, ap, sym, ◌∙◌, subst, append_assoc, append-nil, arith, ltb, ltb-true, lt-ltb, ltb-false, Option, None, Some, Result, Ok, Err, true, false, Bool}
+use Rattle.std.proofs.Common.{cond, inl, inr, ◌⊎◌, ◌≡◌, ℕ, suc, ◌+◌, ◌≤◌, ◌<◌, List, [], ◌∷◌, ◌++◌, length, refl, ap}
+use Rattle.std.proofs.Common.{sym, ◌∙◌, subst, append_assoc, append-nil, arith, ltb, ltb-true, lt-ltb, ltb-false}
+use Rattle.std.proofs.Common.{Option, None, Some, Result, Ok, Err, true, false, Bool}
+use Rattle.sudo_base.proofs.Options.{some_injective}
 use Rattle.sudo_text.specs.declared.token.Mark.{Mark}
 use Rattle.sudo_text.specs.declared.token.Mark.TheVariants as marks
 use Rattle.sudo_text.specs.declared.token.Token.{Token}
@@ -14,7 +17,10 @@ use Rattle.sudo_grammar.specs.declared.policy.EntryBody.{EntryBody}
 use Rattle.sudo_grammar.specs.declared.policy.EntryBody.TheVariants as entries
 use Rattle.sudo_grammar.specs.Words.{name_of}
 use Rattle.sudo_grammar.specs.Forms.{Writes}
-use Rattle.sudo_grammar.specs.States.{Purpose, Defines, Users, Hosts, RunasUsers, RunasGroups, Binds, State, Start, AliasName, AfterName, Item, AfterItem, Command, AfterCommand, RunasStart, GroupsStart, DefaultsStart, AtParameter, AfterSwitch, AtValue, AfterValue, Included, Room, at_alias_name, step, entry_after_list, state_after}
+use Rattle.sudo_grammar.specs.States.{Purpose, Defines, Users, Hosts, RunasUsers, RunasGroups, Binds, State, Start}
+use Rattle.sudo_grammar.specs.States.{AliasName, AfterName, Item, AfterItem, Command, AfterCommand, RunasStart}
+use Rattle.sudo_grammar.specs.States.{GroupsStart, DefaultsStart, AtParameter, AfterSwitch, AtValue, AfterValue}
+use Rattle.sudo_grammar.specs.States.{Included, Room, at_alias_name, step, entry_after_list, state_after}
 use Rattle.sudo_grammar.specs.Refusals.{refused_at}
 use Rattle.sudo_grammar.specs.Reading.{entry_or_stop, reading, stop_at, Stop}
 use Rattle.sudo_grammar.specs.Remaining.{Completes}
@@ -22,7 +28,7 @@ use Rattle.sudo_grammar.specs.Faults.{HasRoom, BeginsEntry, IsStuck, IsGrammarFa
 use Rattle.sudo_grammar.proofs.Complete.{entry-read, reading-step}
 use Rattle.sudo_grammar.proofs.Unique.{count}
 use Rattle.sudo_grammar.proofs.Limits.{reading-stops}
-use Rattle.sudo_grammar.proofs.Sound.{backward, sound, some-injective}
+use Rattle.sudo_grammar.proofs.Sound.{backward, sound}
 
 -- `ALL`
 abbrev all : Token
@@ -107,10 +113,10 @@ live (AfterValue b d) = (none, (_, refl))
 live (Included folder hash path) = (none, (_, refl))
 
 -- what goes on from a state that was reached goes on from the state before
-pub completes-back : (room : Room) (state q : State) (front more : List Token) (e : EntryBody)
+pub completes_back : (room : Room) (state q : State) (front more : List Token) (e : EntryBody)
     → state_after room state front ≡ Some q → Completes q e more → Completes state e (front ++ more)
-completes-back room state q [] more e h g = subst (λ x. Completes x e more) (sym (some-injective h)) g
-completes-back room state q (t ∷ ts) more e h g = go (step room state t) refl h (λ next h. completes-back room next q ts more e h g)
+completes_back room state q [] more e h g = subst (λ x. Completes x e more) (sym (some_injective _ _ h)) g
+completes_back room state q (t ∷ ts) more e h g = go (step room state t) refl h (λ next h. completes_back room next q ts more e h g)
   where
     go : (r : Option State) → step room state t ≡ r
         → elim r as (λ _. Option State) [ Some next ↦ state_after room next ts | None ↦ None ] ≡ Some q
@@ -124,12 +130,12 @@ pub begins : (room : Room) (front : List Token) (q : State) → state_after room
 begins room front q h = go (live q)
   where
     go : IsLive q (finish q) → BeginsEntry front
-    go (wide, (e, read)) = (e, finish q, completes-back room Start q front (finish q) e h (sound wide q (finish q) e read))
+    go (wide, (e, read)) = (e, finish q, completes_back room Start q front (finish q) e h (sound wide q (finish q) e read))
 
 -- the reading of a front and more is that of what is left, from the state after the front
 pub reading-front : (room : Room) (state q : State) (front more : List Token) → state_after room state front ≡ Some q
     → reading room state (front ++ more) ≡ reading room q more
-reading-front room state q [] more h = rw (some-injective h) refl
+reading-front room state q [] more h = rw (some_injective _ _ h) refl
 reading-front room state q (t ∷ ts) more h = go (step room state t) refl h (λ next. reading-front room next q ts more)
   where
     go : (r : Option State) → step room state t ≡ r
@@ -222,9 +228,9 @@ dead room state t front reached none (e, rest, w) =
     cc
 
 -- nor is a front a form where the line can't end
-dead-end : (room : Room) (state : State) (front : List Token) → state_after room Start front ≡ Some state
+dead_end : (room : Room) (state : State) (front : List Token) → state_after room Start front ≡ Some state
     → entry_after_list state ≡ None → (e : EntryBody) → Writes e front → ⊥
-dead-end room state front reached none e w =
+dead_end room state front reached none e w =
     let read : reading (with_room room e) state [] ≡ Ok e =
     form-front room state front [] e reached (subst (λ x. Writes e x) (sym (append-nil front)) w) in
     let stops : reading (with_room room e) state [] ≡ Err (stop_at state []) = ap (entry_or_stop state) none in
@@ -256,8 +262,8 @@ record Halts (room : Room) (state : State) (ts : List Token) (stop : Stop) : Typ
   refusal : stop.refusal ≡ refused_at last stop.rest
   halted : IsHalted room last stop.rest
 
-pub err-injective : {A B : Type 0} {x y : B} → ◌≡◌ {A = Result A B} (Err x) (Err y) → x ≡ y
-err-injective h = cc
+pub err_injective : {A B : Type 0} {x y : B} → ◌≡◌ {A = Result A B} (Err x) (Err y) → x ≡ y
+err_injective h = cc
 
 -- a halt one token on
 halts-back : (room : Room) (state next : State) (t : Token) (ts : List Token) (stop : Stop)
@@ -277,7 +283,7 @@ halts room state [] stop h = go (entry_after_list state) refl h
   where
     go : (r : Option EntryBody) → entry_after_list state ≡ r → entry_or_stop state r ≡ Err stop → Halts room state [] stop
     go (Some x) is h = cc
-    go None is h = subst (λ x. Halts room state [] x) (err-injective h)
+    go None is h = subst (λ x. Halts room state [] x) (err_injective h)
         (record { front = []; whole = refl; last = state; reached = refl; refusal = refl; halted = is })
 halts room state (t ∷ ts) stop h = go (step room state t) refl h (λ next. halts room next ts stop)
   where
@@ -286,12 +292,12 @@ halts room state (t ∷ ts) stop h = go (step room state t) refl h (λ next. hal
         → ((next : State) → reading room next ts ≡ Err stop → Halts room next ts stop)
         → Halts room state (t ∷ ts) stop
     go (Some next) is h hyp = halts-back room state next t ts stop is (hyp next h)
-    go None is h hyp = subst (λ x. Halts room state (t ∷ ts) x) (err-injective h)
+    go None is h hyp = subst (λ x. Halts room state (t ∷ ts) x) (err_injective h)
         (record { front = []; whole = refl; last = state; reached = refl; refusal = refl; halted = is })
 
 halted-stuck : (room : Room) (front rest : List Token) (state : State) → state_after room Start front ≡ Some state
     → IsHalted room state rest → IsStuck room front rest
-halted-stuck room front [] state reached none = dead-end room state front reached none
+halted-stuck room front [] state reached none = dead_end room state front reached none
 halted-stuck room front (t ∷ ts) state reached none = stuck room state t front ts reached none
 
 pub leftmost : (room : Room) (ts : List Token) (stop : Stop) → reading room Start ts ≡ Err stop

@@ -17,7 +17,11 @@ use Rattle.std.specs.Str.{bytes_eq}
 use Rattle.std.specs.Prelude.{codes, ◌&&◌}
 use Rattle.sudo_grammar.specs.declared.fault.Unsupported.{Unsupported}
 use Rattle.sudo_grammar.specs.Words.{bytes_of, has_no_escape, plain_word, is_name}
-use Rattle.sudo_grammar.specs.Members.{expected_in, cut_at, ok_number, number_of, group_of, user_of, address_of_numbers, octet_of, address_of_groups, dotted_groups, address_of, spelled_mask, mask_or, mask_in, net_with, network_of, address_or_host, plain_host_of, host_of, begins_with_caret, no_command, other_atom, plain_atom, atom_of}
+use Rattle.sudo_grammar.specs.Members.{expected_in, cut_at, ok_number, number_of, group_of, user_of}
+use Rattle.sudo_grammar.specs.Members.{address_of_numbers, octet_of, address_of_groups, dotted_groups, address_of}
+use Rattle.sudo_grammar.specs.Members.{spelled_mask, mask_or, mask_in, net_with, network_of, address_or_host}
+use Rattle.sudo_grammar.specs.Members.{plain_host_of, host_of, begins_with_caret, no_command, other_atom, plain_atom}
+use Rattle.sudo_grammar.specs.Members.{atom_of}
 
 -- A refusal that is a syntax error is that word's.
 abbrev pub IsWord : Expected → Refusal → Type 0
@@ -71,19 +75,20 @@ choose : {A : Type 0} (x : Expected) (b : Bool) (r s : Result A Refusal) → IsW
 choose x true r s h k = h
 choose x false r s h k = k
 
-id-word : (x : Expected) (make : ℕ → Atom) (o : Option ℕ) → IsWordIfErr x (ok_number make o)
-id-word x make None = no-number _ x
-id-word x make (Some n) = ok x (make n)
+id_word : (x : Expected) (make : ℕ → Atom) (o : Option ℕ) → IsWordIfErr x (ok_number make o)
+id_word x make None = no-number _ x
+id_word x make (Some n) = ok x (make n)
 
 group-word : (bytes : List ℕ) → IsWordIfErr wants.Member (group_of bytes)
 group-word [] = same _ wants.Member
 group-word (b ∷ bs) = choose _ _ _ _ (unsupported _ wants.Member forms.NonUnixGroup)
-    (choose _ _ _ _ (id-word wants.Member atoms.Gid (number_of bs)) (ok wants.Member _))
+    (choose _ _ _ _ (id_word wants.Member atoms.Gid (number_of bs)) (ok wants.Member _))
 
 user-word : (cs : List Ch) → IsWordIfErr wants.Member (user_of cs)
 user-word [] = same _ wants.Member
 user-word (c ∷ cs) = choose _ _ _ _ (ok wants.Member _) (choose _ _ _ _ (unsupported _ wants.Member forms.Netgroup)
-    (choose _ _ _ _ (group-word (bytes_of cs)) (choose _ _ _ _ (id-word wants.Member atoms.Uid (number_of (bytes_of cs))) (ok wants.Member _))))
+    (choose _ _ _ _ (group-word (bytes_of cs))
+    (choose _ _ _ _ (id_word wants.Member atoms.Uid (number_of (bytes_of cs))) (ok wants.Member _))))
 
 joined-word : (x : Expected) (a b c d : ℕ) → IsWordIfErr x (address_of_numbers a b c d)
 joined-word x a b c d = choose _ _ _ _ (ok x _) (no-number _ x)
@@ -103,26 +108,26 @@ address-word x bytes = go (dotted_groups bytes)
     go None = none _ x
     go (Some g) = four (octet_of g.0) (octet_of g.1) (octet_of g.2) (octet_of g.3)
 
-mask-word : (x : Expected) (o : Option ℕ) (bytes : List ℕ) → IsWordIfErr x (mask_or o bytes)
-mask-word x (Some bits) bytes = choose _ _ _ _ (ok x _) (no-number _ x)
-mask-word x None bytes = go (address_of bytes) (address-word x bytes)
+mask_word : (x : Expected) (o : Option ℕ) (bytes : List ℕ) → IsWordIfErr x (mask_or o bytes)
+mask_word x (Some bits) bytes = choose _ _ _ _ (ok x _) (no-number _ x)
+mask_word x None bytes = go (address_of bytes) (address-word x bytes)
   where
     go : (o : Option (Result ℕ Refusal)) → IsWordIfSome x o → IsWordIfErr x (spelled_mask o)
     go None h = no-number _ x
     go (Some r) h = of-some x r h
 
-net-word : (x : Expected) (addr : ℕ) (r : Result ℕ Refusal) → IsWordIfErr x r → IsWordIfErr x (net_with addr r)
-net-word x addr (Ok mask) h = ok x (atoms.Net addr mask)
-net-word x addr (Err r) h = err _ x r (of-err _ x r h)
+net_word : (x : Expected) (addr : ℕ) (r : Result ℕ Refusal) → IsWordIfErr x r → IsWordIfErr x (net_with addr r)
+net_word x addr (Ok mask) h = ok x (atoms.Net addr mask)
+net_word x addr (Err r) h = err _ x r (of-err _ x r h)
 
-network-word : (x : Expected) (o : Option (Result ℕ Refusal)) (back : List ℕ) → IsWordIfSome x o → IsWordIfErr x (network_of o back)
-network-word x None back h = no-number _ x
-network-word x (Some (Err r)) back h = err _ x r (of-err _ x r (of-some x (Err r) h))
-network-word x (Some (Ok addr)) back h = net-word x addr (mask_in back) (mask-word x (number_of back) back)
+network_word : (x : Expected) (o : Option (Result ℕ Refusal)) (back : List ℕ) → IsWordIfSome x o → IsWordIfErr x (network_of o back)
+network_word x None back h = no-number _ x
+network_word x (Some (Err r)) back h = err _ x r (of-err _ x r (of-some x (Err r) h))
+network_word x (Some (Ok addr)) back h = net_word x addr (mask_in back) (mask_word x (number_of back) back)
 
-plain_host-word : (x : Expected) (cs : List Ch) (bytes : List ℕ) (o : Option (List ℕ × List ℕ)) → IsWordIfErr x (plain_host_of cs bytes o)
-plain_host-word x cs bytes (Some parts) = network-word x (address_of parts.0) parts.1 (address-word x parts.0)
-plain_host-word x cs bytes None = go (address_of bytes) (address-word x bytes)
+plain_host_word : (x : Expected) (cs : List Ch) (bytes : List ℕ) (o : Option (List ℕ × List ℕ)) → IsWordIfErr x (plain_host_of cs bytes o)
+plain_host_word x cs bytes (Some parts) = network_word x (address_of parts.0) parts.1 (address-word x parts.0)
+plain_host_word x cs bytes None = go (address_of bytes) (address-word x bytes)
   where
     go : (o : Option (Result ℕ Refusal)) → IsWordIfSome x o → IsWordIfErr x (address_or_host cs o)
     go None h = ok x _
@@ -132,7 +137,7 @@ plain_host-word x cs bytes None = go (address_of bytes) (address-word x bytes)
 host-word : (quoted : Bool) (cs : List Ch) → IsWordIfErr wants.Member (host_of quoted cs)
 host-word quoted [] = same _ wants.Member
 host-word quoted (c ∷ cs) = choose _ _ _ _ (unsupported _ wants.Member forms.Netgroup) (choose _ _ _ _ (ok wants.Member _)
-    (choose _ _ _ _ (plain_host-word wants.Member (c ∷ cs) (bytes_of (c ∷ cs)) (cut_at 47 (bytes_of (c ∷ cs))))
+    (choose _ _ _ _ (plain_host_word wants.Member (c ∷ cs) (bytes_of (c ∷ cs)) (cut_at 47 (bytes_of (c ∷ cs))))
     (choose _ _ _ _ (no-number _ wants.Member) (ok wants.Member _))))
 
 -- no word is wanted for a command where another word stands
@@ -171,6 +176,6 @@ atom-word kind token = go (plain_word token)
         (choose (expected_in kind) (is_name w) (Ok (atoms.Alias w)) (other_atom kind token)
         (ok (expected_in kind) (atoms.Alias w)) (other-word kind token))
 
-pub syntax-word : (kind : Kind) (token : TokenKind) (r : Refusal) → atom_of kind token ≡ Err r → IsWord (expected_in kind) r
-syntax-word kind token r h =
+pub syntax_word : (kind : Kind) (token : TokenKind) (r : Refusal) → atom_of kind token ≡ Err r → IsWord (expected_in kind) r
+syntax_word kind token r h =
     of-err _ (expected_in kind) r (subst (λ o. IsWordIfErr (expected_in kind) o) h (atom-word kind token))

@@ -300,7 +300,8 @@ expression_1 : Refused 14 (w 0 "alice" ∷ w 6 "ALL" ∷ m 10 marks.Equals ∷ w
 expression_1 = refl
 
 -- `alice ALL = /a ^b$`
-expression_2 : Refused 18 (w 0 "alice" ∷ w 6 "ALL" ∷ m 10 marks.Equals ∷ a 12 "/a" "^b$" ∷ []) 13 (refusals.Unsupported forms.RegularExpression)
+expression_2 : Refused 18 (w 0 "alice" ∷ w 6 "ALL" ∷ m 10 marks.Equals ∷ a 12 "/a" "^b$" ∷ []) 13
+    (refusals.Unsupported forms.RegularExpression)
 expression_2 = refl
 
 -- `@include /%h`

@@ -1,4 +1,3 @@
-pub mod Includes
 pub mod Kinds
 pub mod Tags
 pub mod Words
@@ -11,3 +10,4 @@ pub mod Reading
 pub mod Remaining
 pub mod Faults
 pub mod Standing
+pub mod Body

@@ -1,6 +1,8 @@
 -- The meaning of a token as a member of a list, or its refusal: sudoers(5), "Aliases" and "SUDOERS FILE FORMAT". A
 -- reader checks this file against the manual page's descriptions of User_List, Runas_List, Host_List and Cmnd_List.
-use Rattle.std.specs.Prelude.{ℕ, ◌+◌, ◌-◌, ◌*◌, ◌^◌, Bool, true, false, not, ◌&&◌, ◌==◌, nat_le, nat_lt, List, [], ◌∷◌, length, Option, None, Some, Result, Ok, Err, if◌then◌else◌, codes, take, drop, position, slice_get}
+use Rattle.std.specs.Prelude.{ℕ, ◌+◌, ◌-◌, ◌*◌, ◌^◌, Bool, true, false, not, ◌&&◌, ◌==◌, nat_le, nat_lt, List, []}
+use Rattle.std.specs.Prelude.{◌∷◌, length, Option, None, Some, Result, Ok, Err, if◌then◌else◌, codes, take, drop}
+use Rattle.std.specs.Prelude.{position, slice_get}
 use Rattle.std.specs.Option.{option_map, option_and_then}
 use Rattle.std.specs.List.{list_all, list_any}
 use Rattle.std.specs.Str.{bytes_eq}
@@ -82,7 +84,8 @@ is_octet bytes = (nat_lt 0 (length bytes) && nat_lt (length bytes) 4) && list_al
 
 -- four groups of bytes with three dots between them
 abbrev pub dotted_groups : List ℕ → Option (List ℕ × List ℕ × List ℕ × List ℕ)
-dotted_groups bytes = option_and_then (λ p. option_and_then (λ q. option_map (λ r. (p.0, q.0, r.0, r.1)) (cut_at 46 q.1)) (cut_at 46 p.1)) (cut_at 46 bytes)
+dotted_groups bytes = option_and_then
+    (λ p. option_and_then (λ q. option_map (λ r. (p.0, q.0, r.0, r.1)) (cut_at 46 q.1)) (cut_at 46 p.1)) (cut_at 46 bytes)
 
 abbrev pub is_below_256 : ℕ → Bool
 is_below_256 n = nat_lt n 256

@@ -13,7 +13,8 @@
 --     anywhere else                                                                               end of line
 --
 -- The law `expected_could_stand` states the promise of these words; see `Standing`.
-use Rattle.std.specs.Prelude.{ℕ, Bool, false, List, [], ◌∷◌, length, Option, None, Some, Result, Ok, Err, if◌then◌else◌, is_some, ◌&&◌, ◌==◌, ◌-◌, slice_get}
+use Rattle.std.specs.Prelude.{ℕ, Bool, false, List, [], ◌∷◌, length, Option, None, Some, Result, Ok, Err}
+use Rattle.std.specs.Prelude.{if◌then◌else◌, is_some, ◌&&◌, ◌==◌, ◌-◌, slice_get}
 use Rattle.sudo_text.specs.declared.token.Mark.TheVariants as marks
 use Rattle.sudo_text.specs.declared.token.Token.{Token}
 use Rattle.sudo_grammar.specs.declared.kind.Kind.{Kind}
@@ -28,7 +29,10 @@ use Rattle.sudo_grammar.specs.declared.fault.Unsupported.TheVariants as forms
 use Rattle.sudo_grammar.specs.Words.{name_of, plain_word, is_option_name, is_digest_name}
 use Rattle.sudo_grammar.specs.Openings.{Opening, BadDirective, opening_of, is_percent, is_mark, word_passes}
 use Rattle.sudo_grammar.specs.Members.{atom_of, expected_in}
-use Rattle.sudo_grammar.specs.States.{Purpose, Defines, Users, Hosts, RunasUsers, RunasGroups, Binds, kind_for, State, Start, AliasName, AfterName, Item, AfterItem, Command, AfterCommand, RunasStart, GroupsStart, DefaultsStart, AtParameter, AfterSwitch, AtValue, AfterValue, Included}
+use Rattle.sudo_grammar.specs.States.{Purpose, Defines, Users, Hosts, RunasUsers, RunasGroups, Binds, kind_for, State}
+use Rattle.sudo_grammar.specs.States.{Start, AliasName, AfterName, Item, AfterItem, Command, AfterCommand, RunasStart}
+use Rattle.sudo_grammar.specs.States.{GroupsStart, DefaultsStart, AtParameter, AfterSwitch, AtValue, AfterValue}
+use Rattle.sudo_grammar.specs.States.{Included}
 
 -- the next token is this mark; `is_next_at`: and begins at an offset
 abbrev pub is_next : Mark → List Token → Bool

@@ -18,8 +18,14 @@ use Rattle.sudo_grammar.specs.declared.policy.Parameter.TheVariants as parameter
 use Rattle.sudo_grammar.specs.declared.policy.EntryBody.{EntryBody}
 use Rattle.sudo_grammar.specs.declared.policy.EntryBody.TheVariants as entries
 use Rattle.sudo_grammar.specs.Openings.{operator_of}
-use Rattle.sudo_grammar.specs.Forms.{◌▸◌, Form, never, one, mark, bangs, member, more_items, list, more_definitions, definition_list, optional, runas, groups, tags, as_tag, more_specs, specs, more_sections, sections, binding, the_word, parameter, more_parameters, parameter_list, Writes}
-use Rattle.sudo_grammar.specs.States.{Granting, Purpose, Defines, Users, Hosts, RunasUsers, RunasGroups, Binds, kind_for, bound_to, State, Start, AliasName, AfterName, Item, AfterItem, Command, AfterCommand, RunasStart, GroupsStart, DefaultsStart, AtParameter, AfterSwitch, AtValue, AfterValue, Included}
+use Rattle.sudo_grammar.specs.Forms.{◌▸◌, Form, never, one, mark, bangs, member, more_items, list, more_definitions}
+use Rattle.sudo_grammar.specs.Forms.{definition_list, optional, runas, groups, tags, as_tag, more_specs, specs}
+use Rattle.sudo_grammar.specs.Forms.{more_sections, sections, binding, the_word, parameter, more_parameters}
+use Rattle.sudo_grammar.specs.Forms.{parameter_list, Writes}
+use Rattle.sudo_grammar.specs.States.{Granting, Purpose, Defines, Users, Hosts, RunasUsers, RunasGroups, Binds}
+use Rattle.sudo_grammar.specs.States.{kind_for, bound_to, State, Start, AliasName, AfterName, Item, AfterItem}
+use Rattle.sudo_grammar.specs.States.{Command, AfterCommand, RunasStart, GroupsStart, DefaultsStart, AtParameter}
+use Rattle.sudo_grammar.specs.States.{AfterSwitch, AtValue, AfterValue, Included}
 
 -- after a command: further commands, and further sections
 abbrev pub AfterSpec : Granting → CommandSpec → EntryBody → List Token → Type 0

@@ -1,7 +1,8 @@
 -- The states of the parser in a line, each with the parts that it has read. The `expected` of a fault needs these
 -- definitions. The meaning of a state is stated apart from any reading, by the forms that are left there: see
 -- `Remaining` and the law `states_mean_forms`.
-use Rattle.std.specs.Prelude.{ℕ, zero, suc, nat_lt, Bool, true, false, List, [], ◌∷◌, ◌++◌, length, Option, None, Some, Result, Ok, Err, if◌then◌else◌}
+use Rattle.std.specs.Prelude.{ℕ, zero, suc, nat_lt, Bool, true, false, List, [], ◌∷◌, ◌++◌, length, Option, None}
+use Rattle.std.specs.Prelude.{Some, Result, Ok, Err, if◌then◌else◌}
 use Rattle.sudo_text.specs.declared.token.Mark.TheVariants as marks
 use Rattle.sudo_text.specs.declared.token.Token.{Token}
 use Rattle.sudo_text.specs.declared.token.TokenKind.{TokenKind}
@@ -26,7 +27,8 @@ use Rattle.sudo_grammar.specs.declared.policy.EntryBody.TheVariants as entries
 use Rattle.sudo_grammar.specs.declared.fault.Refusal.{Refusal}
 use Rattle.sudo_grammar.specs.Words.{name_of}
 use Rattle.sudo_grammar.specs.Forms.{as_tag}
-use Rattle.sudo_grammar.specs.Openings.{Opening, Keyword, DefaultsLine, Directive, BadDirective, Other, opening_of, is_direct, kind_of_mark, operator_of}
+use Rattle.sudo_grammar.specs.Openings.{Opening, Keyword, DefaultsLine, Directive, BadDirective, Other, opening_of}
+use Rattle.sudo_grammar.specs.Openings.{is_direct, kind_of_mark, operator_of}
 use Rattle.sudo_grammar.specs.Members.{atom_of}
 
 -- a rule up to a command: its users, its earlier sections, and the hosts and the earlier commands of this section

@@ -1,7 +1,7 @@
 //! The tree of a policy: its lines in order, each as written.
 ghost use Rattle.std.specs.Prelude.{IsTrue, nat_lt, length, not};
 ghost use Rattle.std.specs.List.{list_all};
-ghost use Rattle.sudo_grammar.specs.Includes.{is_include_entry};
+ghost use Rattle.sudo_grammar.specs.Body.Includes.{is_include_entry};
 
 use crate::{Kind, Member, Tag};
 use sudo_text::{Ch, Place, Seq, Token};

@@ -1,4 +1,4 @@
 pub mod LoadLemmas
-pub mod Placed
-pub mod Sorted
+pub mod EntryPlaces
+pub mod ByteOrder
 pub mod OneLoad

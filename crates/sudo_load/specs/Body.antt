@@ -1,3 +1,3 @@
--- Definitions that only the proofs of bodies need: no contract of a public function cites them.
+-- Definitions that only the proofs of bodies use: no contract of a public function cites them.
 pub mod IsConsistent
 pub mod Outcomes

@@ -3,7 +3,8 @@
 -- The entries of a file are those of its lines, where each include line is replaced by the entries of the file that it
 -- names, or by those of its folder's files, in the order of their names. Files are numbered in the order in which they
 -- are read, the main file first. The first file or folder that is missing, not provided or past a limit decides.
-use Rattle.std.specs.Prelude.{◌≡◌, ℕ, zero, suc, ◌+◌, Bool, true, false, nat_lt, List, [], ◌∷◌, ◌++◌, length, map, filter, Option, None, Some, Result, Ok, Err}
+use Rattle.std.specs.Prelude.{◌≡◌, ℕ, zero, suc, ◌+◌, Bool, true, false, nat_lt, List, [], ◌∷◌, ◌++◌, length, map}
+use Rattle.std.specs.Prelude.{filter, Option, None, Some, Result, Ok, Err}
 use Rattle.std.specs.List.Sorted.{IsPermutation, IsSorted}
 use Rattle.std.specs.Cmp.Lexicographic.{slice_cmp}
 use Rattle.std.specs.Ordering.{nat_cmp}

@@ -1,6 +1,8 @@
 //! The loading of a policy from files that include files.
 ghost use Rattle.std.specs.Prelude.{◌≡◌, ℕ, ◌≤◌, ◌<◌, ◌^◌, length, IfOk, IfErr, Ok, []};
-ghost use Rattle.sudo_load.specs.Unfolding.{FileLoads, FilesLoad, FolderLoads, EntryLoads, EntriesLoad, TextLoads, nothing_loaded as spec_nothing, with_file as spec_with_file, with_entry as spec_with_entry};
+ghost use Rattle.sudo_load.specs.Unfolding.{FileLoads, FilesLoad, FolderLoads, EntryLoads, EntriesLoad, TextLoads};
+ghost use Rattle.sudo_load.specs.Unfolding.{nothing_loaded as spec_nothing, with_file as spec_with_file};
+ghost use Rattle.sudo_load.specs.Unfolding.{with_entry as spec_with_entry};
 ghost use Rattle.sudo_parser.specs.Parsed.{over_limit};
 ghost use Rattle.sudo_load.specs.Body.Outcomes.{GivesBy};
 ghost use Rattle.sudo_load.specs.Load.{Closes, LoadGives};

@@ -1,10 +1,13 @@
 -- What begins otherwise than a host's name does not fit it.
-use Rattle.std.proofs.Common.{◌≡◌, ℕ, suc, ◌+◌, ◌<◌, ◌≤◌, Bool, true, false, ◌&&◌, ◌||◌, not, cond, List, [], ◌∷◌, map, length, drop, take, refl, ap, sym, ◌∙◌, Some, arith, ◌⊎◌, inl, inr}
+use Rattle.std.proofs.Common.{◌≡◌, ℕ, suc, ◌+◌, ◌<◌, ◌≤◌, Bool, true, false, ◌&&◌, ◌||◌, not, cond, List, [], ◌∷◌}
+use Rattle.std.proofs.Common.{map, length, drop, take, refl, ap, sym, ◌∙◌, Some, arith, ◌⊎◌, inl, inr}
 use Rattle.std.specs.Prelude.{slice_get, ◌==◌}
 use Rattle.std.specs.List.{position_or_len}
 use Rattle.std.proofs.lemmas.Bool.{eqb-true, eq-eqb, ne_eqb, cases_lt, leb-false, or_parts}
 use Rattle.std.proofs.Math.Dec.{leb}
 use Rattle.std.proofs.lemmas.Str.Ascii.{lowercase_is}
+use Rattle.sudo_base.proofs.Booleans.{and_second}
+use Rattle.std.proofs.Math.Bool.{and-false}
 use Rattle.sudo_text.specs.declared.token.Ch.{Ch}
 use Rattle.sudo_match.specs.declared.patterns.Slash.{Slash}
 use Rattle.sudo_match.specs.declared.patterns.Slash.TheVariants.{Any}
@@ -12,15 +15,15 @@ use Rattle.sudo_match.specs.Class.{lower, lower_text}
 use Rattle.sudo_match.specs.HostNames.{lower_char, literal_char, free_bang, free_bangs, host_chars, quoted_chars}
 use Rattle.sudo_match.specs.Pattern.{is_plain, is_byte, Only, Part, One, parts, parts_after, fits}
 use Rattle.sudo_match.specs.Matching.{pattern_has_dot, short_name, compared_name, host_pattern}
-use Rattle.sudo_match.specs.Beginnings.{is_special, is_named_otherwise}
-use Rattle.sudo_match.proofs.CharsLemmas.{drop-some, drop-all, and-right}
+use Rattle.sudo_match.specs.Beginnings.{is_special}
+use Rattle.sudo_match.specs.Body.Beginnings.{is_named_otherwise}
+use Rattle.sudo_match.proofs.CharsLemmas.{drop-some, drop-all}
 use Rattle.sudo_match.proofs.PartLemmas.{part-byte}
 use Rattle.sudo_match.proofs.FitsLemmas.{fits-one}
-use Rattle.sudo_text.proofs.CommonRuns.{and_false}
 
-not-false : (b : Bool) → not b ≡ false → b ≡ true
-not-false true e = refl
-not-false false e = cc
+not_false : (b : Bool) → not b ≡ false → b ≡ true
+not_false true e = refl
+not_false false e = cc
 
 -- ---- One character that is not special
 
@@ -40,7 +43,7 @@ fits-literal s c cs b t same e f =
 -- ---- Bytes that are not special
 
 no-plain : (k : ℕ) (c : Ch) → (c.byte == k) ≡ false → is_plain k c ≡ false
-no-plain k c e = ap (λ x. not c.escaped && x) e ∙ and_false (not c.escaped)
+no-plain k c e = ap (λ x. not c.escaped && x) e ∙ and-false (not c.escaped)
 
 -- a character whose byte is not special is not special
 ordinary : (b : ℕ) (c : Ch) → (b == c.byte) ≡ true → (b == 42 || (b == 63 || b == 91)) ≡ false → is_special c ≡ false
@@ -73,8 +76,10 @@ lower-same b k h l = go (cases_lt b 65) (cases_lt 90 b)
 
 special-lower : (c : Ch) → is_special (lower_char c) ≡ is_special c
 special-lower c =
-    ap (λ x. (not c.escaped && x) || (is_plain 63 (lower_char c) || is_plain 91 (lower_char c))) (lower-same c.byte 42 (inl (omega arith)) (omega arith))
-    ∙ ap (λ x. is_plain 42 c || ((not c.escaped && x) || is_plain 91 (lower_char c))) (lower-same c.byte 63 (inl (omega arith)) (omega arith))
+    ap (λ x. (not c.escaped && x) || (is_plain 63 (lower_char c) || is_plain 91 (lower_char c)))
+    (lower-same c.byte 42 (inl (omega arith)) (omega arith))
+    ∙ ap (λ x. is_plain 42 c || ((not c.escaped && x) || is_plain 91 (lower_char c)))
+    (lower-same c.byte 63 (inl (omega arith)) (omega arith))
     ∙ ap (λ x. is_plain 42 c || (is_plain 63 c || (not c.escaped && x))) (lower-same c.byte 91 (inr (omega arith)) (omega arith))
 
 -- a character of a host's name as it is read
@@ -89,7 +94,7 @@ byte-read : (f : Bool) (c : Ch) → lower (free_bang f c).byte ≡ lower c.byte
 byte-read f c = go (f && is_byte 33 c) refl
   where
     go : (x : Bool) → (f && is_byte 33 c) ≡ x → lower (cond x (record { byte = 33; escaped = false }) c).byte ≡ lower c.byte
-    go true e = ap lower (sym (eqb-true c.byte 33 (and-right f (is_byte 33 c) e)))
+    go true e = ap lower (sym (eqb-true c.byte 33 (and_second f (is_byte 33 c) e)))
     go false e = refl
 
 -- the whole name, or what stands before its first dot
@@ -111,24 +116,32 @@ host-begun whole f [] name e = cc
 host-begun whole f (c ∷ cs) [] e = cc
 host-begun whole f (c ∷ cs) (b ∷ name) e = go (λ h. host-begun whole (is_plain 91 c) cs name h) (is_special c || b == 46) refl e
   where
-    next : (is_named_otherwise cs name ≡ true → fits (parts (map lower_char (free_bangs (is_plain 91 c) cs))) (lower_text (compared whole name)) Any ≡ false) →
+    next : (is_named_otherwise cs name ≡ true → fits (parts (map lower_char (free_bangs (is_plain 91 c) cs)))
+        (lower_text (compared whole name)) Any ≡ false) →
         is_special c ≡ false → (x : Bool) → (lower b == lower c.byte) ≡ x → cond x (is_named_otherwise cs name) true ≡ true →
-        fits (parts (lower_char (free_bang f c) ∷ map lower_char (free_bangs (is_plain 91 c) cs))) (lower b ∷ lower_text (compared whole name)) Any ≡ false
+        fits (parts (lower_char (free_bang f c) ∷ map lower_char (free_bangs (is_plain 91 c) cs)))
+        (lower b ∷ lower_text (compared whole name)) Any ≡ false
     next again plain true g h =
-        fits-literal Any (lower_char (free_bang f c)) (map lower_char (free_bangs (is_plain 91 c) cs)) (lower b) (lower_text (compared whole name)) true
+        fits-literal Any (lower_char (free_bang f c)) (map lower_char (free_bangs (is_plain 91 c) cs)) (lower b)
+        (lower_text (compared whole name)) true
         (special-read f c plain) (ap (λ k. lower b == k) (byte-read f c) ∙ g)
         ∙ again h
     next again plain false g h =
-        fits-literal Any (lower_char (free_bang f c)) (map lower_char (free_bangs (is_plain 91 c) cs)) (lower b) (lower_text (compared whole name)) false
+        fits-literal Any (lower_char (free_bang f c)) (map lower_char (free_bangs (is_plain 91 c) cs)) (lower b)
+        (lower_text (compared whole name)) false
         (special-read f c plain) (ap (λ k. lower b == k) (byte-read f c) ∙ g)
 
-    go : (is_named_otherwise cs name ≡ true → fits (parts (map lower_char (free_bangs (is_plain 91 c) cs))) (lower_text (compared whole name)) Any ≡ false) →
-        (x : Bool) → (is_special c || b == 46) ≡ x → cond x false (cond (lower b == lower c.byte) (is_named_otherwise cs name) true) ≡ true →
-        fits (parts (lower_char (free_bang f c) ∷ map lower_char (free_bangs (is_plain 91 c) cs))) (lower_text (compared whole (b ∷ name))) Any ≡ false
+    go : (is_named_otherwise cs name ≡ true → fits (parts (map lower_char (free_bangs (is_plain 91 c) cs)))
+        (lower_text (compared whole name)) Any ≡ false) →
+        (x : Bool) → (is_special c || b == 46) ≡ x
+        → cond x false (cond (lower b == lower c.byte) (is_named_otherwise cs name) true) ≡ true →
+        fits (parts (lower_char (free_bang f c) ∷ map lower_char (free_bangs (is_plain 91 c) cs)))
+        (lower_text (compared whole (b ∷ name))) Any ≡ false
     go again true g h = cc
     go again false g h =
         let two = or_parts (is_special c) (b == 46) g in
-        ap (λ t. fits (parts (lower_char (free_bang f c) ∷ map lower_char (free_bangs (is_plain 91 c) cs))) (lower_text t) Any) (compared-more whole b name two.1)
+        ap (λ t. fits (parts (lower_char (free_bang f c) ∷ map lower_char (free_bangs (is_plain 91 c) cs)))
+        (lower_text t) Any) (compared-more whole b name two.1)
         ∙ next again two.0 (lower b == lower c.byte) refl h
 
 quoted-begun :
@@ -148,7 +161,8 @@ quoted-begun whole (c ∷ cs) (b ∷ name) e = go (λ h. quoted-begun whole cs n
     next again false g h = fits-literal Any (literal_char c) (map literal_char cs) (lower b) (lower_text (compared whole name)) false refl g
 
     go : (is_named_otherwise cs name ≡ true → fits (parts (map literal_char cs)) (lower_text (compared whole name)) Any ≡ false) →
-        (x : Bool) → (is_special c || b == 46) ≡ x → cond x false (cond (lower b == lower c.byte) (is_named_otherwise cs name) true) ≡ true →
+        (x : Bool) → (is_special c || b == 46) ≡ x
+        → cond x false (cond (lower b == lower c.byte) (is_named_otherwise cs name) true) ≡ true →
         fits (parts (literal_char c ∷ map literal_char cs)) (lower_text (compared whole (b ∷ name))) Any ≡ false
     go again true g h = cc
     go again false g h =
@@ -196,7 +210,7 @@ pub letter : (b : ℕ) (c : Ch) → (leb b 91 || not (b == c.byte)) ≡ false �
 letter b c e =
     let parts_of = or_parts (leb b 91) (not (b == c.byte)) e in
     let more = leb-false b 91 parts_of.0 in
-    let same = not-false (b == c.byte) parts_of.1 in (
+    let same = not_false (b == c.byte) parts_of.1 in (
       ap (λ x. x || b == 46) (ordinary b c same (plain-letter b more)) ∙ ne_eqb b 46 (λ f. omega (arith, f, more)),
       eqb-true b c.byte same,
     )

@@ -1,7 +1,14 @@
 -- Lemmas on characters by their indices, and on how they are read.
-use Rattle.std.proofs.Common.{◌≡◌, ℕ, zero, suc, ◌+◌, ◌-◌, ◌<◌, ◌≤◌, Bool, true, false, ◌&&◌, not, List, [], ◌∷◌, ◌++◌, map, length, drop, refl, ap, sym, ◌∙◌, Some, None, Option, arith, zero-add, add-zero, cond, ◌^◌, length-append}
+use Rattle.std.proofs.Common.{◌≡◌, ℕ, zero, suc, ◌+◌, ◌-◌, ◌<◌, ◌≤◌, Bool, true, false, ◌&&◌, not, List, [], ◌∷◌}
+use Rattle.std.proofs.Common.{◌++◌, map, length, drop, refl, ap, sym, ◌∙◌, Some, None, Option, arith, zero-add}
+use Rattle.std.proofs.Common.{add-zero, cond, ◌^◌, length-append}
 use Rattle.std.specs.Prelude.{slice_get, option_map}
 use Rattle.std.proofs.lemmas.Option.{slice_get-map, slice_get_past, slice_get_within}
+use Rattle.sudo_base.proofs.Booleans.{and_second}
+use Rattle.sudo_base.proofs.Options.{option_map-map}
+use Rattle.std.proofs.lemmas.List.{length-map}
+use Rattle.sudo_base.proofs.Lists.{slice_get-append-left}
+use Rattle.std.proofs.lemmas.Iterator.Adapters.{option_map_id}
 use Rattle.sudo_text.specs.declared.token.Ch.{Ch}
 use Rattle.sudo_match.specs.Pattern.{Range, Single}
 use Rattle.sudo_match.specs.Class.{Class}
@@ -13,7 +20,8 @@ use Rattle.sudo_match.specs.declared.patterns.Text.{Text}
 use Rattle.sudo_match.specs.Class.{class_name, lower, lower_text}
 use Rattle.sudo_match.specs.Pattern.{is_byte, is_plain, has, begins, class_form, class_end, range_at, any_name}
 use Rattle.sudo_match.specs.HostNames.{lower_char, literal_char, free_bang, free_bangs, host_chars, quoted_chars}
-use Rattle.sudo_match.specs.Reading.{follows_bracket, read_one, read, seen, text_of}
+use Rattle.sudo_match.specs.Reading.{read, seen}
+use Rattle.sudo_match.specs.Body.Reading.{follows_bracket, read_one, text_of}
 
 -- ---- Places
 
@@ -32,10 +40,6 @@ drop-some zero (y ∷ xs) x e = let same : y ≡ x = cc in ap (λ z. z ∷ xs) s
 drop-some (suc n) [] x e = cc
 drop-some (suc n) (y ∷ xs) x e = drop-some n xs x e ∙ ap (λ z. x ∷ z) (sym (drop-next n y xs))
 
-pub and-right : (a b : Bool) → (a && b) ≡ true → b ≡ true
-and-right true b e = e
-and-right false b e = cc
-
 and_assoc : (a b c : Bool) → ((a && b) && c) ≡ (a && (b && c))
 and_assoc true b c = refl
 and_assoc false b c = refl
@@ -48,10 +52,6 @@ drop-none (suc n) (y ∷ xs) e = drop-none n xs e
 
 -- ---- Reading
 
-pub length-map : {A B : Type 0} (f : A → B) (xs : List A) → length (map f xs) ≡ length xs
-length-map f [] = refl
-length-map f (x ∷ xs) = ap suc (length-map f xs)
-
 length-free_bangs : (f : Bool) (cs : List Ch) → length (free_bangs f cs) ≡ length cs
 unfolding free_bangs
 length-free_bangs f [] = refl
@@ -60,8 +60,8 @@ length-free_bangs f (c ∷ cs) = ap suc (length-free_bangs (is_plain 91 c) cs)
 pub length-read : (r : Reading) (cs : List Ch) → length (read r cs) ≡ length cs
 unfolding host_chars quoted_chars
 length-read Exact cs = refl
-length-read Host cs = length-map lower_char (free_bangs false cs) ∙ length-free_bangs false cs
-length-read Quoted cs = length-map literal_char cs
+length-read Host cs = length-map (free_bangs false cs) lower_char ∙ length-free_bangs false cs
+length-read Quoted cs = length-map cs literal_char
 
 -- the character before an index, or what stands before the first
 before : Bool → List Ch → ℕ → Bool
@@ -81,18 +81,10 @@ unfolding before
 before-follows cs zero = refl
 before-follows cs (suc n) = refl
 
-option_map-map : {A B C : Type 0} (g : B → C) (f : A → B) (o : Option A) → option_map g (option_map f o) ≡ option_map (λ x. g (f x)) o
-option_map-map g f None = refl
-option_map-map g f (Some x) = refl
-
-option_map-same : {A : Type 0} (o : Option A) → option_map (λ (x : A). x) o ≡ o
-option_map-same None = refl
-option_map-same (Some x) = refl
-
 pub slice_get-read :
     (r : Reading) (cs : List Ch) (n : ℕ) → slice_get (read r cs) n ≡ option_map (read_one r (follows_bracket cs n)) (slice_get cs n)
 unfolding host_chars quoted_chars
-slice_get-read Exact cs n = sym (option_map-same (slice_get cs n))
+slice_get-read Exact cs n = sym (option_map_id (slice_get cs n))
 slice_get-read Host cs n =
     slice_get-map lower_char (free_bangs false cs) n
     ∙ ap (option_map lower_char) (slice_get-free_bangs false cs n)
@@ -129,7 +121,7 @@ pub begins-length : (tests : List (Ch → Bool)) (cs : List Ch) → begins tests
 unfolding begins
 begins-length [] cs e = omega arith
 begins-length (x ∷ xs) [] e = cc
-begins-length (x ∷ xs) (c ∷ cs) e = let h : length xs ≤ length cs = begins-length xs cs (and-right (x c) _ e) in omega arith
+begins-length (x ∷ xs) (c ∷ cs) e = let h : length xs ≤ length cs = begins-length xs cs (and_second (x c) _ e) in omega arith
 
 pub range_at-none : (a : Ch) (cs : List Ch) → slice_get cs 1 ≡ None → range_at a cs ≡ (Single a.byte, 0)
 unfolding range_at
@@ -163,23 +155,20 @@ seen-short c =
     let e = length-seen c in let f = length-any_name c.is_folder in
     let h : length c.chars.now < 2 ^ 62 = c.short in omega (arith, e, f, h)
 
-pub slice_get-append-left : {A : Type 0} (xs ys : List A) (n : ℕ) → n < length xs → slice_get (xs ++ ys) n ≡ slice_get xs n
-slice_get-append-left [] ys n h = absurd (omega (arith, h))
-slice_get-append-left (x ∷ xs) ys zero h = refl
-slice_get-append-left (x ∷ xs) ys (suc n) h = slice_get-append-left xs ys n (omega (arith, h))
-
 slice_get-append-right : {A : Type 0} (xs ys : List A) (n : ℕ) → length xs ≤ n → slice_get (xs ++ ys) n ≡ slice_get ys (n - length xs)
 slice_get-append-right [] ys n h = ap (λ k. slice_get ys k) (omega arith)
 slice_get-append-right (x ∷ xs) ys zero h = absurd (omega (arith, h))
 slice_get-append-right (x ∷ xs) ys (suc n) h =
-    slice_get-append-right xs ys n (omega (arith, h)) ∙ (let e : n - length xs ≡ suc n - suc (length xs) = omega arith in ap (λ k. slice_get ys k) e)
+    slice_get-append-right xs ys n (omega (arith, h))
+    ∙ (let e : n - length xs ≡ suc n - suc (length xs) = omega arith in ap (λ k. slice_get ys k) e)
 
 pub seen-left : (c : Chars) (n : ℕ) → n < length c.chars.now → slice_get (seen c) n ≡ slice_get (read c.reading c.chars.now) n
 seen-left c n h =
     let e = length-read c.reading c.chars.now in
     slice_get-append-left (read c.reading c.chars.now) (any_name c.is_folder) n (omega (arith, e, h))
 
-pub seen-right : (c : Chars) (n : ℕ) → length c.chars.now ≤ n → slice_get (seen c) n ≡ slice_get (any_name c.is_folder) (n - length c.chars.now)
+pub seen-right : (c : Chars) (n : ℕ) → length c.chars.now ≤ n
+    → slice_get (seen c) n ≡ slice_get (any_name c.is_folder) (n - length c.chars.now)
 seen-right c n h =
     let e = length-read c.reading c.chars.now in
     slice_get-append-right (read c.reading c.chars.now) (any_name c.is_folder) n (omega (arith, e, h))
@@ -204,7 +193,8 @@ pub begins-class_end :
 unfolding begins
 begins-class_end n cs =
     begins-step (is_byte 58) (is_plain 93 ∷ []) n cs
-    ∙ ap (λ b. has (is_byte 58) (slice_get cs n) && b) (begins-step (is_plain 93) [] (n + 1) cs ∙ and-true (has (is_plain 93) (slice_get cs (n + 1))))
+    ∙ ap (λ b. has (is_byte 58) (slice_get cs n) && b) (begins-step (is_plain 93) [] (n + 1) cs
+    ∙ and-true (has (is_plain 93) (slice_get cs (n + 1))))
 
 -- a class, by indices
 pub begins-class_form :
@@ -219,14 +209,16 @@ begins-class_form k n cs =
     ∙ ap (λ b. has (is_byte 58) (slice_get cs (n + 1)) && b)
     ((let e : n + 1 + 1 ≡ n + 2 = omega arith in ap (λ j. begins (map is_plain (class_name k) ++ class_end) (drop j cs)) e)
     ∙ begins-append (map is_plain (class_name k)) class_end (n + 2) cs
-    ∙ ap (λ j. begins (map is_plain (class_name k)) (drop (n + 2) cs) && begins class_end (drop (n + 2 + j) cs)) (length-map is_plain (class_name k))))
+    ∙ ap (λ j. begins (map is_plain (class_name k)) (drop (n + 2) cs) && begins class_end (drop (n + 2 + j) cs))
+    (length-map (class_name k) is_plain)))
 
 -- a name, byte by byte
 pub begins-name :
     (name : List ℕ) (i n : ℕ) (cs : List Ch) (b : ℕ) → drop i name ≡ b ∷ drop (i + 1) name →
     begins (map is_plain (drop i name)) (drop n cs) ≡
     (has (is_plain b) (slice_get cs n) && begins (map is_plain (drop (i + 1) name)) (drop (n + 1) cs))
-begins-name name i n cs b e = ap (λ x. begins (map is_plain x) (drop n cs)) e ∙ begins-step (is_plain b) (map is_plain (drop (i + 1) name)) n cs
+begins-name name i n cs b e = ap (λ x. begins (map is_plain x) (drop n cs)) e
+    ∙ begins-step (is_plain b) (map is_plain (drop (i + 1) name)) n cs
 
 pub begins-nothing : (cs : List Ch) → begins [] cs ≡ true
 unfolding begins
@@ -240,7 +232,8 @@ range_at-drop-none a n cs e = range_at-none a (drop (n + 1) cs) (after-one n cs 
 
 pub range_at-drop-some :
     (a : Ch) (n : ℕ) (cs : List Ch) (b : Ch) → slice_get cs (n + 2) ≡ Some b →
-    range_at a (drop (n + 1) cs) ≡ cond (has (is_plain 45) (slice_get cs (n + 1)) && not (is_plain 93 b)) (Range a.byte b.byte, 2) (Single a.byte, 0)
+    range_at a (drop (n + 1) cs) ≡ cond (has (is_plain 45) (slice_get cs (n + 1)) && not (is_plain 93 b))
+    (Range a.byte b.byte, 2) (Single a.byte, 0)
 range_at-drop-some a n cs b e =
     range_at-some a (drop (n + 1) cs) b (after-one n cs ∙ e)
     ∙ ap (λ o. cond (has (is_plain 45) o && not (is_plain 93 b)) (Range a.byte b.byte, 2) (Single a.byte, 0))
@@ -271,7 +264,7 @@ has-within test n cs e = go (slice_get cs n) refl
     go (Some c) f = slice_get_within cs n c f
 
 length-text : (lowered : Bool) (t : List ℕ) → length (cond lowered (map lower t) t) ≡ length t
-length-text true t = length-map lower t
+length-text true t = length-map t lower
 length-text false t = refl
 
 pub text-short : (t : Text) → length (text_of t) < 2 ^ 63

@@ -1,10 +1,11 @@
 -- Lemmas on the first row that clashes with an earlier one.
-use Rattle.std.proofs.Common.{◌≡◌, ℕ, zero, suc, ◌+◌, ◌<◌, ◌≤◌, Bool, true, false, List, length, take, refl, ap, sym, ◌∙◌, Some, None, Option, cond, arith, ◌⊎◌, inl, inr}
+use Rattle.std.proofs.Common.{◌≡◌, ℕ, zero, suc, ◌+◌, ◌<◌, ◌≤◌, Bool, true, false, List, length, take, refl, ap, sym}
+use Rattle.std.proofs.Common.{◌∙◌, Some, None, Option, cond, arith, ◌⊎◌, inl, inr}
 use Rattle.std.specs.Prelude.{slice_get, is_some, bytes_eq, find, option_and_then}
 use Rattle.std.specs.List.{list_any, range_with_len}
 use Rattle.std.proofs.lemmas.Option.{slice_get_within}
 use Rattle.std.proofs.lemmas.Bool.{cases_lt, both_ways}
-use Rattle.sudo_base.specs.Indexes.{IndexesRows}
+use Rattle.sudo_base.specs.Body.Indexes.{IndexesRows}
 use Rattle.sudo_match.specs.KnownRows.{clashes_with, clashes_at, first_clash}
 
 -- the first n elements clash with none before them
@@ -71,10 +72,12 @@ pub clash-is :
     clashes_at clashes rows n ≡ true → first_clash clashes rows ≡ Some x
 unfolding first_clash
 clash-is clashes rows n x e at f =
-    ap (option_and_then (slice_get rows)) (find-range (clashes_at clashes rows) (length rows) 0 n (omega arith) (let h = slice_get_within rows n x at in omega (arith, h)) e f) ∙ at
+    ap (option_and_then (slice_get rows)) (find-range (clashes_at clashes rows) (length rows) 0 n (omega arith)
+    (let h = slice_get_within rows n x at in omega (arith, h)) e f) ∙ at
 
 pub clash-none :
-    {A : Type 0} (clashes : A → A → Bool) (rows : List A) (n : ℕ) → NoneBefore clashes rows n → length rows ≤ n → first_clash clashes rows ≡ None
+    {A : Type 0} (clashes : A → A → Bool) (rows : List A) (n : ℕ) → NoneBefore clashes rows n → length rows ≤ n
+    → first_clash clashes rows ≡ None
 unfolding first_clash
 clash-none clashes rows n e h =
     ap (option_and_then (slice_get rows)) (find-range-none (clashes_at clashes rows) (length rows) 0 (λ j l. e j (omega (arith, l, h))))

@@ -1,18 +1,23 @@
 -- Lemmas on written brackets: a bracket that is written is read, and one that is read is written.
-use Rattle.std.proofs.Common.{◌≡◌, ℕ, zero, suc, ◌+◌, ◌≤◌, Bool, true, false, ◌&&◌, not, List, [], ◌∷◌, ◌++◌, length, take, drop, refl, ap, sym, ◌∙◌, subst, Some, None, Option, arith, cond, length-append, length-drop}
+use Rattle.std.proofs.Common.{◌≡◌, ℕ, zero, suc, ◌+◌, ◌≤◌, Bool, true, false, ◌&&◌, not, List, [], ◌∷◌, ◌++◌, length}
+use Rattle.std.proofs.Common.{take, drop, refl, ap, sym, ◌∙◌, subst, Some, None, Option, arith, cond, length-append}
+use Rattle.std.proofs.Common.{length-drop, append_assoc}
 use Rattle.std.specs.Prelude.{slice_get, option_map, ◌==◌}
 use Rattle.std.proofs.lemmas.Bool.{eqb-true, not-true}
+use Rattle.sudo_base.proofs.Booleans.{and_first, and_second}
+use Rattle.std.proofs.Math.Bool.{and-false}
+use Rattle.sudo_base.proofs.Options.{some_injective}
 use Rattle.sudo_text.specs.declared.token.Ch.{Ch}
 use Rattle.sudo_match.specs.Class.{Class, class_name}
-use Rattle.sudo_match.specs.Pattern.{is_plain, has, begins, class_form, class_at, class_or, range_at, item_at, item_of, Item, InClass, Range, Single, items_after, ByteSet, Bracket, Only, AnyByte, Part, One, Star, bracket_after, bracket_or, part_at, parts, parts_after}
+use Rattle.sudo_match.specs.Pattern.{is_plain, has, begins, class_form, class_at, class_or, range_at, item_at}
+use Rattle.sudo_match.specs.Pattern.{Item, InClass, Range, Single, items_after, ByteSet, Bracket, Only}
+use Rattle.sudo_match.specs.Body.Pattern.{item_of}
+use Rattle.sudo_match.specs.Pattern.{AnyByte, Part, One, Star, bracket_after, bracket_or, part_at, parts, parts_after}
 use Rattle.sudo_match.specs.Brackets.{goes_to, IsRange, WritesItem, WritesItems, WritesBracket}
-use Rattle.sudo_match.proofs.CharsLemmas.{range_at-some, and-right}
+use Rattle.sudo_match.proofs.CharsLemmas.{range_at-some}
 use Rattle.sudo_match.proofs.ItemLemmas.{length-class_form, class_at-within, items_after-cons, items_after-empty, items_after-next}
-use Rattle.sudo_match.proofs.PartLemmas.{bracket-complement, bracket-plain, part-star, part-any, part-bracket, part-byte, parts-cons, parts_after-skip}
-use Rattle.sudo_match.proofs.FitsLemmas.{and-left}
-use Rattle.sudo_match.proofs.PositionLemmas.{append_assoc}
-use Rattle.sudo_match.proofs.StepLemmas.{some-is}
-use Rattle.sudo_text.proofs.CommonRuns.{and_false}
+use Rattle.sudo_match.proofs.PartLemmas.{bracket_after-complement, bracket_after-plain, part-star, part-any}
+use Rattle.sudo_match.proofs.PartLemmas.{part-bracket, part-byte, parts-cons, parts_after-skip}
 
 -- ---- Bools and lists
 
@@ -50,7 +55,8 @@ range-single : (c : Ch) (cs : List Ch) → goes_to cs ≡ false → range_at c c
 unfolding range_at begins
 range-single c [] e = refl
 range-single c (d ∷ []) e = refl
-range-single c (d ∷ x ∷ cs) e = ap (λ b. cond b (Range c.byte x.byte, 2) (Single c.byte, 0)) (drop-true (is_plain 45 d) (not (is_plain 93 x)) e)
+range-single c (d ∷ x ∷ cs) e = ap (λ b. cond b (Range c.byte x.byte, 2) (Single c.byte, 0))
+    (drop-true (is_plain 45 d) (not (is_plain 93 x)) e)
 
 read-class : (k : Class) (w after : List Ch) → WritesItem (InClass k) w after → Read (InClass k) w after
 unfolding Read
@@ -65,7 +71,8 @@ read-range : (low high : ℕ) (w after : List Ch) → class_at (w ++ after) ≡ 
 unfolding Read
 read-range low high w after none r =
     let P : List Ch → Type 0 = λ v. class_at (v ++ after) ≡ None → Read (Range low high) v after in
-    let test : (is_plain 45 r.dash && not (is_plain 93 r.last)) ≡ true = ap (λ b. b && not (is_plain 93 r.last)) r.dash_is ∙ ap not r.is_open in
+    let test : (is_plain 45 r.dash && not (is_plain 93 r.last)) ≡ true =
+    ap (λ b. b && not (is_plain 93 r.last)) r.dash_is ∙ ap not r.is_open in
     subst P (sym r.written) (λ e. (
       2,
       refl,
@@ -76,7 +83,8 @@ read-range low high w after none r =
           ∙ ap (λ b. Some (Range low b, 2)) r.high_is,
     )) none
 
-read-single : (b : ℕ) (w after : List Ch) (c : Ch) → class_at (w ++ after) ≡ None → goes_to after ≡ false → w ≡ c ∷ [] → c.byte ≡ b → Read (Single b) w after
+read-single : (b : ℕ) (w after : List Ch) (c : Ch) → class_at (w ++ after) ≡ None → goes_to after ≡ false → w ≡ c ∷ []
+    → c.byte ≡ b → Read (Single b) w after
 unfolding Read
 read-single b w after c none last is byte =
     let P : List Ch → Type 0 = λ v. class_at (v ++ after) ≡ None → Read (Single b) v after in
@@ -99,7 +107,8 @@ read-items is_first [] w close rest e closes =
     let test : (not is_first && is_plain 93 close) ≡ true = ap (λ f. not f && is_plain 93 close) e.0 ∙ closes in
     ap (λ v. items_after 0 is_first (v ++ close ∷ rest)) e.1
     ∙ items_after-cons is_first close rest
-    ∙ ap (λ b. cond b (Some ([], 1)) (option_map (λ r. ((item_at close rest).0 ∷ r.0, r.1 + 1)) (items_after (item_at close rest).1 false rest))) test
+    ∙ ap (λ b. cond b (Some ([], 1)) (option_map (λ r. ((item_at close rest).0 ∷ r.0, r.1 + 1))
+    (items_after (item_at close rest).1 false rest))) test
     ∙ sym (ap (λ v. Some ([], length v + 1)) e.1)
 read-items is_first (i ∷ is) w close rest e closes =
     let whole : w ++ close ∷ rest ≡ e.0 ++ (e.1 ++ close ∷ rest) = ap (λ x. x ++ close ∷ rest) e.2 ∙ append_assoc e.0 e.1 (close ∷ rest) in
@@ -119,11 +128,11 @@ read-items is_first (i ∷ is) w close rest e closes =
 -- a character is no other
 no-other : (a b : ℕ) (c : Ch) → is_plain a c ≡ true → (a == b) ≡ false → is_plain b c ≡ false
 no-other a b c e f =
-    let byte : c.byte ≡ a = eqb-true c.byte a (and-right (not c.escaped) (c.byte == a) e) in
-    ap (λ x. not c.escaped && (x == b)) byte ∙ ap (λ x. not c.escaped && x) f ∙ and_false (not c.escaped)
+    let byte : c.byte ≡ a = eqb-true c.byte a (and_second (not c.escaped) (c.byte == a) e) in
+    ap (λ x. not c.escaped && (x == b)) byte ∙ ap (λ x. not c.escaped && x) f ∙ and-false (not c.escaped)
 
-bracket-part : (c : Ch) (cs : List Ch) → is_plain 91 c ≡ true → part_at c cs ≡ bracket_or (bracket_after cs) c.byte
-bracket-part c cs e = part-bracket c cs (no-other 91 42 c e refl) (no-other 91 63 c e refl) e
+bracket_part : (c : Ch) (cs : List Ch) → is_plain 91 c ≡ true → part_at c cs ≡ bracket_or (bracket_after cs) c.byte
+bracket_part c cs e = part-bracket c cs (no-other 91 42 c e refl) (no-other 91 63 c e refl) e
 
 -- the parts after one that takes some characters
 cut : (c : Ch) (cs : List Ch) (p : Part) (n : ℕ) → part_at c cs ≡ (p, n) → parts (c ∷ cs) ≡ p ∷ parts (drop n cs)
@@ -136,15 +145,17 @@ ReadBracket set cs rest = (n : ℕ) × (bracket_after cs ≡ Some (set, n)) × (
 after-close : (body rest : List Ch) (close : Ch) → drop (length body + 1) (body ++ close ∷ rest) ≡ rest
 after-close [] rest close = refl
 after-close (c ∷ body) rest close =
-    (let e : length (c ∷ body) + 1 ≡ suc (length body + 1) = omega arith in ap (λ n. drop n (c ∷ (body ++ close ∷ rest))) e) ∙ after-close body rest close
+    (let e : length (c ∷ body) + 1 ≡ suc (length body + 1) = omega arith in
+    ap (λ n. drop n (c ∷ (body ++ close ∷ rest))) e) ∙ after-close body rest close
 
 read-complement :
-    (items : List Item) (c : Ch) (body : List Ch) (close : Ch) (rest : List Ch) → is_plain 33 c ≡ true → WritesItems true items body (close ∷ rest) →
+    (items : List Item) (c : Ch) (body : List Ch) (close : Ch) (rest : List Ch) → is_plain 33 c ≡ true
+    → WritesItems true items body (close ∷ rest) →
     is_plain 93 close ≡ true → ReadBracket (Bracket true items) (c ∷ (body ++ close ∷ rest)) rest
 unfolding ReadBracket
 read-complement items c body close rest bang e closes = (
   suc (length body + 1),
-  bracket-complement 0 (c ∷ (body ++ close ∷ rest)) bang
+  bracket_after-complement 0 (c ∷ (body ++ close ∷ rest)) bang
       ∙ ap (option_map (λ r. (Bracket true r.0, r.1 + 1))) (read-items true items body close rest e closes)
       ∙ (let n : length body + 1 + 1 ≡ suc (length body + 1) = omega arith in ap (λ k. Some (Bracket true items, k)) n),
   after-close body rest close,
@@ -156,12 +167,13 @@ read-plain :
 unfolding ReadBracket
 read-plain items body close rest no_bang e closes = (
   length body + 1,
-  bracket-plain 0 (body ++ close ∷ rest) no_bang
+  bracket_after-plain 0 (body ++ close ∷ rest) no_bang
       ∙ ap (option_map (λ r. (Bracket false r.0, r.1))) (read-items true items body close rest e closes),
   after-close body rest close,
 )
 
-read-bracket : (complement : Bool) (items : List Item) (cs rest : List Ch) → WritesBracket complement items cs rest → ReadBracket (Bracket complement items) cs rest
+read-bracket : (complement : Bool) (items : List Item) (cs rest : List Ch) → WritesBracket complement items cs rest
+    → ReadBracket (Bracket complement items) cs rest
 read-bracket true items cs rest e =
     let P : List Ch → Type 0 = λ xs. ReadBracket (Bracket true items) xs rest in
     let is : cs ≡ e.sign_is.0 ∷ (e.body ++ e.close ∷ rest) = e.written ∙ ap (λ s. s ++ (e.body ++ e.close ∷ rest)) e.sign_is.1 in
@@ -171,13 +183,14 @@ read-bracket false items cs rest e =
     let is : cs ≡ e.body ++ e.close ∷ rest = e.written ∙ ap (λ s. s ++ (e.body ++ e.close ∷ rest)) e.sign_is.0 in
     subst P (sym is) (read-plain items e.body e.close rest e.sign_is.1 e.items_are e.closes)
 
-pub bracket-is-part :
-    (start : Ch) (complement : Bool) (items : List Item) (cs rest : List Ch) → is_plain 91 start ≡ true → WritesBracket complement items cs rest →
+pub bracket_is_part :
+    (start : Ch) (complement : Bool) (items : List Item) (cs rest : List Ch) → is_plain 91 start ≡ true
+    → WritesBracket complement items cs rest →
     parts (start ∷ cs) ≡ One (Bracket complement items) ∷ parts rest
 unfolding ReadBracket
-bracket-is-part start complement items cs rest e w =
+bracket_is_part start complement items cs rest e w =
     let read = read-bracket complement items cs rest w in
-    cut start cs (One (Bracket complement items)) read.0 (bracket-part start cs e ∙ ap (λ o. bracket_or o start.byte) read.1)
+    cut start cs (One (Bracket complement items)) read.0 (bracket_part start cs e ∙ ap (λ o. bracket_or o start.byte) read.1)
     ∙ ap (λ xs. One (Bracket complement items) ∷ parts xs) read.2
 
 -- ---- Other characters
@@ -188,7 +201,8 @@ star-is-part c cs e = cut c cs Star 0 (part-star c cs e)
 pub question-is-part : (c : Ch) (cs : List Ch) → is_plain 63 c ≡ true → parts (c ∷ cs) ≡ One AnyByte ∷ parts cs
 question-is-part c cs e = cut c cs (One AnyByte) 0 (part-any c cs (no-other 63 42 c e refl) e)
 
-pub byte-is-part : (c : Ch) (cs : List Ch) → is_plain 42 c ≡ false → is_plain 63 c ≡ false → is_plain 91 c ≡ false → parts (c ∷ cs) ≡ One (Only c.byte) ∷ parts cs
+pub byte-is-part : (c : Ch) (cs : List Ch) → is_plain 42 c ≡ false → is_plain 63 c ≡ false → is_plain 91 c ≡ false
+    → parts (c ∷ cs) ≡ One (Only c.byte) ∷ parts cs
 byte-is-part c cs e f g = cut c cs (One (Only c.byte)) 0 (part-byte c cs e f g)
 
 -- ---- What is read is written
@@ -199,7 +213,7 @@ Writes r cs = WritesItem r.0 (take (0 + 1 + r.1) cs) (drop (0 + 1 + r.1) cs)
 written-range : (c : Ch) (cs : List Ch) → class_at (c ∷ cs) ≡ None → Writes (range_at c cs) (c ∷ cs)
 unfolding Writes range_at begins
 written-range c [] none = (none, refl, c, refl, refl)
-written-range c (d ∷ []) none = (none, and_false (is_plain 45 d), c, refl, refl)
+written-range c (d ∷ []) none = (none, and-false (is_plain 45 d), c, refl, refl)
 written-range c (d ∷ x ∷ cs) none = go (is_plain 45 d && not (is_plain 93 x)) refl
   where
     go :
@@ -214,8 +228,8 @@ written-range c (d ∷ x ∷ cs) none = go (is_plain 45 d && not (is_plain 93 x)
         written = refl;
         low_is = refl;
         high_is = refl;
-        dash_is = and-left (is_plain 45 d) (not (is_plain 93 x)) e;
-        is_open = not-true (is_plain 93 x) (and-right (is_plain 45 d) (not (is_plain 93 x)) e);
+        dash_is = and_first (is_plain 45 d) (not (is_plain 93 x)) e;
+        is_open = not-true (is_plain 93 x) (and_second (is_plain 45 d) (not (is_plain 93 x)) e);
       },
     )
     go false e = (none, put-true (is_plain 45 d) (not (is_plain 93 x)) e, c, refl, refl)
@@ -242,17 +256,19 @@ record WrittenItems (is_first : Bool) (items : List Item) (cs : List Ch) : Type 
   closes : is_plain 93 close ≡ true
   items_are : WritesItems is_first items body (close ∷ rest)
 
-written-close : (is_first : Bool) (c : Ch) (cs : List Ch) (items : List Item) (n : ℕ) → (not is_first && is_plain 93 c) ≡ true → ◌≡◌ {A = Option (List Item × ℕ)} (Some ([], 1)) (Some (items, n)) → WrittenItems is_first items (c ∷ cs)
+written-close : (is_first : Bool) (c : Ch) (cs : List Ch) (items : List Item) (n : ℕ)
+    → (not is_first && is_plain 93 c) ≡ true → ◌≡◌ {A = Option (List Item × ℕ)} (Some ([], 1)) (Some (items, n))
+    → WrittenItems is_first items (c ∷ cs)
 written-close is_first c cs items n test e =
-    let none : [] ≡ items = ap (λ (r : List Item × ℕ). r.0) (some-is {A = List Item × ℕ} ([], 1) (items, n) e) in
+    let none : [] ≡ items = ap (λ (r : List Item × ℕ). r.0) (some_injective {A = List Item × ℕ} ([], 1) (items, n) e) in
     let P : List Item → Type 0 = λ is. WrittenItems is_first is (c ∷ cs) in
     subst P none (record {
       body = [];
       close = c;
       rest = cs;
       is = refl;
-      closes = and-right (not is_first) (is_plain 93 c) test;
-      items_are = (not-true is_first (and-left (not is_first) (is_plain 93 c) test), refl);
+      closes = and_second (not is_first) (is_plain 93 c) test;
+      items_are = (not-true is_first (and_first (not is_first) (is_plain 93 c) test), refl);
     })
 
 written-more :
@@ -270,37 +286,50 @@ written-more is_first c cs is test w =
       rest = w.rest;
       is = whole;
       closes = w.closes;
-      items_are = (v, w.body, refl, subst P w.is (written-item c cs), ap (λ xs. not is_first && has (is_plain 93) (slice_get xs 0)) (sym whole) ∙ test, w.items_are);
+      items_are = (
+        v,
+        w.body,
+        refl,
+        subst P w.is (written-item c cs),
+        ap (λ xs. not is_first && has (is_plain 93) (slice_get xs 0)) (sym whole) ∙ test,
+        w.items_are,
+      );
     }
 
 written-items :
     (k : ℕ) (is_first : Bool) (cs : List Ch) (items : List Item) (n : ℕ) → length cs ≤ k → items_after 0 is_first cs ≡ Some (items, n) →
     WrittenItems is_first items cs
-written-items k is_first [] items n h e = absurd (let none = items_after-empty is_first in let no : None ≡ Some (items, n) = sym none ∙ e in cc)
+written-items k is_first [] items n h e = absurd (let none = items_after-empty is_first in
+    let no : None ≡ Some (items, n) = sym none ∙ e in cc)
 written-items zero is_first (c ∷ cs) items n h e = absurd (omega (arith, h))
 written-items (suc k) is_first (c ∷ cs) items n h e =
-    go (not is_first && is_plain 93 c) refl (λ is m. written-items k false (drop (0 + 1 + (item_at c cs).1) (c ∷ cs)) is m (let l = length-drop (0 + 1 + (item_at c cs).1) (c ∷ cs) in omega (arith, h, l)))
+    go (not is_first && is_plain 93 c) refl (λ is m. written-items k false (drop (0 + 1 + (item_at c cs).1) (c ∷ cs))
+    is m (let l = length-drop (0 + 1 + (item_at c cs).1) (c ∷ cs) in omega (arith, h, l)))
   where
     more :
         (test : (not is_first && is_plain 93 c) ≡ false) (o : Option (List Item × ℕ)) →
-        ◌≡◌ {A = Option (List Item × ℕ)} (Some (items, n)) (option_map {U = List Item × ℕ} (λ q. ((item_at c cs).0 ∷ q.0, q.1 + ((item_at c cs).1 + 1))) o) →
+        ◌≡◌ {A = Option (List Item × ℕ)} (Some (items, n))
+        (option_map {U = List Item × ℕ} (λ q. ((item_at c cs).0 ∷ q.0, q.1 + ((item_at c cs).1 + 1))) o) →
         ((is : List Item) (m : ℕ) → o ≡ Some (is, m) → WrittenItems false is (drop (0 + 1 + (item_at c cs).1) (c ∷ cs))) →
         WrittenItems is_first items (c ∷ cs)
     more test None f next = cc
     more test (Some q) f next =
         let same : items ≡ (item_at c cs).0 ∷ q.0 =
-        ap (λ (r : List Item × ℕ). r.0) (some-is {A = List Item × ℕ} (items, n) ((item_at c cs).0 ∷ q.0, q.1 + ((item_at c cs).1 + 1)) f) in
+        ap (λ (r : List Item × ℕ). r.0) (some_injective {A = List Item × ℕ} (items, n)
+        ((item_at c cs).0 ∷ q.0, q.1 + ((item_at c cs).1 + 1)) f) in
         let P : List Item → Type 0 = λ is. WrittenItems is_first is (c ∷ cs) in
         subst P (sym same) (written-more is_first c cs q.0 test (next q.0 q.1 refl))
 
     go :
         (b : Bool) → (not is_first && is_plain 93 c) ≡ b →
-        ((is : List Item) (m : ℕ) → items_after 0 false (drop (0 + 1 + (item_at c cs).1) (c ∷ cs)) ≡ Some (is, m) → WrittenItems false is (drop (0 + 1 + (item_at c cs).1) (c ∷ cs))) →
+        ((is : List Item) (m : ℕ) → items_after 0 false (drop (0 + 1 + (item_at c cs).1) (c ∷ cs)) ≡ Some (is, m)
+        → WrittenItems false is (drop (0 + 1 + (item_at c cs).1) (c ∷ cs))) →
         WrittenItems is_first items (c ∷ cs)
     go true test next =
         written-close is_first c cs items n test
         (sym (items_after-cons is_first c cs
-        ∙ ap (λ b. cond b (Some ([], 1)) (option_map (λ r. ((item_at c cs).0 ∷ r.0, r.1 + 1)) (items_after (item_at c cs).1 false cs))) test)
+        ∙ ap (λ b. cond b (Some ([], 1)) (option_map (λ r. ((item_at c cs).0 ∷ r.0, r.1 + 1))
+        (items_after (item_at c cs).1 false cs))) test)
         ∙ e)
     go false test next =
         more test (items_after 0 false (drop (0 + 1 + (item_at c cs).1) (c ∷ cs)))
@@ -313,7 +342,8 @@ mapped f (Some x) y e = (x, refl)
 unfoldable pub Unclosed : List Ch → Type 0
 Unclosed cs = (complement : Bool) (items : List Item) (rest : List Ch) → WritesBracket complement items cs rest → ⊥
 
-no-complement : (c : Ch) (cs : List Ch) → is_plain 33 c ≡ true → Unclosed (c ∷ cs) → (r : List Item × ℕ) → items_after 0 true cs ≡ Some r → ⊥
+no-complement : (c : Ch) (cs : List Ch) → is_plain 33 c ≡ true → Unclosed (c ∷ cs) → (r : List Item × ℕ)
+    → items_after 0 true cs ≡ Some r → ⊥
 unfolding Unclosed
 no-complement c cs bang none r e =
     let w : WrittenItems true r.0 cs = written-items (length cs) true cs r.0 r.1 (omega arith) e in
@@ -327,7 +357,8 @@ no-complement c cs bang none r e =
       closes = w.closes;
     })
 
-no-plain : (cs : List Ch) → has (is_plain 33) (slice_get cs 0) ≡ false → Unclosed cs → (r : List Item × ℕ) → items_after 0 true cs ≡ Some r → ⊥
+no-plain : (cs : List Ch) → has (is_plain 33) (slice_get cs 0) ≡ false → Unclosed cs → (r : List Item × ℕ)
+    → items_after 0 true cs ≡ Some r → ⊥
 unfolding Unclosed
 no-plain cs no_bang none r e =
     let w : WrittenItems true r.0 cs = written-items (length cs) true cs r.0 r.1 (omega arith) e in
@@ -341,21 +372,23 @@ no-plain cs no_bang none r e =
       closes = w.closes;
     })
 
-pub not-read : (cs : List Ch) → Unclosed cs → (r : ByteSet × ℕ) → bracket_after cs ≡ Some r → ⊥
-not-read cs none r e = go cs none e (has (is_plain 33) (slice_get cs 0)) refl
+pub not_read : (cs : List Ch) → Unclosed cs → (r : ByteSet × ℕ) → bracket_after cs ≡ Some r → ⊥
+not_read cs none r e = go cs none e (has (is_plain 33) (slice_get cs 0)) refl
   where
     go : (xs : List Ch) → Unclosed xs → bracket_after xs ≡ Some r → (b : Bool) → has (is_plain 33) (slice_get xs 0) ≡ b → ⊥
     go xs n f false g =
-        let o = mapped (λ (q : List Item × ℕ). (Bracket false q.0, q.1)) (items_after 0 true xs) r (sym (bracket-plain 0 xs g) ∙ f) in
+        let o = mapped (λ (q : List Item × ℕ). (Bracket false q.0, q.1)) (items_after 0 true xs) r (sym (bracket_after-plain 0 xs g) ∙ f) in
         no-plain xs g n o.0 o.1
     go [] n f true g = cc
     go (c ∷ xs) n f true g =
-        let o = mapped (λ (q : List Item × ℕ). (Bracket true q.0, q.1 + 1)) (items_after 0 true xs) r (sym (bracket-complement 0 (c ∷ xs) g) ∙ f) in
+        let o = mapped (λ (q : List Item × ℕ). (Bracket true q.0, q.1 + 1)) (items_after 0 true xs) r
+        (sym (bracket_after-complement 0 (c ∷ xs) g) ∙ f) in
         no-complement c xs g n o.0 o.1
 
-pub unclosed-is-part : (start : Ch) (cs : List Ch) → is_plain 91 start ≡ true → Unclosed cs → parts (start ∷ cs) ≡ One (Only start.byte) ∷ parts cs
-unclosed-is-part start cs e none = go (bracket_after cs) refl
+pub unclosed_is_part : (start : Ch) (cs : List Ch) → is_plain 91 start ≡ true → Unclosed cs
+    → parts (start ∷ cs) ≡ One (Only start.byte) ∷ parts cs
+unclosed_is_part start cs e none = go (bracket_after cs) refl
   where
     go : (o : Option (ByteSet × ℕ)) → bracket_after cs ≡ o → parts (start ∷ cs) ≡ One (Only start.byte) ∷ parts cs
-    go None f = cut start cs (One (Only start.byte)) 0 (bracket-part start cs e ∙ ap (λ o. bracket_or o start.byte) f)
-    go (Some r) f = absurd (not-read cs none r f)
+    go None f = cut start cs (One (Only start.byte)) 0 (bracket_part start cs e ∙ ap (λ o. bracket_or o start.byte) f)
+    go (Some r) f = absurd (not_read cs none r f)

@@ -6,7 +6,7 @@ use Rattle.sudo_match.specs.declared.people.Person.{Person}
 use Rattle.sudo_match.specs.declared.people.Group.{Group}
 use Rattle.sudo_match.specs.declared.people.Machine.{Machine}
 use Rattle.sudo_match.specs.Class.{lower_text}
-use Rattle.sudo_base.specs.Indexes.{IndexesRows}
+use Rattle.sudo_base.specs.Body.Indexes.{IndexesRows}
 use Rattle.sudo_base.specs.NameIndices.{index_of}
 use Rattle.sudo_match.specs.KnownRows.{KnownRows, user_named, host_named, group_named, groups_of}
 
@@ -24,7 +24,8 @@ pub host_named-is :
     host_named d name ≡ option_and_then (slice_get machines) (index_of hosts (lower_text name))
 unfolding host_named
 host_named-is d machines hosts name e i =
-    ap (find (λ (m : Machine). bytes_eq (lower_text m.name) (lower_text name))) (sym e ∙ sym (take-length machines)) ∙ sym (i.found (lower_text name))
+    ap (find (λ (m : Machine). bytes_eq (lower_text m.name) (lower_text name))) (sym e ∙ sym (take-length machines))
+    ∙ sym (i.found (lower_text name))
 
 pub host_named-scanned :
     (d : KnownRows) (name : List ℕ) → find (λ (m : Machine). bytes_eq (lower_text m.name) (lower_text name)) d.machines ≡ host_named d name

@@ -26,7 +26,8 @@ pub no_fault : directory_fault (root ∷ alice ∷ []) (host (codes "web1") ∷ 
 unfolding directory_fault first_clash
 no_fault = refl
 
-pub user_twice : directory_fault (alice ∷ root ∷ alice ∷ []) (host (codes "web1") ∷ host (codes "WEB1") ∷ []) ≡ Some (UserTwice (codes "alice"))
+pub user_twice : directory_fault (alice ∷ root ∷ alice ∷ []) (host (codes "web1") ∷ host (codes "WEB1") ∷ []) ≡ Some
+    (UserTwice (codes "alice"))
 unfolding directory_fault first_clash
 user_twice = refl
 
@@ -35,7 +36,8 @@ unfolding directory_fault first_clash
 host_twice = refl
 
 -- one name with two IDs, and one ID with two names; a clash comes before a user without a group
-pub one_name : directory_fault (user (codes "bob") [] ∷ alice ∷ user (codes "eve") (group (codes "adm") 5 ∷ []) ∷ []) [] ≡ Some (GroupClash (codes "adm"))
+pub one_name : directory_fault (user (codes "bob") [] ∷ alice ∷ user (codes "eve") (group (codes "adm") 5 ∷ []) ∷ [])
+    [] ≡ Some (GroupClash (codes "adm"))
 unfolding directory_fault first_clash
 one_name = refl
 

@@ -2,9 +2,9 @@
 use Rattle.std.proofs.Common.{◌≡◌, ℕ, Bool, true, false, ◌&&◌, ◌||◌, List, [], ◌∷◌, ◌++◌, map, refl, ap, sym, ◌∙◌, append_assoc, subst}
 use Rattle.std.specs.List.{list_any, list_all}
 use Rattle.std.proofs.lemmas.Bool.{eqb-true, or_right, and_from}
+use Rattle.sudo_base.proofs.Booleans.{and_first, and_second}
 use Rattle.sudo_match.specs.declared.patterns.Slash.{Slash}
 use Rattle.sudo_match.specs.Pattern.{ByteSet, Only, AnyByte, Bracket, Part, One, Star, is_free, set_holds, cuts, fits}
-use Rattle.sudo_match.proofs.CharsLemmas.{and-right}
 
 -- ---- Tests on lists
 
@@ -21,10 +21,6 @@ list_any-factor :
     list_any (λ x. (v && p x) && q x) xs ≡ (v && list_any (λ x. p x && q x) xs)
 list_any-factor true p q xs = refl
 list_any-factor false p q xs = list_any-none xs
-
-pub and-left : (a b : Bool) → (a && b) ≡ true → a ≡ true
-and-left true b e = refl
-and-left false b e = e
 
 -- what follows from either of two tests
 or-cases : (a b : Bool) {P : Type 0} → (a || b) ≡ true → (a ≡ true → P) → (b ≡ true → P) → P
@@ -82,8 +78,8 @@ fits-star-run :
     fits (Star ∷ p) (c ++ t) s ≡ true
 fits-star-run s p [] t free e = e
 fits-star-run s p (b ∷ c) t free e =
-    fits-star-more s p b (c ++ t) (and-left (is_free s b) (list_all (is_free s) c) free)
-    (fits-star-run s p c t (and-right (is_free s b) (list_all (is_free s) c) free) e)
+    fits-star-more s p b (c ++ t) (and_first (is_free s b) (list_all (is_free s) c) free)
+    (fits-star-run s p c t (and_second (is_free s b) (list_all (is_free s) c) free) e)
 
 -- ---- Going back to the last star alone
 
@@ -95,8 +91,8 @@ set_holds-free s (Only k) a b free ha hb =
     let same : b ≡ a = eqb-true b k hb ∙ sym (eqb-true a k ha) in
     rw same free
 set_holds-free s AnyByte a b free ha hb = hb
-set_holds-free s (Bracket false items) a b free ha hb = and-left (is_free s b) _ hb
-set_holds-free s (Bracket true items) a b free ha hb = and-left (is_free s b) _ hb
+set_holds-free s (Bracket false items) a b free ha hb = and_first (is_free s b) _ hb
+set_holds-free s (Bracket true items) a b free ha hb = and_first (is_free s b) _ hb
 
 -- the sets hold the bytes of the text, one after the other
 unfoldable pub taken : Slash → List ByteSet → List ℕ → Bool
@@ -109,7 +105,7 @@ list_all-snoc :
     {A : Type 0} (p : A → Bool) (c : List A) (b : A) → list_all p c ≡ true → p b ≡ true → list_all p (c ++ b ∷ []) ≡ true
 list_all-snoc p [] b e f = and_from (p b) true f refl
 list_all-snoc p (x ∷ c) b e f =
-    and_from (p x) _ (and-left (p x) (list_all p c) e) (list_all-snoc p c b (and-right (p x) (list_all p c) e) f)
+    and_from (p x) _ (and_first (p x) (list_all p c) e) (list_all-snoc p c b (and_second (p x) (list_all p c) e) f)
 
 head-is : {A : Type 0} {a b : A} {x y : List A} → a ∷ x ≡ b ∷ y → a ≡ b
 head-is e = cc
@@ -134,19 +130,21 @@ takes_over s p (q ∷ qs) (a ∷ w) t c0 [] (b ∷ y) free0 free held joined e =
     let same : c0 ≡ a = head-is joined in
     let both : (set_holds s q b && fits (map One qs ++ (Star ∷ p)) y s) ≡ true = sym (fits-one s q (map One qs ++ (Star ∷ p)) b y) ∙ e in
     let free_a : is_free s a ≡ true = rw same at free0 in
-    let free_b : is_free s b ≡ true = set_holds-free s q a b free_a (and-left (set_holds s q a) _ held) (and-left (set_holds s q b) _ both) in
-    takes_over s p qs w t b [] y free_b refl (and-right (set_holds s q a) (taken s qs w) held) (tail-is joined)
-    (and-right (set_holds s q b) _ both)
+    let free_b : is_free s b ≡ true = set_holds-free s q a b free_a (and_first (set_holds s q a) _ held)
+    (and_first (set_holds s q b) _ both) in
+    takes_over s p qs w t b [] y free_b refl (and_second (set_holds s q a) (taken s qs w) held) (tail-is joined)
+    (and_second (set_holds s q b) _ both)
 takes_over s p (q ∷ qs) (a ∷ w) t c0 (c1 ∷ c) (b ∷ y) free0 free held joined e =
     let same : c0 ≡ a = head-is joined in
     let both : (set_holds s q b && fits (map One qs ++ (Star ∷ p)) y s) ≡ true = sym (fits-one s q (map One qs ++ (Star ∷ p)) b y) ∙ e in
     let free_a : is_free s a ≡ true = rw same at free0 in
-    let free_b : is_free s b ≡ true = set_holds-free s q a b free_a (and-left (set_holds s q a) _ held) (and-left (set_holds s q b) _ both) in
-    takes_over s p qs w t c1 (c ++ b ∷ []) y (and-left (is_free s c1) (list_all (is_free s) c) free)
-    (list_all-snoc (is_free s) c b (and-right (is_free s c1) (list_all (is_free s) c) free) free_b)
-    (and-right (set_holds s q a) (taken s qs w) held)
+    let free_b : is_free s b ≡ true = set_holds-free s q a b free_a (and_first (set_holds s q a) _ held)
+    (and_first (set_holds s q b) _ both) in
+    takes_over s p qs w t c1 (c ++ b ∷ []) y (and_first (is_free s c1) (list_all (is_free s) c) free)
+    (list_all-snoc (is_free s) c b (and_second (is_free s c1) (list_all (is_free s) c) free) free_b)
+    (and_second (set_holds s q a) (taken s qs w) held)
     (ap (λ x. c1 ∷ x) (append_assoc c (b ∷ []) y) ∙ tail-is joined)
-    (and-right (set_holds s q b) _ both)
+    (and_second (set_holds s q b) _ both)
 
 -- the same, where the earlier star may take still more
 later_over :
@@ -161,8 +159,8 @@ later_over s p qs w t c0 c (d ∷ x) free0 free held joined e =
     or-cases (fits (map One qs ++ (Star ∷ p)) (d ∷ x) s) (is_free s d && fits (Star ∷ (map One qs ++ (Star ∷ p))) x s)
     (sym (fits-star s (map One qs ++ (Star ∷ p)) (d ∷ x)) ∙ e)
     (λ h. takes_over s p qs w t c0 c (d ∷ x) free0 free held joined h)
-    (λ h. later_over s p qs w t c0 (c ++ d ∷ []) x free0 (list_all-snoc (is_free s) c d free (and-left (is_free s d) _ h)) held
-    (ap (λ z. c0 ∷ z) (append_assoc c (d ∷ []) x) ∙ joined) (and-right (is_free s d) _ h))
+    (λ h. later_over s p qs w t c0 (c ++ d ∷ []) x free0 (list_all-snoc (is_free s) c d free (and_first (is_free s d) _ h)) held
+    (ap (λ z. c0 ∷ z) (append_assoc c (d ∷ []) x) ∙ joined) (and_second (is_free s d) _ h))
 
 -- where the sets of an earlier star's tail have held the text up to a later star, whatever fits by giving the earlier
 -- star more fits by giving it no more
@@ -171,7 +169,7 @@ later-star :
     later s (map One qs ++ (Star ∷ p)) x ≡ true → fits (Star ∷ p) t s ≡ true
 later-star s p qs w t [] held joined e = cc
 later-star s p qs w t (b ∷ x) held joined e =
-    later_over s p qs w t b [] x (and-left (is_free s b) _ e) refl held joined (and-right (is_free s b) _ e)
+    later_over s p qs w t b [] x (and_first (is_free s b) _ e) refl held joined (and_second (is_free s b) _ e)
 
 -- ---- The matcher's two indices
 
@@ -199,7 +197,7 @@ taken-snoc s [] [] q b held e = and_from (set_holds s q b) true e refl
 taken-snoc s [] (a ∷ w) q b held e = cc
 taken-snoc s (x ∷ qs) [] q b held e = cc
 taken-snoc s (x ∷ qs) (a ∷ w) q b held e =
-    and_from (set_holds s x a) _ (and-left (set_holds s x a) _ held) (taken-snoc s qs w q b (and-right (set_holds s x a) _ held) e)
+    and_from (set_holds s x a) _ (and_first (set_holds s x a) _ held) (taken-snoc s qs w q b (and_second (set_holds s x a) _ held) e)
 
 -- one set more
 pub reached-one :

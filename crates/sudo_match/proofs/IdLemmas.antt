@@ -26,4 +26,5 @@ pub insert-entry_by_id :
     map entry_by_id (insert_entry nat_eq es id v) ≡ map entry_by_id es ++ (id ∷ [], v) ∷ []
 insert-entry_by_id id v [] none = refl
 insert-entry_by_id id v (e ∷ es) none =
-    insert_step (nat_eq id e.0) e es (insert_entry nat_eq es id v) (map entry_by_id es ++ (id ∷ [], v) ∷ []) e.1 v (index_of (map entry_by_id es) (id ∷ [])) none (insert-entry_by_id id v es)
+    insert_step (nat_eq id e.0) e es (insert_entry nat_eq es id v) (map entry_by_id es ++ (id ∷ [], v) ∷ []) e.1 v
+    (index_of (map entry_by_id es) (id ∷ [])) none (insert-entry_by_id id v es)

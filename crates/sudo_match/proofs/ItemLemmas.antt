@@ -1,7 +1,12 @@
 -- Lemmas on the items of a bracket, by their indices.
-use Rattle.std.proofs.Common.{◌≡◌, ℕ, zero, suc, ◌+◌, ◌-◌, ◌<◌, ◌≤◌, Bool, true, false, ◌&&◌, ◌||◌, not, List, [], ◌∷◌, ◌++◌, map, length, drop, refl, ap, sym, ◌∙◌, Some, None, Option, arith, zero-add, add-zero, cond, length-drop, length-append}
+use Rattle.std.proofs.Common.{◌≡◌, ℕ, zero, suc, ◌+◌, ◌-◌, ◌<◌, ◌≤◌, Bool, true, false, ◌&&◌, ◌||◌, not, List, []}
+use Rattle.std.proofs.Common.{◌∷◌, ◌++◌, map, length, drop, refl, ap, sym, ◌∙◌, Some, None, Option, arith, zero-add}
+use Rattle.std.proofs.Common.{add-zero, cond, length-drop, length-append}
 use Rattle.std.specs.Prelude.{slice_get, option_map, find}
 use Rattle.std.specs.List.{list_any}
+use Rattle.sudo_base.proofs.Booleans.{and_second}
+use Rattle.sudo_base.proofs.Lists.{find-holds}
+use Rattle.std.proofs.lemmas.List.{length-map}
 use Rattle.sudo_text.specs.declared.token.Ch.{Ch}
 use Rattle.sudo_match.specs.Pattern.{Item}
 use Rattle.sudo_match.specs.Pattern.{InClass}
@@ -9,8 +14,10 @@ use Rattle.sudo_match.specs.Class.{Class}
 use Rattle.sudo_match.specs.Body.Shown.{class_of, class_at_start, known_classes, held_by}
 use Rattle.sudo_match.specs.declared.patterns.Class as shown
 use Rattle.sudo_match.specs.Class.{class_name, classes}
-use Rattle.sudo_match.specs.Pattern.{is_byte, is_plain, has, begins, class_form, class_end, class_at, class_or, range_at, item_at, item_of, item_holds, items_after}
-use Rattle.sudo_match.proofs.CharsLemmas.{drop-some, drop-none, begins-length, length-map, slice_get-drop, and-right}
+use Rattle.sudo_match.specs.Pattern.{is_byte, is_plain, has, begins, class_form, class_end, class_at, class_or}
+use Rattle.sudo_match.specs.Pattern.{range_at, item_at, item_holds, items_after}
+use Rattle.sudo_match.specs.Body.Pattern.{item_of}
+use Rattle.sudo_match.proofs.CharsLemmas.{drop-some, drop-none, begins-length, slice_get-drop}
 
 -- ---- One item
 
@@ -20,17 +27,14 @@ find-step :
 find-step p y o x more true py f = let same : y ≡ x = cc in ap p (sym same) ∙ py
 find-step p y o x more false py f = more f
 
-pub find-holds : {A : Type 0} (p : A → Bool) (xs : List A) (x : A) → find p xs ≡ Some x → p x ≡ true
-find-holds p [] x e = cc
-find-holds p (y ∷ xs) x e = find-step p y (find p xs) x (λ f. find-holds p xs x f) (p y) refl e
-
 pub length-class_form : (k : Class) → length (class_form k) ≡ length (class_name k) + 4
 length-class_form k =
     let m = length-append (map is_plain (class_name k)) class_end in
-    let n : length (map is_plain (class_name k)) ≡ length (class_name k) = length-map is_plain (class_name k) in
+    let n : length (map is_plain (class_name k)) ≡ length (class_name k) = length-map (class_name k) is_plain in
     omega (arith, m, n)
 
-pub class_at-within : (k : Class) (n : ℕ) (cs : List Ch) → class_at (drop n cs) ≡ Some k → n ≤ length cs → n + (length (class_name k) + 3) < length cs
+pub class_at-within : (k : Class) (n : ℕ) (cs : List Ch) → class_at (drop n cs) ≡ Some k → n ≤ length cs
+    → n + (length (class_name k) + 3) < length cs
 class_at-within k n cs e h =
     let opens = find-holds (λ j. begins (class_form j) (drop n cs)) classes k e in
     let long = begins-length (class_form k) (drop n cs) opens in
@@ -71,7 +75,8 @@ pub find-map : {A B : Type 0} (p : B → Bool) (f : A → B) (xs : List A) → o
 find-map p f [] = refl
 find-map p f (x ∷ xs) = go (p (f x)) (find-map p f xs)
   where
-    go : (b : Bool) → option_map f (find (λ y. p (f y)) xs) ≡ find p (map f xs) → option_map f (cond b (Some x) (find (λ y. p (f y)) xs)) ≡ cond b (Some (f x)) (find p (map f xs))
+    go : (b : Bool) → option_map f (find (λ y. p (f y)) xs) ≡ find p (map f xs)
+        → option_map f (cond b (Some x) (find (λ y. p (f y)) xs)) ≡ cond b (Some (f x)) (find p (map f xs))
     go true e = refl
     go false e = e
 
@@ -106,7 +111,8 @@ or_assoc false b c = refl
 
 pub found-more :
     (byte : ℕ) (holds : Bool) (taken : ℕ) (i : Item) (more : ℕ) (o : Option (List Item × ℕ)) →
-    found byte holds taken (option_map (λ q. (i ∷ q.0, q.1 + (more + 1))) o) ≡ found byte (holds || item_holds byte i) (taken + (more + 1)) o
+    found byte holds taken (option_map (λ q. (i ∷ q.0, q.1 + (more + 1))) o) ≡ found byte (holds || item_holds byte i)
+    (taken + (more + 1)) o
 found-more byte holds taken i more None = refl
 found-more byte holds taken i more (Some q) =
     ap (λ b. Some (b, taken + (q.1 + (more + 1)))) (or_assoc holds (item_holds byte i) (list_any (item_holds byte) q.0))
@@ -117,7 +123,8 @@ plus-zero : {A : Type 0} (o : Option (A × ℕ)) → o ≡ option_map (λ r. (r.
 plus-zero None = refl
 plus-zero (Some r) = ap (λ n. Some (r.0, n)) (sym (add-zero r.1))
 
-plus-suc : {A : Type 0} (n : ℕ) (o : Option (A × ℕ)) → option_map {U = A × ℕ} (λ r. (r.0, r.1 + 1)) (option_map {U = A × ℕ} (λ r. (r.0, r.1 + n)) o) ≡ option_map (λ r. (r.0, r.1 + suc n)) o
+plus-suc : {A : Type 0} (n : ℕ) (o : Option (A × ℕ))
+    → option_map {U = A × ℕ} (λ r. (r.0, r.1 + 1)) (option_map {U = A × ℕ} (λ r. (r.0, r.1 + n)) o) ≡ option_map (λ r. (r.0, r.1 + suc n)) o
 plus-suc n None = refl
 plus-suc n (Some r) = let e : r.1 + n + 1 ≡ r.1 + suc n = omega arith in ap (λ m. Some (r.0, m)) e
 
@@ -137,7 +144,8 @@ items_after-empty is_first = refl
 pub items_after-cons :
     (is_first : Bool) (c : Ch) (cs : List Ch) →
     items_after 0 is_first (c ∷ cs) ≡
-    cond (not is_first && is_plain 93 c) (Some ([], 1)) (option_map (λ r. ((item_at c cs).0 ∷ r.0, r.1 + 1)) (items_after (item_at c cs).1 false cs))
+    cond (not is_first && is_plain 93 c) (Some ([], 1)) (option_map (λ r. ((item_at c cs).0 ∷ r.0, r.1 + 1))
+    (items_after (item_at c cs).1 false cs))
 unfolding items_after
 items_after-cons is_first c cs = refl
 
@@ -155,10 +163,11 @@ items_after-close is_first n cs e = go (slice_get cs n) refl
   where
     go : (o : Option Ch) → slice_get cs n ≡ o → items_after 0 is_first (drop n cs) ≡ Some ([], 1)
     go None f = let no : has (is_plain 93) (slice_get cs n) ≡ false = ap (has (is_plain 93)) f in
-        let yes : has (is_plain 93) (slice_get cs n) ≡ true = and-right (not is_first) (has (is_plain 93) (slice_get cs n)) e in cc
+        let yes : has (is_plain 93) (slice_get cs n) ≡ true = and_second (not is_first) (has (is_plain 93) (slice_get cs n)) e in cc
     go (Some c) f =
         ap (items_after 0 is_first) (drop-some n cs c f) ∙ items_after-cons is_first c (drop (n + 1) cs)
-        ∙ ap (λ b. cond b (Some ([], 1)) (option_map (λ r. ((item_at c (drop (n + 1) cs)).0 ∷ r.0, r.1 + 1)) (items_after (item_at c (drop (n + 1) cs)).1 false (drop (n + 1) cs))))
+        ∙ ap (λ b. cond b (Some ([], 1)) (option_map (λ r. ((item_at c (drop (n + 1) cs)).0 ∷ r.0, r.1 + 1))
+        (items_after (item_at c (drop (n + 1) cs)).1 false (drop (n + 1) cs))))
         (ap (λ o. not is_first && has (is_plain 93) o) (sym f) ∙ e)
 
 drop-nil : {A : Type 0} (n : ℕ) → drop {A = A} n [] ≡ []
@@ -173,7 +182,8 @@ drop-drop m (suc n) (x ∷ xs) =
 
 join-counts :
     (i : Item) (more : ℕ) (o : Option (List Item × ℕ)) →
-    option_map {U = List Item × ℕ} (λ r. (i ∷ r.0, r.1 + 1)) (option_map {U = List Item × ℕ} (λ r. (r.0, r.1 + more)) o) ≡ option_map (λ q. (i ∷ q.0, q.1 + (more + 1))) o
+    option_map {U = List Item × ℕ} (λ r. (i ∷ r.0, r.1 + 1))
+    (option_map {U = List Item × ℕ} (λ r. (r.0, r.1 + more)) o) ≡ option_map (λ q. (i ∷ q.0, q.1 + (more + 1))) o
 join-counts i more None = refl
 join-counts i more (Some q) = let e : q.1 + more + 1 ≡ q.1 + (more + 1) = omega arith in ap (λ m. Some (i ∷ q.0, m)) e
 
@@ -192,13 +202,15 @@ items_after-next is_first n cs i more e f = go (slice_get cs n) refl
         let there : Some (item_at c (drop (n + 1) cs)) ≡ Some (i, more) = ap item_of (sym d) ∙ e in
         let same : item_at c (drop (n + 1) cs) ≡ (i, more) = cc in
         ap (items_after 0 is_first) d ∙ items_after-cons is_first c (drop (n + 1) cs)
-        ∙ ap (λ b. cond b (Some ([], 1)) (option_map (λ r. ((item_at c (drop (n + 1) cs)).0 ∷ r.0, r.1 + 1)) (items_after (item_at c (drop (n + 1) cs)).1 false (drop (n + 1) cs))))
+        ∙ ap (λ b. cond b (Some ([], 1)) (option_map (λ r. ((item_at c (drop (n + 1) cs)).0 ∷ r.0, r.1 + 1))
+        (items_after (item_at c (drop (n + 1) cs)).1 false (drop (n + 1) cs))))
         (ap (λ o. not is_first && has (is_plain 93) o) (sym g) ∙ f)
         ∙ ap (λ (p : Item × ℕ). option_map (λ r. (p.0 ∷ r.0, r.1 + 1)) (items_after p.1 false (drop (n + 1) cs))) same
         ∙ ap (λ o. option_map (λ r. (i ∷ r.0, r.1 + 1)) o) (items_after-skip more (drop (n + 1) cs))
         ∙ join-counts i more (items_after 0 false (drop more (drop (n + 1) cs)))
         ∙ ap (λ xs. option_map (λ q. (i ∷ q.0, q.1 + (more + 1))) (items_after 0 false xs)) (drop-drop more (n + 1) cs)
 
-pub found-end : (byte : ℕ) (holds : Bool) (start at : ℕ) → start ≤ at → Some (holds, at + 1 - start) ≡ found byte holds (at - start) (Some ([], 1))
+pub found-end : (byte : ℕ) (holds : Bool) (start at : ℕ) → start ≤ at
+    → Some (holds, at + 1 - start) ≡ found byte holds (at - start) (Some ([], 1))
 found-end byte false start at h = let e : at + 1 - start ≡ at - start + 1 = omega arith in ap (λ n. Some (false, n)) e
 found-end byte true start at h = let e : at + 1 - start ≡ at - start + 1 = omega arith in ap (λ n. Some (true, n)) e

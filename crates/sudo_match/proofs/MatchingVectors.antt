@@ -15,19 +15,24 @@ command path = atom.Command (plain path) None
 abbrev pub with_args : List ℕ → List ℕ → Atom
 with_args path args = atom.Command (plain path) (Some (plain args))
 
-pub folder : command_fits (command (codes "/usr/bin/")) (codes "/usr/bin/id") (codes "any") ∷ command_fits (command (codes "/usr/bin/")) (codes "/usr/bin/X11/xterm") [] ∷ command_fits (command (codes "/usr/bin/")) (codes "/usr/bin/") [] ∷ [] ≡ true ∷ false ∷ false ∷ []
+pub folder : command_fits (command (codes "/usr/bin/")) (codes "/usr/bin/id") (codes "any") ∷ command_fits
+    (command (codes "/usr/bin/")) (codes "/usr/bin/X11/xterm") [] ∷ command_fits (command (codes "/usr/bin/"))
+    (codes "/usr/bin/") [] ∷ [] ≡ true ∷ false ∷ false ∷ []
 unfolding command_fits parts_after part_at bracket_after items_after range_at begins fits cuts
 folder = refl
 
-pub arguments : command_fits (with_args (codes "/bin/cat") (codes "*")) (codes "/bin/cat") (codes "/var/log/messages") ∷ command_fits (with_args (codes "/bin/dd") (codes "if=/dev/zero")) (codes "/bin/dd") (codes "if=/dev/null") ∷ [] ≡ true ∷ false ∷ []
+pub arguments : command_fits (with_args (codes "/bin/cat") (codes "*")) (codes "/bin/cat") (codes "/var/log/messages")
+    ∷ command_fits (with_args (codes "/bin/dd") (codes "if=/dev/zero")) (codes "/bin/dd") (codes "if=/dev/null") ∷ [] ≡ true ∷ false ∷ []
 unfolding command_fits parts_after part_at bracket_after items_after range_at begins fits cuts
 arguments = refl
 
-pub no_arguments : command_fits (with_args (codes "/bin/who") (codes "\"\"")) (codes "/bin/who") [] ∷ command_fits (with_args (codes "/bin/who") (codes "\"\"")) (codes "/bin/who") (codes "am i") ∷ [] ≡ true ∷ false ∷ []
+pub no_arguments : command_fits (with_args (codes "/bin/who") (codes "\"\"")) (codes "/bin/who") [] ∷ command_fits
+    (with_args (codes "/bin/who") (codes "\"\"")) (codes "/bin/who") (codes "am i") ∷ [] ≡ true ∷ false ∷ []
 unfolding command_fits parts_after part_at bracket_after items_after range_at begins fits cuts
 no_arguments = refl
 
-pub edited_paths : command_fits (with_args (codes "sudoedit") (codes "/etc/*")) (codes "sudoedit") (codes "/etc/motd") ∷ command_fits (with_args (codes "sudoedit") (codes "/etc/*")) (codes "sudoedit") (codes "/etc/a/b") ∷ [] ≡ true ∷ false ∷ []
+pub edited_paths : command_fits (with_args (codes "sudoedit") (codes "/etc/*")) (codes "sudoedit") (codes "/etc/motd")
+    ∷ command_fits (with_args (codes "sudoedit") (codes "/etc/*")) (codes "sudoedit") (codes "/etc/a/b") ∷ [] ≡ true ∷ false ∷ []
 unfolding command_fits parts_after part_at bracket_after items_after range_at begins fits cuts
 edited_paths = refl
 
@@ -38,7 +43,11 @@ address a b c d = 16777216 * a + 65536 * b + 256 * c + d
 abbrev pub web1 : Machine
 web1 = record {
   name = codes "web1.example.org";
-  interfaces = record { addr = address 10 1 2 3; bits = 16; in_range = lit≤ tt } ∷ record { addr = address 127 0 0 1; bits = 8; in_range = lit≤ tt } ∷ [];
+  interfaces = record { addr = address 10 1 2 3; bits = 16; in_range = lit≤ tt } ∷ record {
+    addr = address 127 0 0 1;
+    bits = 8;
+    in_range = lit≤ tt;
+  } ∷ [];
 }
 
 abbrev pub web2 : Machine
@@ -59,7 +68,8 @@ pub own_address : on_both (atom.Address (address 10 1 2 3)) ≡ (true, false)
 unfolding host_fits
 own_address = refl
 
-pub loopback : on_both (atom.Address (address 127 0 0 1)) ∷ on_both (atom.Net (address 127 0 0 0) (address 255 0 0 0)) ∷ [] ≡ (false, false) ∷ (false, false) ∷ []
+pub loopback : on_both (atom.Address (address 127 0 0 1)) ∷ on_both (atom.Net (address 127 0 0 0) (address 255 0 0 0))
+    ∷ [] ≡ (false, false) ∷ (false, false) ∷ []
 unfolding host_fits
 loopback = refl
 

@@ -1,46 +1,55 @@
 -- Lemmas on the parts of a pattern, by their indices.
-use Rattle.std.proofs.Common.{◌≡◌, ℕ, zero, suc, ◌+◌, Bool, true, false, ◌&&◌, not, List, [], ◌∷◌, drop, refl, ap, sym, ◌∙◌, Some, None, Option, cond}
+use Rattle.std.proofs.Common.{◌≡◌, ℕ, zero, suc, ◌+◌, Bool, true, false, ◌&&◌, not, List, [], ◌∷◌, drop, refl, ap}
+use Rattle.std.proofs.Common.{sym, ◌∙◌, Some, None, Option, cond}
 use Rattle.std.specs.Prelude.{slice_get, option_map}
 use Rattle.std.specs.List.{list_any}
 use Rattle.sudo_text.specs.declared.token.Ch.{Ch}
 use Rattle.sudo_match.specs.Pattern.{Item}
 use Rattle.sudo_match.specs.declared.patterns.Slash.{Slash}
-use Rattle.sudo_match.specs.Pattern.{is_plain, has, item_holds, items_after, ByteSet, Only, AnyByte, Bracket, Part, One, Star, bracket_after, bracket_or, part_at, part_of, parts_after, parts, is_free, set_holds, part_holds}
+use Rattle.sudo_match.specs.Pattern.{is_plain, has, item_holds, items_after, ByteSet, Only, AnyByte, Bracket, Part}
+use Rattle.sudo_match.specs.Pattern.{One, Star, bracket_after, bracket_or, part_at, parts_after, parts}
+use Rattle.sudo_match.specs.Body.Pattern.{part_of}
+use Rattle.sudo_match.specs.Pattern.{is_free, set_holds}
+use Rattle.sudo_match.specs.Body.Pattern.{part_holds}
 use Rattle.sudo_match.proofs.CharsLemmas.{drop-some, drop-none}
 use Rattle.sudo_match.proofs.ItemLemmas.{drop-drop, items_after-empty}
 
 -- ---- Brackets
 
-bracket-test : (c : Ch) (cs : List Ch) (b : Bool) → is_plain 33 c ≡ b → bracket_after (c ∷ cs) ≡
-    cond b (option_map (λ r. (Bracket true r.0, r.1 + 1)) (items_after 0 true cs)) (option_map (λ r. (Bracket false r.0, r.1)) (items_after 0 true (c ∷ cs)))
+bracket_after-test : (c : Ch) (cs : List Ch) (b : Bool) → is_plain 33 c ≡ b → bracket_after (c ∷ cs) ≡
+    cond b (option_map (λ r. (Bracket true r.0, r.1 + 1)) (items_after 0 true cs))
+    (option_map (λ r. (Bracket false r.0, r.1)) (items_after 0 true (c ∷ cs)))
 unfolding bracket_after
-bracket-test c cs b e =
-    ap (λ x. cond x (option_map (λ r. (Bracket true r.0, r.1 + 1)) (items_after 0 true cs)) (option_map (λ r. (Bracket false r.0, r.1)) (items_after 0 true (c ∷ cs)))) e
+bracket_after-test c cs b e =
+    ap (λ x. cond x (option_map (λ r. (Bracket true r.0, r.1 + 1)) (items_after 0 true cs))
+    (option_map (λ r. (Bracket false r.0, r.1)) (items_after 0 true (c ∷ cs)))) e
 
-bracket-empty : bracket_after [] ≡ None
+bracket_after-empty : bracket_after [] ≡ None
 unfolding bracket_after
-bracket-empty = refl
+bracket_after-empty = refl
 
-pub bracket-complement :
+pub bracket_after-complement :
     (n : ℕ) (cs : List Ch) → has (is_plain 33) (slice_get cs n) ≡ true →
     bracket_after (drop n cs) ≡ option_map (λ r. (Bracket true r.0, r.1 + 1)) (items_after 0 true (drop (n + 1) cs))
-bracket-complement n cs e = go (slice_get cs n) refl
+bracket_after-complement n cs e = go (slice_get cs n) refl
   where
-    go : (o : Option Ch) → slice_get cs n ≡ o → bracket_after (drop n cs) ≡ option_map (λ r. (Bracket true r.0, r.1 + 1)) (items_after 0 true (drop (n + 1) cs))
+    go : (o : Option Ch) → slice_get cs n ≡ o
+        → bracket_after (drop n cs) ≡ option_map (λ r. (Bracket true r.0, r.1 + 1)) (items_after 0 true (drop (n + 1) cs))
     go None f = let no : has (is_plain 33) (slice_get cs n) ≡ false = ap (has (is_plain 33)) f in cc
-    go (Some c) f = ap bracket_after (drop-some n cs c f) ∙ bracket-test c (drop (n + 1) cs) true (ap (has (is_plain 33)) (sym f) ∙ e)
+    go (Some c) f = ap bracket_after (drop-some n cs c f) ∙ bracket_after-test c (drop (n + 1) cs) true (ap (has (is_plain 33)) (sym f) ∙ e)
 
-pub bracket-plain :
+pub bracket_after-plain :
     (n : ℕ) (cs : List Ch) → has (is_plain 33) (slice_get cs n) ≡ false →
     bracket_after (drop n cs) ≡ option_map (λ r. (Bracket false r.0, r.1)) (items_after 0 true (drop n cs))
-bracket-plain n cs e = go (slice_get cs n) refl
+bracket_after-plain n cs e = go (slice_get cs n) refl
   where
-    go : (o : Option Ch) → slice_get cs n ≡ o → bracket_after (drop n cs) ≡ option_map (λ r. (Bracket false r.0, r.1)) (items_after 0 true (drop n cs))
+    go : (o : Option Ch) → slice_get cs n ≡ o → bracket_after (drop n cs) ≡ option_map (λ r. (Bracket false r.0, r.1))
+        (items_after 0 true (drop n cs))
     go None f =
-        ap bracket_after (drop-none n cs f) ∙ bracket-empty
+        ap bracket_after (drop-none n cs f) ∙ bracket_after-empty
         ∙ ap (option_map (λ r. (Bracket false r.0, r.1))) (sym (items_after-empty true) ∙ ap (items_after 0 true) (sym (drop-none n cs f)))
     go (Some c) f =
-        ap bracket_after (drop-some n cs c f) ∙ bracket-test c (drop (n + 1) cs) false (ap (has (is_plain 33)) (sym f) ∙ e)
+        ap bracket_after (drop-some n cs c f) ∙ bracket_after-test c (drop (n + 1) cs) false (ap (has (is_plain 33)) (sym f) ∙ e)
         ∙ ap (λ xs. option_map (λ r. (Bracket false r.0, r.1)) (items_after 0 true xs)) (sym (drop-some n cs c f))
 
 -- what a set says of a byte, and how many characters it takes
@@ -50,12 +59,12 @@ set_answer s b r = (set_holds s r.0 b, r.1)
 abbrev pub items_answer : ℕ → List Item × ℕ → Bool × ℕ
 items_answer b r = (list_any (item_holds b) r.0, r.1)
 
-pub complement-answer :
+pub complement_answer :
     (s : Slash) (b : ℕ) (o : Option (List Item × ℕ)) →
     option_map (set_answer s b) (option_map (λ r. (Bracket true r.0, r.1 + 1)) o) ≡
     option_map (λ (q : Bool × ℕ). (is_free s b && not q.0, q.1 + 1)) (option_map (items_answer b) o)
-complement-answer s b None = refl
-complement-answer s b (Some r) = refl
+complement_answer s b None = refl
+complement_answer s b (Some r) = refl
 
 pub plain-answer :
     (s : Slash) (b : ℕ) (o : Option (List Item × ℕ)) →
@@ -76,8 +85,10 @@ part-test : (c : Ch) (cs : List Ch) (x y z : Bool) → is_plain 42 c ≡ x → i
     part_at c cs ≡ cond x (Star, 0) (cond y (One AnyByte, 0) (cond z (bracket_or (bracket_after cs) c.byte) (One (Only c.byte), 0)))
 unfolding part_at
 part-test c cs x y z e f g =
-    ap (λ a. cond a (Star, 0) (cond (is_plain 63 c) (One AnyByte, 0) (cond (is_plain 91 c) (bracket_or (bracket_after cs) c.byte) (One (Only c.byte), 0)))) e
-    ∙ ap (λ a. cond x (Star, 0) (cond a (One AnyByte, 0) (cond (is_plain 91 c) (bracket_or (bracket_after cs) c.byte) (One (Only c.byte), 0)))) f
+    ap (λ a. cond a (Star, 0) (cond (is_plain 63 c) (One AnyByte, 0)
+    (cond (is_plain 91 c) (bracket_or (bracket_after cs) c.byte) (One (Only c.byte), 0)))) e
+    ∙ ap (λ a. cond x (Star, 0) (cond a (One AnyByte, 0) (cond (is_plain 91 c) (bracket_or (bracket_after cs) c.byte)
+    (One (Only c.byte), 0)))) f
     ∙ ap (λ a. cond x (Star, 0) (cond y (One AnyByte, 0) (cond a (bracket_or (bracket_after cs) c.byte) (One (Only c.byte), 0)))) g
 
 pub part-star : (c : Ch) (cs : List Ch) → is_plain 42 c ≡ true → part_at c cs ≡ (Star, 0)

@@ -5,7 +5,8 @@ use Rattle.sudo_text.specs.declared.token.Ch.{Ch}
 use Rattle.sudo_match.specs.declared.patterns.Slash.TheVariants.{Any, Not}
 use Rattle.sudo_match.specs.Class.{Alpha}
 use Rattle.sudo_match.specs.Pattern.{InClass, Range, Single}
-use Rattle.sudo_match.specs.Pattern.{begins, range_at, items_after, Only, AnyByte, Bracket, One, Star, bracket_after, part_at, parts_after, parts, cuts, fits}
+use Rattle.sudo_match.specs.Pattern.{begins, range_at, items_after, Only, AnyByte, Bracket, One, Star, bracket_after}
+use Rattle.sudo_match.specs.Pattern.{part_at, parts_after, parts, cuts, fits}
 
 -- the bytes, none of them escaped; all of them escaped
 abbrev pub plain : List ℕ → List Ch

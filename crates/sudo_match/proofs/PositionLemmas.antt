@@ -1,5 +1,6 @@
 -- Lemmas on the positions of groups.
-use Rattle.std.proofs.Common.{◌≡◌, ℕ, ◌+◌, ◌≤◌, ◌<◌, List, [], ◌∷◌, ◌++◌, map, take, length, refl, ap, sym, ◌∙◌, Some, None, Option, arith, get_or, ◌⊎◌, inl, inr}
+use Rattle.std.proofs.Common.{◌≡◌, ℕ, ◌+◌, ◌≤◌, ◌<◌, List, [], ◌∷◌, ◌++◌, map, take, length, refl, ap, sym, ◌∙◌, Some}
+use Rattle.std.proofs.Common.{None, Option, arith, get_or, ◌⊎◌, inl, inr, append-nil, append_assoc}
 use Rattle.std.specs.Prelude.{slice_get, option_map, option_and_then}
 use Rattle.std.proofs.lemmas.Option.{slice_get-map, slice_get_cases}
 use Rattle.std.proofs.lemmas.List.{map-append, take_all}
@@ -8,26 +9,31 @@ use Rattle.sudo_match.specs.declared.people.Person.{Person}
 use Rattle.sudo_match.specs.declared.people.Group.{Group}
 use Rattle.sudo_base.proofs.IndexLemmas.{take-some}
 use Rattle.sudo_match.specs.declared.positions.GroupPosition.{GroupPosition}
-use Rattle.sudo_match.specs.Indexing.{group_there, ArePositions}
+use Rattle.sudo_match.specs.Body.Indexing.{group_there, ArePositions}
 use Rattle.sudo_match.specs.KnownRows.{groups_of}
 
-same-index : (people : List Person) (positions : List GroupPosition) (n : ℕ) → ArePositions people positions → option_map (group_there people) (slice_get positions n) ≡ option_map Some (slice_get (groups_of people) n)
+same-index : (people : List Person) (positions : List GroupPosition) (n : ℕ) → ArePositions people positions
+    → option_map (group_there people) (slice_get positions n) ≡ option_map Some (slice_get (groups_of people) n)
 same-index people positions n e =
     sym (slice_get-map (group_there people) positions n) ∙ ap (λ xs. slice_get xs n) e ∙ slice_get-map Some (groups_of people) n
 
 -- the group at an index is the one that stands at its position
 pub position-is :
-    (people : List Person) (positions : List GroupPosition) (n : ℕ) (s : GroupPosition) → ArePositions people positions → slice_get positions n ≡ Some s →
+    (people : List Person) (positions : List GroupPosition) (n : ℕ) (s : GroupPosition)
+    → ArePositions people positions → slice_get positions n ≡ Some s →
     slice_get (groups_of people) n ≡ group_there people s
-position-is people positions n s e at = go (slice_get (groups_of people) n) (sym (ap (option_map (group_there people)) at) ∙ same-index people positions n e)
+position-is people positions n s e at =
+    go (slice_get (groups_of people) n) (sym (ap (option_map (group_there people)) at) ∙ same-index people positions n e)
   where
     go : (o : Option Group) → Some (group_there people s) ≡ option_map Some o → o ≡ group_there people s
     go None f = cc
     go (Some g) f = let same : group_there people s ≡ Some g = cc in sym same
 
 pub position-past :
-    (people : List Person) (positions : List GroupPosition) (n : ℕ) → ArePositions people positions → slice_get positions n ≡ None → slice_get (groups_of people) n ≡ None
-position-past people positions n e at = go (slice_get (groups_of people) n) (sym (ap (option_map (group_there people)) at) ∙ same-index people positions n e)
+    (people : List Person) (positions : List GroupPosition) (n : ℕ) → ArePositions people positions
+    → slice_get positions n ≡ None → slice_get (groups_of people) n ≡ None
+position-past people positions n e at =
+    go (slice_get (groups_of people) n) (sym (ap (option_map (group_there people)) at) ∙ same-index people positions n e)
   where
     go : (o : Option Group) → None ≡ option_map Some o → o ≡ None
     go None f = refl
@@ -45,26 +51,22 @@ groups_at people user = groups_there (slice_get people user)
 
 -- the positions so far are those of all groups of the users before, and of the first groups of the user at this index
 abbrev pub SpotsTo : List Person → List GroupPosition → ℕ → ℕ → Type 0
-SpotsTo people positions user at = map (group_there people) positions ≡ map Some (groups_of (take user people) ++ take at (groups_at people user))
+SpotsTo people positions user at =
+    map (group_there people) positions ≡ map Some (groups_of (take user people) ++ take at (groups_at people user))
 
-pub append-nil : {A : Type 0} (xs : List A) → xs ++ [] ≡ xs
-append-nil [] = refl
-append-nil (x ∷ xs) = ap (λ ys. x ∷ ys) (append-nil xs)
-
-pub append_assoc : {A : Type 0} (xs ys zs : List A) → (xs ++ ys) ++ zs ≡ xs ++ (ys ++ zs)
-append_assoc [] ys zs = refl
-append_assoc (x ∷ xs) ys zs = ap (λ l. x ∷ l) (append_assoc xs ys zs)
-
-pub positions-none : (people : List Person) (positions : List GroupPosition) → positions ≡ [] → map (group_there people) positions ≡ map Some (groups_of (take 0 people))
+pub positions-none : (people : List Person) (positions : List GroupPosition) → positions ≡ []
+    → map (group_there people) positions ≡ map Some (groups_of (take 0 people))
 positions-none people positions e = ap (map (group_there people)) e
 
 pub positions-first :
-    (people : List Person) (positions : List GroupPosition) (user : ℕ) → map (group_there people) positions ≡ map Some (groups_of (take user people)) →
+    (people : List Person) (positions : List GroupPosition) (user : ℕ)
+    → map (group_there people) positions ≡ map Some (groups_of (take user people)) →
     SpotsTo people positions user 0
 positions-first people positions user e = e ∙ ap (map Some) (sym (append-nil (groups_of (take user people))))
 
 pub positions-more :
-    (people : List Person) (positions more : List GroupPosition) (user at : ℕ) (u : Person) (g : Group) → SpotsTo people positions user at → slice_get people user ≡ Some u →
+    (people : List Person) (positions more : List GroupPosition) (user at : ℕ) (u : Person) (g : Group)
+    → SpotsTo people positions user at → slice_get people user ≡ Some u →
     slice_get u.groups at ≡ Some g → more ≡ positions ++ record { user = user; at = at } ∷ [] → SpotsTo people more user (at + 1)
 unfolding groups_at groups_there
 positions-more people positions more user at u g e there here is =
@@ -81,7 +83,8 @@ positions-more people positions more user at u g e there here is =
     (sym (take-some at (groups_at people user) g (ap (λ gs. slice_get gs at) mine ∙ here)))
 
 pub positions-user :
-    (people : List Person) (positions : List GroupPosition) (user at : ℕ) (u : Person) → SpotsTo people positions user at → slice_get people user ≡ Some u →
+    (people : List Person) (positions : List GroupPosition) (user at : ℕ) (u : Person)
+    → SpotsTo people positions user at → slice_get people user ≡ Some u →
     length u.groups ≤ at → map (group_there people) positions ≡ map Some (groups_of (take (user + 1) people))
 unfolding groups_at groups_there
 positions-user people positions user at u e there done =
@@ -94,14 +97,16 @@ positions-user people positions user at u e there done =
     ∙ ap (λ us. map Some (groups_of us)) (sym (take-some user people u there))
 
 pub positions-all :
-    (people : List Person) (positions : List GroupPosition) (user : ℕ) → map (group_there people) positions ≡ map Some (groups_of (take user people)) →
+    (people : List Person) (positions : List GroupPosition) (user : ℕ)
+    → map (group_there people) positions ≡ map Some (groups_of (take user people)) →
     length people ≤ user → ArePositions people positions
 positions-all people positions user e done = e ∙ ap (λ us. map Some (groups_of us)) (take_all user people done)
 
 pub group-within : (groups : List Group) (n : ℕ) → n < length groups → (g : Group) × (slice_get groups n ≡ Some g)
 group-within groups n h = go (slice_get_cases groups n).1
   where
-    go : ((x : Group) × (n < length groups) × (slice_get groups n ≡ Some x) × (get_or groups n x ≡ x)) ⊎ ((length groups ≤ n) × (slice_get groups n ≡ None)) → (g : Group) × (slice_get groups n ≡ Some g)
+    go : ((x : Group) × (n < length groups) × (slice_get groups n ≡ Some x) × (get_or groups n x ≡ x))
+        ⊎ ((length groups ≤ n) × (slice_get groups n ≡ None)) → (g : Group) × (slice_get groups n ≡ Some g)
     go (inl e) = (e.0, e.2)
     go (inr e) = absurd (omega (arith, h, e.0))
 
@@ -109,6 +114,7 @@ group-within groups n h = go (slice_get_cases groups n).1
 pub groups-past : (groups : List Group) (n : ℕ) → slice_get groups n ≡ None → length groups ≤ n
 groups-past groups n h = go (slice_get_cases groups n).1
   where
-    go : ((x : Group) × (n < length groups) × (slice_get groups n ≡ Some x) × (get_or groups n x ≡ x)) ⊎ ((length groups ≤ n) × (slice_get groups n ≡ None)) → length groups ≤ n
+    go : ((x : Group) × (n < length groups) × (slice_get groups n ≡ Some x) × (get_or groups n x ≡ x))
+        ⊎ ((length groups ≤ n) × (slice_get groups n ≡ None)) → length groups ≤ n
     go (inl e) = absurd (let no : Some e.0 ≡ None = sym e.2 ∙ h in cc)
     go (inr e) = e.0

@@ -1,22 +1,25 @@
 -- Lemmas on the steps of matching, and on the invariant of its loop.
-use Rattle.std.proofs.Common.{◌≡◌, ℕ, ◌+◌, ◌-◌, ◌*◌, ◌<◌, ◌≤◌, Bool, true, false, ◌||◌, List, [], ◌∷◌, length, drop, refl, ap, sym, ◌∙◌, subst, Some, None, Option, arith, add-zero}
+use Rattle.std.proofs.Common.{◌≡◌, ℕ, ◌+◌, ◌-◌, ◌*◌, ◌<◌, ◌≤◌, Bool, true, false, ◌||◌, List, [], ◌∷◌, length, drop}
+use Rattle.std.proofs.Common.{refl, ap, sym, ◌∙◌, subst, Some, None, Option, arith, add-zero}
 use Rattle.std.specs.Prelude.{slice_get, option_map, ◌==◌}
 use Rattle.std.proofs.lemmas.Bool.{eq-eqb, ne_eqb, and_left, or_parts}
 use Rattle.std.proofs.lemmas.Option.{slice_get_within, slice_get_past, slice_get-get_or}
 use Rattle.std.proofs.Math.Nat.{mul-le-mul_right}
+use Rattle.sudo_base.proofs.Options.{some_injective}
 use Rattle.sudo_text.specs.declared.token.Ch.{Ch}
 use Rattle.sudo_match.specs.declared.patterns.Slash.{Slash}
-use Rattle.sudo_match.specs.Pattern.{is_plain, has, ByteSet, Only, AnyByte, Part, One, Star, bracket_after, bracket_or, part_at, part_of, parts, set_holds, part_holds, fits}
-use Rattle.sudo_match.specs.Reading.{is_free_byte}
+use Rattle.sudo_match.specs.Pattern.{is_plain, has, ByteSet, Only, AnyByte, Part, One, Star, bracket_after}
+use Rattle.sudo_match.specs.Pattern.{bracket_or, part_at, parts, set_holds, fits}
+use Rattle.sudo_match.specs.Body.Pattern.{part_of, part_holds}
+use Rattle.sudo_match.specs.Body.Reading.{is_free_byte}
 use Rattle.sudo_match.specs.Body.Step.{TakesPart, IsStarred}
 use Rattle.sudo_match.proofs.CharsLemmas.{drop-some, drop-none, and-then}
 use Rattle.sudo_match.proofs.PartLemmas.{part_answer, part_of-at, part-star, part-any, part-bracket, part-byte, parts-next, parts-none}
-use Rattle.sudo_match.proofs.FitsLemmas.{later, fits-star, fits-one, fits-one-empty, fits-empty-some, fits-empty-empty, Reached, reached-start, reached-one, fits-star-again, later-back, later-not_free}
+use Rattle.sudo_match.proofs.FitsLemmas.{later, fits-star, fits-one, fits-one-empty, fits-empty-some}
+use Rattle.sudo_match.proofs.FitsLemmas.{fits-empty-empty, Reached, reached-start, reached-one, fits-star-again}
+use Rattle.sudo_match.proofs.FitsLemmas.{later-back, later-not_free}
 
 -- ---- One step
-
-pub some-is : {A : Type 0} (x y : A) → Some x ≡ Some y → x ≡ y
-some-is x y e = cc
 
 pair-is : {A : Type 0} (r : A × ℕ) (p : A) (m : ℕ) → r.0 ≡ p → r.1 ≡ m → r ≡ (p, m)
 pair-is r p m e f = ap (λ x. (x, r.1)) e ∙ ap (λ y. (p, y)) f
@@ -40,7 +43,8 @@ pub starred : (n : ℕ) (cs : List Ch) → has (is_plain 42) (slice_get cs n) �
 starred n cs e = go (slice_get cs n) refl
   where
     go : (o : Option Ch) → slice_get cs n ≡ o → IsStarred cs n
-    go None f = let no : has (is_plain 42) (slice_get cs n) ≡ false = ap (has (is_plain 42)) f in absurd (let h : true ≡ false = sym e ∙ no in cc)
+    go None f = let no : has (is_plain 42) (slice_get cs n) ≡ false = ap (has (is_plain 42)) f in
+        absurd (let h : true ≡ false = sym e ∙ no in cc)
     go (Some c) f = record {
       parts_are =
           parts-next n cs Star 0 (part_of-at n cs c f ∙ ap Some (part-star c (drop (n + 1) cs) (ap (has (is_plain 42)) (sym f) ∙ e)))
@@ -61,15 +65,18 @@ one-at s b cs n answer more e f = go (slice_get cs n) refl
   where
     go : (o : Option Ch) → slice_get cs n ≡ o → OneAt s b cs n answer more
     go None g =
-        let no : option_map (part_answer s b) (part_of (drop n cs)) ≡ None = ap (λ xs. option_map (part_answer s b) (part_of xs)) (drop-none n cs g) in
+        let no : option_map (part_answer s b) (part_of (drop n cs)) ≡ None =
+        ap (λ xs. option_map (part_answer s b) (part_of xs)) (drop-none n cs g) in
         absurd (let h : None ≡ Some (answer, more) = sym no ∙ f in cc)
     go (Some c) g =
         let one = part-one c (drop (n + 1) cs) (ap (has (is_plain 42)) (sym g) ∙ e) in
-        let there : Some (part_answer s b (part_at c (drop (n + 1) cs))) ≡ Some (answer, more) = ap (option_map (part_answer s b)) (sym (part_of-at n cs c g)) ∙ f in
-        let same = some-is (part_answer s b (part_at c (drop (n + 1) cs))) (answer, more) there in
+        let there : Some (part_answer s b (part_at c (drop (n + 1) cs))) ≡ Some (answer, more) =
+        ap (option_map (part_answer s b)) (sym (part_of-at n cs c g)) ∙ f in
+        let same = some_injective (part_answer s b (part_at c (drop (n + 1) cs))) (answer, more) there in
         let held : part_holds s (part_at c (drop (n + 1) cs)).0 b ≡ answer = ap (λ (r : Bool × ℕ). r.0) same in
         let count : (part_at c (drop (n + 1) cs)).1 ≡ more = ap (λ (r : Bool × ℕ). r.1) same in
-        let part : Some (part_at c (drop (n + 1) cs)) ≡ Some (One one.0, more) = ap Some (pair-is (part_at c (drop (n + 1) cs)) (One one.0) more one.1 count) in
+        let part : Some (part_at c (drop (n + 1) cs)) ≡ Some (One one.0, more) =
+        ap Some (pair-is (part_at c (drop (n + 1) cs)) (One one.0) more one.1 count) in
         record {
           set = one.0;
           parts_are = parts-next n cs (One one.0) more (part_of-at n cs c g ∙ part);
@@ -110,9 +117,11 @@ stuck-end s cs t n offset b f g = go (slice_get cs n) refl
   where
     go : (o : Option Ch) → slice_get cs n ≡ o → fits (parts (drop n cs)) (drop offset t) s ≡ false
     go None h =
-        ap (λ p. fits p (drop offset t) s) (parts-none n cs h) ∙ ap (λ x. fits [] x s) (drop-some offset t b f) ∙ fits-empty-some s b (drop (offset + 1) t)
+        ap (λ p. fits p (drop offset t) s) (parts-none n cs h) ∙ ap (λ x. fits [] x s) (drop-some offset t b f)
+        ∙ fits-empty-some s b (drop (offset + 1) t)
     go (Some c) h =
-        let there : option_map (part_answer s b) (part_of (drop n cs)) ≡ Some (part_answer s b (part_at c (drop (n + 1) cs))) = ap (option_map (part_answer s b)) (part_of-at n cs c h) in cc
+        let there : option_map (part_answer s b) (part_of (drop n cs)) ≡ Some
+        (part_answer s b (part_at c (drop (n + 1) cs))) = ap (option_map (part_answer s b)) (part_of-at n cs c h) in cc
 
 pub stuck-text :
     (s : Slash) (cs : List Ch) (t : List ℕ) (n offset : ℕ) → has (is_plain 42) (slice_get cs n) ≡ false →
@@ -133,7 +142,8 @@ pub finished :
     (s : Slash) (cs : List Ch) (t : List ℕ) (n offset : ℕ) → slice_get t offset ≡ None → length cs ≤ n →
     fits (parts (drop n cs)) (drop offset t) s ≡ true
 finished s cs t n offset f h =
-    ap (λ p. fits p (drop offset t) s) (parts-none n cs (slice_get_past cs n h)) ∙ ap (λ x. fits [] x s) (drop-none offset t f) ∙ fits-empty-empty s
+    ap (λ p. fits p (drop offset t) s) (parts-none n cs (slice_get_past cs n h))
+    ∙ ap (λ x. fits [] x s) (drop-none offset t f) ∙ fits-empty-empty s
 
 -- ---- What the loop keeps
 
@@ -195,7 +205,8 @@ pub keeps-back :
 keeps-back s cs t at offset start from k e f = go (slice_get t from) refl
   where
     go : (o : Option ℕ) → slice_get t from ≡ o → Retries s cs t start (from + 1) start (from + 1)
-    go None g = absurd (let no : is_free_byte s (slice_get t from) ≡ false = ap (is_free_byte s) g in let h : true ≡ false = sym f ∙ no in cc)
+    go None g = absurd (let no : is_free_byte s (slice_get t from) ≡ false = ap (is_free_byte s) g in
+        let h : true ≡ false = sym f ∙ no in cc)
     go (Some b) g = record {
       start_within = omega arith;
       same =
@@ -212,9 +223,11 @@ pub ends-stuck :
 ends-stuck s cs t at offset start from k e f = go (slice_get t from) refl
   where
     go : (o : Option ℕ) → slice_get t from ≡ o → fits (parts cs) t s ≡ false
-    go None g = k.same ∙ ap (λ x. x || later s (parts (drop start cs)) (drop from t)) e ∙ ap (later s (parts (drop start cs))) (drop-none from t g)
+    go None g = k.same ∙ ap (λ x. x || later s (parts (drop start cs)) (drop from t)) e
+        ∙ ap (later s (parts (drop start cs))) (drop-none from t g)
     go (Some b) g =
-        k.same ∙ ap (λ x. x || later s (parts (drop start cs)) (drop from t)) e ∙ ap (later s (parts (drop start cs))) (drop-some from t b g)
+        k.same ∙ ap (λ x. x || later s (parts (drop start cs)) (drop from t)) e
+        ∙ ap (later s (parts (drop start cs))) (drop-some from t b g)
         ∙ later-not_free s (parts (drop start cs)) b (drop (from + 1) t) (ap (is_free_byte s) (sym g) ∙ f)
 
 -- ---- Characters before the first special one
@@ -246,7 +259,8 @@ pub literal-differs :
     (s : Slash) (cs : List Ch) (t : List ℕ) (n b : ℕ) (c : Ch) → Keeps s cs t n n None → slice_get cs n ≡ Some c →
     (is_plain 42 c || (is_plain 63 c || is_plain 91 c)) ≡ false → slice_get t n ≡ Some b → (b ≡ c.byte → ⊥) → fits (parts cs) t s ≡ false
 literal-differs s cs t n b c k e special f other =
-    k ∙ stuck-byte s cs t n n b 0 (no-star cs n c e special) f (literal-answer s cs n b c e special ∙ ap (λ x. Some (x, 0)) (ne_eqb b c.byte other))
+    k ∙ stuck-byte s cs t n n b 0 (no-star cs n c e special) f (literal-answer s cs n b c e special
+    ∙ ap (λ x. Some (x, 0)) (ne_eqb b c.byte other))
 
 pub literal-ends :
     (s : Slash) (cs : List Ch) (t : List ℕ) (n : ℕ) (c : Ch) → Keeps s cs t n n None → slice_get cs n ≡ Some c →
@@ -277,14 +291,17 @@ pub work-star :
 unfolding work
 work-star s cs t at offset None k h =
     let n = length cs in let m = length t in
-    let inner : (n - (at + 1)) * (m + 1) + (m - offset) < (n + 1) * (m + 1) + m = falls-product (n - (at + 1)) (n + 1) (m + 1) (m - offset) m (omega arith) (omega arith) in
-    falls-product ((n - (at + 1)) * (m + 1) + (m - offset)) ((n + 1) * (m + 1) + m) (n + 1) (n - (at + 1)) (n - at) (omega (arith, inner)) (omega arith)
+    let inner : (n - (at + 1)) * (m + 1) + (m - offset) < (n + 1) * (m + 1) + m =
+    falls-product (n - (at + 1)) (n + 1) (m + 1) (m - offset) m (omega arith) (omega arith) in
+    falls-product ((n - (at + 1)) * (m + 1) + (m - offset)) ((n + 1) * (m + 1) + m) (n + 1) (n - (at + 1)) (n - at)
+    (omega (arith, inner)) (omega arith)
 work-star s cs t at offset (Some r) k h =
     let n = length cs in let m = length t in
     let before = k.start_within in
     let inner : (n - (at + 1)) * (m + 1) + (m - offset) < (n - r.0) * (m + 1) + (m - r.1) =
     falls-product (n - (at + 1)) (n - r.0) (m + 1) (m - offset) (m - r.1) (omega (arith, before, h)) (omega arith) in
-    falls-product ((n - (at + 1)) * (m + 1) + (m - offset)) ((n - r.0) * (m + 1) + (m - r.1)) (n + 1) (n - (at + 1)) (n - at) (omega (arith, inner)) (omega arith)
+    falls-product ((n - (at + 1)) * (m + 1) + (m - offset)) ((n - r.0) * (m + 1) + (m - r.1)) (n + 1) (n - (at + 1))
+    (n - at) (omega (arith, inner)) (omega arith)
 
 pub work-taken : (n m at more : ℕ) (retry : Option (ℕ × ℕ)) → at + more < n → work n m (at + 1 + more) retry < work n m at retry
 unfolding work
@@ -308,5 +325,6 @@ pub free-within : (s : Slash) (t : List ℕ) (from : ℕ) → is_free_byte s (sl
 free-within s t from f = go (slice_get t from) refl
   where
     go : (o : Option ℕ) → slice_get t from ≡ o → from < length t
-    go None g = absurd (let no : is_free_byte s (slice_get t from) ≡ false = ap (is_free_byte s) g in let h : true ≡ false = sym f ∙ no in cc)
+    go None g = absurd (let no : is_free_byte s (slice_get t from) ≡ false = ap (is_free_byte s) g in
+        let h : true ≡ false = sym f ∙ no in cc)
     go (Some b) g = slice_get_within t from b g

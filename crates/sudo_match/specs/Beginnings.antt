@@ -1,19 +1,9 @@
 -- A cheap test that most hosts' names fail: their first characters differ from the name before any special one. It is
 -- about time alone: what a pattern fits does not depend on it.
-use Rattle.std.specs.Prelude.{ℕ, Bool, true, false, ◌||◌, ◌==◌, if◌then◌else◌, List, [], ◌∷◌}
+use Rattle.std.specs.Prelude.{Bool, ◌||◌}
 use Rattle.sudo_text.specs.declared.token.Ch.{Ch}
-use Rattle.sudo_match.specs.Class.{lower}
 use Rattle.sudo_match.specs.Pattern.{is_plain}
 
 -- an unescaped `*`, `?` or `[`
 abbrev pub is_special : Ch → Bool
 is_special c = is_plain 42 c || (is_plain 63 c || is_plain 91 c)
-
--- without regard to case, a character differs from the byte at its index before any special character and any dot
-unfoldable pub is_named_otherwise : List Ch → List ℕ → Bool
-is_named_otherwise [] name = false
-is_named_otherwise (c ∷ cs) [] = false
-is_named_otherwise (c ∷ cs) (b ∷ name) =
-    if is_special c || b == 46 then false
-    else if lower b == lower c.byte then is_named_otherwise cs name
-    else true

@@ -31,7 +31,8 @@ WritesItem (Single b) w after = (class_at (w ++ after) ≡ None) × (goes_to aft
 abbrev pub WritesItems : Bool → List Item → List Ch → List Ch → Type 0
 WritesItems is_first [] w after = (is_first ≡ false) × (w ≡ [])
 WritesItems is_first (i ∷ is) w after =
-    (v : List Ch) × (u : List Ch) × (w ≡ v ++ u) × WritesItem i v (u ++ after) × ((not is_first && has (is_plain 93) (slice_get (w ++ after) 0)) ≡ false)
+    (v : List Ch) × (u : List Ch) × (w ≡ v ++ u) × WritesItem i v (u ++ after)
+    × ((not is_first && has (is_plain 93) (slice_get (w ++ after) 0)) ≡ false)
     × WritesItems false is u after
 
 -- an unescaped `!` for the complement; without it the items do not begin with an unescaped `!`

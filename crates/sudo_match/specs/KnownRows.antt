@@ -1,5 +1,7 @@
 -- The users, groups and hosts that a directory knows, as in passwd(5), group(5) and hosts(5), and the faults of its rows.
-use Rattle.std.specs.Prelude.{ℕ, Bool, true, false, not, ◌&&◌, ◌||◌, ◌==◌, if◌then◌else◌, List, [], ◌∷◌, Option, Some, None, find, flat_map, option_map, option_and_then, take, length, slice_get, bytes_eq, codes, ◌≡◌, ◌⊎◌}
+use Rattle.std.specs.Prelude.{ℕ, Bool, true, false, not, ◌&&◌, ◌||◌, ◌==◌, if◌then◌else◌, List, [], ◌∷◌, Option, Some}
+use Rattle.std.specs.Prelude.{None, find, flat_map, option_map, option_and_then, take, length, slice_get, bytes_eq}
+use Rattle.std.specs.Prelude.{codes, ◌≡◌, ◌⊎◌}
 use Rattle.std.specs.List.{list_any, range_with_len}
 use Rattle.sudo_match.specs.declared.people.Person.{Person}
 use Rattle.sudo_match.specs.declared.people.Group.{Group}
@@ -82,7 +84,8 @@ root_fault people = if list_any (λ u. bytes_eq u.name (codes "root")) people th
 -- the first fault of the rows, in the order of the five kinds; each but `NoRoot` names the first row that shows it
 unfoldable pub directory_fault : List Person → List Machine → Option DirFault
 directory_fault people machines =
-    or_else (user_fault people) (or_else (host_fault machines) (or_else (group_fault people) (or_else (ungrouped_fault people) (root_fault people))))
+    or_else (user_fault people) (or_else (host_fault machines)
+    (or_else (group_fault people) (or_else (ungrouped_fault people) (root_fault people))))
 
 -- the given fault, if there is one, or an allocation failure
 abbrev pub IsDirectoryFault : Option DirFault → DirFault → Type 0

@@ -5,6 +5,5 @@ pub mod Reading
 pub mod Matching
 pub mod Beginnings
 pub mod KnownRows
-pub mod Indexing
 pub mod Brackets
 pub mod Body

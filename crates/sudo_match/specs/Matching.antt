@@ -1,6 +1,7 @@
 -- The matching of atoms with a user, a group, a host, and a command with its arguments, as in sudoers(5), "User_List",
 -- "Runas_List", "Host_List", "Cmnd_List" and "Wildcards".
-use Rattle.std.specs.Prelude.{ℕ, ◌-◌, ◌/◌, ◌^◌, Bool, true, false, not, ◌&&◌, ◌||◌, ◌==◌, if◌then◌else◌, List, [], ◌∷◌, map, length, bit_and, bytes_eq, codes, Option, Some, None}
+use Rattle.std.specs.Prelude.{ℕ, ◌-◌, ◌/◌, ◌^◌, Bool, true, false, not, ◌&&◌, ◌||◌, ◌==◌, if◌then◌else◌, List, []}
+use Rattle.std.specs.Prelude.{◌∷◌, map, length, bit_and, bytes_eq, codes, Option, Some, None}
 use Rattle.std.specs.List.{list_any, before_first}
 use Rattle.sudo_text.specs.declared.token.Ch.{Ch}
 use Rattle.sudo_grammar.specs.declared.kind.Atom.{Atom}
@@ -87,7 +88,8 @@ is_empty (b ∷ bs) = false
 -- a command without arguments allows any, `""` allows none, and any other text is a pattern
 abbrev pub arguments_fit : Slash → Option (List Ch) → List ℕ → Bool
 arguments_fit slash None arguments = true
-arguments_fit slash (Some chars) arguments = if spells_text (codes "\"\"") chars then is_empty arguments else fits (parts chars) arguments slash
+arguments_fit slash (Some chars) arguments = if spells_text (codes "\"\"") chars then is_empty arguments else fits
+    (parts chars) arguments slash
 
 -- `*` in the arguments of a command may fit a `/`, except in the paths that `sudoedit` edits
 abbrev pub arguments_slash : List Ch → Slash

@@ -2,7 +2,8 @@
 -- The numbers beside items and parts count characters; Brackets.antt says the same by lists of characters, in the laws.
 --     parts chars             the parts of a pattern's characters
 --     fits parts text slash   some cut of the text fits the parts, one after the other
-use Rattle.std.specs.Prelude.{ℕ, zero, suc, ◌+◌, ◌-◌, slice_get, Bool, true, false, not, ◌&&◌, ◌==◌, if◌then◌else◌, List, [], ◌∷◌, ◌++◌, map, length, Option, Some, None, option_map, find}
+use Rattle.std.specs.Prelude.{ℕ, zero, suc, ◌+◌, ◌-◌, slice_get, Bool, true, false, not, ◌&&◌, ◌==◌, if◌then◌else◌}
+use Rattle.std.specs.Prelude.{List, [], ◌∷◌, ◌++◌, map, length, Option, Some, None, option_map, find}
 use Rattle.std.specs.List.{list_any, list_all}
 use Rattle.sudo_text.specs.declared.token.Ch.{Ch}
 use Rattle.sudo_match.specs.declared.patterns.Slash.{Slash}
@@ -71,11 +72,6 @@ class_or None other = other
 abbrev pub item_at : Ch → List Ch → Item × ℕ
 item_at c cs = class_or (class_at (c ∷ cs)) (range_at c cs)
 
--- the first item of a list of characters, if there are any
-abbrev pub item_of : List Ch → Option (Item × ℕ)
-item_of [] = None
-item_of (c ∷ cs) = Some (item_at c cs)
-
 -- the items up to the closing `]`, an unescaped `]` that is not the first item, and the number of their characters with
 -- that `]`; none if no `]` closes the bracket; the first `skipped` characters belong to the item before
 unfoldable pub items_after : ℕ → Bool → List Ch → Option (List Item × ℕ)
@@ -120,11 +116,6 @@ part_at c cs =
     else if is_plain 91 c then bracket_or (bracket_after cs) c.byte
     else (One (Only c.byte), 0)
 
--- the first part of a list of characters, if there are any
-abbrev pub part_of : List Ch → Option (Part × ℕ)
-part_of [] = None
-part_of (c ∷ cs) = Some (part_at c cs)
-
 -- the parts of the characters after the first `skipped`, which belong to the part before
 unfoldable pub parts_after : ℕ → List Ch → List Part
 parts_after skipped [] = []
@@ -159,11 +150,6 @@ set_holds s (Only a) b = b == a
 set_holds s AnyByte b = is_free s b
 set_holds s (Bracket false items) b = is_free s b && list_any (item_holds b) items
 set_holds s (Bracket true items) b = is_free s b && not (list_any (item_holds b) items)
-
--- a part fits this byte alone; a star never does
-abbrev pub part_holds : Slash → Part → ℕ → Bool
-part_holds s (One set) b = set_holds s set b
-part_holds s Star b = false
 
 -- the ways to cut a text into two
 unfoldable pub cuts : List ℕ → List (List ℕ × List ℕ)

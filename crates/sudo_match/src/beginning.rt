@@ -1,7 +1,7 @@
 //! A cheap test that most hosts of a policy fail: they begin otherwise than the name of the host.
 
 ghost use Rattle.std.specs.Prelude.{◌≡◌, ◌≤◌, length, drop};
-ghost use Rattle.sudo_match.specs.Beginnings.{is_named_otherwise};
+ghost use Rattle.sudo_match.specs.Body.Beginnings.{is_named_otherwise};
 
 use crate::patterns::is_special;
 use sudo_text::Ch;

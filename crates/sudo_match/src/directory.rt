@@ -3,8 +3,9 @@ ghost use Rattle.std.specs.Prelude.{◌≡◌, find, bytes_eq, codes, IfOk, IfEr
 ghost use Rattle.std.specs.Option.{option_copied};
 ghost use Rattle.sudo_match.specs.Class.{lower_text};
 ghost use Rattle.sudo_base.specs.NameIndices.{index_of};
-ghost use Rattle.sudo_match.specs.Indexing.{AreApart, ArePositions, IsKept, ungrouped_or_root_fault};
-ghost use Rattle.sudo_match.specs.KnownRows.{user_named, host_named, group_named, same_user, groups_clash, groups_of, group_fault, directory_fault, is_no_group, IsDirectoryFault};
+ghost use Rattle.sudo_match.specs.Body.Indexing.{AreApart, ArePositions, IsKept, ungrouped_or_root_fault};
+ghost use Rattle.sudo_match.specs.KnownRows.{user_named, host_named, group_named, same_user, groups_clash, groups_of};
+ghost use Rattle.sudo_match.specs.KnownRows.{group_fault, directory_fault, is_no_group, IsDirectoryFault};
 
 use crate::indexing::{group_names, host_names, host_place, user_names};
 use crate::positions::{GroupPosition, group_found, positions_of};
@@ -29,7 +30,7 @@ pub struct Directory {
 
 impl Model for Directory {
     ghost use Rattle.sudo_match.specs.KnownRows.{KnownRows};
-    ghost use Rattle.sudo_match.specs.Indexing.{IsKept};
+    ghost use Rattle.sudo_match.specs.Body.Indexing.{IsKept};
 
     ghost Value = { KnownRows };
 

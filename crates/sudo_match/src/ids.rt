@@ -1,7 +1,7 @@
 //! A map from group IDs to indices.
 ghost use Rattle.std.specs.Prelude.{◌≡◌, [], ◌∷◌, OnOk};
 ghost use Rattle.sudo_base.specs.NameIndices.{index_of};
-ghost use Rattle.sudo_match.specs.Indexing.{with_name};
+ghost use Rattle.sudo_match.specs.Body.Indexing.{with_name};
 
 use indexmap::IndexMap;
 use std::alloc::{AllocError, Global};

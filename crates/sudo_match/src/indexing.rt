@@ -3,8 +3,9 @@ ghost use Rattle.std.specs.Prelude.{◌≡◌, ◌==◌, ◌||◌, ◌∷◌, []
 ghost use Rattle.std.specs.Option.{option_copied};
 ghost use Rattle.sudo_base.specs.NameIndices.{index_of};
 ghost use Rattle.sudo_match.specs.Class.{lower_text};
-ghost use Rattle.sudo_match.specs.KnownRows.{same_user, same_host, groups_clash, groups_of, user_fault, host_fault, group_fault, IsDirectoryFault};
-ghost use Rattle.sudo_match.specs.Indexing.{AreApart, ArePositions, with_name, differs};
+ghost use Rattle.sudo_match.specs.KnownRows.{same_user, same_host, groups_clash, groups_of, user_fault, host_fault};
+ghost use Rattle.sudo_match.specs.KnownRows.{group_fault, IsDirectoryFault};
+ghost use Rattle.sudo_match.specs.Body.Indexing.{AreApart, ArePositions, with_name, differs};
 
 use crate::ids::Ids;
 use crate::positions::{GroupPosition, group_at, group_found};

@@ -1,7 +1,9 @@
 //! The matching of one atom of a policy, as in sudoers(5), "User_List", "Host_List" and "Cmnd_List".
 ghost use Rattle.std.specs.Prelude.{◌≡◌, ◌==◌, ◌^◌, ◌-◌, ◌≤◌};
 ghost use Rattle.std.specs.List.{list_any};
-ghost use Rattle.sudo_match.specs.Matching.{user_fits, group_fits, host_fits, command_fits, compared_name, short_name, pattern_has_dot, mask_of, is_loopback, address_fits, net_fits, spells_text, arguments_fit};
+ghost use Rattle.sudo_match.specs.Matching.{user_fits, group_fits, host_fits, command_fits, compared_name};
+ghost use Rattle.sudo_match.specs.Matching.{short_name, pattern_has_dot, mask_of, is_loopback, address_fits};
+ghost use Rattle.sudo_match.specs.Matching.{net_fits, spells_text, arguments_fit};
 
 use crate::beginning::is_named_otherwise;
 use crate::{Group, Interface, Machine, Pattern, Person, Slash};

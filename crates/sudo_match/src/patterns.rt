@@ -1,10 +1,15 @@
 //! Patterns over bytes, as in glob(7) and sudoers(5), "Wildcards".
 
-ghost use Rattle.std.specs.Prelude.{ℕ, ◌≡◌, false, ◌+◌, ◌^◌, ◌<◌, ◌≤◌, ◌&&◌, ◌||◌, not, true, length, drop, map, slice_get, option_map, IfSome, None, if◌then◌else◌};
+ghost use Rattle.std.specs.Prelude.{ℕ, ◌≡◌, false, ◌+◌, ◌^◌, ◌<◌, ◌≤◌, ◌&&◌, ◌||◌, not, true, length, drop, map};
+ghost use Rattle.std.specs.Prelude.{slice_get, option_map, IfSome, None, if◌then◌else◌};
 ghost use Rattle.std.specs.List.{list_any};
 ghost use Rattle.sudo_match.specs.Class as class;
 ghost use Rattle.sudo_match.specs.Class.{class_holds, class_name, is_between, is_alpha, is_alnum};
-ghost use Rattle.sudo_match.specs.Pattern.{is_byte, is_plain, has, begins, item_holds, class_form, class_end, range_at, item_of, items_after, bracket_after, part_of, is_free, set_holds, part_holds, parts, any_name, fits};
+ghost use Rattle.sudo_match.specs.Pattern.{is_byte, is_plain, has, begins, item_holds, class_form, class_end};
+ghost use Rattle.sudo_match.specs.Pattern.{range_at, items_after, bracket_after, is_free};
+ghost use Rattle.sudo_match.specs.Body.Pattern.{item_of, part_of};
+ghost use Rattle.sudo_match.specs.Pattern.{set_holds, parts, any_name, fits};
+ghost use Rattle.sudo_match.specs.Body.Pattern.{part_holds};
 ghost use Rattle.sudo_match.specs.Body.Closing.{Knows};
 
 use crate::unclosed::Unclosed;
@@ -126,7 +131,7 @@ pub(crate) enum Reading {
 }
 
 impl Reading {
-    ghost use Rattle.sudo_match.specs.Reading.{read_one};
+    ghost use Rattle.sudo_match.specs.Body.Reading.{read_one};
 
     // Returns a character as it is read. `is_after`: it directly follows an unescaped `[`.
     fn read(self, ch: Ch, is_after: bool) -> Ch
@@ -156,7 +161,7 @@ pub(crate) struct Text<'a> {
 }
 
 impl Text<'_> {
-    ghost use Rattle.sudo_match.specs.Reading.{text_of, is_free_byte};
+    ghost use Rattle.sudo_match.specs.Body.Reading.{text_of, is_free_byte};
 
     // Whether there is a byte at this index and a star may fit it.
     fn is_free_at(&self, offset: usize, slash: Slash) -> bool
@@ -254,7 +259,8 @@ pub fn is_special(ch: Ch) -> bool
 }
 
 impl<'a> Chars<'a> {
-    ghost use Rattle.sudo_match.specs.Reading.{seen, read, text_of, follows_bracket};
+    ghost use Rattle.sudo_match.specs.Reading.{seen, read};
+    ghost use Rattle.sudo_match.specs.Body.Reading.{text_of, follows_bracket};
     ghost use Rattle.sudo_match.specs.Body.Shown.{class_of, class_at_start, held_by};
     ghost use Rattle.sudo_match.specs.Body.Step.{StepIs};
     ghost use Rattle.sudo_match.specs.declared.patterns.Reading.TheVariants.{Exact};

@@ -1,7 +1,7 @@
 //! The positions of the groups of users.
 ghost use Rattle.std.specs.Prelude.{◌≡◌, IfOk, slice_get, option_and_then};
 ghost use Rattle.std.specs.Option.{option_copied};
-ghost use Rattle.sudo_match.specs.Indexing.{ArePositions};
+ghost use Rattle.sudo_match.specs.Body.Indexing.{ArePositions};
 ghost use Rattle.sudo_match.specs.KnownRows.{groups_of};
 
 use crate::{Group, Person};

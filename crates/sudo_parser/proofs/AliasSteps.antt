@@ -15,7 +15,7 @@ use Rattle.sudo_grammar.specs.declared.fault.Unsupported.TheVariants as forms
 use Rattle.sudo_parser.specs.declared.stops.ParserStop.TheVariants as stops
 use Rattle.sudo_parser.specs.Body.Stops.{Stops, IsNotNext}
 use Rattle.sudo_grammar.specs.Reading.{reading}
-use Rattle.sudo_parser.proofs.Steps.{stops-here, stops-same}
+use Rattle.sudo_parser.proofs.Steps.{stops_here, stops_same}
 use Rattle.std.proofs.lemmas.Bool.Decides.{nat_tests}
 use Rattle.sudo_grammar.specs.Words.{name_of}
 use Rattle.sudo_grammar.specs.States.{Defines, AliasName, AfterName, AfterItem, Room, at_alias_name, after_item}
@@ -27,14 +27,14 @@ use Rattle.sudo_grammar.proofs.Limits.{reading-stops}
 pub name-missing : (full : Bool) (whole : List Token) → whole ≡ []
     → StopsInName full whole (stops.At (refusals.Syntax wants.AliasName) 0)
 name-missing full whole is = subst (λ x. StopsInName full x (stops.At (refusals.Syntax wants.AliasName) 0)) (sym is)
-    (λ room kind done same. stops-here room (AliasName kind done) [] _ refl refl)
+    (λ room kind done same. stops_here room (AliasName kind done) [] _ refl refl)
 
 name-stops : (full : Bool) (t : Token) (ts : List Token) (r : Refusal)
     → ((room : Room) (kind : Kind) (done : List Definition) → IsFull room kind done full
     → at_alias_name room kind done (name_of t.kind) ≡ None)
     → refused_name (t ∷ ts) ≡ r → StopsInName full (t ∷ ts) (stops.At r (length (t ∷ ts)))
 name-stops full t ts r none is = λ room kind done same.
-    stops-here room (AliasName kind done) (t ∷ ts) r (reading-stops room (AliasName kind done) t ts (none room kind done same)) is
+    stops_here room (AliasName kind done) (t ∷ ts) r (reading-stops room (AliasName kind done) t ts (none room kind done same)) is
 
 -- another token there
 pub name-other : (full : Bool) (whole : List Token) (t : Token) (ts : List Token) → whole ≡ t ∷ ts
@@ -69,17 +69,17 @@ pub definitions-stop : (room : Room) (kind : Kind) (limit : ℕ) (ts : List Toke
     → Stops (stops.At (refusals.Syntax wants.EndOfLine) (length after)) (reading room (AliasName kind []) ts)
 definitions-stop room kind limit ts ds rest d [] full same so_far r fits colon some = absurd (omega arith)
 definitions-stop room kind limit ts ds rest d (t ∷ after) full same so_far r fits colon some =
-    stops-same (stops.At (refusals.Syntax wants.EndOfLine) (length (t ∷ after))) _ _ (so_far room same ∙ r.reads room ds fits)
-    (stops-here room (AfterItem (Defines kind ds d.name) d.members) (t ∷ after) _
+    stops_same (stops.At (refusals.Syntax wants.EndOfLine) (length (t ∷ after))) _ _ (so_far room same ∙ r.reads room ds fits)
+    (stops_here room (AfterItem (Defines kind ds d.name) d.members) (t ∷ after) _
     (reading-stops room (AfterItem (Defines kind ds d.name) d.members) t after
     (list-stuck kind ds d.name d.members t t.kind r.no_more colon))
     (ap (λ b. cond b (refusals.Unsupported forms.CommandOption) (refusals.Syntax wants.EndOfLine)) r.no_option))
 
-not-leb : (a b : ℕ) → ltb a b ≡ not (leb b a)
-not-leb a b = grind (arith, nat_tests)
+not_leb : (a b : ℕ) → ltb a b ≡ not (leb b a)
+not_leb a b = grind (arith, nat_tests)
 
 -- the test of the code
 pub full_by : (room : Room) (kind : Kind) (ds : List Definition) (limit n : ℕ) → room kind ≡ limit → n ≡ length ds
     → IsFull room kind ds (leb limit n)
 full_by room kind ds limit n same is =
-    ap (λ r. ltb (length ds) r) same ∙ not-leb (length ds) limit ∙ ap (λ m. not (leb limit m)) (sym is)
+    ap (λ r. ltb (length ds) r) same ∙ not_leb (length ds) limit ∙ ap (λ m. not (leb limit m)) (sym is)

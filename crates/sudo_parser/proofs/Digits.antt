@@ -1,6 +1,7 @@
 -- Decimal numbers, digit by digit.
 use Rattle.std.proofs.lemmas.List.{drop_all}
-use Rattle.std.proofs.Common.{get_or, drop-cons, add-one, le-ltb, lt-ltb, cond, ◌≡◌, ℕ, ◌+◌, ◌-◌, ◌*◌, ◌≤◌, ◌<◌, List, [], ◌∷◌, length, drop, refl, ap, ◌∙◌, arith, None, Some, true, false, Bool}
+use Rattle.std.proofs.Common.{get_or, drop-cons, add-one, le-ltb, lt-ltb, cond, ◌≡◌, ℕ, ◌+◌, ◌-◌, ◌*◌, ◌≤◌, ◌<◌, List}
+use Rattle.std.proofs.Common.{[], ◌∷◌, length, drop, refl, ap, ◌∙◌, arith, None, Some, true, false, Bool}
 use Rattle.std.specs.List.{list_all}
 use Rattle.sudo_text.specs.Bytes.{is_digit}
 use Rattle.sudo_grammar.specs.Members.{decimal_after, number_of, in_range}
@@ -41,7 +42,8 @@ no_digit (b ∷ bs) value i inside other r =
     r.digits ∙ ap (list_all is_digit) (from_place (b ∷ bs) i inside) ∙ rw other refl in
     ap (λ t. in_range (cond t (Some (decimal_after 0 (b ∷ bs))) None)) none
 
-pub read_all : (bytes : List ℕ) (value i : ℕ) → 0 < length bytes → length bytes ≤ i → IsReadUpTo bytes value i → number_of bytes ≡ Some value
+pub read_all : (bytes : List ℕ) (value i : ℕ) → 0 < length bytes → length bytes ≤ i → IsReadUpTo bytes value i
+    → number_of bytes ≡ Some value
 read_all [] value i some past r = absurd (omega arith)
 read_all (b ∷ bs) value i some past r =
     let end : drop i (b ∷ bs) ≡ [] = drop_all i (b ∷ bs) past in

@@ -27,7 +27,8 @@ pub left_fits : {A : Type 0} (ts front rest : List A) (left : ℕ) → ts ≡ fr
 left_fits ts front rest left whole count = omega (arith, ap length whole, length-append front rest)
 
 -- So many tokens are left as there are.
-pub stop_fits : (room : Room) (ts : List Token) (refusal : Refusal) (left : ℕ) → HasGrammarFault room ts (stops.At refusal left) → left ≤ length ts
+pub stop_fits : (room : Room) (ts : List Token) (refusal : Refusal) (left : ℕ)
+    → HasGrammarFault room ts (stops.At refusal left) → left ≤ length ts
 stop_fits room ts refusal left (stop, (is, (why, count))) = left_fits ts is.front stop.rest left is.whole count
 
 -- A stop is the line's grammar fault.

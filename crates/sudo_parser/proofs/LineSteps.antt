@@ -14,7 +14,7 @@ use Rattle.sudo_parser.specs.declared.stops.ParserStop.{ParserStop}
 use Rattle.sudo_parser.specs.declared.stops.ParserStop.TheVariants as stops
 use Rattle.sudo_parser.specs.Body.Stops.{Stops, GivesEntry}
 use Rattle.sudo_grammar.specs.Reading.{reading}
-use Rattle.sudo_parser.proofs.Steps.{reading-same, stops-here, stops-same}
+use Rattle.sudo_parser.proofs.Steps.{reading-same, stops_here, stops_same}
 use Rattle.sudo_grammar.specs.Openings.{Directive, BadDirective, Other, opening_of, has_host_escape}
 use Rattle.sudo_grammar.specs.States.{Start, Users, Item, Included, State, Room, at_start, step}
 use Rattle.sudo_grammar.specs.Refusals.{refused_start}
@@ -43,7 +43,7 @@ include-escaped room t rest folder hash path left h is count =
     let bad : opening_of t.kind ≡ BadDirective path = ap opening_of is ∙ bad-opening folder hash path h in
     let long : left ≡ length (t ∷ rest) = omega (arith, count) in
     subst (λ x. Stops (stops.At (refusals.Unsupported forms.HostEscape) x) (reading room Start (t ∷ rest))) (sym long)
-    (stops-here room Start (t ∷ rest) _ (reading-stops room Start t rest (ap (λ o. at_start o t) bad))
+    (stops_here room Start (t ∷ rest) _ (reading-stops room Start t rest (ap (λ o. at_start o t) bad))
     (ap (refused_start (t ∷ rest)) bad ∙ bad-refused (t ∷ rest) path h))
 
 pub include-more : (room : Room) (t : Token) (rest : List Token) (folder hash : Bool) (path : List Ch) → (path ≡ [] → ⊥)
@@ -51,17 +51,18 @@ pub include-more : (room : Room) (t : Token) (rest : List Token) (folder hash : 
     → Stops (stops.At (refusals.Syntax wants.EndOfLine) (length rest)) (reading room Start (t ∷ rest))
 include-more room t [] folder hash path some h is more = absurd (more refl)
 include-more room t (u ∷ us) folder hash path some h is more =
-    stops-same (stops.At (refusals.Syntax wants.EndOfLine) (length (u ∷ us))) _ _
+    stops_same (stops.At (refusals.Syntax wants.EndOfLine) (length (u ∷ us))) _ _
     (reading-step room Start (Included folder hash path) t (u ∷ us)
     (ap (λ o. at_start o t) (ap opening_of is ∙ good-opening folder hash path some h)))
-    (stops-here room (Included folder hash path) (u ∷ us) _ refl refl)
+    (stops_here room (Included folder hash path) (u ∷ us) _ refl refl)
 
 -- a line that begins with nothing else begins with a user
 pub rule-read : (room : Room) (whole : List Token) (t : Token) (ts : List Token) → whole ≡ t ∷ ts → opening_of t.kind ≡ Other
     → reading room Start whole ≡ reading room (Item Users 0 []) whole
 rule-read room whole t ts is other = subst (λ x. reading room Start x ≡ reading room (Item Users 0 []) x) (sym is)
     (reading-same room Start (Item Users 0 []) (t ∷ ts) refl (ap (refused_start (t ∷ ts)) other)
-    (λ u us same. ap (λ x. at_start (opening_of x.kind) x) (sym (head-same same)) ∙ ap (λ o. at_start o t) other ∙ ap (first room) (head-same same)))
+    (λ u us same. ap (λ x. at_start (opening_of x.kind) x) (sym (head-same same)) ∙ ap (λ o. at_start o t) other
+    ∙ ap (first room) (head-same same)))
   where
     first : Room → Token → Option State
     first room x = step room (Item Users 0 []) x
@@ -73,11 +74,11 @@ pub rule-gives : (room : Room) (whole : List Token) (t : Token) (ts : List Token
     → opening_of t.kind ≡ Other → GivesEntry r (reading room (Item Users 0 []) whole) → GivesEntry r (reading room Start whole)
 rule-gives room whole t ts r is other h = subst (GivesEntry r) (sym (rule-read room whole t ts is other)) h
 
-pub not-empty : {A : Type 0} (xs : List A) → (length xs == 0) ≡ false → xs ≡ [] → ⊥
-not-empty [] h is = cc
-not-empty (x ∷ xs) h is = cc
+pub not_empty : {A : Type 0} (xs : List A) → (length xs == 0) ≡ false → xs ≡ [] → ⊥
+not_empty [] h is = cc
+not_empty (x ∷ xs) h is = cc
 
-pub not-include : (k : TokenKind) → ((folder hash : Bool) (path : List Ch) → k ≡ tokens.Include folder hash path → ⊥)
+pub not_include : (k : TokenKind) → ((folder hash : Bool) (path : List Ch) → k ≡ tokens.Include folder hash path → ⊥)
     → IsInclude k → ⊥
-not-include (tokens.Include folder hash path) other h = other folder hash path refl
-not-include _ other h = h
+not_include (tokens.Include folder hash path) other h = other folder hash path refl
+not_include _ other h = h

@@ -1,5 +1,6 @@
 -- The steps of a list, as the parser takes them.
-use Rattle.std.proofs.Common.{◌≡◌, ℕ, zero, suc, ◌-◌, ◌≤◌, ◌<◌, List, [], ◌∷◌, ◌++◌, length, refl, ap, sym, ◌∙◌, subst, cond, Bool, true, false, None, Some, Ok, Err, arith, length-append}
+use Rattle.std.proofs.Common.{◌≡◌, ℕ, zero, suc, ◌-◌, ◌≤◌, ◌<◌, List, [], ◌∷◌, ◌++◌, length, refl, ap, sym, ◌∙◌}
+use Rattle.std.proofs.Common.{subst, cond, Bool, true, false, None, Some, Ok, Err, arith, length-append}
 use Rattle.std.specs.Prelude.{slice_get, ◌&&◌}
 use Rattle.std.proofs.lemmas.Option.{slice_get_read}
 use Rattle.std.proofs.Math.Seq.{get_or-append_seam}
@@ -22,23 +23,25 @@ use Rattle.sudo_parser.specs.declared.stops.ParserStop.TheVariants as stops
 use Rattle.sudo_grammar.specs.Words.{plain_word, is_option_name}
 use Rattle.sudo_grammar.specs.Members.{atom_of}
 use Rattle.sudo_grammar.specs.Openings.{is_mark, is_equal_mark, word_passes}
-use Rattle.sudo_grammar.specs.States.{Purpose, Defines, Users, Hosts, RunasUsers, RunasGroups, Binds, kind_for, State, Item, AfterItem, Room, at_item, after_item, member_state}
+use Rattle.sudo_grammar.specs.States.{Purpose, Defines, Users, Hosts, RunasUsers, RunasGroups, Binds, kind_for, State}
+use Rattle.sudo_grammar.specs.States.{Item, AfterItem, Room, at_item, after_item, member_state}
 use Rattle.sudo_grammar.specs.Refusals.{is_option, or_option, last_command, refused_atom, refusal_after_list}
 use Rattle.sudo_grammar.specs.Reading.{reading}
 use Rattle.sudo_parser.specs.Body.Gives.{Declines}
 use Rattle.sudo_parser.specs.Body.Stops.{IsMark, IsNext, IsNotNext}
-use Rattle.sudo_parser.specs.Body.Lists.{ReadsBangs, command_in, IsShut, Takes, stop_of_member, option_begins, StopsAtMember, StopsInItem, ReadsItem, ReadsToItem, ReadsItems, StopsInItems}
-use Rattle.sudo_parser.proofs.Steps.{reading-mark, stops-here, stops-same, IsNext-less}
+use Rattle.sudo_parser.specs.Body.Lists.{ReadsBangs, command_in, IsShut, Takes, stop_of_member, option_begins}
+use Rattle.sudo_parser.specs.Body.Lists.{StopsAtMember, StopsInItem, ReadsItem, ReadsToItem, ReadsItems, StopsInItems}
+use Rattle.sudo_parser.proofs.Steps.{reading-mark, stops_here, stops_same, IsNext-less}
 use Rattle.sudo_grammar.proofs.Complete.{at_item-member, reading-step}
 use Rattle.sudo_grammar.proofs.Limits.{reading-stops}
 
-member_stop-here : (kind : Kind) (bangs : ℕ) (t : Token) (ts : List Token) (e : MemberFault) → (IsMark marks.Bang t → ⊥)
+member_stop_here : (kind : Kind) (bangs : ℕ) (t : Token) (ts : List Token) (e : MemberFault) → (IsMark marks.Bang t → ⊥)
     → Declines e (atom_of kind t.kind) → StopsAtMember kind bangs (t ∷ ts) (stop_of_member kind t ts e (length (t ∷ ts)))
-member_stop-here kind bangs t ts (declines.Refused r) other h = λ room before after takes shut.
-    stops-here room (before bangs) (t ∷ ts) _
+member_stop_here kind bangs t ts (declines.Refused r) other h = λ room before after takes shut.
+    stops_here room (before bangs) (t ∷ ts) _
     (reading-stops room (before bangs) t ts (takes.refuses bangs t r other shut h))
     (takes.refusal bangs (t ∷ ts) ∙ ap (refused_atom kind t ts) h)
-member_stop-here kind bangs t ts declines.Memory other h = λ room before after takes shut. tt
+member_stop_here kind bangs t ts declines.Memory other h = λ room before after takes shut. tt
 
 -- a token that is refused as a member stops the reading
 pub member-member_stop : (kind : Kind) (bangs : ℕ) (whole : List Token) (t : Token) (ts : List Token) (e : MemberFault)
@@ -46,7 +49,7 @@ pub member-member_stop : (kind : Kind) (bangs : ℕ) (whole : List Token) (t : T
     → StopsAtMember kind bangs whole (stop_of_member kind t ts e (length whole))
 member-member_stop kind bangs whole t ts e is other h =
     subst (λ x. StopsAtMember kind bangs x (stop_of_member kind t ts e (length x))) (sym is)
-    (member_stop-here kind bangs t ts e (subst (IsNotNext marks.Bang) is other) h)
+    (member_stop_here kind bangs t ts e (subst (IsNotNext marks.Bang) is other) h)
 
 option-same : (kind : Kind) (m : Member) (ts : List Token) → is_option (command_in kind m) ts ≡ option_begins kind m.token ts
 option-same kinds.User m ts = refl
@@ -86,7 +89,7 @@ shut-after kind room before after ts (suc n) (t ∷ rest) takes none shut = λ i
 pub item-stops : (kind : Kind) (ts : List Token) (count : ℕ) (rest : List Token) (e : ParserStop)
     → ReadsBangs ts count rest → StopsAtMember kind count rest e → StopsInItem kind ts e
 item-stops kind ts count rest e r h = λ room before after takes shut.
-    stops-same e _ _ (r.reads room before takes.counts)
+    stops_same e _ _ (r.reads room before takes.counts)
     (h room before after takes (shut-after kind room before after ts count rest takes r.none shut))
 
 -- what stands there is no exclamation mark and no member
@@ -124,12 +127,12 @@ and-right : (a b : Bool) → a && b ≡ true → b ≡ true
 and-right true b h = h
 and-right false b h = cc
 
-equal_mark-is : (m : Mark) → is_equal_mark marks.Equals m ≡ true → m ≡ marks.Equals
-equal_mark-is marks.Equals h = refl
-equal_mark-is _ h = cc
+equal_mark_is : (m : Mark) → is_equal_mark marks.Equals m ≡ true → m ≡ marks.Equals
+equal_mark_is marks.Equals h = refl
+equal_mark_is _ h = cc
 
 mark-is : (k : TokenKind) → is_mark marks.Equals k ≡ true → k ≡ tokens.Mark marks.Equals
-mark-is (tokens.Mark m) h = ap tokens.Mark (equal_mark-is m h)
+mark-is (tokens.Mark m) h = ap tokens.Mark (equal_mark_is m h)
 mark-is _ h = cc
 
 -- what follows the name of an option is an equals sign
@@ -140,14 +143,14 @@ pub option-some : (m : Member) → is_option (Some m) [] ≡ true → ⊥
 option-some m h = and-false (word_passes is_option_name (plain_word m.token.kind)) h
 
 -- no list of commands goes on with an equals sign
-commands-stuck : (p : Purpose) (ms : List Member) (t : Token) → kind_for p ≡ kinds.Cmnd
+commands_stuck : (p : Purpose) (ms : List Member) (t : Token) → kind_for p ≡ kinds.Cmnd
     → after_item p ms t (tokens.Mark marks.Equals) ≡ None
-commands-stuck (Defines kind done name) ms t h = refl
-commands-stuck Users ms t h = cc
-commands-stuck (Hosts users sections) ms t h = cc
-commands-stuck (RunasUsers granting) ms t h = cc
-commands-stuck (RunasGroups granting users) ms t h = cc
-commands-stuck (Binds kind) ms t h = refl
+commands_stuck (Defines kind done name) ms t h = refl
+commands_stuck Users ms t h = cc
+commands_stuck (Hosts users sections) ms t h = cc
+commands_stuck (RunasUsers granting) ms t h = cc
+commands_stuck (RunasGroups granting users) ms t h = cc
+commands_stuck (Binds kind) ms t h = refl
 
 option-kind : (kind : Kind) (m : Member) (ts : List Token) → is_option (command_in kind m) ts ≡ true → kind ≡ kinds.Cmnd
 option-kind kinds.User m ts h = cc
@@ -169,9 +172,14 @@ option-stuck room p d m [] h = absurd (option-some m (option-in (kind_for p) m [
 option-stuck room p d m (t ∷ ts) h =
     let equals : IsMark marks.Equals t = option-equals m t ts (option-in (kind_for p) m (t ∷ ts) h) in
     reading-stops room (AfterItem p (d ++ m ∷ [])) t ts
-    (ap (after_item p (d ++ m ∷ []) t) equals ∙ commands-stuck p (d ++ m ∷ []) t (option-kind (kind_for p) m (t ∷ ts) h))
-    ∙ ap (λ o. Err (record { rest = t ∷ ts; refusal = or_option o (t ∷ ts) (refusal_after_list p (t ∷ ts)) })) (last_command-snoc (kind_for p) d m)
-    ∙ ap (λ b. Err (record { rest = t ∷ ts; refusal = cond b (refusals.Unsupported forms.CommandOption) (refusal_after_list p (t ∷ ts)) })) h
+    (ap (after_item p (d ++ m ∷ []) t) equals ∙ commands_stuck p (d ++ m ∷ []) t (option-kind (kind_for p) m (t ∷ ts) h))
+    ∙ ap (λ o. Err (record { rest = t ∷ ts; refusal = or_option o (t ∷ ts) (refusal_after_list p (t ∷ ts)) }))
+    (last_command-snoc (kind_for p) d m)
+    ∙ ap (λ b. Err (record {
+      rest = t ∷ ts;
+      refusal = cond b (refusals.Unsupported forms.CommandOption)
+          (refusal_after_list p (t ∷ ts));
+    })) h
 
 -- the states of a list's item
 pub item-takes : (room : Room) (p : Purpose) (d : List Member) (kind : Kind) → kind_for p ≡ kind
@@ -220,7 +228,7 @@ items-end kind ts ms rest m after so_far r no_longer other = record {
 pub items-stop : (kind : Kind) (ts : List Token) (ms : List Member) (rest : List Token) (e : ParserStop)
     → ReadsToItem kind ts ms rest → StopsInItem kind rest e → StopsInItems kind ts e
 items-stop kind ts ms rest e so_far h = λ room p same.
-    stops-same e _ _ (so_far room p same)
+    stops_same e _ _ (so_far room p same)
     (h room (λ n. Item p n ms) (λ m. AfterItem p (ms ++ m ∷ [])) (item-takes room p ms kind same) (list-shut room p ms rest))
 
 pub next-less : (kind : Kind) (ts : List Token) (m : Member) (after next : List Token) (k : Mark)

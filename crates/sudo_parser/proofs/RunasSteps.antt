@@ -12,10 +12,12 @@ use Rattle.sudo_parser.specs.declared.stops.ParserStop.{ParserStop}
 use Rattle.sudo_parser.specs.declared.stops.ParserStop.TheVariants as stops
 use Rattle.sudo_parser.specs.Body.Stops.{Stops, IsMark, IsNext, IsNotNext}
 use Rattle.sudo_grammar.specs.Reading.{reading}
-use Rattle.sudo_parser.proofs.Steps.{reading-mark, reading-same, stops-same, stops-always, not-head, IsNext-less}
-use Rattle.sudo_grammar.specs.States.{Granting, RunasUsers, RunasGroups, RunasStart, GroupsStart, Item, AfterItem, Room, after_runas, at_runas, at_groups, at_item, after_item, step}
+use Rattle.sudo_parser.proofs.Steps.{reading-mark, reading-same, stops_same, stops_always, not_head, IsNext-less}
+use Rattle.sudo_grammar.specs.States.{Granting, RunasUsers, RunasGroups, RunasStart, GroupsStart, Item, AfterItem}
+use Rattle.sudo_grammar.specs.States.{Room, after_runas, at_runas, at_groups, at_item, after_item, step}
 use Rattle.sudo_parser.specs.Body.Lists.{StopsInItems}
-use Rattle.sudo_parser.specs.Body.Runas.{users_state, EndsUsers, ReadsUsers, StopsInUsers, groups_state, EndsGroups, ReadsGroups, StopsInGroups, ReadsLists}
+use Rattle.sudo_parser.specs.Body.Runas.{users_state, EndsUsers, ReadsUsers, StopsInUsers, groups_state, EndsGroups}
+use Rattle.sudo_parser.specs.Body.Runas.{ReadsGroups, StopsInGroups, ReadsLists}
 
 users-first : (g : Granting) (t : Token) (k : TokenKind) → (k ≡ tokens.Mark marks.Colon → ⊥)
     → (k ≡ tokens.Mark marks.RightParen → ⊥) → at_runas g t k ≡ at_item (RunasUsers g) 0 [] t k
@@ -23,11 +25,11 @@ users-first g t (tokens.Mark marks.Colon) colon paren = absurd (colon refl)
 users-first g t (tokens.Mark marks.RightParen) colon paren = absurd (paren refl)
 users-first g t _ colon paren = refl
 
-pub users-stop : (ts : List Token) (e : ParserStop) → IsNotNext marks.Colon ts → IsNotNext marks.RightParen ts
+pub users_stop : (ts : List Token) (e : ParserStop) → IsNotNext marks.Colon ts → IsNotNext marks.RightParen ts
     → StopsInItems kinds.Runas ts e → StopsInUsers ts e
-users-stop ts e colon paren h = λ room g.
-    stops-same e _ _ (reading-same room (RunasStart g) (Item (RunasUsers g) 0 []) ts refl refl
-    (λ t us is. users-first g t t.kind (not-head marks.Colon ts t us is colon) (not-head marks.RightParen ts t us is paren)))
+users_stop ts e colon paren h = λ room g.
+    stops_same e _ _ (reading-same room (RunasStart g) (Item (RunasUsers g) 0 []) ts refl refl
+    (λ t us is. users-first g t t.kind (not_head marks.Colon ts t us is colon) (not_head marks.RightParen ts t us is paren)))
     (h room (RunasUsers g) refl)
 
 groups-first : (g : Granting) (us : Option (List Member)) (t : Token) (k : TokenKind)
@@ -38,8 +40,8 @@ groups-first g us t _ paren = refl
 pub groups-stop : (ts : List Token) (e : ParserStop) → IsNotNext marks.RightParen ts → StopsInItems kinds.Runas ts e
     → StopsInGroups ts e
 groups-stop ts e paren h = λ room g us.
-    stops-same e _ _ (reading-same room (GroupsStart g us) (Item (RunasGroups g us) 0 []) ts refl refl
-    (λ t rest is. groups-first g us t t.kind (not-head marks.RightParen ts t rest is paren)))
+    stops_same e _ _ (reading-same room (GroupsStart g us) (Item (RunasGroups g us) 0 []) ts refl refl
+    (λ t rest is. groups-first g us t t.kind (not_head marks.RightParen ts t rest is paren)))
     (h room (RunasGroups g us) refl)
 
 users-close : (room : Room) (g : Granting) (us : Option (List Member)) (t : Token) → IsMark marks.RightParen t
@@ -63,9 +65,9 @@ users-unclosed : (room : Room) (g : Granting) (us : Option (List Member)) (rest 
     → IsNotNext marks.Colon rest → IsNotNext marks.RightParen rest
     → Stops (stops.At (refusals.Syntax wants.RightParen) (length rest)) (reading room (users_state g us) rest)
 users-unclosed room g None rest ends colon paren = absurd (ends colon paren)
-users-unclosed room g (Some ms) rest ends colon paren = stops-always room (AfterItem (RunasUsers g) ms) rest _ refl
-    (λ t us is. users-stuck g ms t t.kind (not-head marks.Comma rest t us is ends) (not-head marks.Colon rest t us is colon)
-    (not-head marks.RightParen rest t us is paren)) refl
+users-unclosed room g (Some ms) rest ends colon paren = stops_always room (AfterItem (RunasUsers g) ms) rest _ refl
+    (λ t us is. users-stuck g ms t t.kind (not_head marks.Comma rest t us is ends) (not_head marks.Colon rest t us is colon)
+    (not_head marks.RightParen rest t us is paren)) refl
 
 -- users without groups
 pub lists-users : (ts : List Token) (us : Option (List Member)) (rest : List Token) → ReadsUsers ts us rest
@@ -74,7 +76,7 @@ lists-users ts us rest r colon = record {
   no_longer = r.no_longer;
   closes = λ after h room g. r.reads room g
       ∙ reading-mark room (users_state g us) (after_runas g us None) marks.RightParen rest after (λ t is. users-close room g us t is) h;
-  unclosed = λ paren room g. stops-same (stops.At (refusals.Syntax wants.RightParen) (length rest)) _ _ (r.reads room g)
+  unclosed = λ paren room g. stops_same (stops.At (refusals.Syntax wants.RightParen) (length rest)) _ _ (r.reads room g)
       (users-unclosed room g us rest r.ends colon paren);
 }
 
@@ -93,9 +95,9 @@ groups-unclosed : (room : Room) (g : Granting) (us gs : Option (List Member)) (r
     → IsNotNext marks.RightParen rest
     → Stops (stops.At (refusals.Syntax wants.RightParen) (length rest)) (reading room (groups_state g us gs) rest)
 groups-unclosed room g us None rest ends paren = absurd (ends paren)
-groups-unclosed room g us (Some ms) rest ends paren = stops-always room (AfterItem (RunasGroups g us) ms) rest _ refl
-    (λ t more is. groups-stuck g us ms t t.kind (not-head marks.Comma rest t more is ends)
-    (not-head marks.RightParen rest t more is paren)) refl
+groups-unclosed room g us (Some ms) rest ends paren = stops_always room (AfterItem (RunasGroups g us) ms) rest _ refl
+    (λ t more is. groups-stuck g us ms t t.kind (not_head marks.Comma rest t more is ends)
+    (not_head marks.RightParen rest t more is paren)) refl
 
 -- the users and the colon after them
 users-read : (ts : List Token) (us : Option (List Member)) (rest listed : List Token) → ReadsUsers ts us rest
@@ -110,12 +112,13 @@ pub lists-groups : (ts : List Token) (us gs : Option (List Member)) (rest listed
 lists-groups ts us gs rest listed after r colon s = record {
   no_longer = omega (arith, r.no_longer, IsNext-less marks.Colon rest listed colon, s.no_longer);
   closes = λ end h room g. users-read ts us rest listed r colon room g ∙ s.reads room g us
-      ∙ reading-mark room (groups_state g us gs) (after_runas g us gs) marks.RightParen after end (λ t is. groups-close room g us gs t is) h;
-  unclosed = λ paren room g. stops-same (stops.At (refusals.Syntax wants.RightParen) (length after)) _ _
+      ∙ reading-mark room (groups_state g us gs) (after_runas g us gs) marks.RightParen after end
+      (λ t is. groups-close room g us gs t is) h;
+  unclosed = λ paren room g. stops_same (stops.At (refusals.Syntax wants.RightParen) (length after)) _ _
       (users-read ts us rest listed r colon room g ∙ s.reads room g us) (groups-unclosed room g us gs after s.ends paren);
 }
 
 pub lists-stop : (ts : List Token) (us : Option (List Member)) (rest listed : List Token) (e : ParserStop) → ReadsUsers ts us rest
     → IsNext marks.Colon rest listed → StopsInGroups listed e → StopsInUsers ts e
 lists-stop ts us rest listed e r colon h = λ room g.
-    stops-same e _ _ (users-read ts us rest listed r colon room g) (h room g us)
+    stops_same e _ _ (users-read ts us rest listed r colon room g) (h room g us)

@@ -25,24 +25,25 @@ reading-mark room state next m [] rest h is = absurd is
 reading-mark room state next m (t ∷ ts) rest h is = reading-step room state next t ts (h t is.0) ∙ ap (reading room next) is.1
 
 -- the stop at a state
-pub stops-here : (room : Room) (state : State) (ts : List Token) (r : Refusal) → reading room state ts ≡ Err (stop_at state ts)
+pub stops_here : (room : Room) (state : State) (ts : List Token) (r : Refusal) → reading room state ts ≡ Err (stop_at state ts)
     → refused_at state ts ≡ r → Stops (stops.At r (length ts)) (reading room state ts)
-stops-here room state ts r h is = (stop_at state ts, (h, (is, refl)))
+stops_here room state ts r h is = (stop_at state ts, (h, (is, refl)))
 
 -- a stop is the same where the reading is
-pub stops-same : (e : ParserStop) (a b : Result EntryBody Stop) → a ≡ b → Stops e b → Stops e a
-stops-same e a b same h = subst (λ x. Stops e x) (sym same) h
+pub stops_same : (e : ParserStop) (a b : Result EntryBody Stop) → a ≡ b → Stops e b → Stops e a
+stops_same e a b same h = subst (λ x. Stops e x) (sym same) h
 
 -- where no token leads on and none may be missing, the reading stops
-pub stops-always : (room : Room) (state : State) (ts : List Token) (r : Refusal) → entry_after_list state ≡ None
+pub stops_always : (room : Room) (state : State) (ts : List Token) (r : Refusal) → entry_after_list state ≡ None
     → ((t : Token) (us : List Token) → ts ≡ t ∷ us → step room state t ≡ None) → refused_at state ts ≡ r
     → Stops (stops.At r (length ts)) (reading room state ts)
-stops-always room state [] r last none is = stops-here room state [] r (reading-missing room state last) is
-stops-always room state (t ∷ ts) r last none is =
-    stops-here room state (t ∷ ts) r (reading-stops room state t ts (none t ts refl)) is
+stops_always room state [] r last none is = stops_here room state [] r (reading-missing room state last) is
+stops_always room state (t ∷ ts) r last none is =
+    stops_here room state (t ∷ ts) r (reading-stops room state t ts (none t ts refl)) is
 
 -- a state whose steps are another's reads as that one
-pub reading-same : (room : Room) (p q : State) (ts : List Token) → entry_after_list p ≡ entry_after_list q → refused_at p ts ≡ refused_at q ts
+pub reading-same : (room : Room) (p q : State) (ts : List Token) → entry_after_list p ≡ entry_after_list q
+    → refused_at p ts ≡ refused_at q ts
     → ((t : Token) (us : List Token) → ts ≡ t ∷ us → step room p t ≡ step room q t) → reading room p ts ≡ reading room q ts
 reading-same room p q [] last refused same = go (entry_after_list q) last
   where
@@ -58,8 +59,8 @@ reading-same room p q (t ∷ ts) last refused same = go (step room q t) refl (sa
     go (Some next) is h = reading-step room p next t ts (h ∙ is) ∙ sym (reading-step room q next t ts is)
 
 -- what does not come next is not the first token
-pub not-head : (m : Mark) (ts : List Token) (t : Token) (us : List Token) → ts ≡ t ∷ us → IsNotNext m ts → IsMark m t → ⊥
-not-head m ts t us is h = subst (IsNotNext m) is h
+pub not_head : (m : Mark) (ts : List Token) (t : Token) (us : List Token) → ts ≡ t ∷ us → IsNotNext m ts → IsMark m t → ⊥
+not_head m ts t us is h = subst (IsNotNext m) is h
 
 pub IsNext-less : (m : Mark) (ts rest : List Token) → IsNext m ts rest → length rest < length ts
 IsNext-less m [] rest h = absurd h

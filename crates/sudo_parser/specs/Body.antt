@@ -1,4 +1,4 @@
--- Definitions that only the proofs of bodies need: no contract of a public function cites them.
+-- Definitions that only the proofs of bodies use: no contract of a public function cites them.
 pub mod Aliases
 pub mod Defaults
 pub mod Faults
@@ -9,3 +9,5 @@ pub mod Rules
 pub mod Runas
 pub mod Stops
 pub mod Unread
+pub mod Limits
+pub mod Parsed

@@ -1,18 +1,9 @@
 -- The limit on definitions.
 use Rattle.std.specs.Prelude.{ℕ, ◌-◌, length, if◌then◌else◌}
 use Rattle.sudo_grammar.specs.declared.kind.Kind.{Kind}
-use Rattle.sudo_grammar.specs.declared.kind.Kind.TheVariants as kinds
 use Rattle.sudo_grammar.specs.declared.policy.EntryBody.{EntryBody}
 use Rattle.sudo_grammar.specs.declared.policy.EntryBody.TheVariants as bodies
 use Rattle.sudo_grammar.specs.Kinds.{same_kind}
-use Rattle.sudo_parser.specs.declared.room.Room.{Room}
-
--- the number of definitions of a kind that are still allowed
-abbrev pub room_of : Room → Kind → ℕ
-room_of room kinds.User = room.user
-room_of room kinds.Runas = room.runas
-room_of room kinds.Host = room.host
-room_of room kinds.Cmnd = room.cmnd
 
 -- the number of aliases of a kind that a line defines
 abbrev pub definition_count : Kind → EntryBody → ℕ

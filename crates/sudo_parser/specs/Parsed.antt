@@ -2,13 +2,13 @@
 --
 -- Each line's tokens write its entry; a line without tokens has none. The first faulty line decides: a fault of its
 -- text comes first, and then its grammar fault.
-use Rattle.std.specs.Prelude.{◌≡◌, ℕ, ◌+◌, ◌-◌, Bool, true, nat_le, List, [], ◌∷◌, ◌++◌, length, Option, None, Some, Result, Ok, Err, ◌⊎◌, if◌then◌else◌}
+use Rattle.std.specs.Prelude.{◌≡◌, ℕ, ◌+◌, ◌-◌, Bool, true, nat_le, List, [], ◌∷◌, ◌++◌, length, Option, None, Some}
+use Rattle.std.specs.Prelude.{◌⊎◌, if◌then◌else◌}
 use Rattle.std.specs.List.{sum_by}
 use Rattle.sudo_text.specs.declared.token.Token.{Token}
 use Rattle.sudo_text.specs.declared.line.Line.{Line}
 use Rattle.sudo_text.specs.declared.line.Place.{Place}
 use Rattle.sudo_text.specs.declared.fault.TextFault.{TextFault}
-use Rattle.sudo_text.specs.declared.fault.TextFault.TheVariants as texts
 use Rattle.sudo_text.specs.Tokens.{spells, LeftmostFault}
 use Rattle.sudo_grammar.specs.declared.policy.Entry.{Entry}
 use Rattle.sudo_grammar.specs.declared.policy.EntryBody.{EntryBody}
@@ -66,11 +66,6 @@ fault_at place col refusals.NotCommand = faults.NotCommand place col
 fault_at place col refusals.BadNumber = faults.BadNumber place col
 fault_at place col refusals.TooMany = faults.TooMany place
 
--- a fault of a text, as one of a policy
-abbrev pub text_fault : TextFault → ParseFault
-text_fault texts.Memory = faults.Memory
-text_fault fault = faults.Text fault
-
 -- the line's text has this leftmost fault
 pub record IsTextFault (line : Line) (fault : ParseFault) : Type 0 where
   pub text : TextFault
@@ -94,20 +89,12 @@ abbrev pub IsFirstFaultAfter : List Entry → List Line → ParseFault → Type 
 IsFirstFaultAfter before [] fault = ⊥
 IsFirstFaultAfter before (line ∷ lines) fault =
     IsLineFault (room_after before) line fault
-    ⊎ ((line_entry : Option EntryBody) × IsEntryOf (room_after before) line line_entry × IsFirstFaultAfter (before ++ entry_of line line_entry) lines fault)
+    ⊎ ((line_entry : Option EntryBody) × IsEntryOf (room_after before) line line_entry
+    × IsFirstFaultAfter (before ++ entry_of line line_entry) lines fault)
 
 -- the fault of a file's lines
 abbrev pub IsFirstFault : List Line → ParseFault → Type 0
 IsFirstFault lines fault = IsFirstFaultAfter [] lines fault
-
--- the result is this value, or allocation failed
-abbrev pub GivesOr : {X : Type 0} → X → Result X ParseFault → Type 0
-GivesOr x (Ok given) = given ≡ x
-GivesOr x (Err fault) = fault ≡ faults.Memory
-
--- a line's entry, if any, is appended to those before
-abbrev pub Adds : List Entry → Line → List Entry → Type 0
-Adds before line entries = (line_entry : Option EntryBody) × IsEntryOf (room_after before) line line_entry × (entries ≡ before ++ entry_of line line_entry)
 
 -- there is room for the definitions of an entry
 abbrev pub fits_room : Room → EntryBody → Bool

@@ -4,7 +4,9 @@ ghost use Rattle.sudo_grammar.specs.Openings.{is_direct, kind_of_mark, operator_
 ghost use Rattle.sudo_grammar.specs.States.{Room, DefaultsStart, bound_to};
 ghost use Rattle.sudo_grammar.specs.Reading.{reading};
 ghost use Rattle.sudo_parser.specs.Body.Stops.{GivesEntry};
-ghost use Rattle.sudo_parser.specs.Body.Defaults.{ReadsBinding, StopsInBinding, IsWordNext, IsWordMissing, IsOperatorNext, IsNoOperatorNext, ReadsParameter, StopsInParameter, ReadsParameters, StopsInParameters};
+ghost use Rattle.sudo_parser.specs.Body.Defaults.{ReadsBinding, StopsInBinding, IsWordNext, IsWordMissing};
+ghost use Rattle.sudo_parser.specs.Body.Defaults.{IsOperatorNext, IsNoOperatorNext, ReadsParameter, StopsInParameter};
+ghost use Rattle.sudo_parser.specs.Body.Defaults.{ReadsParameters, StopsInParameters};
 ghost use Rattle.sudo_parser.specs.Body.Unread.{tokens_left};
 
 use crate::lists::members;

@@ -12,7 +12,7 @@ ghost use Rattle.sudo_grammar.specs.Faults.{WritesWithin};
 ghost use Rattle.sudo_grammar.specs.declared.policy.EntryBody.{EntryBody};
 ghost use Rattle.sudo_parser.specs.Body.Stops.{GivesEntry};
 ghost use Rattle.sudo_parser.specs.Body.Openings.{opening_view, IsInclude};
-ghost use Rattle.sudo_parser.specs.Limits.{room_of};
+ghost use Rattle.sudo_parser.specs.Body.Limits.{room_of};
 ghost use Rattle.sudo_parser.specs.Body.Faults.{HasGrammarFault};
 ghost use Rattle.sudo_parser.specs.Body.Unread.{tokens_left};
 

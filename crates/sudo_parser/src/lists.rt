@@ -2,7 +2,8 @@
 ghost use Rattle.std.specs.Prelude.{◌≡◌, ◌^◌, ◌<◌, length, IfOk, IfErr};
 ghost use Rattle.sudo_grammar.specs.Refusals as refusals;
 ghost use Rattle.sudo_parser.specs.Body.Stops.{IsNotNext};
-ghost use Rattle.sudo_parser.specs.Body.Lists.{option_begins, IsTaken, StopsAtMember, ReadsItem, StopsInItem, ReadsItems, StopsInItems, stop_of_member};
+ghost use Rattle.sudo_parser.specs.Body.Lists.{option_begins, IsTaken, StopsAtMember, ReadsItem, StopsInItem};
+ghost use Rattle.sudo_parser.specs.Body.Lists.{ReadsItems, StopsInItems, stop_of_member};
 ghost use Rattle.sudo_parser.specs.Body.Unread.{tokens_left};
 
 use crate::likely::{empty_list, likely_members};

@@ -2,7 +2,9 @@
 ghost use Rattle.std.specs.Prelude.{◌≡◌, IfOk, ◌==◌, false, None};
 ghost use Rattle.std.specs.List.{list_any};
 ghost use Rattle.sudo_grammar.specs.Words.{bytes_of};
-ghost use Rattle.sudo_grammar.specs.Members.{atom_of, expected_in, other_atom, user_of, group_of, cut_at, address_of, network_of, is_slash, host_of, unquoted_host_of, plain_host_of, command_of, no_command, begins_with_caret, ends_in_dollar};
+ghost use Rattle.sudo_grammar.specs.Members.{atom_of, expected_in, other_atom, user_of, group_of, cut_at, address_of};
+ghost use Rattle.sudo_grammar.specs.Members.{network_of, is_slash, host_of, unquoted_host_of, plain_host_of};
+ghost use Rattle.sudo_grammar.specs.Members.{command_of, no_command, begins_with_caret, ends_in_dollar};
 ghost use Rattle.sudo_parser.specs.Body.Gives.{AgreesWith};
 ghost use Rattle.sudo_grammar.specs.Members;
 

@@ -3,7 +3,8 @@ ghost use Rattle.std.specs.Prelude.{◌≡◌, ◌<◌, length, position, IfSome
 ghost use Rattle.std.specs.Option.{option_map};
 ghost use Rattle.std.specs.List.{list_all};
 ghost use Rattle.sudo_text.specs.Bytes.{is_digit};
-ghost use Rattle.sudo_grammar.specs.Members.{number_of, cut_at, dotted_groups, address_of, mask_in, address_of_numbers, is_octet, octet_of, mask_of_bits};
+ghost use Rattle.sudo_grammar.specs.Members.{number_of, cut_at, dotted_groups, address_of, mask_in};
+ghost use Rattle.sudo_grammar.specs.Members.{address_of_numbers, is_octet, octet_of, mask_of_bits};
 
 use sudo_grammar::Refusal;
 

@@ -1,11 +1,15 @@
 //! The parsing of a file's lines into its entries.
-ghost use Rattle.std.specs.Prelude.{◌≡◌, ◌≢◌, ◌≤◌, ◌<◌, ◌-◌, ◌++◌, List, Option, [], length, drop, IfOk, IfErr, OnOk, MatchResult, All, true};
+ghost use Rattle.std.specs.Prelude.{◌≡◌, ◌≢◌, ◌≤◌, ◌<◌, ◌-◌, ◌++◌, List, Option, [], length, drop, IfOk, IfErr, OnOk};
+ghost use Rattle.std.specs.Prelude.{MatchResult, All, true};
 ghost use Rattle.sudo_text.specs.Tokens.{spells};
 ghost use Rattle.sudo_grammar.specs.declared.policy.Entry.{Entry as AnEntry};
 ghost use Rattle.sudo_grammar.specs.declared.policy.EntryBody.{EntryBody as ABody};
-ghost use Rattle.sudo_parser.specs.Limits.{room_of};
+ghost use Rattle.sudo_parser.specs.Body.Limits.{room_of};
 ghost use Rattle.sudo_parser.specs.Parsed as spec;
-ghost use Rattle.sudo_parser.specs.Parsed.{room_after, IsEntryOf, entry_of, AreEntries, IsLineFault, IsFirstFault, GivesOr, Adds, over_limit};
+ghost use Rattle.sudo_parser.specs.Body.Parsed.{text_fault as parsed_text_fault};
+ghost use Rattle.sudo_parser.specs.Parsed.{room_after, IsEntryOf, entry_of, AreEntries, IsLineFault, IsFirstFault};
+ghost use Rattle.sudo_parser.specs.Parsed.{over_limit};
+ghost use Rattle.sudo_parser.specs.Body.Parsed.{GivesOr, Adds};
 
 use crate::line::entry;
 use crate::room::Room;
@@ -17,7 +21,7 @@ use sudo_text::{Line, Place, Seq, TEXT_LIMIT, TextFault, Token, tokens};
 
 // Returns the fault of a text as a fault of a policy.
 fn text_fault(fault: TextFault) -> ParseFault
-    ensures { result ≡ spec.text_fault fault }
+    ensures { result ≡ parsed_text_fault fault }
 {
     match fault {
         TextFault::Memory => ParseFault::Memory,

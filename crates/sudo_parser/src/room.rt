@@ -18,7 +18,8 @@ pub(crate) struct Room {
 impl Room {
     ghost use Rattle.std.specs.Prelude.{[], IsTrue, ◌≤◌, ◌-◌, if◌then◌else◌};
     ghost use Rattle.sudo_grammar.specs.Kinds.{same_kind};
-    ghost use Rattle.sudo_parser.specs.Limits.{room_of, less};
+    ghost use Rattle.sudo_parser.specs.Limits.{less};
+    ghost use Rattle.sudo_parser.specs.Body.Limits.{room_of};
     ghost use Rattle.sudo_parser.specs.Parsed.{room_after, fits_room};
     ghost use Rattle.sudo_grammar.specs.Faults.{HasRoom};
 

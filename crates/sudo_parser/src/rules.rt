@@ -3,7 +3,9 @@ ghost use Rattle.std.specs.Prelude.{◌≡◌, ◌^◌, ◌<◌, ◌≤◌, [], 
 ghost use Rattle.sudo_grammar.specs.States.{Room, Users, Item};
 ghost use Rattle.sudo_grammar.specs.Reading.{reading};
 ghost use Rattle.sudo_parser.specs.Body.Stops.{GivesEntry};
-ghost use Rattle.sudo_parser.specs.Body.Rules.{IsTagNext, IsNoTagNext, ReadsTags, ReadsSpec, StopsInSpec, ReadsSpecs, StopsInSpecs, ReadsSection, StopsInSection, ReadsSections, StopsInSections};
+ghost use Rattle.sudo_parser.specs.Body.Rules.{IsTagNext, IsNoTagNext, ReadsTags, ReadsSpec, StopsInSpec, ReadsSpecs};
+ghost use Rattle.sudo_parser.specs.Body.Rules.{StopsInSpecs, ReadsSection, StopsInSection, ReadsSections};
+ghost use Rattle.sudo_parser.specs.Body.Rules.{StopsInSections};
 ghost use Rattle.sudo_parser.specs.Body.Unread.{tokens_left};
 
 use crate::likely::{empty_list, likely_commands, likely_parts};

@@ -2,7 +2,9 @@
 ghost use Rattle.std.specs.Prelude.{◌≡◌, ◌++◌, ◌∷◌, ◌<◌, ◌||◌, ◌^◌, [], OnOk, IfOk, codes, decimal, true};
 ghost use Rattle.std.specs.Str.{bytes_eq};
 ghost use Rattle.sudo_grammar.specs.Words.{is_name};
-ghost use Rattle.sudo_parser.specs.Texts.{hex_digit, needs_backslash, is_ascii_control, byte_text, name_text, first_text, user_text, ch_text, chars_text, quoted_ch_text, host_text, address_text, command_text, atom_text, signed_text};
+ghost use Rattle.sudo_parser.specs.Texts.{hex_digit, needs_backslash, is_ascii_control, byte_text, name_text};
+ghost use Rattle.sudo_parser.specs.Texts.{first_text, user_text, ch_text, chars_text, quoted_ch_text, host_text};
+ghost use Rattle.sudo_parser.specs.Texts.{address_text, command_text, atom_text, signed_text};
 
 use crate::words::{ALL, is_alias_name};
 use itoa::Buffer;

@@ -9,7 +9,8 @@ use Rattle.sudo_policy.specs.Found.{Marks, AreFindings, found_by}
 use Rattle.sudo_policy.proofs.StateLemmas.{get_within, within_get}
 
 -- two lists with the same elements
-pub same_lists : {X : Type 0} (xs ys : List X) → length xs ≡ length ys → ((i : ℕ) (x y : X) → slice_get xs i ≡ Some x → slice_get ys i ≡ Some y → x ≡ y) → xs ≡ ys
+pub same_lists : {X : Type 0} (xs ys : List X) → length xs ≡ length ys → ((i : ℕ) (x y : X) → slice_get xs i ≡ Some x
+    → slice_get ys i ≡ Some y → x ≡ y) → xs ≡ ys
 same_lists [] [] long same = refl
 same_lists [] (y ∷ ys) long same = absurd (omega (arith, long))
 same_lists (x ∷ xs) [] long same = absurd (omega (arith, long))
@@ -50,7 +51,8 @@ AreFindings-same p f g a b =
     ∙ sym b.list
 
 -- nothing is picked where one of the lists is empty
-pub none_picked : {X Y : Type 0} (f : X → Y) (marks : List Bool) (xs : List X) → (length xs ≡ 0) ⊎ (length marks ≡ 0) → items_where_true marks (map f xs) ≡ []
+pub none_picked : {X Y : Type 0} (f : X → Y) (marks : List Bool) (xs : List X) → (length xs ≡ 0) ⊎ (length marks ≡ 0)
+    → items_where_true marks (map f xs) ≡ []
 none_picked f [] xs h = refl
 none_picked f (m ∷ ms) [] h = refl
 none_picked f (m ∷ ms) (x ∷ xs) h = elim h [ inl e ↦ absurd (omega (arith, e)) | inr e ↦ absurd (omega (arith, e)) ]

@@ -5,7 +5,8 @@ use Rattle.sudo_grammar.specs.declared.kind.Kind.{Kind}
 use Rattle.sudo_policy.specs.declared.graph.Measure.{Measure}
 use Rattle.sudo_grammar.specs.declared.kind.Member.{Member}
 use Rattle.sudo_grammar.specs.declared.policy.Policy.{Policy}
-use Rattle.sudo_policy.specs.Following.{Reading, option_join, member_reading, list_reading, reading_within, definition_of_member, depth, width}
+use Rattle.sudo_policy.specs.Following.{Reading, option_join, member_reading, list_reading, reading_within}
+use Rattle.sudo_policy.specs.Following.{definition_of_member, depth, width}
 use Rattle.sudo_policy.specs.Body.Graph.{measure_of_both, deeper, list_measure}
 use Rattle.sudo_policy.proofs.FollowingLemmas.{option_map-some}
 
@@ -24,15 +25,20 @@ module _ {R S : Type 0} (g : Reading R) (k : Reading S) (h : R → S)
   through_map m None = refl
   through_map m (Some r) = ap Some (through m r)
 
-  member_map : (inner : List Member → Option R) (other : List Member → Option S) → ((ms : List Member) → option_map h (inner ms) ≡ other ms) → (m : Member) (ds : Option (List Member)) → option_map h (member_reading g inner m ds) ≡ member_reading k other m ds
+  member_map : (inner : List Member → Option R) (other : List Member → Option S)
+      → ((ms : List Member) → option_map h (inner ms) ≡ other ms) → (m : Member) (ds : Option (List Member))
+      → option_map h (member_reading g inner m ds) ≡ member_reading k other m ds
   member_map inner other agree m None = alone m
   member_map inner other agree m (Some ms) = through_map m (inner ms) ∙ ap (option_map (k.through m)) (agree ms)
 
-  list_map : (inner : List Member → Option R) (other : List Member → Option S) → ((ms : List Member) → option_map h (inner ms) ≡ other ms) → (ms : List Member) → option_map h (list_reading g kind p inner ms) ≡ list_reading k kind p other ms
+  list_map : (inner : List Member → Option R) (other : List Member → Option S)
+      → ((ms : List Member) → option_map h (inner ms) ≡ other ms) → (ms : List Member)
+      → option_map h (list_reading g kind p inner ms) ≡ list_reading k kind p other ms
   list_map inner other agree [] = ap Some nothing
   list_map inner other agree (m ∷ ms) =
       joined_map (member_reading g inner m (definition_of_member kind p m)) (list_reading g kind p inner ms)
-      ∙ ap (λ o. option_join k.join o (option_map h (list_reading g kind p inner ms))) (member_map inner other agree m (definition_of_member kind p m))
+      ∙ ap (λ o. option_join k.join o (option_map h (list_reading g kind p inner ms)))
+      (member_map inner other agree m (definition_of_member kind p m))
       ∙ ap (λ o. option_join k.join (member_reading k other m (definition_of_member kind p m)) o) (list_map inner other agree ms)
 
   pub reading_map : (n : ℕ) (ms : List Member) → option_map h (reading_within g kind p n ms) ≡ reading_within k kind p n ms
@@ -71,23 +77,38 @@ cap-deeper a = same_measure _ _ _ _ (deep a.0) refl
 
 module _ (kind : Kind) (p : Policy) (n : ℕ) (ms : List Member) (a : Measure) (is : reading_within list_measure kind p n ms ≡ Some a) where
   full : (b : ℕ × ℕ) × (reading_within both kind p n ms ≡ Some b) × (a ≡ cap b)
-  full = option_map-some cap (reading_within both kind p n ms) a (reading_map both list_measure cap refl cap-join (λ m. refl) (λ m b. cap-deeper b) kind p n ms ∙ is)
+  full = option_map-some cap (reading_within both kind p n ms) a (reading_map both list_measure cap refl cap-join
+      (λ m. refl) (λ m b. cap-deeper b) kind p n ms ∙ is)
 
   -- the depth of a list whose measure is known
   pub depth_measured : (d : ℕ) × (reading_within depth kind p n ms ≡ Some d) × (a.depth ≡ min d 65)
-  depth_measured = (full.0.0, sym (reading_map both depth (λ b. b.0) refl (λ x y. refl) (λ m. refl) (λ m b. refl) kind p n ms) ∙ ap (option_map (λ b. b.0)) full.1, ap (λ (m : Measure). m.depth) full.2)
+  depth_measured = (
+    full.0.0,
+    sym (reading_map both depth (λ b. b.0) refl (λ x y. refl) (λ m. refl) (λ m b. refl) kind
+        p n ms) ∙ ap (option_map (λ b. b.0)) full.1,
+    ap (λ (m : Measure). m.depth) full.2,
+  )
 
   -- and the width
   pub width_measured : (w : ℕ) × (reading_within width kind p n ms ≡ Some w) × (a.width ≡ min w 65537)
-  width_measured = (full.0.1, sym (reading_map both width (λ b. b.1) refl (λ x y. refl) (λ m. refl) (λ m b. refl) kind p n ms) ∙ ap (option_map (λ b. b.1)) full.1, ap (λ (m : Measure). m.width) full.2)
+  width_measured = (
+    full.0.1,
+    sym (reading_map both width (λ b. b.1) refl (λ x y. refl) (λ m. refl) (λ m b. refl) kind
+        p n ms) ∙ ap (option_map (λ b. b.1)) full.1,
+    ap (λ (m : Measure). m.width) full.2,
+  )
 
 -- a list with a depth has a measure, and so has one with a width
-pub list_measure-deep : (kind : Kind) (p : Policy) (n : ℕ) (ms : List Member) (d : ℕ) → reading_within depth kind p n ms ≡ Some d → (a : Measure) × (reading_within list_measure kind p n ms ≡ Some a)
+pub list_measure-deep : (kind : Kind) (p : Policy) (n : ℕ) (ms : List Member) (d : ℕ)
+    → reading_within depth kind p n ms ≡ Some d → (a : Measure) × (reading_within list_measure kind p n ms ≡ Some a)
 list_measure-deep kind p n ms d is =
-    let k = option_map-some (λ (b : ℕ × ℕ). b.0) (reading_within both kind p n ms) d (reading_map both depth (λ b. b.0) refl (λ x y. refl) (λ m. refl) (λ m b. refl) kind p n ms ∙ is) in
+    let k = option_map-some (λ (b : ℕ × ℕ). b.0) (reading_within both kind p n ms) d
+    (reading_map both depth (λ b. b.0) refl (λ x y. refl) (λ m. refl) (λ m b. refl) kind p n ms ∙ is) in
     (cap k.0, sym (reading_map both list_measure cap refl cap-join (λ m. refl) (λ m b. cap-deeper b) kind p n ms) ∙ ap (option_map cap) k.1)
 
-pub list_measure-wide : (kind : Kind) (p : Policy) (n : ℕ) (ms : List Member) (w : ℕ) → reading_within width kind p n ms ≡ Some w → (a : Measure) × (reading_within list_measure kind p n ms ≡ Some a)
+pub list_measure-wide : (kind : Kind) (p : Policy) (n : ℕ) (ms : List Member) (w : ℕ)
+    → reading_within width kind p n ms ≡ Some w → (a : Measure) × (reading_within list_measure kind p n ms ≡ Some a)
 list_measure-wide kind p n ms w is =
-    let k = option_map-some (λ (b : ℕ × ℕ). b.1) (reading_within both kind p n ms) w (reading_map both width (λ b. b.1) refl (λ x y. refl) (λ m. refl) (λ m b. refl) kind p n ms ∙ is) in
+    let k = option_map-some (λ (b : ℕ × ℕ). b.1) (reading_within both kind p n ms) w
+    (reading_map both width (λ b. b.1) refl (λ x y. refl) (λ m. refl) (λ m b. refl) kind p n ms ∙ is) in
     (cap k.0, sym (reading_map both list_measure cap refl cap-join (λ m. refl) (λ m b. cap-deeper b) kind p n ms) ∙ ap (option_map cap) k.1)

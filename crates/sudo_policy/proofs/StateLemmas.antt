@@ -1,14 +1,20 @@
 -- Laws of the states of a visit.
-use Rattle.std.proofs.Common.{◌≡◌, ◌≢◌, ℕ, zero, suc, ◌+◌, ◌≤◌, ◌<◌, List, [], ◌∷◌, drop, get_or, set, length, Option, None, Some, refl, sym, ◌∙◌, ap, subst, arith, inl, inr, ◌⊎◌}
+use Rattle.std.proofs.Common.{◌≡◌, ◌≢◌, ℕ, zero, suc, ◌+◌, ◌≤◌, ◌<◌, List, [], ◌∷◌, drop, get_or, set, length, Option}
+use Rattle.std.proofs.Common.{None, Some, refl, sym, ◌∙◌, ap, subst, arith, inl, inr, ◌⊎◌}
 use Rattle.std.specs.Prelude.{slice_get, Contains, if◌then◌else◌, option_and_then, option_map}
 use Rattle.std.proofs.Math.Seq.{drop-length}
 use Rattle.std.proofs.lemmas.List.Elements.{Contains-get_or}
+use Rattle.std.proofs.lemmas.List.{length-set}
 use Rattle.sudo_policy.specs.declared.graph.Measure.{Measure}
 use Rattle.sudo_policy.specs.declared.graph.State.{State}
 use Rattle.sudo_policy.specs.declared.graph.State.TheVariants.{New, Open, Done, Looped}
 use Rattle.sudo_policy.specs.Following.{option_join}
-use Rattle.sudo_policy.specs.Body.Graph.{Links, Edge, Path, ReachesCycle, IsClosed, measure_of_both, deeper, measure_of_one, measure_of_none, link_measure, StateHolds, StatesHold, OpenLead, OpenNear, is_new, MayTurn, Turned, IsSettled, measure_of_state, done_measure}
-use Rattle.sudo_policy.proofs.GraphLemmas.{RowMeasures, RowMeasures-none, RowMeasures-alone, RowMeasures-link, Measures-row, ReachesCycle-edge, ReachesCycle-back}
+use Rattle.sudo_policy.specs.Body.Graph.{Links, Edge, Path, ReachesCycle, IsClosed, measure_of_both, deeper}
+use Rattle.sudo_policy.specs.Body.Graph.{measure_of_one, measure_of_none, link_measure, StateHolds, StatesHold}
+use Rattle.sudo_policy.specs.Body.Graph.{OpenLead, OpenNear, is_new, MayTurn, Turned, IsSettled, measure_of_state}
+use Rattle.sudo_policy.specs.Body.Graph.{done_measure}
+use Rattle.sudo_policy.proofs.GraphLemmas.{RowMeasures, RowMeasures-none, RowMeasures-alone, RowMeasures-link}
+use Rattle.sudo_policy.proofs.GraphLemmas.{Measures-row, ReachesCycle-edge, ReachesCycle-back}
 
 -- an element after a write to it, and to another
 pub get_set_same : {X : Type 0} (xs : List X) (i : ℕ) (v : X) → i < length xs → slice_get (set xs i v) i ≡ Some v
@@ -33,11 +39,6 @@ pub within_get : {X : Type 0} (xs : List X) (i : ℕ) (x : X) → slice_get xs i
 within_get [] i x h = cc
 within_get (y ∷ xs) zero x h = omega arith
 within_get (y ∷ xs) (suc i) x h = let k = within_get xs i x h in omega (arith, k)
-
-pub length_set : {X : Type 0} (xs : List X) (i : ℕ) (v : X) → length (set xs i v) ≡ length xs
-length_set [] i v = refl
-length_set (x ∷ xs) zero v = refl
-length_set (x ∷ xs) (suc i) v = ap suc (length_set xs i v)
 
 pub same_or_not : (i j : ℕ) → (i ≡ j) ⊎ (i ≢ j)
 same_or_not zero zero = inl refl
@@ -106,7 +107,8 @@ MayTurn-open Open h = refl
 MayTurn-open (Done a) h = cc
 MayTurn-open Looped h = cc
 
-pub Turned-open : (old new : List State) (i : ℕ) → length new ≡ length old → Turned old new → slice_get new i ≡ Some Open → slice_get old i ≡ Some Open
+pub Turned-open : (old new : List State) (i : ℕ) → length new ≡ length old → Turned old new
+    → slice_get new i ≡ Some Open → slice_get old i ≡ Some Open
 Turned-open old new i long h at_new =
     let inside = within_get new i Open at_new in
     let s = get_within old i (omega (arith, inside, long)) in
@@ -117,7 +119,8 @@ abbrev pub Known : Links → ℕ → List (Option ℕ) → Option Measure → Ty
 Known g node rest None = ReachesCycle g node
 Known g node rest (Some a) = RowMeasures g rest a
 
-pub record Visiting (g : Links) (start : List State) (node : ℕ) (states : List State) (rest : List (Option ℕ)) (measure : Option Measure) : Type 0 where
+pub record Visiting (g : Links) (start : List State) (node : ℕ) (states : List State) (rest : List (Option ℕ))
+    (measure : Option Measure) : Type 0 where
   pub held : StatesHold g states
   pub turned : Turned (set start node Open) states
   pub same_length : length states ≡ length start
@@ -131,11 +134,14 @@ settled_as (Some a) = Done a
 pub known_none : (g : Links) (node : ℕ) (row : List (Option ℕ)) → Known g node (drop (length row) row) (Some measure_of_none)
 known_none g node row = subst (λ (r : List (Option ℕ)). RowMeasures g r measure_of_none) (sym (drop-length row)) (RowMeasures-none g)
 
-known_alone : (g : Links) (node : ℕ) (rest : List (Option ℕ)) (m : Option Measure) → Known g node rest m → Known g node (None ∷ rest) (option_join measure_of_both (Some measure_of_one) m)
+known_alone : (g : Links) (node : ℕ) (rest : List (Option ℕ)) (m : Option Measure) → Known g node rest m
+    → Known g node (None ∷ rest) (option_join measure_of_both (Some measure_of_one) m)
 known_alone g node rest None h = h
 known_alone g node rest (Some a) h = RowMeasures-alone g rest a h
 
-known_link : (g : Links) (node next : ℕ) (rest : List (Option ℕ)) (s : State) (m : Option Measure) → (s ≡ New → ⊥) → StateHolds g next s → (s ≡ Open → (next ≡ node) ⊎ Path g next node) → Edge g node next → Known g node rest m → Known g node (Some next ∷ rest) (option_join measure_of_both (option_map deeper (measure_of_state s)) m)
+known_link : (g : Links) (node next : ℕ) (rest : List (Option ℕ)) (s : State) (m : Option Measure) → (s ≡ New → ⊥)
+    → StateHolds g next s → (s ≡ Open → (next ≡ node) ⊎ Path g next node) → Edge g node next → Known g node rest m
+    → Known g node (Some next ∷ rest) (option_join measure_of_both (option_map deeper (measure_of_state s)) m)
 known_link g node next rest New m seen held near e h = absurd (seen refl)
 known_link g node next rest Open m seen held near e h = ReachesCycle-back g node next e (near refl)
 known_link g node next rest (Done b) None seen held near e h = h
@@ -143,16 +149,21 @@ known_link g node next rest (Done b) (Some a) seen held near e h = RowMeasures-l
 known_link g node next rest Looped m seen held near e h = ReachesCycle-edge g node next e held
 
 -- which aliases are open while the links of `node` are visited
-pub near_open : (g : Links) (start states : List State) (node : ℕ) → length states ≡ length start → slice_get start node ≡ Some New → OpenLead g start node → Turned (set start node Open) states → OpenNear g states node
+pub near_open : (g : Links) (start states : List State) (node : ℕ) → length states ≡ length start
+    → slice_get start node ≡ Some New → OpenLead g start node → Turned (set start node Open) states → OpenNear g states node
 near_open g start states node long at lead turned j open_j =
-    let before = Turned-open (set start node Open) states j (long ∙ sym (length_set start node Open)) turned open_j in
+    let before = Turned-open (set start node Open) states j (long ∙ sym (length-set start node Open)) turned open_j in
     elim (same_or_not j node) [
       | inl same ↦ inl same
       | inr apart ↦ inr (lead j (sym (get_set_other start node j Open apart) ∙ before))
     ]
 
 -- one more link was visited
-pub known_next : (g : Links) (states : List State) (node : ℕ) (rest : List (Option ℕ)) (m : Option Measure) (link : Option ℕ) → IsClosed g → length states ≡ length g → StatesHold g states → OpenNear g states node → ((next : ℕ) → link ≡ Some next → slice_get states next ≡ Some New → ⊥) → ((next : ℕ) → link ≡ Some next → Edge g node next) → Known g node rest m → Known g node (link ∷ rest) (option_join measure_of_both (link_measure (done_measure states) link) m)
+pub known_next : (g : Links) (states : List State) (node : ℕ) (rest : List (Option ℕ)) (m : Option Measure)
+    (link : Option ℕ) → IsClosed g → length states ≡ length g → StatesHold g states → OpenNear g states node
+    → ((next : ℕ) → link ≡ Some next → slice_get states next ≡ Some New → ⊥)
+    → ((next : ℕ) → link ≡ Some next → Edge g node next) → Known g node rest m
+    → Known g node (link ∷ rest) (option_join measure_of_both (link_measure (done_measure states) link) m)
 known_next g states node rest m None closed long held near seen edge h = known_alone g node rest m h
 known_next g states node rest m (Some next) closed long held near seen edge h =
     let e = edge next refl in
@@ -167,30 +178,40 @@ known_next g states node rest m (Some next) closed long held near seen edge h =
     e h)
 
 -- an element of a list after one was written
-pub get_set_cases : {X : Type 0} (xs : List X) (i j : ℕ) (v x : X) → i < length xs → slice_get (set xs i v) j ≡ Some x → ((j ≡ i) × (x ≡ v)) ⊎ ((j ≢ i) × (slice_get xs j ≡ Some x))
+pub get_set_cases : {X : Type 0} (xs : List X) (i j : ℕ) (v x : X) → i < length xs → slice_get (set xs i v) j ≡ Some x
+    → ((j ≡ i) × (x ≡ v)) ⊎ ((j ≢ i) × (slice_get xs j ≡ Some x))
 get_set_cases xs i j v x inside h =
     elim (same_or_not j i) [
-      | inl same ↦ inl (same, (let at : slice_get (set xs i v) i ≡ Some x = subst (λ (k : ℕ). slice_get (set xs i v) k ≡ Some x) same h in let here = get_set_same xs i v inside in cc))
+      | inl same ↦ inl (
+        same,
+        (let at : slice_get (set xs i v) i ≡ Some x = subst
+            (λ (k : ℕ). slice_get (set xs i v) k ≡ Some x) same h in let here = get_set_same xs i v inside in cc),
+      )
       | inr apart ↦ inr (apart, sym (get_set_other xs i j v apart) ∙ h)
     ]
 
 -- the alias is open at the start
-pub start-holds : (g : Links) (start : List State) (node : ℕ) → node < length start → StatesHold g start → StatesHold g (set start node Open)
+pub start-holds : (g : Links) (start : List State) (node : ℕ) → node < length start → StatesHold g start
+    → StatesHold g (set start node Open)
 start-holds g start node inside held i s at =
     elim (get_set_cases start node i Open s inside at) [
       | inl here ↦ subst (λ (x : State). StateHolds g i x) (sym here.1) tt
       | inr other ↦ held i s other.1
     ]
 
-settled_holds : (g : Links) (node : ℕ) (row : List (Option ℕ)) (m : Option Measure) → slice_get g node ≡ Some row → Known g node row m → StateHolds g node (settled_as m)
+settled_holds : (g : Links) (node : ℕ) (row : List (Option ℕ)) (m : Option Measure) → slice_get g node ≡ Some row
+    → Known g node row m → StateHolds g node (settled_as m)
 settled_holds g node row None at h = h
 settled_holds g node row (Some a) at h = Measures-row g node row a at h
 
 -- the alias is settled at the end
-pub end_holds : (g : Links) (states : List State) (node : ℕ) (row : List (Option ℕ)) (m : Option Measure) → node < length states → StatesHold g states → slice_get g node ≡ Some row → Known g node row m → StatesHold g (set states node (settled_as m))
+pub end_holds : (g : Links) (states : List State) (node : ℕ) (row : List (Option ℕ)) (m : Option Measure)
+    → node < length states → StatesHold g states → slice_get g node ≡ Some row → Known g node row m
+    → StatesHold g (set states node (settled_as m))
 end_holds g states node row m inside held at h i s at_i =
     elim (get_set_cases states node i (settled_as m) s inside at_i) [
-      | inl here ↦ subst (λ (x : State). StateHolds g i x) (sym here.1) (subst (λ (k : ℕ). StateHolds g k (settled_as m)) (sym here.0) (settled_holds g node row m at h))
+      | inl here ↦ subst (λ (x : State). StateHolds g i x) (sym here.1)
+          (subst (λ (k : ℕ). StateHolds g k (settled_as m)) (sym here.0) (settled_holds g node row m at h))
       | inr other ↦ held i s other.1
     ]
 
@@ -198,12 +219,14 @@ settled_not_open : (m : Option Measure) → settled_as m ≡ Open → ⊥
 settled_not_open None e = cc
 settled_not_open (Some a) e = cc
 
-pub end_turned : (start states : List State) (node : ℕ) (m : Option Measure) → length states ≡ length start → slice_get start node ≡ Some New → Turned (set start node Open) states → Turned start (set states node (settled_as m))
+pub end_turned : (start states : List State) (node : ℕ) (m : Option Measure) → length states ≡ length start
+    → slice_get start node ≡ Some New → Turned (set start node Open) states → Turned start (set states node (settled_as m))
 end_turned start states node m long new turned i s t at_start at_end =
     let inside = within_get start node New new in
     elim (get_set_cases states node i (settled_as m) t (omega (arith, inside, long)) at_end) [
       | inl here ↦
-          (let was : s ≡ New = (let a : slice_get start node ≡ Some s = subst (λ (k : ℕ). slice_get start k ≡ Some s) here.0 at_start in cc) in
+          (let was : s ≡ New = (let a : slice_get start node ≡ Some s = subst (λ (k : ℕ). slice_get start k ≡ Some s)
+          here.0 at_start in cc) in
           subst (λ (x : State). MayTurn x t) (sym was) (λ e. settled_not_open m (sym here.1 ∙ e)))
       | inr other ↦ turned i s t (get_set_other start node i Open other.0 ∙ at_start) other.1
     ]
@@ -212,14 +235,16 @@ IsSettled-as : (m : Option Measure) → IsSettled (settled_as m)
 IsSettled-as None = tt
 IsSettled-as (Some a) = tt
 
-pub end_settled : (states : List State) (node : ℕ) (m : Option Measure) → node < length states → (s : State) → slice_get (set states node (settled_as m)) node ≡ Some s → IsSettled s
+pub end_settled : (states : List State) (node : ℕ) (m : Option Measure) → node < length states → (s : State)
+    → slice_get (set states node (settled_as m)) node ≡ Some s → IsSettled s
 end_settled states node m inside s at =
     let here = get_set_same states node (settled_as m) inside in
     let e : settled_as m ≡ s = cc in
     subst IsSettled e (IsSettled-as m)
 
 -- a link of a row is an edge
-pub row-edge : (g : Links) (node at next : ℕ) (row : List (Option ℕ)) (link : Option ℕ) → slice_get g node ≡ Some row → at < length row → link ≡ get_or row at None → link ≡ Some next → Edge g node next
+pub row-edge : (g : Links) (node at next : ℕ) (row : List (Option ℕ)) (link : Option ℕ) → slice_get g node ≡ Some row
+    → at < length row → link ≡ get_or row at None → link ≡ Some next → Edge g node next
 row-edge g node at next row link is inside link_is named =
     record {
       row = row;
@@ -228,10 +253,11 @@ row-edge g node at next row link is inside link_is named =
     }
 
 -- the number of new aliases falls when one is opened, and with what is visited
-pub new_count-below : (start states : List State) (node : ℕ) → slice_get start node ≡ Some New → length states ≡ length start → Turned (set start node Open) states → new_count states + 1 ≤ new_count start
+pub new_count-below : (start states : List State) (node : ℕ) → slice_get start node ≡ Some New
+    → length states ≡ length start → Turned (set start node Open) states → new_count states + 1 ≤ new_count start
 new_count-below start states node new long turned =
     let opened = new_count-set start node new in
-    let less = new_count-turned (set start node Open) states (long ∙ sym (length_set start node Open)) turned in
+    let less = new_count-turned (set start node Open) states (long ∙ sym (length-set start node Open)) turned in
     omega (arith, opened, less)
 
 -- a settled state stays settled
@@ -247,7 +273,8 @@ pub record VisitedTo (g : Links) (states : List State) (at : ℕ) : Type 0 where
   pub calm : (i : ℕ) → slice_get states i ≡ Some Open → ⊥
   pub settled : (i : ℕ) (s : State) → i < at → slice_get states i ≡ Some s → IsSettled s
 
-pub VisitedTo-next : (g : Links) (old new : List State) (at : ℕ) → length new ≡ length old → VisitedTo g old at → StatesHold g new → Turned old new → ((s : State) → slice_get new at ≡ Some s → IsSettled s) → VisitedTo g new (at + 1)
+pub VisitedTo-next : (g : Links) (old new : List State) (at : ℕ) → length new ≡ length old → VisitedTo g old at
+    → StatesHold g new → Turned old new → ((s : State) → slice_get new at ≡ Some s → IsSettled s) → VisitedTo g new (at + 1)
 VisitedTo-next g old new at long before held turned here = record {
   held = held;
   calm = λ i is. before.calm i (Turned-open old new i long turned is);

@@ -1,5 +1,6 @@
 -- The output of a loop that writes a list out.
-use Rattle.std.proofs.Common.{◌≡◌, ℕ, ◌+◌, ◌≤◌, ◌<◌, List, [], ◌∷◌, ◌++◌, Option, None, Some, Bool, true, false, map, sym, ◌∙◌, ap, subst, arith, append_assoc, append-nil, drop, length, get_or}
+use Rattle.std.proofs.Common.{◌≡◌, ℕ, ◌+◌, ◌≤◌, ◌<◌, List, [], ◌∷◌, ◌++◌, Option, None, Some, Bool, true, false, map}
+use Rattle.std.proofs.Common.{sym, ◌∙◌, ap, subst, arith, append_assoc, append-nil, drop, length, get_or}
 use Rattle.std.specs.Prelude.{option_and_then}
 use Rattle.std.proofs.lemmas.List.{map-append, drop_more}
 use Rattle.std.proofs.Math.ListN.{drop_of_length-le}
@@ -9,9 +10,11 @@ use Rattle.sudo_grammar.specs.declared.kind.Signed.{Signed}
 use Rattle.sudo_grammar.specs.declared.policy.Policy.{Policy}
 use Rattle.sudo_policy.specs.Definitions.{in_force, alias_named}
 use Rattle.sudo_policy.specs.Following.{definition_of_member}
-use Rattle.sudo_policy.specs.Resolving.{resolves, rank}
+use Rattle.sudo_policy.specs.Resolving.{resolves}
+use Rattle.sudo_policy.specs.Body.Resolving.{rank}
 use Rattle.sudo_policy.specs.Written.{written_form, negated_if, differ, is_negated}
-use Rattle.sudo_policy.proofs.Laws.{resolves_cons, written_cons, written_none, rank_cons, alone_stands, inner_resolves, inner_written, inner_rank, undefined_fails, negated_twice}
+use Rattle.sudo_policy.proofs.Laws.{resolves_cons, written_cons, written_none, rank_cons, alone_stands}
+use Rattle.sudo_policy.proofs.Laws.{inner_resolves, inner_written, inner_rank, undefined_fails, negated_twice}
 
 -- the members ds of an alias's definition, and the members after the alias
 pub record Opened (kind : Kind) (p : Policy) (m : Member) (ds rest : List Member) : Type 0 where
@@ -34,7 +37,10 @@ module _ (kind : Kind) (p : Policy) (m : Member) (rest : List Member) (h : resol
         atoms = written_cons kind p m rest ∙ ap (λ ws. ws ++ written_form kind p rest) (inner_written kind p m ds is one);
       }
 
-  pub written_alone : alias_named m.atom ≡ None → written_form kind p (m ∷ rest) ≡ record { negated = is_negated m; atom = m.atom } ∷ written_form kind p rest
+  pub written_alone : alias_named m.atom ≡ None → written_form kind p (m ∷ rest) ≡ record {
+    negated = is_negated m;
+    atom = m.atom;
+  } ∷ written_form kind p rest
   written_alone no_alias = written_cons kind p m rest ∙ ap (λ ws. ws ++ written_form kind p rest) (alone_stands kind p m no_alias)
 
   -- an alias among the members has a definition
@@ -51,9 +57,11 @@ pub record Along (kind : Kind) (p : Policy) (negate : Bool) (start done : List S
   pub lower : rank kind p rest ≤ rank kind p ms
   pub atoms : done ++ map (negated_if negate) (written_form kind p rest) ≡ start ++ map (negated_if negate) (written_form kind p ms)
 
-module _ (kind : Kind) (p : Policy) (negate : Bool) (start done : List Signed) (ms : List Member) (m : Member) (rest : List Member) (along : Along kind p negate start done ms (m ∷ rest)) where
+module _ (kind : Kind) (p : Policy) (negate : Bool) (start done : List Signed) (ms : List Member) (m : Member)
+    (rest : List Member) (along : Along kind p negate start done ms (m ∷ rest)) where
   -- a member that is no alias was written
-  pub Along-alone : alias_named m.atom ≡ None → Along kind p negate start (done ++ record { negated = differ negate (is_negated m); atom = m.atom } ∷ []) ms rest
+  pub Along-alone : alias_named m.atom ≡ None
+      → Along kind p negate start (done ++ record { negated = differ negate (is_negated m); atom = m.atom } ∷ []) ms rest
   Along-alone no_alias =
       let one = written_alone kind p m rest along.resolves_rest no_alias in
       let down = rank_rest kind p m rest along.resolves_rest in
@@ -65,7 +73,8 @@ module _ (kind : Kind) (p : Policy) (negate : Bool) (start done : List Signed) (
       }
 
   -- an alias was written
-  pub Along-alias : (ds : List Member) → Opened kind p m ds rest → Along kind p negate start (done ++ map (negated_if (differ negate (is_negated m))) (written_form kind p ds)) ms rest
+  pub Along-alias : (ds : List Member) → Opened kind p m ds rest
+      → Along kind p negate start (done ++ map (negated_if (differ negate (is_negated m))) (written_form kind p ds)) ms rest
   Along-alias ds open_m =
       let down = rank_rest kind p m rest along.resolves_rest in
       let below = along.lower in
@@ -83,18 +92,22 @@ module _ (kind : Kind) (p : Policy) (negate : Bool) (start done : List Signed) (
       }
 
 -- the first of what is left of a list
-pub Along-split : (kind : Kind) (p : Policy) (negate : Bool) (start done : List Signed) (ms : List Member) (i : ℕ) (m : Member) → Along kind p negate start done ms (drop i ms) → i < length ms → m ≡ get_or ms i m → Along kind p negate start done ms (m ∷ drop (i + 1) ms)
+pub Along-split : (kind : Kind) (p : Policy) (negate : Bool) (start done : List Signed) (ms : List Member) (i : ℕ)
+    (m : Member) → Along kind p negate start done ms (drop i ms) → i < length ms → m ≡ get_or ms i m
+    → Along kind p negate start done ms (m ∷ drop (i + 1) ms)
 Along-split kind p negate start done ms i m along within is =
     let split : drop i ms ≡ m ∷ drop (i + 1) ms = drop_more ms i m within ∙ ap (λ x. x ∷ drop (i + 1) ms) (sym is) in
     subst (λ rest. Along kind p negate start done ms rest) split along
 
 -- nothing is left of the list
-pub Along-end : (kind : Kind) (p : Policy) (negate : Bool) (start done : List Signed) (ms : List Member) (i : ℕ) → Along kind p negate start done ms (drop i ms) → length ms ≤ i → done ≡ start ++ map (negated_if negate) (written_form kind p ms)
+pub Along-end : (kind : Kind) (p : Policy) (negate : Bool) (start done : List Signed) (ms : List Member) (i : ℕ)
+    → Along kind p negate start done ms (drop i ms) → length ms ≤ i → done ≡ start ++ map (negated_if negate) (written_form kind p ms)
 Along-end kind p negate start done ms i along past =
     let none : drop i ms ≡ [] = drop_of_length-le ms past in
     let empty : written_form kind p (drop i ms) ≡ [] = ap (written_form kind p) none ∙ written_none kind p in
     sym (append-nil done) ∙ ap (λ ws. done ++ map (negated_if negate) ws) (sym empty) ∙ along.atoms
 
 -- the definition of a member that is an alias
-pub definition_from : (kind : Kind) (p : Policy) (m : Member) (name : List ℕ) (ds : List Member) → alias_named m.atom ≡ Some name → in_force kind p name ≡ Some ds → definition_of_member kind p m ≡ Some ds
+pub definition_from : (kind : Kind) (p : Policy) (m : Member) (name : List ℕ) (ds : List Member)
+    → alias_named m.atom ≡ Some name → in_force kind p name ≡ Some ds → definition_of_member kind p m ≡ Some ds
 definition_from kind p m name ds named is = ap (λ (o : Option (List ℕ)). option_and_then (in_force kind p) o) named ∙ is

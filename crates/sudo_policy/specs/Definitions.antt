@@ -1,5 +1,7 @@
 -- The alias definitions of a policy, and the uses of alias names. sudoers(5), "Aliases".
-use Rattle.std.specs.Prelude.{◌≡◌, ℕ, Bool, true, false, ◌&&◌, List, [], ◌∷◌, ◌++◌, Option, Some, None, is_some, option_map, option_to_list, find, map, flat_map, Contains, IsSome, bytes_eq, if◌then◌else◌}
+use Rattle.std.specs.Prelude.{◌≡◌, ℕ, Bool, true, false, ◌&&◌, List, [], ◌∷◌, ◌++◌, Option, Some, None, is_some}
+use Rattle.std.specs.Prelude.{option_map, option_to_list, find, map, flat_map, Contains, IsSome, bytes_eq}
+use Rattle.std.specs.Prelude.{if◌then◌else◌}
 use Rattle.sudo_grammar.specs.declared.kind.Kind.{Kind}
 use Rattle.sudo_grammar.specs.declared.kind.Kind.TheVariants.{User, Runas, Host, Cmnd}
 use Rattle.sudo_grammar.specs.declared.kind.Atom.{Atom}
@@ -65,12 +67,14 @@ is_defined_in earlier d = is_some (find (defines d.kind d.name) earlier)
 -- before all
 abbrev pub definitions_in_force : List AliasDefinition → List AliasDefinition → List AliasDefinition
 definitions_in_force earlier [] = []
-definitions_in_force earlier (d ∷ ds) = if is_defined_in earlier d then definitions_in_force (earlier ++ d ∷ []) ds else d ∷ definitions_in_force (earlier ++ d ∷ []) ds
+definitions_in_force earlier (d ∷ ds) = if is_defined_in earlier d then definitions_in_force (earlier ++ d ∷ [])
+    ds else d ∷ definitions_in_force (earlier ++ d ∷ []) ds
 
 -- the further definitions: those whose name and kind an earlier definition has
 abbrev pub redefinitions : List AliasDefinition → List AliasDefinition → List AliasDefinition
 redefinitions earlier [] = []
-redefinitions earlier (d ∷ ds) = if is_defined_in earlier d then d ∷ redefinitions (earlier ++ d ∷ []) ds else redefinitions (earlier ++ d ∷ []) ds
+redefinitions earlier (d ∷ ds) = if is_defined_in earlier d then d ∷ redefinitions (earlier ++ d ∷ [])
+    ds else redefinitions (earlier ++ d ∷ []) ds
 
 -- the aliases of a policy: the definitions in force, in the order of the file
 abbrev pub aliases : Policy → List AliasDefinition

@@ -1,11 +1,13 @@
 -- The findings on a policy's aliases: those of strict mode of visudo(8), and of this program's limits.
-use Rattle.std.specs.Prelude.{◌≡◌, ℕ, suc, ◌<◌, Bool, true, false, List, [], ◌++◌, Some, is_none, map, flat_map, filter, slice_get, length, Contains, IsTrue, ◌⊎◌, ◌↔◌}
+use Rattle.std.specs.Prelude.{◌≡◌, ℕ, suc, ◌<◌, Bool, true, false, List, [], ◌++◌, Some, is_none, map, flat_map}
+use Rattle.std.specs.Prelude.{filter, slice_get, length, Contains, IsTrue, ◌⊎◌, ◌↔◌}
 use Rattle.std.specs.List.{items_where_true, list_any}
 use Rattle.sudo_policy.specs.declared.finding.Class.{Class}
 use Rattle.sudo_policy.specs.declared.finding.Class.TheVariants.{Redefined, Undefined, Cycle, TooDeep, TooWide, Unused}
 use Rattle.sudo_policy.specs.declared.finding.Finding.{Finding}
 use Rattle.sudo_grammar.specs.declared.policy.Policy.{Policy}
-use Rattle.sudo_policy.specs.Definitions.{AliasDefinition, MemberList, aliases, redefinitions, definitions, lists, names_used, in_force, Reaches}
+use Rattle.sudo_policy.specs.Definitions.{AliasDefinition, MemberList, aliases, redefinitions, definitions, lists}
+use Rattle.sudo_policy.specs.Definitions.{names_used, in_force, Reaches}
 use Rattle.sudo_policy.specs.Following.{ReadsAs, depth, width}
 
 -- a finding on a definition

@@ -1,15 +1,13 @@
 -- Lists that resolve: whose aliases are all defined, to a limited depth. sudoers(5), "Aliases".
-use Rattle.std.specs.Prelude.{ℕ, max, Bool, true, ◌&&◌, List, [], ◌∷◌, Option, Some, None, IsTrue, is_some, unwrap_or, Contains}
+use Rattle.std.specs.Prelude.{Bool, true, ◌&&◌, List, Option, Some, None, IsTrue, is_some, Contains}
 use Rattle.std.specs.List.{list_all}
 use Rattle.sudo_grammar.specs.declared.kind.Kind.{Kind}
-use Rattle.sudo_grammar.specs.declared.kind.Kind.TheVariants.{User, Runas, Host, Cmnd}
+use Rattle.sudo_grammar.specs.declared.kind.Kind.TheVariants.{Runas}
 use Rattle.sudo_grammar.specs.declared.kind.Member.{Member}
-use Rattle.sudo_grammar.specs.declared.policy.CommandSpec.{CommandSpec}
 use Rattle.sudo_grammar.specs.declared.policy.Policy.{Policy}
 use Rattle.sudo_grammar.specs.declared.policy.Runas.{Runas as RunasPart}
-use Rattle.sudo_grammar.specs.declared.policy.Section.{Section}
 use Rattle.sudo_policy.specs.Definitions.{lists, MemberList}
-use Rattle.sudo_policy.specs.Following.{depth, reading_within}
+use Rattle.sudo_policy.specs.Following.{reading_within}
 use Rattle.sudo_policy.specs.Written.{writing, IsWrittenOut, written_form}
 
 -- a list resolves: every alias that it reaches is defined, and at most 64 definitions are nested
@@ -24,15 +22,6 @@ IsSound p = IsTrue (list_all (λ (l : MemberList). resolves l.kind p l.members) 
 abbrev pub AreWritten : Policy → Type 0
 AreWritten p = (l : MemberList) → Contains (lists p) l → IsWrittenOut l.kind p l.members (written_form l.kind p l.members)
 
--- the greatest value of f on the items, or 0
-abbrev pub greatest : {X : Type 0} → (X → ℕ) → List X → ℕ
-greatest f [] = 0
-greatest f (x ∷ xs) = max (f x) (greatest f xs)
-
--- the depth of nested definitions in a list; 0 for a member that does not resolve
-unfoldable pub rank : Kind → Policy → List Member → ℕ
-rank kind p ms = greatest (λ (m : Member). unwrap_or (reading_within depth kind p 64 (m ∷ [])) 0) ms
-
 -- the lists of a rule resolve, part by part
 
 abbrev pub list_resolves : Policy → Option (List Member) → Bool
@@ -43,12 +32,3 @@ list_resolves p (Some members) = resolves Runas p members
 abbrev pub runas_resolves : Policy → Option RunasPart → Bool
 runas_resolves p None = true
 runas_resolves p (Some part) = list_resolves p part.users && list_resolves p part.groups
-
-abbrev pub command_resolves : Policy → CommandSpec → Bool
-command_resolves p spec = resolves Cmnd p (spec.command ∷ []) && runas_resolves p spec.runas
-
-abbrev pub section_resolves : Policy → Section → Bool
-section_resolves p section = resolves Host p section.hosts && list_all (command_resolves p) section.commands
-
-abbrev pub rule_resolves : Policy → List Member → List Section → Bool
-rule_resolves p users sections = resolves User p users && list_all (section_resolves p) sections

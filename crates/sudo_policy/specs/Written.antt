@@ -50,4 +50,5 @@ written_form kind p ms = flat_map (member_written kind p) ms
 
 -- two written forms of one list are the same
 abbrev pub WrittenOnce : Type 0
-WrittenOnce = (kind : Kind) (p : Policy) (ms : List Member) (a b : List Signed) → IsWrittenOut kind p ms a → IsWrittenOut kind p ms b → a ≡ b
+WrittenOnce = (kind : Kind) (p : Policy) (ms : List Member) (a b : List Signed) → IsWrittenOut kind p ms a
+    → IsWrittenOut kind p ms b → a ≡ b

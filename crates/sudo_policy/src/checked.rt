@@ -2,7 +2,8 @@
 ghost use Rattle.std.specs.Prelude.{◌≡◌, Some, None, List, option_copied, option_and_then, IfOk, IfErr, IfSome, IsTrue};
 ghost use Rattle.sudo_policy.specs.Checking.{Passes};
 ghost use Rattle.sudo_policy.specs.Definitions.{in_force};
-ghost use Rattle.sudo_policy.specs.Positions.{IsIndex, members_at};
+ghost use Rattle.sudo_policy.specs.Positions.{members_at};
+ghost use Rattle.sudo_policy.specs.Body.Positions.{IsIndex};
 ghost use Rattle.sudo_policy.specs.Resolving.{resolves, IsSound};
 
 use crate::index::{Index, Position, members_at};
@@ -19,7 +20,7 @@ pub struct Checked {
 impl Model for Checked {
     ghost use Rattle.sudo_grammar.specs.declared.policy.Policy.{Policy};
     ghost use Rattle.sudo_policy.specs.Checking.{Passes};
-    ghost use Rattle.sudo_policy.specs.Positions.{IsIndex};
+    ghost use Rattle.sudo_policy.specs.Body.Positions.{IsIndex};
     ghost use Rattle.sudo_policy.specs.Resolving.{IsSound};
 
     ghost Value = { Policy };

@@ -4,7 +4,8 @@ ghost use Rattle.sudo_policy.specs.Body.Graph.{IsClosed, IsInside, MarksOf, Path
 ghost use Rattle.sudo_policy.specs.declared.graph.State.{State};
 ghost use Rattle.std.specs.Prelude.{Some, slice_get};
 ghost use Rattle.std.specs.List.{list_any};
-ghost use Rattle.sudo_policy.specs.Body.Marking.{AreSet, DecidesCycles, IsMarked, IsUnmarked, IsClosedOverCycles, PathPast, ReversesRow, ReversesUpTo};
+ghost use Rattle.sudo_policy.specs.Body.Marking.{AreSet, DecidesCycles, IsMarked, IsUnmarked, IsClosedOverCycles};
+ghost use Rattle.sudo_policy.specs.Body.Marking.{PathPast, ReversesRow, ReversesUpTo};
 
 use crate::graph::State;
 use crate::reach::spread;

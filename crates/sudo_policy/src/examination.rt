@@ -10,7 +10,7 @@ ghost use Rattle.sudo_policy.specs.Body.Judgement.{AreAliasMarks, found_in, atom
 ghost use Rattle.sudo_policy.specs.Body.Judgement as judgement;
 ghost use Rattle.sudo_policy.specs.Body.DefinitionRef.{alias_view, list_view, granting_row, IsSurvey, LeadsInside};
 ghost use Rattle.sudo_policy.specs.Body.Graph.{IsInside};
-ghost use Rattle.sudo_policy.specs.Positions.{IsIndex};
+ghost use Rattle.sudo_policy.specs.Body.Positions.{IsIndex};
 ghost use Rattle.sudo_policy.specs.Resolving.{IsSound};
 
 use crate::cycle::cycles;

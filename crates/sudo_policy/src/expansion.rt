@@ -66,8 +66,10 @@ pub fn expand(
     Ok(atoms)
 }
 
-// Appends a written-out list, with each member negated once more if `negate` is true.
-fn write_out(
+/// Appends a list written out: its members in order, each alias replaced by the members of its definition, each negated
+/// once for each odd negation on the way to it, and once more if `negate` is true. Returns `AllocError` if allocation
+/// fails.
+pub fn write_out(
     alloc: Global,
     checked: &Checked,
     kind: Kind,

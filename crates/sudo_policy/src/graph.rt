@@ -2,7 +2,8 @@
 ghost use Rattle.std.specs.Prelude.{◌≡◌, ◌<◌, ℕ, IfOk, OnOk, Some, Option, length, slice_get};
 ghost use Rattle.sudo_policy.specs.declared.graph.State.{State};
 ghost use Rattle.sudo_policy.specs.Following.{option_join};
-ghost use Rattle.sudo_policy.specs.Body.Graph.{Edge, IsClosed, StatesHold, OpenLead, OpenNear, NoneOpen, Turned, IsSettled, measure_of_both, deeper, link_measure, done_measure};
+ghost use Rattle.sudo_policy.specs.Body.Graph.{Edge, IsClosed, StatesHold, OpenLead, OpenNear, NoneOpen, Turned};
+ghost use Rattle.sudo_policy.specs.Body.Graph.{IsSettled, measure_of_both, deeper, link_measure, done_measure};
 
 use std::alloc::{AllocError, Global};
 use sudo_text::Seq;

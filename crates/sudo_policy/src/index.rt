@@ -3,7 +3,8 @@ ghost use Rattle.std.specs.Prelude.{◌≡◌, None, [], ◌∷◌, ◌++◌, fa
 ghost use Rattle.sudo_base.specs.NameIndices.{index_of};
 ghost use Rattle.sudo_grammar.specs.declared.kind.Kind.{Kind};
 ghost use Rattle.sudo_grammar.specs.Kinds.{same_kind};
-ghost use Rattle.sudo_policy.specs.Positions.{position_in, members_at, names_of_kind};
+ghost use Rattle.sudo_policy.specs.Positions.{members_at};
+ghost use Rattle.sudo_policy.specs.Body.Positions.{position_in, names_of_kind};
 
 use std::alloc::{AllocError, Global};
 use sudo_base::Names;

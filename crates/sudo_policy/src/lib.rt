@@ -19,7 +19,7 @@ mod survey;
 pub use checked::Checked;
 pub use checking::{CheckFault, check, has_error};
 pub use examination::findings;
-pub use expansion::{ExpandFault, expand};
+pub use expansion::{ExpandFault, expand, write_out};
 pub use finding::{Class, Finding};
 pub use index::Position;
 pub use law::{findings_are_one_list, lists_are_written, written_form_is_one};

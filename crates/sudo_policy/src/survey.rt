@@ -1,8 +1,11 @@
 //! The definitions and the lists of a policy, in the order of the file.
 ghost use Rattle.std.specs.Prelude.{◌≡◌, ◌++◌, [], ◌∷◌, List, All, map, flat_map, filter, is_some, IfOk, OnOk, Some, slice_get};
 ghost use Rattle.sudo_grammar.specs.declared.policy.Policy.{Policy};
-ghost use Rattle.sudo_policy.specs.Definitions.{AliasDefinition, definitions, definitions_of, definitions_of_list, lists, lists_of_body, lists_of_list, binding_lists_of, section_lists, command_lists, runas_lists, option_lists, granting_list};
-ghost use Rattle.sudo_policy.specs.Body.DefinitionRef.{alias_view, list_view, link_of, row_of, row_of_alias, granting_row, IsSurvey, IsAtItsPosition, StandAt};
+ghost use Rattle.sudo_policy.specs.Definitions.{AliasDefinition, definitions, definitions_of, definitions_of_list};
+ghost use Rattle.sudo_policy.specs.Definitions.{lists, lists_of_body, lists_of_list, binding_lists_of, section_lists};
+ghost use Rattle.sudo_policy.specs.Definitions.{command_lists, runas_lists, option_lists, granting_list};
+ghost use Rattle.sudo_policy.specs.Body.DefinitionRef.{alias_view, list_view, link_of, row_of, row_of_alias};
+ghost use Rattle.sudo_policy.specs.Body.DefinitionRef.{granting_row, IsSurvey, IsAtItsPosition, StandAt};
 
 use crate::index::{Index, Position};
 use crate::member::alias_name;

@@ -1,6 +1,6 @@
 -- The first bytes of a run, by the rule that reads it.
 use Rattle.std.proofs.Common.{◌≡◌, ◌≢◌, ℕ, ◌+◌, Bool, List, length, drop, get_or, true, false, refl, sym, ◌∙◌, inl, inr, Option, Some, None}
-use Rattle.std.proofs.lemmas.Bool.{eqb-true, eq-eqb, or_from, or_parts}
+use Rattle.std.proofs.lemmas.Bool.{eqb-true, eq-eqb, or_from, or_parts, and_parts, true≢false, false≢true}
 use Rattle.std.specs.Prelude.{◌==◌, ◌&&◌, ◌||◌, not, if◌then◌else◌, nat_le, nat_lt, nat_eq, IsTrue, codes}
 use Rattle.std.specs.List.{starts_with}
 use Rattle.sudo_text.specs.declared.token.Mark.{Mark}
@@ -12,12 +12,11 @@ use Rattle.sudo_text.specs.declared.rules.Rule.{Rule}
 use Rattle.sudo_text.specs.declared.rules.Rule.TheVariants as rules
 use Rattle.sudo_text.specs.Bytes.{is_blank, is_digit}
 use Rattle.sudo_text.specs.Pieces.{skip, is_mark_byte, is_assignment, is_end, piece_at}
-use Rattle.sudo_text.specs.Rules.{opens, wants_value, is_defaults, word_style, directive_len, defaults_mark_at, mark_at, is_sudoedit, mark_or_word, general_rule_at, first_rule, rule_at}
+use Rattle.sudo_text.specs.Rules.{opens, wants_value, is_defaults, word_style, directive_len, defaults_mark_at}
+use Rattle.sudo_text.specs.Rules.{mark_at, is_sudoedit, mark_or_word, general_rule_at, first_rule, rule_at}
 use Rattle.sudo_text.specs.Runs.{OnlyNumbers, BeginsWord, Begins}
-use Rattle.sudo_text.proofs.Reaching.{choose, both}
-use Rattle.sudo_text.proofs.Closing.{false_true}
-use Rattle.sudo_text.proofs.Unique.{true_false}
-use Rattle.sudo_text.proofs.Spacing.{skip-no-blank}
+use Rattle.sudo_text.proofs.RunCharacters.{choose}
+use Rattle.sudo_text.proofs.ArgumentBlanks.{skip-no-blank}
 use Rattle.sudo_text.proofs.OneList.{either}
 
 -- What holds either way.
@@ -29,17 +28,17 @@ some_none : (mark : Mark) → Some mark ≡ None → ⊥
 some_none mark e = cc
 
 differs : (a b : ℕ) → (a == b) ≡ false → a ≢ b
-differs a b h e = true_false (sym (eq-eqb a b e) ∙ h)
+differs a b h e = true≢false (sym (eq-eqb a b e) ∙ h)
 
 pub not_true : (b : Bool) → not b ≡ true → b ≡ false
-not_true true h = absurd (false_true h)
+not_true true h = absurd (false≢true h)
 not_true false h = refl
 
 saved : (a b c : Bool) → (a && not (b && c)) ≡ false → a ≡ true → (b ≡ true) × (c ≡ true)
 saved true true true h e = (refl, refl)
-saved true true false h e = absurd (true_false h)
-saved true false c h e = absurd (true_false h)
-saved false b c h e = absurd (false_true e)
+saved true true false h e = absurd (true≢false h)
+saved true false c h e = absurd (true≢false h)
+saved false b c h e = absurd (false≢true e)
 
 one_of_two : (a b c : Bool) → (a && c) ≡ false → (b && c) ≡ false → ((a || b) && c) ≡ false
 one_of_two true b c h k = h
@@ -47,9 +46,10 @@ one_of_two false b c h k = k
 
 other_place : (a b : Bool) → (a && b) ≡ false → a ≡ true → b ≡ false
 other_place true b h e = h
-other_place false b h e = absurd (false_true e)
+other_place false b h e = absurd (false≢true e)
 
-numbers : (before : Before) (text : List ℕ) (at : ℕ) → ((get_or text at 0 == 35) && not (opens before && is_digit (get_or text (at + 1) 0))) ≡ false → OnlyNumbers before text at
+numbers : (before : Before) (text : List ℕ) (at : ℕ)
+    → ((get_or text at 0 == 35) && not (opens before && is_digit (get_or text (at + 1) 0))) ≡ false → OnlyNumbers before text at
 numbers before text at h is = saved (get_or text at 0 == 35) (opens before) (is_digit (get_or text (at + 1) 0)) h (eq-eqb _ _ is)
 
 -- No mark of a Defaults line.
@@ -104,21 +104,26 @@ no_mark_at kind text at h =
     (λ w5 h5. choose (byte == 41) (Some marks.RightParen) seventh None h5 (λ w e. absurd (some_none _ e))
     (λ w6 h6. record {
       no_mark = or_from _ _ (or_from _ _ (or_from _ _ (or_from _ _ (or_from (byte == 33) (byte == 61) w1 w2) w3) w4) w5) w6;
-      of_defaults = λ on. choose (is_defaults kind) (defaults_mark_at text at) None None h6 (λ w e. no_defaults_mark text at e) (λ w e. absurd (true_false (sym on ∙ w)));
+      of_defaults = λ on. choose (is_defaults kind) (defaults_mark_at text at) None None h6
+          (λ w e. no_defaults_mark text at e) (λ w e. absurd (true≢false (sym on ∙ w)));
     }))))))
 
-sudoedit_begins : (kind : LineKind) (text : List ℕ) (at : ℕ) → is_sudoedit kind text at ≡ true → starts_with nat_eq (drop at text) (codes "sudoedit") ≡ true
+sudoedit_begins : (kind : LineKind) (text : List ℕ) (at : ℕ) → is_sudoedit kind text at ≡ true
+    → starts_with nat_eq (drop at text) (codes "sudoedit") ≡ true
 unfolding is_sudoedit
 sudoedit_begins kind text at h =
-    let front = both (nat_le (at + 8) (length text) && starts_with nat_eq (drop at text) (codes "sudoedit")) (is_end (piece_at (word_style kind) text at (at + 8))) h in
-    (both (nat_le (at + 8) (length text)) (starts_with nat_eq (drop at text) (codes "sudoedit")) front.0).1
+    let front = and_parts (nat_le (at + 8) (length text) && starts_with nat_eq (drop at text) (codes "sudoedit"))
+    (is_end (piece_at (word_style kind) text at (at + 8))) h in
+    (and_parts (nat_le (at + 8) (length text)) (starts_with nat_eq (drop at text) (codes "sudoedit")) front.0).1
 
-mark-begins : (kind : LineKind) (before : Before) (text : List ℕ) (at : ℕ) (mark : Option Mark) → mark_at kind text at ≡ mark → (NoMark kind text at → BeginsWord kind before text at)
+mark-begins : (kind : LineKind) (before : Before) (text : List ℕ) (at : ℕ) (mark : Option Mark)
+    → mark_at kind text at ≡ mark → (NoMark kind text at → BeginsWord kind before text at)
     → Begins (mark_or_word mark) kind before text at
 mark-begins kind before text at (Some mark) is word = tt
 mark-begins kind before text at None is word = word (no_mark_at kind text at is)
 
-general_begins : (kind : LineKind) (before : Before) (text : List ℕ) (at : ℕ) → is_blank (get_or text at 0) ≡ false → Begins (general_rule_at kind before text at) kind before text at
+general_begins : (kind : LineKind) (before : Before) (text : List ℕ) (at : ℕ) → is_blank (get_or text at 0) ≡ false
+    → Begins (general_rule_at kind before text at) kind before text at
 unfolding general_rule_at
 general_begins kind before text at no_blank =
     let byte : ℕ = get_or text at 0 in
@@ -131,12 +136,12 @@ general_begins kind before text at no_blank =
     let second : Rule = if value then rules.Value else third in
     let first : Rule = if byte == 34 then rules.Quoted else second in
     pick P comment rules.Comment first
-    (λ w. eqb-true byte 35 (both (byte == 35) (not (opens before && is_digit (get_or text (at + 1) 0))) w).0)
+    (λ w. eqb-true byte 35 (and_parts (byte == 35) (not (opens before && is_digit (get_or text (at + 1) 0))) w).0)
     (λ w. pick P (byte == 34) rules.Quoted second (λ q. eqb-true byte 34 q)
     (λ q. pick P value rules.Value third
     (λ v. record {
       no_blank = no_blank;
-      no_comma = differs byte 44 (not_true _ (both (is_defaults kind && wants_value before) (not (byte == 44)) v).1);
+      no_comma = differs byte 44 (not_true _ (and_parts (is_defaults kind && wants_value before) (not (byte == 44)) v).1);
       no_quote = differs byte 34 q;
       number = numbers before text at w;
     })
@@ -155,15 +160,18 @@ general_begins kind before text at no_blank =
       no_binding = λ on. (unmarked.of_defaults on).no_binding;
     })))))
 
-first_begins : (kind : LineKind) (before : Before) (text : List ℕ) (at : ℕ) (rule : Rule) → Begins rule kind before text at → Begins (first_rule kind rule) kind before text at
+first_begins : (kind : LineKind) (before : Before) (text : List ℕ) (at : ℕ) (rule : Rule)
+    → Begins rule kind before text at → Begins (first_rule kind rule) kind before text at
 first_begins lines.General before text at rule h = h
 first_begins lines.Defaults before text at rule h = tt
 first_begins (lines.Include folder hash) before text at rule h = skip-no-blank text (at + directive_len folder)
 
-pub runs_begin : (kind : LineKind) (before : Before) (text : List ℕ) (from : ℕ) → Begins (rule_at kind before text (skip text from)) kind before text (skip text from)
+pub runs_begin : (kind : LineKind) (before : Before) (text : List ℕ) (from : ℕ)
+    → Begins (rule_at kind before text (skip text from)) kind before text (skip text from)
 unfolding rule_at
 runs_begin kind before text from =
     let at : ℕ = skip text from in
     let general = general_begins kind before text at (skip-no-blank text from) in
-    pick (λ rule. Begins rule kind before text at) (nat_lt 0 at) (general_rule_at kind before text at) (first_rule kind (general_rule_at kind before text at))
+    pick (λ rule. Begins rule kind before text at) (nat_lt 0 at) (general_rule_at kind before text at)
+    (first_rule kind (general_rule_at kind before text at))
     (λ w. general) (λ w. first_begins kind before text at (general_rule_at kind before text at) general)

@@ -1,11 +1,14 @@
 -- A run ends at the first byte that ends it and that no backslash escapes.
-use Rattle.std.proofs.Common.{◌≡◌, ℕ, zero, suc, ◌+◌, ◌-◌, ◌<◌, ◌≤◌, Bool, List, [], ◌∷◌, length, drop, get_or, true, false, refl, sym, ◌∙◌, ap, subst, inl, inr, Some, None, ◌*◌, cond, arith}
+use Rattle.std.proofs.Common.{◌≡◌, ℕ, zero, suc, ◌+◌, ◌-◌, ◌<◌, ◌≤◌, Bool, List, [], ◌∷◌, length, drop, get_or, true}
+use Rattle.std.proofs.Common.{false, refl, sym, ◌∙◌, ap, subst, inl, inr, Some, None, ◌*◌, cond, arith}
 use Rattle.std.proofs.lemmas.List.{get_or-drop}
 use Rattle.std.proofs.lemmas.List.Folds.{length-prefix_len}
-use Rattle.std.proofs.lemmas.Bool.{cases_lt, eqb-true, eq-eqb}
+use Rattle.std.proofs.lemmas.Bool.{cases_lt, eqb-true, eq-eqb, and_parts, true≢false, false≢true}
 use Rattle.std.proofs.lemmas.Bool.Decides.{nat_tests}
 use Rattle.std.specs.Prelude.{◌==◌, ◌&&◌, ◌⊎◌, not, if◌then◌else◌, nat_le, nat_lt, IsTrue}
 use Rattle.std.specs.List.{take_while, prefix_len}
+use Rattle.std.proofs.Math.Bool.{and-false}
+use Rattle.sudo_base.proofs.Options.{none_some}
 use Rattle.sudo_text.specs.declared.token.Ch.{Ch}
 use Rattle.sudo_text.specs.declared.piece.Style.{Style}
 use Rattle.sudo_text.specs.declared.piece.Style.TheVariants as styles
@@ -13,25 +16,25 @@ use Rattle.sudo_text.specs.declared.piece.Piece.{Piece}
 use Rattle.sudo_text.specs.declared.piece.Piece.TheVariants.{Char, End, Bad}
 use Rattle.sudo_text.specs.declared.piece.Flaw.TheVariants as flaws
 use Rattle.sudo_text.specs.Bytes.{is_blank, is_hex, is_control, hex_value}
-use Rattle.sudo_text.specs.Pieces.{plain, escaped, skip, is_mark_byte, is_assignment, ends_word, ends_run, has_hex, is_arguments, hex_at, escape_at, blanks_at, piece_at, reach, run_end}
+use Rattle.sudo_text.specs.Pieces.{plain, escaped, skip, is_mark_byte, is_assignment, ends_word, ends_run, has_hex}
+use Rattle.sudo_text.specs.Pieces.{is_arguments, hex_at, escape_at, blanks_at, piece_at, reach, run_end}
 use Rattle.sudo_text.specs.Tokens.{takes_next, quoted_end}
 use Rattle.sudo_text.specs.Runs.{IsFirstClosingQuote, IsBehindFirstQuote, LeadsOut, IsWholeRun}
-use Rattle.sudo_text.proofs.Reaching.{choose, both, bad_char, bad_end, end_char, none_some, follow-parts, run_parts}
-use Rattle.sudo_text.proofs.Closing.{false_true, next_is, hex_not_escape}
-use Rattle.sudo_text.proofs.Unique.{true_false, then_parts}
+use Rattle.sudo_text.proofs.RunCharacters.{choose, bad_char, bad_end, end_char, follow-parts, run_parts}
+use Rattle.sudo_text.proofs.ClosingQuotes.{next_is, hex_not_escape}
+use Rattle.sudo_text.proofs.Unique.{then_parts}
 use Rattle.sudo_text.proofs.Quotes.{taken_from, taken_start, taken_next, one_if, taken_by_pairs, untaken}
-use Rattle.sudo_text.proofs.CommonRuns.{and_false}
 
 -- A backslash ends no run.
 backslash_stays : (style : Style) (text : List ℕ) (start at : ℕ) → get_or text at 0 ≡ 92 → ends_run style text start at ≡ false
 unfolding ends_run ends_word
 backslash_stays styles.Quoted text start at e = rw e refl
-backslash_stays styles.Word text start at e = rw e (and_false (not (at == start)))
-backslash_stays styles.DefaultsWord text start at e = rw e (and_false (not (at == start)))
-backslash_stays styles.Value text start at e = rw e (and_false (not (at == start)))
-backslash_stays styles.Path text start at e = rw e (and_false (not (at == start)))
+backslash_stays styles.Word text start at e = rw e (and-false (not (at == start)))
+backslash_stays styles.DefaultsWord text start at e = rw e (and-false (not (at == start)))
+backslash_stays styles.Value text start at e = rw e (and-false (not (at == start)))
+backslash_stays styles.Path text start at e = rw e (and-false (not (at == start)))
 backslash_stays styles.Arguments text start at e = rw e refl
-backslash_stays styles.Include text start at e = rw e (and_false (not (at == start)))
+backslash_stays styles.Include text start at e = rw e (and-false (not (at == start)))
 
 -- Nor does a hexadecimal digit, where there are such escapes.
 record NoEnder (b : ℕ) : Type 0 where
@@ -61,22 +64,25 @@ no_word_end text start at h = rw (h.blank, h.mark, h.quote, h.sign) refl
 no_assignment : (text : List ℕ) (at : ℕ) → NoEnder (get_or text at 0) → is_assignment text at ≡ false
 no_assignment text at h = rw (h.plus, h.minus) refl
 
-hex_stays : (style : Style) (text : List ℕ) (start at : ℕ) → has_hex style ≡ true → is_hex (get_or text at 0) ≡ true → ends_run style text start at ≡ false
+hex_stays : (style : Style) (text : List ℕ) (start at : ℕ) → has_hex style ≡ true → is_hex (get_or text at 0) ≡ true
+    → ends_run style text start at ≡ false
 unfolding ends_run
 hex_stays styles.Quoted text start at on h = (hex_no_ender (get_or text at 0) h).quote
-hex_stays styles.Word text start at on h = rw (no_word_end text start at (hex_no_ender (get_or text at 0) h)) (and_false (not (at == start)))
+hex_stays styles.Word text start at on h = rw (no_word_end text start at (hex_no_ender (get_or text at 0) h))
+    (and-false (not (at == start)))
 hex_stays styles.DefaultsWord text start at on h =
     let none = hex_no_ender (get_or text at 0) h in
-    rw (no_word_end text start at none, no_assignment text at none) (and_false (not (at == start)))
+    rw (no_word_end text start at none, no_assignment text at none) (and-false (not (at == start)))
 hex_stays styles.Value text start at on h =
     let none = hex_no_ender (get_or text at 0) h in
-    rw (none.blank, none.comma, none.quote, none.sign) (and_false (not (at == start)))
-hex_stays styles.Path text start at on h = absurd (false_true on)
-hex_stays styles.Arguments text start at on h = absurd (false_true on)
-hex_stays styles.Include text start at on h = absurd (false_true on)
+    rw (none.blank, none.comma, none.quote, none.sign) (and-false (not (at == start)))
+hex_stays styles.Path text start at on h = absurd (false≢true on)
+hex_stays styles.Arguments text start at on h = absurd (false≢true on)
+hex_stays styles.Include text start at on h = absurd (false≢true on)
 
 -- Nor does a blank among arguments.
-blank_stays : (style : Style) (text : List ℕ) (start at : ℕ) → is_arguments style ≡ true → is_blank (get_or text at 0) ≡ true → ends_run style text start at ≡ false
+blank_stays : (style : Style) (text : List ℕ) (start at : ℕ) → is_arguments style ≡ true
+    → is_blank (get_or text at 0) ≡ true → ends_run style text start at ≡ false
 unfolding ends_run
 blank_stays styles.Arguments text start at on h =
     let byte : ℕ = get_or text at 0 in
@@ -84,12 +90,12 @@ blank_stays styles.Arguments text start at on h =
     let b : (byte == 58) ≡ false = grind (arith, nat_tests) in
     let c : (byte == 35) ≡ false = grind (arith, nat_tests) in
     rw (a, b, c) refl
-blank_stays styles.Quoted text start at on h = absurd (false_true on)
-blank_stays styles.Word text start at on h = absurd (false_true on)
-blank_stays styles.DefaultsWord text start at on h = absurd (false_true on)
-blank_stays styles.Value text start at on h = absurd (false_true on)
-blank_stays styles.Path text start at on h = absurd (false_true on)
-blank_stays styles.Include text start at on h = absurd (false_true on)
+blank_stays styles.Quoted text start at on h = absurd (false≢true on)
+blank_stays styles.Word text start at on h = absurd (false≢true on)
+blank_stays styles.DefaultsWord text start at on h = absurd (false≢true on)
+blank_stays styles.Value text start at on h = absurd (false≢true on)
+blank_stays styles.Path text start at on h = absurd (false≢true on)
+blank_stays styles.Include text start at on h = absurd (false≢true on)
 
 blank_no_backslash : (b : ℕ) → is_blank b ≡ true → (b == 92) ≡ false
 blank_no_backslash b h = grind (arith, nat_tests)
@@ -98,14 +104,21 @@ blank_no_backslash b h = grind (arith, nat_tests)
 pub record Moves (style : Style) (text : List ℕ) (start at next : ℕ) (taken later : Bool) : Type 0 where
   pub after : at ≤ next
   leaves : taken_from text start at ≡ taken → taken_from text start next ≡ later
-  none : taken_from text start at ≡ taken → (i : ℕ) → at ≤ i → i < next → taken_from text start i ≡ false → ends_run style text start i ≡ true → ⊥
+  none : taken_from text start at ≡ taken → (i : ℕ) → at ≤ i → i < next → taken_from text start i ≡ false
+      → ends_run style text start i ≡ true → ⊥
 
 stay : (style : Style) (text : List ℕ) (start at next : ℕ) → at ≡ next → Moves style text start at next false false
 stay style text start at next same =
-    record { after = omega arith; leaves = λ e. ap (taken_from text start) (sym same) ∙ e; none = λ e i low high free ends. absurd (omega arith) }
+    record {
+      after = omega arith;
+      leaves = λ e. ap (taken_from text start) (sym same)
+          ∙ e;
+      none = λ e i low high free ends. absurd (omega arith);
+    }
 
 move_one : (style : Style) (text : List ℕ) (start at next : ℕ) (taken later : Bool) → next ≡ at + 1 → start ≤ at
-    → (taken ≡ false → ends_run style text start at ≡ false) → takes_next taken (get_or text at 0) ≡ later → Moves style text start at next taken later
+    → (taken ≡ false → ends_run style text start at ≡ false) → takes_next taken (get_or text at 0) ≡ later
+    → Moves style text start at next taken later
 move_one style text start at next taken later is from on takes =
     let byte : ℕ = get_or text at 0 in
     let more : next ≡ suc at = omega arith in
@@ -115,10 +128,11 @@ move_one style text start at next taken later is from on takes =
       none = λ e i low high free ends.
           let here : i ≡ at = omega arith in
           let untaken : taken ≡ false = sym e ∙ ap (taken_from text start) (sym here) ∙ free in
-          true_false (sym ends ∙ ap (ends_run style text start) here ∙ on untaken);
+          true≢false (sym ends ∙ ap (ends_run style text start) here ∙ on untaken);
     }
 
-move_on : (style : Style) (text : List ℕ) (start at mid next : ℕ) (taken middle later : Bool) → Moves style text start at mid taken middle → Moves style text start mid next middle later
+move_on : (style : Style) (text : List ℕ) (start at mid next : ℕ) (taken middle later : Bool)
+    → Moves style text start at mid taken middle → Moves style text start mid next middle later
     → Moves style text start at next taken later
 move_on style text start at mid next taken middle later a b =
     let low = a.after in
@@ -140,25 +154,28 @@ escape_moves style text start at c n from slash is =
     let two : Moves style text start at (at + 2) false false
     = move_on style text start at (at + 1) (at + 2) false true false
     (move_one style text start at (at + 1) false true refl from (λ e. backslash_stays style text start at (eqb-true _ _ slash)) slash)
-    (move_one style text start (at + 1) (at + 2) true false (omega arith) (omega arith) (λ e. absurd (true_false e)) refl) in
+    (move_one style text start (at + 1) (at + 2) true false (omega arith) (omega arith) (λ e. absurd (true≢false e)) refl) in
     let next : ℕ = get_or text (at + 1) 0 in
     let high : ℕ = get_or text (at + 2) 0 in
     let low : ℕ = get_or text (at + 3) 0 in
     let byte : Ch = escaped (hex_value high * 16 + hex_value low) in
     let last : Piece = if is_control next then Bad flaws.NotPrintable (at + 1) else Char (escaped next) (at + 2) in
-    choose (nat_le (length text) (at + 1)) (Bad flaws.BadEscape at) (if has_hex style && (next == 120) then hex_at text at else last) (Char c n) is
+    choose (nat_le (length text) (at + 1)) (Bad flaws.BadEscape at)
+    (if has_hex style && (next == 120) then hex_at text at else last) (Char c n) is
     (λ w e. absurd (bad_char _ _ _ _ e))
     (λ w rest. choose (has_hex style && (next == 120)) (hex_at text at) last (Char c n) rest
     (λ x hex. choose (nat_lt (at + 3) (length text) && is_hex high && is_hex low) (Char byte (at + 4)) (Bad flaws.BadHex at) (Char c n) hex
     (λ fits e.
-    let on = (both (has_hex style) (next == 120) x).0 in
-    let front = both (nat_lt (at + 3) (length text) && is_hex high) (is_hex low) fits in
-    let room = both (nat_lt (at + 3) (length text)) (is_hex high) front.0 in
+    let on = (and_parts (has_hex style) (next == 120) x).0 in
+    let front = and_parts (nat_lt (at + 3) (length text) && is_hex high) (is_hex low) fits in
+    let room = and_parts (nat_lt (at + 3) (length text)) (is_hex high) front.0 in
     subst (λ m. Moves style text start at m false false) (next_is _ _ _ _ e)
     (move_on style text start at (at + 2) (at + 4) false false false two
     (move_on style text start (at + 2) (at + 3) (at + 4) false false false
-    (move_one style text start (at + 2) (at + 3) false false (omega arith) (omega arith) (λ u. hex_stays style text start (at + 2) on room.1) (hex_not_escape high room.1))
-    (move_one style text start (at + 3) (at + 4) false false (omega arith) (omega arith) (λ u. hex_stays style text start (at + 3) on front.1) (hex_not_escape low front.1)))))
+    (move_one style text start (at + 2) (at + 3) false false (omega arith) (omega arith)
+    (λ u. hex_stays style text start (at + 2) on room.1) (hex_not_escape high room.1))
+    (move_one style text start (at + 3) (at + 4) false false (omega arith) (omega arith)
+    (λ u. hex_stays style text start (at + 3) on front.1) (hex_not_escape low front.1)))))
     (λ fits e. absurd (bad_char _ _ _ _ e)))
     (λ x others. choose (is_control next) (Bad flaws.NotPrintable (at + 1)) (Char (escaped next) (at + 2)) (Char c n) others
     (λ w2 e. absurd (bad_char _ _ _ _ e))
@@ -185,7 +202,8 @@ skipped_blank text at i h =
     let len = length-prefix_len is_blank (drop at text) in
     ap is_blank (sym (get_or-drop at text i 0)) ∙ prefix_blank (drop at text) i (omega (arith, len))
 
-blanks_move : (style : Style) (text : List ℕ) (start at left : ℕ) → is_arguments style ≡ true → start ≤ at → ((i : ℕ) → i < left → is_blank (get_or text (at + i) 0) ≡ true)
+blanks_move : (style : Style) (text : List ℕ) (start at left : ℕ) → is_arguments style ≡ true → start ≤ at
+    → ((i : ℕ) → i < left → is_blank (get_or text (at + i) 0) ≡ true)
     → Moves style text start at (at + left) false false
 blanks_move style text start at zero on from blank = stay style text start at (at + 0) (omega arith)
 blanks_move style text start at (suc left) on from blank =
@@ -196,10 +214,12 @@ blanks_move style text start at (suc left) on from blank =
     let moved : at + 1 + i ≡ at + suc i = omega arith in
     ap (λ n. is_blank (get_or text n 0)) moved ∙ blank (suc i) (omega arith)) in
     move_on style text start at (at + 1) (at + suc left) false false false
-    (move_one style text start at (at + 1) false false refl from (λ u. blank_stays style text start at on here) (blank_no_backslash (get_or text at 0) here))
+    (move_one style text start at (at + 1) false false refl from (λ u. blank_stays style text start at on here)
+    (blank_no_backslash (get_or text at 0) here))
     (subst (λ m. Moves style text start (at + 1) m false false) end rest)
 
-skip_moves : (style : Style) (text : List ℕ) (start at : ℕ) (c : Ch) (n : ℕ) → is_arguments style ≡ true → start ≤ at → blanks_at text at ≡ Char c n → Moves style text start at n false false
+skip_moves : (style : Style) (text : List ℕ) (start at : ℕ) (c : Ch) (n : ℕ) → is_arguments style ≡ true → start ≤ at
+    → blanks_at text at ≡ Char c n → Moves style text start at n false false
 unfolding blanks_at
 skip_moves style text start at c n on from is =
     let next : ℕ = skip text at in
@@ -208,7 +228,8 @@ skip_moves style text start at c n on from is =
     (blanks_move style text start at (length (take_while is_blank (drop at text))) on from (skipped_blank text at)))
     (λ w e. absurd (end_char _ _ e))
 
-pub piece_moves : (style : Style) (text : List ℕ) (start at : ℕ) (c : Ch) (n : ℕ) → start ≤ at → piece_at style text start at ≡ Char c n → Moves style text start at n false false
+pub piece_moves : (style : Style) (text : List ℕ) (start at : ℕ) (c : Ch) (n : ℕ) → start ≤ at
+    → piece_at style text start at ≡ Char c n → Moves style text start at n false false
 unfolding piece_at
 piece_moves style text start at c n from is =
     let byte : ℕ = get_or text at 0 in
@@ -225,10 +246,12 @@ piece_moves style text start at c n from is =
     (λ ends rest3. choose (is_control byte) (Bad flaws.NotPrintable at) fourth (Char c n) rest3
     (λ control e. absurd (bad_char _ _ _ _ e))
     (λ control rest4. choose (is_arguments style && is_blank byte) (blanks_at text at) last (Char c n) rest4
-    (λ v e. skip_moves style text start at c n (both (is_arguments style) (is_blank byte) v).0 from e)
-    (λ v e. subst (λ m. Moves style text start at m false false) (next_is _ _ _ _ e) (move_one style text start at (at + 1) false false refl from (λ u. ends) slash))))))
+    (λ v e. skip_moves style text start at c n (and_parts (is_arguments style) (is_blank byte) v).0 from e)
+    (λ v e. subst (λ m. Moves style text start at m false false) (next_is _ _ _ _ e)
+    (move_one style text start at (at + 1) false false refl from (λ u. ends) slash))))))
 
-pub reach-moves : (style : Style) (text : List ℕ) (start at end : ℕ) (cs : List Ch) → start ≤ at → reach style text start at cs ≡ Some end → Moves style text start at end false false
+pub reach-moves : (style : Style) (text : List ℕ) (start at end : ℕ) (cs : List Ch) → start ≤ at
+    → reach style text start at cs ≡ Some end → Moves style text start at end false false
 unfolding reach
 reach-moves style text start at end [] from h = stay style text start at end cc
 reach-moves style text start at end (c ∷ cs) from h =
@@ -248,7 +271,8 @@ escape_goes_on style text at is =
     choose (nat_le (length text) (at + 1)) (Bad flaws.BadEscape at) (if has_hex style && (next == 120) then hex_at text at else last) End is
     (λ w e. bad_end _ _ e)
     (λ w rest. choose (has_hex style && (next == 120)) (hex_at text at) last End rest
-    (λ x hex. choose (nat_lt (at + 3) (length text) && is_hex high && is_hex low) (Char (escaped (hex_value high * 16 + hex_value low)) (at + 4)) (Bad flaws.BadHex at) End hex
+    (λ x hex. choose (nat_lt (at + 3) (length text) && is_hex high && is_hex low)
+    (Char (escaped (hex_value high * 16 + hex_value low)) (at + 4)) (Bad flaws.BadHex at) End hex
     (λ y e. end_char _ _ (sym e)) (λ y e. bad_end _ _ e))
     (λ x others. choose (is_control next) (Bad flaws.NotPrintable (at + 1)) (Char (escaped next) (at + 2)) End others
     (λ y e. bad_end _ _ e) (λ y e. end_char _ _ (sym e))))
@@ -259,7 +283,7 @@ long a b h = grind (arith, nat_tests)
 not_both : (a b : ℕ) (c : Bool) → (nat_lt a b && not c) ≡ false → (b ≤ a) ⊎ (c ≡ true)
 not_both a b true h = inr refl
 not_both a b false h = inl (elim (cases_lt a b) [
-  | inl lt ↦ absurd (true_false (sym (let e : nat_lt a b ≡ true = grind (arith, nat_tests) in rw e refl) ∙ h))
+  | inl lt ↦ absurd (true≢false (sym (let e : nat_lt a b ≡ true = grind (arith, nat_tests) in rw e refl) ∙ h))
   | inr le ↦ omega arith
 ])
 
@@ -289,7 +313,7 @@ end_parts style text start at is =
     (λ ends rest3. choose (is_control byte) (Bad flaws.NotPrintable at) fourth End rest3
     (λ control e. absurd (bad_end _ _ e))
     (λ control rest4. choose (is_arguments style && is_blank byte) (blanks_at text at) last End rest4
-    (λ v e. let parts = both (is_arguments style) (is_blank byte) v in inr (inr (parts.0, leads_out text at parts.1 e)))
+    (λ v e. let parts = and_parts (is_arguments style) (is_blank byte) v in inr (inr (parts.0, leads_out text at parts.1 e)))
     (λ v e. absurd (end_char _ _ (sym e)))))))
 
 -- What a whole run says of the bytes before its end.
@@ -299,14 +323,16 @@ record Reached (style : Style) (text : List ℕ) (start end : ℕ) : Type 0 wher
   none : (i : ℕ) → start ≤ i → i < end → taken_from text start i ≡ false → ends_run style text start i ≡ true → ⊥
   stops : piece_at style text start end ≡ End
 
-reached : (style : Style) (text : List ℕ) (start end : ℕ) (cs : List Ch) → run_end style text start cs ≡ Some end → Reached style text start end
+reached : (style : Style) (text : List ℕ) (start end : ℕ) (cs : List Ch) → run_end style text start cs ≡ Some end
+    → Reached style text start end
 reached style text start end cs run =
     let parts = run_parts style text start end cs run in
     let moves = reach-moves style text start start end cs (omega arith) parts.0 in
     let begins = taken_start text start in
     record { after = moves.after; free = moves.leaves begins; none = moves.none begins; stops = parts.1 }
 
-pub whole_run : (style : Style) (text : List ℕ) (start end : ℕ) (cs : List Ch) → run_end style text start cs ≡ Some end → IsWholeRun style text start end
+pub whole_run : (style : Style) (text : List ℕ) (start end : ℕ) (cs : List Ch)
+    → run_end style text start cs ≡ Some end → IsWholeRun style text start end
 whole_run style text start end cs run =
     let r = reached style text start end cs run in
     let after = r.after in
@@ -329,7 +355,8 @@ whole_run style text start end cs run =
     }
 
 -- A run between quotes.
-pub runs_end_at_quotes : (text : List ℕ) (start len : ℕ) (cs : List Ch) → run_end styles.Quoted text start cs ≡ Some (start + len) → get_or text (start + len) 0 ≡ 34
+pub runs_end_at_quotes : (text : List ℕ) (start len : ℕ) (cs : List Ch)
+    → run_end styles.Quoted text start cs ≡ Some (start + len) → get_or text (start + len) 0 ≡ 34
     → IsFirstClosingQuote (drop start text) len
 unfolding ends_run
 runs_end_at_quotes text start len cs run quote =
@@ -355,6 +382,7 @@ words_end_at_quotes text at end cs h =
     record {
       len = len;
       behind = omega (arith, same);
-      is = runs_end_at_quotes text (at + 1) len cs (a.1 ∙ ap Some last) (ap (λ n. get_or text n 0) (sym last) ∙ eqb-true (get_or text a.0 0) 34 quote);
+      is = runs_end_at_quotes text (at + 1) len cs (a.1 ∙ ap Some last) (ap (λ n. get_or text n 0) (sym last)
+          ∙ eqb-true (get_or text a.0 0) 34 quote);
     })
     (λ quote e. absurd (none_some end e))

@@ -39,5 +39,6 @@ mixed : logical_lines 0 (codes "#include a\\" ++ 10 ∷ codes "  b" ++ 13 ∷ 10
 mixed = refl
 
 -- a fault in the second logical line, after three physical lines
-open_end_later : logical_lines 0 (codes "a\\" ++ 10 ∷ codes "b\\" ++ 10 ∷ codes "c" ++ 10 ∷ codes "d\\" ++ 10 ∷ codes "e\\") ≡ Err (BadEscape (place 0 4) 3)
+open_end_later : logical_lines 0 (codes "a\\" ++ 10 ∷ codes "b\\" ++ 10 ∷ codes "c" ++ 10
+    ∷ codes "d\\" ++ 10 ∷ codes "e\\") ≡ Err (BadEscape (place 0 4) 3)
 open_end_later = refl

@@ -25,7 +25,8 @@ newline_at [] k le none at = omega (arith, le)
 newline_at (x ∷ xs) zero le none at =
     sym (count-cons x xs ∙ ap (λ t. cond (not t) (suc (length (take_while (λ b. not (b == 10)) xs))) 0) (at (omega arith)))
 newline_at (x ∷ xs) (suc k) le none at =
-    let more = newline_at xs k (omega (arith, le)) (λ j low high. none (suc j) (omega arith) (omega (arith, high))) (λ lt. at (omega (arith, lt))) in
+    let more = newline_at xs k (omega (arith, le)) (λ j low high. none (suc j) (omega arith) (omega (arith, high)))
+    (λ lt. at (omega (arith, lt))) in
     sym (count-cons x xs
     ∙ ap (λ t. cond t (suc (length (take_while (λ b. not (b == 10)) xs))) 0) (other (x == 10) (none 0 (omega arith) (omega arith)))
     ∙ ap suc (sym more))

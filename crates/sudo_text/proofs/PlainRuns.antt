@@ -1,6 +1,7 @@
 -- The characters of a run without a backslash are its bytes.
-use Rattle.std.proofs.Common.{◌≡◌, ◌≢◌, ℕ, zero, suc, ◌+◌, ◌-◌, ◌<◌, ◌≤◌, List, [], ◌∷◌, length, take, drop, map, get_or, false, refl, sym, ◌∙◌, ap, Some, ◌*◌, drop-cons, arith}
-use Rattle.std.proofs.lemmas.Bool.{eqb-true}
+use Rattle.std.proofs.Common.{◌≡◌, ◌≢◌, ℕ, zero, suc, ◌+◌, ◌-◌, ◌<◌, ◌≤◌, List, [], ◌∷◌, length, take, drop, map}
+use Rattle.std.proofs.Common.{get_or, false, refl, sym, ◌∙◌, ap, Some, ◌*◌, drop-cons, arith}
+use Rattle.std.proofs.lemmas.Bool.{eqb-true, and_parts, true≢false}
 use Rattle.std.specs.Prelude.{◌==◌, ◌&&◌, if◌then◌else◌, nat_le, nat_lt}
 use Rattle.sudo_text.specs.declared.token.Ch.{Ch}
 use Rattle.sudo_text.specs.declared.piece.Style.{Style}
@@ -9,10 +10,9 @@ use Rattle.sudo_text.specs.declared.piece.Piece.TheVariants.{Char, End, Bad}
 use Rattle.sudo_text.specs.declared.piece.Flaw.TheVariants as flaws
 use Rattle.sudo_text.specs.Bytes.{is_blank, is_hex, is_control, hex_value}
 use Rattle.sudo_text.specs.Pieces.{plain, escaped, ends_run, has_hex, is_arguments, hex_at, escape_at, blanks_at, piece_at, reach, run_end}
-use Rattle.sudo_text.proofs.Reaching.{choose, both, bad_char, end_char, follow-parts, run_parts}
-use Rattle.sudo_text.proofs.Closing.{short, next_is}
-use Rattle.sudo_text.proofs.Unique.{true_false}
-use Rattle.sudo_text.proofs.Spacing.{same_char}
+use Rattle.sudo_text.proofs.RunCharacters.{choose, bad_char, end_char, follow-parts, run_parts}
+use Rattle.sudo_text.proofs.ClosingQuotes.{short, next_is}
+use Rattle.sudo_text.proofs.ArgumentBlanks.{same_char}
 use Rattle.sudo_text.proofs.Endings.{piece_moves, reach-moves}
 
 escape_after : (style : Style) (text : List ℕ) (at : ℕ) (c : Ch) (n : ℕ) → escape_at style text at ≡ Char c n → at < n
@@ -22,10 +22,12 @@ escape_after style text at c n is =
     let high : ℕ = get_or text (at + 2) 0 in
     let low : ℕ = get_or text (at + 3) 0 in
     let last : Piece = if is_control next then Bad flaws.NotPrintable (at + 1) else Char (escaped next) (at + 2) in
-    choose (nat_le (length text) (at + 1)) (Bad flaws.BadEscape at) (if has_hex style && (next == 120) then hex_at text at else last) (Char c n) is
+    choose (nat_le (length text) (at + 1)) (Bad flaws.BadEscape at)
+    (if has_hex style && (next == 120) then hex_at text at else last) (Char c n) is
     (λ w e. absurd (bad_char _ _ _ _ e))
     (λ w rest. choose (has_hex style && (next == 120)) (hex_at text at) last (Char c n) rest
-    (λ x hex. choose (nat_lt (at + 3) (length text) && is_hex high && is_hex low) (Char (escaped (hex_value high * 16 + hex_value low)) (at + 4)) (Bad flaws.BadHex at) (Char c n) hex
+    (λ x hex. choose (nat_lt (at + 3) (length text) && is_hex high && is_hex low)
+    (Char (escaped (hex_value high * 16 + hex_value low)) (at + 4)) (Bad flaws.BadHex at) (Char c n) hex
     (λ y e. let there = next_is _ _ _ _ e in omega (arith, there)) (λ y e. absurd (bad_char _ _ _ _ e)))
     (λ x others. choose (is_control next) (Bad flaws.NotPrintable (at + 1)) (Char (escaped next) (at + 2)) (Char c n) others
     (λ y e. absurd (bad_char _ _ _ _ e)) (λ y e. let there = next_is _ _ _ _ e in omega (arith, there))))
@@ -36,7 +38,8 @@ record IsPlainAt (text : List ℕ) (at : ℕ) (c : Ch) (n : ℕ) : Type 0 where
   next : n ≡ at + 1
   char : c ≡ plain (get_or text at 0)
 
-plain_piece : (style : Style) (text : List ℕ) (start at end : ℕ) (c : Ch) (n : ℕ) → is_arguments style ≡ false → (at < end → get_or text at 0 ≢ 92) → n ≤ end
+plain_piece : (style : Style) (text : List ℕ) (start at end : ℕ) (c : Ch) (n : ℕ) → is_arguments style ≡ false
+    → (at < end → get_or text at 0 ≢ 92) → n ≤ end
     → piece_at style text start at ≡ Char c n → IsPlainAt text at c n
 unfolding piece_at
 plain_piece style text start at end c n off none before is =
@@ -54,10 +57,11 @@ plain_piece style text start at end c n off none before is =
     (λ ends rest3. choose (is_control byte) (Bad flaws.NotPrintable at) fourth (Char c n) rest3
     (λ control e. absurd (bad_char _ _ _ _ e))
     (λ control rest4. choose (is_arguments style && is_blank byte) (blanks_at text at) last (Char c n) rest4
-    (λ v e. absurd (true_false (sym (both (is_arguments style) (is_blank byte) v).0 ∙ off)))
+    (λ v e. absurd (true≢false (sym (and_parts (is_arguments style) (is_blank byte) v).0 ∙ off)))
     (λ v e. record { within = short _ _ w; next = sym (next_is _ _ _ _ e); char = sym (same_char _ _ _ _ e) })))))
 
-plain-reach : (style : Style) (text : List ℕ) (start at len : ℕ) (cs : List Ch) → is_arguments style ≡ false → start ≤ at → ((i : ℕ) → i < len → get_or text (at + i) 0 ≢ 92)
+plain-reach : (style : Style) (text : List ℕ) (start at len : ℕ) (cs : List Ch) → is_arguments style ≡ false
+    → start ≤ at → ((i : ℕ) → i < len → get_or text (at + i) 0 ≢ 92)
     → reach style text start at cs ≡ Some (at + len) → cs ≡ map plain (take len (drop at text))
 unfolding reach
 plain-reach style text start at zero [] off from none h = refl
@@ -70,7 +74,8 @@ plain-reach style text start at len (c ∷ cs) off from none h =
     let first = (piece_moves style text start at c next from step.1).after in
     let before = (reach-moves style text start next (at + len) cs (omega arith) step.2).after in
     let zero_more : at + 0 ≡ at = omega arith in
-    let one = plain_piece style text start at (at + len) c next off (λ lt e. none 0 (omega arith) (ap (λ n. get_or text n 0) zero_more ∙ e)) before step.1 in
+    let one = plain_piece style text start at (at + len) c next off
+    (λ lt e. none 0 (omega arith) (ap (λ n. get_or text n 0) zero_more ∙ e)) before step.1 in
     let after = one.next in
     let left : ℕ = len - 1 in
     let less : suc left ≡ len = omega arith in
@@ -85,7 +90,8 @@ plain-reach style text start at len (c ∷ cs) off from none h =
     ∙ ap (λ xs. map plain (take (suc left) xs)) (sym (drop-cons text at 0 one.within))
     ∙ ap (λ k. map plain (take k (drop at text))) less
 
-pub plain-run : (style : Style) (text : List ℕ) (start len : ℕ) (cs : List Ch) → is_arguments style ≡ false → ((i : ℕ) → i < len → get_or text (start + i) 0 ≢ 92)
+pub plain-run : (style : Style) (text : List ℕ) (start len : ℕ) (cs : List Ch) → is_arguments style ≡ false
+    → ((i : ℕ) → i < len → get_or text (start + i) 0 ≢ 92)
     → run_end style text start cs ≡ Some (start + len) → cs ≡ map plain (take len (drop start text))
 plain-run style text start len cs off none run =
     let parts = run_parts style text start (start + len) cs run in

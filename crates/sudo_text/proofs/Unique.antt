@@ -1,8 +1,9 @@
 -- A line spells at most one list of tokens, and none if it has a fault.
-use Rattle.std.proofs.Common.{◌≡◌, ℕ, ◌+◌, List, [], ◌∷◌, length, get_or, true, false, refl, sym, ◌∙◌, ap, subst, Option, Some, None}
-use Rattle.std.proofs.lemmas.Bool.{eqb-true}
+use Rattle.std.proofs.Common.{◌≡◌, ℕ, ◌+◌, List, [], ◌∷◌, length, get_or, true, refl, sym, ◌∙◌, ap, subst, Option, Some, None}
+use Rattle.std.proofs.lemmas.Bool.{eqb-true, and_parts, true≢false}
 use Rattle.std.specs.Prelude.{◌==◌, if◌then◌else◌, nat_le}
 use Rattle.std.specs.Option.{option_and_then}
+use Rattle.sudo_base.proofs.Options.{none_some}
 use Rattle.sudo_text.specs.declared.token.Ch.{Ch}
 use Rattle.sudo_text.specs.declared.token.Mark.{Mark}
 use Rattle.sudo_text.specs.declared.token.Mark.TheVariants as marks
@@ -11,11 +12,9 @@ use Rattle.sudo_text.specs.declared.piece.Style.{Style}
 use Rattle.sudo_text.specs.declared.piece.Style.TheVariants as styles
 use Rattle.sudo_text.specs.declared.piece.Piece.TheVariants.{Char, End}
 use Rattle.sudo_text.specs.Pieces.{piece_at, skip, reach, run_end, same_ch}
-use Rattle.sudo_text.specs.Tokens.{same_chars, defaults_word, quoted_end, keyword_end, has_arguments, arguments_end, command_end, mark_code, path_end}
-use Rattle.sudo_text.proofs.Reaching.{choose, both, end_char, none_some, follow-parts, run_parts, same_ch-true}
-
-pub true_false : true ≡ false → ⊥
-true_false e = cc
+use Rattle.sudo_text.specs.Tokens.{same_chars, defaults_word, quoted_end, keyword_end, has_arguments, arguments_end}
+use Rattle.sudo_text.specs.Tokens.{command_end, mark_code, path_end}
+use Rattle.sudo_text.proofs.RunCharacters.{choose, end_char, follow-parts, run_parts, same_ch-true}
 
 -- Runs.
 
@@ -49,11 +48,13 @@ run_unique style text start e f xs ys h k =
     reach-unique style text start start e f xs ys a.0 a.1 b.0 b.1
 
 -- Steps that may fail.
-pub then_parts : {A B : Type 0} (r : Option A) (on : A → Option B) (y : B) → option_and_then on r ≡ Some y → (x : A) × (r ≡ Some x) × (on x ≡ Some y)
+pub then_parts : {A B : Type 0} (r : Option A) (on : A → Option B) (y : B) → option_and_then on r ≡ Some y
+    → (x : A) × (r ≡ Some x) × (on x ≡ Some y)
 then_parts None on y h = let f : Some y ≡ None = sym h in cc f
 then_parts (Some x) on y h = (x, refl, h)
 
-pub quoted_unique : (text : List ℕ) (at e f : ℕ) (xs ys : List Ch) → quoted_end text at xs ≡ Some e → quoted_end text at ys ≡ Some f → (xs ≡ ys) × (e ≡ f)
+pub quoted_unique : (text : List ℕ) (at e f : ℕ) (xs ys : List Ch) → quoted_end text at xs ≡ Some e
+    → quoted_end text at ys ≡ Some f → (xs ≡ ys) × (e ≡ f)
 unfolding quoted_end
 quoted_unique text at e f xs ys h k =
     let a = then_parts (run_end styles.Quoted text (at + 1) xs) _ e h in
@@ -69,7 +70,7 @@ same_chars-true [] [] h = refl
 same_chars-true [] (d ∷ ds) h = cc h
 same_chars-true (c ∷ cs) [] h = cc h
 same_chars-true (c ∷ cs) (d ∷ ds) h =
-    let parts = both (same_ch c d) (same_chars cs ds) h in
+    let parts = and_parts (same_ch c d) (same_chars cs ds) h in
     λ i. same_ch-true c d parts.0 i ∷ same_chars-true cs ds parts.1 i
 
 pub keyword_parts : (at e : ℕ) (cs : List Ch) → keyword_end at cs ≡ Some e → (cs ≡ defaults_word) × (at + 8 ≡ e)
@@ -85,11 +86,11 @@ arguments_unique kind text at e f None None h k = let s : Some e ≡ Some f = sy
 arguments_unique kind text at e f None (Some ys) h k =
     choose (has_arguments kind text at) None (Some at) (Some e) h (λ w m. absurd (none_some e m))
     (λ w m. choose (has_arguments kind text at) (run_end styles.Arguments text (skip text at) ys) None (Some f) k
-    (λ v n. absurd (true_false (sym v ∙ w))) (λ v n. absurd (none_some f n)))
+    (λ v n. absurd (true≢false (sym v ∙ w))) (λ v n. absurd (none_some f n)))
 arguments_unique kind text at e f (Some xs) None h k =
     choose (has_arguments kind text at) None (Some at) (Some f) k (λ w m. absurd (none_some f m))
     (λ w m. choose (has_arguments kind text at) (run_end styles.Arguments text (skip text at) xs) None (Some e) h
-    (λ v n. absurd (true_false (sym v ∙ w))) (λ v n. absurd (none_some e n)))
+    (λ v n. absurd (true≢false (sym v ∙ w))) (λ v n. absurd (none_some e n)))
 arguments_unique kind text at e f (Some xs) (Some ys) h k =
     choose (has_arguments kind text at) (run_end styles.Arguments text (skip text at) xs) None (Some e) h
     (λ w m. choose (has_arguments kind text at) (run_end styles.Arguments text (skip text at) ys) None (Some f) k
@@ -108,11 +109,13 @@ command_unique kind text at e f p q xs ys h k =
     (path.0, rest.0, rest.1)
 
 -- The path of an include line.
-pub path_unique : (text : List ℕ) (at e f : ℕ) (xs ys : List Ch) → path_end text at xs ≡ Some e → path_end text at ys ≡ Some f → (xs ≡ ys) × (e ≡ f)
+pub path_unique : (text : List ℕ) (at e f : ℕ) (xs ys : List Ch) → path_end text at xs ≡ Some e
+    → path_end text at ys ≡ Some f → (xs ≡ ys) × (e ≡ f)
 unfolding path_end
 path_unique text at e f xs ys h k =
     let next : ℕ = skip text at in
-    let found : List Ch → Option ℕ = λ cs. if get_or text next 0 == 34 then quoted_end text next cs else run_end styles.Include text next cs in
+    let found : List Ch → Option ℕ = λ cs. if get_or text next 0 == 34 then quoted_end text next cs else run_end
+    styles.Include text next cs in
     let none : List Ch → Option ℕ = λ cs. if same_chars cs [] then Some at else None in
     choose (nat_le (length text) next) (none xs) (found xs) (Some e) h
     (λ w m. choose (nat_le (length text) next) (none ys) (found ys) (Some f) k
@@ -122,22 +125,23 @@ path_unique text at e f xs ys h k =
     (λ b p. let s : Some e ≡ Some f = sym o ∙ p in let t : e ≡ f = cc s in (same_chars-true xs [] a ∙ sym (same_chars-true ys [] b), t))
     (λ b p. absurd (none_some f p)))
     (λ a o. absurd (none_some e o)))
-    (λ v n. absurd (true_false (sym w ∙ v))))
+    (λ v n. absurd (true≢false (sym w ∙ v))))
     (λ w m. choose (nat_le (length text) next) (none ys) (found ys) (Some f) k
-    (λ v n. absurd (true_false (sym v ∙ w)))
+    (λ v n. absurd (true≢false (sym v ∙ w)))
     (λ v n. choose (get_or text next 0 == 34) (quoted_end text next xs) (run_end styles.Include text next xs) (Some e) m
     (λ a o. choose (get_or text next 0 == 34) (quoted_end text next ys) (run_end styles.Include text next ys) (Some f) n
     (λ b p. quoted_unique text next e f xs ys o p)
-    (λ b p. absurd (true_false (sym a ∙ b))))
+    (λ b p. absurd (true≢false (sym a ∙ b))))
     (λ a o. choose (get_or text next 0 == 34) (quoted_end text next ys) (run_end styles.Include text next ys) (Some f) n
-    (λ b p. absurd (true_false (sym b ∙ a)))
+    (λ b p. absurd (true≢false (sym b ∙ a)))
     (λ b p. run_unique styles.Include text next e f xs ys o p))))
 
 -- Marks by number.
 abbrev mark_of : ℕ → Mark
 mark_of n =
     if n == 0 then marks.Bang else (if n == 1 then marks.Equals else (if n == 2 then marks.Comma else (if n == 3 then marks.Colon
-    else (if n == 4 then marks.LeftParen else (if n == 5 then marks.RightParen else (if n == 6 then marks.At else (if n == 7 then marks.Greater
+    else (if n == 4 then marks.LeftParen else
+    (if n == 5 then marks.RightParen else (if n == 6 then marks.At else (if n == 7 then marks.Greater
     else (if n == 8 then marks.PlusEquals else marks.MinusEquals))))))))
 
 mark_of-mark_code : (m : Mark) → mark_of (mark_code m) ≡ m

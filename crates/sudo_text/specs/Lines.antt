@@ -2,7 +2,8 @@
 --
 -- A text is cut at its newlines into physical lines. A comment line is a run by itself; any other run is a physical
 -- line with those that continue it. Each run is joined into one logical line.
-use Rattle.std.specs.Prelude.{ℕ, Bool, true, false, not, ◌&&◌, ◌||◌, ◌==◌, nat_lt, if◌then◌else◌, List, [], ◌∷◌, ◌++◌, map, reverse, length, take, drop, slice_index, ◌+◌, ◌-◌, ◌%◌}
+use Rattle.std.specs.Prelude.{ℕ, Bool, true, false, not, ◌&&◌, ◌||◌, ◌==◌, nat_lt, if◌then◌else◌, List, [], ◌∷◌, ◌++◌}
+use Rattle.std.specs.Prelude.{map, reverse, length, take, drop, slice_index, ◌+◌, ◌-◌, ◌%◌}
 use Rattle.std.specs.Prelude.{Ok, Err}
 use Rattle.std.specs.Prelude.{Result}
 use Rattle.std.specs.List.{onto_first, take_while}

@@ -1,5 +1,6 @@
 -- The rule that reads the text at an offset of a line.
-use Rattle.std.specs.Prelude.{ℕ, Bool, true, false, not, ◌&&◌, ◌||◌, ◌==◌, nat_eq, nat_le, nat_lt, ◌≤◌, if◌then◌else◌, List, length, drop, slice_index, ◌+◌, Option, Some, None, codes}
+use Rattle.std.specs.Prelude.{ℕ, Bool, true, false, not, ◌&&◌, ◌||◌, ◌==◌, nat_eq, nat_le, nat_lt, if◌then◌else◌}
+use Rattle.std.specs.Prelude.{List, length, drop, slice_index, ◌+◌, Option, Some, None, codes}
 use Rattle.std.specs.List.{starts_with}
 use Rattle.sudo_text.specs.declared.token.TokenKind.{TokenKind}
 use Rattle.sudo_text.specs.declared.token.TokenKind.TheVariants as kinds
@@ -147,20 +148,3 @@ rule_at kind before text at =
 
 abbrev pub directive_len : Bool → ℕ
 directive_len folder = if folder then 11 else 8
-
--- a text of this length is long enough for the word or directive that begins a line of this kind
-abbrev pub KindFits : LineKind → ℕ → Type 0
-KindFits lines.General len = Unit {0}
-KindFits lines.Defaults len = 8 ≤ len
-KindFits (lines.Include folder hash) len = directive_len folder ≤ len
-
--- `len` bytes are long enough for the token of this rule
-abbrev pub RuleFits : Rule → ℕ → Type 0
-RuleFits (rules.Include folder hash) len = directive_len folder ≤ len
-RuleFits rules.Keyword len = 8 ≤ len
-RuleFits rules.Comment len = Unit {0}
-RuleFits rules.Quoted len = Unit {0}
-RuleFits rules.Value len = Unit {0}
-RuleFits rules.Command len = Unit {0}
-RuleFits (rules.Mark mark) len = mark_len mark ≤ len
-RuleFits rules.Word len = Unit {0}

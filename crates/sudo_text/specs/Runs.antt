@@ -1,6 +1,8 @@
 -- Facts about runs that do not follow the text byte by byte: which double quote closes a quoted word, with which bytes
 -- a word, a value or a path begins, and which blanks arguments contain.
-use Rattle.std.specs.Prelude.{◌≡◌, ◌≢◌, ℕ, zero, suc, Bool, true, false, not, ◌&&◌, ◌==◌, if◌then◌else◌, nat_eq, List, length, map, take, drop, slice_index, slice_get, ◌+◌, ◌%◌, ◌<◌, ◌≤◌, ◌⊎◌, ◌↔◌, Some, IsTrue, codes}
+use Rattle.std.specs.Prelude.{◌≡◌, ◌≢◌, ℕ, zero, suc, Bool, true, false, not, ◌&&◌, ◌==◌, if◌then◌else◌, nat_eq, List}
+use Rattle.std.specs.Prelude.{length, map, take, drop, slice_index, slice_get, ◌+◌, ◌%◌, ◌<◌, ◌≤◌, ◌⊎◌, ◌↔◌, Some}
+use Rattle.std.specs.Prelude.{IsTrue, codes}
 use Rattle.std.specs.List.{starts_with}
 use Rattle.sudo_text.specs.declared.token.Ch.{Ch}
 use Rattle.sudo_text.specs.declared.rules.LineKind.{LineKind}
@@ -36,7 +38,8 @@ QuotesClose = (text : List ℕ) → (has_closing false text ≡ true) ↔ ((at :
 -- a run between double quotes that ends at a double quote, `len` bytes from its start, ends at the first that closes
 abbrev pub QuotesEndRuns : Type 0
 QuotesEndRuns = (text : List ℕ) (start len : ℕ) (cs : List Ch)
-    → run_end styles.Quoted text start cs ≡ Some (start + len) → slice_index text (start + len) ≡ 34 → IsFirstClosingQuote (drop start text) len
+    → run_end styles.Quoted text start cs ≡ Some (start + len) → slice_index text (start + len) ≡ 34
+    → IsFirstClosingQuote (drop start text) len
 
 -- the offset is directly after the first double quote that closes after an opening one
 pub record IsBehindFirstQuote (text : List ℕ) (at end : ℕ) : Type 0 where
@@ -55,7 +58,8 @@ pub record EndsBehind (style : Style) (text : List ℕ) (start len : ℕ) : Type
 
 -- blanks at an offset, followed by the end of the text or by a byte that ends arguments
 abbrev pub LeadsOut : List ℕ → ℕ → Type 0
-LeadsOut text at = IsBlankAt text at × ((length text ≤ skip text at) ⊎ (ends_run styles.Arguments text (skip text at) (skip text at) ≡ true))
+LeadsOut text at = IsBlankAt text at
+    × ((length text ≤ skip text at) ⊎ (ends_run styles.Arguments text (skip text at) (skip text at) ≡ true))
 
 -- the run from `start` extends to the first byte that ends it, or to the end of the text; arguments leave out the
 -- blanks before that
@@ -67,12 +71,14 @@ pub record IsWholeRun (style : Style) (text : List ℕ) (start end : ℕ) : Type
 
 -- each run is whole in this sense
 abbrev pub RunsAreWhole : Type 0
-RunsAreWhole = (style : Style) (text : List ℕ) (start end : ℕ) (cs : List Ch) → run_end style text start cs ≡ Some end → IsWholeRun style text start end
+RunsAreWhole = (style : Style) (text : List ℕ) (start end : ℕ) (cs : List Ch) → run_end style text start cs ≡ Some end
+    → IsWholeRun style text start end
 
 -- the characters of a run without a backslash are its bytes, except in arguments
 abbrev pub PlainRuns : Type 0
 PlainRuns = (style : Style) (text : List ℕ) (start len : ℕ) (cs : List Ch) → is_arguments style ≡ false
-    → ((i : ℕ) → i < len → slice_index text (start + i) ≢ 92) → run_end style text start cs ≡ Some (start + len) → cs ≡ map plain (take len (drop start text))
+    → ((i : ℕ) → i < len → slice_index text (start + i) ≢ 92) → run_end style text start cs ≡ Some (start + len)
+    → cs ≡ map plain (take len (drop start text))
 
 -- a `#` at an offset begins a number: a digit follows it, and the token before allows a number
 abbrev pub OnlyNumbers : Before → List ℕ → ℕ → Type 0
@@ -112,7 +118,8 @@ Begins rules.Keyword kind before text at = Unit {0}
 Begins (rules.Mark mark) kind before text at = Unit {0}
 
 abbrev pub RunsBegin : Type 0
-RunsBegin = (kind : LineKind) (before : Before) (text : List ℕ) (from : ℕ) → Begins (rule_at kind before text (skip text from)) kind before text (skip text from)
+RunsBegin = (kind : LineKind) (before : Before) (text : List ℕ) (from : ℕ)
+    → Begins (rule_at kind before text (skip text from)) kind before text (skip text from)
 
 -- a blank that no escape yields
 abbrev pub is_plain_blank : Ch → Bool

@@ -4,7 +4,9 @@
 -- most one comment after the last; each span is read by the first rule that applies where it begins, is as long as that
 -- rule allows, and has exactly the characters of its token. `LeftmostFault` judges a fault in the same way: by the
 -- tokens before it and the rule that then fails.
-use Rattle.std.specs.Prelude.{◌≡◌, ℕ, Bool, true, false, not, ◌&&◌, ◌||◌, ◌==◌, nat_lt, nat_le, if◌then◌else◌, List, [], ◌∷◌, length, map, drop, slice_index, ◌+◌, ◌<◌, ◌⊎◌, Option, Some, None, Result, Ok, Err, IsTrue, codes}
+use Rattle.std.specs.Prelude.{◌≡◌, ℕ, Bool, true, false, not, ◌&&◌, ◌||◌, ◌==◌, nat_lt, nat_le, if◌then◌else◌, List}
+use Rattle.std.specs.Prelude.{[], ◌∷◌, length, map, drop, slice_index, ◌+◌, ◌<◌, ◌⊎◌, Option, Some, None}
+use Rattle.std.specs.Prelude.{IsTrue, codes}
 use Rattle.std.specs.Option.{option_and_then}
 use Rattle.std.specs.List.{list_any}
 use Rattle.sudo_text.specs.declared.token.Ch.{Ch}
@@ -22,9 +24,6 @@ use Rattle.sudo_text.specs.declared.rules.Before.{Before}
 use Rattle.sudo_text.specs.declared.rules.Before.TheVariants as befores
 use Rattle.sudo_text.specs.declared.rules.Rule.{Rule}
 use Rattle.sudo_text.specs.declared.rules.Rule.TheVariants as rules
-use Rattle.sudo_text.specs.declared.run.Refusal.{Refusal}
-use Rattle.sudo_text.specs.declared.run.Refusal.TheVariants as refusals
-use Rattle.sudo_text.specs.declared.piece.Style.{Style}
 use Rattle.sudo_text.specs.declared.piece.Style.TheVariants as styles
 use Rattle.sudo_text.specs.declared.piece.Flaw.{Flaw}
 use Rattle.sudo_text.specs.declared.piece.Flaw.TheVariants as flaws
@@ -44,14 +43,6 @@ same_chars (c ∷ cs) (d ∷ ds) = same_ch c d && same_chars cs ds
 unfoldable pub quoted_end : List ℕ → ℕ → List Ch → Option ℕ
 quoted_end text at cs =
     option_and_then (λ end. if slice_index text end == 34 then Some (end + 1) else None) (run_end styles.Quoted text (at + 1) cs)
-
--- an unquoted word that begins at the offset
-abbrev pub WordEnds : Style → List ℕ → ℕ → TokenKind → ℕ → Type 0
-WordEnds style text at (kinds.Word true cs) end = ⊥
-WordEnds style text at (kinds.Word false cs) end = run_end style text at cs ≡ Some end
-WordEnds style text at (kinds.Command path args) end = ⊥
-WordEnds style text at (kinds.Mark mark) end = ⊥
-WordEnds style text at (kinds.Include folder hash path) end = ⊥
 
 -- the word `Defaults` that begins a line
 abbrev pub defaults_word : List Ch
@@ -226,26 +217,6 @@ pub record LeftmostFault (line : Line) (fault : TextFault) : Type 0 where
   pub offset : ℕ
   pub after : FlawAfter (line_kind line.text) line.text line.joins 0 befores.Nothing before flaw offset
   pub is : fault ≡ fault_of line.first flaw offset
-
--- the text after an offset has a flaw before any further token
-abbrev pub FlawNext : LineKind → List ℕ → List ℕ → ℕ → Before → Flaw → ℕ → Type 0
-FlawNext kind text joins from before flaw offset = FlawAfter kind text joins from before [] flaw offset
-
--- the fault of a line that begins at this place, for a refusal of one of its tokens
-abbrev pub IsFaultOf : Place → Refusal → TextFault → Type 0
-IsFaultOf first refusals.Memory fault = fault ≡ faults.Memory
-IsFaultOf first (refusals.Wrong flaw offset) fault = fault ≡ fault_of first flaw offset
-
--- the end of the line was reached; `IfToken`: a token was read, and a fact holds of it
-abbrev pub IsDone : Result (Option Token) Refusal → Type 0
-IsDone (Ok None) = Unit {0}
-IsDone (Ok (Some token)) = ⊥
-IsDone (Err refusal) = ⊥
-
-abbrev pub IfToken : Result (Option Token) Refusal → (Token → Type 0) → Type 0
-IfToken (Ok None) P = Unit {0}
-IfToken (Ok (Some token)) P = P token
-IfToken (Err refusal) P = Unit {0}
 
 -- no line spells two lists of tokens
 abbrev pub SpelledOnce : Type 0

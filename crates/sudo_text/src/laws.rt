@@ -1,5 +1,6 @@
 //! Laws of the definitions: each is the contract of a function with an empty body.
-ghost use Rattle.sudo_text.specs.Runs.{QuotesClose, QuotesEndRuns, QuotesEndWords, RunsAreWhole, PlainRuns, RunsBegin, BlanksOfArguments, ArgumentsOfCommands};
+ghost use Rattle.sudo_text.specs.Runs.{QuotesClose, QuotesEndRuns, QuotesEndWords, RunsAreWhole, PlainRuns};
+ghost use Rattle.sudo_text.specs.Runs.{RunsBegin, BlanksOfArguments, ArgumentsOfCommands};
 ghost use Rattle.sudo_text.specs.Tokens.{SpelledOnce, FaultsExclude, FaultedOnce, FaultsPlaced};
 
 /// No line spells two lists of tokens.

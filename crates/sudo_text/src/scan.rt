@@ -1,10 +1,17 @@
 //! The tokens of a line.
-ghost use Rattle.std.specs.Prelude.{◌≡◌, ◌+◌, ◌<◌, ◌≤◌, ◌^◌, ◌≢◌, length, drop, Some, true, false, [], ◌-◌, IsTrue, IfOk, IfErr, OnOk, OnErr, All};
-ghost use Rattle.sudo_text.specs.Pieces.{takes_first, Breaks};
-ghost use Rattle.sudo_text.specs.Rules.{RuleFits, KindFits};
-ghost use Rattle.sudo_text.specs.Refusals.{Refuses};
+ghost use Rattle.std.specs.Prelude.{◌≡◌, ◌+◌, ◌<◌, ◌≤◌, ◌^◌, ◌≢◌, length, drop, Some, true, false, [], ◌-◌, IsTrue};
+ghost use Rattle.std.specs.Prelude.{IfOk, IfErr, OnOk, OnErr, All};
+ghost use Rattle.sudo_text.specs.Pieces.{Breaks};
+ghost use Rattle.sudo_text.specs.Body.Pieces.{takes_first};
+ghost use Rattle.sudo_text.specs.Body.Rules.{RuleFits, KindFits};
+ghost use Rattle.sudo_text.specs.Body.Refusals.{Refuses};
 ghost use Rattle.sudo_text.specs.Tokens as spec;
-ghost use Rattle.sudo_text.specs.Tokens.{quoted_end, command_end, path_end, token_by, token_end, WordEnds, QuotedFlaw, CommandFlaw, PathFlaw, FlawBy, FlawNext, IsDone, IfToken, IsFaultOf, closes_line, stands, spells, LeftmostFault};
+ghost use Rattle.sudo_text.specs.Tokens.{quoted_end, command_end, path_end, token_by, token_end};
+ghost use Rattle.sudo_text.specs.Body.Tokens.{WordEnds};
+ghost use Rattle.sudo_text.specs.Tokens.{QuotedFlaw, CommandFlaw, PathFlaw, FlawBy};
+ghost use Rattle.sudo_text.specs.Body.Tokens.{FlawNext, IsDone, IfToken};
+ghost use Rattle.sudo_text.specs.Tokens.{closes_line, stands, spells, LeftmostFault};
+ghost use Rattle.sudo_text.specs.Body.Tokens.{IsFaultOf};
 ghost use Rattle.sudo_text.specs.Faults.{Gives};
 ghost use Rattle.sudo_text.specs.declared.token.Token.{Token};
 ghost use Rattle.std.specs.Prelude.{List, Ok};

@@ -1,6 +1,8 @@
 -- Bits of words: of a row that grows, of a row with one more bit, of a block with the bits of other words, and the last
 -- bit before a position.
-use Rattle.std.proofs.Common.{◌≡◌, ℕ, zero, suc, ◌+◌, ◌-◌, ◌*◌, ◌/◌, ◌%◌, ◌^◌, ◌<◌, ◌≤◌, ◌⊎◌, inl, inr, List, [], ◌∷◌, ◌++◌, length, get_or, set, refl, sym, ap, subst, ◌∙◌, arith, w64, bit_or, bit_and, min, max, ⊎_elim, get_or-set_same, get_or-set_other}
+use Rattle.std.proofs.Common.{◌≡◌, ℕ, zero, suc, ◌+◌, ◌-◌, ◌*◌, ◌/◌, ◌%◌, ◌^◌, ◌<◌, ◌≤◌, ◌⊎◌, inl, inr, List, [], ◌∷◌}
+use Rattle.std.proofs.Common.{◌++◌, length, get_or, set, refl, sym, ap, subst, ◌∙◌, arith, w64, bit_or, bit_and, min}
+use Rattle.std.proofs.Common.{max, ⊎_elim, get_or-set_same, get_or-set_other}
 use Rattle.std.specs.Int.{bit_at}
 use Rattle.std.specs.Int.Count.{count_leading_zeros, leading_of_zero}
 use Rattle.std.proofs.lemmas.Nat.{pow_below, pow_pos, one_shl, leading_top, div-add-mod'}
@@ -58,7 +60,8 @@ adds-words words old new n within end before after i none = go (cases_lt (i / 64
     go : (i / 64 < n) ⊎ (n ≤ i / 64) → (bit old i ≡ 0) × (i < 64 * length old → bit words i ≡ 0)
     go (inl b) =
         let both : max (bit_at (get_or old (i / 64) 0) (i % 64)) (bit_at (get_or words (i / 64) 0) (i % 64)) ≡ 0 =
-        sym (bit_at_or (get_or old (i / 64) 0) (get_or words (i / 64) 0) (i % 64)) ∙ ap (λ w. bit_at w (i % 64)) (sym (before (i / 64) b)) ∙ none in
+        sym (bit_at_or (get_or old (i / 64) 0) (get_or words (i / 64) 0) (i % 64))
+        ∙ ap (λ w. bit_at w (i % 64)) (sym (before (i / 64) b)) ∙ none in
         (omega (arith, both), λ h. omega (arith, both))
     go (inr a) = (
       ap (λ w. bit_at w (i % 64)) (sym (after (i / 64) a)) ∙ none,
@@ -82,11 +85,15 @@ last-within (suc n) end h e =
     go top.0 top.1 top.2 (cases_lt top.0 end)
   where
     below : (end : ℕ) → suc n < 2 ^ end → end ≤ 64 → suc n < 2 ^ 64
-    below end h e = ⊎_elim (λ l. let p = pow_below end 64 l in omega (arith, p, h)) (λ g. let same : end ≡ 64 = omega (arith, g, e) in subst (λ k. suc n < 2 ^ k) same h) (cases_lt end 64)
+    below end h e = ⊎_elim (λ l. let p = pow_below end 64 l in
+        omega (arith, p, h)) (λ g. let same : end ≡ 64 = omega (arith, g, e) in subst (λ k. suc n < 2 ^ k) same h) (cases_lt end 64)
 
-    go : (j : ℕ) → count_leading_zeros 64 (suc n) + suc j ≡ 64 → 2 ^ j ≤ suc n → (j < end) ⊎ (end ≤ j) → 64 - count_leading_zeros 64 (suc n) ≤ end
+    go : (j : ℕ) → count_leading_zeros 64 (suc n) + suc j ≡ 64 → 2 ^ j ≤ suc n → (j < end) ⊎ (end ≤ j)
+        → 64 - count_leading_zeros 64 (suc n) ≤ end
     go j is least (inl l) = omega (arith, is, l)
-    go j is least (inr g) = absurd (⊎_elim (λ l. let p = pow_below end j l in omega (arith, p, least, h)) (λ k. let same : end ≡ j = omega (arith, g, k) in let p : 2 ^ end ≡ 2 ^ j = ap (λ x. 2 ^ x) same in omega (arith, p, least, h)) (cases_lt end j))
+    go j is least (inr g) = absurd (⊎_elim (λ l. let p = pow_below end j l in omega (arith, p, least, h))
+        (λ k. let same : end ≡ j = omega (arith, g, k) in let p : 2 ^ end ≡ 2 ^ j = ap (λ x. 2 ^ x) same in
+        omega (arith, p, least, h)) (cases_lt end j))
 
 -- and no bit from there on
 pub last-none : (low i : ℕ) → low < 2 ^ 64 → 64 - count_leading_zeros 64 low ≤ i → bit_at low i ≡ 0
@@ -122,9 +129,11 @@ both-none users commands index i within none =
 module _ (word end low : ℕ) (fits : word < 2 ^ 64) where
   pub cut-within : end < 64 → low ≡ word % (1 * 2 ^ end % 2 ^ 64) → 64 - count_leading_zeros 64 low ≤ end
   cut-within less is =
-      last-within low end (subst (λ x. x < 2 ^ end) (sym (is ∙ ap (λ p. word % p) (one_shl end 64 less))) (mod-lt word (pow_pos end))) (omega (arith, less))
+      last-within low end (subst (λ x. x < 2 ^ end) (sym (is ∙ ap (λ p. word % p) (one_shl end 64 less)))
+      (mod-lt word (pow_pos end))) (omega (arith, less))
 
-  pub cut-none : end < 64 → low ≡ word % (1 * 2 ^ end % 2 ^ 64) → (i : ℕ) → 64 - count_leading_zeros 64 low ≤ i → i < end → bit_at word i ≡ 0
+  pub cut-none : end < 64 → low ≡ word % (1 * 2 ^ end % 2 ^ 64) → (i : ℕ) → 64 - count_leading_zeros 64 low ≤ i
+      → i < end → bit_at word i ≡ 0
   cut-none less is i from before =
       let same : low ≡ word % 2 ^ end = is ∙ ap (λ p. word % p) (one_shl end 64 less) in
       let small : low < 2 ^ end = subst (λ x. x < 2 ^ end) (sym same) (mod-lt word (pow_pos end)) in

@@ -1,5 +1,6 @@
 -- The keys of definitions are those of their members, and what keys pass over.
-use Rattle.std.proofs.Common.{◌≡◌, ℕ, zero, suc, ◌+◌, ◌≤◌, Bool, true, false, cond, ◌||◌, List, [], ◌∷◌, ◌++◌, Option, Some, None, length, take, refl, sym, ◌∙◌, ap, arith}
+use Rattle.std.proofs.Common.{◌≡◌, ℕ, zero, suc, ◌+◌, ◌≤◌, Bool, true, false, cond, ◌||◌, List, [], ◌∷◌, ◌++◌, Option}
+use Rattle.std.proofs.Common.{Some, None, length, take, refl, sym, ◌∙◌, ap, arith}
 use Rattle.std.specs.Prelude.{slice_get, option_and_then, unwrap_or, ◌==◌, bytes_eq}
 use Rattle.std.specs.Option.{option_map}
 use Rattle.std.specs.List.{list_any, list_all}
@@ -18,19 +19,22 @@ use Rattle.sudo_grammar.specs.declared.policy.EntryBody.TheVariants as body
 use Rattle.sudo_grammar.specs.declared.policy.Policy.{Policy}
 use Rattle.sudo_grammar.specs.declared.policy.Section.{Section}
 use Rattle.sudo_policy.specs.declared.index.Position.{Position}
-use Rattle.sudo_verdict.specs.declared.key.Key.{Key}
-use Rattle.sudo_verdict.specs.declared.key.EntryKeys.{EntryKeys}
+use Rattle.sudo_verdict.specs.declared.index.key.Key.{Key}
+use Rattle.sudo_verdict.specs.declared.index.key.EntryKeys.{EntryKeys}
 use Rattle.sudo_policy.specs.Definitions.{alias_named}
 use Rattle.sudo_match.specs.declared.people.Group.{Group}
 use Rattle.sudo_match.specs.declared.people.Person.{Person}
 use Rattle.sudo_match.specs.declared.people.Machine.{Machine}
-use Rattle.sudo_match.specs.Beginnings.{is_special, is_named_otherwise}
+use Rattle.sudo_match.specs.Beginnings.{is_special}
+use Rattle.sudo_match.specs.Body.Beginnings.{is_named_otherwise}
 use Rattle.sudo_match.specs.Class.{lower}
 use Rattle.sudo_match.specs.Matching.{user_fits, host_fits, command_fits}
 use Rattle.sudo_match.proofs.BeginningLemmas.{host-differs}
-use Rattle.sudo_verdict.specs.Keys.{Pairwise, HaveKeys, HaveDefinitionKeys, HaveRuleKeys, HaveBodyKeys, AreKeys, name_number, user_id, name_mark, command_number, literal_byte}
+use Rattle.sudo_verdict.specs.Keys.{Pairwise, HaveKeys, HaveDefinitionKeys, HaveRuleKeys, HaveBodyKeys, AreKeys}
+use Rattle.sudo_verdict.specs.Keys.{name_number, user_id, name_mark, command_number, literal_byte}
 use Rattle.sudo_verdict.specs.Body.Known.{keys_at}
-use Rattle.sudo_verdict.specs.Numbers.{user_number, group_mark, path_number, atom_number, lacks_command}
+use Rattle.sudo_verdict.specs.Numbers.{user_number, group_mark, path_number, lacks_command}
+use Rattle.sudo_verdict.specs.Body.Numbers.{atom_number}
 use Rattle.sudo_verdict.specs.Body.NumberSets.{has_mark, has_marks}
 use Rattle.sudo_verdict.proofs.NumberSets.{lacked-atom}
 
@@ -41,7 +45,8 @@ none_related R ys zero x y e f = cc
 none_related R ys (suc i) x y e f = cc
 
 pub one_more :
-    {X Y : Type 0} (R : X → Y → Type 0) (xs : List X) (ys : List Y) (x : X) (y : Y) → Pairwise R xs ys → slice_get ys (length xs) ≡ Some y → R x y →
+    {X Y : Type 0} (R : X → Y → Type 0) (xs : List X) (ys : List Y) (x : X) (y : Y) → Pairwise R xs ys
+    → slice_get ys (length xs) ≡ Some y → R x y →
     Pairwise R (xs ++ x ∷ []) ys
 one_more R [] ys x y h there r zero a b e f =
     let first : a ≡ x = cc in
@@ -50,7 +55,8 @@ one_more R [] ys x y h there r zero a b e f =
 one_more R [] ys x y h there r (suc i) a b e f = cc
 one_more R (z ∷ xs) ys x y h there r zero a b e f = h zero a b e f
 one_more R (z ∷ xs) [] x y h there r (suc i) a b e f = cc
-one_more R (z ∷ xs) (w ∷ ys) x y h there r (suc i) a b e f = one_more R xs ys x y (λ k c d g k_there. h (suc k) c d g k_there) there r i a b e f
+one_more R (z ∷ xs) (w ∷ ys) x y h there r (suc i) a b e f =
+    one_more R xs ys x y (λ k c d g k_there. h (suc k) c d g k_there) there r i a b e f
 
 -- the same for a list that a loop extends
 pub more_related :
@@ -69,7 +75,8 @@ pub have_at :
     slice_get definitions position.definition ≡ Some d → HaveKeys p kind (keys_at rows position) d.members
 have_at p kind position e rows definitions d are entry aliases there = go (slice_get rows position.entry) refl
   where
-    in_row : (ks : EntryKeys) → HaveDefinitionKeys p kind ks.definitions definitions → (o : Option (List Key)) → slice_get ks.definitions position.definition ≡ o →
+    in_row : (ks : EntryKeys) → HaveDefinitionKeys p kind ks.definitions definitions → (o : Option (List Key))
+        → slice_get ks.definitions position.definition ≡ o →
         HaveKeys p kind (unwrap_or o []) d.members
     in_row ks have None e = none_related _ d.members
     in_row ks have (Some keys) e = have position.definition keys d e there
@@ -77,7 +84,8 @@ have_at p kind position e rows definitions d are entry aliases there = go (slice
     go : (o : Option EntryKeys) → slice_get rows position.entry ≡ o →
         HaveKeys p kind (unwrap_or (option_and_then (λ (ks : EntryKeys). slice_get ks.definitions position.definition) o) []) d.members
     go None f = none_related _ d.members
-    go (Some ks) f = in_row ks ((are position.entry ks e f entry).0 kind definitions aliases) (slice_get ks.definitions position.definition) refl
+    go (Some ks) f = in_row ks ((are position.entry ks e f entry).0 kind definitions aliases)
+        (slice_get ks.definitions position.definition) refl
 
 pub rule_body :
     (p : Policy) (ks : EntryKeys) (b : EntryBody) (users : List Member) (sections : List Section) → b ≡ body.Rule users sections →
@@ -145,7 +153,8 @@ unfolding has_marks
 marks_kept old new [] keeps e = refl
 marks_kept old new (g ∷ gs) keeps e =
     let parts = and_parts (has_mark old (group_mark g.name)) (list_all (λ (x : Group). has_mark old (group_mark x.name)) gs) e in
-    and_from (has_mark new (group_mark g.name)) (list_all (λ (x : Group). has_mark new (group_mark x.name)) gs) (keeps (group_mark g.name) parts.0) (marks_kept old new gs keeps parts.1)
+    and_from (has_mark new (group_mark g.name)) (list_all (λ (x : Group). has_mark new (group_mark x.name)) gs)
+    (keeps (group_mark g.name) parts.0) (marks_kept old new gs keeps parts.1)
 
 marks_next :
     (old new : List ℕ) (gs : List Group) (i : ℕ) (g : Group) → slice_get gs i ≡ Some g →
@@ -183,7 +192,8 @@ none_marked marks name (g ∷ gs) e other =
     let parts = and_parts (has_mark marks (group_mark g.name)) (list_all (λ (x : Group). has_mark marks (group_mark x.name)) gs) e in
     go (bytes_eq g.name name) refl parts.0 (none_marked marks name gs parts.1 other)
   where
-    go : (b : Bool) → bytes_eq g.name name ≡ b → has_mark marks (group_mark g.name) ≡ true → list_any (λ (x : Group). bytes_eq x.name name) gs ≡ false →
+    go : (b : Bool) → bytes_eq g.name name ≡ b → has_mark marks (group_mark g.name) ≡ true
+        → list_any (λ (x : Group). bytes_eq x.name name) gs ≡ false →
         (b || list_any (λ (x : Group). bytes_eq x.name name) gs) ≡ false
     go false f here rest = rest
     go true f here rest =
@@ -192,7 +202,8 @@ none_marked marks name (g ∷ gs) e other =
         cc
 
 pub passes_group :
-    (u : Person) (a : Atom) (mark : ℕ) (marks : List ℕ) → has_marks marks u.groups ≡ true → has_mark marks mark ≡ false → name_mark a ≡ Some mark →
+    (u : Person) (a : Atom) (mark : ℕ) (marks : List ℕ) → has_marks marks u.groups ≡ true
+    → has_mark marks mark ≡ false → name_mark a ≡ Some mark →
     (alias_named a ≡ None) × (user_fits a u ≡ false)
 unfolding user_fits
 passes_group u (atom.Group name) mark marks e other h =
@@ -214,12 +225,14 @@ differs_at (c0 ∷ cs) (b0 ∷ bs) zero c b e f g h d =
     let plain = or_parts (is_special c0) false g in
     let dot = or_parts (b0 == 46) false h in
     let other : (lower b0 == lower c0.byte) ≡ false = rw (first, second) d in
-    inner_only (is_special c0 || b0 == 46) (cond (lower b0 == lower c0.byte) (is_named_otherwise cs bs) true) (ap (λ x. x || b0 == 46) plain.0 ∙ dot.0)
+    inner_only (is_special c0 || b0 == 46) (cond (lower b0 == lower c0.byte) (is_named_otherwise cs bs) true)
+    (ap (λ x. x || b0 == 46) plain.0 ∙ dot.0)
     (ap (λ x. cond x (is_named_otherwise cs bs) true) other)
 differs_at (c0 ∷ cs) (b0 ∷ bs) (suc i) c b e f g h d =
     let plain = or_parts (is_special c0) (list_any is_special (take (suc i) cs)) g in
     let dot = or_parts (b0 == 46) (list_any (λ x. x == 46) (take (suc i) bs)) h in
-    inner_only (is_special c0 || b0 == 46) (cond (lower b0 == lower c0.byte) (is_named_otherwise cs bs) true) (ap (λ x. x || b0 == 46) plain.0 ∙ dot.0)
+    inner_only (is_special c0 || b0 == 46) (cond (lower b0 == lower c0.byte) (is_named_otherwise cs bs) true)
+    (ap (λ x. x || b0 == 46) plain.0 ∙ dot.0)
     (go (lower b0 == lower c0.byte) (differs_at cs bs i c b e f plain.1 dot.1 d))
   where
     go : (x : Bool) → is_named_otherwise cs bs ≡ true → cond x (is_named_otherwise cs bs) true ≡ true
@@ -228,7 +241,8 @@ differs_at (c0 ∷ cs) (b0 ∷ bs) (suc i) c b e f g h d =
 
 -- a host whose name has another byte in the place of a literal one
 pub passes_literal :
-    (m : Machine) (a : Atom) (index byte b : ℕ) → slice_get m.name index ≡ Some b → list_any (λ x. x == 46) (take (suc index) m.name) ≡ false →
+    (m : Machine) (a : Atom) (index byte b : ℕ) → slice_get m.name index ≡ Some b
+    → list_any (λ x. x == 46) (take (suc index) m.name) ≡ false →
     (lower b == byte) ≡ false → literal_byte a index ≡ Some byte → (alias_named a ≡ None) × (host_fits a m ≡ false)
 unfolding host_fits
 passes_literal m (atom.Host chars quoted) index byte b there dot other e =
@@ -243,7 +257,8 @@ passes_literal m (atom.Host chars quoted) index byte b there dot other e =
     go false f None g h = cc
     go false f (Some c) g h =
         let same : lower c.byte ≡ byte = cc in
-        host-differs chars quoted m.name (differs_at chars m.name index c b g there (ap (λ n. list_any is_special (take n chars)) (sym one) ∙ f) dot (ap (λ x. lower b == x) same ∙ other))
+        host-differs chars quoted m.name (differs_at chars m.name index c b g there
+        (ap (λ n. list_any is_special (take n chars)) (sym one) ∙ f) dot (ap (λ x. lower b == x) same ∙ other))
 passes_literal m _ index byte b there dot other e = cc
 
 -- fewer bytes have no dot either

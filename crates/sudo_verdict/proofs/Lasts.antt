@@ -1,5 +1,6 @@
 -- The last item that passes, in appended and in mapped lists.
-use Rattle.std.proofs.Common.{◌≡◌, Bool, true, false, cond, ◌&&◌, List, [], ◌∷◌, ◌++◌, map, Option, Some, None, refl, sym, ◌∙◌, ap, ℕ, zero, suc, take, option_to_list, length-append, arith}
+use Rattle.std.proofs.Common.{◌≡◌, Bool, true, false, cond, ◌&&◌, List, [], ◌∷◌, ◌++◌, map, Option, Some, None, refl}
+use Rattle.std.proofs.Common.{sym, ◌∙◌, ap, ℕ, zero, suc, take, option_to_list, length-append, arith}
 use Rattle.std.specs.Prelude.{slice_get}
 use Rattle.std.specs.Option.{option_or, option_map}
 use Rattle.std.specs.List.{list_all}
@@ -18,23 +19,21 @@ pub option_map_or : {X Y : Type 0} (f : X → Y) (a b : Option X) → option_map
 option_map_or f None b = refl
 option_map_or f (Some x) b = refl
 
-pub option_map_map : {X Y Z : Type 0} (f : X → Y) (g : Y → Z) (a : Option X) → option_map g (option_map f a) ≡ option_map (λ x. g (f x)) a
-option_map_map f g None = refl
-option_map_map f g (Some x) = refl
-
 pub last_that-append : {X : Type 0} (f : X → Bool) (xs ys : List X) → last_that f (xs ++ ys) ≡ option_or (last_that f ys) (last_that f xs)
 last_that-append f [] ys = sym (option_or-none (last_that f ys))
 last_that-append f (x ∷ xs) ys =
     ap (λ o. option_or o (cond (f x) (Some x) None)) (last_that-append f xs ys)
     ∙ option_or-assoc (last_that f ys) (last_that f xs) (cond (f x) (Some x) None)
 
-one_more : {X Y : Type 0} (g : X → Y) (b : Bool) (o : Option X) (x : X) → option_or (option_map g o) (cond b (Some (g x)) None) ≡ option_map g (option_or o (cond b (Some x) None))
+one_more : {X Y : Type 0} (g : X → Y) (b : Bool) (o : Option X) (x : X)
+    → option_or (option_map g o) (cond b (Some (g x)) None) ≡ option_map g (option_or o (cond b (Some x) None))
 one_more g b (Some y) x = refl
 one_more g true None x = refl
 one_more g false None x = refl
 
 -- Each item of the map passes where the condition holds and its source passes.
-pub last_that-map : {X Y : Type 0} (c : Bool) (f : X → Bool) (h : Y → Bool) (g : X → Y) → ((x : X) → h (g x) ≡ (c && f x)) → (xs : List X) → last_that h (map g xs) ≡ cond c (option_map g (last_that f xs)) None
+pub last_that-map : {X Y : Type 0} (c : Bool) (f : X → Bool) (h : Y → Bool) (g : X → Y)
+    → ((x : X) → h (g x) ≡ (c && f x)) → (xs : List X) → last_that h (map g xs) ≡ cond c (option_map g (last_that f xs)) None
 last_that-map true f h g e [] = refl
 last_that-map false f h g e [] = refl
 last_that-map true f h g e (x ∷ xs) =
@@ -48,7 +47,8 @@ pub last_set-push : {X : Type 0} (xs : List (Option X)) (o : Option X) → last_
 last_set-push [] o = sym (option_or-none o)
 last_set-push (x ∷ xs) o = ap (λ r. option_or r x) (last_set-push xs o) ∙ option_or-assoc o (last_set xs) x
 
-pub last_set-map-push : {X Y : Type 0} (f : X → Option Y) (rest : List X) (m : X) → last_set (map f (rest ++ m ∷ [])) ≡ option_or (f m) (last_set (map f rest))
+pub last_set-map-push : {X Y : Type 0} (f : X → Option Y) (rest : List X) (m : X)
+    → last_set (map f (rest ++ m ∷ [])) ≡ option_or (f m) (last_set (map f rest))
 last_set-map-push f rest m = rw map-append (last_set-push (map f rest) (f m))
 
 -- A search from the end of a list back.
@@ -80,7 +80,8 @@ take-there n [] = refl
 take-there zero (x ∷ xs) = refl
 take-there (suc n) (x ∷ xs) = take-there n xs
 
-pub front-shorter : {X : Type 0} (rest : List X) (x : X) (xs : List X) → rest ++ x ∷ [] ≡ take (suc (length rest)) xs → rest ≡ take (length rest) xs
+pub front-shorter : {X : Type 0} (rest : List X) (x : X) (xs : List X) → rest ++ x ∷ [] ≡ take (suc (length rest)) xs
+    → rest ≡ take (length rest) xs
 front-shorter [] x xs h = refl
 front-shorter (y ∷ rest) x [] h = cc
 front-shorter (y ∷ rest) x (z ∷ xs) h =
@@ -90,22 +91,26 @@ front-shorter (y ∷ rest) x (z ∷ xs) h =
     in let one : y ∷ rest ≡ y ∷ take (length rest) xs = ap (λ l. y ∷ l) ih
     in one ∙ ap (λ a. a ∷ take (length rest) xs) e
 
-front-suc : {X : Type 0} (xs left rest : List X) (x : X) → left ≡ rest ++ x ∷ [] → left ≡ take (length left) xs → left ≡ take (suc (length rest)) xs
+front-suc : {X : Type 0} (xs left rest : List X) (x : X) → left ≡ rest ++ x ∷ [] → left ≡ take (length left) xs
+    → left ≡ take (suc (length rest)) xs
 front-suc xs left rest x is front =
     let longer : length left ≡ suc (length rest) = rw is (omega (arith, length-append rest (x ∷ []))) in
     front ∙ ap (λ n. take n xs) longer
 
 -- the last of the first items is where the items before it end
-pub last-at : {X : Type 0} (xs left rest : List X) (x : X) → left ≡ rest ++ x ∷ [] → left ≡ take (length left) xs → slice_get xs (length rest) ≡ Some x
+pub last-at : {X : Type 0} (xs left rest : List X) (x : X) → left ≡ rest ++ x ∷ [] → left ≡ take (length left) xs
+    → slice_get xs (length rest) ≡ Some x
 last-at xs left rest x is front =
-    sym (take-there (length rest) xs) ∙ ap (λ l. slice_get l (length rest)) (sym (front-suc xs left rest x is front) ∙ is) ∙ get_append_end rest x
+    sym (take-there (length rest) xs) ∙ ap (λ l. slice_get l (length rest)) (sym (front-suc xs left rest x is front)
+    ∙ is) ∙ get_append_end rest x
 
-pub front-rest : {X : Type 0} (xs left rest : List X) (x : X) → left ≡ rest ++ x ∷ [] → left ≡ take (length left) xs → rest ≡ take (length rest) xs
+pub front-rest : {X : Type 0} (xs left rest : List X) (x : X) → left ≡ rest ++ x ∷ [] → left ≡ take (length left) xs
+    → rest ≡ take (length rest) xs
 front-rest xs left rest x is front = front-shorter rest x xs (sym is ∙ front-suc xs left rest x is front)
 
 -- one item more
-pub take_more : {X : Type 0} (n : ℕ) (xs : List X) → take (suc n) xs ≡ take n xs ++ option_to_list (slice_get xs n)
-take_more zero [] = refl
-take_more zero (x ∷ xs) = refl
-take_more (suc n) [] = refl
-take_more (suc n) (x ∷ xs) = ap (λ l. x ∷ l) (take_more n xs)
+pub take-more : {X : Type 0} (n : ℕ) (xs : List X) → take (suc n) xs ≡ take n xs ++ option_to_list (slice_get xs n)
+take-more zero [] = refl
+take-more zero (x ∷ xs) = refl
+take-more (suc n) [] = refl
+take-more (suc n) (x ∷ xs) = ap (λ l. x ∷ l) (take-more n xs)

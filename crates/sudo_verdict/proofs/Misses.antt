@@ -1,6 +1,8 @@
 -- Rows of rules: rows with one more rule, blocks with the rules of a number, and rules in no row of a user or of a
 -- command, whose atoms the user cannot match.
-use Rattle.std.proofs.Common.{◌≡◌, ℕ, zero, suc, ◌+◌, ◌-◌, ◌*◌, ◌/◌, ◌%◌, ◌<◌, ◌≤◌, true, false, List, [], ◌∷◌, length, get_or, drop, take, Option, Some, None, refl, sym, ◌∙◌, ap, subst, arith, ◌⊎◌, inl, inr, Vec, Global}
+use Rattle.std.proofs.Common.{◌≡◌, ℕ, zero, suc, ◌+◌, ◌-◌, ◌*◌, ◌/◌, ◌%◌, ◌<◌, ◌≤◌, true, false, List, [], ◌∷◌}
+use Rattle.std.proofs.Common.{length, get_or, drop, take, Option, Some, None, refl, sym, ◌∙◌, ap, subst, arith, ◌⊎◌}
+use Rattle.std.proofs.Common.{inl, inr, Vec, Global}
 use Rattle.std.specs.Prelude.{slice_get, ◌==◌}
 use Rattle.std.specs.List.{list_all}
 use Rattle.std.proofs.Math.ListN.{set}
@@ -15,7 +17,8 @@ use Rattle.sudo_match.specs.declared.people.Person.{Person}
 use Rattle.sudo_match.specs.declared.people.Group.{Group}
 use Rattle.sudo_verdict.specs.Body.Blocks.{StartsAt}
 use Rattle.sudo_verdict.proofs.UserNumbers.{lacks-group, lacks-user}
-use Rattle.sudo_verdict.specs.Postings.{bit, row_words, Rows, is_in_row, Grows, misses_user}
+use Rattle.sudo_verdict.specs.Postings.{bit, row_words, Rows, is_in_row, misses_user}
+use Rattle.sudo_verdict.specs.Body.Postings.{Grows}
 use Rattle.sudo_verdict.specs.Numbers.{user_number, group_number, uid_number, gid_number, lacks_group}
 
 -- ---- The row of a number
@@ -29,20 +32,22 @@ row-there rows number at row is e = ap (slice_get rows) (sym is) ∙ e
 
 -- ---- One more rule
 
-posted-is : (rows : Rows) (number rule at : ℕ) → number % length rows ≡ at → is_in_row rows number rule ≡ (bit (row_words (slice_get rows at)) rule == 1)
+posted_is : (rows : Rows) (number rule at : ℕ) → number % length rows ≡ at
+    → is_in_row rows number rule ≡ (bit (row_words (slice_get rows at)) rule == 1)
 unfolding is_in_row
-posted-is rows number rule at e = ap (λ k. bit (row_words (slice_get rows k)) rule == 1) e
+posted_is rows number rule at e = ap (λ k. bit (row_words (slice_get rows k)) rule == 1) e
 
-posted-in-set :
+posted_in_set :
     (rows : Rows) (index : ℕ) (row : Vec ℕ Global) (number rule at : ℕ) → number % length rows ≡ at →
     is_in_row (set rows index row) number rule ≡ (bit (row_words (slice_get (set rows index row) at)) rule == 1)
-posted-in-set rows index row number rule at e = posted-is (set rows index row) number rule at (ap (λ n. number % n) (length-set rows index row) ∙ e)
+posted_in_set rows index row number rule at e =
+    posted_is (set rows index row) number rule at (ap (λ n. number % n) (length-set rows index row) ∙ e)
 
-pub posted-set :
+pub posted_set :
     (rows : Rows) (index : ℕ) (row : Vec ℕ Global) (number rule : ℕ) → index < length rows → number % length rows ≡ index →
     bit row.items rule ≡ 1 → is_in_row (set rows index row) number rule ≡ true
-posted-set rows index row number rule h e there =
-    posted-in-set rows index row number rule index e
+posted_set rows index row number rule h e there =
+    posted_in_set rows index row number rule index e
     ∙ ap (λ o. bit (row_words o) rule == 1) (get_set_same rows index row h)
     ∙ eq-eqb (bit row.items rule) 1 there
 
@@ -53,12 +58,13 @@ grows-set rows index old new h e keeps number rule there = go (cases_eq (number 
   where
     go : (number % length rows ≡ index) ⊎ (number % length rows ≡ index → ⊥) → is_in_row (set rows index new) number rule ≡ true
     go (inl same) =
-        posted-set rows index new number rule h same
-        (keeps rule (eqb-true (bit old.items rule) 1 (sym (posted-is rows number rule index same ∙ ap (λ o. bit (row_words o) rule == 1) e) ∙ there)))
+        posted_set rows index new number rule h same
+        (keeps rule (eqb-true (bit old.items rule) 1 (sym (posted_is rows number rule index same
+        ∙ ap (λ o. bit (row_words o) rule == 1) e) ∙ there)))
     go (inr other) =
-        posted-in-set rows index new number rule (number % length rows) refl
+        posted_in_set rows index new number rule (number % length rows) refl
         ∙ ap (λ o. bit (row_words o) rule == 1) (get_set_other rows index (number % length rows) new other)
-        ∙ sym (posted-is rows number rule (number % length rows) refl)
+        ∙ sym (posted_is rows number rule (number % length rows) refl)
         ∙ there
 
 -- ---- A block with the rules of a number
@@ -97,13 +103,14 @@ bit-drop ws first i =
 
 pub bit-past : (ws : List ℕ) (first i : ℕ) → length ws ≤ first → bit ws (64 * first + i) ≡ 0
 bit-past ws first i h =
-    ap (λ w. bit_at w ((64 * first + i) % 64)) (past-zero ws ((64 * first + i) / 64) (omega (arith, h))) ∙ bit_at-zero ((64 * first + i) % 64)
+    ap (λ w. bit_at w ((64 * first + i) % 64)) (past-zero ws ((64 * first + i) / 64) (omega (arith, h)))
+    ∙ bit_at-zero ((64 * first + i) % 64)
 
-pub posted-none :
+pub posted_none :
     (rows : Rows) (number rule : ℕ) (row : Vec ℕ Global) → slice_get rows (number % length rows) ≡ Some row → bit row.items rule ≡ 0 →
     is_in_row rows number rule ≡ false
-posted-none rows number rule row e none =
-    posted-is rows number rule (number % length rows) refl
+posted_none rows number rule row e none =
+    posted_is rows number rule (number % length rows) refl
     ∙ ap (λ o. bit (row_words o) rule == 1) e
     ∙ ne_eqb (bit row.items rule) 1 (λ h. let no : ◌≡◌ {A = ℕ} 0 1 = sym none ∙ h in omega (arith, no))
 
@@ -123,24 +130,28 @@ pub bit-zero_word : (ws : List ℕ) (i : ℕ) → get_or ws (i / 64) 0 ≡ 0 →
 bit-zero_word ws i e = ap (λ w. bit_at w (i % 64)) e ∙ bit_at-zero (i % 64)
 
 pub starts-none :
-    (rows : Rows) (start : ℕ) → ((k : ℕ) (row : Vec ℕ Global) → slice_get rows k ≡ Some row → (i : ℕ) → i < 64 * start → bit row.items i ≡ 0) →
+    (rows : Rows) (start : ℕ) → ((k : ℕ) (row : Vec ℕ Global) → slice_get rows k ≡ Some row → (i : ℕ) → i < 64 * start
+    → bit row.items i ≡ 0) →
     StartsAt rows start
 starts-none rows start h number rule before = go (slice_get rows (number % length rows)) refl
   where
     go : (o : Option (Vec ℕ Global)) → slice_get rows (number % length rows) ≡ o → is_in_row rows number rule ≡ false
     go None e =
-        posted-is rows number rule (number % length rows) refl
+        posted_is rows number rule (number % length rows) refl
         ∙ ap (λ o. bit (row_words o) rule == 1) e
         ∙ ne_eqb (bit [] rule) 1 (λ f. let no : ◌≡◌ {A = ℕ} 0 1 = sym (bit-outside [] rule (omega arith)) ∙ f in omega (arith, no))
-    go (Some row) e = posted-none rows number rule row e (h (number % length rows) row e rule before)
+    go (Some row) e = posted_none rows number rule row e (h (number % length rows) row e rule before)
 
-groups-before : (rows : Rows) (start rule : ℕ) → StartsAt rows start → rule < 64 * start → (gs : List Group) → list_all (lacks_group (λ n. is_in_row rows n rule)) gs ≡ true
+groups-before : (rows : Rows) (start rule : ℕ) → StartsAt rows start → rule < 64 * start → (gs : List Group)
+    → list_all (lacks_group (λ n. is_in_row rows n rule)) gs ≡ true
 groups-before rows start rule starts before [] = refl
 groups-before rows start rule starts before (g ∷ gs) =
-    lacks-group (λ n. is_in_row rows n rule) (g ∷ gs) gs g refl (starts (group_number g.name) rule before) (starts (gid_number g.gid) rule before)
+    lacks-group (λ n. is_in_row rows n rule) (g ∷ gs) gs g refl (starts (group_number g.name) rule before)
+    (starts (gid_number g.gid) rule before)
     (groups-before rows start rule starts before gs)
 
-pub misses-before : (rows : Rows) (start rule : ℕ) (u : Person) → StartsAt rows start → rule < 64 * start → misses_user rows rule u ≡ true
-misses-before rows start rule u starts before =
-    lacks-user (λ n. is_in_row rows n rule) u (starts 0 rule before) (starts (user_number u.name) rule before) (starts (uid_number u.uid) rule before)
+pub misses_before : (rows : Rows) (start rule : ℕ) (u : Person) → StartsAt rows start → rule < 64 * start → misses_user rows rule u ≡ true
+misses_before rows start rule u starts before =
+    lacks-user (λ n. is_in_row rows n rule) u (starts 0 rule before) (starts (user_number u.name) rule before)
+    (starts (uid_number u.uid) rule before)
     (groups-before rows start rule starts before u.groups)

@@ -10,13 +10,16 @@ use Rattle.sudo_match.specs.Pattern.{is_plain, Part, One, Only, parts, parts_aft
 use Rattle.sudo_match.specs.Matching.{command_fits, arguments_fit, arguments_slash}
 use Rattle.sudo_match.proofs.FitsLemmas.{fits-one, fits-one-empty, fits-empty-some}
 use Rattle.sudo_policy.specs.Definitions.{alias_named}
-use Rattle.sudo_verdict.specs.Numbers.{next_number, number_from, whole_number, beginning_seed, path_number_from, atom_number, lacks_beginnings, lacks_command}
-use Rattle.sudo_verdict.proofs.Numbering.{path-special, path-more, path-end, numbered_next}
+use Rattle.sudo_verdict.specs.Numbers.{next_number, number_from, whole_number, beginning_seed, path_number_from}
+use Rattle.sudo_verdict.specs.Numbers.{lacks_beginnings, lacks_command}
+use Rattle.sudo_verdict.specs.Body.Numbers.{atom_number}
+use Rattle.sudo_verdict.proofs.NumberSteps.{path-special, path-more, path-end, numbered_next}
 use Rattle.sudo_match.proofs.PartLemmas.{part-byte}
 use Rattle.sudo_verdict.proofs.UserNumbers.{fewer, never}
 
 -- a character that is not special is a part of its own, which fits its byte
-parts-literal : (c : Ch) (cs : List Ch) → (is_plain 42 c || (is_plain 63 c || is_plain 91 c)) ≡ false → parts (c ∷ cs) ≡ One (Only c.byte) ∷ parts cs
+parts-literal : (c : Ch) (cs : List Ch) → (is_plain 42 c || (is_plain 63 c || is_plain 91 c)) ≡ false
+    → parts (c ∷ cs) ≡ One (Only c.byte) ∷ parts cs
 unfolding parts_after
 parts-literal c cs e =
     let star = or_parts (is_plain 42 c) (is_plain 63 c || is_plain 91 c) e in
@@ -33,7 +36,8 @@ beginnings-next : (has : ℕ → Bool) (number b : ℕ) (bs : List ℕ) → lack
 unfolding lacks_beginnings
 beginnings-next has number b bs e = (and_parts (not (has number)) (lacks_beginnings has (next_number number b) bs) e).1
 
-whole-none : (has : ℕ → Bool) (number : ℕ) (t : List ℕ) → not (has (next_number (number_from number t) 6)) ≡ true → has (next_number number 6) ≡ true → fits [] t Not ≡ false
+whole-none : (has : ℕ → Bool) (number : ℕ) (t : List ℕ) → not (has (next_number (number_from number t) 6)) ≡ true
+    → has (next_number number 6) ≡ true → fits [] t Not ≡ false
 unfolding number_from
 whole-none has number [] e there = absurd (never (has (next_number number 6)) there e)
 whole-none has number (b ∷ t) e there = fits-empty-some Not b t
@@ -41,9 +45,11 @@ whole-none has number (b ∷ t) e there = fits-empty-some Not b t
 -- one character more, where the rest is silent
 path-step :
     (has : ℕ → Bool) (folder : Bool) (number : ℕ) (c : Ch) (cs : List Ch) →
-    ((t : List ℕ) → lacks_beginnings has (next_number number c.byte) t ≡ true → not (has (next_number (number_from (next_number number c.byte) t) 6)) ≡ true →
+    ((t : List ℕ) → lacks_beginnings has (next_number number c.byte) t ≡ true
+    → not (has (next_number (number_from (next_number number c.byte) t) 6)) ≡ true →
     has (path_number_from folder (next_number number c.byte) cs) ≡ true → fits (parts (cs ++ any_name folder)) t Not ≡ false) →
-    has (path_number_from folder number (c ∷ cs)) ≡ true → (special : Bool) → (is_plain 42 c || (is_plain 63 c || is_plain 91 c)) ≡ special →
+    has (path_number_from folder number (c ∷ cs)) ≡ true → (special : Bool)
+    → (is_plain 42 c || (is_plain 63 c || is_plain 91 c)) ≡ special →
     (t : List ℕ) → lacks_beginnings has number t ≡ true → not (has (next_number (number_from number t) 6)) ≡ true →
     fits (parts (c ∷ (cs ++ any_name folder))) t Not ≡ false
 path-step has folder number c cs again there true e t missed whole_missed =
@@ -60,12 +66,14 @@ path-step has folder number c cs again there false e (x ∷ t) missed whole_miss
         let byte : x ≡ c.byte = eqb-true x c.byte f in
         again t
         (ap (λ b. lacks_beginnings has (next_number number b) t) (sym byte) ∙ beginnings-next has number x t missed)
-        (ap (λ n. not (has (next_number n 6))) (ap (λ b. number_from (next_number number b) t) (sym byte) ∙ sym (numbered_next number x t)) ∙ whole_missed)
+        (ap (λ n. not (has (next_number n 6))) (ap (λ b. number_from (next_number number b) t) (sym byte)
+        ∙ sym (numbered_next number x t)) ∙ whole_missed)
         (ap has (sym (path-more folder number c cs e)) ∙ there)
 
 path-lacked :
     (has : ℕ → Bool) (folder : Bool) (number : ℕ) (cs : List Ch) (t : List ℕ) → lacks_beginnings has number t ≡ true →
-    not (has (next_number (number_from number t) 6)) ≡ true → has (path_number_from folder number cs) ≡ true → fits (parts (cs ++ any_name folder)) t Not ≡ false
+    not (has (next_number (number_from number t) 6)) ≡ true → has (path_number_from folder number cs) ≡ true
+    → fits (parts (cs ++ any_name folder)) t Not ≡ false
 unfolding parts_after
 path-lacked has true number [] t missed whole_missed there =
     absurd (never (has number) (ap has (sym (path-end true number [] refl)) ∙ there) (beginnings-here has number t missed))
@@ -100,12 +108,14 @@ lacked-atom has command arguments (atom.Group name) e there = (refl, refl)
 lacked-atom has command arguments (atom.Gid gid) e there = (refl, refl)
 lacked-atom has command arguments _ e there = absurd (never (has 0) there (command-parts has command e).0)
 
-pub lacks-more : (has : ℕ → Bool) (number b : ℕ) (bs : List ℕ) → has number ≡ false → lacks_beginnings has (next_number number b) bs ≡ true →
+pub lacks-more : (has : ℕ → Bool) (number b : ℕ) (bs : List ℕ) → has number ≡ false
+    → lacks_beginnings has (next_number number b) bs ≡ true →
     lacks_beginnings has number (b ∷ bs) ≡ true
 unfolding lacks_beginnings
 lacks-more has number b bs e h = and_from (not (has number)) _ (ap not e) h
 
-pub lacks-end : (has : ℕ → Bool) (number : ℕ) (left : List ℕ) → has number ≡ false → length left ≡ 0 → lacks_beginnings has number left ≡ true
+pub lacks-end : (has : ℕ → Bool) (number : ℕ) (left : List ℕ) → has number ≡ false → length left ≡ 0
+    → lacks_beginnings has number left ≡ true
 unfolding lacks_beginnings
 lacks-end has number [] e h = ap not e
 lacks-end has number (b ∷ bs) e h = cc
@@ -124,7 +134,8 @@ module _ (has more : ℕ → Bool) (all : (n : ℕ) → has n ≡ true → more 
   beginnings-fewer number [] e = fewer (has number) (more number) (all number) e
   beginnings-fewer number (b ∷ bs) e =
       let parts_of = and_parts (not (more number)) (lacks_beginnings more (next_number number b) bs) e in
-      and_from (not (has number)) _ (fewer (has number) (more number) (all number) parts_of.0) (beginnings-fewer (next_number number b) bs parts_of.1)
+      and_from (not (has number)) _ (fewer (has number) (more number) (all number) parts_of.0)
+      (beginnings-fewer (next_number number b) bs parts_of.1)
 
   pub command-fewer : (command : List ℕ) → lacks_command more command ≡ true → lacks_command has command ≡ true
   unfolding lacks_command
@@ -132,7 +143,8 @@ module _ (has more : ℕ → Bool) (all : (n : ℕ) → has n ≡ true → more 
       let parts_of = command-parts more command e in
       let whole = whole_number command in
       and_from (not (has 0)) _ (fewer (has 0) (more 0) (all 0) parts_of.0)
-      (and_from (not (has whole)) _ (fewer (has whole) (more whole) (all whole) parts_of.1.0) (beginnings-fewer beginning_seed command parts_of.1.1))
+      (and_from (not (has whole)) _ (fewer (has whole) (more whole) (all whole) parts_of.1.0)
+      (beginnings-fewer beginning_seed command parts_of.1.1))
 
 -- a number that each command has
 pub command-has : (has : ℕ → Bool) (command : List ℕ) → lacks_command has command ≡ true → has 0 ≡ true → ⊥

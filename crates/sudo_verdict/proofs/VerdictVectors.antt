@@ -7,7 +7,7 @@ use Rattle.sudo_text.specs.declared.line.Place.{Place}
 use Rattle.sudo_text.specs.declared.token.Ch.{Ch}
 use Rattle.sudo_text.specs.declared.token.Mark.TheVariants.{Bang}
 use Rattle.sudo_text.specs.declared.token.TokenKind.TheVariants as token
-use Rattle.sudo_grammar.specs.Includes.{is_include_entry}
+use Rattle.sudo_grammar.specs.Body.Includes.{is_include_entry}
 use Rattle.sudo_grammar.specs.declared.kind.Kind.{Kind}
 use Rattle.sudo_grammar.specs.declared.kind.Kind.TheVariants as kind
 use Rattle.sudo_grammar.specs.declared.kind.Atom.{Atom}
@@ -124,7 +124,8 @@ rule n users sections = record { place = line n; body = Rule users sections }
 abbrev alias : Kind → ℕ → List ℕ → List Member → Entry
 alias k n name members = record { place = line n; body = Aliases k (record { name = name; members = members } ∷ []) }
 
-abbrev policy : (entries : List Entry) → IsTrue (list_all (λ (e : Entry). nat_lt e.place.file 1) entries) → IsTrue (list_all (λ (e : Entry). not (is_include_entry e.body)) entries) → Policy
+abbrev policy : (entries : List Entry) → IsTrue (list_all (λ (e : Entry). nat_lt e.place.file 1) entries)
+    → IsTrue (list_all (λ (e : Entry). not (is_include_entry e.body)) entries) → Policy
 policy entries placed unfolded = record { files = [] ∷ []; entries = entries; placed = placed; unfolded = unfolded }
 
 abbrev alice_all : ℕ → List CommandSpec → Entry
@@ -181,7 +182,10 @@ pub the_last_match_decides :
     (verdict_of all_then_not_su known (asks (codes "/bin/su")) ≡ Deny (line 1))
     × (verdict_of all_then_not_su known (asks (codes "/bin/ls")) ≡ allowed_setenv 1)
     × (verdict_of not_su_then_all known (asks (codes "/bin/su")) ≡ allowed_setenv 1)
-unfolding reading_within written_form user_named host_named group_named user_fits group_fits host_fits command_fits host_chars free_bangs parts_after part_at bracket_after items_after range_at begins fits cuts tags_named tags_before tags_at runas_before runas_at value form_allows runas_allows place_grants section_grants grants applies question_of verdict_on verdict_of
+unfolding reading_within written_form user_named host_named group_named user_fits group_fits host_fits command_fits
+    host_chars free_bangs parts_after part_at bracket_after items_after range_at begins fits cuts tags_named
+    tags_before tags_at runas_before runas_at value form_allows runas_allows place_grants section_grants grants
+    applies question_of verdict_on verdict_of
 the_last_match_decides = (refl, refl, refl)
 
 abbrev all_then_ls : Policy
@@ -195,28 +199,39 @@ pub setenv_is_for_all_alone :
     (verdict_of all_then_ls known (asks (codes "/bin/ls")) ≡ allowed 1)
     × (verdict_of all_then_ls known (asks (codes "/bin/su")) ≡ allowed_setenv 1)
     × (verdict_of no_setenv_all known (asks (codes "/bin/ls")) ≡ Allow (line 1) (chosen None None (Some false)))
-unfolding reading_within written_form user_named host_named group_named user_fits group_fits host_fits command_fits host_chars free_bangs parts_after part_at bracket_after items_after range_at begins fits cuts tags_named tags_before tags_at runas_before runas_at value form_allows runas_allows place_grants section_grants grants applies question_of verdict_on verdict_of
+unfolding reading_within written_form user_named host_named group_named user_fits group_fits host_fits command_fits
+    host_chars free_bangs parts_after part_at bracket_after items_after range_at begins fits cuts tags_named
+    tags_before tags_at runas_before runas_at value form_allows runas_allows place_grants section_grants grants
+    applies question_of verdict_on verdict_of
 setenv_is_for_all_alone = (refl, refl, refl)
 
 abbrev two_rules : Policy
-two_rules = policy (alice_all 1 (plain everything ∷ []) ∷ alice_all 2 (plain (not_command (codes "/bin/su")) ∷ []) ∷ alice_all 3 (plain (command (codes "/bin/ls")) ∷ []) ∷ []) refl refl
+two_rules = policy (alice_all 1 (plain everything ∷ []) ∷ alice_all 2 (plain (not_command (codes "/bin/su")) ∷ [])
+    ∷ alice_all 3 (plain (command (codes "/bin/ls")) ∷ []) ∷ []) refl refl
 
 -- three rules for alice: the last that says something of the command
 pub the_last_rule_decides :
     (verdict_of two_rules known (asks (codes "/bin/id")) ≡ allowed_setenv 1)
     × (verdict_of two_rules known (asks (codes "/bin/su")) ≡ Deny (line 2))
     × (verdict_of two_rules known (asks (codes "/bin/ls")) ≡ allowed 3)
-unfolding reading_within written_form user_named host_named group_named user_fits group_fits host_fits command_fits host_chars free_bangs parts_after part_at bracket_after items_after range_at begins fits cuts tags_named tags_before tags_at runas_before runas_at value form_allows runas_allows place_grants section_grants grants applies question_of verdict_on verdict_of
+unfolding reading_within written_form user_named host_named group_named user_fits group_fits host_fits command_fits
+    host_chars free_bangs parts_after part_at bracket_after items_after range_at begins fits cuts tags_named
+    tags_before tags_at runas_before runas_at value form_allows runas_allows place_grants section_grants grants
+    applies question_of verdict_on verdict_of
 the_last_rule_decides = (refl, refl, refl)
 
 abbrev safe : Policy
-safe = policy (alias kind.Cmnd 1 (codes "SAFE") (command (codes "/bin/*") ∷ not_command (codes "/bin/su") ∷ []) ∷ alice_all 2 (plain (aliased (codes "SAFE")) ∷ []) ∷ []) refl refl
+safe = policy (alias kind.Cmnd 1 (codes "SAFE") (command (codes "/bin/*") ∷ not_command (codes "/bin/su") ∷ [])
+    ∷ alice_all 2 (plain (aliased (codes "SAFE")) ∷ []) ∷ []) refl refl
 
 abbrev not_safe : Policy
-not_safe = policy (alias kind.Cmnd 1 (codes "SAFE") (command (codes "/bin/*") ∷ not_command (codes "/bin/su") ∷ []) ∷ alice_all 2 (plain (not_aliased (codes "SAFE")) ∷ []) ∷ []) refl refl
+not_safe = policy (alias kind.Cmnd 1 (codes "SAFE") (command (codes "/bin/*") ∷ not_command (codes "/bin/su") ∷ [])
+    ∷ alice_all 2 (plain (not_aliased (codes "SAFE")) ∷ []) ∷ []) refl refl
 
 abbrev not_not_safe : Policy
-not_not_safe = policy (alias kind.Cmnd 1 (codes "SAFE") (command (codes "/bin/*") ∷ not_command (codes "/bin/su") ∷ []) ∷ alias kind.Cmnd 2 (codes "Y") (not_aliased (codes "SAFE") ∷ []) ∷ alice_all 3 (plain (not_aliased (codes "Y")) ∷ []) ∷ []) refl refl
+not_not_safe = policy (alias kind.Cmnd 1 (codes "SAFE") (command (codes "/bin/*") ∷ not_command (codes "/bin/su")
+    ∷ []) ∷ alias kind.Cmnd 2 (codes "Y") (not_aliased (codes "SAFE") ∷ []) ∷ alice_all 3
+    (plain (not_aliased (codes "Y")) ∷ []) ∷ []) refl refl
 
 -- `SAFE = /bin/*, !/bin/su`: a negated alias turns the sign of each of its members; `Y = !SAFE` and `!Y` turn it twice
 pub alias_signs :
@@ -226,7 +241,10 @@ pub alias_signs :
     × (verdict_of not_safe known (asks (codes "/bin/ls")) ≡ Deny (line 2))
     × (verdict_of not_not_safe known (asks (codes "/bin/su")) ≡ Deny (line 3))
     × (verdict_of not_not_safe known (asks (codes "/bin/ls")) ≡ allowed 3)
-unfolding reading_within written_form user_named host_named group_named user_fits group_fits host_fits command_fits host_chars free_bangs parts_after part_at bracket_after items_after range_at begins fits cuts tags_named tags_before tags_at runas_before runas_at value form_allows runas_allows place_grants section_grants grants applies question_of verdict_on verdict_of
+unfolding reading_within written_form user_named host_named group_named user_fits group_fits host_fits command_fits
+    host_chars free_bangs parts_after part_at bracket_after items_after range_at begins fits cuts tags_named
+    tags_before tags_at runas_before runas_at value form_allows runas_allows place_grants section_grants grants
+    applies question_of verdict_on verdict_of
 alias_signs = (refl, refl, refl, refl, refl, refl)
 
 abbrev all_aliased : Policy
@@ -235,70 +253,106 @@ all_aliased = policy (alias kind.Cmnd 1 (codes "ANY") (everything ∷ []) ∷ al
 -- `ANY = ALL`: the deciding command is the ALL in it
 pub all_through_an_alias :
     (verdict_of all_aliased known (asks (codes "/bin/ls")) ≡ allowed_setenv 2)
-unfolding reading_within written_form user_named host_named group_named user_fits group_fits host_fits command_fits host_chars free_bangs parts_after part_at bracket_after items_after range_at begins fits cuts tags_named tags_before tags_at runas_before runas_at value form_allows runas_allows place_grants section_grants grants applies question_of verdict_on verdict_of
+unfolding reading_within written_form user_named host_named group_named user_fits group_fits host_fits command_fits
+    host_chars free_bangs parts_after part_at bracket_after items_after range_at begins fits cuts tags_named
+    tags_before tags_at runas_before runas_at value form_allows runas_allows place_grants section_grants grants
+    applies question_of verdict_on verdict_of
 all_through_an_alias = refl
 
 abbrev deep : Policy
-deep = policy (alias kind.User 1 (codes "STAFF") (named (codes "alice") ∷ named (codes "bob") ∷ []) ∷ alias kind.User 2 (codes "ADMINS") (aliased (codes "STAFF") ∷ with_bangs 1 (atom.Name (codes "bob")) ∷ []) ∷ alias kind.Host 3 (codes "WEB") (host (codes "web1") ∷ []) ∷ alias kind.Host 4 (codes "SERVERS") (aliased (codes "WEB") ∷ []) ∷ alias kind.Runas 5 (codes "OP") (named (codes "operator") ∷ []) ∷ alias kind.Runas 6 (codes "DB") (aliased (codes "OP") ∷ []) ∷ rule 7 (aliased (codes "ADMINS") ∷ []) (on (aliased (codes "SERVERS") ∷ []) (spec (as_users (aliased (codes "DB") ∷ [])) [] (command (codes "/bin/ls")) ∷ []) ∷ []) ∷ []) refl refl
+deep = policy (alias kind.User 1 (codes "STAFF") (named (codes "alice") ∷ named (codes "bob") ∷ [])
+    ∷ alias kind.User 2 (codes "ADMINS") (aliased (codes "STAFF") ∷ with_bangs 1 (atom.Name (codes "bob")) ∷ [])
+    ∷ alias kind.Host 3 (codes "WEB") (host (codes "web1") ∷ []) ∷ alias kind.Host 4 (codes "SERVERS")
+    (aliased (codes "WEB") ∷ []) ∷ alias kind.Runas 5 (codes "OP") (named (codes "operator") ∷ [])
+    ∷ alias kind.Runas 6 (codes "DB") (aliased (codes "OP") ∷ []) ∷ rule 7 (aliased (codes "ADMINS") ∷ [])
+    (on (aliased (codes "SERVERS") ∷ []) (spec (as_users (aliased (codes "DB") ∷ [])) [] (command (codes "/bin/ls"))
+    ∷ []) ∷ []) ∷ []) refl refl
 
 -- `STAFF = alice, bob`, `ADMINS = STAFF, !bob`, `WEB = web1`, `SERVERS = WEB`, `OP = operator`, `DB = OP`, `ADMINS SERVERS = (DB) /bin/ls`
 pub aliases_two_deep :
     (verdict_of deep known (asks_on (codes "web1") (codes "/bin/ls") (Some (codes "operator")) None) ≡ allowed 7)
     × (verdict_of deep known (asks_on (codes "web2") (codes "/bin/ls") (Some (codes "operator")) None) ≡ NoMatch)
     × (verdict_of deep known (asks_on (codes "web1") (codes "/bin/ls") None None) ≡ NoMatch)
-    × (verdict_of deep known (record (asks_on (codes "web1") (codes "/bin/ls") (Some (codes "operator")) None) { user = codes "bob" }) ≡ NoMatch)
-unfolding reading_within written_form user_named host_named group_named user_fits group_fits host_fits command_fits host_chars free_bangs parts_after part_at bracket_after items_after range_at begins fits cuts tags_named tags_before tags_at runas_before runas_at value form_allows runas_allows place_grants section_grants grants applies question_of verdict_on verdict_of
+    × (verdict_of deep known (record (asks_on (codes "web1") (codes "/bin/ls") (Some (codes "operator")) None)
+    { user = codes "bob" }) ≡ NoMatch)
+unfolding reading_within written_form user_named host_named group_named user_fits group_fits host_fits command_fits
+    host_chars free_bangs parts_after part_at bracket_after items_after range_at begins fits cuts tags_named
+    tags_before tags_at runas_before runas_at value form_allows runas_allows place_grants section_grants grants
+    applies question_of verdict_on verdict_of
 aliases_two_deep = (refl, refl, refl, refl)
 
 abbrev not_after_all : Policy
-not_after_all = policy (rule 1 (named (codes "alice") ∷ with_bangs 1 (atom.Name (codes "alice")) ∷ []) (on (everything ∷ []) (plain everything ∷ []) ∷ []) ∷ []) refl refl
+not_after_all = policy (rule 1 (named (codes "alice") ∷ with_bangs 1 (atom.Name (codes "alice")) ∷ [])
+    (on (everything ∷ []) (plain everything ∷ []) ∷ []) ∷ []) refl refl
 
 abbrev all_after_not : Policy
-all_after_not = policy (rule 1 (with_bangs 1 (atom.Name (codes "alice")) ∷ named (codes "alice") ∷ []) (on (everything ∷ []) (plain (command (codes "/bin/ls")) ∷ []) ∷ []) ∷ []) refl refl
+all_after_not = policy (rule 1 (with_bangs 1 (atom.Name (codes "alice")) ∷ named (codes "alice") ∷ [])
+    (on (everything ∷ []) (plain (command (codes "/bin/ls")) ∷ []) ∷ []) ∷ []) refl refl
 
 -- `alice, !alice` is not for alice, and `!alice, alice` is
 pub the_last_member_decides :
     (verdict_of not_after_all known (asks (codes "/bin/ls")) ≡ NoMatch)
     × (verdict_of all_after_not known (asks (codes "/bin/ls")) ≡ allowed 1)
-unfolding reading_within written_form user_named host_named group_named user_fits group_fits host_fits command_fits host_chars free_bangs parts_after part_at bracket_after items_after range_at begins fits cuts tags_named tags_before tags_at runas_before runas_at value form_allows runas_allows place_grants section_grants grants applies question_of verdict_on verdict_of
+unfolding reading_within written_form user_named host_named group_named user_fits group_fits host_fits command_fits
+    host_chars free_bangs parts_after part_at bracket_after items_after range_at begins fits cuts tags_named
+    tags_before tags_at runas_before runas_at value form_allows runas_allows place_grants section_grants grants
+    applies question_of verdict_on verdict_of
 the_last_member_decides = (refl, refl)
 
 abbrev runas_list : Policy
-runas_list = policy (alice_all 1 (spec (as_users (named (codes "operator") ∷ [])) [] (command (codes "/bin/ls")) ∷ spec (as_users (named (codes "root") ∷ [])) [] (command (codes "/bin/kill")) ∷ plain (command (codes "/usr/bin/lprm")) ∷ []) ∷ []) refl refl
+runas_list = policy (alice_all 1 (spec (as_users (named (codes "operator") ∷ [])) [] (command (codes "/bin/ls"))
+    ∷ spec (as_users (named (codes "root") ∷ [])) [] (command (codes "/bin/kill"))
+    ∷ plain (command (codes "/usr/bin/lprm")) ∷ []) ∷ []) refl refl
 
 abbrev root_then_operator : Policy
-root_then_operator = policy (alice_all 1 (spec (as_users (named (codes "root") ∷ [])) [] (command (codes "/bin/ls")) ∷ spec (as_users (named (codes "operator") ∷ [])) [] (command (codes "/bin/ls")) ∷ []) ∷ []) refl refl
+root_then_operator = policy (alice_all 1 (spec (as_users (named (codes "root") ∷ [])) [] (command (codes "/bin/ls"))
+    ∷ spec (as_users (named (codes "operator") ∷ [])) [] (command (codes "/bin/ls")) ∷ []) ∷ []) refl refl
 
--- `(operator) /bin/ls, (root) /bin/kill, /usr/bin/lprm`: a runas holds for the later commands until the next; `(root) /bin/ls, (operator) /bin/ls`: a match whose runas does not hold is passed over
+-- `(operator) /bin/ls, (root) /bin/kill, /usr/bin/lprm`: a runas holds for the later commands until the next; `(root)
+-- /bin/ls, (operator) /bin/ls`: a match whose runas does not hold is passed over
 pub runas_holds_for_later_commands :
     (verdict_of runas_list known (asks_on (codes "web1") (codes "/bin/ls") (Some (codes "operator")) None) ≡ allowed 1)
     × (verdict_of runas_list known (asks (codes "/bin/ls")) ≡ NoMatch)
     × (verdict_of runas_list known (asks (codes "/usr/bin/lprm")) ≡ allowed 1)
     × (verdict_of runas_list known (asks_on (codes "web1") (codes "/usr/bin/lprm") (Some (codes "operator")) None) ≡ NoMatch)
     × (verdict_of root_then_operator known (asks (codes "/bin/ls")) ≡ allowed 1)
-unfolding reading_within written_form user_named host_named group_named user_fits group_fits host_fits command_fits host_chars free_bangs parts_after part_at bracket_after items_after range_at begins fits cuts tags_named tags_before tags_at runas_before runas_at value form_allows runas_allows place_grants section_grants grants applies question_of verdict_on verdict_of
+unfolding reading_within written_form user_named host_named group_named user_fits group_fits host_fits command_fits
+    host_chars free_bangs parts_after part_at bracket_after items_after range_at begins fits cuts tags_named
+    tags_before tags_at runas_before runas_at value form_allows runas_allows place_grants section_grants grants
+    applies question_of verdict_on verdict_of
 runas_holds_for_later_commands = (refl, refl, refl, refl, refl)
 
 abbrev two_sections : Policy
-two_sections = policy (rule 1 (named (codes "alice") ∷ []) (on (host (codes "web1") ∷ []) (spec None (opposite pair.Passwd ∷ []) (command (codes "/bin/kill")) ∷ plain (command (codes "/usr/bin/lprm")) ∷ spec None (own pair.Passwd ∷ []) (command (codes "/bin/ls")) ∷ []) ∷ on (host (codes "web2") ∷ []) (plain (command (codes "/bin/kill")) ∷ []) ∷ []) ∷ []) refl refl
+two_sections = policy (rule 1 (named (codes "alice") ∷ [])
+    (on (host (codes "web1") ∷ []) (spec None (opposite pair.Passwd ∷ []) (command (codes "/bin/kill"))
+    ∷ plain (command (codes "/usr/bin/lprm")) ∷ spec None (own pair.Passwd ∷ []) (command (codes "/bin/ls")) ∷ [])
+    ∷ on (host (codes "web2") ∷ []) (plain (command (codes "/bin/kill")) ∷ []) ∷ []) ∷ []) refl refl
 
--- `web1 = NOPASSWD: /bin/kill, /usr/bin/lprm, PASSWD: /bin/ls : web2 = /bin/kill`: a tag holds for the later commands of its section until its opposite, and not in the next section
+-- `web1 = NOPASSWD: /bin/kill, /usr/bin/lprm, PASSWD: /bin/ls : web2 = /bin/kill`: a tag holds for the later commands
+-- of its section until its opposite, and not in the next section
 pub tags_stay_in_their_section :
     (verdict_of two_sections known (asks (codes "/bin/kill")) ≡ Allow (line 1) (chosen None (Some false) None))
     × (verdict_of two_sections known (asks (codes "/usr/bin/lprm")) ≡ Allow (line 1) (chosen None (Some false) None))
     × (verdict_of two_sections known (asks (codes "/bin/ls")) ≡ Allow (line 1) (chosen None (Some true) None))
     × (verdict_of two_sections known (asks_on (codes "web2") (codes "/bin/kill") None None) ≡ allowed 1)
     × (verdict_of two_sections known (asks_on (codes "web2") (codes "/bin/ls") None None) ≡ NoMatch)
-unfolding reading_within written_form user_named host_named group_named user_fits group_fits host_fits command_fits host_chars free_bangs parts_after part_at bracket_after items_after range_at begins fits cuts tags_named tags_before tags_at runas_before runas_at value form_allows runas_allows place_grants section_grants grants applies question_of verdict_on verdict_of
+unfolding reading_within written_form user_named host_named group_named user_fits group_fits host_fits command_fits
+    host_chars free_bangs parts_after part_at bracket_after items_after range_at begins fits cuts tags_named
+    tags_before tags_at runas_before runas_at value form_allows runas_allows place_grants section_grants grants
+    applies question_of verdict_on verdict_of
 tags_stay_in_their_section = (refl, refl, refl, refl, refl)
 
 abbrev pair_twice : Policy
-pair_twice = policy (alice_all 1 (spec None (opposite pair.Passwd ∷ own pair.Passwd ∷ opposite pair.Exec ∷ []) (command (codes "/bin/ls")) ∷ []) ∷ []) refl refl
+pair_twice = policy (alice_all 1 (spec None (opposite pair.Passwd ∷ own pair.Passwd ∷ opposite pair.Exec ∷ [])
+    (command (codes "/bin/ls")) ∷ []) ∷ []) refl refl
 
 -- `NOPASSWD: PASSWD: NOEXEC: /bin/ls`: of two tags of one pair the last counts
 pub the_last_tag_of_a_pair :
     (verdict_of pair_twice known (asks (codes "/bin/ls")) ≡ Allow (line 1) (chosen (Some false) (Some true) None))
-unfolding reading_within written_form user_named host_named group_named user_fits group_fits host_fits command_fits host_chars free_bangs parts_after part_at bracket_after items_after range_at begins fits cuts tags_named tags_before tags_at runas_before runas_at value form_allows runas_allows place_grants section_grants grants applies question_of verdict_on verdict_of
+unfolding reading_within written_form user_named host_named group_named user_fits group_fits host_fits command_fits
+    host_chars free_bangs parts_after part_at bracket_after items_after range_at begins fits cuts tags_named
+    tags_before tags_at runas_before runas_at value form_allows runas_allows place_grants section_grants grants
+    applies question_of verdict_on verdict_of
 the_last_tag_of_a_pair = refl
 
 abbrev under : Option Runas → Policy
@@ -313,37 +367,60 @@ pub runas_without_parentheses :
     × (verdict_of (under None) known (asks_as (Some (codes "root")) (Some (codes "root"))) ≡ allowed 1)
     × (verdict_of (under None) known (asks_as None (Some (codes "adm"))) ≡ NoMatch)
     × (verdict_of (under None) known (asks_as (Some (codes "alice")) None) ≡ NoMatch)
-unfolding reading_within written_form user_named host_named group_named user_fits group_fits host_fits command_fits host_chars free_bangs parts_after part_at bracket_after items_after range_at begins fits cuts tags_named tags_before tags_at runas_before runas_at value form_allows runas_allows place_grants section_grants grants applies question_of verdict_on verdict_of
+unfolding reading_within written_form user_named host_named group_named user_fits group_fits host_fits command_fits
+    host_chars free_bangs parts_after part_at bracket_after items_after range_at begins fits cuts tags_named
+    tags_before tags_at runas_before runas_at value form_allows runas_allows place_grants section_grants grants
+    applies question_of verdict_on verdict_of
 runas_without_parentheses = (refl, refl, refl, refl)
 
 -- `(operator)`
 pub runas_users :
     (verdict_of (form (Some (named (codes "operator") ∷ [])) None) known (asks_as (Some (codes "operator")) None) ≡ allowed 1)
-    × (verdict_of (form (Some (named (codes "operator") ∷ [])) None) known (asks_as (Some (codes "operator")) (Some (codes "operator"))) ≡ allowed 1)
+    × (verdict_of (form (Some (named (codes "operator") ∷ [])) None) known
+    (asks_as (Some (codes "operator")) (Some (codes "operator"))) ≡ allowed 1)
     × (verdict_of (form (Some (named (codes "operator") ∷ [])) None) known (asks_as None None) ≡ NoMatch)
-    × (verdict_of (form (Some (named (codes "operator") ∷ [])) None) known (asks_as (Some (codes "operator")) (Some (codes "adm"))) ≡ NoMatch)
+    × (verdict_of (form (Some (named (codes "operator") ∷ [])) None) known
+    (asks_as (Some (codes "operator")) (Some (codes "adm"))) ≡ NoMatch)
     × (verdict_of (form (Some (named (codes "operator") ∷ [])) None) known (asks_as None (Some (codes "adm"))) ≡ NoMatch)
-unfolding reading_within written_form user_named host_named group_named user_fits group_fits host_fits command_fits host_chars free_bangs parts_after part_at bracket_after items_after range_at begins fits cuts tags_named tags_before tags_at runas_before runas_at value form_allows runas_allows place_grants section_grants grants applies question_of verdict_on verdict_of
+unfolding reading_within written_form user_named host_named group_named user_fits group_fits host_fits command_fits
+    host_chars free_bangs parts_after part_at bracket_after items_after range_at begins fits cuts tags_named
+    tags_before tags_at runas_before runas_at value form_allows runas_allows place_grants section_grants grants
+    applies question_of verdict_on verdict_of
 runas_users = (refl, refl, refl, refl, refl)
 
 -- `(operator:adm)`
 pub runas_users_and_groups :
-    (verdict_of (form (Some (named (codes "operator") ∷ [])) (Some (named (codes "adm") ∷ []))) known (asks_as (Some (codes "operator")) None) ≡ allowed 1)
-    × (verdict_of (form (Some (named (codes "operator") ∷ [])) (Some (named (codes "adm") ∷ []))) known (asks_as (Some (codes "operator")) (Some (codes "adm"))) ≡ allowed 1)
-    × (verdict_of (form (Some (named (codes "operator") ∷ [])) (Some (named (codes "adm") ∷ []))) known (asks_as (Some (codes "operator")) (Some (codes "operator"))) ≡ allowed 1)
-    × (verdict_of (form (Some (named (codes "operator") ∷ [])) (Some (named (codes "adm") ∷ []))) known (asks_as None (Some (codes "adm"))) ≡ allowed 1)
-    × (verdict_of (form (Some (named (codes "operator") ∷ [])) (Some (named (codes "adm") ∷ []))) known (asks_as (Some (codes "alice")) (Some (codes "adm"))) ≡ allowed 1)
-    × (verdict_of (form (Some (named (codes "operator") ∷ [])) (Some (named (codes "adm") ∷ []))) known (asks_as (Some (codes "operator")) (Some (codes "alice"))) ≡ NoMatch)
-    × (verdict_of (form (Some (named (codes "operator") ∷ [])) (Some (named (codes "adm") ∷ []))) known (asks_as None (Some (codes "operator"))) ≡ NoMatch)
+    (verdict_of (form (Some (named (codes "operator") ∷ [])) (Some (named (codes "adm") ∷ []))) known
+    (asks_as (Some (codes "operator")) None) ≡ allowed 1)
+    × (verdict_of (form (Some (named (codes "operator") ∷ [])) (Some (named (codes "adm") ∷ []))) known
+    (asks_as (Some (codes "operator")) (Some (codes "adm"))) ≡ allowed 1)
+    × (verdict_of (form (Some (named (codes "operator") ∷ [])) (Some (named (codes "adm") ∷ []))) known
+    (asks_as (Some (codes "operator")) (Some (codes "operator"))) ≡ allowed 1)
+    × (verdict_of (form (Some (named (codes "operator") ∷ [])) (Some (named (codes "adm") ∷ []))) known
+    (asks_as None (Some (codes "adm"))) ≡ allowed 1)
+    × (verdict_of (form (Some (named (codes "operator") ∷ [])) (Some (named (codes "adm") ∷ []))) known
+    (asks_as (Some (codes "alice")) (Some (codes "adm"))) ≡ allowed 1)
+    × (verdict_of (form (Some (named (codes "operator") ∷ [])) (Some (named (codes "adm") ∷ []))) known
+    (asks_as (Some (codes "operator")) (Some (codes "alice"))) ≡ NoMatch)
+    × (verdict_of (form (Some (named (codes "operator") ∷ [])) (Some (named (codes "adm") ∷ []))) known
+    (asks_as None (Some (codes "operator"))) ≡ NoMatch)
     × (verdict_of (form (Some (named (codes "operator") ∷ [])) (Some (named (codes "adm") ∷ []))) known (asks_as None None) ≡ NoMatch)
-unfolding reading_within written_form user_named host_named group_named user_fits group_fits host_fits command_fits host_chars free_bangs parts_after part_at bracket_after items_after range_at begins fits cuts tags_named tags_before tags_at runas_before runas_at value form_allows runas_allows place_grants section_grants grants applies question_of verdict_on verdict_of
+unfolding reading_within written_form user_named host_named group_named user_fits group_fits host_fits command_fits
+    host_chars free_bangs parts_after part_at bracket_after items_after range_at begins fits cuts tags_named
+    tags_before tags_at runas_before runas_at value form_allows runas_allows place_grants section_grants grants
+    applies question_of verdict_on verdict_of
 runas_users_and_groups = (refl, refl, refl, refl, refl, refl, refl, refl)
 
 -- `(!alice:adm)`: the list has a value for alice
 pub runas_not_the_user :
-    (verdict_of (form (Some (with_bangs 1 (atom.Name (codes "alice")) ∷ [])) (Some (named (codes "adm") ∷ []))) known (asks_as None (Some (codes "adm"))) ≡ NoMatch)
-    × (verdict_of (form (Some (with_bangs 1 (atom.Name (codes "alice")) ∷ [])) (Some (named (codes "adm") ∷ []))) known (asks_as (Some (codes "alice")) (Some (codes "adm"))) ≡ NoMatch)
-unfolding reading_within written_form user_named host_named group_named user_fits group_fits host_fits command_fits host_chars free_bangs parts_after part_at bracket_after items_after range_at begins fits cuts tags_named tags_before tags_at runas_before runas_at value form_allows runas_allows place_grants section_grants grants applies question_of verdict_on verdict_of
+    (verdict_of (form (Some (with_bangs 1 (atom.Name (codes "alice")) ∷ [])) (Some (named (codes "adm") ∷ []))) known
+    (asks_as None (Some (codes "adm"))) ≡ NoMatch)
+    × (verdict_of (form (Some (with_bangs 1 (atom.Name (codes "alice")) ∷ [])) (Some (named (codes "adm") ∷ [])))
+    known (asks_as (Some (codes "alice")) (Some (codes "adm"))) ≡ NoMatch)
+unfolding reading_within written_form user_named host_named group_named user_fits group_fits host_fits command_fits
+    host_chars free_bangs parts_after part_at bracket_after items_after range_at begins fits cuts tags_named
+    tags_before tags_at runas_before runas_at value form_allows runas_allows place_grants section_grants grants
+    applies question_of verdict_on verdict_of
 runas_not_the_user = (refl, refl)
 
 -- `(:operator)`
@@ -354,7 +431,10 @@ pub runas_groups :
     × (verdict_of (form None (Some (named (codes "operator") ∷ []))) known (asks_as None (Some (codes "adm"))) ≡ allowed 1)
     × (verdict_of (form None (Some (named (codes "operator") ∷ []))) known (asks_as (Some (codes "root")) None) ≡ NoMatch)
     × (verdict_of (form None (Some (named (codes "operator") ∷ []))) known (asks_as None (Some (codes "root"))) ≡ NoMatch)
-unfolding reading_within written_form user_named host_named group_named user_fits group_fits host_fits command_fits host_chars free_bangs parts_after part_at bracket_after items_after range_at begins fits cuts tags_named tags_before tags_at runas_before runas_at value form_allows runas_allows place_grants section_grants grants applies question_of verdict_on verdict_of
+unfolding reading_within written_form user_named host_named group_named user_fits group_fits host_fits command_fits
+    host_chars free_bangs parts_after part_at bracket_after items_after range_at begins fits cuts tags_named
+    tags_before tags_at runas_before runas_at value form_allows runas_allows place_grants section_grants grants
+    applies question_of verdict_on verdict_of
 runas_groups = (refl, refl, refl, refl, refl, refl)
 
 -- `()`
@@ -364,21 +444,34 @@ pub runas_empty :
     × (verdict_of (form None None) known (asks_as None (Some (codes "adm"))) ≡ allowed 1)
     × (verdict_of (form None None) known (asks_as None (Some (codes "operator"))) ≡ NoMatch)
     × (verdict_of (form None None) known (asks_as (Some (codes "root")) None) ≡ NoMatch)
-unfolding reading_within written_form user_named host_named group_named user_fits group_fits host_fits command_fits host_chars free_bangs parts_after part_at bracket_after items_after range_at begins fits cuts tags_named tags_before tags_at runas_before runas_at value form_allows runas_allows place_grants section_grants grants applies question_of verdict_on verdict_of
+unfolding reading_within written_form user_named host_named group_named user_fits group_fits host_fits command_fits
+    host_chars free_bangs parts_after part_at bracket_after items_after range_at begins fits cuts tags_named
+    tags_before tags_at runas_before runas_at value form_allows runas_allows place_grants section_grants grants
+    applies question_of verdict_on verdict_of
 runas_empty = (refl, refl, refl, refl, refl)
 
 -- `(ALL:ALL, !adm)`
 pub runas_groups_but_one :
-    (verdict_of (form (Some (everything ∷ [])) (Some (everything ∷ with_bangs 1 (atom.Name (codes "adm")) ∷ []))) known (asks_as (Some (codes "operator")) (Some (codes "operator"))) ≡ allowed 1)
-    × (verdict_of (form (Some (everything ∷ [])) (Some (everything ∷ with_bangs 1 (atom.Name (codes "adm")) ∷ []))) known (asks_as (Some (codes "bob")) (Some (codes "alice"))) ≡ allowed 1)
-    × (verdict_of (form (Some (everything ∷ [])) (Some (everything ∷ with_bangs 1 (atom.Name (codes "adm")) ∷ []))) known (asks_as (Some (codes "operator")) (Some (codes "adm"))) ≡ NoMatch)
-    × (verdict_of (form (Some (everything ∷ [])) (Some (everything ∷ with_bangs 1 (atom.Name (codes "adm")) ∷ []))) known (asks_as None (Some (codes "adm"))) ≡ NoMatch)
-unfolding reading_within written_form user_named host_named group_named user_fits group_fits host_fits command_fits host_chars free_bangs parts_after part_at bracket_after items_after range_at begins fits cuts tags_named tags_before tags_at runas_before runas_at value form_allows runas_allows place_grants section_grants grants applies question_of verdict_on verdict_of
+    (verdict_of (form (Some (everything ∷ [])) (Some (everything ∷ with_bangs 1 (atom.Name (codes "adm")) ∷ [])))
+    known (asks_as (Some (codes "operator")) (Some (codes "operator"))) ≡ allowed 1)
+    × (verdict_of (form (Some (everything ∷ [])) (Some (everything ∷ with_bangs 1 (atom.Name (codes "adm")) ∷ [])))
+    known (asks_as (Some (codes "bob")) (Some (codes "alice"))) ≡ allowed 1)
+    × (verdict_of (form (Some (everything ∷ [])) (Some (everything ∷ with_bangs 1 (atom.Name (codes "adm")) ∷ [])))
+    known (asks_as (Some (codes "operator")) (Some (codes "adm"))) ≡ NoMatch)
+    × (verdict_of (form (Some (everything ∷ [])) (Some (everything ∷ with_bangs 1 (atom.Name (codes "adm")) ∷ [])))
+    known (asks_as None (Some (codes "adm"))) ≡ NoMatch)
+unfolding reading_within written_form user_named host_named group_named user_fits group_fits host_fits command_fits
+    host_chars free_bangs parts_after part_at bracket_after items_after range_at begins fits cuts tags_named
+    tags_before tags_at runas_before runas_at value form_allows runas_allows place_grants section_grants grants
+    applies question_of verdict_on verdict_of
 runas_groups_but_one = (refl, refl, refl, refl)
 
 -- without a user root
 abbrev rootless : KnownRows
-rootless = record { people = person (codes "alice") 1000 (group (codes "alice") 1000 ∷ []) ∷ []; machines = record { name = codes "web1"; interfaces = [] } ∷ [] }
+rootless = record {
+  people = person (codes "alice") 1000 (group (codes "alice") 1000 ∷ []) ∷ [];
+  machines = record { name = codes "web1"; interfaces = [] } ∷ [];
+}
 
 -- the target is looked at only by the forms that name it
 pub own_forms_need_no_root :
@@ -386,14 +479,25 @@ pub own_forms_need_no_root :
     × (verdict_of (form None (Some [])) rootless (asks_as None None) ≡ allowed 1)
     × (verdict_of (under None) rootless (asks_as None None) ≡ NoMatch)
     × (verdict_of (form (Some (everything ∷ [])) None) rootless (asks_as None None) ≡ NoMatch)
-unfolding reading_within written_form user_named host_named group_named user_fits group_fits host_fits command_fits host_chars free_bangs parts_after part_at bracket_after items_after range_at begins fits cuts tags_named tags_before tags_at runas_before runas_at value form_allows runas_allows place_grants section_grants grants applies question_of verdict_on verdict_of
+unfolding reading_within written_form user_named host_named group_named user_fits group_fits host_fits command_fits
+    host_chars free_bangs parts_after part_at bracket_after items_after range_at begins fits cuts tags_named
+    tags_before tags_at runas_before runas_at value form_allows runas_allows place_grants section_grants grants
+    applies question_of verdict_on verdict_of
 own_forms_need_no_root = (refl, refl, refl, refl)
 
 -- the first name that is not known decides: of the user, the host, the target and the group
 pub unknown_names :
-    (verdict_of all_then_not_su known (record (asks_on (codes "db") (codes "/bin/ls") (Some (codes "eve")) (Some (codes "wheel"))) { user = codes "carol" }) ≡ Unknown what.User)
-    × (verdict_of all_then_not_su known (asks_on (codes "db") (codes "/bin/ls") (Some (codes "eve")) (Some (codes "wheel"))) ≡ Unknown what.Host)
-    × (verdict_of all_then_not_su known (asks_on (codes "web1") (codes "/bin/ls") (Some (codes "eve")) (Some (codes "wheel"))) ≡ Unknown what.Target)
-    × (verdict_of all_then_not_su known (asks_on (codes "web1") (codes "/bin/ls") (Some (codes "root")) (Some (codes "wheel"))) ≡ Unknown what.Group)
-unfolding reading_within written_form user_named host_named group_named user_fits group_fits host_fits command_fits host_chars free_bangs parts_after part_at bracket_after items_after range_at begins fits cuts tags_named tags_before tags_at runas_before runas_at value form_allows runas_allows place_grants section_grants grants applies question_of verdict_on verdict_of
+    (verdict_of all_then_not_su known
+    (record (asks_on (codes "db") (codes "/bin/ls") (Some (codes "eve")) (Some (codes "wheel")))
+    { user = codes "carol" }) ≡ Unknown what.User)
+    × (verdict_of all_then_not_su known (asks_on (codes "db") (codes "/bin/ls") (Some (codes "eve"))
+    (Some (codes "wheel"))) ≡ Unknown what.Host)
+    × (verdict_of all_then_not_su known (asks_on (codes "web1") (codes "/bin/ls") (Some (codes "eve"))
+    (Some (codes "wheel"))) ≡ Unknown what.Target)
+    × (verdict_of all_then_not_su known (asks_on (codes "web1") (codes "/bin/ls") (Some (codes "root"))
+    (Some (codes "wheel"))) ≡ Unknown what.Group)
+unfolding reading_within written_form user_named host_named group_named user_fits group_fits host_fits command_fits
+    host_chars free_bangs parts_after part_at bracket_after items_after range_at begins fits cuts tags_named
+    tags_before tags_at runas_before runas_at value form_allows runas_allows place_grants section_grants grants
+    applies question_of verdict_on verdict_of
 unknown_names = (refl, refl, refl, refl)

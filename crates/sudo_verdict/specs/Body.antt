@@ -1,4 +1,4 @@
--- Definitions that only proofs of bodies need: no contract of a public function cites them.
+-- Definitions that only the proofs of bodies use: no contract of a public function cites them.
 pub mod Blocks
 pub mod Known
 pub mod NumberSets
@@ -6,3 +6,7 @@ pub mod Queries
 pub mod Recalling
 pub mod Resolved
 pub mod Silence
+pub mod Decided
+pub mod Found
+pub mod Numbers
+pub mod Postings

@@ -5,7 +5,7 @@ use Rattle.sudo_grammar.specs.declared.kind.Atom.{Atom}
 use Rattle.sudo_grammar.specs.declared.kind.Signed.{Signed}
 use Rattle.sudo_grammar.specs.declared.kind.Member.{Member}
 use Rattle.sudo_grammar.specs.declared.policy.Policy.{Policy}
-use Rattle.sudo_policy.specs.Written.{differ, written_form}
+use Rattle.sudo_policy.specs.Written.{written_form}
 use Rattle.sudo_verdict.specs.declared.decision.Decision.{Decision}
 use Rattle.sudo_verdict.specs.Last.{last_that}
 use Rattle.sudo_verdict.specs.Values.{is_all}
@@ -13,10 +13,6 @@ use Rattle.sudo_verdict.specs.Values.{is_all}
 -- the decision of a signed atom
 abbrev pub decision_of : Signed → Decision
 decision_of s = record { negated = s.negated; all = is_all s.atom }
-
--- the decision with the opposite sign if `negated`
-abbrev pub negated_once : Bool → Decision → Decision
-negated_once negated d = record { negated = differ negated d.negated; all = d.all }
 
 -- the decision of a written-out list
 unfoldable pub decided_in : (Atom → Bool) → List Signed → Option Decision

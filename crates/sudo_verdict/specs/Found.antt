@@ -14,18 +14,13 @@ use Rattle.sudo_match.specs.declared.request.Tags.{Tags}
 use Rattle.sudo_match.specs.declared.request.Verdict.{Verdict}
 use Rattle.sudo_match.specs.Matching.{command_fits}
 use Rattle.sudo_verdict.specs.declared.decision.Decision.{Decision}
-use Rattle.sudo_verdict.specs.Last.{last_that, last_set}
+use Rattle.sudo_verdict.specs.Last.{last_set}
 use Rattle.sudo_verdict.specs.Tagged.{tags_before, runas_before}
 use Rattle.sudo_verdict.specs.Decided.{list_decision}
 use Rattle.sudo_verdict.specs.Questions.{Question}
 use Rattle.sudo_verdict.specs.Values.{user_listed, host_listed}
 use Rattle.sudo_verdict.specs.RunasForms.{runas_allows}
-use Rattle.sudo_verdict.specs.Grants.{Grant, applies}
-use Rattle.sudo_verdict.specs.Verdicts.{decided_by, verdict_by}
-
--- the verdict of the last of these grants that applies
-unfoldable pub found : Policy → Question → List Grant → Option Verdict
-found p q grants = option_map verdict_by (last_that (applies p q) grants)
+use Rattle.sudo_verdict.specs.Verdicts.{decided_by}
 
 -- the verdict of a grant with this place and these tags, from the decision of its command
 abbrev pub verdict_from : Place → Tags → Decision → Verdict
@@ -35,7 +30,8 @@ verdict_from place tags d = decided_by place tags d.negated d.all
 unfoldable pub command_found : Policy → Question → Place → List CommandSpec → CommandSpec → Option Verdict
 command_found p q place before c =
     cond (runas_allows p q (runas_before before))
-    (option_map (verdict_from place (tags_before before)) (list_decision kind.Cmnd p (c.command ∷ []) (λ a. command_fits a q.command q.arguments)))
+    (option_map (verdict_from place (tags_before before)) (list_decision kind.Cmnd p (c.command ∷ [])
+    (λ a. command_fits a q.command q.arguments)))
     None
 
 -- the verdict found at a command, if there is one

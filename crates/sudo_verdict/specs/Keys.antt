@@ -20,10 +20,10 @@ use Rattle.sudo_policy.specs.Definitions.{in_force}
 use Rattle.sudo_policy.specs.Positions.{members_at}
 use Rattle.sudo_match.specs.Beginnings.{is_special}
 use Rattle.sudo_match.specs.Class.{lower}
-use Rattle.sudo_verdict.specs.declared.key.Key.{Key}
-use Rattle.sudo_verdict.specs.declared.key.SectionKeys.{SectionKeys}
-use Rattle.sudo_verdict.specs.declared.key.EntryKeys.{EntryKeys}
-use Rattle.sudo_verdict.specs.declared.key.Key.TheVariants as keys
+use Rattle.sudo_verdict.specs.declared.index.key.Key.{Key}
+use Rattle.sudo_verdict.specs.declared.index.key.SectionKeys.{SectionKeys}
+use Rattle.sudo_verdict.specs.declared.index.key.EntryKeys.{EntryKeys}
+use Rattle.sudo_verdict.specs.declared.index.key.Key.TheVariants as keys
 use Rattle.sudo_verdict.specs.Numbers.{user_number, group_mark, path_number}
 
 -- at each index that both lists have, the items are related
@@ -57,7 +57,8 @@ literal_byte _ index = None
 
 -- what the key says holds of the atom, in a list of a kind
 pub record IsKeyOf (p : Policy) (kind : Kind) (key : Key) (a : Atom) : Type 0 where
-  pub position : (position : Position) (name : List ℕ) → key ≡ keys.Alias position → a ≡ atom.Alias name → in_force kind p name ≡ members_at p position
+  pub position : (position : Position) (name : List ℕ) → key ≡ keys.Alias position → a ≡ atom.Alias name
+      → in_force kind p name ≡ members_at p position
   pub name : (number : ℕ) → key ≡ keys.Name number → name_number a ≡ Some number
   pub uid : (uid : ℕ) → key ≡ keys.Uid uid → user_id a ≡ Some uid
   pub group : (mark : ℕ) → key ≡ keys.Group mark → name_mark a ≡ Some mark
@@ -85,7 +86,8 @@ HaveDefinitionKeys p kind = Pairwise (λ ks d. HaveKeys p kind ks d.members)
 -- the keys of the lists of an entry
 abbrev pub HaveBodyKeys : Policy → EntryKeys → EntryBody → Type 0
 HaveBodyKeys p ks b =
-    ((kind : Kind) (definitions : List Definition) → b ≡ body.Aliases kind definitions → HaveDefinitionKeys p kind ks.definitions definitions)
+    ((kind : Kind) (definitions : List Definition) → b ≡ body.Aliases kind definitions
+    → HaveDefinitionKeys p kind ks.definitions definitions)
     × ((users : List Member) (sections : List Section) → b ≡ body.Rule users sections → HaveRuleKeys p ks.users ks.sections users sections)
 
 -- for each entry of a policy, the keys of its lists

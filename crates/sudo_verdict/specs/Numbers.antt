@@ -2,8 +2,6 @@
 use Rattle.std.specs.Prelude.{ℕ, ◌+◌, ◌-◌, ◌*◌, ◌%◌, nat_lt, length, slice_index, Bool, not, ◌&&◌, ◌||◌, if◌then◌else◌, List, [], ◌∷◌}
 use Rattle.std.specs.List.{list_all}
 use Rattle.sudo_text.specs.declared.token.Ch.{Ch}
-use Rattle.sudo_grammar.specs.declared.kind.Atom.{Atom}
-use Rattle.sudo_grammar.specs.declared.kind.Atom.TheVariants as atom
 use Rattle.sudo_match.specs.declared.people.Person.{Person}
 use Rattle.sudo_match.specs.declared.people.Group.{Group}
 use Rattle.sudo_match.specs.Pattern.{is_plain, is_folder_path}
@@ -51,15 +49,6 @@ path_number_from folder number (c ∷ cs) =
 -- the number under which the path of a command is found
 abbrev pub path_number : List Ch → ℕ
 path_number path = path_number_from (is_folder_path path) beginning_seed path
-
--- the number under which an atom of a user list or of a command list is found; 0 for atoms that match all, or none
-unfoldable pub atom_number : Atom → ℕ
-atom_number (atom.Name name) = user_number name
-atom_number (atom.Uid uid) = uid_number uid
-atom_number (atom.Group name) = group_number name
-atom_number (atom.Gid gid) = gid_number gid
-atom_number (atom.Command path args) = path_number path
-atom_number _ = 0
 
 -- the mark of a group's name, by its last two bytes
 abbrev pub group_mark : List ℕ → ℕ

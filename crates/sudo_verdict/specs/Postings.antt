@@ -1,11 +1,12 @@
 -- The rows of an index of rules.
-use Rattle.std.specs.Prelude.{◌≡◌, ℕ, ◌/◌, ◌%◌, ◌==◌, ◌<◌, Bool, true, ◌||◌, List, [], length, slice_get, slice_index, Option, Some, None, Vec}
+use Rattle.std.specs.Prelude.{◌≡◌, ℕ, ◌/◌, ◌%◌, ◌==◌, ◌<◌, Bool, true, ◌||◌, List, [], length, slice_get, slice_index}
+use Rattle.std.specs.Prelude.{Option, Some, None, Vec}
 use Rattle.std.specs.Int.{bit_at}
 use Rattle.std.specs.declared.alloc.Global.{Global}
 use Rattle.sudo_grammar.specs.declared.policy.Entry.{Entry}
 use Rattle.sudo_grammar.specs.declared.policy.Policy.{Policy}
 use Rattle.sudo_match.specs.declared.people.Person.{Person}
-use Rattle.sudo_verdict.specs.declared.key.EntryKeys.{EntryKeys}
+use Rattle.sudo_verdict.specs.declared.index.key.EntryKeys.{EntryKeys}
 use Rattle.sudo_verdict.specs.Questions.{Question}
 use Rattle.sudo_verdict.specs.Found.{entry_found}
 use Rattle.sudo_verdict.specs.Keys.{AreKeys}
@@ -35,10 +36,6 @@ misses_user rows rule u = lacks_user (λ n. is_in_row rows n rule) u
 -- the rule is in no row of a command
 abbrev pub misses_command : Rows → ℕ → List ℕ → Bool
 misses_command rows rule command = lacks_command (λ n. is_in_row rows n rule) command
-
--- each rule that the old rows have under a number, the new rows have under it too
-abbrev pub Grows : Rows → Rows → Type 0
-Grows old new = (number rule : ℕ) → is_in_row old number rule ≡ true → is_in_row new number rule ≡ true
 
 -- the rows by user, those by command, and the keys of the lists
 abbrev pub Index : Type 0

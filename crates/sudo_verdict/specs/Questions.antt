@@ -1,5 +1,5 @@
 -- A request whose names are known. sudo(8), options -u and -g; sudoers(5), "Runas_Spec".
-use Rattle.std.specs.Prelude.{ℕ, List, codes, Option, Some, None, Result, Ok, Err, option_map}
+use Rattle.std.specs.Prelude.{ℕ, List, [], codes, Option, Some, None, Result, Ok, Err, option_map}
 use Rattle.sudo_match.specs.declared.people.Person.{Person}
 use Rattle.sudo_match.specs.declared.people.Group.{Group}
 use Rattle.sudo_match.specs.declared.people.Machine.{Machine}
@@ -30,6 +30,10 @@ abbrev pub target_of : KnownRows → Person → Option Person → Option Group �
 target_of d u (Some t) g = Some t
 target_of d u None (Some g) = Some u
 target_of d u None None = user_named d (codes "root")
+
+-- what a user on a host asks for: the target and the group, and no command yet
+abbrev pub question_as : KnownRows → Person → Machine → Option Person → Option Group → Question
+question_as d u m t g = record { user = u; host = m; asked = t; group = g; target = target_of d u t g; command = []; arguments = [] }
 
 abbrev pub with_group : KnownRows → Request → Person → Machine → Option Person → Option (Option Group) → Result Question What
 with_group d r u m t None = Err GroupAsked

@@ -1,6 +1,7 @@
 //! The decision of a list on a user, a group, a host or a command.
 
-ghost use Rattle.std.specs.Prelude.{ℕ, ◌≡◌, ◌==◌, ◌<◌, ◌≤◌, ◌∷◌, [], Bool, true, false, not, take, IsTrue, Some, option_copied, option_map, slice_get, unwrap_or};
+ghost use Rattle.std.specs.Prelude.{ℕ, ◌≡◌, ◌==◌, ◌<◌, ◌≤◌, ◌∷◌, [], Bool, true, false, not, take, IsTrue, Some};
+ghost use Rattle.std.specs.Prelude.{option_copied, option_map, slice_get, unwrap_or};
 ghost use Rattle.std.specs.List.{list_any};
 ghost use Rattle.sudo_grammar.specs.declared.kind.Atom.{Atom};
 ghost use Rattle.sudo_policy.specs.Resolving.{resolves};
@@ -8,17 +9,18 @@ ghost use Rattle.sudo_match.specs.Matching.{user_fits, group_fits, host_fits, co
 ghost use Rattle.sudo_verdict.specs.Values as values;
 ghost use Rattle.sudo_verdict.specs.Body.Known.{IsPassed};
 ghost use Rattle.sudo_verdict.specs.Body.NumberSets.{has_marks, set_has};
-ghost use Rattle.sudo_verdict.specs.declared.number_set.NumberSet.{NumberSet as TheNumbers};
+ghost use Rattle.sudo_verdict.specs.declared.index.number_set.NumberSet.{NumberSet as TheNumbers};
 ghost use Rattle.sudo_verdict.specs.Keys.{HaveKeys, IsKeyOf};
 ghost use Rattle.sudo_verdict.specs.Numbers.{lacks_command, user_number};
 ghost use Rattle.sudo_verdict.specs.Body.Recalling.{Recalls};
-ghost use Rattle.sudo_verdict.specs.Decided.{list_decision, negated_once};
+ghost use Rattle.sudo_verdict.specs.Decided.{list_decision};
+ghost use Rattle.sudo_verdict.specs.Body.Decided.{negated_once};
 
-use crate::aliases::{Aliases, Numbers, REMEMBERED, Slot, number_of, recall, remember};
-use crate::key::{Key, key_at};
-use crate::keys::Lists;
-use crate::number_set::{MarkSet, NumberSet};
-use crate::numbers::user_number;
+use crate::index::aliases::{Aliases, Numbers, REMEMBERED, Slot, number_of, recall, remember};
+use crate::index::key::{Key, key_at};
+use crate::index::keys::Lists;
+use crate::index::number_set::{MarkSet, NumberSet};
+use crate::index::numbers::user_number;
 use sudo_match::{
     Group, Machine, Person, command_matches, group_matches, host_matches, user_matches,
 };

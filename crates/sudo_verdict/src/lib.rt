@@ -3,23 +3,15 @@
 //! sudoers(5), "User Specification": the last match is used.
 #![tactic(auto)]
 
-mod aliases;
-mod candidates;
 mod decision;
-mod key;
-mod keys;
-mod number_set;
-mod numbers;
-mod postings;
+mod index;
+mod listing;
 mod query;
-mod request_numbers;
-mod row_list;
-mod rows;
-mod rule_index;
 mod search;
 mod tags;
 
-pub use postings::Budget;
-pub use rule_index::RuleIndex;
+pub use index::{Budget, RuleIndex};
+pub use listing::{Asker, allows_runas, lists_host, lists_user};
 pub use search::verdict;
 pub use sudo_match::{Request, Tags, Verdict, What};
+pub use tags::tags_before_end;

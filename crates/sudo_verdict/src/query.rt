@@ -1,6 +1,7 @@
 //! A request whose names are known, and its answers from the lists of a rule.
 
-ghost use Rattle.std.specs.Prelude.{◌≡◌, true, not, ◌∷◌, [], IsTrue, Option, Some, None, MatchResult, Ok, Err, option_copied, is_some, unwrap_or, bytes_eq, codes};
+ghost use Rattle.std.specs.Prelude.{◌≡◌, true, not, ◌∷◌, [], IsTrue, Option, Some, None, MatchResult, Ok, Err};
+ghost use Rattle.std.specs.Prelude.{option_copied, is_some, unwrap_or, bytes_eq, codes};
 ghost use Rattle.sudo_grammar.specs.declared.kind.Kind.TheVariants as kind;
 ghost use Rattle.sudo_policy.specs.Resolving.{resolves, list_resolves, runas_resolves};
 ghost use Rattle.sudo_match.specs.KnownRows.{user_named};
@@ -12,11 +13,11 @@ ghost use Rattle.sudo_verdict.specs.Numbers.{lacks_command};
 ghost use Rattle.sudo_verdict.specs.Body.NumberSets.{set_has};
 ghost use Rattle.sudo_verdict.specs.Body.Queries.{question};
 
-use crate::aliases::Aliases;
 use crate::decision::{AsCommand, AsGroup, AsHost, AsTarget, AsUser, value};
-use crate::key::Key;
-use crate::keys::Lists;
-use crate::number_set::NumberSet;
+use crate::index::aliases::Aliases;
+use crate::index::key::Key;
+use crate::index::keys::Lists;
+use crate::index::number_set::NumberSet;
 use sudo_match::{Directory, Group, Machine, Person, Request, What};
 use sudo_policy::{Kind, Member, Runas};
 use sudo_text::Seq;
@@ -97,9 +98,9 @@ pub(crate) fn with_numbers<'a>(query: Query<'a>, number_set: &'a NumberSet) -> Q
     Query { command, ..query }
 }
 
-// Returns the user to run a command as: the user asked for; without one, the invoking user if a group is asked for,
-// otherwise root.
-fn target<'a>(
+/// Returns the user to run a command as: the user asked for; without one, the invoking user if a group is asked for,
+/// otherwise root.
+pub(crate) fn target<'a>(
     directory: &'a Directory,
     user: &'a Person,
     asked: Option<&'a Person>,

@@ -2,7 +2,7 @@
 
 ghost use Rattle.std.specs.Prelude.{◌≡◌, true, false, ◌++◌, ◌∷◌, [], IsTrue, Option, map, length, Some, slice_get, option_copied};
 ghost use Rattle.std.specs.List.{list_all};
-ghost use Rattle.sudo_policy.specs.Resolving.{section_resolves, command_resolves};
+ghost use Rattle.sudo_policy.specs.Body.Resolving.{section_resolves, command_resolves};
 ghost use Rattle.sudo_grammar.specs.declared.kind.Kind.{Kind as TheKind};
 ghost use Rattle.sudo_verdict.specs.Keys.{Pairwise, IsKeyOf, HaveKeys, HaveCommandKeys, HaveSectionKeys};
 ghost use Rattle.sudo_verdict.specs.Last.{last_set};
@@ -14,8 +14,8 @@ ghost use Rattle.sudo_verdict.specs.Body.Resolved.{body_resolves};
 ghost use Rattle.sudo_verdict.specs.Found.{verdict_from, command_found, commands_found, section_found, entry_found};
 
 use crate::decision::{Decision, decide_one};
-use crate::key::{Key, SectionKeys, key_at};
-use crate::keys::{Lists, SectionLists, section_at};
+use crate::index::key::{Key, SectionKeys, key_at};
+use crate::index::keys::{Lists, SectionLists, section_at};
 use crate::query::{Query, query_of};
 use crate::tags::{tags_before_end, tags_given};
 use sudo_match::{Directory, Request, Verdict};

@@ -44,7 +44,7 @@ fn with_earlier(tags: Tags, tag: Tag) -> Tags
 }
 
 /// Returns the tags with those of an earlier list added, for pairs that are not set.
-#[tactic(auto, using(crate::proofs::Tagging::or_tags_push, crate::proofs::Tagging::or_tags_end, crate::proofs::Tagging::or_tags_whole))]
+#[tactic(auto, using(crate::proofs::TagLists::or_tags_push, crate::proofs::TagLists::or_tags_end, crate::proofs::TagLists::or_tags_whole))]
 fn with_all_earlier(later: Tags, earlier: &[Tag]) -> Tags
     ensures { result ≡ tagged.or_tags later (tagged.tags_named earlier.now) }
 {
@@ -57,9 +57,9 @@ fn with_all_earlier(later: Tags, earlier: &[Tag]) -> Tags
     tags
 }
 
-/// For each pair the tag that is named last among these commands, found from the last command back.
-#[tactic(auto, using(crate::proofs::Tagging::tags_before_push, crate::proofs::Tagging::tags_before_all, crate::proofs::Tagging::tags_before_end, crate::proofs::Tagging::or_tags_whole))]
-pub(crate) fn tags_before_end(commands: &[CommandSpec]) -> Tags
+/// Returns for each pair the tag that is named last among these commands. Searches from the last command back.
+#[tactic(auto, using(crate::proofs::TagLists::commands_lemmas))]
+pub fn tags_before_end(commands: &[CommandSpec]) -> Tags
     ensures { result ≡ tagged.tags_before commands.now }
 {
     let mut tags = no_tags();

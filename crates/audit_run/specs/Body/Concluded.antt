@@ -30,17 +30,24 @@ RefusesSenders senders TooManyParts = ⊥
 -- `comes` the state of a collector after all arrivals, or the refusal of the first that it refuses;
 -- `Memory` comes before all else, then a refused source
 abbrev pub Concludes : List (List ℕ) → List (Option FileFault) → Result (List SenderState) Refused → Result Report AuditFault → Type 0
-Concludes names faults comes (Ok report) = NoneRefused faults × ((held : List SenderState) × (comes ≡ Ok held) × AllFinished held × (report ≡ report_of held))
+Concludes names faults comes (Ok report) = NoneRefused faults × ((held : List SenderState) × (comes ≡ Ok held)
+    × AllFinished held × (report ≡ report_of held))
 Concludes names faults comes (Err (Sender name part fault)) =
     IsRefusedSource names faults name part fault × NoneOutOfMemory faults × (comes ≡ Err refused.Memory → ⊥)
 Concludes names faults comes (Err (Collect (collect.Roster why))) = ⊥
 Concludes names faults comes (Err (Collect (collect.Refused refused.Memory))) = ⊥
-Concludes names faults comes (Err (Collect (collect.Refused (refused.Stranger sender)))) = NoneRefused faults × (comes ≡ Err (refused.Stranger sender))
-Concludes names faults comes (Err (Collect (collect.Refused (refused.ZeroNumber sender)))) = NoneRefused faults × (comes ≡ Err (refused.ZeroNumber sender))
-Concludes names faults comes (Err (Collect (collect.Refused (refused.Double sender number)))) = NoneRefused faults × (comes ≡ Err (refused.Double sender number))
-Concludes names faults comes (Err (Collect (collect.Refused (refused.ClosedTwice sender)))) = NoneRefused faults × (comes ≡ Err (refused.ClosedTwice sender))
-Concludes names faults comes (Err (Collect (collect.Refused (refused.PastClose sender number)))) = NoneRefused faults × (comes ≡ Err (refused.PastClose sender number))
-Concludes names faults comes (Err (Collect (collect.Unfinished what))) = NoneRefused faults × ((held : List SenderState) × (comes ≡ Ok held) × IsFirstMissing held what)
+Concludes names faults comes (Err (Collect (collect.Refused (refused.Stranger sender)))) =
+    NoneRefused faults × (comes ≡ Err (refused.Stranger sender))
+Concludes names faults comes (Err (Collect (collect.Refused (refused.ZeroNumber sender)))) =
+    NoneRefused faults × (comes ≡ Err (refused.ZeroNumber sender))
+Concludes names faults comes (Err (Collect (collect.Refused (refused.Double sender number)))) =
+    NoneRefused faults × (comes ≡ Err (refused.Double sender number))
+Concludes names faults comes (Err (Collect (collect.Refused (refused.ClosedTwice sender)))) =
+    NoneRefused faults × (comes ≡ Err (refused.ClosedTwice sender))
+Concludes names faults comes (Err (Collect (collect.Refused (refused.PastClose sender number)))) =
+    NoneRefused faults × (comes ≡ Err (refused.PastClose sender number))
+Concludes names faults comes (Err (Collect (collect.Unfinished what))) =
+    NoneRefused faults × ((held : List SenderState) × (comes ≡ Ok held) × IsFirstMissing held what)
 Concludes names faults comes (Err NoThread) = ⊤
 Concludes names faults comes (Err Memory) = ⊤
 Concludes names faults comes (Err TooManyParts) = ⊥

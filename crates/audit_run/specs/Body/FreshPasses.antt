@@ -10,7 +10,15 @@ use Rattle.sudo_grammar.specs.declared.policy.Policy.{Policy}
 
 -- a pass that was just split off
 abbrev pub fresh_with : HandoffId → Names → PassView
-fresh_with handoff names = record { handoff = handoff; names = names; weight = 1; jobs_put = []; jobs_taken = []; outcomes_put = []; outcomes_taken = [] }
+fresh_with handoff names = record {
+  handoff = handoff;
+  names = names;
+  weight = 1;
+  jobs_put = [];
+  jobs_taken = [];
+  outcomes_put = [];
+  outcomes_taken = [];
+}
 
 abbrev pub fresh : HandoffId → Policy → KnownRows → PassView
 fresh handoff policy directory = fresh_with handoff (names_under policy directory)

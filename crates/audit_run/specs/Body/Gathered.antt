@@ -28,7 +28,8 @@ RanOutOfMemory g = g.refused ≡ Some Memory
 -- `h` is `g` after these outcomes were taken, or memory ran out
 pub record Gathers (g : Gathering) (outcomes : List Outcome) (h : Gathering) : Type 0 where
   pub stuck : RanOutOfMemory g → RanOutOfMemory h
-  pub same : RanOutOfMemory h ⊎ ((rest : List Arrival) → collector_after g.collector g.refused (arrivals_of outcomes ++ rest) ≡ collector_after h.collector h.refused rest)
+  pub same : RanOutOfMemory h ⊎ ((rest : List Arrival)
+      → collector_after g.collector g.refused (arrivals_of outcomes ++ rest) ≡ collector_after h.collector h.refused rest)
 
 -- whether an outcome is the last of a source
 abbrev pub is_last_outcome : Outcome → Bool
@@ -65,7 +66,8 @@ pub record Conducts (p : PassView) (g : Gathering) (jobs : List Job) (q : PassVi
 
 -- the same, until this many sources and this many workers have ended: the last outcome of each is
 -- among those that were taken
-pub record HasGatheredAll (p : PassView) (g : Gathering) (sources workers : ℕ) (jobs : List Job) (q : PassView) (h : Gathering) : Type 0 where
+pub record HasGatheredAll (p : PassView) (g : Gathering) (sources workers : ℕ) (jobs : List Job) (q : PassView)
+    (h : Gathering) : Type 0 where
   pub outcomes : List Outcome
   pub pass : q ≡ with_messages p jobs [] [] outcomes
   pub gathered : Gathers g outcomes h

@@ -29,13 +29,15 @@ pub record IsReady (handoff : HandoffId) (policy : Policy) (directory : KnownRow
 
 -- all threads ran: the sources put jobs, the workers put the answer of each job that they took, and
 -- the caller gathered the outcomes that it took
-pub record HasRun (names : Names) (readable_bytes : List (ℕ × Option Ahead)) (sources : ℕ) (prepared : PreparedRun) (ended : EndedRun) : Type 0 where
+pub record HasRun (names : Names) (readable_bytes : List (ℕ × Option Ahead)) (sources : ℕ) (prepared : PreparedRun)
+    (ended : EndedRun) : Type 0 where
   pub parts : List (ℕ × Stated)
   pub read : AreParts readable_bytes parts
   pub put : List Job
   pub have_put : HavePut parts put
   pub taken : List Job
   pub gathered : List Outcome
-  pub pass : ended.pass ≡ after_run names prepared.pass sources (vec_len prepared.worker_passes) (replicate (vec_len prepared.worker_passes) Stop ++ put) taken gathered
+  pub pass : ended.pass ≡ after_run names prepared.pass sources (vec_len prepared.worker_passes)
+      (replicate (vec_len prepared.worker_passes) Stop ++ put) taken gathered
   pub gathers : Gathers prepared.gathering gathered ended.gathering
   pub faults : ended.faults.items ≡ map (λ part. fault_in part.1) parts

@@ -19,7 +19,7 @@ use Rattle.audit_run.specs.Parts.{HasPut, Stated, fault_in}
 abbrev pub after_work : Names → PassView → List Job → PassView
 after_work names p jobs = record p { jobs_taken = p.jobs_taken ++ jobs; outcomes_put = p.outcomes_put ++ map (answer names) jobs }
 
--- a job is another one than `Stop`
+-- a job is not `Stop`
 abbrev pub is_not_stop : Job → Bool
 is_not_stop Stop = false
 is_not_stop job = true
@@ -49,7 +49,8 @@ abbrev pub HasSentText : List ℕ → PassView → ℕ → Sent → Type 0
 HasSentText text before owner r = (state : Stated) × IsStatedByText text state × HasSentState before owner r state
 
 abbrev pub HasSent : Option Ahead → PassView → ℕ → Sent → Type 0
-HasSent readable_bytes before owner r = (state : Stated) × IsStatedBy requests_of_file readable_bytes state × HasSentState before owner r state
+HasSent readable_bytes before owner r = (state : Stated) × IsStatedBy requests_of_file readable_bytes state
+    × HasSentState before owner r state
 
 -- a source by its owner and by the bytes ahead of its reader
 abbrev pub part_ahead : ℕ → Option Ahead → ℕ × Option Ahead
@@ -64,7 +65,11 @@ AreParts readable_bytes parts = AllZip IsPart readable_bytes parts
 
 -- the pass after the passes of workers that took these jobs were joined
 abbrev pub joined_workers : Names → PassView → ℕ → List Job → PassView
-joined_workers names p workers jobs = record p { weight = p.weight + workers; jobs_taken = p.jobs_taken ++ jobs; outcomes_put = p.outcomes_put ++ map (answer names) jobs }
+joined_workers names p workers jobs = record p {
+  weight = p.weight + workers;
+  jobs_taken = p.jobs_taken ++ jobs;
+  outcomes_put = p.outcomes_put ++ map (answer names) jobs;
+}
 
 -- the pass after the passes of sources that put these jobs were joined
 abbrev pub joined_sources : PassView → ℕ → List Job → PassView

@@ -2,7 +2,7 @@
 use Rattle.std.specs.Prelude.{◌≡◌, ℕ, Bool, true, not, nat_lt, List, length}
 use Rattle.std.specs.List.{list_all}
 use Rattle.sudo_grammar.specs.declared.policy.Entry.{Entry}
-use Rattle.sudo_grammar.specs.Includes.{is_include_entry}
+use Rattle.sudo_grammar.specs.Body.Includes.{is_include_entry}
 use Rattle.sudo_load.specs.declared.loading.LoadState.{LoadState}
 
 abbrev pub placed_in : ℕ → List Entry → Bool

@@ -5,7 +5,8 @@ use Rattle.sudo_text.specs.declared.token.Ch.{Ch}
 use Rattle.sudo_match.specs.Pattern.{Item, item_holds, class_form, begins}
 use Rattle.sudo_match.specs.Class as class
 use Rattle.sudo_match.specs.declared.patterns.Class.{Class}
-use Rattle.sudo_match.specs.declared.patterns.Class.TheVariants.{Alnum, Alpha, Blank, Cntrl, Digit, Graph, Lower, Print, Punct, Space, Upper, Xdigit}
+use Rattle.sudo_match.specs.declared.patterns.Class.TheVariants.{Alnum, Alpha, Blank, Cntrl, Digit, Graph, Lower}
+use Rattle.sudo_match.specs.declared.patterns.Class.TheVariants.{Print, Punct, Space, Upper, Xdigit}
 
 abbrev pub class_of : Class → class.Class
 class_of Alnum = class.Alnum

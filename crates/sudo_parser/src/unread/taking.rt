@@ -1,5 +1,6 @@
 //! The taking of the tokens of a line.
-ghost use Rattle.std.specs.Prelude.{◌≡◌, ◌≢◌, ◌^◌, ◌<◌, ◌≤◌, ◌∷◌, [], List, Ok, false, true, drop, length, IsTrue, IfErr, OnOk, MatchOption};
+ghost use Rattle.std.specs.Prelude.{◌≡◌, ◌≢◌, ◌^◌, ◌<◌, ◌≤◌, ◌∷◌, [], List, Ok, false, true, drop, length, IsTrue};
+ghost use Rattle.std.specs.Prelude.{IfErr, OnOk, MatchOption};
 ghost use Rattle.sudo_text.specs.Faults.{Gives};
 ghost use Rattle.sudo_text.specs.Tokens.{LeftmostFault, spells};
 ghost use Rattle.sudo_parser.specs.Body.Lists.{ReadsBangs};

@@ -1,5 +1,6 @@
 -- Definitions, lists and links in the survey of a policy: definitions that only proofs need.
-use Rattle.std.specs.Prelude.{◌≡◌, ◌<◌, ℕ, List, [], Option, Some, map, find, option_map, option_and_then, filter, is_some, slice_get, length, if◌then◌else◌}
+use Rattle.std.specs.Prelude.{◌≡◌, ◌<◌, ℕ, List, [], Option, Some, map, find, option_map, option_and_then, filter}
+use Rattle.std.specs.Prelude.{is_some, slice_get, length, if◌then◌else◌}
 use Rattle.sudo_grammar.specs.declared.kind.Kind.{Kind}
 use Rattle.sudo_policy.specs.declared.index.Index.{Index}
 use Rattle.sudo_policy.specs.declared.index.Position.{Position}
@@ -10,7 +11,8 @@ use Rattle.sudo_policy.specs.declared.survey.DefinitionRef.{DefinitionRef}
 use Rattle.sudo_policy.specs.declared.survey.MemberList.{MemberList as HeldList}
 use Rattle.sudo_policy.specs.declared.survey.Survey.{Survey}
 use Rattle.sudo_policy.specs.Definitions.{AliasDefinition, MemberList, defines, definitions_in_force, redefinitions, alias_named}
-use Rattle.sudo_policy.specs.Positions.{names_of_kind, members_at}
+use Rattle.sudo_policy.specs.Positions.{members_at}
+use Rattle.sudo_policy.specs.Body.Positions.{names_of_kind}
 use Rattle.sudo_base.specs.NameIndices.{index_of}
 
 -- the definition, without its position
@@ -43,15 +45,19 @@ IsAtItsPosition p n = members_at p n.position ≡ Some n.members.now
 
 -- the definitions of the entry are these
 abbrev pub StandAt : Policy → ℕ → List Definition → Type 0
-StandAt p entry ds = (j : ℕ) → members_at p (record { entry = entry; definition = j }) ≡ option_map (λ (d : Definition). d.members) (slice_get ds j)
+StandAt p entry ds = (j : ℕ) → members_at p (record { entry = entry; definition = j }) ≡ option_map
+    (λ (d : Definition). d.members) (slice_get ds j)
 
 -- the invariant of the names of each kind, the aliases and their positions
-pub record IsIndexed (p : Policy) (done aliases : List AliasDefinition) (names : Kind → List (List ℕ × ℕ)) (positions : List Position) : Type 0 where
-  pub lookup : (kind : Kind) (name : List ℕ) → option_and_then (slice_get aliases) (index_of (names kind) name) ≡ find (defines kind name) done
+pub record IsIndexed (p : Policy) (done aliases : List AliasDefinition) (names : Kind → List (List ℕ × ℕ))
+    (positions : List Position) : Type 0 where
+  pub lookup : (kind : Kind) (name : List ℕ) → option_and_then (slice_get aliases) (index_of (names kind) name) ≡ find
+      (defines kind name) done
   pub inside : (kind : Kind) (name : List ℕ) (i : ℕ) → index_of (names kind) name ≡ Some i → i < length aliases
   pub own : (i : ℕ) (d : AliasDefinition) → slice_get aliases i ≡ Some d → index_of (names d.kind) d.name ≡ Some i
   pub same_length : length positions ≡ length aliases
-  pub placed : (i : ℕ) → option_and_then (members_at p) (slice_get positions i) ≡ option_map (λ (d : AliasDefinition). d.members) (slice_get aliases i)
+  pub placed : (i : ℕ) → option_and_then (members_at p) (slice_get positions i) ≡ option_map
+      (λ (d : AliasDefinition). d.members) (slice_get aliases i)
 
 -- the survey of the definitions `done`, the first ones of a policy
 pub record IsSurvey (p : Policy) (done : List AliasDefinition) (survey : Survey) : Type 0 where
@@ -61,4 +67,5 @@ pub record IsSurvey (p : Policy) (done : List AliasDefinition) (survey : Survey)
 
 -- each name's number is that of an alias
 abbrev pub LeadsInside : Survey → Type 0
-LeadsInside survey = (kind : Kind) (name : List ℕ) (i : ℕ) → index_of (names_of_kind survey.index kind) name ≡ Some i → i < length survey.aliases.items
+LeadsInside survey = (kind : Kind) (name : List ℕ) (i : ℕ) → index_of (names_of_kind survey.index kind) name ≡ Some i
+    → i < length survey.aliases.items

@@ -1,6 +1,7 @@
 -- Aliases as a graph, definitions that only proofs need: each alias by its number, with a link for each member of its
 -- definition: the number of the alias that the member names, or none.
-use Rattle.std.specs.Prelude.{◌≡◌, ℕ, zero, suc, ◌+◌, ◌<◌, min, max, Bool, true, false, List, [], ◌∷◌, Option, Some, None, option_map, option_and_then, slice_get, Contains, length, IsTrue, ◌⊎◌, ◌↔◌}
+use Rattle.std.specs.Prelude.{◌≡◌, ℕ, zero, suc, ◌+◌, ◌<◌, min, max, Bool, true, false, List, [], ◌∷◌, Option, Some}
+use Rattle.std.specs.Prelude.{None, option_map, option_and_then, slice_get, Contains, length, IsTrue, ◌⊎◌, ◌↔◌}
 use Rattle.sudo_policy.specs.declared.graph.Measure.{Measure}
 use Rattle.sudo_policy.specs.declared.graph.State.{State}
 use Rattle.sudo_policy.specs.declared.graph.State.TheVariants.{New, Open, Done, Looped}

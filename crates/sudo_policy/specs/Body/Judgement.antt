@@ -1,5 +1,6 @@
 -- The judgement of each alias in force: definitions that only proofs need.
-use Rattle.std.specs.Prelude.{◌≡◌, ℕ, Bool, true, false, nat_lt, List, [], ◌∷◌, ◌++◌, Option, Some, None, is_none, map, flat_map, slice_get, if◌then◌else◌}
+use Rattle.std.specs.Prelude.{◌≡◌, ℕ, Bool, true, false, nat_lt, List, [], ◌∷◌, ◌++◌, Option, Some, None, is_none}
+use Rattle.std.specs.Prelude.{map, flat_map, slice_get, if◌then◌else◌}
 use Rattle.std.specs.List.{items_where_true}
 use Rattle.sudo_base.specs.NameIndices.{index_of}
 use Rattle.sudo_text.specs.declared.line.Place.{Place}
@@ -15,7 +16,7 @@ use Rattle.sudo_policy.specs.declared.index.Index.{Index}
 use Rattle.sudo_policy.specs.Definitions.{AliasDefinition, MemberList, aliases, alias_named}
 use Rattle.sudo_policy.specs.Following.{ReadsAs, depth}
 use Rattle.sudo_policy.specs.Found.{finding_on, Marks, IsCyclic, IsTooDeep, IsTooWide, IsUnused}
-use Rattle.sudo_policy.specs.Positions.{names_of_kind}
+use Rattle.sudo_policy.specs.Body.Positions.{names_of_kind}
 
 abbrev pub is_deep : State → Bool
 is_deep New = false
@@ -31,7 +32,13 @@ is_wide Looped = false
 
 -- a finding for the use of a name without a definition
 abbrev pub use_missing : Index → Kind → Place → List ℕ → List Finding
-use_missing index kind place name = if is_none (index_of (names_of_kind index kind) name) then record { class = Undefined; place = place; kind = kind; name = name } ∷ [] else []
+use_missing index kind place name =
+    if is_none (index_of (names_of_kind index kind) name) then record {
+      class = Undefined;
+      place = place;
+      kind = kind;
+      name = name;
+    } ∷ [] else []
 
 abbrev pub atom_missing : Index → Kind → Place → Option (List ℕ) → List Finding
 atom_missing index kind place None = []
@@ -53,7 +60,8 @@ found_in undefined aliases redefinitions judged =
 
 -- if no alias is on a cycle, each definition in force has a depth
 abbrev pub HaveDepths : Policy → List Bool → Type 0
-HaveDepths p cyclic = ((i : ℕ) → slice_get cyclic i ≡ Some true → ⊥) → (i : ℕ) (d : AliasDefinition) → slice_get (aliases p) i ≡ Some d → (n : ℕ) × ReadsAs depth d.kind p d.members n
+HaveDepths p cyclic = ((i : ℕ) → slice_get cyclic i ≡ Some true → ⊥) → (i : ℕ) (d : AliasDefinition)
+    → slice_get (aliases p) i ≡ Some d → (n : ℕ) × ReadsAs depth d.kind p d.members n
 
 pub record AreAliasMarks (p : Policy) (judged : AliasMarks) : Type 0 where
   pub cyclic_are : Marks (IsCyclic p) (aliases p) judged.cyclic.items

@@ -1,5 +1,6 @@
 -- The marking of reached aliases: definitions that only proofs need.
-use Rattle.std.specs.Prelude.{◌≡◌, ℕ, ◌+◌, ◌*◌, ◌≤◌, ◌<◌, Bool, true, false, List, [], ◌∷◌, Option, Some, Contains, length, slice_get, if◌then◌else◌, ◌⊎◌}
+use Rattle.std.specs.Prelude.{◌≡◌, ℕ, ◌+◌, ◌*◌, ◌≤◌, ◌<◌, Bool, true, false, List, [], ◌∷◌, Option, Some, Contains}
+use Rattle.std.specs.Prelude.{length, slice_get, if◌then◌else◌, ◌⊎◌}
 use Rattle.sudo_policy.specs.Body.Graph.{Links, Edge, Path}
 
 abbrev pub IsMarked : List Bool → ℕ → Type 0

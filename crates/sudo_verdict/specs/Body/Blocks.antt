@@ -1,8 +1,8 @@
 -- Blocks of rules as bits, with the rules that may decide; only proofs of bodies need these definitions.
 use Rattle.std.specs.Prelude.{◌≡◌, ℕ, ◌+◌, ◌*◌, ◌<◌, ◌≤◌, Bool, false, true, ◌==◌, ◌&&◌, List, length, slice_index}
 use Rattle.sudo_match.specs.declared.people.Person.{Person}
-use Rattle.sudo_verdict.specs.declared.row_list.RowList.{RowList}
-use Rattle.sudo_verdict.specs.declared.request_numbers.RequestNumbers.{RequestNumbers}
+use Rattle.sudo_verdict.specs.declared.index.row_list.RowList.{RowList}
+use Rattle.sudo_verdict.specs.declared.index.request_numbers.RequestNumbers.{RequestNumbers}
 use Rattle.sudo_verdict.specs.Numbers.{lacks_command}
 use Rattle.sudo_verdict.specs.Body.NumberSets.{set_has}
 use Rattle.sudo_verdict.specs.Postings.{Rows, bit, is_in_row, misses_user, misses_command}

@@ -5,9 +5,9 @@ use Rattle.sudo_grammar.specs.declared.kind.Kind.{Kind}
 use Rattle.sudo_grammar.specs.declared.policy.Policy.{Policy}
 use Rattle.sudo_policy.specs.Definitions.{alias_named}
 use Rattle.sudo_policy.specs.declared.index.Position.{Position}
-use Rattle.sudo_verdict.specs.declared.key.Key.{Key}
-use Rattle.sudo_verdict.specs.declared.key.EntryKeys.{EntryKeys}
-use Rattle.sudo_verdict.specs.declared.keys.Keys.{Keys as TheKeys}
+use Rattle.sudo_verdict.specs.declared.index.key.Key.{Key}
+use Rattle.sudo_verdict.specs.declared.index.key.EntryKeys.{EntryKeys}
+use Rattle.sudo_verdict.specs.declared.index.keys.Keys.{Keys as TheKeys}
 use Rattle.sudo_verdict.specs.Keys.{IsKeyOf, AreKeys}
 
 -- each atom of the key is no alias, and fails the test

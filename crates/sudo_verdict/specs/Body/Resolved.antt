@@ -3,7 +3,7 @@ use Rattle.std.specs.Prelude.{Bool, true}
 use Rattle.sudo_grammar.specs.declared.policy.EntryBody.{EntryBody}
 use Rattle.sudo_grammar.specs.declared.policy.EntryBody.TheVariants.{Rule}
 use Rattle.sudo_grammar.specs.declared.policy.Policy.{Policy}
-use Rattle.sudo_policy.specs.Resolving.{rule_resolves}
+use Rattle.sudo_policy.specs.Body.Resolving.{rule_resolves}
 
 -- the lists of a rule resolve
 abbrev pub body_resolves : Policy → EntryBody → Bool

@@ -11,7 +11,7 @@ use Rattle.sudo_verdict.specs.Decided.{list_decision}
 use Rattle.sudo_verdict.specs.Found.{entry_found}
 use Rattle.sudo_verdict.specs.Questions.{Question}
 use Rattle.sudo_verdict.specs.Postings.{Rows, is_in_row, misses_user, misses_command}
-use Rattle.sudo_verdict.specs.Numbers.{atom_number}
+use Rattle.sudo_verdict.specs.Body.Numbers.{atom_number}
 
 -- the rule is not posted for everyone, and no atom under which it is posted passes the test
 pub record IsSilent (rows : Rows) (rule : ℕ) (test : Atom → Bool) : Type 0 where

@@ -9,7 +9,8 @@ use Rattle.audit_commands.proofs.audit.audit_into.Goals as goal
 
 pub returns-clause-ends : goal.returns-clause-ends
 returns-clause-ends g c =
-    let given : Given = given_by (g.F.Files.held c.args.files.now) c.args.path.now (g.U.Feed.ahead c.args.users.now) (g.H.Feed.ahead c.args.hosts.now)
+    let given : Given = given_by (g.F.Files.held c.args.files.now) c.args.path.now (g.U.Feed.ahead c.args.users.now)
+    (g.H.Feed.ahead c.args.hosts.now)
     (map (λ s. s.name) c.args.sources.items) (map (λ s. g.R.Feed.ahead s.reader) c.args.sources.items) c.args.workers in
     let out = sent g.O.Sink.taken g.O.Sink.stalled_writes c.args.out.now c.end_run.new.out in
     let err = sent g.E.Sink.taken g.E.Sink.stalled_writes c.args.err.now c.end_run.new.err in
@@ -18,7 +19,8 @@ returns-clause-ends g c =
 
 pub returns-clause-most : goal.returns-clause-most
 returns-clause-most g c =
-    let given : Given = given_by (g.F.Files.held c.args.files.now) c.args.path.now (g.U.Feed.ahead c.args.users.now) (g.H.Feed.ahead c.args.hosts.now)
+    let given : Given = given_by (g.F.Files.held c.args.files.now) c.args.path.now (g.U.Feed.ahead c.args.users.now)
+    (g.H.Feed.ahead c.args.hosts.now)
     (map (λ s. s.name) c.args.sources.items) (map (λ s. g.R.Feed.ahead s.reader) c.args.sources.items) c.args.workers in
     let out = sent g.O.Sink.taken g.O.Sink.stalled_writes c.args.out.now c.end_run.new.out in
     let err = sent g.E.Sink.taken g.E.Sink.stalled_writes c.args.err.now c.end_run.new.err in

@@ -13,7 +13,8 @@ returns-clause-ends g c =
     let name = c.args.name.now in
     let out = sent g.O.Sink.taken g.O.Sink.stalled_writes c.args.out.now c.end_run.new.out in
     let err = sent g.E.Sink.taken g.E.Sink.stalled_writes c.args.err.now c.end_run.new.err in
-    run_ends expand_notices (IsExpanded held path c.args.kind name) (IsNotExpanded held path c.args.kind name) c.expand_output-ended.result c.end_run.result out err
+    run_ends expand_notices (IsExpanded held path c.args.kind name) (IsNotExpanded held path c.args.kind name)
+    c.expand_output-ended.result c.end_run.result out err
     c.expand_output-ended.ensures.printed c.expand_output-ended.ensures.fault c.end_run.ensures
 
 pub returns-clause-most : goal.returns-clause-most
@@ -24,6 +25,8 @@ returns-clause-most g c =
     let out = sent g.O.Sink.taken g.O.Sink.stalled_writes c.args.out.now c.end_run.new.out in
     let err = sent g.E.Sink.taken g.E.Sink.stalled_writes c.args.err.now c.end_run.new.err in
     let ends =
-    run_ends expand_notices (IsExpanded held path c.args.kind name) (IsNotExpanded held path c.args.kind name) c.expand_output-ended.result c.end_run.result out err
+    run_ends expand_notices (IsExpanded held path c.args.kind name) (IsNotExpanded held path c.args.kind name)
+    c.expand_output-ended.result c.end_run.result out err
     c.expand_output-ended.ensures.printed c.expand_output-ended.ensures.fault c.end_run.ensures in
-    ends_most expand_notices (IsExpanded held path c.args.kind name) (IsNotExpanded held path c.args.kind name) c.end_run.result out err (expanded_most held path c.args.kind name) expansion_most ends
+    ends_most expand_notices (IsExpanded held path c.args.kind name) (IsNotExpanded held path c.args.kind name)
+    c.end_run.result out err (expanded_most held path c.args.kind name) expansion_most ends

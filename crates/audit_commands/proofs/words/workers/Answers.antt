@@ -6,12 +6,12 @@ use Rattle.clap.specs.Words.{Text, rows_of}
 use Rattle.audit_commands.specs.Words.{IsNumberIn}
 use Rattle.audit_commands.proofs.words.workers.Goals as goal
 
-pub returns-in-Some-1-to-16-clause-read : goal.returns-in-Some-1-to-16-clause-read
-returns-in-Some-1-to-16-clause-read c = by (one_text found (codes "workers")) refl
+pub returns-in-Some-clause-read : goal.returns-in-Some-clause-read
+returns-in-Some-clause-read c = by (one_text found (codes "workers")) refl
   where
     found : Found
     found = found_of c.args.given.now
 
-    by : (o : Option Text) → one_text found (codes "workers") ≡ o → IsNumberIn c.in-Some-1-to-16.count (rows_of found)
-    by None none = let never : Some c.in-Some-1-to-16.count ≡ None = c.in-Some-1-to-16.ensures.none none in cc
-    by (Some text) is = (text, sym (one_text-rows found (codes "workers")) ∙ is, (c.in-Some-1-to-16.ensures.value text is).0)
+    by : (o : Option Text) → one_text found (codes "workers") ≡ o → IsNumberIn c.in-Some.count (rows_of found)
+    by None none = let never : Some c.in-Some.count ≡ None = c.in-Some.ensures.none none in cc
+    by (Some text) is = (text, sym (one_text-rows found (codes "workers")) ∙ is, (c.in-Some.ensures.value text is).0)

@@ -1,4 +1,4 @@
-use Rattle.audit_files.proofs.Kept.{records-are-kept}
+use Rattle.audit_files.proofs.MembershipRows.{records-are-kept}
 use Rattle.audit_files.proofs.laws.memberships_are_kept.Goals as goal
 
 pub returns : goal.returns

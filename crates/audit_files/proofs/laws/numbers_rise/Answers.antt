@@ -1,4 +1,4 @@
-use Rattle.audit_files.proofs.Rising.{sent_rises}
+use Rattle.audit_files.proofs.RisingNumbers.{sent_rises}
 use Rattle.audit_files.proofs.laws.numbers_rise.Goals as goal
 
 pub returns : goal.returns

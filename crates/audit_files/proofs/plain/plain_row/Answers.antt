@@ -6,7 +6,8 @@ returns-clause-reads c =
     let (after, rest, last) = c.in_ok-arguments.ensures in
     rw rest
     (seven_plain _ _ _ _ _ _ _ _ _ _ _ _ _ _ after
-    c.in_ok-number.ensures c.in_ok-user.ensures c.in_ok-host.ensures c.in_ok-runas_user.ensures c.in_ok-runas_group.ensures c.in_ok-command.ensures last)
+    c.in_ok-number.ensures c.in_ok-user.ensures c.in_ok-host.ensures c.in_ok-runas_user.ensures
+    c.in_ok-runas_group.ensures c.in_ok-command.ensures last)
 
 pub returns-clause-behind : goal.returns-clause-behind
 returns-clause-behind c =

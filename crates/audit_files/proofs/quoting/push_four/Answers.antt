@@ -3,5 +3,12 @@ use Rattle.audit_files.proofs.quoting.push_four.Goals as goal
 
 pub returns : goal.returns
 returns c = λ first start begun.
-    rw (c.in_ok-push.ensures.items, c.in_ok-push_next-4.ensures, c.in_ok-push_next-3.ensures, c.in_ok-push_next-2.ensures, c.in_ok-push_next.ensures, begun)
+    rw (
+      c.in_ok-push.ensures.items,
+      c.in_ok-push_next-4.ensures,
+      c.in_ok-push_next-3.ensures,
+      c.in_ok-push_next-2.ensures,
+      c.in_ok-push_next.ensures,
+      begun,
+    )
     (five_fields start first c.args.second.now c.args.third.now c.args.fourth.now c.args.fifth.now)

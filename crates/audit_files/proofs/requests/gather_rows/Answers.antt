@@ -1,5 +1,6 @@
 use Rattle.std.proofs.Common.{◌∙◌, ◌++◌, ◌∷◌, [], length-append, arith}
-use Rattle.audit_files.specs.Requests.{fields_in, request_fault}
+use Rattle.audit_files.specs.Requests.{request_fault}
+use Rattle.audit_files.specs.Body.Requests.{fields_in}
 use Rattle.audit_files.specs.Rows.{records_of}
 use Rattle.audit_files.proofs.Progress.{one_more}
 use Rattle.audit_files.proofs.requests.gather_rows.Goals as goal

@@ -13,6 +13,7 @@ returns-clause-stated c =
     let (rest, header, faultless, holds) = c.in_ok-gather_requests.ensures.ok in
     let (list, close) = c.into_requests.ensures rest holds in
     let none : c.gather_requests.new.table.earlier ≡ 0 = c.gather_requests.ensures.earlier ∙ c.behind-table.ensures.earlier in
-    let all : requests_in rest ≡ c.into_requests.result.list = sym list ∙ ap (λ (n : ℕ). take n (requests_in rest) ++ c.into_requests.result.list) none in
+    let all : requests_in rest ≡ c.into_requests.result.list = sym list
+    ∙ ap (λ (n : ℕ). take n (requests_in rest) ++ c.into_requests.result.list) none in
     ap (stated_by request_fault requests_of) header ∙ ap (λ (o : Option FileFault). unless o (requests_of rest)) faultless
     ∙ (λ i. Ok (record { list = all i; close = sym close i }))

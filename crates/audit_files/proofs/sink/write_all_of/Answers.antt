@@ -17,9 +17,17 @@ loop-written-preserved g c =
     let n = c.in-Ok.n in
     let at = c.loop-written.written in
     let bytes = c.args.bytes.now in
-    let more : Appends (g.W.Sink.taken c.loop-written.writer) (g.W.Sink.taken c.write.new.self) (take n (take (length bytes - at) (drop at bytes))) = c.in-Ok.ensures.bytes in
-    let rest : take (length bytes - at) (drop at bytes) ≡ drop at bytes = take_all (length bytes - at) (drop at bytes) (rw length-drop (omega arith)) in
+    let more : Appends (g.W.Sink.taken c.loop-written.writer) (g.W.Sink.taken c.write.new.self)
+    (take n (take (length bytes - at) (drop at bytes))) = c.in-Ok.ensures.bytes in
+    let rest : take (length bytes - at) (drop at bytes) ≡ drop at bytes =
+    take_all (length bytes - at) (drop at bytes) (rw length-drop (omega arith)) in
     let bound : n ≤ length (take (length bytes - at) (drop at bytes)) = c.in-Ok.ensures.bound in
     let within : n ≤ length bytes - at = rw (rest, length-drop) at bound in
-    let stalls : g.W.Sink.stalled_writes c.write.new.self ≡ g.W.Sink.stalled_writes c.loop-written.writer = grind (arith, c.in-Ok.ensures.stalls) in
-    (omega arith, appends_more (g.W.Sink.taken c.args.writer.now) (g.W.Sink.taken c.loop-written.writer) (g.W.Sink.taken c.write.new.self) (take at bytes) (take n (drop at bytes)) (take (at + n) bytes) (take-add at n bytes) inv.1 (rw rest at more), stalls ∙ inv.2)
+    let stalls : g.W.Sink.stalled_writes c.write.new.self ≡ g.W.Sink.stalled_writes c.loop-written.writer =
+    grind (arith, c.in-Ok.ensures.stalls) in (
+      omega arith,
+      appends_more (g.W.Sink.taken c.args.writer.now) (g.W.Sink.taken c.loop-written.writer)
+          (g.W.Sink.taken c.write.new.self) (take at bytes) (take n (drop at bytes)) (take (at + n) bytes)
+          (take-add at n bytes) inv.1 (rw rest at more),
+      stalls ∙ inv.2,
+    )

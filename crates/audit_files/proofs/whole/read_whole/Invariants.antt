@@ -1,5 +1,5 @@
 use Rattle.std.proofs.Common.{◌≡◌, ◌+◌, ◌-◌, ◌≤◌, vec_len}
-use Rattle.audit_files.proofs.Took.{Took}
+use Rattle.audit_files.proofs.WholeReads.{Took}
 use Rattle.audit_files.proofs.whole.read_whole.Given as goal
 
 -- the text so far was read and no read has failed

@@ -11,7 +11,9 @@ returns g c =
     let stopping = c.put_stops.ensures.counted.sources in
     let waiting = c.gather_until_ended-2.ensures.taken.counted.sources in
     let no_source : c.gather_until_ended-2.new.gathering.sources_running ≡ 0 = omega (arith, sources, stopping, waiting) in
-    subst (λ js. HasGatheredAll c.args.pass.now c.args.gathering.now c.args.sources c.args.workers js c.gather_until_ended-2.new.pass c.gather_until_ended-2.new.gathering) (append-nil stops)
+    subst (λ js. HasGatheredAll c.args.pass.now c.args.gathering.now c.args.sources c.args.workers js
+    c.gather_until_ended-2.new.pass c.gather_until_ended-2.new.gathering) (append-nil stops)
     (conducted _ _ c.args.gathering.now _ _ c.args.sources c.args.workers
-    (conducts_more _ _ _ _ _ _ stops [] (conducts_more _ _ _ _ _ _ [] stops c.gather_until_ended.ensures.taken c.put_stops.ensures) c.gather_until_ended-2.ensures.taken)
+    (conducts_more _ _ _ _ _ _ stops [] (conducts_more _ _ _ _ _ _ [] stops c.gather_until_ended.ensures.taken
+    c.put_stops.ensures) c.gather_until_ended-2.ensures.taken)
     no_source c.gather_until_ended-2.ensures.ended)

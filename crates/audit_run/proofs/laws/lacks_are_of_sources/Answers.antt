@@ -1,4 +1,4 @@
-use Rattle.audit_run.proofs.Holding.{lacking}
+use Rattle.audit_run.proofs.HeldRequests.{lacking}
 use Rattle.audit_run.specs.Parts.{parts_by_owner}
 use Rattle.audit_run.specs.Roster.{roster}
 use Rattle.audit_run.proofs.laws.lacks_are_of_sources.Goals as goal

@@ -4,7 +4,7 @@ use Rattle.audit_run.specs.Passes.{PassView, with_joined}
 use Rattle.audit_run.specs.Parts.{Stated}
 use Rattle.audit_run.specs.Body.FreshPasses.{IsFresh}
 use Rattle.audit_run.specs.Body.Work.{putting_jobs, part_ahead}
-use Rattle.audit_run.proofs.Joins.{faults-more, joined_none, one_part, one_put, one_source, told_more}
+use Rattle.audit_run.proofs.Joins.{faults_more, joined_none, one_part, one_put, one_source, told_more}
 use Rattle.audit_run.proofs.readers.join_readers.Goals as goal
 
 pub loop-handle-preserved : goal.loop-handle-preserved
@@ -35,9 +35,24 @@ loop-handle-preserved g c =
         omega (arith, old.6, shorter),
         c.join.ensures ∙ ((λ i. with_joined (old.7 i) (result i)) ∙ one_source c.args.pass.now handoff before.names old.3 old.2 state.jobs),
         one_put old.1 part old.2 state.jobs old.8 state.put,
-        faults-more old.1 part _ _ _ pushed.items old.9 state.fault,
+        faults_more old.1 part _ _ _ pushed.items old.9 state.fault,
       ),
     )
 
 pub loop-handle-init : goal.loop-handle-init
-loop-handle-init g c = (search rules, search rules, ([], [], [], 0, search rules, search rules, search rules, joined_none _, record { by_source = []; each = tt; all = refl }, search rules))
+loop-handle-init g c = (
+  search rules,
+  search rules,
+  (
+    [],
+    [],
+    [],
+    0,
+    search rules,
+    search rules,
+    search rules,
+    joined_none _,
+    record { by_source = []; each = tt; all = refl },
+    search rules,
+  ),
+)

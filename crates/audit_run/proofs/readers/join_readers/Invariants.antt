@@ -13,7 +13,9 @@ invariant-loop-handle g l =
     × (vec_len l.faults + length (into_iter_items l.handle-iterator) ≤ vec_capacity l.faults)
     × ((done : List (ℕ × Option Ahead)) × (parts : List (ℕ × Stated)) × (put : List Job) × (sources : ℕ)
     × AreParts done parts
-    × (done ++ map (λ h. part_ahead h.promise.owner (g.F.Feed.ahead h.promise.reader.value)) (into_iter_items l.handle-iterator) ≡ map (λ h. part_ahead h.promise.owner (g.F.Feed.ahead h.promise.reader.value)) l.fn.handles.items)
+    × (done ++ map (λ h. part_ahead h.promise.owner (g.F.Feed.ahead h.promise.reader.value))
+    (into_iter_items l.handle-iterator) ≡ map
+    (λ h. part_ahead h.promise.owner (g.F.Feed.ahead h.promise.reader.value)) l.fn.handles.items)
     × (sources + length (into_iter_items l.handle-iterator) ≡ vec_len l.fn.handles)
     × (l.pass ≡ joined_sources l.fn.pass sources put)
     × HavePut parts put

@@ -22,5 +22,7 @@ loop-part-preserved g c =
           (All-push (λ h. IsFresh handoff h.promise.before.value) _ _ inv.fresh (subst (IsFresh handoff) (sym started.before) free.1));
       room = omega (arith, inv.room, pushed.len, pushed.capacity, shorter);
       started = omega (arith, inv.started, pushed.len, shorter);
-      readable_bytes = one_started (λ h. part_ahead h.promise.owner (g.F.Feed.ahead h.promise.reader.value)) (λ p. part_ahead p.owner (g.F.Feed.ahead p.reader)) _ _ c.in-Some-start_reader.handle c.in-Some.part _ _ _ pushed.items started.readable_bytes step.0 inv.readable_bytes;
+      readable_bytes = one_started (λ h. part_ahead h.promise.owner (g.F.Feed.ahead h.promise.reader.value))
+          (λ p. part_ahead p.owner (g.F.Feed.ahead p.reader)) _ _ c.in-Some-start_reader.handle c.in-Some.part _ _ _
+          pushed.items started.readable_bytes step.0 inv.readable_bytes;
     }

@@ -11,5 +11,7 @@ invariant-loop-part g l = record {
   fresh : All (λ h. IsFresh l.shared.handoff.now h.promise.before.value) l.handles.items;
   room : vec_len l.handles + length (into_iter_items l.part-iterator) ≤ vec_capacity l.handles;
   started : vec_len l.handles + length (into_iter_items l.part-iterator) ≡ vec_len l.fn.parts;
-  readable_bytes : map (λ h. part_ahead h.promise.owner (g.F.Feed.ahead h.promise.reader.value)) l.handles.items ++ map (λ p. part_ahead p.owner (g.F.Feed.ahead p.reader)) (into_iter_items l.part-iterator) ≡ map (λ p. part_ahead p.owner (g.F.Feed.ahead p.reader)) l.fn.parts.items;
+  readable_bytes : map (λ h. part_ahead h.promise.owner (g.F.Feed.ahead h.promise.reader.value)) l.handles.items
+      ++ map (λ p. part_ahead p.owner (g.F.Feed.ahead p.reader)) (into_iter_items l.part-iterator) ≡ map
+      (λ p. part_ahead p.owner (g.F.Feed.ahead p.reader)) l.fn.parts.items;
 }

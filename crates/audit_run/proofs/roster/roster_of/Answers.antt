@@ -1,12 +1,15 @@
 use Rattle.std.proofs.Common.{◌≡◌, ◌≢◌, ◌++◌, ◌∷◌, [], List, ℕ, length, ap, ◌∙◌, arith, rules}
 use Rattle.audit_run.specs.Roster.{index_in, roster}
-use Rattle.audit_run.proofs.Rosters.{one_new, one_old, others, others_none}
+use Rattle.audit_run.proofs.Rosters.{one_new, one_old, others, others-none}
 use Rattle.audit_run.proofs.roster.roster_of.Goals as goal
 
 pub loop-name-init : goal.loop-name-init
 loop-name-init c =
-    let none = c.new-found.ensures.items in
-    (ap (λ (found : List (List ℕ)). found ++ others found (roster c.args.names.now)) none ∙ others_none (roster c.args.names.now), omega (arith, c.new-found.ensures.len))
+    let none = c.new-found.ensures.items in (
+      ap (λ (found : List (List ℕ)). found ++ others found (roster c.args.names.now)) none
+          ∙ others-none (roster c.args.names.now),
+      omega (arith, c.new-found.ensures.len),
+    )
 
 pub loop-name-preserved-in_ok-push : goal.loop-name-preserved-in_ok-push
 loop-name-preserved-in_ok-push c =
@@ -16,7 +19,8 @@ loop-name-preserved-in_ok-push c =
     let inv = c.loop-name.invariant in
     let copied = c.in_ok-from_slice.ensures in
     let new : index_in name found ≡ length found = search rules in (
-      one_new found _ _ _ _ name (c.in_ok-push.ensures.items ∙ ap (λ n. found ++ n ∷ []) (copied ∙ c.as_slice-then-index_within-len.ensures)) step.0 new inv.0,
+      one_new found _ _ _ _ name (c.in_ok-push.ensures.items
+          ∙ ap (λ n. found ++ n ∷ []) (copied ∙ c.as_slice-then-index_within-len.ensures)) step.0 new inv.0,
       omega (arith, inv.1, c.in_ok-push.ensures.len, step.1),
     )
 

@@ -23,6 +23,8 @@ loop-handle-preserved g c =
         old.0 + 1,
         old.1 ++ done.0,
         omega (arith, old.2, ap (λ l. length l) c.in-Some.ensures.steps.0),
-        c.join.ensures ∙ ((λ i. with_joined (old.3 i) (result i)) ∙ one_worker names c.args.pass.now c.args.shared.handoff.now c.args.shared.policy.now c.args.shared.directory.now old.0 old.1 done.0),
+        c.join.ensures ∙ ((λ i. with_joined (old.3 i) (result i))
+            ∙ one_worker names c.args.pass.now c.args.shared.handoff.now c.args.shared.policy.now
+            c.args.shared.directory.now old.0 old.1 done.0),
       ),
     )

@@ -13,7 +13,8 @@ loop-pass-preserved g c =
     let shorter = ap length step.0 in (
       All-tail (λ p. p ≡ new_pass) _ _ all,
       subst (All (λ h. h.promise.before.value ≡ new_pass)) (sym pushed.items)
-          (All-push (λ h. h.promise.before.value ≡ new_pass) _ _ inv.1 (c.in-Some-start_worker.ensures ∙ All-head (λ p. p ≡ new_pass) _ _ all)),
+          (All-push (λ h. h.promise.before.value ≡ new_pass) _ _ inv.1 (c.in-Some-start_worker.ensures
+          ∙ All-head (λ p. p ≡ new_pass) _ _ all)),
       omega (arith, inv.2, pushed.len, shorter),
       omega (arith, inv.3, pushed.len, pushed.capacity, shorter),
     )

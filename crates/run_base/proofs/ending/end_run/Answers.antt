@@ -8,7 +8,8 @@ returns-in-Ok-write_all_of g c =
     let told = notices g.F.Fails.status g.F.Fails.printed c.args.program.now in
     let out = sent g.O.Sink.taken g.O.Sink.stalled_writes c.args.out.now c.write_all_of.new.writer in
     let err = sent g.E.Sink.taken g.E.Sink.stalled_writes c.args.err.now c.args.err.now in
-    whole_ends told c.args.ended c.in-Ok.printed c.deref.result.now out err c.in-Ok.is c.deref.ensures.value (omega (arith, c.in-Ok-write_all_of.ensures.stalls))
+    whole_ends told c.args.ended c.in-Ok.printed c.deref.result.now out err c.in-Ok.is c.deref.ensures.value
+    (omega (arith, c.in-Ok-write_all_of.ensures.stalls))
     c.in-Ok-write_all_of.ensures.whole refl
 
 pub returns-in-Ok : goal.returns-in-Ok
@@ -17,8 +18,10 @@ returns-in-Ok g c =
     let out = sent g.O.Sink.taken g.O.Sink.stalled_writes c.args.out.now c.write_all_of.new.writer in
     let err = sent g.E.Sink.taken g.E.Sink.stalled_writes c.args.err.now c.report_fault.new.err in
     let stalls = c.in-Err-write_all_of.ensures.stalls in
-    lost_ends told c.args.ended c.in-Ok.printed c.deref.result.now c.in-Err-write_all_of.lost.written c.report_fault.result out err c.in-Ok.is c.deref.ensures.value
-    c.in-Err-write_all_of.ensures.within c.in-Err-write_all_of.ensures.part (λ well. absurd (omega (arith, stalls, well))) c.report_fault.ensures
+    lost_ends told c.args.ended c.in-Ok.printed c.deref.result.now c.in-Err-write_all_of.lost.written
+    c.report_fault.result out err c.in-Ok.is c.deref.ensures.value
+    c.in-Err-write_all_of.ensures.within c.in-Err-write_all_of.ensures.part
+    (λ well. absurd (omega (arith, stalls, well))) c.report_fault.ensures
 
 pub returns : goal.returns
 returns g c =

@@ -1,6 +1,7 @@
 use Rattle.std.proofs.Common.{rules, subst}
 use Rattle.sudo_load.specs.declared.fault.LoadFault.TheVariants as load_faults
-use Rattle.run_base.specs.Loading.{EndsIn, IsNotHanded}
+use Rattle.run_base.specs.Loading.{EndsIn}
+use Rattle.run_base.specs.Body.Loading.{IsNotHanded}
 use Rattle.run_base.proofs.Steps.{wanted_unread}
 use Rattle.run_base.proofs.loading.load_files.Goals as goal
 

@@ -1,4 +1,4 @@
-use Rattle.std.proofs.Common.{◌≡◌, Some}
+use Rattle.std.proofs.Common.{◌≡◌, ◌≤◌, Some, length}
 use Rattle.run_base.specs.Holding.{AreHeld, HoldsFile}
 use Rattle.run_base.proofs.loading.load_files.Given as goal
 
@@ -7,4 +7,5 @@ invariant-loop-call g l = record {
   main : HoldsFile (g.F.Files.held l.fn.files) l.fn.path (Some l.text);
   held : AreHeld (g.F.Files.held l.files) l.supplies.items;
   same : g.F.Files.held l.files ≡ g.F.Files.held l.fn.files;
+  as_many : l._call ≤ length l.supplies.items;
 }

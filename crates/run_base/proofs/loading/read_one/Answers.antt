@@ -7,4 +7,5 @@ pub returns-in-Ok-clause-held : goal.returns-in-Ok-clause-held
 returns-in-Ok-clause-held g c =
     let held = g.F.Files.held c.args.files.now in
     subst (λ h. AreHeld h c.push.new.self.items) (sym c.fetch.ensures.same)
-    (subst (AreHeld held) (sym c.in_ok-push-in-Ok.ensures.items) (held-push held c.args.supplies.now.items c.in-Ok.supply c.requires c.in-Ok.ensures.held))
+    (subst (AreHeld held) (sym c.in_ok-push-in-Ok.ensures.items)
+    (held-push held c.args.supplies.now.items c.in-Ok.supply c.requires c.in-Ok.ensures.held))

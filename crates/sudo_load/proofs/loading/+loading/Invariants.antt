@@ -33,6 +33,7 @@ abbrev pub invariant-load_entries-loop-entry : goal.invariant-load_entries-loop-
 invariant-load_entries-loop-entry l = record {
   can_next : (goal.iterator-load_entries-loop-entry).can_next l.entry-iterator;
   is_finite : (goal.iterator-load_entries-loop-entry).is_finite l.entry-iterator;
-  left : (outcome : Outcome) → EntriesLoad (FileLoads l.fn.levels l.fn.supplies) l.fn.supplies l.fn.file l.loaded (into_iter_items l.entry-iterator) outcome
+  left : (outcome : Outcome) → EntriesLoad (FileLoads l.fn.levels l.fn.supplies) l.fn.supplies l.fn.file l.loaded
+      (into_iter_items l.entry-iterator) outcome
       → EntriesLoad (FileLoads l.fn.levels l.fn.supplies) l.fn.supplies l.fn.file l.fn.loaded l.fn.entries.items outcome;
 }

@@ -1,6 +1,6 @@
 use Rattle.std.proofs.Common.{◌∙◌, ap, sym, []}
 use Rattle.sudo_parser.specs.Parsed.{over_limit, room_after}
-use Rattle.sudo_load.proofs.Placed.{over_limit_placed}
+use Rattle.sudo_load.proofs.EntryPlaces.{over_limit_placed}
 use Rattle.sudo_load.proofs.loading.policy_of.Goals as goal
 
 pub returns-in-Some-clause-placed : goal.returns-in-Some-clause-placed

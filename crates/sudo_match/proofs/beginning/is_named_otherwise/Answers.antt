@@ -49,7 +49,8 @@ loop-at-preserved c =
     (sym c.to_ascii_lowercase.ensures.value ∙ c.if-to_ascii_lowercase.false ∙ c.to_ascii_lowercase-in-loop-at.ensures.value)
 
 pub returns : goal.returns
-returns c = sym (c.loop-at.invariant ∙ named-end c.args.chars.now c.args.name.now c.loop-at.at (ends (cases_lt (length c.args.chars.now) (length c.args.name.now))))
+returns c = sym (c.loop-at.invariant ∙ named-end c.args.chars.now c.args.name.now c.loop-at.at
+    (ends (cases_lt (length c.args.chars.now) (length c.args.name.now))))
   where
     ends : (length c.args.chars.now < length c.args.name.now) ⊎ (length c.args.name.now ≤ length c.args.chars.now) →
         (length c.args.chars.now ≤ c.loop-at.at) ⊎ (length c.args.name.now ≤ c.loop-at.at)

@@ -1,5 +1,5 @@
 use Rattle.std.proofs.Common.{◌≡◌, drop}
-use Rattle.sudo_match.specs.Beginnings.{is_named_otherwise}
+use Rattle.sudo_match.specs.Body.Beginnings.{is_named_otherwise}
 use Rattle.sudo_match.proofs.beginning.same_letters.Given as goal
 
 -- the characters passed are the name's letters

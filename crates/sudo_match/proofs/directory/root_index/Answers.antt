@@ -7,7 +7,8 @@ use Rattle.sudo_match.proofs.directory.root_index.Goals as goal
 
 pub returns-in-Some-clause-fault : goal.returns-in-Some-clause-fault
 returns-in-Some-clause-fault c =
-    let found : find (λ u. is_no_group u.groups) c.args.people.now ≡ Some c.in-Some.person.now = sym c.ungrouped.ensures ∙ ap option_copied c.in-Some.is in
+    let found : find (λ u. is_no_group u.groups) c.args.people.now ≡ Some c.in-Some.person.now =
+    sym c.ungrouped.ensures ∙ ap option_copied c.in-Some.is in
     refused-ungrouped c.args.people.now c.in-Some.person.now c.no_group.result found (rw (sym c.as_slice.ensures) c.no_group.ensures)
 
 pub returns-in-None-clause-fault : goal.returns-in-None-clause-fault

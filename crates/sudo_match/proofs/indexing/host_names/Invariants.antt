@@ -1,4 +1,4 @@
-use Rattle.sudo_base.specs.Indexes.{IndexesRows}
+use Rattle.sudo_base.specs.Body.Indexes.{IndexesRows}
 use Rattle.sudo_base.specs.NameIndices.{index_of}
 use Rattle.sudo_match.specs.Class.{lower_text}
 use Rattle.sudo_match.specs.KnownRows.{same_host}

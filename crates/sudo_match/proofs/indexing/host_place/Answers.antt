@@ -9,7 +9,8 @@ use Rattle.sudo_match.proofs.indexing.host_place.Goals as goal
 pub loop-at-preserved : goal.loop-at-preserved
 loop-at-preserved c =
     let low : c.to_ascii_lowercase.result ≡ lower (get_or c.args.name.now c.loop-at.at 0) = c.to_ascii_lowercase.ensures.value in
-    let name = take-some c.loop-at.at c.args.name.now (get_or c.args.name.now c.loop-at.at 0) (slice_get-get_or c.args.name.now c.loop-at.at 0 c.loop-at-test.true) in
+    let name = take-some c.loop-at.at c.args.name.now (get_or c.args.name.now c.loop-at.at 0)
+    (slice_get-get_or c.args.name.now c.loop-at.at 0 c.loop-at-test.true) in
     let within : c.loop-at.at < length c.loop-at.lower = omega (arith, c.loop-at.invariant.room, c.requires, c.loop-at-test.true) in
     let next : c.loop-at.at + 1 ≡ suc c.loop-at.at = omega arith in
     record {

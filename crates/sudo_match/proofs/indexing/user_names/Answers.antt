@@ -2,9 +2,10 @@ use Rattle.std.proofs.Common.{◌≡◌, ℕ, true, false, sym, ap, ◌∙◌, �
 use Rattle.std.specs.Prelude.{is_some, slice_get, Some, Option, option_map}
 use Rattle.std.proofs.lemmas.Option.{slice_get_read}
 use Rattle.sudo_match.specs.declared.people.Person.{Person}
-use Rattle.sudo_base.specs.Indexes.{IndexesRows}
+use Rattle.sudo_base.specs.Body.Indexes.{IndexesRows}
 use Rattle.sudo_base.specs.NameIndices.{index_of}
-use Rattle.sudo_base.proofs.IndexLemmas.{indexes_rows-none, indexes_rows-more, index_of-empty, index_of-append, none-is}
+use Rattle.sudo_base.proofs.IndexLemmas.{IndexesRows-none, IndexesRows-more, index_of-empty, index_of-append}
+use Rattle.sudo_base.proofs.Options.{none_of}
 use Rattle.sudo_match.specs.declared.fault.DirFault.{DirFault}
 use Rattle.sudo_match.specs.declared.fault.DirFault.TheVariants.{UserTwice}
 use Rattle.sudo_match.specs.KnownRows.{same_user, first_clash, clashes_at, IsDirectoryFault}
@@ -13,7 +14,7 @@ use Rattle.sudo_match.proofs.indexing.user_names.Goals as goal
 
 pub loop-at-init : goal.loop-at-init
 loop-at-init c = record {
-  indexed = indexes_rows-none (λ u. u.name) c.args.people.now (index_of c.new-names.result)
+  indexed = IndexesRows-none (λ u. u.name) c.args.people.now (index_of c.new-names.result)
       (λ name. ap (λ es. index_of es name) c.new-names.ensures ∙ index_of-empty name);
   none = none-first same_user c.args.people.now;
 }
@@ -21,13 +22,18 @@ loop-at-init c = record {
 pub returns-then-is_some-clause-fault : goal.returns-then-is_some-clause-fault
 returns-then-is_some-clause-fault c =
     let row : slice_get c.args.people.now c.loop-at.at ≡ Some c.index-people-at.result =
-    slice_get_read c.args.people.now (length c.args.people.now) c.loop-at.at c.index-people-at.result refl c.loop-at-test.true c.index-people-at.is in
+    slice_get_read c.args.people.now (length c.args.people.now) c.loop-at.at c.index-people-at.result refl
+    c.loop-at-test.true c.index-people-at.is in
     let there : is_some (index_of c.loop-at.names c.index-people-at.result.name) ≡ true =
-    ap (λ n. is_some (index_of c.loop-at.names n)) (sym c.as_slice-name.ensures) ∙ ap is_some (sym c.get.ensures) ∙ sym c.is_some.ensures ∙ c.if-is_some.true in
+    ap (λ n. is_some (index_of c.loop-at.names n)) (sym c.as_slice-name.ensures) ∙ ap is_some (sym c.get.ensures)
+    ∙ sym c.is_some.ensures ∙ c.if-is_some.true in
     let clashes : clashes_at same_user c.args.people.now c.loop-at.at ≡ true =
-    key-clash (λ u. u.name) c.args.people.now c.loop-at.at c.index-people-at.result (index_of c.loop-at.names) c.loop-at.invariant.indexed row ∙ there in
-    let fault : option_map (λ (u : Person). UserTwice u.name) (first_clash same_user c.args.people.now) ≡ Some (UserTwice c.as_slice-name.result.now) =
-    ap (option_map (λ (u : Person). UserTwice u.name)) (clash-is same_user c.args.people.now c.loop-at.at c.index-people-at.result c.loop-at.invariant.none row clashes)
+    key-clash (λ u. u.name) c.args.people.now c.loop-at.at c.index-people-at.result (index_of c.loop-at.names)
+    c.loop-at.invariant.indexed row ∙ there in
+    let fault : option_map (λ (u : Person). UserTwice u.name) (first_clash same_user c.args.people.now) ≡ Some
+    (UserTwice c.as_slice-name.result.now) =
+    ap (option_map (λ (u : Person). UserTwice u.name))
+    (clash-is same_user c.args.people.now c.loop-at.at c.index-people-at.result c.loop-at.invariant.none row clashes)
     ∙ ap (λ n. Some (UserTwice n)) (sym c.as_slice-name.ensures) in
     let P : Option DirFault → Type 0 = λ o. IsDirectoryFault o c.user_twice.result in
     subst P (sym fault) c.user_twice.ensures
@@ -35,17 +41,22 @@ returns-then-is_some-clause-fault c =
 pub loop-at-preserved : goal.loop-at-preserved
 loop-at-preserved c =
     let row : slice_get c.args.people.now c.loop-at.at ≡ Some c.index-people-at.result =
-    slice_get_read c.args.people.now (length c.args.people.now) c.loop-at.at c.index-people-at.result refl c.loop-at-test.true c.index-people-at.is in
+    slice_get_read c.args.people.now (length c.args.people.now) c.loop-at.at c.index-people-at.result refl
+    c.loop-at-test.true c.index-people-at.is in
     let fresh : is_some (index_of c.loop-at.names c.index-people-at.result.name) ≡ false =
-    ap (λ n. is_some (index_of c.loop-at.names n)) (sym c.as_slice-name.ensures) ∙ ap is_some (sym c.get.ensures) ∙ sym c.is_some.ensures ∙ c.if-is_some.false in
+    ap (λ n. is_some (index_of c.loop-at.names n)) (sym c.as_slice-name.ensures) ∙ ap is_some (sym c.get.ensures)
+    ∙ sym c.is_some.ensures ∙ c.if-is_some.false in
     let added : c.insert.new.self ≡ c.loop-at.names ++ (c.index-people-at.result.name, c.loop-at.at) ∷ [] =
     c.in_ok-insert.ensures.ok ∙ ap (λ n. c.loop-at.names ++ (n, c.loop-at.at) ∷ []) c.as_slice-name.ensures in
     record {
-      indexed = indexes_rows-more (λ u. u.name) c.args.people.now c.loop-at.at c.index-people-at.result (index_of c.loop-at.names) (index_of c.insert.new.self)
-          c.loop-at.invariant.indexed row (none-is _ fresh)
-          (λ other. ap (λ es. index_of es other) added ∙ index_of-append c.loop-at.names c.index-people-at.result.name c.loop-at.at other (none-is _ fresh));
+      indexed = IndexesRows-more (λ u. u.name) c.args.people.now c.loop-at.at c.index-people-at.result
+          (index_of c.loop-at.names) (index_of c.insert.new.self)
+          c.loop-at.invariant.indexed row (none_of _ fresh)
+          (λ other. ap (λ es. index_of es other) added ∙ index_of-append c.loop-at.names c.index-people-at.result.name
+          c.loop-at.at other (none_of _ fresh));
       none = none-more same_user c.args.people.now c.loop-at.at c.loop-at.invariant.none
-          (key-clash (λ u. u.name) c.args.people.now c.loop-at.at c.index-people-at.result (index_of c.loop-at.names) c.loop-at.invariant.indexed row ∙ fresh);
+          (key-clash (λ u. u.name) c.args.people.now c.loop-at.at c.index-people-at.result (index_of c.loop-at.names)
+          c.loop-at.invariant.indexed row ∙ fresh);
     }
 
 pub returns-clause-names : goal.returns-clause-names

@@ -1,6 +1,6 @@
 use Rattle.std.proofs.Common.{◌≡◌, true, sym, ◌∙◌, ap}
 use Rattle.sudo_match.specs.Matching.{host_fits}
-use Rattle.sudo_match.specs.Beginnings.{is_named_otherwise}
+use Rattle.sudo_match.specs.Body.Beginnings.{is_named_otherwise}
 use Rattle.sudo_match.proofs.BeginningLemmas.{host-differs}
 use Rattle.sudo_match.proofs.matchers.host_matches.Goals as goal
 

@@ -1,5 +1,5 @@
 use Rattle.std.proofs.Common.{◌≡◌, map, take, Some}
-use Rattle.sudo_match.specs.Indexing.{group_there}
+use Rattle.sudo_match.specs.Body.Indexing.{group_there}
 use Rattle.sudo_match.specs.KnownRows.{groups_of}
 use Rattle.sudo_match.proofs.PositionLemmas.{SpotsTo}
 use Rattle.sudo_match.proofs.positions.positions_of.Given as goal

@@ -2,7 +2,7 @@ use Rattle.std.proofs.Common.{sym}
 use Rattle.sudo_parser.specs.Body.Defaults.{IsOperatorNext, StopsInParameter}
 use Rattle.sudo_parser.specs.Body.Unread.{tokens_left}
 use Rattle.sudo_parser.proofs.Steps.{passed-on}
-use Rattle.sudo_parser.proofs.DefaultsSteps.{name-missing, switched-reads, value-missing}
+use Rattle.sudo_parser.proofs.DefaultsSteps.{name-missing, switched_reads, value-missing}
 use Rattle.sudo_parser.proofs.defaults.parameter.Goals as goal
 
 pub returns-in_err-name-clause-stops : goal.returns-in_err-name-clause-stops
@@ -14,7 +14,7 @@ returns-in_err-name-clause-stops c =
 
 pub returns-then-bangs-ne0-clause-reads : goal.returns-then-bangs-ne0-clause-reads
 returns-then-bangs-ne0-clause-reads c =
-    switched-reads (tokens_left c.args.unread.now) c.take_bangs-bangs.result (tokens_left c.take_bangs-bangs.new.self)
+    switched_reads (tokens_left c.args.unread.now) c.take_bangs-bangs.result (tokens_left c.take_bangs-bangs.new.self)
     c.in_ok-name.name (tokens_left c.word.new.unread) c.take_bangs-bangs.ensures.reads c.in_ok-name.ensures.reads
     c.if-bangs-ne0.true
 

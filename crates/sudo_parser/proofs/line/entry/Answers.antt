@@ -1,4 +1,4 @@
-use Rattle.sudo_parser.specs.Limits.{room_of}
+use Rattle.sudo_parser.specs.Body.Limits.{room_of}
 use Rattle.sudo_parser.specs.Body.Unread.{tokens_left}
 use Rattle.sudo_parser.proofs.EntryLaws.{entry-written, entry-only, entry-fault}
 use Rattle.sudo_parser.proofs.line.entry.Goals as goal

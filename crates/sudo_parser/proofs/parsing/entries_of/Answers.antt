@@ -24,4 +24,5 @@ loop-line-preserved c = record {
 }
 
 pub returns-clause-entries : goal.returns-clause-entries
-returns-clause-entries c = along_whole c.args.lines.now c.loop-line.entries c.loop-line.left.now c.loop-line.invariant.along c.in_default.ensures.cases
+returns-clause-entries c = along_whole c.args.lines.now c.loop-line.entries c.loop-line.left.now
+    c.loop-line.invariant.along c.in_default.ensures.cases

@@ -1,7 +1,7 @@
 use Rattle.std.proofs.Common.{◌≡◌, ◌≤◌, length}
 use Rattle.std.specs.Prelude.{All}
 use Rattle.sudo_text.specs.declared.line.Line.{Line}
-use Rattle.sudo_parser.specs.Limits.{room_of}
+use Rattle.sudo_parser.specs.Body.Limits.{room_of}
 use Rattle.sudo_parser.specs.Parsed.{room_after}
 use Rattle.sudo_parser.proofs.ParsedLemmas.{Along}
 use Rattle.sudo_parser.proofs.parsing.entries_of.Given as goal

@@ -1,5 +1,5 @@
 use Rattle.std.proofs.Common.{◌≡◌, length}
-use Rattle.sudo_parser.specs.Limits.{room_of}
+use Rattle.sudo_parser.specs.Body.Limits.{room_of}
 use Rattle.sudo_parser.specs.Parsed.{over_limit, over_limit_from}
 use Rattle.sudo_parser.proofs.parsing.first_over_limit.Given as goal
 

@@ -1,7 +1,7 @@
 use Rattle.std.proofs.Common.{rules, subst}
 use Rattle.sudo_parser.specs.Body.Faults.{HasGrammarFault}
 use Rattle.sudo_parser.specs.Body.Unread.{tokens_left}
-use Rattle.sudo_parser.specs.Limits.{room_of}
+use Rattle.sudo_parser.specs.Body.Limits.{room_of}
 use Rattle.sudo_parser.proofs.FaultLemmas.{grammar_fault, says_entry}
 use Rattle.sudo_parser.proofs.parsing.line_entry.Goals as goal
 

@@ -22,8 +22,10 @@ loop-line-init c =
 
 pub returns-in_err-add_line-clause-fault : goal.returns-in_err-add_line-clause-fault
 returns-in_err-add_line-clause-fault c =
-    passed-on c.from_residual.result c.in_err-add_line.field-0.0 (λ fault. fault ≢ Memory → IsFirstFault c.args.lines.items fault) c.from_residual.ensures.1
-    (λ no_memory. along_fault c.args.lines.items c.loop-line.entries c.in-Some.line (into_iter_items c.loop-line.line-iterator) (into_iter_items c.next.new.self) c.in_err-add_line.field-0.0
+    passed-on c.from_residual.result c.in_err-add_line.field-0.0 (λ fault. fault ≢ Memory
+    → IsFirstFault c.args.lines.items fault) c.from_residual.ensures.1
+    (λ no_memory. along_fault c.args.lines.items c.loop-line.entries c.in-Some.line
+    (into_iter_items c.loop-line.line-iterator) (into_iter_items c.next.new.self) c.in_err-add_line.field-0.0
     c.loop-line.invariant.along c.in-Some.ensures.steps.0 (c.in_err-add_line.ensures.fault no_memory))
 
 pub loop-line-preserved : goal.loop-line-preserved

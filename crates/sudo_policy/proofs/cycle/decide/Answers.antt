@@ -31,17 +31,23 @@ returns-clause-decided c =
     let done = c.args.done.now in
     let inside = c.if-node-done.false in
     let long = c.requires.decided.done_length in
-    let cyclic : AreSet true round c.args.cyclic.now c.set_marks.new.marks = subst (λ (xs : List ℕ). AreSet true xs c.args.cyclic.now c.set_marks.new.marks) c.as_slice.ensures.value c.set_marks.ensures in
-    let put : AreSet true round c.round.new.done c.set_marks-2.new.marks = subst (λ (xs : List ℕ). AreSet true xs c.round.new.done c.set_marks-2.new.marks) c.as_slice-2.ensures.value c.set_marks-2.ensures in
-    let set : AreSet true round done c.set_marks-2.new.marks = subst (λ (ms : List Bool). AreSet true round ms c.set_marks-2.new.marks) c.in_ok-round.ensures.same put in
-    DecidesCycles-next c.args.links.now c.args.node done c.args.cyclic.now round c.set_marks.new.marks c.set_marks-2.new.marks (omega (arith, inside, long)) c.requires.decided c.in_ok-round.ensures.found cyclic set
+    let cyclic : AreSet true round c.args.cyclic.now c.set_marks.new.marks =
+    subst (λ (xs : List ℕ). AreSet true xs c.args.cyclic.now c.set_marks.new.marks) c.as_slice.ensures.value c.set_marks.ensures in
+    let put : AreSet true round c.round.new.done c.set_marks-2.new.marks =
+    subst (λ (xs : List ℕ). AreSet true xs c.round.new.done c.set_marks-2.new.marks) c.as_slice-2.ensures.value c.set_marks-2.ensures in
+    let set : AreSet true round done c.set_marks-2.new.marks =
+    subst (λ (ms : List Bool). AreSet true round ms c.set_marks-2.new.marks) c.in_ok-round.ensures.same put in
+    DecidesCycles-next c.args.links.now c.args.node done c.args.cyclic.now round c.set_marks.new.marks
+    c.set_marks-2.new.marks (omega (arith, inside, long)) c.requires.decided c.in_ok-round.ensures.found cyclic set
 
 pub returns-clause-kept : goal.returns-clause-kept
 returns-clause-kept c i h =
     let round = c.in_ok-round.round.items in
     let done = c.args.done.now in
-    let put : AreSet true round c.round.new.done c.set_marks-2.new.marks = subst (λ (xs : List ℕ). AreSet true xs c.round.new.done c.set_marks-2.new.marks) c.as_slice-2.ensures.value c.set_marks-2.ensures in
-    let set : AreSet true round done c.set_marks-2.new.marks = subst (λ (ms : List Bool). AreSet true round ms c.set_marks-2.new.marks) c.in_ok-round.ensures.same put in
+    let put : AreSet true round c.round.new.done c.set_marks-2.new.marks =
+    subst (λ (xs : List ℕ). AreSet true xs c.round.new.done c.set_marks-2.new.marks) c.as_slice-2.ensures.value c.set_marks-2.ensures in
+    let set : AreSet true round done c.set_marks-2.new.marks =
+    subst (λ (ms : List Bool). AreSet true round ms c.set_marks-2.new.marks) c.in_ok-round.ensures.same put in
     let inside = c.if-node-done.false in
     let long = set.same_length in
     marked_more c.set_marks-2.new.marks c.args.node i (omega (arith, inside, long)) (AreSet-kept round done c.set_marks-2.new.marks i set h)

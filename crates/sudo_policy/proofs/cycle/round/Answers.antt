@@ -48,17 +48,23 @@ pub returns-clause-found : goal.returns-clause-found
 returns-clause-found c =
     let behind = c.in_ok-behind.behind.items in
     let full = same_marks (length c.args.links.now) true c.args.aside.now c.requires.aside in
-    let set : AreSet false behind c.args.aside.now c.set_marks.new.marks = subst (λ (xs : List ℕ). AreSet false xs c.args.aside.now c.set_marks.new.marks) c.as_slice.ensures.value c.set_marks.ensures in
-    round_is c.args.links.now c.args.back.now c.args.node c.args.done.now c.args.aside.now c.set_marks.new.marks behind c.in_ok-round.round.items
+    let set : AreSet false behind c.args.aside.now c.set_marks.new.marks =
+    subst (λ (xs : List ℕ). AreSet false xs c.args.aside.now c.set_marks.new.marks) c.as_slice.ensures.value c.set_marks.ensures in
+    round_is c.args.links.now c.args.back.now c.args.node c.args.done.now c.args.aside.now c.set_marks.new.marks
+    behind c.in_ok-round.round.items
     c.requires.turned c.requires.sizes c.requires.whole c.requires.new full set c.in_ok-behind.ensures.found c.in_ok-round.ensures.found
 
 pub returns-clause-aside : goal.returns-clause-aside
 returns-clause-aside c =
     let behind = c.in_ok-behind.behind.items in
     let full = same_marks (length c.args.links.now) true c.args.aside.now c.requires.aside in
-    let there : AreSet false behind c.args.aside.now c.set_marks.new.marks = subst (λ (xs : List ℕ). AreSet false xs c.args.aside.now c.set_marks.new.marks) c.as_slice.ensures.value c.set_marks.ensures in
-    let put : AreSet true behind c.ahead-2.new.marks c.set_marks-2.new.marks = subst (λ (xs : List ℕ). AreSet true xs c.ahead-2.new.marks c.set_marks-2.new.marks) c.as_slice-2.ensures.value c.set_marks-2.ensures in
-    let back : AreSet true behind c.set_marks.new.marks c.set_marks-2.new.marks = subst (λ (ms : List Bool). AreSet true behind ms c.set_marks-2.new.marks) c.in_ok-round.ensures.same put in
+    let there : AreSet false behind c.args.aside.now c.set_marks.new.marks =
+    subst (λ (xs : List ℕ). AreSet false xs c.args.aside.now c.set_marks.new.marks) c.as_slice.ensures.value c.set_marks.ensures in
+    let put : AreSet true behind c.ahead-2.new.marks c.set_marks-2.new.marks =
+    subst (λ (xs : List ℕ). AreSet true xs c.ahead-2.new.marks c.set_marks-2.new.marks) c.as_slice-2.ensures.value
+    c.set_marks-2.ensures in
+    let back : AreSet true behind c.set_marks.new.marks c.set_marks-2.new.marks =
+    subst (λ (ms : List Bool). AreSet true behind ms c.set_marks-2.new.marks) c.in_ok-round.ensures.same put in
     AreSet-back false true behind c.args.aside.now c.set_marks.new.marks c.set_marks-2.new.marks there back
     (λ i h. (
     let less = within_get c.set_marks.new.marks i false (there.those i h) in

@@ -5,7 +5,8 @@ use Rattle.sudo_policy.proofs.cycle.turn_link.Goals as goal
 
 pub offset_bounds-back-to : goal.offset_bounds-back-to
 offset_bounds-back-to c =
-    let inside : c.in-Some.to < length c.args.back.now = inside_link c.args.link (length c.args.back.now) c.in-Some.to c.requires.inside c.in-Some.is in
+    let inside : c.in-Some.to < length c.args.back.now =
+    inside_link c.args.link (length c.args.back.now) c.in-Some.to c.requires.inside c.in-Some.is in
     search rules
 
 pub bounds-back-to : goal.bounds-back-to

@@ -15,5 +15,7 @@ pub loop-link-preserved : goal.loop-link-preserved
 loop-link-preserved c =
     let row = c.args.row.now in
     let at = c.loop-link.link-index in
-    subst (λ (r : List (Option ℕ)). ReversesRow c.args.from r c.args.back.now c.turn_link.new.back) (sym (take_more row at None c.loop-link-test.true))
-    (ReversesRow-append (take at row) (get_or row at None ∷ []) c.args.from c.args.back.now c.loop-link.back c.turn_link.new.back c.loop-link.invariant c.in_ok-turn_link.ensures)
+    subst (λ (r : List (Option ℕ)). ReversesRow c.args.from r c.args.back.now c.turn_link.new.back)
+    (sym (take_more row at None c.loop-link-test.true))
+    (ReversesRow-append (take at row) (get_or row at None ∷ []) c.args.from c.args.back.now c.loop-link.back
+    c.turn_link.new.back c.loop-link.invariant c.in_ok-turn_link.ensures)

@@ -9,5 +9,7 @@ pub returns : goal.returns
 returns c =
     let rest = c.loop-alias.alias-iterator in
     let none : items_where_true rest.b.rest.now (map alias_view rest.a.rest.now) ≡ [] =
-    none_picked alias_view rest.b.rest.now rest.a.rest.now (elim c.in-None.ensures.steps [ inl first ↦ inl first.1.0 | inr second ↦ inr second.1.0 ]) in
-    sym (append-nil c.loop-alias.findings.items) ∙ ap (λ ds. c.loop-alias.findings.items ++ map (finding_on c.args.class) ds) (sym none) ∙ c.loop-alias.invariant
+    none_picked alias_view rest.b.rest.now rest.a.rest.now
+    (elim c.in-None.ensures.steps [ inl first ↦ inl first.1.0 | inr second ↦ inr second.1.0 ]) in
+    sym (append-nil c.loop-alias.findings.items)
+    ∙ ap (λ ds. c.loop-alias.findings.items ++ map (finding_on c.args.class) ds) (sym none) ∙ c.loop-alias.invariant

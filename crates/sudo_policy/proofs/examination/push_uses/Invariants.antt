@@ -6,4 +6,5 @@ use Rattle.sudo_policy.specs.Body.DefinitionRef.{list_view}
 use Rattle.sudo_policy.proofs.examination.push_uses.Given as goal
 
 abbrev pub invariant-loop-member : goal.invariant-loop-member
-invariant-loop-member l = l.findings.items ++ flat_map (λ m. atom_missing l.index l.list.kind l.list.place (alias_named m.atom)) (drop l.member-index l.list.members.now) ≡ l.initial.findings.items ++ missing_in l.index (list_view l.list)
+invariant-loop-member l = l.findings.items ++ flat_map (λ m. atom_missing l.index l.list.kind l.list.place
+    (alias_named m.atom)) (drop l.member-index l.list.members.now) ≡ l.initial.findings.items ++ missing_in l.index (list_view l.list)

@@ -5,4 +5,5 @@ use Rattle.sudo_policy.specs.Body.DefinitionRef.{list_view}
 use Rattle.sudo_policy.proofs.examination.undefined.Given as goal
 
 abbrev pub invariant-loop-list : goal.invariant-loop-list
-invariant-loop-list l = l.findings.items ++ flat_map (missing_in l.index) (map list_view (drop l.list-index l.lists)) ≡ flat_map (missing_in l.index) (map list_view l.lists)
+invariant-loop-list l = l.findings.items ++ flat_map (missing_in l.index) (map list_view (drop l.list-index l.lists))
+    ≡ flat_map (missing_in l.index) (map list_view l.lists)

@@ -1,5 +1,5 @@
 use Rattle.std.proofs.Common.{drop}
-use Rattle.sudo_policy.specs.Resolving.{rank}
+use Rattle.sudo_policy.specs.Body.Resolving.{rank}
 use Rattle.sudo_policy.proofs.WritingLemmas.{Along}
 use Rattle.sudo_policy.proofs.expansion.+write_out.Given as goal
 

@@ -4,7 +4,8 @@ use Rattle.sudo_policy.proofs.graph.visit_all.Goals as goal
 
 pub loop-node-preserved : goal.loop-node-preserved
 loop-node-preserved c =
-    VisitedTo-next c.args.links.now c.loop-node.states c.visit_new.new.states c.loop-node.node c.visit_new.auto.states c.loop-node.invariant c.in_ok-visit_new.ensures.holds c.in_ok-visit_new.ensures.turned c.in_ok-visit_new.ensures.settled
+    VisitedTo-next c.args.links.now c.loop-node.states c.visit_new.new.states c.loop-node.node c.visit_new.auto.states
+    c.loop-node.invariant c.in_ok-visit_new.ensures.holds c.in_ok-visit_new.ensures.turned c.in_ok-visit_new.ensures.settled
 
 pub returns-clause-settled : goal.returns-clause-settled
 returns-clause-settled c i s at =

@@ -9,7 +9,8 @@ bounds-marks-alias c = inside_link c.args.link (length c.args.marks.now) c.in-So
 pub returns-then-marks-alias : goal.returns-then-marks-alias
 returns-then-marks-alias c =
     let inside = inside_link c.args.link (length c.args.marks.now) c.in-Some.alias c.requires.inside c.in-Some.is in
-    MarksRow-old c.args.marks.now c.args.work.now.items c.args.link c.in-Some.alias c.in-Some.is (read_at c.args.marks.now c.in-Some.alias true _ inside c.if-marks-alias.true)
+    MarksRow-old c.args.marks.now c.args.work.now.items c.args.link c.in-Some.alias c.in-Some.is
+    (read_at c.args.marks.now c.in-Some.alias true _ inside c.if-marks-alias.true)
 
 pub bounds-marks-alias-2 : goal.bounds-marks-alias-2
 bounds-marks-alias-2 c = inside_link c.args.link (length c.args.marks.now) c.in-Some.alias c.requires.inside c.in-Some.is
@@ -17,5 +18,7 @@ bounds-marks-alias-2 c = inside_link c.args.link (length c.args.marks.now) c.in-
 pub returns : goal.returns
 returns c =
     let inside = inside_link c.args.link (length c.args.marks.now) c.in-Some.alias c.requires.inside c.in-Some.is in
-    subst (λ (work : List ℕ). MarksRow (c.args.link ∷ []) c.args.marks.now c.args.work.now.items (set c.args.marks.now c.in-Some.alias true) work) (sym c.in_ok-push.ensures.items)
-    (MarksRow-new c.args.marks.now c.args.work.now.items c.args.link c.in-Some.alias c.in-Some.is (read_at c.args.marks.now c.in-Some.alias false _ inside c.if-marks-alias.false))
+    subst (λ (work : List ℕ). MarksRow (c.args.link ∷ []) c.args.marks.now c.args.work.now.items
+    (set c.args.marks.now c.in-Some.alias true) work) (sym c.in_ok-push.ensures.items)
+    (MarksRow-new c.args.marks.now c.args.work.now.items c.args.link c.in-Some.alias c.in-Some.is
+    (read_at c.args.marks.now c.in-Some.alias false _ inside c.if-marks-alias.false))

@@ -15,5 +15,7 @@ pub loop-link-preserved : goal.loop-link-preserved
 loop-link-preserved c =
     let row = c.args.row.now in
     let at = c.loop-link.link-index in
-    subst (λ (r : List (Option ℕ)). MarksRow r c.args.marks.now c.args.work.now.items c.mark_link.new.marks c.mark_link.new.work.items) (sym (take_more row at None c.loop-link-test.true))
-    (MarksRow-append (take at row) (get_or row at None ∷ []) c.args.marks.now c.loop-link.marks c.mark_link.new.marks c.args.work.now.items c.loop-link.work.items c.mark_link.new.work.items c.loop-link.invariant c.in_ok-mark_link.ensures)
+    subst (λ (r : List (Option ℕ)). MarksRow r c.args.marks.now c.args.work.now.items c.mark_link.new.marks
+    c.mark_link.new.work.items) (sym (take_more row at None c.loop-link-test.true))
+    (MarksRow-append (take at row) (get_or row at None ∷ []) c.args.marks.now c.loop-link.marks c.mark_link.new.marks
+    c.args.work.now.items c.loop-link.work.items c.mark_link.new.work.items c.loop-link.invariant c.in_ok-mark_link.ensures)

@@ -16,4 +16,5 @@ returns c =
     let same = c.in_ok-spread.ensures.marked.same_length in
     subst (λ (xs : List Bool). MarksOf (length g) (IsReached g c.args.roots.now) xs)
     (sym (take_at marks (drop (length marks) c.in_ok-marks.marks.items) c.in_ok-marks.marks.len (omega (arith, same, long))))
-    (MarksOf-spread g c.args.roots.now blank c.in_ok-spread.field-0.items marks c.requires.closed c.requires.inside (omega (arith, long, all)) (same_marks (length g) false blank is) c.in_ok-spread.ensures.found c.in_ok-spread.ensures.marked)
+    (MarksOf-spread g c.args.roots.now blank c.in_ok-spread.field-0.items marks c.requires.closed c.requires.inside
+    (omega (arith, long, all)) (same_marks (length g) false blank is) c.in_ok-spread.ensures.found c.in_ok-spread.ensures.marked)

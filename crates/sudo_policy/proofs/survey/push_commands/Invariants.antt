@@ -5,4 +5,5 @@ use Rattle.sudo_policy.specs.Body.DefinitionRef.{list_view}
 use Rattle.sudo_policy.proofs.survey.push_commands.Given as goal
 
 abbrev pub invariant-loop-command : goal.invariant-loop-command
-invariant-loop-command l = map list_view l.all.items ++ flat_map (command_lists l.place) (drop l.command-index l.commands) ≡ map list_view l.initial.all.items ++ flat_map (command_lists l.place) l.commands
+invariant-loop-command l = map list_view l.all.items ++ flat_map (command_lists l.place)
+    (drop l.command-index l.commands) ≡ map list_view l.initial.all.items ++ flat_map (command_lists l.place) l.commands

@@ -4,4 +4,5 @@ use Rattle.sudo_policy.specs.Body.DefinitionRef.{list_view}
 use Rattle.sudo_policy.proofs.survey.push_defined.Given as goal
 
 abbrev pub invariant-loop-definition : goal.invariant-loop-definition
-invariant-loop-definition l = map list_view l.all.items ++ lists_of_list l.kind l.place (drop l.definition-index l.definitions) ≡ map list_view l.initial.all.items ++ lists_of_list l.kind l.place l.definitions
+invariant-loop-definition l = map list_view l.all.items ++ lists_of_list l.kind l.place
+    (drop l.definition-index l.definitions) ≡ map list_view l.initial.all.items ++ lists_of_list l.kind l.place l.definitions

@@ -7,6 +7,8 @@ use Rattle.sudo_policy.proofs.survey.push_definitions.Given as goal
 
 abbrev pub invariant-loop-at : goal.invariant-loop-at
 invariant-loop-at l = record {
-  all : map alias_view l.all.items ++ definitions_of_list l.kind l.place (drop l.at l.definitions) ≡ map alias_view l.initial.all.items ++ definitions_of_list l.kind l.place l.definitions;
-  placed : (p : Policy) → StandAt p l.entry l.definitions → All (IsAtItsPosition p) l.initial.all.items → All (IsAtItsPosition p) l.all.items;
+  all : map alias_view l.all.items ++ definitions_of_list l.kind l.place (drop l.at l.definitions) ≡ map alias_view
+      l.initial.all.items ++ definitions_of_list l.kind l.place l.definitions;
+  placed : (p : Policy) → StandAt p l.entry l.definitions → All (IsAtItsPosition p) l.initial.all.items
+      → All (IsAtItsPosition p) l.all.items;
 }

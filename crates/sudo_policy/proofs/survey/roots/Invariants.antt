@@ -4,4 +4,5 @@ use Rattle.sudo_policy.specs.Body.DefinitionRef.{granting_row, list_view}
 use Rattle.sudo_policy.proofs.survey.roots.Given as goal
 
 abbrev pub invariant-loop-list : goal.invariant-loop-list
-invariant-loop-list l = l.roots.items ++ flat_map (granting_row l.index) (map list_view (drop l.list-index l.lists)) ≡ flat_map (granting_row l.index) (map list_view l.lists)
+invariant-loop-list l = l.roots.items ++ flat_map (granting_row l.index) (map list_view (drop l.list-index l.lists))
+    ≡ flat_map (granting_row l.index) (map list_view l.lists)

@@ -11,13 +11,19 @@ loop-definition-preserved c p all =
     let ds = c.args.definitions.now in
     let i = c.loop-definition.definition-index in
     let item = c.definition-item.result in
-    let placed : IsAtItsPosition p item = subst (λ (n : DefinitionRef). IsAtItsPosition p n) (sym c.definition-item.is) (all i item c.loop-definition-test.true) in
+    let placed : IsAtItsPosition p item = subst (λ (n : DefinitionRef). IsAtItsPosition p n)
+    (sym c.definition-item.is) (all i item c.loop-definition-test.true) in
     let more : map alias_view (take (i + 1) ds) ≡ map alias_view (take i ds) ++ alias_view item ∷ [] =
-    ap (map alias_view) (take_more ds i item c.loop-definition-test.true) ∙ map_push alias_view (take i ds) (get_or ds i item) ∙ ap (λ (n : DefinitionRef). map alias_view (take i ds) ++ alias_view n ∷ []) (sym c.definition-item.is) in
-    subst (λ (done : List AliasDefinition). IsSurvey p done c.add.new.self) (sym more) (c.in_ok-add.ensures.kept p (map alias_view (take i ds)) placed (c.loop-definition.invariant p all))
+    ap (map alias_view) (take_more ds i item c.loop-definition-test.true)
+    ∙ map_push alias_view (take i ds) (get_or ds i item)
+    ∙ ap (λ (n : DefinitionRef). map alias_view (take i ds) ++ alias_view n ∷ []) (sym c.definition-item.is) in
+    subst (λ (done : List AliasDefinition). IsSurvey p done c.add.new.self) (sym more)
+    (c.in_ok-add.ensures.kept p (map alias_view (take i ds)) placed (c.loop-definition.invariant p all))
 
 pub returns : goal.returns
 returns c p all =
     let ds = c.args.definitions.now in
-    let whole : take c.loop-definition.definition-index ds ≡ ds = take-whole ds c.loop-definition.definition-index c.loop-definition-test.false in
-    subst (λ (done : List AliasDefinition). IsSurvey p done c.loop-definition.survey) (ap (map alias_view) whole) (c.loop-definition.invariant p all)
+    let whole : take c.loop-definition.definition-index ds ≡ ds =
+    take-whole ds c.loop-definition.definition-index c.loop-definition-test.false in
+    subst (λ (done : List AliasDefinition). IsSurvey p done c.loop-definition.survey) (ap (map alias_view) whole)
+    (c.loop-definition.invariant p all)

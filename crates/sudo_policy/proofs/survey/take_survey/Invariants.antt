@@ -5,4 +5,5 @@ use Rattle.sudo_policy.specs.Body.DefinitionRef.{alias_view, IsSurvey, IsAtItsPo
 use Rattle.sudo_policy.proofs.survey.take_survey.Given as goal
 
 abbrev pub invariant-loop-definition : goal.invariant-loop-definition
-invariant-loop-definition l = (p : Policy) → All (IsAtItsPosition p) l.definitions → IsSurvey p (map alias_view (take l.definition-index l.definitions)) l.survey
+invariant-loop-definition l = (p : Policy) → All (IsAtItsPosition p) l.definitions
+    → IsSurvey p (map alias_view (take l.definition-index l.definitions)) l.survey

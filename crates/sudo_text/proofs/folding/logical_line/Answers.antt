@@ -20,7 +20,8 @@ loop-continued-init c =
 pub returns-then-is_empty-clause-logical_lines : goal.returns-then-is_empty-clause-logical_lines
 returns-then-is_empty-clause-logical_lines c =
     let i = c.loop-continued.invariant in
-    end_of_text c.args.file c.args.first c.loop-continued.number c.len.result c.loop-continued.joined.items c.loop-continued.joins.items c.loop-continued.line.now c.loop-continued.rest.now
+    end_of_text c.args.file c.args.first c.loop-continued.number c.len.result c.loop-continued.joined.items
+    c.loop-continued.joins.items c.loop-continued.line.now c.loop-continued.rest.now
     c.loop-continued.continued _ i.progress c.loop-continued-test.true (search rules) (search rules)
 
 pub loop-continued-preserved : goal.loop-continued-preserved
@@ -30,8 +31,11 @@ loop-continued-preserved c =
     let longer = c.in_ok-extend_from_slice.ensures.items in
     let is_len : c.len-in-loop-continued.result ≡ length c.extend_from_slice.new.self.items = omega arith in
     record {
-      progress = turn c.args.file c.args.first c.loop-continued.number c.loop-continued.joined.items _ c.loop-continued.joins.items _ c.loop-continued.line.now next.result.0.now c.loop-continued.rest.now next.result.1.now
-          c.loop-continued.continued _ _ i.progress c.loop-continued-test.true next.ensures.line (grind (arith, common_steps, longer)) (c.in_ok-push.ensures.items ∙ ap (λ (n : ℕ). c.loop-continued.joins.items ++ n ∷ []) is_len) c.ends_in_escape-continued.ensures;
+      progress = turn c.args.file c.args.first c.loop-continued.number c.loop-continued.joined.items _
+          c.loop-continued.joins.items _ c.loop-continued.line.now next.result.0.now c.loop-continued.rest.now next.result.1.now
+          c.loop-continued.continued _ _ i.progress c.loop-continued-test.true next.ensures.line
+          (grind (arith, common_steps, longer)) (c.in_ok-push.ensures.items
+          ∙ ap (λ (n : ℕ). c.loop-continued.joins.items ++ n ∷ []) is_len) c.ends_in_escape-continued.ensures;
       some = λ h. escape_some next.result.0.now (sym c.ends_in_escape-continued.ensures ∙ h);
       bytes = omega (arith, simp (length-append, length-take) at (ap length longer), i.some c.loop-continued-test.true);
       shorter = omega arith;
@@ -42,9 +46,16 @@ pub returns-clause-logical_lines : goal.returns-clause-logical_lines
 returns-clause-logical_lines c =
     let i = c.loop-continued.invariant in
     rw (c.into.ensures, c.into-2.ensures)
-    (ending c.args.file c.args.first c.loop-continued.number c.loop-continued.joined.items _ c.loop-continued.joins.items c.loop-continued.line.now c.loop-continued.rest.now
+    (ending c.args.file c.args.first c.loop-continued.number c.loop-continued.joined.items _
+    c.loop-continued.joins.items c.loop-continued.line.now c.loop-continued.rest.now
     c.loop-continued.continued _ i.progress c.loop-continued-test.false c.in_ok-extend_from_slice-2.ensures.items)
 
 pub returns-clause-short : goal.returns-clause-short
 returns-clause-short c =
-    omega (arith, ap length c.into.ensures, simp length-append at (ap length c.in_ok-extend_from_slice-2.ensures.items), c.loop-continued.invariant.bytes)
+    omega (
+      arith,
+      ap length c.into.ensures,
+      simp length-append at
+          (ap length c.in_ok-extend_from_slice-2.ensures.items),
+      c.loop-continued.invariant.bytes,
+    )

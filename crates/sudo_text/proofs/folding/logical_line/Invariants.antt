@@ -5,7 +5,8 @@ use Rattle.sudo_text.proofs.folding.logical_line.Given as goal
 
 abbrev pub invariant-loop-continued : goal.invariant-loop-continued
 invariant-loop-continued l = record {
-  progress : progress l.file l.first l.number l.joined.items l.joins.items l.continued l.line (physical_lines l.rest) ≡ logical_lines_from l.file l.first (physical_lines l.text);
+  progress : progress l.file l.first l.number l.joined.items l.joins.items l.continued l.line (physical_lines l.rest)
+      ≡ logical_lines_from l.file l.first (physical_lines l.text);
   some : l.continued ≡ true → 0 < length l.line;
   bytes : length l.joined.items + length l.line + length l.rest ≤ length l.text;
   shorter : length l.rest < length l.text;

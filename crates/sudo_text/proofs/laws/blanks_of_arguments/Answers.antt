@@ -1,4 +1,4 @@
-use Rattle.sudo_text.proofs.Spacing.{blanks_spaced}
+use Rattle.sudo_text.proofs.ArgumentBlanks.{blanks_spaced}
 use Rattle.sudo_text.proofs.laws.blanks_of_arguments.Goals as goal
 
 pub returns : goal.returns

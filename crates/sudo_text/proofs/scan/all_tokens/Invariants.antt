@@ -1,7 +1,7 @@
 use Rattle.std.proofs.Common.{◌-◌, ◌≤◌, ◌<◌, length}
 use Rattle.std.specs.Prelude.{All}
 use Rattle.sudo_text.specs.declared.token.Token.{Token}
-use Rattle.sudo_text.proofs.Scanning.{Scanned}
+use Rattle.sudo_text.proofs.TokenFronts.{Scanned}
 use Rattle.sudo_text.proofs.scan.all_tokens.Given as goal
 
 abbrev pub invariant-tokens : goal.invariant-tokens

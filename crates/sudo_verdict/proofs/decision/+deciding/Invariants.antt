@@ -1,5 +1,5 @@
 use Rattle.std.proofs.Common.{◌≡◌, ◌+◌, ◌*◌, ◌≤◌, [], ◌∷◌, length, take}
-use Rattle.sudo_policy.specs.Resolving.{rank}
+use Rattle.sudo_policy.specs.Body.Resolving.{rank}
 use Rattle.std.specs.Prelude.{option_copied}
 use Rattle.sudo_verdict.specs.Decided.{list_decision}
 use Rattle.sudo_verdict.specs.Body.Recalling.{Recalls}

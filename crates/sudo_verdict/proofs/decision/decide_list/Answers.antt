@@ -1,4 +1,4 @@
-use Rattle.sudo_verdict.proofs.Recalling.{empty-slots}
+use Rattle.sudo_verdict.proofs.RememberedDecisions.{empty-slots}
 use Rattle.sudo_verdict.proofs.decision.decide_list.Goals as goal
 
 pub decide-requires-in-Some-clause-recalls : goal.decide-requires-in-Some-clause-recalls

@@ -1,6 +1,6 @@
-use Rattle.sudo_verdict.proofs.Recalling.{empty-slots}
+use Rattle.sudo_verdict.proofs.RememberedDecisions.{empty-slots}
 use Rattle.std.proofs.Common.{sym}
-use Rattle.sudo_verdict.proofs.Deciding.{passed-silent}
+use Rattle.sudo_verdict.proofs.ListDecisions.{passed-silent}
 use Rattle.sudo_verdict.proofs.decision.decide_one.Goals as goal
 
 pub decide_member-requires-in-Some-clause-recalls : goal.decide_member-requires-in-Some-clause-recalls
@@ -8,4 +8,5 @@ decide_member-requires-in-Some-clause-recalls g c name n ds o e f is = absurd (e
 
 pub returns-then-misses : goal.returns-then-misses
 returns-then-misses g c =
-    sym (passed-silent c.args.kind c.args.lists.checked.now (g.S.Subject.fits c.args.subject.now) c.args.key.now c.args.member.now c.requires.key (c.misses.ensures c.if-misses.true))
+    sym (passed-silent c.args.kind c.args.lists.checked.now (g.S.Subject.fits c.args.subject.now) c.args.key.now
+    c.args.member.now c.requires.key (c.misses.ensures c.if-misses.true))

@@ -1,7 +1,7 @@
 use Rattle.std.proofs.Common.{ℕ, ◌<◌, ◌≤◌}
 use Rattle.std.specs.Prelude.{slice_get, unwrap_or}
 use Rattle.sudo_verdict.specs.Body.Known.{IsPassed}
-use Rattle.sudo_verdict.specs.declared.key.Key.TheVariants as key
+use Rattle.sudo_verdict.specs.declared.index.key.Key.TheVariants as key
 use Rattle.sudo_verdict.proofs.decision.kept_before.Given as goal
 
 -- the keys from there on are passed over

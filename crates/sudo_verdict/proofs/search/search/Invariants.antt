@@ -10,7 +10,8 @@ use Rattle.sudo_verdict.proofs.search.search.Given as goal
 abbrev pub invariant-loop-entry : goal.invariant-loop-entry
 invariant-loop-entry l = record {
   resolve : IsTrue (list_all (λ e. body_resolves l.lists.checked.now e.body) l.left);
-  same : last_set (map (entry_found l.lists.checked.now (question l.query)) l.lists.checked.now.entries) ≡ last_set (map (entry_found l.lists.checked.now (question l.query)) l.left);
+  same : last_set (map (entry_found l.lists.checked.now (question l.query)) l.lists.checked.now.entries) ≡ last_set
+      (map (entry_found l.lists.checked.now (question l.query)) l.left);
 }
 
 abbrev pub decreases-loop-entry : goal.decreases-loop-entry

@@ -1,4 +1,4 @@
-use Rattle.sudo_verdict.proofs.Searching.{runas_before-resolves}
+use Rattle.sudo_verdict.proofs.SearchLaw.{runas_before-resolves}
 use Rattle.sudo_verdict.proofs.search.search_command.Goals as goal
 
 pub runas_allows-requires : goal.runas_allows-requires

@@ -1,5 +1,5 @@
 use Rattle.std.proofs.Common.{rules}
-use Rattle.sudo_verdict.proofs.Tagging.{IsWhole, or_tags-at}
+use Rattle.sudo_verdict.proofs.TagLists.{IsWhole, or_tags-at}
 use Rattle.sudo_verdict.proofs.tags.with_earlier.Goals as goal
 
 pub returns : goal.returns

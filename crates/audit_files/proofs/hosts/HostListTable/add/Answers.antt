@@ -1,7 +1,7 @@
 use Rattle.std.proofs.Common.{◌∙◌, ◌<◌, ◌+◌, ◌++◌, ◌∷◌, [], List, length, ap, sym, arith, length-append}
 use Rattle.csv.specs.Records.{fields_of}
 use Rattle.audit_files.specs.Hosts.{machine_of}
-use Rattle.audit_files.proofs.Gathered.{stating_row}
+use Rattle.audit_files.proofs.RequestRecords.{stating_row}
 use Rattle.audit_files.proofs.hosts.HostListTable.add.Goals as goal
 
 pub returns-in-Ok-keep-clause-ok : goal.returns-in-Ok-keep-clause-ok

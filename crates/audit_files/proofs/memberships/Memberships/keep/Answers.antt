@@ -9,7 +9,8 @@ pub returns-then-eq : goal.returns-then-eq
 returns-then-eq c =
     let same : bytes_eq c.in-Some.last.name c.args.row.name ≡ true = search rules in
     let joined = same_user c.args.self.now.list.items c.pop.new.self.items c.in-Some.last c.args.row c.in-Some.ensures.items same in
-    c.in_ok-push-2.ensures.items ∙ ap (λ (gs : List Group). c.pop.new.self.items ++ record c.in-Some.last { groups = gs } ∷ []) c.in_ok-append.ensures.ok ∙ sym joined
+    c.in_ok-push-2.ensures.items ∙ ap (λ (gs : List Group). c.pop.new.self.items
+    ++ record c.in-Some.last { groups = gs } ∷ []) c.in_ok-append.ensures.ok ∙ sym joined
 
 pub returns : goal.returns
 returns c =

@@ -19,7 +19,8 @@ returns-in-Ok-clause-stated c = λ text requests read.
     let left = λ (bytes : List ℕ). h.before ++ records_of bytes in
     stated_behind rows text requests h c.into_requests.result
     (sym (ap (λ (bytes : List ℕ). first_fault request_fault h.before (records_of bytes)) c.left.ensures) ∙ all.0)
-    (sym (λ i. take (same i) (requests_in (left (c.left.ensures i))) ++ c.into_requests.result.list) ∙ list ∙ ap (λ (bytes : List ℕ). requests_in (left bytes)) c.left.ensures)
+    (sym (λ i. take (same i) (requests_in (left (c.left.ensures i))) ++ c.into_requests.result.list) ∙ list
+    ∙ ap (λ (bytes : List ℕ). requests_in (left bytes)) c.left.ensures)
     (close ∙ ap (λ (bytes : List ℕ). slice_get (closes_in (left bytes)) 0) c.left.ensures)
 
 pub returns-clause-fault : goal.returns-clause-fault
@@ -32,4 +33,5 @@ returns-clause-fault c = λ of_file text requests read.
     let each = h.each in
     let row : c.saturating_add-row.result ≡ length h.before + 2 = omega (arith, c.saturating_add-row.ensures, few, count, each) in
     fault_behind rows text requests h c.in-Err.fault
-    (sym (ap (λ (bytes : List ℕ). first_fault request_fault h.before (records_of bytes)) c.left.ensures) ∙ c.in-Err.ensures.err of_file h.before held row)
+    (sym (ap (λ (bytes : List ℕ). first_fault request_fault h.before (records_of bytes)) c.left.ensures)
+    ∙ c.in-Err.ensures.err of_file h.before held row)

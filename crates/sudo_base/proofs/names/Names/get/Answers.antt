@@ -5,4 +5,5 @@ use Rattle.sudo_base.proofs.names.Names.get.Goals as goal
 
 pub returns : goal.returns
 returns c =
-    c.copied.ensures ∙ c.get.ensures.value ∙ lookup-entry_by_list c.args.name.now c.self.inside.indices.entries ∙ ap (λ es. index_of es c.args.name.now) c.self.view_is
+    c.copied.ensures ∙ c.get.ensures.value ∙ lookup-entry_by_list c.args.name.now c.self.inside.indices.entries
+    ∙ ap (λ es. index_of es c.args.name.now) c.self.view_is

@@ -9,4 +9,5 @@ returns c =
     c.group_found.ensures
     ∙ ap (λ us. option_and_then (slice_get (groups_of us)) c.get.result) c.as_slice.ensures
     ∙ ap (option_and_then (slice_get (groups_of c.self.inside.people))) c.get.ensures
-    ∙ sym (group_named-is c.args.self.now c.self.inside.people c.self.inside.groups c.args.name.now (ap (λ (d : KnownRows). d.people) c.self.view_is) c.self.invariant.groups_indexed)
+    ∙ sym (group_named-is c.args.self.now c.self.inside.people c.self.inside.groups c.args.name.now
+    (ap (λ (d : KnownRows). d.people) c.self.view_is) c.self.invariant.groups_indexed)

@@ -9,13 +9,15 @@ use Rattle.sudo_match.proofs.directory.Directory.host.Goals as goal
 pub returns-in_err-at : goal.returns-in_err-at
 returns-in_err-at c =
     ap option_copied c.from_residual.ensures
-    ∙ sym (host_named-is c.args.self.now c.self.inside.machines c.self.inside.hosts c.args.name.now (ap (λ (d : KnownRows). d.machines) c.self.view_is) c.self.invariant.hosts_indexed
+    ∙ sym (host_named-is c.args.self.now c.self.inside.machines c.self.inside.hosts c.args.name.now
+    (ap (λ (d : KnownRows). d.machines) c.self.view_is) c.self.invariant.hosts_indexed
     ∙ ap (option_and_then (slice_get c.self.inside.machines)) (sym c.host_place.ensures ∙ c.in_err-at.was))
 
 pub returns : goal.returns
 returns c =
     c.get.ensures
-    ∙ sym (host_named-is c.args.self.now c.self.inside.machines c.self.inside.hosts c.args.name.now (ap (λ (d : KnownRows). d.machines) c.self.view_is) c.self.invariant.hosts_indexed
+    ∙ sym (host_named-is c.args.self.now c.self.inside.machines c.self.inside.hosts c.args.name.now
+    (ap (λ (d : KnownRows). d.machines) c.self.view_is) c.self.invariant.hosts_indexed
     ∙ ap (option_and_then (slice_get c.self.inside.machines)) (sym c.host_place.ensures ∙ c.in_ok-at.was))
 
 pub returns-then-name-gt255 : goal.returns-then-name-gt255

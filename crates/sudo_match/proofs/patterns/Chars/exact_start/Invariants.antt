@@ -1,5 +1,6 @@
 use Rattle.std.proofs.Common.{None}
-use Rattle.sudo_match.specs.Reading.{seen, text_of}
+use Rattle.sudo_match.specs.Reading.{seen}
+use Rattle.sudo_match.specs.Body.Reading.{text_of}
 use Rattle.sudo_match.proofs.StepLemmas.{Keeps}
 use Rattle.sudo_match.proofs.patterns.Chars.exact_start.Given as goal
 

@@ -1,8 +1,10 @@
 use Rattle.std.proofs.Common.{ℕ, Option, sym, ◌∙◌, ◌<◌, length, subst, arith, ◌+◌}
 use Rattle.std.specs.Prelude.{Some}
-use Rattle.sudo_match.specs.Reading.{seen, text_of}
+use Rattle.sudo_match.specs.Reading.{seen}
+use Rattle.sudo_match.specs.Body.Reading.{text_of}
 use Rattle.sudo_match.proofs.CharsLemmas.{seen-short, text-short}
-use Rattle.sudo_match.proofs.StepLemmas.{Keeps, Retries, keeps-star, keeps-taken, keeps-back, ends-stuck, work, work-star, work-taken, work-back, free-within}
+use Rattle.sudo_match.proofs.StepLemmas.{Keeps, Retries, keeps-star, keeps-taken, keeps-back, ends-stuck, work}
+use Rattle.sudo_match.proofs.StepLemmas.{work-star, work-taken, work-back, free-within}
 use Rattle.sudo_match.proofs.patterns.Chars.fits.Goals as goal
 
 pub overflow_add-at : goal.overflow_add-at
@@ -44,23 +46,28 @@ loop-at-preserved-in-Taken c = record {
 
 pub returns-then-not-is_free_at : goal.returns-then-not-is_free_at
 returns-then-not-is_free_at c =
-    let P : Option (ℕ × ℕ) → Type 0 = λ r. Keeps c.args.slash (seen c.args.self.now) (text_of c.args.text.now) c.loop-at.at c.loop-at.offset r in
-    sym (ends-stuck c.args.slash (seen c.args.self.now) (text_of c.args.text.now) c.loop-at.at c.loop-at.offset c.in-Some-retry.start c.in-Some-retry.from
+    let P : Option (ℕ × ℕ) → Type 0 = λ r. Keeps c.args.slash (seen c.args.self.now) (text_of c.args.text.now)
+    c.loop-at.at c.loop-at.offset r in
+    sym (ends-stuck c.args.slash (seen c.args.self.now) (text_of c.args.text.now) c.loop-at.at c.loop-at.offset
+    c.in-Some-retry.start c.in-Some-retry.from
     (subst P c.in-Some-retry.is c.loop-at.invariant.keeps) c.in-Stuck.ensures.is (sym c.is_free_at.ensures ∙ c.if-not-is_free_at.true))
 
 pub overflow_add-offset-in-Stuck : goal.overflow_add-offset-in-Stuck
 overflow_add-offset-in-Stuck c =
-    let within = free-within c.args.slash (text_of c.args.text.now) c.in-Some-retry.from (sym c.is_free_at.ensures ∙ c.if-not-is_free_at.false) in
+    let within = free-within c.args.slash (text_of c.args.text.now) c.in-Some-retry.from (sym c.is_free_at.ensures
+    ∙ c.if-not-is_free_at.false) in
     omega (arith, text-short c.args.text.now, within)
 
 pub overflow_add-retry : goal.overflow_add-retry
 overflow_add-retry c =
-    let within = free-within c.args.slash (text_of c.args.text.now) c.in-Some-retry.from (sym c.is_free_at.ensures ∙ c.if-not-is_free_at.false) in
+    let within = free-within c.args.slash (text_of c.args.text.now) c.in-Some-retry.from (sym c.is_free_at.ensures
+    ∙ c.if-not-is_free_at.false) in
     omega (arith, text-short c.args.text.now, within)
 
 pub loop-at-smaller : goal.loop-at-smaller
 loop-at-smaller c =
-    let P : Option (ℕ × ℕ) → Type 0 = λ r. work (length (seen c.args.self.now)) (length (text_of c.args.text.now)) c.in-Some-retry.start (Some (c.in-Some-retry.start, c.in-Some-retry.from + 1)) <
+    let P : Option (ℕ × ℕ) → Type 0 = λ r. work (length (seen c.args.self.now)) (length (text_of c.args.text.now))
+    c.in-Some-retry.start (Some (c.in-Some-retry.start, c.in-Some-retry.from + 1)) <
     work (length (seen c.args.self.now)) (length (text_of c.args.text.now)) c.loop-at.at r in
     subst P (sym c.in-Some-retry.is)
     (work-back (length (seen c.args.self.now)) (length (text_of c.args.text.now)) c.loop-at.at c.in-Some-retry.start c.in-Some-retry.from
@@ -68,13 +75,16 @@ loop-at-smaller c =
 
 pub loop-at-preserved : goal.loop-at-preserved
 loop-at-preserved c =
-    let P : Option (ℕ × ℕ) → Type 0 = λ r. Keeps c.args.slash (seen c.args.self.now) (text_of c.args.text.now) c.loop-at.at c.loop-at.offset r in
-    let keeps : Retries c.args.slash (seen c.args.self.now) (text_of c.args.text.now) c.loop-at.at c.loop-at.offset c.in-Some-retry.start c.in-Some-retry.from =
+    let P : Option (ℕ × ℕ) → Type 0 = λ r. Keeps c.args.slash (seen c.args.self.now) (text_of c.args.text.now)
+    c.loop-at.at c.loop-at.offset r in
+    let keeps : Retries c.args.slash (seen c.args.self.now) (text_of c.args.text.now) c.loop-at.at c.loop-at.offset
+    c.in-Some-retry.start c.in-Some-retry.from =
     subst P c.in-Some-retry.is c.loop-at.invariant.keeps in
     record {
       within = let before = keeps.start_within in let within = c.loop-at.invariant.within in omega (arith, before, within);
       knows = c.step.ensures.knows;
       keeps =
-          keeps-back c.args.slash (seen c.args.self.now) (text_of c.args.text.now) c.loop-at.at c.loop-at.offset c.in-Some-retry.start c.in-Some-retry.from
+          keeps-back c.args.slash (seen c.args.self.now) (text_of c.args.text.now) c.loop-at.at c.loop-at.offset
+          c.in-Some-retry.start c.in-Some-retry.from
           keeps c.in-Stuck.ensures.is (sym c.is_free_at.ensures ∙ c.if-not-is_free_at.false);
     }

@@ -1,11 +1,11 @@
 use Rattle.std.proofs.Common.{◌+◌, false, drop, sym, ◌∙◌, subst, arith}
 use Rattle.std.proofs.lemmas.Bool.{not-false}
-use Rattle.sudo_match.specs.Pattern.{item_of}
+use Rattle.sudo_match.specs.Body.Pattern.{item_of}
 use Rattle.sudo_match.specs.Reading.{seen}
 use Rattle.sudo_match.specs.Body.Closing.{Knows, NeverCloses}
 use Rattle.sudo_match.proofs.CharsLemmas.{seen-short}
 use Rattle.sudo_match.proofs.ItemLemmas.{held-some}
-use Rattle.sudo_match.proofs.ClosingLemmas.{knows-next, knows-first, knows-third, led-on}
+use Rattle.sudo_match.proofs.ClosingLemmas.{knows-next, knows-first, knows-third, led_on}
 use Rattle.sudo_match.proofs.patterns.Chars.moved_on.Goals as goal
 
 pub overflow_add-next : goal.overflow_add-next
@@ -24,9 +24,11 @@ pub returns-in-Some-default-eq0-clause-knows : goal.returns-in-Some-default-eq0-
 returns-in-Some-default-eq0-clause-knows c =
     let cs = seen c.args.self.now in
     let u = c.args.known in
-    let item = held-some 0 (item_of (drop u.at cs)) c.in-Some-default-eq0.field-0-0 c.in-Some-default-eq0.field-0-1 (sym c.item_at.ensures.value ∙ c.in-Some-default-eq0.is) in
+    let item = held-some 0 (item_of (drop u.at cs)) c.in-Some-default-eq0.field-0-0 c.in-Some-default-eq0.field-0-1
+    (sym c.item_at.ensures.value ∙ c.in-Some-default-eq0.is) in
     let none = c.in-Some-default-eq0.field-0-1-is in
-    let here : NeverCloses cs (u.at + 1) = led-on cs u item.0 c.in-Some-default-eq0.field-0-1 (u.at + 1) c.requires.knows (not-false u.first c.if-not-known.false) item.1 (omega (arith, none)) in
+    let here : NeverCloses cs (u.at + 1) = led_on cs u item.0 c.in-Some-default-eq0.field-0-1
+    (u.at + 1) c.requires.knows (not-false u.first c.if-not-known.false) item.1 (omega (arith, none)) in
     subst (Knows cs) (sym c.with_first.ensures)
     (knows-first cs (record { at = u.at + 1; first = u.second; second = u.third; third = false }) (knows-next cs u c.requires.knows) here)
 
@@ -34,9 +36,11 @@ pub returns-in-Some-default-eq2-clause-knows : goal.returns-in-Some-default-eq2-
 returns-in-Some-default-eq2-clause-knows c =
     let cs = seen c.args.self.now in
     let u = c.args.known in
-    let item = held-some 0 (item_of (drop u.at cs)) c.in-Some-default-eq2.field-0-0 c.in-Some-default-eq2.field-0-1 (sym c.item_at.ensures.value ∙ c.in-Some-default-eq2.is) in
+    let item = held-some 0 (item_of (drop u.at cs)) c.in-Some-default-eq2.field-0-0 c.in-Some-default-eq2.field-0-1
+    (sym c.item_at.ensures.value ∙ c.in-Some-default-eq2.is) in
     let two = c.in-Some-default-eq2.field-0-1-is in
-    let here : NeverCloses cs (u.at + 1 + 2) = led-on cs u item.0 c.in-Some-default-eq2.field-0-1 (u.at + 1 + 2) c.requires.knows (not-false u.first c.if-not-known.false) item.1 (omega (arith, two)) in
+    let here : NeverCloses cs (u.at + 1 + 2) = led_on cs u item.0 c.in-Some-default-eq2.field-0-1
+    (u.at + 1 + 2) c.requires.knows (not-false u.first c.if-not-known.false) item.1 (omega (arith, two)) in
     knows-third cs (record { at = u.at + 1; first = u.second; second = u.third; third = false }) (knows-next cs u c.requires.knows) here
 
 pub returns-in-Some-clause-knows : goal.returns-in-Some-clause-knows
@@ -44,5 +48,6 @@ returns-in-Some-clause-knows c =
     let cs = seen c.args.self.now in
     let u = c.args.known in
     let item = held-some 0 (item_of (drop u.at cs)) c.in-Some.field-0-0 c.in-Some.more (sym c.item_at.ensures.value ∙ c.in-Some.is) in
-    let here : NeverCloses cs c.none.result.at = led-on cs u item.0 c.in-Some.more c.none.result.at c.requires.knows (not-false u.first c.if-not-known.false) item.1 (sym c.none.ensures.at) in
+    let here : NeverCloses cs c.none.result.at = led_on cs u item.0 c.in-Some.more c.none.result.at c.requires.knows
+    (not-false u.first c.if-not-known.false) item.1 (sym c.none.ensures.at) in
     subst (Knows cs) (sym c.with_first-in-Some.ensures) (knows-first cs c.none.result (c.none.ensures.nothing cs) here)

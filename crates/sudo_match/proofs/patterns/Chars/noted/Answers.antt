@@ -7,7 +7,8 @@ use Rattle.sudo_match.proofs.patterns.Chars.noted.Goals as goal
 pub returns-then-known-start : goal.returns-then-known-start
 returns-then-known-start c =
     let cs = seen c.args.self.now in
-    let here = first-never cs c.items_start-start.result (c.items_start-start.ensures.open c.requires.open) (sym c.is_plain_at.ensures ∙ c.if-is_plain_at.false) in
+    let here = first-never cs c.items_start-start.result (c.items_start-start.ensures.open c.requires.open)
+    (sym c.is_plain_at.ensures ∙ c.if-is_plain_at.false) in
     record {
       knows =
           subst (Knows cs) (sym c.with_first.ensures)
@@ -17,7 +18,8 @@ returns-then-known-start c =
 pub returns-else-known-start : goal.returns-else-known-start
 returns-else-known-start c =
     let cs = seen c.args.self.now in
-    let here = first-never cs c.items_start-start.result (c.items_start-start.ensures.open c.requires.open) (sym c.is_plain_at.ensures ∙ c.if-is_plain_at.false) in
+    let here = first-never cs c.items_start-start.result (c.items_start-start.ensures.open c.requires.open)
+    (sym c.is_plain_at.ensures ∙ c.if-is_plain_at.false) in
     record {
       knows =
           subst (Knows cs) (sym c.with_first-else-known-start.ensures)

@@ -8,7 +8,8 @@ use Rattle.sudo_match.proofs.patterns.Chars.opens_class.Goals as goal
 
 pub returns-then-not-is_plain_at : goal.returns-then-not-is_plain_at
 returns-then-not-is_plain_at c =
-    sym (begins-class_form (class_of c.args.class) c.args.at (seen c.args.self.now) ∙ and_left _ _ (sym c.is_plain_at.ensures ∙ c.if-not-is_plain_at.true))
+    sym (begins-class_form (class_of c.args.class) c.args.at (seen c.args.self.now)
+    ∙ and_left _ _ (sym c.is_plain_at.ensures ∙ c.if-not-is_plain_at.true))
 
 pub overflow_add-at : goal.overflow_add-at
 overflow_add-at c = omega (arith, seen-short c.args.self.now)
@@ -33,7 +34,8 @@ returns-then-not-spells_at c =
     sym (begins-class_form (class_of c.args.class) c.args.at (seen c.args.self.now)
     ∙ and-then _ _ (sym c.is_plain_at.ensures ∙ c.if-not-is_plain_at.false)
     ∙ and-then _ _ (sym c.is_at.ensures ∙ c.if-not-is_at.false)
-    ∙ and_left _ _ (ap (λ n. begins (map is_plain n) (drop (c.args.at + 2) (seen c.args.self.now))) (sym name) ∙ sym c.spells_at.ensures ∙ c.if-not-spells_at.true))
+    ∙ and_left _ _ (ap (λ n. begins (map is_plain n) (drop (c.args.at + 2) (seen c.args.self.now))) (sym name)
+    ∙ sym c.spells_at.ensures ∙ c.if-not-spells_at.true))
 
 pub closes_class-requires : goal.closes_class-requires
 closes_class-requires c =
@@ -48,7 +50,8 @@ returns c =
     ∙ sym (begins-class_form (class_of c.args.class) c.args.at (seen c.args.self.now)
     ∙ and-then _ _ (sym c.is_plain_at.ensures ∙ c.if-not-is_plain_at.false)
     ∙ and-then _ _ (sym c.is_at.ensures ∙ c.if-not-is_at.false)
-    ∙ and-then _ _ (ap (λ n. begins (map is_plain n) (drop (c.args.at + 2) (seen c.args.self.now))) (sym name) ∙ sym c.spells_at.ensures ∙ c.if-not-spells_at.false))
+    ∙ and-then _ _ (ap (λ n. begins (map is_plain n) (drop (c.args.at + 2) (seen c.args.self.now))) (sym name)
+    ∙ sym c.spells_at.ensures ∙ c.if-not-spells_at.false))
 
 pub overflow_add-at-3 : goal.overflow_add-at-3
 overflow_add-at-3 c = omega (arith, seen-short c.args.self.now)

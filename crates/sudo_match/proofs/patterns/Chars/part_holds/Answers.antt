@@ -1,7 +1,8 @@
 use Rattle.std.proofs.Common.{sym, ap, ◌∙◌, ◌+◌, drop, arith}
 use Rattle.std.specs.Prelude.{option_map, Some}
 use Rattle.std.proofs.lemmas.Option.{slice_get_within}
-use Rattle.sudo_match.specs.Pattern.{part_of, is_plain, bracket_after}
+use Rattle.sudo_match.specs.Pattern.{is_plain, bracket_after}
+use Rattle.sudo_match.specs.Body.Pattern.{part_of}
 use Rattle.sudo_match.specs.Reading.{seen}
 use Rattle.sudo_match.proofs.CharsLemmas.{drop-none}
 use Rattle.sudo_match.proofs.PartLemmas.{part_answer, part_of-at, part-star, part-any, part-other, other-some, other-none}
@@ -10,7 +11,8 @@ use Rattle.sudo_match.proofs.patterns.Chars.part_holds.Goals as goal
 pub returns-in_err-first-clause-value : goal.returns-in_err-first-clause-value
 returns-in_err-first-clause-value c =
     c.from_residual.ensures
-    ∙ sym (ap (λ cs. option_map (part_answer c.args.slash c.args.byte) (part_of cs)) (drop-none c.args.at (seen c.args.self.now) (sym c.get.ensures ∙ c.in_err-first.was)))
+    ∙ sym (ap (λ cs. option_map (part_answer c.args.slash c.args.byte) (part_of cs))
+    (drop-none c.args.at (seen c.args.self.now) (sym c.get.ensures ∙ c.in_err-first.was)))
 
 pub returns-then-is_plain-clause-value : goal.returns-then-is_plain-clause-value
 returns-then-is_plain-clause-value c =
@@ -20,7 +22,8 @@ returns-then-is_plain-clause-value c =
 
 pub returns-then-is_plain-clause-within : goal.returns-then-is_plain-clause-within
 returns-then-is_plain-clause-within c =
-    let within = slice_get_within (seen c.args.self.now) c.args.at c.in_ok-first.first (sym c.get.ensures ∙ c.in_ok-first.was) in omega (arith, within)
+    let within = slice_get_within (seen c.args.self.now) c.args.at c.in_ok-first.first (sym c.get.ensures
+    ∙ c.in_ok-first.was) in omega (arith, within)
 
 pub returns-then-is_plain-2-clause-value : goal.returns-then-is_plain-2-clause-value
 returns-then-is_plain-2-clause-value c =
@@ -32,10 +35,12 @@ returns-then-is_plain-2-clause-value c =
 
 pub returns-then-is_plain-2-clause-within : goal.returns-then-is_plain-2-clause-within
 returns-then-is_plain-2-clause-within c =
-    let within = slice_get_within (seen c.args.self.now) c.args.at c.in_ok-first.first (sym c.get.ensures ∙ c.in_ok-first.was) in omega (arith, within)
+    let within = slice_get_within (seen c.args.self.now) c.args.at c.in_ok-first.first (sym c.get.ensures
+    ∙ c.in_ok-first.was) in omega (arith, within)
 
 pub bracket_at-requires-clause-within : goal.bracket_at-requires-clause-within
-bracket_at-requires-clause-within c = slice_get_within (seen c.args.self.now) c.args.at c.in_ok-first.first (sym c.get.ensures ∙ c.in_ok-first.was)
+bracket_at-requires-clause-within c = slice_get_within (seen c.args.self.now) c.args.at c.in_ok-first.first
+    (sym c.get.ensures ∙ c.in_ok-first.was)
 
 pub returns-in-Some-clause-value : goal.returns-in-Some-clause-value
 returns-in-Some-clause-value c =
@@ -57,4 +62,5 @@ returns-in-None-clause-value c =
 
 pub returns-in-None-clause-within : goal.returns-in-None-clause-within
 returns-in-None-clause-within c =
-    let within = slice_get_within (seen c.args.self.now) c.args.at c.in_ok-first.first (sym c.get.ensures ∙ c.in_ok-first.was) in omega (arith, within)
+    let within = slice_get_within (seen c.args.self.now) c.args.at c.in_ok-first.first (sym c.get.ensures
+    ∙ c.in_ok-first.was) in omega (arith, within)

@@ -25,5 +25,6 @@ loop-i-preserved c =
 pub returns : goal.returns
 returns c =
     sym (c.loop-i.invariant
-    ∙ ap (λ n. begins (map is_plain n) (drop (c.args.at + c.loop-i.i) (seen c.args.self.now))) (drop-all c.loop-i.i c.args.name.now c.loop-i-test.false)
+    ∙ ap (λ n. begins (map is_plain n) (drop (c.args.at + c.loop-i.i) (seen c.args.self.now)))
+    (drop-all c.loop-i.i c.args.name.now c.loop-i-test.false)
     ∙ begins-nothing (drop (c.args.at + c.loop-i.i) (seen c.args.self.now)))

@@ -1,6 +1,7 @@
 use Rattle.std.proofs.Common.{sym, ap, ◌∙◌}
 use Rattle.std.specs.Prelude.{Some}
-use Rattle.sudo_match.specs.Reading.{seen, text_of}
+use Rattle.sudo_match.specs.Reading.{seen}
+use Rattle.sudo_match.specs.Body.Reading.{text_of}
 use Rattle.sudo_match.proofs.StepLemmas.{starred, takes, stuck-byte, stuck-end, stuck-text, finished}
 use Rattle.sudo_match.proofs.patterns.Chars.step.Goals as goal
 
@@ -21,7 +22,8 @@ returns-then-holds-clause-is c =
 
 pub returns-else-holds-clause-is : goal.returns-else-holds-clause-is
 returns-else-holds-clause-is c =
-    stuck-byte c.args.slash (seen c.args.self.now) (text_of c.args.text.now) c.args.at c.args.offset c.in-Some.byte c.in-Some-part_holds.more
+    stuck-byte c.args.slash (seen c.args.self.now) (text_of c.args.text.now) c.args.at c.args.offset c.in-Some.byte
+    c.in-Some-part_holds.more
     (sym c.is_plain_at.ensures ∙ c.if-is_plain_at.false) (sym c.get.ensures ∙ c.in-Some.is)
     (sym c.part_holds.ensures.value ∙ c.in-Some-part_holds.is ∙ ap (λ b. Some (b, c.in-Some-part_holds.more)) c.if-holds.false)
 

@@ -13,7 +13,8 @@ returns-in-Name c other p kind a is =
 
 pub returns-in-Uid : goal.returns-in-Uid
 returns-in-Uid c other p kind a is =
-    passes_uid c.args.self.now.user.now a c.in-Uid.uid (not_true (c.in-Uid.uid == c.args.self.now.user.now.uid) other) (is.uid c.in-Uid.uid c.in-Uid.is)
+    passes_uid c.args.self.now.user.now a c.in-Uid.uid (not_true (c.in-Uid.uid == c.args.self.now.user.now.uid) other)
+    (is.uid c.in-Uid.uid c.in-Uid.is)
 
 pub returns-in-Group : goal.returns-in-Group
 returns-in-Group c other p kind a is =

@@ -1,0 +1,5 @@
+-- Definitions that only the proofs of bodies use: no contract of a public function cites them.
+pub mod Auditing
+pub mod Expanding
+pub mod Opening
+pub mod Words

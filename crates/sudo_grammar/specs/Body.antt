@@ -1,0 +1,2 @@
+-- Definitions that only the proofs of bodies use: no contract of a public function cites them.
+pub mod Includes

@@ -1,0 +1,1 @@
+"""Random runs of the program: the cases, and how their runs are looked at."""
