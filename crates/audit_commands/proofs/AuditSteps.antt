@@ -1,5 +1,5 @@
 -- The contract of `audit` from those of its parts.
-use Rattle.std.proofs.Common.{◌≡◌, ◌≤◌, ℕ, List, Option, Some, Result, Ok, Err, refl, sym, subst, arith}
+use Rattle.std.proofs.Common.{◌≡◌, ◌≤◌, ◌⊎◌, ℕ, List, Option, Some, Result, Ok, Err, inl, inr, refl, sym, subst, arith}
 use Rattle.std.specs.Prelude.{IfErr, IfOk, IsSome}
 use Rattle.audit_collect.specs.declared.fault.CollectFault.TheVariants as collects
 use Rattle.audit_collect.specs.declared.fault.Refused.TheVariants as refusals
@@ -9,7 +9,6 @@ use Rattle.audit_commands.specs.NamedFaults.{fault_named}
 use Rattle.audit_collect.specs.declared.report.Report.{Report}
 use Rattle.audit_run.specs.Names.{names_under}
 use Rattle.audit_run.specs.Passes.{PassView}
-use Rattle.audit_files.specs.Report.{report_text}
 use Rattle.audit_run.specs.IsAuditResult.{IsAuditResult}
 use Rattle.audit_run.specs.declared.fault.AuditFault.{AuditFault}
 use Rattle.audit_files.specs.Feeding.{Ahead}
@@ -17,8 +16,8 @@ use Rattle.sudo_match.specs.KnownRows.{KnownRows}
 use Rattle.sudo_grammar.specs.declared.policy.Policy.{Policy}
 use Rattle.run_base.specs.declared.run_output.RunOutput.{RunOutput}
 use Rattle.run_base.specs.Loading.{IsChecked}
-use Rattle.audit_commands.specs.Auditing.{Answers, Given, IsAudited, IsDirectory, IsNotAudited}
-use Rattle.audit_commands.specs.Body.Auditing.{IsFaultNamed, IsReported, IsUnreported}
+use Rattle.audit_commands.specs.Auditing.{Answers, Given, IsAnswer, IsAudited, IsDirectory, IsNotAudited}
+use Rattle.audit_commands.specs.Body.Auditing.{IsFaultNamed, IsPrintedReport, IsUnreported}
 use Rattle.audit_commands.specs.declared.fault.ReportFault.{ReportFault}
 use Rattle.audit_commands.specs.declared.fault.ReportFault.TheVariants as reports
 
@@ -78,25 +77,20 @@ unreported_is policy directory names sources readable_bytes workers fault report
 unreported_is policy directory names sources readable_bytes workers fault (reports.Policy refused) same h is = absurd is
 unreported_is policy directory names sources readable_bytes workers fault (reports.Directory refused) same h is = absurd is
 
-a_report : (given : Given) (policy : Policy) (directory : KnownRows) (text : List ℕ) (status : ℕ)
+a_report : (given : Given) (policy : Policy) (directory : KnownRows) (report : Report)
     → IsChecked given.held given.path policy → IsDirectory given.users given.hosts directory
-    → IsReported policy directory given.sources given.readable_bytes given.workers text status → IsAudited given text status
-a_report given policy directory text status is known h = record {
-  policy = policy;
-  report = h.report;
-  answer = record { is_policy = is; directory = directory; is_directory = known; answers = h.answers };
-  text_is = h.text_is;
-  status_is = h.status_is;
-}
+    → Answers policy directory given.sources given.readable_bytes given.workers (Ok report) → IsAnswer given policy (Ok report)
+a_report given policy directory report is known h =
+    record { is_policy = is; directory = directory; is_directory = known; answers = h }
 
-pub reported_of : (given : Given) (policy : Policy) (directory : KnownRows) (r : Result RunOutput ReportFault)
+pub reported_of : (given : Given) (policy : Policy) (directory : KnownRows) (r : Result Report ReportFault)
     → IsChecked given.held given.path policy → IsDirectory given.users given.hosts directory
-    → IfOk r (λ p. IsReported policy directory given.sources given.readable_bytes given.workers p.text.items p.status)
-    → IfOk r (λ p. IsAudited given p.text.items p.status)
-reported_of given policy directory (Ok p) is known h = a_report given policy directory p.text.items p.status is known h
+    → IfOk r (λ report. Answers policy directory given.sources given.readable_bytes given.workers (Ok report))
+    → IfOk r (λ report. IsAnswer given policy (Ok report))
+reported_of given policy directory (Ok report) is known h = a_report given policy directory report is known h
 reported_of given policy directory (Err fault) is known h = tt
 
-pub unreported_of : (given : Given) (policy : Policy) (directory : KnownRows) (r : Result RunOutput ReportFault)
+pub unreported_of : (given : Given) (policy : Policy) (directory : KnownRows) (r : Result Report ReportFault)
     → IsChecked given.held given.path policy → IsDirectory given.users given.hosts directory
     → IfErr r (IsUnreported policy directory given.sources given.readable_bytes given.workers) → IfErr r (IsNotAudited given)
 unreported_of given policy directory (Ok p) is known h = tt
@@ -108,16 +102,28 @@ pub answered : (policy : Policy) (directory : KnownRows) (sources : List (List �
     → Answers policy directory sources readable_bytes workers result
 answered policy directory sources readable_bytes workers before after result h = record { before = before; after = after; audited = h }
 
-pub a_text : (policy : Policy) (directory : KnownRows) (sources : List (List ℕ))
-    (readable_bytes : List (Option Ahead)) (workers : ℕ) (before after : PassView) (report : Report) (text : List ℕ)
-    → IsAuditResult (names_under policy directory) sources readable_bytes workers before after (Ok report)
-    → text ≡ report_text policy.files report → IsReported policy directory sources readable_bytes workers text 0
-a_text policy directory sources readable_bytes workers before after report text h is = record {
-  report = report;
-  answers = record { before = before; after = after; audited = h };
-  text_is = is;
-  status_is = refl;
+-- the text of a report is the output of an audit whose answer it is
+pub printed_of : (given : Given) (policy : Policy) (answered : Result Report ReportFault) (r : Result RunOutput ReportFault)
+    → IfOk answered (λ report. IsAnswer given policy (Ok report))
+    → IfOk r (λ p. IsPrintedReport policy answered p.text.items p.status) → IfOk r (λ p. IsAudited given p.text.items p.status)
+printed_of given policy answered (Ok p) answer h = record {
+  policy = policy;
+  report = h.report;
+  answer = subst (λ a. IfOk a (λ report. IsAnswer given policy (Ok report))) h.is_report answer;
+  text_is = h.text_is;
+  status_is = h.status_is;
 }
+printed_of given policy answered (Err fault) answer h = tt
+
+-- the fault of an audit, or that of memory, is one of the whole
+pub not_printed_of : (given : Given) (answered : Result Report ReportFault) (r : Result RunOutput ReportFault)
+    → IfErr answered (IsNotAudited given) → IfErr r (λ fault. (fault ≡ reports.Memory) ⊎ (answered ≡ Err fault))
+    → IfErr r (IsNotAudited given)
+not_printed_of given answered (Ok p) not h = tt
+not_printed_of given answered (Err fault) not h = elim h [
+  | inl memory ↦ subst (IsNotAudited given) (sym memory) tt
+  | inr same ↦ subst (λ a. IfErr a (IsNotAudited given)) same not
+]
 
 pub audited_most : (given : Given) (text : List ℕ) (status : ℕ) → IsAudited given text status → status ≤ 4
 audited_most given text status x =

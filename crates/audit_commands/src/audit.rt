@@ -1,15 +1,17 @@
 //! `audit`: answers requests.
-ghost use Rattle.std.specs.Prelude.{◌≡◌, ◌≢◌, ◌≤◌, ℕ, List, Option, IfErr, IfOk, IsSome, map};
+ghost use Rattle.std.specs.Prelude.{◌≡◌, ◌≢◌, ◌≤◌, ◌⊎◌, ℕ, List, Option, Ok, Err, IfErr, IfOk, IsSome, map};
 ghost use Rattle.run_base.specs.Endings.{writer_states as sent, Ends};
 ghost use Rattle.run_base.specs.Holding.{Holdings};
 ghost use Rattle.run_base.specs.Loading.{IsChecked};
-ghost use Rattle.audit_commands.specs.Auditing.{Given, given_by, IsAudited, IsDirectory, IsNoDirectory, IsNotAudited};
-ghost use Rattle.audit_commands.specs.Body.Auditing.{IsFaultNamed, IsReported, IsUnreported};
+ghost use Rattle.audit_commands.specs.Auditing.{Answers, Given, given_by, IsAnswer, IsAudited, IsDirectory};
+ghost use Rattle.audit_commands.specs.Auditing.{IsNoDirectory, IsNotAudited};
+ghost use Rattle.audit_commands.specs.Body.Auditing.{IsFaultNamed, IsPrintedReport, IsUnreported};
 ghost use Rattle.audit_commands.specs.FaultLines.{audit_notices};
 ghost use Rattle.audit_commands.specs.NamedFaults.{fault_named};
 
 use crate::fault::{DirectoryFault, PROGRAM, ReportFault};
 use crate::requests_fault::named_fault;
+use audit_collect::Report;
 use audit_files::{Feed, FileFault, Sink, read_hosts, read_users, report_text};
 use audit_run::{AuditFault, Handoff, Open, Source, audit};
 use run_base::{Files, PolicyFault, RunOutput, checked_policy, end_run};
@@ -72,15 +74,14 @@ fn unreported(alloc: Global, names: &[Seq<u8>], fault: AuditFault) -> ReportFaul
     }
 }
 
-// What an audit has to do: the sources of requests, and how many workers judge them.
+/// What an audit has to do: the sources of requests, and how many workers judge them.
 #[derive(Drop)]
-struct Work<R> {
-    sources: Vec<Source<R>>,
-    workers: u32,
+pub struct Work<R> {
+    pub sources: Vec<Source<R>>,
+    pub workers: u32,
 }
 
-// Returns the report of the sources, under a policy and a directory. Forgets the answers: the run ends here, and texts of
-// many requests are not freed one by one.
+// Returns the report on the sources, under a policy and a directory.
 fn report_under<T: Threads + Wait + Sync, R: Feed + Drop + Send>(
     alloc: Global,
     rt: &T,
@@ -88,13 +89,12 @@ fn report_under<T: Threads + Wait + Sync, R: Feed + Drop + Send>(
     directory: &Directory,
     sources: Vec<Source<R>>,
     workers: u32,
-) -> Result<RunOutput, ReportFault>
+) -> Result<Report, ReportFault>
     requires { (1 ≤ workers) × (workers ≤ 16) }
     ensures report { let names = map (λ s. s.name) sources.items in
         let readable_bytes = map (λ s. R.ahead s.reader) sources.items in
-        IfOk result (λ p. IsReported policy.now directory.now names readable_bytes workers
-        p.text.items
-        p.status) }
+        IfOk result (λ report. Answers policy.now directory.now names readable_bytes workers
+        (Ok report)) }
     ensures fault { let names = map (λ s. s.name) sources.items in
         let readable_bytes = map (λ s. R.ahead s.reader) sources.items in
         IfErr result (IsUnreported policy.now directory.now names readable_bytes workers) }
@@ -105,31 +105,30 @@ fn report_under<T: Threads + Wait + Sync, R: Feed + Drop + Send>(
         alloc, rt, policy, directory, &handoff, &mut pass, sources, workers, &Open,
     );
     match answer {
-        Ok(report) => {
-            let files = policy.policy().files.as_slice();
-            let text = report_text(alloc, &report, files)?;
-            mem::forget(report);
-            Ok(RunOutput { text, status: 0 })
-        }
+        Ok(report) => Ok(report),
         Err(fault) => Err(unreported(alloc, &names, fault)),
     }
 }
 
-// Returns the text and the status of an audit of the sources, under the policy of a file.
-fn audited<T: Threads + Wait + Sync, U: Feed, H: Feed, R: Feed + Drop + Send>(
+/// Returns the report on the requests of the sources, under a policy that passes the check and the directory of these users
+/// and hosts.
+///
+/// Returns `Directory` if the users, the hosts or both together are refused, `Requests` if the requests are, or a thread
+/// could not be started, and `Memory` if allocation failed.
+pub fn answer_requests<T: Threads + Wait + Sync, U: Feed, H: Feed, R: Feed + Drop + Send>(
     alloc: Global,
     rt: &T,
     policy: &Checked,
     users: &mut U,
     hosts: &mut H,
     work: Work<R>,
-) -> Result<RunOutput, ReportFault>
+) -> Result<Report, ReportFault>
     requires { (1 ≤ work.workers) × (work.workers ≤ 16) }
     ensures report { (held : Option Holdings) (path : List ℕ) → IsChecked held path policy.now →
         let given : Given = given_by held path (U.ahead users.old) (H.ahead hosts.old)
         (map (λ s. s.name) work.sources.items) (map (λ s. R.ahead s.reader) work.sources.items)
         work.workers in
-        IfOk result (λ p. IsAudited given p.text.items p.status) }
+        IfOk result (λ report. IsAnswer given policy.now (Ok report)) }
     ensures fault { (held : Option Holdings) (path : List ℕ) → IsChecked held path policy.now →
         let given : Given = given_by held path (U.ahead users.old) (H.ahead hosts.old)
         (map (λ s. s.name) work.sources.items) (map (λ s. R.ahead s.reader) work.sources.items)
@@ -141,6 +140,26 @@ fn audited<T: Threads + Wait + Sync, U: Feed, H: Feed, R: Feed + Drop + Send>(
         Ok(directory) => report_under(alloc, rt, policy, &directory, sources, workers),
         Err(DirectoryFault::Memory) => Err(ReportFault::Memory),
         Err(fault) => Err(ReportFault::Directory(fault)),
+    }
+}
+
+// Returns the text of a report. Forgets the report: the run ends here, and texts of many requests are not freed one by one.
+fn printed(
+    alloc: Global,
+    policy: &Checked,
+    answered: Result<Report, ReportFault>,
+) -> Result<RunOutput, ReportFault>
+    ensures text { IfOk result (λ p. IsPrintedReport policy.now answered p.text.items p.status) }
+    ensures fault { IfErr result (λ fault. (fault ≡ ReportFault.Memory) ⊎ (answered ≡ Err fault)) }
+{
+    match answered {
+        Ok(report) => {
+            let files = policy.policy().files.as_slice();
+            let text = report_text(alloc, &report, files)?;
+            mem::forget(report);
+            Ok(RunOutput { text, status: 0 })
+        }
+        Err(fault) => Err(fault),
     }
 }
 
@@ -170,7 +189,8 @@ fn audit_output<T: Threads + Wait + Sync, F: Files, U: Feed, H: Feed, R: Feed + 
         Err(PolicyFault::Memory) => return Err(ReportFault::Memory),
         Err(fault) => return Err(ReportFault::Policy(fault)),
     };
-    let ended = audited(alloc, rt, &policy, users, hosts, work);
+    let answered = answer_requests(alloc, rt, &policy, users, hosts, work);
+    let ended = printed(alloc, &policy, answered);
     mem::forget(policy);
     ended
 }

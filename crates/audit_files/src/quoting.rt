@@ -56,8 +56,8 @@ pub fn push_field(text: &mut Vec<u8>, field: &[u8]) -> Result<(), AllocError>
     text.extend_from_slice(field)
 }
 
-// Appends a comma and a field.
-fn push_next(text: &mut Vec<u8>, field: &[u8]) -> Result<(), AllocError>
+/// Appends a comma and a field of a CSV record, as `push_field` does.
+pub fn push_next_field(text: &mut Vec<u8>, field: &[u8]) -> Result<(), AllocError>
     ensures { OnOk result (text.new.items
         ≡ text.old.items ++ 44 ∷ field_text default_writer field.now) }
 {
@@ -78,10 +78,10 @@ pub(crate) fn push_four(
         → text.new.items ≡ start ++ row_text default_writer
         (first ∷ second.now ∷ third.now ∷ fourth.now ∷ fifth.now ∷ [])) }
 {
-    push_next(text, second)?;
-    push_next(text, third)?;
-    push_next(text, fourth)?;
-    push_next(text, fifth)?;
+    push_next_field(text, second)?;
+    push_next_field(text, third)?;
+    push_next_field(text, fourth)?;
+    push_next_field(text, fifth)?;
     text.push(b'\n')?;
     Ok(())
 }

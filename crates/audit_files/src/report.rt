@@ -2,8 +2,8 @@
 ghost use Rattle.std.specs.Prelude.{◌≡◌, ◌++◌, ◌∷◌, [], ℕ, List, IfOk, OnOk};
 ghost use Rattle.csv.specs.Writing.{default_writer, field_text};
 ghost use Rattle.audit_files.specs.Report.{answer_fields, header, line, report_text as text_of, sender_text};
-ghost use Rattle.audit_files.specs.Report.{tags_text, verdict_place, verdict_tags, verdict_word, with_tag_name};
-ghost use Rattle.audit_files.specs.Report.{with_tag};
+ghost use Rattle.audit_files.specs.Report.{tags_text, verdict_place, verdict_tags, verdict_word as word_of};
+ghost use Rattle.audit_files.specs.Report.{with_tag, with_tag_name};
 
 use crate::places::push_place;
 use crate::quoting::{push_field, push_four};
@@ -14,8 +14,9 @@ use sudo_grammar::{TAG_PAIRS, Tag, TagPair};
 use sudo_match::{Tags, Verdict, What};
 use sudo_text::Seq;
 
-fn word(verdict: &Verdict) -> &'static [u8]
-    ensures { result.now ≡ verdict_word verdict.now }
+/// Returns the word for a verdict: `allow`, `deny`, `nomatch`, or `unknown-` and what is unknown.
+pub fn verdict_word(verdict: &Verdict) -> &'static [u8]
+    ensures { result.now ≡ word_of verdict.now }
 {
     match verdict {
         Verdict::Allow { .. } => b"allow",
@@ -28,8 +29,9 @@ fn word(verdict: &Verdict) -> &'static [u8]
     }
 }
 
-// Replaces the text by the place of the grant that decided.
-fn set_place(text: &mut Vec<u8>, files: &[Seq<u8>], verdict: &Verdict) -> Result<(), AllocError>
+/// Replaces the text by `PATH:LINE` of the grant that decided; by nothing unless the verdict is `allow` or `deny`. Returns
+/// `AllocError` if allocation failed.
+pub fn set_place(text: &mut Vec<u8>, files: &[Seq<u8>], verdict: &Verdict) -> Result<(), AllocError>
     ensures { OnOk result (text.new.items ≡ verdict_place files.now verdict.now) }
 {
     text.clear();
@@ -76,8 +78,8 @@ pub fn put_tags(text: &mut Vec<u8>, tags: &Tags) -> Result<(), AllocError>
     Ok(())
 }
 
-// Puts the tags of a verdict in place of the text.
-fn set_tags(text: &mut Vec<u8>, verdict: &Verdict) -> Result<(), AllocError>
+/// Replaces the text by the tags of a verdict, by nothing unless it is `allow`. Returns `AllocError` if allocation failed.
+pub fn set_tags(text: &mut Vec<u8>, verdict: &Verdict) -> Result<(), AllocError>
     ensures { OnOk result (text.new.items ≡ verdict_tags verdict.now) }
 {
     text.clear();
@@ -115,7 +117,7 @@ fn put_answer(
     push_four(
         text,
         number.format(answer.request.number).as_bytes(),
-        word(&answer.verdict),
+        verdict_word(&answer.verdict),
         scratch.place.as_slice(),
         scratch.tags.as_slice(),
     )

@@ -8,8 +8,8 @@ use crate::run_output::RunOutput;
 use audit_files::{Sink, write_all_of};
 use std::alloc::Global;
 
-// Prints a text as far as writes succeed, and returns this status.
-fn write_text<E: Sink>(text: &[u8], status: u8, err: &mut E) -> u8
+/// Prints a text as far as writes succeed, and returns this status.
+pub fn write_text<E: Sink>(text: &[u8], status: u8, err: &mut E) -> u8
     ensures { PrintsLine status text.now result (sent E.taken E.stalled_writes err.old err.new) }
 {
     let _ = write_all_of(err, text);

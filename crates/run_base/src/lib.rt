@@ -13,12 +13,12 @@ mod loading;
 mod opening;
 mod run_output;
 
-pub use ending::{end_run, report_fault};
+pub use ending::{end_run, report_fault, write_text};
 pub use fails::Fails;
 pub use fault::{OpenFault, PolicyFault};
 pub use fault_text::push_no_memory;
 pub use files::{Disk, Files, FilesFault};
 pub use lines::{begin_line, finding_lines, push, push_both, push_number};
-pub use loading::{Loaded, checked_policy, load_files, load_policy};
+pub use loading::{Loaded, checked_or_errors, checked_policy, load_files, load_policy};
 pub use opening::{Opener, SystemOpener, open};
 pub use run_output::RunOutput;

@@ -2,8 +2,9 @@
 ghost use Rattle.std.specs.Prelude.{◌≡◌, ◌<◌, ◌⊎◌, Some, IfErr, IfOk, OnOk, length, true, vec_len};
 ghost use Rattle.sudo_policy.specs.Checking.{Passes};
 ghost use Rattle.run_base.specs.Holding.{AreHeld, HoldsFile, IsHeld, IsTooLong, IsUnreadable};
-ghost use Rattle.run_base.specs.Loading.{IsChecked, IsLoaded, IsLoadedFrom, IsNoPolicy, IsNotChecked, path_of};
-ghost use Rattle.run_base.specs.Body.Loading.{IsNotCheckedOf, IsNotHanded};
+ghost use Rattle.run_base.specs.Loading.{IsChecked, IsLoaded, IsLoadedFrom, IsNoPolicy, IsNotChecked};
+ghost use Rattle.run_base.specs.Loading.{IsNotCheckedOf, path_of};
+ghost use Rattle.run_base.specs.Body.Loading.{IsNotHanded};
 
 use crate::fault::PolicyFault;
 use crate::files::{Files, FilesFault};
@@ -292,8 +293,9 @@ pub fn checked_policy<F: Files>(
     checked_or_errors(alloc, policy)
 }
 
-// Returns a policy that passes the check, or `Errors` with the lines of its errors.
-fn checked_or_errors(alloc: Global, policy: Policy) -> Result<Checked, PolicyFault>
+/// Returns the policy if it passes the check, or `Errors` with the lines of the errors that the check finds, or `Memory` if
+/// allocation failed.
+pub fn checked_or_errors(alloc: Global, policy: Policy) -> Result<Checked, PolicyFault>
     ensures same { IfOk result (λ checked. checked ≡ policy) }
     ensures passes { IfOk result (λ checked. Passes policy) }
     ensures fault { IfErr result (IsNotCheckedOf policy) }

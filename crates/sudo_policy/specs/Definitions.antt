@@ -18,6 +18,7 @@ use Rattle.sudo_grammar.specs.declared.policy.EntryBody.TheVariants.{Aliases, De
 use Rattle.sudo_grammar.specs.declared.policy.Entry.{Entry}
 use Rattle.sudo_grammar.specs.declared.policy.Policy.{Policy}
 use Rattle.sudo_grammar.specs.Kinds.{same_kind}
+use Rattle.sudo_policy.specs.declared.survey.MemberList.{MemberList as HeldList}
 use Rattle.sudo_text.specs.declared.line.Place.{Place}
 
 -- an alias definition: its kind, the place of its line, its name and its members
@@ -87,6 +88,10 @@ pub record MemberList : Type 0 where
   pub place : Place
   pub granting : Bool
   pub members : List Member
+
+-- the list that a value of the program stands for
+abbrev pub list_view : HeldList → MemberList
+list_view l = record { kind = l.kind; place = l.place; granting = l.granting; members = l.members.now }
 
 abbrev pub granting_list : Kind → Place → List Member → MemberList
 granting_list kind place members = record { kind = kind; place = place; granting = true; members = members }

@@ -3,12 +3,13 @@ ghost use Rattle.std.specs.Prelude.{◌≡◌, ◌++◌, false, length, map, fla
 ghost use Rattle.std.specs.List.{items_where_true};
 ghost use Rattle.sudo_grammar.specs.declared.policy.Policy.{Policy};
 ghost use Rattle.sudo_policy.specs.Definitions as policies;
+ghost use Rattle.sudo_policy.specs.Definitions.{list_view};
 ghost use Rattle.std.specs.Prelude.{◌∷◌, []};
 ghost use Rattle.sudo_policy.specs.Found.{AreFindings, has_error};
 ghost use Rattle.sudo_policy.specs.Found as found;
 ghost use Rattle.sudo_policy.specs.Body.Judgement.{AreAliasMarks, found_in, atom_missing, missing_in};
 ghost use Rattle.sudo_policy.specs.Body.Judgement as judgement;
-ghost use Rattle.sudo_policy.specs.Body.DefinitionRef.{alias_view, list_view, granting_row, IsSurvey, LeadsInside};
+ghost use Rattle.sudo_policy.specs.Body.DefinitionRef.{alias_view, granting_row, IsSurvey, LeadsInside};
 ghost use Rattle.sudo_policy.specs.Body.Graph.{IsInside};
 ghost use Rattle.sudo_policy.specs.Body.Positions.{IsIndex};
 ghost use Rattle.sudo_policy.specs.Resolving.{IsSound};

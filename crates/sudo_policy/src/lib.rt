@@ -29,3 +29,4 @@ pub use sudo_grammar::{
     Parameter, ParseFault, Policy, Runas, Section, Signed, TAG_PAIRS, Tag, TagPair, Unsupported,
 };
 pub use sudo_parser::{member_text, parse};
+pub use survey::{MemberList, lists};

@@ -2,9 +2,9 @@
 ghost use Rattle.std.specs.Prelude.{◌≡◌, ◌++◌, [], ◌∷◌, List, All, map, flat_map, filter, is_some, IfOk, OnOk, Some, slice_get};
 ghost use Rattle.sudo_grammar.specs.declared.policy.Policy.{Policy};
 ghost use Rattle.sudo_policy.specs.Definitions.{AliasDefinition, definitions, definitions_of, definitions_of_list};
-ghost use Rattle.sudo_policy.specs.Definitions.{lists, lists_of_body, lists_of_list, binding_lists_of, section_lists};
+ghost use Rattle.sudo_policy.specs.Definitions.{list_view, lists, lists_of_body, lists_of_list, binding_lists_of, section_lists};
 ghost use Rattle.sudo_policy.specs.Definitions.{command_lists, runas_lists, option_lists, granting_list};
-ghost use Rattle.sudo_policy.specs.Body.DefinitionRef.{alias_view, list_view, link_of, row_of, row_of_alias};
+ghost use Rattle.sudo_policy.specs.Body.DefinitionRef.{alias_view, link_of, row_of, row_of_alias};
 ghost use Rattle.sudo_policy.specs.Body.DefinitionRef.{granting_row, IsSurvey, IsAtItsPosition, StandAt};
 
 use crate::index::{Index, Position};
@@ -28,11 +28,11 @@ pub(crate) struct DefinitionRef<'a> {
 /// A list of members: the kind of its members, the place of its line, and whether it belongs to a rule or to a bound
 /// `Defaults` line.
 #[derive(Clone, Copy)]
-pub(crate) struct MemberList<'a> {
-    pub(crate) kind: Kind,
-    pub(crate) place: Place,
-    pub(crate) granting: bool,
-    pub(crate) members: &'a [Member],
+pub struct MemberList<'a> {
+    pub kind: Kind,
+    pub place: Place,
+    pub granting: bool,
+    pub members: &'a [Member],
 }
 
 // Returns every definition of the policy, in order.
@@ -97,8 +97,8 @@ fn push_definitions<'a>(
     Ok(())
 }
 
-/// Returns every list of the policy, in order.
-pub(crate) fn lists(alloc: Global, policy: &Policy) -> Result<Vec<MemberList<'_>>, AllocError>
+/// Returns every list of the policy, in the order of its lines. Returns `AllocError` only if allocation failed.
+pub fn lists(alloc: Global, policy: &Policy) -> Result<Vec<MemberList<'_>>, AllocError>
     ensures { IfOk result (λ all. map list_view all.items ≡ lists policy.now) }
 {
     let mut all = Vec::new(alloc);

@@ -1,5 +1,5 @@
 -- The output of `audit`. Only proofs of bodies use these.
-use Rattle.std.specs.Prelude.{◌≡◌, ⊤, ℕ, List, Option, Some, Ok, Err}
+use Rattle.std.specs.Prelude.{◌≡◌, ⊤, ℕ, List, Option, Some, Result, Ok, Err}
 use Rattle.audit_collect.specs.declared.report.Report.{Report}
 use Rattle.audit_files.specs.Feeding.{Ahead}
 use Rattle.audit_files.specs.Report.{report_text}
@@ -11,11 +11,10 @@ use Rattle.audit_commands.specs.declared.fault.ReportFault.{ReportFault}
 use Rattle.audit_commands.specs.declared.fault.ReportFault.TheVariants as reports
 use Rattle.audit_commands.specs.Auditing.{Answers}
 
--- the text of the report of an audit under a policy and a directory
-pub record IsReported (policy : Policy) (directory : KnownRows) (sources : List (List ℕ))
-    (readable_bytes : List (Option Ahead)) (workers : ℕ) (text : List ℕ) (status : ℕ) : Type 0 where
+-- the output for a report under a policy: its text, with status 0
+pub record IsPrintedReport (policy : Policy) (answered : Result Report ReportFault) (text : List ℕ) (status : ℕ) : Type 0 where
   pub report : Report
-  pub answers : Answers policy directory sources readable_bytes workers (Ok report)
+  pub is_report : answered ≡ Ok report
   pub text_is : text ≡ report_text policy.files report
   pub status_is : status ≡ 0
 

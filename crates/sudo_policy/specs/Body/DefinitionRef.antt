@@ -8,7 +8,6 @@ use Rattle.sudo_grammar.specs.declared.kind.Member.{Member}
 use Rattle.sudo_grammar.specs.declared.policy.Definition.{Definition}
 use Rattle.sudo_grammar.specs.declared.policy.Policy.{Policy}
 use Rattle.sudo_policy.specs.declared.survey.DefinitionRef.{DefinitionRef}
-use Rattle.sudo_policy.specs.declared.survey.MemberList.{MemberList as HeldList}
 use Rattle.sudo_policy.specs.declared.survey.Survey.{Survey}
 use Rattle.sudo_policy.specs.Definitions.{AliasDefinition, MemberList, defines, definitions_in_force, redefinitions, alias_named}
 use Rattle.sudo_policy.specs.Positions.{members_at}
@@ -18,9 +17,6 @@ use Rattle.sudo_base.specs.NameIndices.{index_of}
 -- the definition, without its position
 abbrev pub alias_view : DefinitionRef → AliasDefinition
 alias_view n = record { kind = n.kind; place = n.place; name = n.name.now; members = n.members.now }
-
-abbrev pub list_view : HeldList → MemberList
-list_view l = record { kind = l.kind; place = l.place; granting = l.granting; members = l.members.now }
 
 -- the number of the alias that a member names, among the names of its kind
 abbrev pub link_among : List (List ℕ × ℕ) → Member → Option ℕ

@@ -1,10 +1,9 @@
-use Rattle.std.proofs.Common.{◌∙◌, ap, map, rules}
-use Rattle.audit_commands.proofs.AuditSteps.{a_text, answered, named_if_other, unreported_is}
+use Rattle.std.proofs.Common.{◌∙◌, ap, map}
+use Rattle.audit_commands.proofs.AuditSteps.{answered, named_if_other, unreported_is}
 use Rattle.audit_commands.proofs.audit.report_under.Goals as goal
 
 pub returns-in-Ok-clause-report : goal.returns-in-Ok-clause-report
-returns-in-Ok-clause-report g c = a_text _ _ _ _ _ _ _ c.in-Ok.report _ c.in-Ok.ensures.outcome
-    (search (rules, c.in_ok-text-in-Ok.ensures))
+returns-in-Ok-clause-report g c = answered _ _ _ _ _ _ _ _ c.in-Ok.ensures.outcome
 
 pub unreported-requires : goal.unreported-requires
 unreported-requires g c = named_if_other c.args.policy.now c.args.directory.now _ (map (λ s. s.name) c.args.sources.items)

@@ -1,8 +1,7 @@
 use Rattle.std.proofs.Common.{◌≡◌, ◌++◌, drop}
 use Rattle.std.specs.Prelude.{flat_map}
-use Rattle.sudo_policy.specs.Definitions.{alias_named}
+use Rattle.sudo_policy.specs.Definitions.{alias_named, list_view}
 use Rattle.sudo_policy.specs.Body.Judgement.{atom_missing, missing_in}
-use Rattle.sudo_policy.specs.Body.DefinitionRef.{list_view}
 use Rattle.sudo_policy.proofs.examination.push_uses.Given as goal
 
 abbrev pub invariant-loop-member : goal.invariant-loop-member

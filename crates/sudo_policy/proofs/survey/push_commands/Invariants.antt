@@ -1,7 +1,6 @@
 use Rattle.std.proofs.Common.{◌≡◌, ◌++◌, map, drop}
 use Rattle.std.specs.Prelude.{flat_map}
-use Rattle.sudo_policy.specs.Definitions.{command_lists}
-use Rattle.sudo_policy.specs.Body.DefinitionRef.{list_view}
+use Rattle.sudo_policy.specs.Definitions.{command_lists, list_view}
 use Rattle.sudo_policy.proofs.survey.push_commands.Given as goal
 
 abbrev pub invariant-loop-command : goal.invariant-loop-command

@@ -1,6 +1,5 @@
 use Rattle.std.proofs.Common.{◌≡◌, ◌++◌, map, drop}
-use Rattle.sudo_policy.specs.Definitions.{lists_of_list}
-use Rattle.sudo_policy.specs.Body.DefinitionRef.{list_view}
+use Rattle.sudo_policy.specs.Definitions.{lists_of_list, list_view}
 use Rattle.sudo_policy.proofs.survey.push_defined.Given as goal
 
 abbrev pub invariant-loop-definition : goal.invariant-loop-definition

@@ -2,7 +2,7 @@ use Rattle.std.proofs.Common.{◌≡◌, map, rules}
 use Rattle.audit_commands.specs.declared.fault.DirectoryFault.TheVariants as directories
 use Rattle.audit_commands.specs.Auditing.{Given, given_by}
 use Rattle.audit_commands.proofs.AuditSteps.{reported_of, unreported_of}
-use Rattle.audit_commands.proofs.audit.audited.Goals as goal
+use Rattle.audit_commands.proofs.audit.answer_requests.Goals as goal
 
 pub returns-in-Ok-clause-report : goal.returns-in-Ok-clause-report
 returns-in-Ok-clause-report g c = λ held path is.
