@@ -1,4 +1,3 @@
-pub mod RowLemmas
 pub mod Refusals
 pub mod Subcommands
 pub mod SenderLemmas

@@ -1,13 +1,11 @@
 -- Words that ask for no command.
-use Rattle.std.proofs.Common.{◌≡◌, ◌≤◌, ◌∙◌, ℕ, get_or, arith, List, Option, Some, None, Ok, codes, sym, ap}
+use Rattle.std.proofs.Common.{◌≡◌, ◌∙◌, get_or, arith, List, Option, Some, None, codes, sym, ap}
 use Rattle.std.specs.Prelude.{◌≢◌}
-use Rattle.std.specs.Str.Parse.{ParsesUnsigned}
-use Rattle.std.specs.declared.num.ParseIntError.{ParseIntError}
-use Rattle.clap.specs.Words.{ReadsOne, Row, Text, first_of, one_of}
+use Rattle.clap.specs.Words.{Row, Text, first_of}
 use Rattle.sudo_grammar.specs.declared.kind.Kind.{Kind}
 use Rattle.audit_commands.specs.declared.request.Asked.TheVariants.{Check, Expand, Audit}
 use Rattle.audit_commands.specs.Words.{AsksNothing, kind_word}
-use Rattle.audit_commands.specs.Body.Words.{HasNoWorkers}
+use Rattle.run_base.specs.Arguments.{HasNoWorkers}
 
 expand_is_check : codes "expand" ≡ codes "check" → ⊥
 expand_is_check e = absurd cc
@@ -74,18 +72,3 @@ pub audit_without_workers : (rows : List Row) → HasNoWorkers rows → AsksNoth
 audit_without_workers rows none (Check file) stated fit = audit_is_check stated.0
 audit_without_workers rows none (Expand file kind alias) stated fit = expand_is_audit (sym stated.0)
 audit_without_workers rows none (Audit file users hosts workers senders) stated fit = none workers stated.4 fit.0 fit.1
-
--- ---- The number of workers
-
--- a text gives one number
-same_number : (text : Text) (n : ℕ) (read : Option ℕ)
-    → ParsesUnsigned {E = ParseIntError} 32 10 text (Ok n)
-    → ReadsOne {T = ℕ} {E = ParseIntError} (ParsesUnsigned 32 10) text read → read ≡ Some n
-same_number text n (Some count) is reads = ap Some (reads.1 ∙ sym is.1)
-same_number text n None is (e, not) = absurd (not is.0)
-
-pub no_workers : (rows : List Row) (o : Option Text) (read : Option ℕ) → one_of (codes "workers") rows ≡ o
-    → (o ≡ None → read ≡ None) → ((text : Text) → o ≡ Some text → ReadsOne {E = ParseIntError} (ParsesUnsigned 32 10) text read)
-    → ((n : ℕ) → read ≡ Some n → 1 ≤ n → n ≤ 16 → ⊥) → HasNoWorkers rows
-no_workers rows o read is none reads bad n number low high =
-    bad n (same_number number.0 n read number.2 (reads number.0 (sym is ∙ number.1))) low high

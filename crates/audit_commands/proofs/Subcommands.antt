@@ -8,7 +8,8 @@ use Rattle.clap.specs.declared.error.ErrorKind.TheVariants.{OutOfMemory}
 use Rattle.clap.specs.declared.parser.matches.ArgMatches.TheViews.{out-SubCommand}
 use Rattle.clap.specs.declared.parser.matches.SubCommand.{SubCommand}
 use Rattle.sudo_base.proofs.Options.{none_some}
-use Rattle.audit_commands.specs.Words.{AsksNothing, HoldsCommand, IsErrorOfWords, IsUnaskedKind, program_app}
+use Rattle.audit_commands.specs.Words.{AsksNothing, HoldsCommand, IsErrorOfWords, program_app}
+use Rattle.run_base.specs.Arguments.{IsUnaskedKind}
 use Rattle.audit_commands.specs.declared.request.Asked.{Asked}
 use Rattle.audit_commands.specs.declared.words.Unasked.{Unasked}
 use Rattle.audit_commands.specs.declared.words.Unasked.TheVariants.{Missing, BadKind, Memory}

@@ -2,4 +2,3 @@
 pub mod Auditing
 pub mod Expanding
 pub mod Opening
-pub mod Words

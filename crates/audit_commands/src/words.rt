@@ -1,17 +1,17 @@
 //! The words of the command line.
-ghost use Rattle.std.specs.Prelude.{◌≡◌, ◌≢◌, ◌≤◌, [], None, Some, IfErr, IfOk, IfSome, List, codes, map, option_map};
-ghost use Rattle.std.specs.Prelude.{unwrap_or};
-ghost use Rattle.clap.specs.Words.{Row, Text, all_of, app_of, first_of, found_of, kind_of as error_kind, rows_of};
+ghost use Rattle.std.specs.Prelude.{◌≡◌, ◌≢◌, None, Some, IfErr, IfOk, IfSome, List, codes, map};
+ghost use Rattle.clap.specs.Words.{Row, Text, app_of, found_of, kind_of as error_kind, rows_of};
 ghost use Rattle.clap.specs.Words.{subcommand_of, subcommand_rows_of};
-ghost use Rattle.audit_commands.specs.Words.{AsksNothing, IsNumberIn, IsErrorOfWords, IsUnaskedKind};
-ghost use Rattle.audit_commands.specs.Body.Words.{HasNoWorkers};
-ghost use Rattle.audit_commands.specs.Words.{IsUnreadableWord, HoldsCommand};
+ghost use Rattle.run_base.specs.Arguments.{IsUnaskedKind, IsUnreadableWord};
+ghost use Rattle.audit_commands.specs.Words.{AsksNothing, IsErrorOfWords};
+ghost use Rattle.audit_commands.specs.Words.{HoldsCommand};
 ghost use Rattle.audit_commands.specs.Words.{WorkersFit, kind_word, program_app};
 
 use crate::command_line::program;
 use crate::request::Asked;
 use clap::error::ErrorKind;
 use clap::{ArgMatches, Command, Error};
+use run_base::{value, values, workers};
 use std::alloc::{AllocError, Global};
 use std::convert::AsStr;
 use std::io::ErrorKind as ReadKind;
@@ -56,39 +56,6 @@ impl From<AllocError> for Unasked {
 
     fn from(_: AllocError) -> Unasked {
         Unasked::Memory
-    }
-}
-
-// Returns the value of a required argument, or `None` if it has none.
-#[tactic(auto, using(crate::proofs::RowLemmas::row_lemmas))]
-fn value<'a>(given: &ArgMatches<'a>, id: &str) -> Option<&'a str>
-    ensures { option_map (λ s. s.now) result ≡ first_of id.now (rows_of (found_of given.now)) }
-{
-    given.get_str(id)
-}
-
-// Returns the values of an argument, possibly none.
-#[tactic(auto, using(crate::proofs::RowLemmas::row_lemmas))]
-fn values<'a>(alloc: Global, given: &ArgMatches<'a>, id: &str) -> Result<Vec<&'a str>, AllocError>
-    ensures { IfOk result (λ v. unwrap_or (all_of id.now (rows_of (found_of given.now))) []
-        ≡ map (λ s. s.now) v.items) }
-{
-    match given.get_strs(id) {
-        Some(words) => Vec::from_slice(alloc, words),
-        None => Ok(Vec::new(alloc)),
-    }
-}
-
-// Returns the number of workers, or `None` if it is none from 1 to 16.
-#[tactic(auto, using(crate::proofs::RowLemmas::row_lemmas))]
-fn workers(given: &ArgMatches<'_>) -> Option<u32>
-    ensures few { IfSome result (λ n. (1 ≤ n) × (n ≤ 16)) }
-    ensures read { IfSome result (λ n. IsNumberIn n (rows_of (found_of given.now))) }
-    ensures none { result ≡ None → HasNoWorkers (rows_of (found_of given.now)) }
-{
-    match given.get_one::<u32>("workers") {
-        Some(count) if 1 <= count && count <= 16 => Some(count),
-        _ => None,
     }
 }
 

@@ -1,3 +1,5 @@
 pub mod HeldSupplies
 pub mod EndingLemmas
 pub mod Steps
+pub mod RowLemmas
+pub mod NumberLemmas

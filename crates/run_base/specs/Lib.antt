@@ -6,4 +6,5 @@ pub mod Faults
 pub mod Endings
 pub mod Loading
 pub mod Opening
+pub mod Arguments
 pub mod Body

@@ -1,7 +1,8 @@
 //! What the programs over a policy share: its files and their loading, the opening of further files, lines, faults and
-//! their texts, and the end of a run.
+//! their texts, the arguments of command lines, and the end of a run.
 #![tactic(auto)]
 
+mod arguments;
 mod ending;
 mod fails;
 mod failures;
@@ -12,7 +13,9 @@ mod lines;
 mod loading;
 mod opening;
 mod run_output;
+mod values;
 
+pub use arguments::{file, path_option, senders_words, with_subcommand, word, workers_option};
 pub use ending::{end_run, report_fault, write_text};
 pub use fails::Fails;
 pub use fault::{OpenFault, PolicyFault};
@@ -22,3 +25,4 @@ pub use lines::{begin_line, finding_lines, push, push_both, push_number};
 pub use loading::{Loaded, checked_or_errors, checked_policy, load_files, load_policy};
 pub use opening::{Opener, SystemOpener, open};
 pub use run_output::RunOutput;
+pub use values::{value, values, workers};

@@ -3,8 +3,8 @@ use Rattle.clap.specs.Matches.{one_text, found_of}
 use Rattle.clap.specs.declared.parser.matches.Found.{Found}
 use Rattle.clap.proofs.WalkLemmas.{one_text-rows}
 use Rattle.clap.specs.Words.{Text, rows_of}
-use Rattle.audit_commands.specs.Words.{IsNumberIn}
-use Rattle.audit_commands.proofs.words.workers.Goals as goal
+use Rattle.run_base.specs.Arguments.{IsNumberIn}
+use Rattle.run_base.proofs.values.workers.Goals as goal
 
 pub returns-in-Some-clause-read : goal.returns-in-Some-clause-read
 returns-in-Some-clause-read c = by (one_text found (codes "workers")) refl
