@@ -5,8 +5,8 @@ use Rattle.sudo_grammar.specs.declared.policy.Policy.{Policy}
 use Rattle.sudo_load.specs.declared.fault.LoadFault.TheVariants as load_faults
 use Rattle.sudo_load.specs.declared.fault.Want.{Want}
 use Rattle.run_base.specs.Holding.{Holdings}
-use Rattle.run_base.specs.Loading.{EndsIn, IsLoaded, IsNoPolicy, IsNotChecked, IsNotCheckedOf}
-use Rattle.run_base.specs.Body.Loading.{IsNotHanded}
+use Rattle.run_base.specs.Loading.{EndsIn, IsLoaded, IsNoPolicy, IsNotChecked}
+use Rattle.run_base.specs.Body.Loading.{IsNotCheckedOf, IsNotHanded}
 use Rattle.run_base.specs.declared.fault.PolicyFault.{PolicyFault}
 use Rattle.run_base.specs.declared.fault.PolicyFault.TheVariants as faults
 

@@ -103,15 +103,6 @@ AreErrorsOf policy lines = (found : List Finding) × FailsCheck policy found × 
 abbrev pub AreErrors : Option Holdings → List ℕ → List ℕ → Type 0
 AreErrors held path lines = (policy : Policy) × IsLoaded held path policy × AreErrorsOf policy lines
 
--- why a loaded policy does not pass the check
-abbrev pub IsNotCheckedOf : Policy → PolicyFault → Type 0
-IsNotCheckedOf policy (faults.Errors lines) = AreErrorsOf policy lines.items
-IsNotCheckedOf policy faults.Memory = ⊤
-IsNotCheckedOf policy (faults.Refused files fault) = ⊥
-IsNotCheckedOf policy (faults.CannotRead unread) = ⊥
-IsNotCheckedOf policy (faults.TooLong long) = ⊥
-IsNotCheckedOf policy faults.TooManyFiles = ⊥
-
 -- why no policy passes the check: there is no policy, or it has errors
 abbrev pub IsNotChecked : Option Holdings → List ℕ → PolicyFault → Type 0
 IsNotChecked held path (faults.Refused files fault) = IsNoPolicy held path (faults.Refused files fault)

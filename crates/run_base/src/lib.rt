@@ -22,7 +22,7 @@ pub use fault::{OpenFault, PolicyFault};
 pub use fault_text::push_no_memory;
 pub use files::{Disk, Files, FilesFault};
 pub use lines::{begin_line, finding_lines, push, push_both, push_number};
-pub use loading::{Loaded, checked_or_errors, checked_policy, load_files, load_policy};
+pub use loading::{CheckedFiles, Loaded, checked_files, checked_policy, load_files, load_policy};
 pub use opening::{Opener, SystemOpener, open};
 pub use run_output::RunOutput;
 pub use values::{value, values, workers};

@@ -2,9 +2,8 @@
 ghost use Rattle.std.specs.Prelude.{◌≡◌, ◌<◌, ◌⊎◌, Some, IfErr, IfOk, OnOk, length, true, vec_len};
 ghost use Rattle.sudo_policy.specs.Checking.{Passes};
 ghost use Rattle.run_base.specs.Holding.{AreHeld, HoldsFile, IsHeld, IsTooLong, IsUnreadable};
-ghost use Rattle.run_base.specs.Loading.{IsChecked, IsLoaded, IsLoadedFrom, IsNoPolicy, IsNotChecked};
-ghost use Rattle.run_base.specs.Loading.{IsNotCheckedOf, path_of};
-ghost use Rattle.run_base.specs.Body.Loading.{IsNotHanded};
+ghost use Rattle.run_base.specs.Loading.{IsChecked, IsLoaded, IsLoadedFrom, IsNoPolicy, IsNotChecked, path_of};
+ghost use Rattle.run_base.specs.Body.Loading.{IsNotCheckedOf, IsNotHanded};
 
 use crate::fault::PolicyFault;
 use crate::files::{Files, FilesFault};
@@ -293,9 +292,44 @@ pub fn checked_policy<F: Files>(
     checked_or_errors(alloc, policy)
 }
 
-/// Returns the policy if it passes the check, or `Errors` with the lines of the errors that the check finds, or `Memory` if
-/// allocation failed.
-pub fn checked_or_errors(alloc: Global, policy: Policy) -> Result<Checked, PolicyFault>
+/// A policy that passes the check, and what it was read from: the text of its main file, and the files and folders that
+/// were read for it.
+#[derive(Drop)]
+pub struct CheckedFiles {
+    pub text: Seq<u8>,
+    pub supplies: Seq<Supply>,
+    pub policy: Checked,
+}
+
+/// Returns the policy of a file and of all that it includes, if it passes the check, with what was read. Returns the faults of
+/// `checked_policy`.
+pub fn checked_files<F: Files>(
+    alloc: Global,
+    path: &[u8],
+    files: &mut F,
+) -> Result<CheckedFiles, PolicyFault>
+    ensures loaded { IfOk result (λ checked. IsLoadedFrom (F.held files.old) path.now
+        checked.text checked.supplies checked.policy) }
+    ensures passes { IfOk result (λ checked. Passes checked.policy) }
+    ensures fault { IfErr result (IsNotChecked (F.held files.old) path.now) }
+{
+    let Loaded {
+        text,
+        supplies,
+        policy,
+    } = load_files(alloc, path, files)?;
+    match checked_or_errors(alloc, policy) {
+        Ok(policy) => Ok(CheckedFiles {
+            text,
+            supplies,
+            policy,
+        }),
+        Err(fault) => Err(fault),
+    }
+}
+
+// Returns a policy that passes the check, or `Errors` with the lines of its errors.
+fn checked_or_errors(alloc: Global, policy: Policy) -> Result<Checked, PolicyFault>
     ensures same { IfOk result (λ checked. checked ≡ policy) }
     ensures passes { IfOk result (λ checked. Passes policy) }
     ensures fault { IfErr result (IsNotCheckedOf policy) }

@@ -1,10 +1,20 @@
 -- The policy of a run. Only proofs of bodies use these.
-use Rattle.std.specs.Prelude.{◌≡◌, ◌⊎◌, Option}
+use Rattle.std.specs.Prelude.{◌≡◌, ◌⊎◌, ⊤, Option}
+use Rattle.sudo_grammar.specs.declared.policy.Policy.{Policy}
 use Rattle.sudo_load.specs.declared.fault.Want.{Want}
 use Rattle.run_base.specs.Holding.{Holdings, IsTooLong, IsUnreadable}
 use Rattle.run_base.specs.declared.fault.PolicyFault.{PolicyFault}
 use Rattle.run_base.specs.declared.fault.PolicyFault.TheVariants as faults
-use Rattle.run_base.specs.Loading.{path_of}
+use Rattle.run_base.specs.Loading.{path_of, AreErrorsOf}
+
+-- why a loaded policy does not pass the check
+abbrev pub IsNotCheckedOf : Policy → PolicyFault → Type 0
+IsNotCheckedOf policy (faults.Errors lines) = AreErrorsOf policy lines.items
+IsNotCheckedOf policy faults.Memory = ⊤
+IsNotCheckedOf policy (faults.Refused files fault) = ⊥
+IsNotCheckedOf policy (faults.CannotRead unread) = ⊥
+IsNotCheckedOf policy (faults.TooLong long) = ⊥
+IsNotCheckedOf policy faults.TooManyFiles = ⊥
 
 -- why what is needed is not handed in: memory failed, reading it fails, or it is too long
 abbrev pub IsNotHanded : Option Holdings → Want → PolicyFault → Type 0

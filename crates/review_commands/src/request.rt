@@ -1,0 +1,19 @@
+//! The commands that the command line can ask for.
+
+/// A command that the command line asks for, with its texts as given.
+#[derive(Debug, Drop)]
+pub enum Asked<'a> {
+    /// `cautions FILE`: lists what sudo reads or judges otherwise.
+    Cautions {
+        file: &'a str,
+    },
+    /// `report FILE --users F --hosts F [--workers N] [NAME=PATH]...`: answers requests, each beside its answer.
+    Report {
+        file: &'a str,
+        users: &'a str,
+        hosts: &'a str,
+        workers: u32,
+        /// The words `NAME=PATH`, as given.
+        senders: Vec<&'a str>,
+    },
+}
