@@ -28,7 +28,7 @@ is_readable file text = nat_lt file (2 ^ 32) && nat_le (length text) text_limit
 -- the cautions of the class on the physical lines of a file
 abbrev pub file_cautions : CautionClass → ℕ → List ℕ → List Caution
 file_cautions class file text = if is_readable file text
-    then map (λ number. caution_at class (place file number)) (numbers_of class false false 1 (cut text)) else []
+    then map (λ number. caution_at class (place file number)) (numbers_of class false 1 (cut text)) else []
 
 -- the cautions of the class on the files of a policy, the main file first
 abbrev pub text_cautions : CautionClass → List (List ℕ) → List Caution

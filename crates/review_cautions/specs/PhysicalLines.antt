@@ -5,7 +5,6 @@ use Rattle.std.specs.Prelude.{reverse, length, take, slice_index, codes, ◌+◌
 use Rattle.std.specs.List.{take_while}
 use Rattle.std.specs.Str.{bytes_eq}
 use Rattle.sudo_text.specs.Bytes.{is_blank}
-use Rattle.sudo_text.specs.Tokens.{closes, takes_next}
 use Rattle.sudo_text.specs.Lines.{without_return, without_indent, without_escape, is_comment, ends_in_escape, is_continued}
 use Rattle.review_cautions.specs.declared.class.CautionClass.{CautionClass}
 use Rattle.review_cautions.specs.declared.class.CautionClass.TheVariants.{Return, BlankAfterBackslash, Join, TornMark, Caret, Case, Linked, Defaults}
@@ -39,6 +38,11 @@ ends_in_word line =
 abbrev pub begins_in_word : List ℕ → Bool
 begins_in_word line = nat_lt 0 (length line) && not (parts_words (slice_index line 0))
 
+-- the line ends in a word, goes on in the next one, and that one begins in a word; between double quotes sudo joins
+-- lines as the reader does, and the line is taken for one that tears a word all the same
+abbrev pub tears_word : List ℕ → List ℕ → Bool
+tears_word line next = ends_in_escape line && (ends_in_word (without_escape line) && begins_in_word next)
+
 -- the word `Defaults` alone, or with the mark of a list to which the line is bound
 abbrev pub is_keyword : List ℕ → Bool
 is_keyword line =
@@ -53,47 +57,33 @@ tears_tag line next = nat_le 65 (last_byte line) && nat_le (last_byte line) 90 &
 abbrev pub tears_bangs : List ℕ → List ℕ → Bool
 tears_bangs line next = (last_byte line == 33) && (slice_index next 0 == 33)
 
--- a line, which goes on in the next one, ends within a mark that sudo wants on one line
+-- the line goes on in the next one within a mark that sudo wants on one line
 abbrev pub tears_mark : List ℕ → List ℕ → Bool
-tears_mark line next = is_keyword line || tears_tag line next || tears_bangs line next
-
--- a double quote is open behind a byte; `quoted`: one is open before it
-abbrev pub quoted_after : Bool → Bool → ℕ → Bool
-quoted_after quoted escaped b = if closes escaped b then not quoted else quoted
-
--- a double quote is open behind the text; `quoted`: one is open before it; `escaped`: its first byte is escaped
-abbrev pub leaves_quote : Bool → Bool → List ℕ → Bool
-leaves_quote quoted escaped [] = quoted
-leaves_quote quoted escaped (b ∷ bs) = leaves_quote (quoted_after quoted escaped b) (takes_next escaped b) bs
+tears_mark line next = ends_in_escape line
+    && (is_keyword (without_escape line) || tears_tag (without_escape line) next || tears_bangs (without_escape line) next)
 
 -- a line as the reader joins it: without a carriage return at its end and blanks at its front
 abbrev pub stripped : List ℕ → List ℕ
 stripped line = without_indent (without_return line)
 
--- the line, as the reader joins it, goes on in another one outside double quotes
-abbrev pub is_joined : Bool → List ℕ → Bool
-is_joined quoted line = ends_in_escape line && not (leaves_quote quoted false line)
-
--- the line has the construct of the class; `quoted`: it begins between double quotes; `next`: the line after it
-abbrev pub line_holds : CautionClass → Bool → List ℕ → List ℕ → Bool
-line_holds Return quoted line next = ends_in_return line
-line_holds BlankAfterBackslash quoted line next = ends_in_escaped_blanks (without_return line)
-line_holds Join quoted line next = is_joined quoted (stripped line)
-    && (ends_in_word (without_escape (stripped line)) && begins_in_word (stripped next))
-line_holds TornMark quoted line next =
-    is_joined quoted (stripped line) && tears_mark (without_escape (stripped line)) (stripped next)
-line_holds Caret quoted line next = false
-line_holds Case quoted line next = false
-line_holds Linked quoted line next = false
-line_holds Defaults quoted line next = false
+-- the line has the construct of the class; `next`: the line after it
+abbrev pub line_holds : CautionClass → List ℕ → List ℕ → Bool
+line_holds Return line next = ends_in_return line
+line_holds BlankAfterBackslash line next = ends_in_escaped_blanks (without_return line)
+line_holds Join line next = tears_word (stripped line) (stripped next)
+line_holds TornMark line next = tears_mark (stripped line) (stripped next)
+line_holds Caret line next = false
+line_holds Case line next = false
+line_holds Linked line next = false
+line_holds Defaults line next = false
 
 -- the line is a comment; a line that continues another is none
 abbrev pub is_remark : Bool → List ℕ → Bool
 is_remark continuing line = not continuing && is_comment (stripped line)
 
 -- the line has the construct of the class and is no comment; `continuing`: it continues another
-abbrev pub is_marked : CautionClass → Bool → Bool → List ℕ → List ℕ → Bool
-is_marked class continuing quoted line next = not (is_remark continuing line) && line_holds class quoted line next
+abbrev pub is_marked : CautionClass → Bool → List ℕ → List ℕ → Bool
+is_marked class continuing line next = not (is_remark continuing line) && line_holds class line next
 
 -- the first of the lines, and an empty one if there is none
 abbrev pub first_line : List (List ℕ) → List ℕ
@@ -101,10 +91,9 @@ first_line [] = []
 first_line (line ∷ rest) = line
 
 -- the numbers of the lines that have the construct of the class, if the first line has this number; `continuing`: it
--- continues another; `quoted`: it begins between double quotes
-abbrev pub numbers_of : CautionClass → Bool → Bool → ℕ → List (List ℕ) → List ℕ
-numbers_of class continuing quoted number [] = []
-numbers_of class continuing quoted number (line ∷ rest) =
-    (if is_marked class continuing quoted line (first_line rest) then number ∷ [] else [])
-    ++ numbers_of class (is_continued continuing (stripped line))
-    (is_continued continuing (stripped line) && leaves_quote quoted false (stripped line)) (number + 1) rest
+-- continues another
+abbrev pub numbers_of : CautionClass → Bool → ℕ → List (List ℕ) → List ℕ
+numbers_of class continuing number [] = []
+numbers_of class continuing number (line ∷ rest) =
+    (if is_marked class continuing line (first_line rest) then number ∷ [] else [])
+    ++ numbers_of class (is_continued continuing (stripped line)) (number + 1) rest

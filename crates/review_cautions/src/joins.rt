@@ -1,6 +1,6 @@
 //! What the join of a physical line to the next one tears apart. Lines are given as the reader joins them: without a
 //! carriage return at their ends and blanks at their fronts.
-ghost use Rattle.std.specs.Prelude.{◌≡◌, ◌&&◌, bytes_eq, false, length, slice_index, ◌-◌};
+ghost use Rattle.std.specs.Prelude.{◌≡◌, ◌||◌, bytes_eq};
 ghost use Rattle.sudo_text.specs.Lines.{without_escape as without_escape_of};
 ghost use Rattle.review_cautions.specs.PhysicalLines as spec;
 
@@ -87,54 +87,24 @@ fn tears_bangs(line: &[u8], next: &[u8]) -> bool
     last_byte(line) == b'!' && peek(next, 0) == b'!'
 }
 
-// Whether a double quote is open behind a byte; `quoted` says that one is open before it, `escaped` that the byte is
-// escaped.
-fn quoted_after(quoted: bool, escaped: bool, byte: u8) -> bool
-    ensures { result ≡ spec.quoted_after quoted escaped byte }
-{
-    if !escaped && byte == b'"' {
-        !quoted
-    } else {
-        quoted
-    }
-}
-
-/// Whether a double quote is open behind a line; `quoted` says that one is open before it.
-pub(crate) fn leaves_quote(quoted: bool, line: &[u8]) -> bool
-    ensures { result ≡ spec.leaves_quote quoted false line.now }
-{
-    let mut open = quoted;
-    let mut escaped = false;
-    for byte in line {
-        open = quoted_after(open, escaped, *byte);
-        escaped = !escaped && *byte == b'\\';
-    }
-    open
-}
-
-// Whether a line goes on in the next one, outside double quotes.
-fn is_joined(quoted: bool, line: &[u8]) -> bool
-    ensures { result ≡ spec.is_joined quoted line.now }
-{
-    ends_in_escape(line) && !leaves_quote(quoted, line)
-}
-
 /// Whether a line is joined to the next one inside a word.
-pub(crate) fn tears_word(quoted: bool, line: &[u8], next: &[u8]) -> bool
-    ensures { result ≡ (spec.is_joined quoted line.now
-        && (spec.ends_in_word (without_escape_of line.now) && spec.begins_in_word next.now)) }
+pub(crate) fn tears_word(line: &[u8], next: &[u8]) -> bool
+    ensures { result ≡ spec.tears_word line.now next.now }
 {
-    is_joined(quoted, line) && (ends_in_word(without_escape(line)) && begins_in_word(next))
+    ends_in_escape(line) && (ends_in_word(without_escape(line)) && begins_in_word(next))
+}
+
+// Whether a line, whose backslash at the end is left out, ends within a mark that the next line ends.
+fn ends_in_mark(line: &[u8], next: &[u8]) -> bool
+    ensures { result ≡ (spec.is_keyword line.now || spec.tears_tag line.now next.now
+        || spec.tears_bangs line.now next.now) }
+{
+    is_keyword(line) || tears_tag(line, next) || tears_bangs(line, next)
 }
 
 /// Whether a line is joined to the next one within a mark that sudo wants on one line.
-pub(crate) fn tears_mark(quoted: bool, line: &[u8], next: &[u8]) -> bool
-    ensures { result ≡ (spec.is_joined quoted line.now
-        && spec.tears_mark (without_escape_of line.now) next.now) }
+pub(crate) fn tears_mark(line: &[u8], next: &[u8]) -> bool
+    ensures { result ≡ spec.tears_mark line.now next.now }
 {
-    if !is_joined(quoted, line) {
-        return false;
-    }
-    let line = without_escape(line);
-    is_keyword(line) || tears_tag(line, next) || tears_bangs(line, next)
+    ends_in_escape(line) && ends_in_mark(without_escape(line), next)
 }

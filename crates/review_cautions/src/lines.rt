@@ -1,5 +1,5 @@
 //! Cautions on physical lines.
-ghost use Rattle.std.specs.Prelude.{◌≡◌, ◌++◌, ◌≤◌, ◌∷◌, [], length, map, OnOk, false, if◌then◌else◌, ◌&&◌};
+ghost use Rattle.std.specs.Prelude.{◌≡◌, ◌++◌, ◌≤◌, ◌∷◌, [], length, map, OnOk, false, if◌then◌else◌};
 ghost use Rattle.sudo_text.specs.Lines as text;
 ghost use Rattle.sudo_text.specs.Lines.{cut, place};
 ghost use Rattle.review_cautions.specs.PhysicalLines as spec;
@@ -8,18 +8,19 @@ ghost use Rattle.review_cautions.specs.Cautions as cautions;
 ghost use Rattle.review_cautions.specs.Cautions.{caution_at};
 
 use crate::bytes::{cut_first, end_blank_count, ends_in_escape, is_comment, strip, without_return};
-use crate::joins::{leaves_quote, tears_mark, tears_word};
+use crate::joins::{tears_mark, tears_word};
 use crate::{Caution, CautionClass};
 use std::alloc::{AllocError, Global};
-use sudo_text::{Place, Seq, TEXT_LIMIT};
+use sudo_text::{Place, TEXT_LIMIT};
 
-// Where a physical line stands: its place, whether it continues another line, and whether it begins between double
-// quotes.
+// A physical line: its place, whether it continues another line, its bytes, and the bytes of the line after it, none if
+// it is the last.
 #[derive(Clone, Copy)]
-struct Standing {
+struct PhysicalLine<'a> {
     place: Place,
     continuing: bool,
-    quoted: bool,
+    bytes: &'a [u8],
+    next: &'a [u8],
 }
 
 // Whether the next line continues a physical line, which continues another one or not.
@@ -28,13 +29,6 @@ fn is_continued(continuing: bool, line: &[u8]) -> bool
 {
     let line = strip(line);
     (continuing || !is_comment(line)) && ends_in_escape(line)
-}
-
-// Whether the next line begins between double quotes, if it continues a physical line.
-fn goes_on_quoted(continued: bool, quoted: bool, line: &[u8]) -> bool
-    ensures { result ≡ (continued && spec.leaves_quote quoted false (stripped line.now)) }
-{
-    continued && leaves_quote(quoted, strip(line))
 }
 
 // Whether a physical line, which continues another one or not, is a comment.
@@ -60,14 +54,14 @@ fn ends_in_escaped_blanks(line: &[u8]) -> bool
 }
 
 // Whether a physical line has the construct of a class, before the next one.
-fn line_holds(class: CautionClass, quoted: bool, line: &[u8], next: &[u8]) -> bool
-    ensures { result ≡ spec.line_holds class quoted line.now next.now }
+fn line_holds(class: CautionClass, line: &[u8], next: &[u8]) -> bool
+    ensures { result ≡ spec.line_holds class line.now next.now }
 {
     match class {
         CautionClass::Return => ends_in_return(line),
         CautionClass::BlankAfterBackslash => ends_in_escaped_blanks(without_return(line)),
-        CautionClass::Join => tears_word(quoted, strip(line), strip(next)),
-        CautionClass::TornMark => tears_mark(quoted, strip(line), strip(next)),
+        CautionClass::Join => tears_word(strip(line), strip(next)),
+        CautionClass::TornMark => tears_mark(strip(line), strip(next)),
         CautionClass::Caret => false,
         CautionClass::Case => false,
         CautionClass::Linked => false,
@@ -76,31 +70,26 @@ fn line_holds(class: CautionClass, quoted: bool, line: &[u8], next: &[u8]) -> bo
 }
 
 // Whether a physical line has the construct of a class and is no comment.
-fn is_marked(class: CautionClass, standing: Standing, line: &[u8], next: &[u8]) -> bool
-    ensures { result ≡ spec.is_marked class standing.continuing standing.quoted line.now next.now }
+fn is_marked(class: CautionClass, line: &PhysicalLine<'_>) -> bool
+    ensures { result ≡ spec.is_marked class line.now.continuing line.now.bytes.now
+        line.now.next.now }
 {
-    !is_comment_line(standing.continuing, line) && line_holds(class, standing.quoted, line, next)
+    !is_comment_line(line.continuing, line.bytes) && line_holds(class, line.bytes, line.next)
 }
 
 // Appends the caution on a physical line, if it has the construct of the class and is no comment.
 fn push_line(
     alloc: Global,
     class: CautionClass,
-    standing: Standing,
-    line: &[u8],
-    next: &[u8],
+    line: &PhysicalLine<'_>,
     found: &mut Vec<Caution>,
 ) -> Result<(), AllocError>
     ensures { OnOk result (found.new.items ≡ found.old.items
-        ++ (if spec.is_marked class standing.continuing standing.quoted line.now next.now
-        then caution_at class standing.place ∷ [] else [])) }
+        ++ (if spec.is_marked class line.now.continuing line.now.bytes.now line.now.next.now
+        then caution_at class line.now.place ∷ [] else [])) }
 {
-    if is_marked(class, standing, line, next) {
-        found.push(Caution {
-            class,
-            place: standing.place,
-            subject: Seq::new(alloc),
-        })?;
+    if is_marked(class, line) {
+        found.push(Caution::on_line(alloc, class, line.place))?;
     }
     Ok(())
 }
@@ -127,23 +116,21 @@ fn push_lines(
     requires { length text.now ≤ TEXT_LIMIT }
     ensures { OnOk result (found.new.items ≡ found.old.items
         ++ map (λ number. caution_at class (place file number))
-        (numbers_of class false false 1 (cut text.now))) }
+        (numbers_of class false 1 (cut text.now))) }
 {
     let mut rest = text;
     let mut number = 1;
     let mut continuing = false;
-    let mut quoted = false;
     while !rest.is_empty() {
-        let (line, after) = cut_first(rest);
-        let place = Place { file, line: number };
-        let standing = Standing {
-            place,
+        let (bytes, after) = cut_first(rest);
+        let line = PhysicalLine {
+            place: Place { file, line: number },
             continuing,
-            quoted,
+            bytes,
+            next: first_of(after),
         };
-        push_line(alloc, class, standing, line, first_of(after), found)?;
-        continuing = is_continued(continuing, line);
-        quoted = goes_on_quoted(continuing, quoted, line);
+        push_line(alloc, class, &line, found)?;
+        continuing = is_continued(continuing, bytes);
         rest = after;
         number += 1;
     }

@@ -177,11 +177,7 @@ fn push_caution(
 ) -> Result<(), AllocError>
     ensures { OnOk result (found.new.items ≡ found.old.items ++ cautions.caution_at class place ∷ []) }
 {
-    found.push(Caution {
-        class,
-        place,
-        subject: Seq::new(alloc),
-    })?;
+    found.push(Caution::on_line(alloc, class, place))?;
     Ok(())
 }
 

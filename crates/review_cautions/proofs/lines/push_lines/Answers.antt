@@ -9,10 +9,10 @@ pub loop-rest-preserved : goal.loop-rest-preserved
 loop-rest-preserved c =
     let old = c.loop-rest in
     let whole = ap (λ (lines : List (List ℕ)). old.found.items ++ map (λ (n : ℕ). caution_at c.args.class (place c.args.file n))
-    (numbers_of c.args.class old.continuing old.quoted old.number lines)) (sym c.cut_first.ensures.cut) in
+    (numbers_of c.args.class old.continuing old.number lines)) (sym c.cut_first.ensures.cut) in
     record {
-      cautions = rw (c.in_ok-push_line.ensures, c.goes_on_quoted-quoted.ensures, c.is_continued-continuing.ensures, c.first_of.ensures)
-          (line_step c.args.class c.args.file old.number old.continuing old.quoted c.cut_first.result.0.now
+      cautions = rw (c.in_ok-push_line.ensures, c.is_continued-continuing.ensures, c.first_of.ensures)
+          (line_step c.args.class c.args.file old.number old.continuing c.cut_first.result.0.now
           (cut c.cut_first.result.1.now) old.found.items ∙ whole ∙ old.invariant.cautions);
       within = omega arith;
       numbers = omega arith;

@@ -7,8 +7,8 @@ use Rattle.review_cautions.proofs.lines.push_lines.Given as goal
 abbrev pub invariant-loop-rest : goal.invariant-loop-rest
 invariant-loop-rest l = record {
   cautions : l.found.items ++ map (λ number. caution_at l.class (place l.file number))
-      (numbers_of l.class l.continuing l.quoted l.number (cut l.rest)) ≡ l.initial.found.items
-      ++ map (λ number. caution_at l.class (place l.file number)) (numbers_of l.class false false 1 (cut l.text));
+      (numbers_of l.class l.continuing l.number (cut l.rest)) ≡ l.initial.found.items
+      ++ map (λ number. caution_at l.class (place l.file number)) (numbers_of l.class false 1 (cut l.text));
   within : length l.rest ≤ 16777216;
   numbers : l.number + length l.rest ≤ 1 + length l.text;
 }
