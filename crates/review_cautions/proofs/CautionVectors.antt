@@ -1,0 +1,91 @@
+-- Worked examples of the classes of cautions: for each one a construct that has it, and one that does not.
+use Rattle.std.proofs.Common.{◌≡◌, ℕ, Bool, true, false, List, [], ◌∷◌, ◌++◌, None, Some, map, refl}
+use Rattle.std.specs.Prelude.{codes}
+use Rattle.sudo_text.specs.Lines.{place}
+use Rattle.sudo_text.specs.Pieces.{plain, escaped}
+use Rattle.sudo_text.specs.declared.token.Ch.{Ch}
+use Rattle.sudo_text.specs.declared.token.Token.{Token}
+use Rattle.sudo_text.specs.declared.token.TokenKind.{TokenKind}
+use Rattle.sudo_text.specs.declared.token.TokenKind.TheVariants as tokens
+use Rattle.sudo_grammar.specs.declared.kind.Kind.{Kind}
+use Rattle.sudo_grammar.specs.declared.kind.Kind.TheVariants as kinds
+use Rattle.sudo_grammar.specs.declared.kind.Atom.{Atom}
+use Rattle.sudo_grammar.specs.declared.kind.Atom.TheVariants as atoms
+use Rattle.sudo_grammar.specs.declared.kind.Member.{Member}
+use Rattle.sudo_grammar.specs.declared.policy.Parameter.{Parameter}
+use Rattle.sudo_grammar.specs.declared.policy.Parameter.TheVariants.{Switch}
+use Rattle.sudo_policy.specs.Definitions.{MemberList, granting_list}
+use Rattle.review_cautions.specs.declared.caution.Caution.{Caution}
+use Rattle.review_cautions.specs.declared.class.CautionClass.TheVariants.{Return, BlankAfterBackslash, Join, TornMark, Caret, Case, Linked, Defaults}
+use Rattle.review_cautions.specs.Cautions.{caution_at, text_cautions, list_cautions, linked_cautions, parameter_cautions}
+
+-- the carriage return of a rule is dropped; that of a comment means nothing
+return : text_cautions Return ((codes "alice ALL = ALL" ++ 13 ∷ 10 ∷ codes "# note" ++ 13 ∷ 10 ∷ codes "bob ALL = ALL") ∷ [])
+    ≡ caution_at Return (place 0 1) ∷ []
+return = refl
+
+-- a blank behind a backslash, and one behind two
+blank : text_cautions BlankAfterBackslash (codes "Defaults insults" ∷ (codes "alice ALL = /bin/ls foo\\ " ++ 10
+    ∷ codes "bob ALL = /bin/ls foo\\\\ ") ∷ []) ≡ caution_at BlankAfterBackslash (place 1 1) ∷ []
+blank = refl
+
+-- the command `/bin/ls-l` here; a blank before the backslash is one for both
+join : text_cautions Join ((codes "alice ALL = /bin/ls\\" ++ 10 ∷ codes "  -l" ++ 10 ∷ codes "bob ALL = /bin/ls \\" ++ 10 ∷ codes "-l") ∷ [])
+    ≡ caution_at Join (place 0 1) ∷ []
+join = refl
+
+-- a line that ends in a comma or an equals sign tears no word, and an escaped blank is a part of one
+no_join : text_cautions Join ((codes "alice ALL =\\" ++ 10 ∷ codes "/bin/ls,\\" ++ 10 ∷ codes "/bin/cat a\\ \\" ++ 10 ∷ codes "b") ∷ [])
+    ≡ caution_at Join (place 0 3) ∷ []
+no_join = refl
+
+-- the colon of a tag on the next line; a comment is never continued
+torn : text_cautions TornMark ((codes "alice ALL = NOPASSWD\\" ++ 10 ∷ codes ": ALL" ++ 10 ∷ codes "# NOPASSWD\\" ++ 10
+    ∷ codes ": ALL" ++ 10 ∷ codes "alice ALL = NOPASSWD: \\" ++ 10 ∷ codes "ALL") ∷ []) ≡ caution_at TornMark (place 0 1) ∷ []
+torn = refl
+
+-- a member with this atom
+member : Atom → Member
+member atom = record { bangs = 0; token = record { kind = tokens.Word false []; start = 0; end = 0 }; atom = atom }
+
+-- a list on a line, with a member of this atom alone
+list : Kind → ℕ → Atom → MemberList
+list kind line atom = granting_list kind (place 0 line) (member atom ∷ [])
+
+-- a command with these arguments
+command : List Ch → List Ch → Atom
+command path args = atoms.Command path (Some args)
+
+-- `/usr/bin/passwd [^-]*` twice on a line, and `/usr/bin/passwd ^-` on another
+caret : list_cautions Caret (list kinds.Cmnd 1 (command (map plain (codes "/usr/bin/passwd")) (map plain (codes "[^-]*")))
+    ∷ list kinds.Cmnd 1 (command (map plain (codes "/usr/bin/passwd")) (plain 91 ∷ escaped 94 ∷ map plain (codes "-]")))
+    ∷ list kinds.Cmnd 2 (command (map plain (codes "/usr/bin/passwd")) (map plain (codes "^-"))) ∷ []) ≡ caution_at Caret (place 0 1) ∷ []
+unfolding list member command
+caret = refl
+
+-- `Alice` and `%ADM`, and not the host `WEB1` and the user `alice`
+case : list_cautions Case (list kinds.User 1 (atoms.Name (codes "Alice"))
+    ∷ list kinds.Host 2 (atoms.Host (map plain (codes "WEB1")) false) ∷ list kinds.User 3 (atoms.Name (codes "alice"))
+    ∷ list kinds.Runas 4 (atoms.Group (codes "ADM")) ∷ []) ≡ caution_at Case (place 0 1) ∷ caution_at Case (place 0 4) ∷ []
+unfolding list member
+case = refl
+
+-- `/opt/*` and `/bi`; `/usr/*` may lie below `/usr/bin/`, and so does `/bin/ls`, but one caution is enough
+linked : linked_cautions (list kinds.Cmnd 1 (atoms.Command (map plain (codes "/opt/*")) None)
+    ∷ list kinds.Cmnd 2 (atoms.Command (map plain (codes "/bi")) None)
+    ∷ list kinds.Cmnd 3 (atoms.Command (map plain (codes "/usr/*")) None)
+    ∷ list kinds.Cmnd 4 (atoms.Command (map plain (codes "/bin/ls")) None) ∷ []) ≡ caution_at Linked (place 0 3) ∷ []
+unfolding list member
+linked = refl
+
+-- a switch of this name
+switch : ℕ → List ℕ → Parameter
+switch bangs name = Switch bangs (record { kind = tokens.Word false (map plain name); start = 0; end = 0 })
+
+-- `!authenticate` and `targetpw` decide, `authenticate` and `env_reset` do not
+defaults : parameter_cautions (place 0 1) (switch 1 (codes "authenticate") ∷ switch 0 (codes "env_reset")
+    ∷ switch 2 (codes "authenticate") ∷ switch 0 (codes "targetpw") ∷ [])
+    ≡ record { class = Defaults; place = place 0 1; subject = codes "authenticate" }
+    ∷ record { class = Defaults; place = place 0 1; subject = codes "targetpw" } ∷ []
+unfolding switch
+defaults = refl

@@ -1,0 +1,28 @@
+-- The class of a name, as a search among the classes finds it.
+use Rattle.std.proofs.Common.{◌≡◌, ℕ, List, Option, Some, refl, sym, ◌∙◌, ap, subst}
+use Rattle.std.specs.Prelude.{find}
+use Rattle.std.specs.Str.{bytes_eq}
+use Rattle.sudo_base.proofs.Lists.{find-holds}
+use Rattle.sudo_base.proofs.IndexLemmas.{bytes_eq-is}
+use Rattle.review_cautions.specs.declared.class.CautionClass.{CautionClass}
+use Rattle.review_cautions.specs.declared.class.CautionClass.TheVariants.{Return, BlankAfterBackslash, Join, TornMark, Caret, Case, Linked, Defaults}
+use Rattle.review_cautions.specs.Classes.{classes, class_name}
+
+-- the class is the first of its own name
+own_name : (class : CautionClass) → find (λ c. bytes_eq (class_name c) (class_name class)) classes ≡ Some class
+own_name Return = refl
+own_name BlankAfterBackslash = refl
+own_name Join = refl
+own_name TornMark = refl
+own_name Caret = refl
+own_name Case = refl
+own_name Linked = refl
+own_name Defaults = refl
+
+-- what the search finds for a name is a class exactly if the name is that of the class
+pub found_by_name : (name : List ℕ) (found : Option CautionClass) → found ≡ find (λ c. bytes_eq (class_name c) name) classes
+    → (class : CautionClass) → (found ≡ Some class → name ≡ class_name class) × (name ≡ class_name class → found ≡ Some class)
+found_by_name name found is class = (
+  λ some. sym (bytes_eq-is (class_name class) name (find-holds (λ c. bytes_eq (class_name c) name) classes class (sym is ∙ some))),
+  λ same. is ∙ ap (λ n. find (λ c. bytes_eq (class_name c) n) classes) same ∙ own_name class,
+)

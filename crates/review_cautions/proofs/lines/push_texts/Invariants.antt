@@ -1,0 +1,10 @@
+use Rattle.std.proofs.Common.{◌≡◌, ◌++◌, ℕ, List, map, drop}
+use Rattle.std.specs.Prelude.{flat_map}
+use Rattle.std.specs.List.{enumerate_from}
+use Rattle.review_cautions.specs.Cautions.{file_cautions, text_cautions}
+use Rattle.review_cautions.proofs.lines.push_texts.Given as goal
+
+abbrev pub invariant-loop-file : goal.invariant-loop-file
+invariant-loop-file l = l.found.items ++ flat_map (λ (file : ℕ × List ℕ). file_cautions l.class file.0 file.1)
+    (enumerate_from l.file (map (λ t. t.now) (drop l.file l.texts)))
+    ≡ l.initial.found.items ++ text_cautions l.class (map (λ t. t.now) l.texts)

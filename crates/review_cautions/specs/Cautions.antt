@@ -1,0 +1,80 @@
+-- The cautions on a policy, class by class.
+use Rattle.std.specs.Prelude.{ℕ, Bool, true, false, not, ◌&&◌, ◌||◌, ◌==◌, nat_lt, nat_le, if◌then◌else◌, List, [], ◌∷◌, ◌++◌}
+use Rattle.std.specs.Prelude.{map, filter, find, flat_map, length, option_to_list, ◌^◌, Option, None, Some}
+use Rattle.std.specs.List.{enumerate_from}
+use Rattle.sudo_text.specs.Lines.{cut, place, text_limit}
+use Rattle.sudo_text.specs.declared.line.Place.{Place}
+use Rattle.sudo_grammar.specs.declared.policy.Parameter.{Parameter}
+use Rattle.sudo_grammar.specs.declared.policy.EntryBody.{EntryBody}
+use Rattle.sudo_grammar.specs.declared.policy.EntryBody.TheVariants as entries
+use Rattle.sudo_grammar.specs.declared.policy.Entry.{Entry}
+use Rattle.sudo_grammar.specs.declared.policy.Policy.{Policy}
+use Rattle.sudo_policy.specs.Definitions.{MemberList, lists}
+use Rattle.review_cautions.specs.declared.caution.Caution.{Caution}
+use Rattle.review_cautions.specs.declared.class.CautionClass.{CautionClass}
+use Rattle.review_cautions.specs.declared.class.CautionClass.TheVariants.{Return, BlankAfterBackslash, Join, TornMark, Caret, Case, Linked, Defaults}
+use Rattle.review_cautions.specs.PhysicalLines.{numbers_of}
+use Rattle.review_cautions.specs.ListTests.{list_holds}
+use Rattle.review_cautions.specs.Parameters.{decides, name_of}
+
+-- a caution on a line
+abbrev pub caution_at : CautionClass → Place → Caution
+caution_at class at = record { class = class; place = at; subject = [] }
+
+-- a text that a file of a policy can have: no longer than the limit, with a number that a place can hold
+abbrev pub is_readable : ℕ → List ℕ → Bool
+is_readable file text = nat_lt file (2 ^ 32) && nat_le (length text) text_limit
+
+-- the cautions of the class on the physical lines of a file
+abbrev pub file_cautions : CautionClass → ℕ → List ℕ → List Caution
+file_cautions class file text = if is_readable file text
+    then map (λ number. caution_at class (place file number)) (numbers_of class false 1 (cut text)) else []
+
+-- the cautions of the class on the files of a policy, the main file first
+abbrev pub text_cautions : CautionClass → List (List ℕ) → List Caution
+text_cautions class texts = flat_map (λ (file : ℕ × List ℕ). file_cautions class file.0 file.1) (enumerate_from 0 texts)
+
+abbrev pub same_place : Place → Place → Bool
+same_place a b = (a.file == b.file) && (a.line == b.line)
+
+abbrev pub is_at : Option Place → Place → Bool
+is_at None at = false
+is_at (Some before) at = same_place before at
+
+-- the places without those that are equal to the one directly before them; `before`: the one before the first
+abbrev pub distinct_places : Option Place → List Place → List Place
+distinct_places before [] = []
+distinct_places before (at ∷ rest) =
+    if is_at before at then distinct_places (Some at) rest else at ∷ distinct_places (Some at) rest
+
+-- the lines whose lists have the construct of the class, one caution for each
+abbrev pub list_cautions : CautionClass → List MemberList → List Caution
+list_cautions class lists =
+    map (caution_at class) (distinct_places None (map (λ (l : MemberList). l.place) (filter (list_holds class) lists)))
+
+-- the first list of commands that has a linked one, one caution for the whole policy
+abbrev pub linked_cautions : List MemberList → List Caution
+linked_cautions lists = map (λ (l : MemberList). caution_at Linked l.place) (option_to_list (find (list_holds Linked) lists))
+
+-- a parameter of a line
+abbrev pub parameter_caution : Place → Parameter → Caution
+parameter_caution at parameter = record { class = Defaults; place = at; subject = name_of parameter }
+
+-- the parameters of a line that decide, one caution for each
+abbrev pub parameter_cautions : Place → List Parameter → List Caution
+parameter_cautions at parameters = map (parameter_caution at) (filter decides parameters)
+
+abbrev pub body_cautions : Place → EntryBody → List Caution
+body_cautions at (entries.Defaults binding parameters) = parameter_cautions at parameters
+body_cautions at _ = []
+
+abbrev pub defaults_cautions : List Entry → List Caution
+defaults_cautions es = flat_map (λ (e : Entry). body_cautions e.place e.body) es
+
+-- the cautions on a policy whose files have these texts
+abbrev pub policy_cautions : List (List ℕ) → Policy → List Caution
+policy_cautions texts policy =
+    text_cautions Return texts ++ text_cautions BlankAfterBackslash texts ++ text_cautions Join texts
+    ++ text_cautions TornMark texts
+    ++ list_cautions Caret (lists policy) ++ list_cautions Case (lists policy) ++ linked_cautions (lists policy)
+    ++ defaults_cautions policy.entries

@@ -1,0 +1,32 @@
+-- The classes of cautions: their names, and the texts that explain them.
+use Rattle.std.specs.Prelude.{ℕ, List, [], ◌∷◌, codes}
+use Rattle.review_cautions.specs.declared.class.CautionClass.{CautionClass}
+use Rattle.review_cautions.specs.declared.class.CautionClass.TheVariants.{Return, BlankAfterBackslash, Join, TornMark, Caret, Case, Linked, Defaults}
+
+-- the classes, in the order in which they are listed
+abbrev pub classes : List CautionClass
+classes = Return ∷ BlankAfterBackslash ∷ Join ∷ TornMark ∷ Caret ∷ Case ∷ Linked ∷ Defaults ∷ []
+
+-- the name of a class
+abbrev pub class_name : CautionClass → List ℕ
+class_name Return = codes "return"
+class_name BlankAfterBackslash = codes "blank-after-backslash"
+class_name Join = codes "join"
+class_name TornMark = codes "torn-mark"
+class_name Caret = codes "caret"
+class_name Case = codes "case"
+class_name Linked = codes "linked"
+class_name Defaults = codes "defaults"
+
+-- what the reader does with the construct, and what sudo does
+abbrev pub class_text : CautionClass → List ℕ
+class_text Return = codes "a carriage return ends the line: dropped here, for sudo a byte of the line"
+class_text BlankAfterBackslash =
+    codes "blanks stand between the last backslash and the end of the line: an escaped blank here, for sudo a join of two lines"
+class_text Join = codes "lines are joined inside a word: nothing stands between them here, for sudo a blank"
+class_text TornMark = codes "lines are joined where sudo does not join them: read here, refused by sudo"
+class_text Caret = codes "`[^` begins a bracket: `^` is one of its characters here, for sudo a complement"
+class_text Case = codes "a name has a capital letter: letter case counts here, not for sudo"
+class_text Linked =
+    codes "a command is below a folder that is a link on most machines: two paths here, for sudo one file"
+class_text Defaults = codes "decides for sudo, has no effect here"

@@ -1,0 +1,5 @@
+pub mod Classes
+pub mod PhysicalLines
+pub mod ListTests
+pub mod Parameters
+pub mod Cautions

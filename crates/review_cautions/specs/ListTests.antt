@@ -1,0 +1,78 @@
+-- What the members of a list of a policy contain. sudoers(5), "Wildcards" and "Aliases".
+use Rattle.std.specs.Prelude.{ℕ, Bool, true, false, not, ◌&&◌, ◌||◌, ◌==◌, List, [], ◌∷◌, Option, None, Some, codes}
+use Rattle.std.specs.List.{list_any}
+use Rattle.sudo_text.specs.declared.token.Ch.{Ch}
+use Rattle.sudo_grammar.specs.declared.kind.Kind.{Kind}
+use Rattle.sudo_grammar.specs.declared.kind.Kind.TheVariants as kinds
+use Rattle.sudo_grammar.specs.declared.kind.Atom.{Atom}
+use Rattle.sudo_grammar.specs.declared.kind.Atom.TheVariants as atoms
+use Rattle.sudo_grammar.specs.declared.kind.Member.{Member}
+use Rattle.sudo_grammar.specs.Words.{is_upper}
+use Rattle.sudo_policy.specs.Definitions.{MemberList}
+use Rattle.review_cautions.specs.declared.class.CautionClass.{CautionClass}
+use Rattle.review_cautions.specs.declared.class.CautionClass.TheVariants.{Return, BlankAfterBackslash, Join, TornMark, Caret, Case, Linked, Defaults}
+
+-- a `[` that no escape yields
+abbrev pub opens_bracket : Ch → Bool
+opens_bracket c = not c.escaped && (c.byte == 91)
+
+-- a `^` stands directly behind such a `[`; `opened`: one stands directly before the characters
+abbrev pub has_caret : Bool → List Ch → Bool
+has_caret opened [] = false
+has_caret opened (c ∷ cs) = (opened && (c.byte == 94)) || has_caret (opens_bracket c) cs
+
+-- a wildcard that no escape yields: `*`, `?` or `[`
+abbrev pub is_wildcard : Ch → Bool
+is_wildcard c = not c.escaped && ((c.byte == 42) || (c.byte == 63) || (c.byte == 91))
+
+-- the path may begin with the text: its characters agree with it until it ends or a wildcard stands in the path
+abbrev pub may_begin : List ℕ → List Ch → Bool
+may_begin [] path = true
+may_begin (b ∷ bs) [] = false
+may_begin (b ∷ bs) (c ∷ cs) = is_wildcard c || ((c.byte == b) && may_begin bs cs)
+
+-- the path may lie below a folder that is a link to another one on most machines, or below that other one
+abbrev pub is_linked : List Ch → Bool
+is_linked path = may_begin (codes "/bin/") path || may_begin (codes "/sbin/") path || may_begin (codes "/lib/") path
+    || may_begin (codes "/usr/bin/") path || may_begin (codes "/usr/sbin/") path || may_begin (codes "/usr/lib/") path
+
+abbrev pub arguments_have_caret : Option (List Ch) → Bool
+arguments_have_caret None = false
+arguments_have_caret (Some args) = has_caret false args
+
+-- a pattern of a host or of a command has a bracket that begins with `^`
+abbrev pub atom_has_caret : Atom → Bool
+atom_has_caret (atoms.Host chars quoted) = not quoted && has_caret false chars
+atom_has_caret (atoms.Command path args) = has_caret false path || arguments_have_caret args
+atom_has_caret _ = false
+
+-- the name of a user or a group has a capital letter
+abbrev pub atom_has_capital : Atom → Bool
+atom_has_capital (atoms.Name name) = list_any is_upper name
+atom_has_capital (atoms.Group name) = list_any is_upper name
+atom_has_capital _ = false
+
+-- a command's path is linked
+abbrev pub atom_is_linked : Atom → Bool
+atom_is_linked (atoms.Command path args) = is_linked path
+atom_is_linked _ = false
+
+-- the lists in which the construct of the class may stand
+abbrev pub concerns : CautionClass → Kind → Bool
+concerns Caret kinds.Host = true
+concerns Caret kinds.Cmnd = true
+concerns Case kinds.User = true
+concerns Case kinds.Runas = true
+concerns Linked kinds.Cmnd = true
+concerns _ _ = false
+
+-- the atom has the construct of the class
+abbrev pub atom_holds : CautionClass → Atom → Bool
+atom_holds Caret atom = atom_has_caret atom
+atom_holds Case atom = atom_has_capital atom
+atom_holds Linked atom = atom_is_linked atom
+atom_holds _ atom = false
+
+-- a member of the list has the construct of the class
+abbrev pub list_holds : CautionClass → MemberList → Bool
+list_holds class list = concerns class list.kind && list_any (λ (m : Member). atom_holds class m.atom) list.members

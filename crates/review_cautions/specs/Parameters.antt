@@ -1,0 +1,54 @@
+-- The parameters of `Defaults` lines that change for sudo what a rule grants. sudoers(5), "SUDOERS OPTIONS".
+use Rattle.std.specs.Prelude.{ℕ, Bool, true, false, not, ◌&&◌, ◌||◌, ◌==◌, ◌%◌, List, [], ◌∷◌, codes}
+use Rattle.std.specs.List.{list_any}
+use Rattle.std.specs.Str.{bytes_eq}
+use Rattle.sudo_text.specs.declared.token.Ch.{Ch}
+use Rattle.sudo_text.specs.declared.token.TokenKind.{TokenKind}
+use Rattle.sudo_text.specs.declared.token.TokenKind.TheVariants as tokens
+use Rattle.sudo_grammar.specs.declared.policy.Parameter.{Parameter}
+use Rattle.sudo_grammar.specs.declared.policy.Parameter.TheVariants.{Switch, Assign}
+use Rattle.sudo_grammar.specs.Words.{bytes_of}
+
+-- flags that are on by default
+abbrev pub is_on_flag : List ℕ → Bool
+is_on_flag name = list_any (bytes_eq name) (codes "authenticate" ∷ codes "root_sudo" ∷ codes "case_insensitive_user"
+    ∷ codes "case_insensitive_group" ∷ codes "use_netgroups" ∷ [])
+
+-- flags that are off by default
+abbrev pub is_off_flag : List ℕ → Bool
+is_off_flag name = list_any (bytes_eq name) (codes "targetpw" ∷ codes "rootpw" ∷ codes "runaspw"
+    ∷ codes "match_group_by_gid" ∷ codes "setenv" ∷ codes "noexec" ∷ codes "intercept" ∷ codes "requiretty"
+    ∷ codes "runas_allow_unknown_id" ∷ codes "runas_check_shell" ∷ codes "fast_glob" ∷ codes "netgroup_tuple" ∷ [])
+
+-- the flag that is on or off by default, as sudo was built
+abbrev pub is_either_flag : List ℕ → Bool
+is_either_flag name = bytes_eq name (codes "fqdn")
+
+-- parameters with a value
+abbrev pub has_value : List ℕ → Bool
+has_value name = list_any (bytes_eq name) (codes "runas_default" ∷ codes "exempt_group" ∷ codes "group_plugin"
+    ∷ codes "sudoers_locale" ∷ codes "runchroot" ∷ [])
+
+-- a switch that differs from the default: the flag is turned on, or else off
+abbrev pub switch_decides : Bool → List ℕ → Bool
+switch_decides true name = is_off_flag name || is_either_flag name || has_value name
+switch_decides false name = is_on_flag name || is_either_flag name
+
+-- an assignment to any of them
+abbrev pub assignment_decides : List ℕ → Bool
+assignment_decides name = is_on_flag name || is_off_flag name || is_either_flag name || has_value name
+
+-- the bytes of a word, and none for another token
+abbrev pub word_bytes : TokenKind → List ℕ
+word_bytes (tokens.Word quoted chars) = bytes_of chars
+word_bytes _ = []
+
+-- the name of a parameter
+abbrev pub name_of : Parameter → List ℕ
+name_of (Switch bangs name) = word_bytes name.kind
+name_of (Assign name operator value) = word_bytes name.kind
+
+-- the parameter changes for sudo what a rule grants; an odd number of `!` turns it off
+abbrev pub decides : Parameter → Bool
+decides (Switch bangs name) = switch_decides (not (bangs % 2 == 1)) (word_bytes name.kind)
+decides (Assign name operator value) = assignment_decides (word_bytes name.kind)

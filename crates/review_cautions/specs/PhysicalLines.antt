@@ -1,0 +1,99 @@
+-- Constructs of physical lines: what ends them, and what their joins to the next line tear apart. sudoers(5), "Other
+-- special characters and reserved words".
+use Rattle.std.specs.Prelude.{ℕ, Bool, true, false, not, ◌&&◌, ◌||◌, ◌==◌, nat_lt, nat_le, if◌then◌else◌, List, [], ◌∷◌, ◌++◌}
+use Rattle.std.specs.Prelude.{reverse, length, take, slice_index, codes, ◌+◌, ◌-◌}
+use Rattle.std.specs.List.{take_while}
+use Rattle.std.specs.Str.{bytes_eq}
+use Rattle.sudo_text.specs.Bytes.{is_blank}
+use Rattle.sudo_text.specs.Lines.{without_return, without_indent, without_escape, is_comment, ends_in_escape, is_continued}
+use Rattle.review_cautions.specs.declared.class.CautionClass.{CautionClass}
+use Rattle.review_cautions.specs.declared.class.CautionClass.TheVariants.{Return, BlankAfterBackslash, Join, TornMark, Caret, Case, Linked, Defaults}
+
+-- the last byte of a line, and 0 if it has none
+abbrev pub last_byte : List ℕ → ℕ
+last_byte line = slice_index line (length line - 1)
+
+-- a carriage return is the last byte of the line
+abbrev pub ends_in_return : List ℕ → Bool
+ends_in_return line = last_byte line == 13
+
+-- the number of blanks at the end of a line
+abbrev pub end_blanks : List ℕ → ℕ
+end_blanks line = length (take_while is_blank (reverse line))
+
+-- blanks end the line, and an odd number of backslashes stands before them
+abbrev pub ends_in_escaped_blanks : List ℕ → Bool
+ends_in_escaped_blanks line = nat_lt 0 (end_blanks line) && ends_in_escape (take (length line - end_blanks line) line)
+
+-- a blank, a comma, a double quote, and the marks and signs that stand between words: `:`, `=`, `(`, `)`, `!` and `#`
+abbrev pub parts_words : ℕ → Bool
+parts_words b = is_blank b || (b == 44) || (b == 34) || (b == 58) || (b == 61) || (b == 40) || (b == 41) || (b == 33) || (b == 35)
+
+-- the last byte belongs to a word: it parts no words, or it is escaped
+abbrev pub ends_in_word : List ℕ → Bool
+ends_in_word line =
+    nat_lt 0 (length line) && (not (parts_words (last_byte line)) || ends_in_escape (without_escape line))
+
+-- the first byte belongs to a word
+abbrev pub begins_in_word : List ℕ → Bool
+begins_in_word line = nat_lt 0 (length line) && not (parts_words (slice_index line 0))
+
+-- the line ends in a word, goes on in the next one, and that one begins in a word; between double quotes sudo joins
+-- lines as the reader does, and the line is taken for one that tears a word all the same
+abbrev pub tears_word : List ℕ → List ℕ → Bool
+tears_word line next = ends_in_escape line && (ends_in_word (without_escape line) && begins_in_word next)
+
+-- the word `Defaults` alone, or with the mark of a list to which the line is bound
+abbrev pub is_keyword : List ℕ → Bool
+is_keyword line =
+    bytes_eq line (codes "Defaults") || bytes_eq line (codes "Defaults@") || bytes_eq line (codes "Defaults:")
+    || bytes_eq line (codes "Defaults!") || bytes_eq line (codes "Defaults>")
+
+-- a capital letter, as in a tag's name, is the last byte, and a colon the first one of the next line
+abbrev pub tears_tag : List ℕ → List ℕ → Bool
+tears_tag line next = nat_le 65 (last_byte line) && nat_le (last_byte line) 90 && (slice_index next 0 == 58)
+
+-- a `!` is the last byte, and another one the first one of the next line
+abbrev pub tears_bangs : List ℕ → List ℕ → Bool
+tears_bangs line next = (last_byte line == 33) && (slice_index next 0 == 33)
+
+-- the line goes on in the next one within a mark that sudo wants on one line
+abbrev pub tears_mark : List ℕ → List ℕ → Bool
+tears_mark line next = ends_in_escape line
+    && (is_keyword (without_escape line) || tears_tag (without_escape line) next || tears_bangs (without_escape line) next)
+
+-- a line as the reader joins it: without a carriage return at its end and blanks at its front
+abbrev pub stripped : List ℕ → List ℕ
+stripped line = without_indent (without_return line)
+
+-- the line has the construct of the class; `next`: the line after it
+abbrev pub line_holds : CautionClass → List ℕ → List ℕ → Bool
+line_holds Return line next = ends_in_return line
+line_holds BlankAfterBackslash line next = ends_in_escaped_blanks (without_return line)
+line_holds Join line next = tears_word (stripped line) (stripped next)
+line_holds TornMark line next = tears_mark (stripped line) (stripped next)
+line_holds Caret line next = false
+line_holds Case line next = false
+line_holds Linked line next = false
+line_holds Defaults line next = false
+
+-- the line is a comment; a line that continues another is none
+abbrev pub is_remark : Bool → List ℕ → Bool
+is_remark continuing line = not continuing && is_comment (stripped line)
+
+-- the line has the construct of the class and is no comment; `continuing`: it continues another
+abbrev pub is_marked : CautionClass → Bool → List ℕ → List ℕ → Bool
+is_marked class continuing line next = not (is_remark continuing line) && line_holds class line next
+
+-- the first of the lines, and an empty one if there is none
+abbrev pub first_line : List (List ℕ) → List ℕ
+first_line [] = []
+first_line (line ∷ rest) = line
+
+-- the numbers of the lines that have the construct of the class, if the first line has this number; `continuing`: it
+-- continues another
+abbrev pub numbers_of : CautionClass → Bool → ℕ → List (List ℕ) → List ℕ
+numbers_of class continuing number [] = []
+numbers_of class continuing number (line ∷ rest) =
+    (if is_marked class continuing line (first_line rest) then number ∷ [] else [])
+    ++ numbers_of class (is_continued continuing (stripped line)) (number + 1) rest

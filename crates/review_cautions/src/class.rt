@@ -1,0 +1,98 @@
+//! The classes of cautions.
+ghost use Rattle.std.specs.Prelude.{◌≡◌, ◌↔◌, Some, find, bytes_eq};
+ghost use Rattle.review_cautions.specs.Classes.{class_name, class_text, classes};
+
+/// The classes of cautions, in the order in which they are listed.
+#[derive(Clone, Copy, Debug, PartialEq, Eq)]
+pub enum CautionClass {
+    /// A carriage return at the end of a line.
+    Return,
+    /// Blanks between the last backslash of a line and its end.
+    BlankAfterBackslash,
+    /// A line that is joined to the next one inside a word.
+    Join,
+    /// A line that is joined to the next one at a mark, where sudo joins no lines.
+    TornMark,
+    /// A bracket of a pattern that begins with `^`.
+    Caret,
+    /// A name of a user or a group with a capital letter.
+    Case,
+    /// A command below a folder that is a link on most machines.
+    Linked,
+    /// A parameter of a `Defaults` line that decides.
+    Defaults,
+}
+
+impl CautionClass {
+    /// Returns the name of the class.
+    pub fn name(self) -> &'static [u8]
+        ensures { result.now ≡ class_name self }
+    {
+        match self {
+            CautionClass::Return => b"return",
+            CautionClass::BlankAfterBackslash => b"blank-after-backslash",
+            CautionClass::Join => b"join",
+            CautionClass::TornMark => b"torn-mark",
+            CautionClass::Caret => b"caret",
+            CautionClass::Case => b"case",
+            CautionClass::Linked => b"linked",
+            CautionClass::Defaults => b"defaults",
+        }
+    }
+
+    /// Returns the text that explains the cautions of the class.
+    pub fn text(self) -> &'static [u8]
+        ensures { result.now ≡ class_text self }
+    {
+        match self {
+            CautionClass::Return => {
+                b"a carriage return ends the line: dropped here, for sudo a byte of the line"
+            }
+            CautionClass::BlankAfterBackslash => {
+                b"blanks stand between the last backslash and the end of the line: an escaped blank here, for sudo a join of two lines"
+            }
+            CautionClass::Join => {
+                b"lines are joined inside a word: nothing stands between them here, for sudo a blank"
+            }
+            CautionClass::TornMark => {
+                b"lines are joined where sudo does not join them: read here, refused by sudo"
+            }
+            CautionClass::Caret => {
+                b"`[^` begins a bracket: `^` is one of its characters here, for sudo a complement"
+            }
+            CautionClass::Case => {
+                b"a name has a capital letter: letter case counts here, not for sudo"
+            }
+            CautionClass::Linked => {
+                b"a command is below a folder that is a link on most machines: two paths here, for sudo one file"
+            }
+            CautionClass::Defaults => b"decides for sudo, has no effect here",
+        }
+    }
+}
+
+// The classes, in the order in which they are listed.
+const CLASSES: [CautionClass; 8] = [
+    CautionClass::Return,
+    CautionClass::BlankAfterBackslash,
+    CautionClass::Join,
+    CautionClass::TornMark,
+    CautionClass::Caret,
+    CautionClass::Case,
+    CautionClass::Linked,
+    CautionClass::Defaults,
+];
+
+// Returns the first class of a name.
+fn first_class(name: &[u8]) -> Option<CautionClass>
+    ensures { result ≡ find (λ class. bytes_eq (class_name class) name.now) classes }
+{
+    CLASSES.iter().copied().find(|class| class.name() == name)
+}
+
+/// Returns the class of a name, or `None` if no class has it.
+pub fn class_named(name: &[u8]) -> Option<CautionClass>
+    ensures { (class : CautionClass) → (result ≡ Some class) ↔ (name.now ≡ class_name class) }
+{
+    first_class(name)
+}

@@ -1,0 +1,17 @@
+//! Cautions: the constructs of a policy that sudo reads or judges otherwise than this reader, though both accept them.
+//!
+//! sudoers(5). A policy without a caution may still be judged otherwise: no list of such constructs is complete.
+#![tactic(auto)]
+
+mod bytes;
+mod caution;
+mod class;
+mod collecting;
+mod defaults;
+mod joins;
+mod lines;
+mod lists;
+
+pub use caution::Caution;
+pub use class::{CautionClass, class_named};
+pub use collecting::cautions;

@@ -1,0 +1,172 @@
+//! Cautions on physical lines.
+ghost use Rattle.std.specs.Prelude.{◌≡◌, ◌++◌, ◌≤◌, ◌∷◌, [], length, map, OnOk, false, if◌then◌else◌};
+ghost use Rattle.sudo_text.specs.Lines as text;
+ghost use Rattle.sudo_text.specs.Lines.{cut, place};
+ghost use Rattle.review_cautions.specs.PhysicalLines as spec;
+ghost use Rattle.review_cautions.specs.PhysicalLines.{numbers_of, is_remark, stripped, first_line};
+ghost use Rattle.review_cautions.specs.Cautions as cautions;
+ghost use Rattle.review_cautions.specs.Cautions.{caution_at};
+
+use crate::bytes::{cut_first, end_blank_count, ends_in_escape, is_comment, strip, without_return};
+use crate::joins::{tears_mark, tears_word};
+use crate::{Caution, CautionClass};
+use std::alloc::{AllocError, Global};
+use sudo_text::{Place, TEXT_LIMIT};
+
+// A physical line: its place, whether it continues another line, its bytes, and the bytes of the line after it, none if
+// it is the last.
+#[derive(Clone, Copy)]
+struct PhysicalLine<'a> {
+    place: Place,
+    continuing: bool,
+    bytes: &'a [u8],
+    next: &'a [u8],
+}
+
+// Whether the next line continues a physical line, which continues another one or not.
+fn is_continued(continuing: bool, line: &[u8]) -> bool
+    ensures { result ≡ text.is_continued continuing (stripped line.now) }
+{
+    let line = strip(line);
+    (continuing || !is_comment(line)) && ends_in_escape(line)
+}
+
+// Whether a physical line, which continues another one or not, is a comment.
+fn is_comment_line(continuing: bool, line: &[u8]) -> bool
+    ensures { result ≡ is_remark continuing line.now }
+{
+    !continuing && is_comment(strip(line))
+}
+
+// Whether a carriage return ends a line.
+fn ends_in_return(line: &[u8]) -> bool
+    ensures { result ≡ spec.ends_in_return line.now }
+{
+    matches!(line, [.., b'\r'])
+}
+
+// Whether blanks end a line and an odd number of backslashes stands before them.
+fn ends_in_escaped_blanks(line: &[u8]) -> bool
+    ensures { result ≡ spec.ends_in_escaped_blanks line.now }
+{
+    let blanks = end_blank_count(line);
+    blanks > 0 && ends_in_escape(&line[..line.len() - blanks])
+}
+
+// Whether a physical line has the construct of a class, before the next one.
+fn line_holds(class: CautionClass, line: &[u8], next: &[u8]) -> bool
+    ensures { result ≡ spec.line_holds class line.now next.now }
+{
+    match class {
+        CautionClass::Return => ends_in_return(line),
+        CautionClass::BlankAfterBackslash => ends_in_escaped_blanks(without_return(line)),
+        CautionClass::Join => tears_word(strip(line), strip(next)),
+        CautionClass::TornMark => tears_mark(strip(line), strip(next)),
+        CautionClass::Caret => false,
+        CautionClass::Case => false,
+        CautionClass::Linked => false,
+        CautionClass::Defaults => false,
+    }
+}
+
+// Whether a physical line has the construct of a class and is no comment.
+fn is_marked(class: CautionClass, line: &PhysicalLine<'_>) -> bool
+    ensures { result ≡ spec.is_marked class line.now.continuing line.now.bytes.now
+        line.now.next.now }
+{
+    !is_comment_line(line.continuing, line.bytes) && line_holds(class, line.bytes, line.next)
+}
+
+// Appends the caution on a physical line, if it has the construct of the class and is no comment.
+fn push_line(
+    alloc: Global,
+    class: CautionClass,
+    line: &PhysicalLine<'_>,
+    found: &mut Vec<Caution>,
+) -> Result<(), AllocError>
+    ensures { OnOk result (found.new.items ≡ found.old.items
+        ++ (if spec.is_marked class line.now.continuing line.now.bytes.now line.now.next.now
+        then caution_at class line.now.place ∷ [] else [])) }
+{
+    if is_marked(class, line) {
+        found.push(Caution::on_line(alloc, class, line.place))?;
+    }
+    Ok(())
+}
+
+// Returns the first physical line of a text, and an empty one if the text has none.
+fn first_of(text: &[u8]) -> &[u8]
+    ensures { result.now ≡ first_line (cut text.now) }
+{
+    if text.is_empty() {
+        return &[];
+    }
+    let (line, _) = cut_first(text);
+    line
+}
+
+// Appends the cautions of a class on the physical lines of a file.
+fn push_lines(
+    alloc: Global,
+    class: CautionClass,
+    file: u32,
+    text: &[u8],
+    found: &mut Vec<Caution>,
+) -> Result<(), AllocError>
+    requires { length text.now ≤ TEXT_LIMIT }
+    ensures { OnOk result (found.new.items ≡ found.old.items
+        ++ map (λ number. caution_at class (place file number))
+        (numbers_of class false 1 (cut text.now))) }
+{
+    let mut rest = text;
+    let mut number = 1;
+    let mut continuing = false;
+    while !rest.is_empty() {
+        let (bytes, after) = cut_first(rest);
+        let line = PhysicalLine {
+            place: Place { file, line: number },
+            continuing,
+            bytes,
+            next: first_of(after),
+        };
+        push_line(alloc, class, &line, found)?;
+        continuing = is_continued(continuing, bytes);
+        rest = after;
+        number += 1;
+    }
+    Ok(())
+}
+
+// Appends the cautions of a class on a file, if it can be a file of a policy.
+fn push_file(
+    alloc: Global,
+    class: CautionClass,
+    file: usize,
+    text: &[u8],
+    found: &mut Vec<Caution>,
+) -> Result<(), AllocError>
+    ensures { OnOk result (found.new.items ≡ found.old.items
+        ++ cautions.file_cautions class file text.now) }
+{
+    if file <= u32::MAX as usize && text.len() <= TEXT_LIMIT {
+        push_lines(alloc, class, file as u32, text, found)
+    } else {
+        Ok(())
+    }
+}
+
+/// Appends the cautions of a class on the physical lines of files.
+pub(crate) fn push_texts(
+    alloc: Global,
+    class: CautionClass,
+    texts: &[&[u8]],
+    found: &mut Vec<Caution>,
+) -> Result<(), AllocError>
+    ensures { OnOk result (found.new.items ≡ found.old.items
+        ++ cautions.text_cautions class (map (λ t. t.now) texts.now)) }
+{
+    for (file, text) in texts.iter().enumerate() {
+        push_file(alloc, class, file, text, found)?;
+    }
+    Ok(())
+}

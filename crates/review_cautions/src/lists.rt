@@ -1,0 +1,221 @@
+//! Cautions on the lists of a policy.
+ghost use Rattle.std.specs.Prelude.{◌≡◌, ◌++◌, ◌∷◌, [], OnOk, map, false};
+ghost use Rattle.std.specs.List.{list_any};
+ghost use Rattle.sudo_grammar.specs.Words.{is_upper};
+ghost use Rattle.sudo_policy.specs.Definitions.{list_view};
+ghost use Rattle.review_cautions.specs.ListTests as spec;
+ghost use Rattle.review_cautions.specs.Cautions as cautions;
+
+use crate::{Caution, CautionClass};
+use std::alloc::{AllocError, Global};
+use sudo_policy::{Atom, Kind, Member, MemberList};
+use sudo_text::{Ch, Place, Seq};
+
+// Whether a character is a `[` that no escape yields.
+fn opens_bracket(ch: Ch) -> bool
+    ensures { result ≡ spec.opens_bracket ch }
+{
+    !ch.escaped && ch.byte == b'['
+}
+
+// Whether a `^` stands directly behind such a `[`.
+fn has_caret(chars: &[Ch]) -> bool
+    ensures { result ≡ spec.has_caret false chars.now }
+{
+    let mut opened = false;
+    for ch in chars {
+        if opened && ch.byte == b'^' {
+            return true;
+        }
+        opened = opens_bracket(*ch);
+    }
+    false
+}
+
+// Whether arguments, if any are given, have such a `^`.
+fn arguments_have_caret(arguments: &Option<Seq<Ch>>) -> bool
+    ensures { result ≡ spec.arguments_have_caret arguments.now }
+{
+    match arguments {
+        Some(arguments) => has_caret(arguments.as_slice()),
+        None => false,
+    }
+}
+
+// Whether a pattern of a host or of a command has such a `^`.
+fn atom_has_caret(atom: &Atom) -> bool
+    ensures { result ≡ spec.atom_has_caret atom.now }
+{
+    match atom {
+        Atom::Host { chars, quoted } => !*quoted && has_caret(chars.as_slice()),
+        Atom::Command { path, args } => has_caret(path.as_slice()) || arguments_have_caret(args),
+        _ => false,
+    }
+}
+
+// Whether a name has a capital letter.
+fn has_capital(name: &[u8]) -> bool
+    ensures { result ≡ list_any is_upper name.now }
+{
+    name.iter().any(|byte| byte.is_ascii_uppercase())
+}
+
+// Whether the name of a user or a group has a capital letter.
+fn atom_has_capital(atom: &Atom) -> bool
+    ensures { result ≡ spec.atom_has_capital atom.now }
+{
+    match atom {
+        Atom::Name(name) => has_capital(name.as_slice()),
+        Atom::Group(name) => has_capital(name.as_slice()),
+        _ => false,
+    }
+}
+
+// Whether a character is a wildcard that no escape yields.
+fn is_wildcard(ch: Ch) -> bool
+    ensures { result ≡ spec.is_wildcard ch }
+{
+    !ch.escaped && (ch.byte == b'*' || ch.byte == b'?' || ch.byte == b'[')
+}
+
+// Whether a path may begin with a text, as far as its wildcards let one know.
+fn may_begin(text: &[u8], path: &[Ch]) -> bool
+    ensures { result ≡ spec.may_begin text.now path.now }
+{
+    match text {
+        [] => true,
+        [byte, text @ ..] => match path {
+            [] => false,
+            [ch, path @ ..] => is_wildcard(*ch) || (ch.byte == *byte && may_begin(text, path)),
+        },
+    }
+}
+
+// Whether a path may lie below a folder that is a link on most machines, or below the folder that the link leads to.
+fn is_linked(path: &[Ch]) -> bool
+    ensures { result ≡ spec.is_linked path.now }
+{
+    may_begin(b"/bin/", path)
+        || may_begin(b"/sbin/", path)
+        || may_begin(b"/lib/", path)
+        || may_begin(b"/usr/bin/", path)
+        || may_begin(b"/usr/sbin/", path)
+        || may_begin(b"/usr/lib/", path)
+}
+
+// Whether an atom is a command whose path may lie there.
+fn atom_is_linked(atom: &Atom) -> bool
+    ensures { result ≡ spec.atom_is_linked atom.now }
+{
+    match atom {
+        Atom::Command { path, .. } => is_linked(path.as_slice()),
+        _ => false,
+    }
+}
+
+// Whether the construct of a class may stand in the lists of a kind.
+fn concerns(class: CautionClass, kind: Kind) -> bool
+    ensures { result ≡ spec.concerns class kind }
+{
+    match class {
+        CautionClass::Caret => matches!(kind, Kind::Host | Kind::Cmnd),
+        CautionClass::Case => matches!(kind, Kind::User | Kind::Runas),
+        CautionClass::Linked => matches!(kind, Kind::Cmnd),
+        _ => false,
+    }
+}
+
+// Whether an atom has the construct of a class.
+fn atom_holds(class: CautionClass, atom: &Atom) -> bool
+    ensures { result ≡ spec.atom_holds class atom.now }
+{
+    match class {
+        CautionClass::Caret => atom_has_caret(atom),
+        CautionClass::Case => atom_has_capital(atom),
+        CautionClass::Linked => atom_is_linked(atom),
+        _ => false,
+    }
+}
+
+// Whether one of the members has the construct of a class.
+fn members_hold(class: CautionClass, members: &[Member]) -> bool
+    ensures { result ≡ list_any (λ m. spec.atom_holds class m.atom) members.now }
+{
+    members.iter().any(|member| atom_holds(class, &member.atom))
+}
+
+// Whether a list has the construct of a class.
+fn list_holds(class: CautionClass, list: &MemberList<'_>) -> bool
+    ensures { result ≡ spec.list_holds class (list_view list.now) }
+{
+    concerns(class, list.kind) && members_hold(class, list.members)
+}
+
+// Whether two places are the same line of the same file.
+fn is_same_place(a: Place, b: Place) -> bool
+    ensures { result ≡ cautions.same_place a b }
+{
+    a.file == b.file && a.line == b.line
+}
+
+// Whether the place before, if any, is the same.
+fn is_at(before: Option<Place>, place: Place) -> bool
+    ensures { result ≡ cautions.is_at before place }
+{
+    match before {
+        Some(before) => is_same_place(before, place),
+        None => false,
+    }
+}
+
+// Appends a caution on a line.
+fn push_caution(
+    alloc: Global,
+    class: CautionClass,
+    place: Place,
+    found: &mut Vec<Caution>,
+) -> Result<(), AllocError>
+    ensures { OnOk result (found.new.items ≡ found.old.items ++ cautions.caution_at class place ∷ []) }
+{
+    found.push(Caution::on_line(alloc, class, place))?;
+    Ok(())
+}
+
+/// Appends the cautions of a class on lists, one for each line.
+pub(crate) fn push_lists(
+    alloc: Global,
+    class: CautionClass,
+    lists: &[MemberList<'_>],
+    found: &mut Vec<Caution>,
+) -> Result<(), AllocError>
+    ensures { OnOk result (found.new.items ≡ found.old.items
+        ++ cautions.list_cautions class (map list_view lists.now)) }
+{
+    let mut before = None;
+    for list in lists {
+        if list_holds(class, list) {
+            if !is_at(before, list.place) {
+                push_caution(alloc, class, list.place, found)?;
+            }
+            before = Some(list.place);
+        }
+    }
+    Ok(())
+}
+
+/// Appends the caution on the first list with a linked command, if any.
+pub(crate) fn push_linked(
+    alloc: Global,
+    lists: &[MemberList<'_>],
+    found: &mut Vec<Caution>,
+) -> Result<(), AllocError>
+    ensures { OnOk result (found.new.items ≡ found.old.items
+        ++ cautions.linked_cautions (map list_view lists.now)) }
+{
+    for list in lists {
+        if list_holds(CautionClass::Linked, list) {
+            return push_caution(alloc, CautionClass::Linked, list.place, found);
+        }
+    }
+    Ok(())
+}
