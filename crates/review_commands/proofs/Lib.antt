@@ -1,0 +1,4 @@
+pub mod Refusals
+pub mod Subcommands
+pub mod ReportSteps
+pub mod EndingSteps

@@ -1,0 +1,75 @@
+-- The lines of cautions, and the line that counts them.
+use Rattle.std.specs.Prelude.{ℕ, Bool, not, List, [], ◌∷◌, ◌++◌, codes, decimal, filter, flat_map, fold, length, bytes_eq}
+use Rattle.std.specs.List.{list_any}
+use Rattle.audit_files.specs.Places.{place_text}
+use Rattle.run_base.specs.Endings.{Notices, notices}
+use Rattle.run_base.specs.FaultLines.{policy_printed}
+use Rattle.run_base.specs.Faults.{policy_status}
+use Rattle.run_base.specs.declared.fault.PolicyFault.{PolicyFault}
+use Rattle.audit_commands.specs.FaultLines.{report_printed}
+use Rattle.audit_commands.specs.Faults.{report_status}
+use Rattle.audit_commands.specs.declared.fault.ReportFault.{ReportFault}
+use Rattle.review_cautions.specs.Classes.{class_name, class_text, classes}
+use Rattle.review_cautions.specs.declared.caution.Caution.{Caution}
+use Rattle.review_cautions.specs.declared.class.CautionClass.{CautionClass}
+
+-- the name of the program
+abbrev pub program_name : List ℕ
+program_name = codes "sudo_review"
+
+-- the subject of a caution, if it has one, and a colon
+abbrev pub subject_text : List ℕ → List ℕ
+subject_text [] = []
+subject_text (b ∷ rest) = (b ∷ rest) ++ codes ": "
+
+-- `PATH:LINE: caution: CLASS: TEXT`
+abbrev pub caution_line : List (List ℕ) → Caution → List ℕ
+caution_line files caution = place_text files caution.place ++ codes ": caution: " ++ class_name caution.class ++ codes ": "
+    ++ subject_text caution.subject ++ class_text caution.class ++ 10 ∷ []
+
+-- `cautions: N`
+abbrev pub counted_line : ℕ → List ℕ
+counted_line count = codes "cautions: " ++ decimal count ++ 10 ∷ []
+
+-- a line for each caution, and one with their number
+abbrev pub cautions_text : List (List ℕ) → List Caution → List ℕ
+cautions_text files found = flat_map (caution_line files) found ++ counted_line (length found)
+
+-- 5 if there is a caution, otherwise 0
+abbrev pub cautions_status : List Caution → ℕ
+cautions_status [] = 0
+cautions_status (caution ∷ rest) = 5
+
+-- the class is one of these: its name is that of one of them
+abbrev pub is_without : List CautionClass → CautionClass → Bool
+is_without without class = list_any (λ other. bytes_eq (class_name other) (class_name class)) without
+
+-- the cautions but for those of these classes
+abbrev pub kept_cautions : List CautionClass → List Caution → List Caution
+kept_cautions without found = filter (λ caution. not (is_without without caution.class)) found
+
+-- one of the cautions has this class: its name
+abbrev pub has_class : List Caution → CautionClass → Bool
+has_class found class = list_any (λ caution. bytes_eq (class_name caution.class) (class_name class)) found
+
+-- the name of a class after those so far, after a comma unless it is the first
+abbrev pub with_class : List ℕ → CautionClass → List ℕ
+with_class [] class = class_name class
+with_class (b ∷ before) class = (b ∷ before) ++ codes ", " ++ class_name class
+
+-- the names of the classes of the cautions, in the order of the classes
+abbrev pub listed_classes : List Caution → List ℕ
+listed_classes found = fold with_class [] (filter (has_class found) classes)
+
+-- the line that a command which judges ends with: `sudo_review: N cautions (CLASS, ..)`; nothing if there is no caution
+abbrev pub notice_text : List Caution → List ℕ
+notice_text [] = []
+notice_text (caution ∷ rest) = program_name ++ codes ": " ++ decimal (length (caution ∷ rest)) ++ codes " cautions ("
+    ++ listed_classes (caution ∷ rest) ++ codes ")" ++ 10 ∷ []
+
+-- what each command prints for its faults
+abbrev pub cautions_notices : Notices PolicyFault
+cautions_notices = notices policy_status policy_printed program_name
+
+abbrev pub report_notices : Notices ReportFault
+report_notices = notices report_status report_printed program_name

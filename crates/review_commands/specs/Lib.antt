@@ -1,0 +1,7 @@
+pub mod FileTexts
+pub mod CautionLines
+pub mod Endings
+pub mod Rows
+pub mod Reviewing
+pub mod Words
+pub mod Body

@@ -1,0 +1,34 @@
+-- The text of a report with the request beside each answer.
+use Rattle.std.specs.Prelude.{ℕ, List, [], ◌∷◌, ◌++◌, codes, decimal, flat_map, unwrap_or}
+use Rattle.audit_collect.specs.declared.arrival.Answer.{Answer}
+use Rattle.audit_collect.specs.declared.report.Report.{Report}
+use Rattle.audit_collect.specs.declared.report.SenderReport.{SenderReport}
+use Rattle.audit_files.specs.Report.{line, verdict_place, verdict_tags, verdict_word}
+use Rattle.sudo_match.specs.declared.request.Request.{Request}
+use Rattle.sudo_match.specs.declared.request.Verdict.{Verdict}
+
+-- the first record: the names of the columns
+abbrev pub header : List (List ℕ)
+header = codes "sender" ∷ codes "number" ∷ codes "user" ∷ codes "host" ∷ codes "runas_user" ∷ codes "runas_group"
+    ∷ codes "command" ∷ codes "arguments" ∷ codes "verdict" ∷ codes "place" ∷ codes "tags" ∷ codes "depends" ∷ []
+
+-- the fields of a request; a target that is not asked for is empty
+abbrev pub request_fields : Request → List (List ℕ)
+request_fields r = decimal r.number ∷ r.user ∷ r.host ∷ unwrap_or r.runas_user [] ∷ unwrap_or r.runas_group []
+    ∷ r.command ∷ r.arguments ∷ []
+
+-- the fields of a verdict; nothing is noted that it depends on
+abbrev pub verdict_fields : List (List ℕ) → Verdict → List (List ℕ)
+verdict_fields files v = verdict_word v ∷ verdict_place files v ∷ verdict_tags v ∷ [] ∷ []
+
+-- the fields of an answer's record
+abbrev pub answer_fields : List (List ℕ) → List ℕ → Answer → List (List ℕ)
+answer_fields files sender a = sender ∷ (request_fields a.request ++ verdict_fields files a.verdict)
+
+-- one record for each answer of a sender, in order
+abbrev pub sender_text : List (List ℕ) → SenderReport → List ℕ
+sender_text files s = flat_map (λ a. line (answer_fields files s.name a)) s.answers
+
+-- the header, and each sender's records, in the order of the roster; `files` are the files of the policy
+abbrev pub report_text : List (List ℕ) → Report → List ℕ
+report_text files r = line header ++ flat_map (sender_text files) r.senders

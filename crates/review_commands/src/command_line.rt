@@ -1,0 +1,72 @@
+//! The command that `clap` reads.
+ghost use Rattle.std.specs.Prelude.{◌≡◌, IfOk, false};
+ghost use Rattle.clap.specs.Words.{app_of, rule_of};
+ghost use Rattle.clap.specs.declared.builder.command.Command.TheViews.{out-Command as fields_of};
+ghost use Rattle.review_commands.specs.Words.{report_app, report_paths_app, cautions_app, named_app};
+ghost use Rattle.review_commands.specs.Words.{program_app, without_rule};
+
+use clap::{Arg, ArgAction, Command};
+use run_base::{file, path_option, senders_words, with_subcommand, workers_option};
+use std::alloc::{AllocError, Global};
+
+// Returns `--without CLASS`, any number of times.
+fn without<'a>(alloc: Global) -> Arg<'a>
+    ensures rule { rule_of result ≡ without_rule }
+    ensures local { result.global ≡ false }
+{
+    Arg::new(alloc, "without")
+        .long("without")
+        .action(ArgAction::Append)
+        .help("A class of cautions that is not listed")
+}
+
+// Returns `cautions FILE [--without CLASS]...`.
+fn cautions<'a>(alloc: Global) -> Result<Command<'a>, AllocError>
+    ensures app { IfOk result (λ c. app_of c ≡ cautions_app) }
+    ensures local { IfOk result (λ c. (fields_of c).has_globals ≡ false) }
+{
+    Command::new(alloc, "cautions")
+        .about("Lists what sudo reads or judges otherwise")
+        .arg(file(alloc))?
+        .arg(without(alloc))
+}
+
+// Returns `report FILE --users F --hosts F`.
+fn report_paths<'a>(alloc: Global) -> Result<Command<'a>, AllocError>
+    ensures app { IfOk result (λ c. app_of c ≡ report_paths_app) }
+    ensures local { IfOk result (λ c. (fields_of c).has_globals ≡ false) }
+{
+    Command::new(alloc, "report")
+        .about("Prints what a policy grants to each request, beside the request")
+        .arg(file(alloc))?
+        .arg(path_option(alloc, "users", "The known users, as CSV"))?
+        .arg(path_option(alloc, "hosts", "The known hosts, as CSV"))
+}
+
+// Returns `report FILE --users F --hosts F [--workers N] [NAME=PATH]...`.
+fn report<'a>(alloc: Global) -> Result<Command<'a>, AllocError>
+    ensures app { IfOk result (λ c. app_of c ≡ report_app) }
+    ensures local { IfOk result (λ c. (fields_of c).has_globals ≡ false) }
+{
+    report_paths(alloc)?
+        .arg(workers_option(alloc))?
+        .arg(senders_words(alloc))
+}
+
+// Returns the program's name and version, without a subcommand.
+fn named<'a>(alloc: Global) -> Command<'a>
+    ensures app { app_of result ≡ named_app }
+    ensures local { (fields_of result).has_globals ≡ false }
+{
+    Command::new(alloc, "sudo_review")
+        .version("0.1.0")
+        .subcommand_required(true)
+}
+
+/// Returns the program's command, with its two subcommands.
+pub(crate) fn program<'a>(alloc: Global) -> Result<Command<'a>, AllocError>
+    ensures app { IfOk result (λ c. app_of c ≡ program_app) }
+{
+    let cautioning = with_subcommand(named(alloc), cautions(alloc))?;
+    with_subcommand(cautioning, report(alloc))
+}

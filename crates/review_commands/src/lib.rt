@@ -1,0 +1,20 @@
+//! The words of the command line, and the commands of the reviewer.
+#![tactic(auto)]
+
+mod cautions;
+mod command_line;
+mod ending;
+mod file_texts;
+mod lines;
+mod program;
+mod program_name;
+mod report;
+mod report_rows;
+mod request;
+mod words;
+
+pub use cautions::cautions_run;
+pub use program::run_program;
+pub use report::report_into;
+pub use request::Asked;
+pub use words::{asked, unread};

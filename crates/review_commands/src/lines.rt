@@ -1,0 +1,112 @@
+//! The lines of cautions, and the line that counts them.
+ghost use Rattle.std.specs.Prelude.{◌≡◌, ◌++◌, IfOk, OnOk};
+ghost use Rattle.review_commands.specs.CautionLines.{caution_line, cautions_status, cautions_text, counted_line};
+ghost use Rattle.review_commands.specs.CautionLines.{has_class, listed_classes, notice_text, subject_text, with_class};
+
+use crate::program_name::PROGRAM;
+use audit_files::push_place;
+use review_cautions::{CAUTION_CLASSES, Caution, CautionClass};
+use run_base::{RunOutput, begin_line, push, push_number};
+use std::alloc::{AllocError, Global};
+use sudo_text::Seq;
+
+// Appends the subject of a caution, if it has one.
+fn push_subject(line: &mut Vec<u8>, subject: &[u8]) -> Result<(), AllocError>
+    ensures { OnOk result (line.new.items ≡ line.old.items ++ subject_text subject.now) }
+{
+    if subject.is_empty() {
+        return Ok(());
+    }
+    push(line, subject)?;
+    push(line, b": ")
+}
+
+// Appends the line of a caution.
+fn push_caution(lines: &mut Vec<u8>, files: &[Seq<u8>], caution: &Caution) -> Result<(), AllocError>
+    ensures { OnOk result (lines.new.items ≡ lines.old.items ++ caution_line files.now caution.now) }
+{
+    push_place(lines, files, caution.place)?;
+    push(lines, b": caution: ")?;
+    push(lines, caution.class.name())?;
+    push(lines, b": ")?;
+    push_subject(lines, caution.subject.as_slice())?;
+    push(lines, caution.class.text())?;
+    push(lines, b"\n")
+}
+
+// Appends `cautions: ` and a number.
+fn push_count(lines: &mut Vec<u8>, count: usize) -> Result<(), AllocError>
+    ensures { OnOk result (lines.new.items ≡ lines.old.items ++ counted_line count) }
+{
+    push(lines, b"cautions: ")?;
+    push_number(lines, count as u64)?;
+    push(lines, b"\n")
+}
+
+/// Returns a line for each caution and a last one with their number, and the status: 5 if there is a caution, otherwise 0.
+/// Returns `AllocError` if allocation failed.
+pub(crate) fn caution_lines(
+    alloc: Global,
+    files: &[Seq<u8>],
+    found: &[Caution],
+) -> Result<RunOutput, AllocError>
+    ensures text { IfOk result (λ printed. printed.text.items ≡ cautions_text files.now found.now) }
+    ensures status { IfOk result (λ printed. printed.status ≡ cautions_status found.now) }
+{
+    let mut text = Vec::new(alloc);
+    for caution in found {
+        push_caution(&mut text, files, caution)?;
+    }
+    push_count(&mut text, found.len())?;
+    let status = if found.is_empty() { 0 } else { 5 };
+    Ok(RunOutput { text, status })
+}
+
+// Whether one of the cautions has this class.
+fn some_has(found: &[Caution], class: CautionClass) -> bool
+    ensures { result ≡ has_class found.now class }
+{
+    found
+        .iter()
+        .any(|caution| caution.class.name() == class.name())
+}
+
+// Appends the name of a class, after a comma unless it is the first.
+fn push_class(names: &mut Vec<u8>, class: CautionClass) -> Result<(), AllocError>
+    ensures { OnOk result (names.new.items ≡ with_class names.old.items class) }
+{
+    if !names.is_empty() {
+        push(names, b", ")?;
+    }
+    push(names, class.name())
+}
+
+// Returns the names of the classes of the cautions.
+fn class_names(alloc: Global, found: &[Caution]) -> Result<Vec<u8>, AllocError>
+    ensures { IfOk result (λ names. names.items ≡ listed_classes found.now) }
+{
+    let mut names = Vec::new(alloc);
+    for class in CAUTION_CLASSES.iter() {
+        if some_has(found, *class) {
+            push_class(&mut names, *class)?;
+        }
+    }
+    Ok(names)
+}
+
+/// Returns the line that a command which judges ends with: the number of cautions and their classes. Returns nothing if there
+/// is no caution, and `AllocError` if allocation failed.
+pub(crate) fn notice(alloc: Global, found: &[Caution]) -> Result<Vec<u8>, AllocError>
+    ensures { IfOk result (λ line. line.items ≡ notice_text found.now) }
+{
+    if found.is_empty() {
+        return Ok(Vec::new(alloc));
+    }
+    let names = class_names(alloc, found)?;
+    let mut line = begin_line(alloc, PROGRAM)?;
+    push_number(&mut line, found.len() as u64)?;
+    push(&mut line, b" cautions (")?;
+    push(&mut line, &names)?;
+    push(&mut line, b")\n")?;
+    Ok(line)
+}

@@ -1,0 +1,124 @@
+//! The program: executes the command that its words ask for.
+ghost use Rattle.std.specs.Prelude.{◌≤◌};
+ghost use Rattle.review_commands.specs.Words.{WorkersFit};
+
+use crate::cautions::cautions_run;
+use crate::program_name::PROGRAM;
+use crate::report::report_into;
+use crate::request::Asked;
+use crate::words::{asked, unread};
+use audit_commands::{OpenedFiles, open_all};
+use audit_files::Device;
+use clap::Error;
+use clap::error::ErrorKind;
+use run_base::{Disk, SystemOpener, report_fault};
+use std::alloc::AllocError;
+use std::env;
+use std::sync::Wait;
+use std::thread::Threads;
+
+// Answers the requests of the files that the words `NAME=PATH` name, and returns the exit status.
+// `threads` is the runtime, if it can start threads.
+fn run_report<T: Threads + Wait + Sync>(
+    rt: &HostRuntime,
+    threads: &T,
+    file: &str,
+    users: &str,
+    hosts: &str,
+    workers: u32,
+    words: &[&str],
+) -> u8
+    requires { (1 ≤ workers) × (workers ≤ 16) }
+{
+    let alloc = rt.alloc();
+    let mut out = Device::new(rt.stdout());
+    let mut err = Device::new(rt.stderr());
+    match open_all(alloc, &SystemOpener::new(rt), users, hosts, words) {
+        Ok(files) => {
+            let OpenedFiles {
+                mut users,
+                mut hosts,
+                sources,
+            } = files;
+            report_into(
+                alloc,
+                threads,
+                file.as_bytes(),
+                &mut Disk::new(rt),
+                &mut users,
+                &mut hosts,
+                sources,
+                workers,
+                &mut out,
+                &mut err,
+            )
+        }
+        Err(fault) => report_fault(alloc, PROGRAM, fault, &mut err),
+    }
+}
+
+// Executes a command, and returns the exit status.
+fn run<T: Threads + Wait + Sync>(rt: &HostRuntime, threads: &T, asked: Asked<'_>) -> u8
+    requires { WorkersFit asked }
+{
+    let alloc = rt.alloc();
+    let mut out = Device::new(rt.stdout());
+    let mut err = Device::new(rt.stderr());
+    let mut disk = Disk::new(rt);
+    match asked {
+        Asked::Cautions { file, without } => cautions_run(
+            alloc,
+            file.as_bytes(),
+            &mut disk,
+            &without,
+            &mut out,
+            &mut err,
+        ),
+        Asked::Report {
+            file,
+            users,
+            hosts,
+            workers,
+            senders,
+        } => run_report(rt, threads, file, users, hosts, workers, senders.as_slice()),
+    }
+}
+
+// Prints the text of `clap`, and returns the exit status: help or the version, if asked for, goes
+// to standard output, with status 0, and a mistake in the words to standard error, with status 2.
+fn refuse(rt: &HostRuntime, error: &Error) -> u8 {
+    if error.kind() == ErrorKind::OutOfMemory {
+        let mut err = Device::new(rt.stderr());
+        return report_fault(rt.alloc(), PROGRAM, AllocError, &mut err);
+    }
+    let printed = error.print(rt);
+    if error.use_stderr() {
+        2
+    } else if printed.is_ok() {
+        0
+    } else {
+        4
+    }
+}
+
+// Returns the words of the command line, the program's own name first.
+fn words(rt: &HostRuntime) -> Result<Vec<String>, Error> {
+    match env::args(rt) {
+        Ok(words) => Ok(words.collect(rt.alloc())?),
+        Err(error) => Err(unread(rt.alloc(), error.kind())),
+    }
+}
+
+/// Executes the command that the words of the command line ask for, and returns the exit status.
+///
+/// `threads` is the runtime, if it can start threads.
+pub fn run_program<T: Threads + Wait + Sync>(rt: &HostRuntime, threads: &T) -> u8 {
+    let words = match words(rt) {
+        Ok(words) => words,
+        Err(error) => return refuse(rt, &error),
+    };
+    match asked(rt.alloc(), words.as_slice()) {
+        Ok(asked) => run(rt, threads, asked),
+        Err(error) => refuse(rt, &error),
+    }
+}

@@ -1,0 +1,139 @@
+//! `report`: answers requests, each beside its answer.
+ghost use Rattle.std.specs.Prelude.{◌≡◌, ◌≤◌, ◌⊎◌, ℕ, List, Ok, Err, IfErr, IfOk, map};
+ghost use Rattle.run_base.specs.Endings.{writer_states as sent};
+ghost use Rattle.audit_commands.specs.Auditing.{Given, given_by, IsNotAudited};
+ghost use Rattle.review_commands.specs.Body.Reviewing.{IsPrintedReview};
+ghost use Rattle.review_commands.specs.CautionLines.{notice_text, report_notices};
+ghost use Rattle.review_commands.specs.Endings.{EndsNoted};
+ghost use Rattle.review_cautions.specs.Cautions.{policy_cautions};
+ghost use Rattle.review_commands.specs.FileTexts.{texts_of};
+ghost use Rattle.review_commands.specs.Reviewing.{IsReviewed};
+
+use crate::cautions::found_in;
+use crate::ending::{NotedOutput, end_noted};
+use crate::lines::notice;
+use crate::program_name::PROGRAM;
+use crate::report_rows::report_text;
+use audit_collect::Report;
+use audit_commands::{ReportFault, Work, answer_requests};
+use audit_files::{Feed, Sink};
+use audit_run::Source;
+use run_base::{CheckedFiles, Files, PolicyFault, checked_files};
+use std::alloc::{AllocError, Global};
+use std::mem;
+use std::sync::Wait;
+use std::thread::Threads;
+use sudo_policy::Checked;
+
+// Returns the line of the cautions on a checked policy.
+fn notice_on(alloc: Global, checked: &CheckedFiles) -> Result<Vec<u8>, AllocError>
+    ensures { let files = checked.now.policy.files in
+        let texts = texts_of checked.now.text checked.now.supplies files in
+        IfOk result (λ line. line.items
+        ≡ notice_text (policy_cautions texts checked.now.policy)) }
+{
+    let policy = checked.policy.policy();
+    let found = found_in(
+        alloc,
+        checked.text.as_slice(),
+        checked.supplies.as_slice(),
+        policy,
+    )?;
+    notice(alloc, &found)
+}
+
+// Returns the text of a report, with this notice. Forgets the report: the run ends here, and texts of many requests are not
+// freed one by one.
+fn printed(
+    alloc: Global,
+    policy: &Checked,
+    answered: Result<Report, ReportFault>,
+    notice: Vec<u8>,
+) -> Result<NotedOutput, ReportFault>
+    ensures text { IfOk result (λ p. IsPrintedReview policy.now answered p.text.items) }
+    ensures notice { IfOk result (λ p. p.notice.items ≡ notice.items) }
+    ensures fault { IfErr result (λ fault. (fault ≡ ReportFault.Memory) ⊎ (answered ≡ Err fault)) }
+{
+    match answered {
+        Ok(report) => {
+            let text = report_text(alloc, &report, policy.policy().files.as_slice())?;
+            mem::forget(report);
+            Ok(NotedOutput { text, notice })
+        }
+        Err(fault) => Err(fault),
+    }
+}
+
+// Returns the text and the notice of a report on the requests of the sources, under the policy of a file, which it loads.
+// Forgets the policy: the run ends here.
+fn report_output<T: Threads + Wait + Sync, F: Files, U: Feed, H: Feed, R: Feed + Drop + Send>(
+    alloc: Global,
+    rt: &T,
+    path: &[u8],
+    files: &mut F,
+    users: &mut U,
+    hosts: &mut H,
+    work: Work<R>,
+) -> Result<NotedOutput, ReportFault>
+    requires { (1 ≤ work.workers) × (work.workers ≤ 16) }
+    ensures report { let given : Given = given_by (F.held files.old) path.now
+        (U.ahead users.old) (H.ahead hosts.old) (map (λ s. s.name) work.sources.items)
+        (map (λ s. R.ahead s.reader) work.sources.items) work.workers in
+        IfOk result (λ p. IsReviewed given p.text.items p.notice.items) }
+    ensures fault { let given : Given = given_by (F.held files.old) path.now
+        (U.ahead users.old) (H.ahead hosts.old) (map (λ s. s.name) work.sources.items)
+        (map (λ s. R.ahead s.reader) work.sources.items) work.workers in
+        IfErr result (IsNotAudited given) }
+{
+    let checked = match checked_files(alloc, path, files) {
+        Ok(checked) => checked,
+        Err(PolicyFault::Memory) => return Err(ReportFault::Memory),
+        Err(fault) => return Err(ReportFault::Policy(fault)),
+    };
+    let notice = notice_on(alloc, &checked)?;
+    let answered = answer_requests(alloc, rt, &checked.policy, users, hosts, work);
+    let ended = printed(alloc, &checked.policy, answered, notice);
+    mem::forget(checked);
+    ended
+}
+
+/// Prints on `out` the report of the requests of the sources, each request beside its answer: for each sender, in the order
+/// in which their names first appear, and for each of its requests, in the order of their numbers, the verdict of the policy
+/// of a file. Then prints on `err` the line that counts the cautions on the policy, if there is one.
+///
+/// Returns the exit status: 0; 1 if the policy is refused or has errors; 3 if the users, the hosts or the requests are
+/// refused; 4 if reading, writing, a thread or memory failed. Checks in this order: the policy, the users, the hosts, both
+/// together, the requests. If the check of the policy finds errors, prints them on `err`; prints any other fault as one line
+/// on `err`. Then nothing was printed on `out`, except by a write that failed part way.
+pub fn report_into<
+    T: Threads + Wait + Sync,
+    F: Files,
+    U: Feed,
+    H: Feed,
+    R: Feed + Drop + Send,
+    O: Sink,
+    E: Sink,
+>(
+    alloc: Global,
+    rt: &T,
+    path: &[u8],
+    files: &mut F,
+    users: &mut U,
+    hosts: &mut H,
+    sources: Vec<Source<R>>,
+    workers: u32,
+    out: &mut O,
+    err: &mut E,
+) -> u8
+    requires { (1 ≤ workers) × (workers ≤ 16) }
+    ensures ends { let given : Given = given_by (F.held files.old) path.now
+        (U.ahead users.old) (H.ahead hosts.old) (map (λ s. s.name) sources.items)
+        (map (λ s. R.ahead s.reader) sources.items) workers in
+        EndsNoted report_notices (IsReviewed given) (IsNotAudited given) result
+        (sent O.taken O.stalled_writes out.old out.new)
+        (sent E.taken E.stalled_writes err.old err.new) }
+{
+    let work = Work { sources, workers };
+    let ended = report_output(alloc, rt, path, files, users, hosts, work);
+    end_noted(alloc, PROGRAM, ended, out, err)
+}

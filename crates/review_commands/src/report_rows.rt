@@ -1,0 +1,154 @@
+//! The text of a report with the request beside each answer, record by record.
+ghost use Rattle.std.specs.Prelude.{◌≡◌, ◌++◌, ◌∷◌, [], ℕ, List, IfOk, OnOk, map, unwrap_or};
+ghost use Rattle.csv.specs.Writing.{default_writer, field_text, fields_text};
+ghost use Rattle.audit_files.specs.Report.{line};
+ghost use Rattle.review_commands.specs.Rows.{answer_fields, header, report_text as text_of, request_fields};
+ghost use Rattle.review_commands.specs.Rows.{sender_text, verdict_fields};
+
+use audit_collect::{Answer, Report, SenderReport};
+use audit_files::{push_field, push_next_field, set_place, set_tags, verdict_word};
+use itoa::Buffer;
+use std::alloc::{AllocError, Global};
+use sudo_match::{Request, Verdict};
+use sudo_text::Seq;
+
+// Appends fields, each after a comma.
+fn push_fields(text: &mut Vec<u8>, fields: &[&[u8]]) -> Result<(), AllocError>
+    ensures { OnOk result (text.new.items
+        ≡ text.old.items ++ fields_text default_writer (map (λ f. f.now) fields.now)) }
+{
+    for field in fields {
+        push_next_field(text, field)?;
+    }
+    Ok(())
+}
+
+// Returns the bytes of a target, none if it is not asked for.
+fn asked_bytes(target: &Option<Seq<u8>>) -> &[u8]
+    ensures { result.now ≡ unwrap_or target.now [] }
+{
+    match target {
+        Some(name) => name.as_slice(),
+        None => &[],
+    }
+}
+
+// Appends the fields of a request, each after a comma.
+fn push_request(text: &mut Vec<u8>, request: &Request) -> Result<(), AllocError>
+    ensures { OnOk result (text.new.items
+        ≡ text.old.items ++ fields_text default_writer (request_fields request.now)) }
+{
+    let mut number = Buffer::new();
+    push_fields(
+        text,
+        &[
+            number.format(request.number).as_bytes(),
+            request.user.as_slice(),
+            request.host.as_slice(),
+            asked_bytes(&request.runas_user),
+            asked_bytes(&request.runas_group),
+            request.command.as_slice(),
+            request.arguments.as_slice(),
+        ],
+    )
+}
+
+// The parts of a record that many records share or overwrite.
+#[derive(Drop)]
+struct Scratch {
+    // The first field, as it is written.
+    sender: Vec<u8>,
+    place: Vec<u8>,
+    tags: Vec<u8>,
+}
+
+// Appends the fields of a verdict, each after a comma.
+fn push_verdict(
+    text: &mut Vec<u8>,
+    scratch: &mut Scratch,
+    files: &[Seq<u8>],
+    verdict: &Verdict,
+) -> Result<(), AllocError>
+    ensures text { OnOk result (text.new.items
+        ≡ text.old.items ++ fields_text default_writer (verdict_fields files.now verdict.now)) }
+    ensures sender { OnOk result (scratch.new.sender.items ≡ scratch.old.sender.items) }
+{
+    set_place(&mut scratch.place, files, verdict)?;
+    set_tags(&mut scratch.tags, verdict)?;
+    push_fields(
+        text,
+        &[
+            verdict_word(verdict),
+            scratch.place.as_slice(),
+            scratch.tags.as_slice(),
+            b"",
+        ],
+    )
+}
+
+// Appends the record of an answer of the sender whose field is in `scratch`.
+fn push_answer(
+    text: &mut Vec<u8>,
+    scratch: &mut Scratch,
+    files: &[Seq<u8>],
+    answer: &Answer,
+) -> Result<(), AllocError>
+    ensures text { OnOk result ((sender : List ℕ)
+        → scratch.old.sender.items ≡ field_text default_writer sender → text.new.items
+        ≡ text.old.items ++ line (answer_fields files.now sender answer.now)) }
+    ensures sender { OnOk result (scratch.new.sender.items ≡ scratch.old.sender.items) }
+{
+    text.extend_from_slice(scratch.sender.as_slice())?;
+    push_request(text, &answer.request)?;
+    push_verdict(text, scratch, files, &answer.verdict)?;
+    text.push(b'\n')?;
+    Ok(())
+}
+
+// Appends the records of a sender.
+fn push_sender(
+    text: &mut Vec<u8>,
+    scratch: &mut Scratch,
+    files: &[Seq<u8>],
+    sender: &SenderReport,
+) -> Result<(), AllocError>
+    ensures { OnOk result (text.new.items
+        ≡ text.old.items ++ sender_text files.now sender.now) }
+{
+    scratch.sender.clear();
+    push_field(&mut scratch.sender, sender.name.as_slice())?;
+    for answer in sender.answers.as_slice() {
+        push_answer(text, scratch, files, answer)?;
+    }
+    Ok(())
+}
+
+// The names of the columns, as a record.
+const HEADER: &[u8] = b"sender,number,user,host,runas_user,runas_group,\
+    command,arguments,verdict,place,tags,depends\n";
+
+/// Returns the report as CSV, with the request beside each answer: the header `sender,number,user,host,runas_user,
+/// runas_group,command,arguments,verdict,place,tags,depends`, then for each sender a record for each of its answers, in their
+/// order.
+///
+/// `place` is `PATH:LINE` of the grant that decided, with the path at the place's number in `files`, and empty but for `allow`
+/// and `deny`; `tags` is empty but for `allow`; `depends` is empty. Returns `AllocError` if allocation failed.
+pub(crate) fn report_text(
+    alloc: Global,
+    report: &Report,
+    files: &[Seq<u8>],
+) -> Result<Vec<u8>, AllocError>
+    ensures { IfOk result (λ text. text.items ≡ text_of files.now report.now) }
+{
+    let mut text = Vec::new(alloc);
+    let mut scratch = Scratch {
+        sender: Vec::new(alloc),
+        place: Vec::new(alloc),
+        tags: Vec::new(alloc),
+    };
+    text.extend_from_slice(HEADER)?;
+    for sender in report.senders.as_slice() {
+        push_sender(&mut text, &mut scratch, files, sender)?;
+    }
+    Ok(text)
+}

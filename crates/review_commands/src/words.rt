@@ -1,0 +1,227 @@
+//! The words of the command line.
+ghost use Rattle.std.specs.Prelude.{◌≡◌, ◌≢◌, None, Some, IfErr, IfOk, IfSome, List, codes, map};
+ghost use Rattle.clap.specs.Words.{Row, Text, app_of, found_of, kind_of as error_kind, rows_of};
+ghost use Rattle.clap.specs.Words.{subcommand_of, subcommand_rows_of};
+ghost use Rattle.run_base.specs.Arguments.{IsUnaskedKind, IsUnreadableWord};
+ghost use Rattle.review_cautions.specs.Classes.{class_name};
+ghost use Rattle.review_cautions.specs.declared.class.CautionClass.{CautionClass};
+ghost use Rattle.review_commands.specs.Words.{AsksNothing, IsErrorOfWords};
+ghost use Rattle.review_commands.specs.Words.{HoldsCommand};
+ghost use Rattle.review_commands.specs.Words.{WorkersFit, program_app};
+
+use crate::command_line::program;
+use crate::request::Asked;
+use clap::error::ErrorKind;
+use clap::{ArgMatches, Command, Error};
+use review_cautions::{CautionClass, class_named};
+use run_base::{value, values, workers};
+use std::alloc::{AllocError, AllocFailed, Global};
+use std::convert::AsStr;
+use std::io::ErrorKind as ReadKind;
+
+// The reason why a subcommand with its values asks for no command.
+#[derive(Clone, Copy)]
+enum Unasked {
+    // A required argument has no value, or the number of workers is outside 1 to 16.
+    Missing,
+    // A word names no class of cautions.
+    BadClass,
+    // Out of memory.
+    Memory,
+}
+
+impl From<AllocError> for Unasked {
+    ghost use Rattle.std.specs.Prelude.{◌≡◌};
+    ghost use Rattle.review_commands.specs.declared.words.Unasked.TheVariants.{Memory};
+
+    ghost from_gives = { λ _ e. e ≡ Memory };
+
+    fn from(_: AllocError) -> Unasked {
+        Unasked::Memory
+    }
+}
+
+impl<T: Drop> From<AllocFailed<T>> for Unasked {
+    ghost use Rattle.std.specs.Prelude.{◌≡◌};
+    ghost use Rattle.review_commands.specs.declared.words.Unasked.TheVariants.{Memory};
+
+    ghost from_gives = { λ _ e. e ≡ Memory };
+
+    fn from(_: AllocFailed<T>) -> Unasked {
+        Unasked::Memory
+    }
+}
+
+// Returns the classes that words name.
+fn classes_named(alloc: Global, words: &[&str]) -> Result<Vec<CautionClass>, Unasked>
+    ensures named { IfOk result (λ v. map class_name v.items ≡ map (λ w. w.now) words.now) }
+    ensures bad { IfErr result (λ e. e ≢ Unasked.Memory → (classes : List CautionClass)
+        → map class_name classes ≢ map (λ w. w.now) words.now) }
+{
+    let mut classes = Vec::new(alloc);
+    for word in words {
+        match class_named(word.as_bytes()) {
+            Some(class) => classes.push(class)?,
+            None => return Err(Unasked::BadClass),
+        }
+    }
+    Ok(classes)
+}
+
+// Returns the command of the values of `cautions`.
+fn asked_cautions<'a>(alloc: Global, given: &ArgMatches<'a>) -> Result<Asked<'a>, Unasked>
+    ensures stated { IfOk result
+        (λ a. HoldsCommand a (codes "cautions", rows_of (found_of given.now))) }
+    ensures workers { IfOk result WorkersFit }
+    ensures nothing { IfErr result (λ e. e ≢ Unasked.Memory
+        → AsksNothing (codes "cautions", rows_of (found_of given.now))) }
+{
+    let Some(file) = value(given, "file") else {
+        return Err(Unasked::Missing);
+    };
+    let words = values(alloc, given, "without")?;
+    let without = classes_named(alloc, &words)?;
+    Ok(Asked::Cautions { file, without })
+}
+
+// Returns the command of the values of `report`.
+fn asked_report<'a>(alloc: Global, given: &ArgMatches<'a>) -> Result<Asked<'a>, Unasked>
+    ensures stated { IfOk result
+        (λ a. HoldsCommand a (codes "report", rows_of (found_of given.now))) }
+    ensures workers { IfOk result WorkersFit }
+    ensures nothing { IfErr result (λ e. e ≢ Unasked.Memory
+        → AsksNothing (codes "report", rows_of (found_of given.now))) }
+{
+    let Some(file) = value(given, "file") else {
+        return Err(Unasked::Missing);
+    };
+    let Some(users) = value(given, "users") else {
+        return Err(Unasked::Missing);
+    };
+    let Some(hosts) = value(given, "hosts") else {
+        return Err(Unasked::Missing);
+    };
+    let Some(workers) = workers(given) else {
+        return Err(Unasked::Missing);
+    };
+    let senders = values(alloc, given, "senders")?;
+    Ok(Asked::Report {
+        file,
+        users,
+        hosts,
+        workers,
+        senders,
+    })
+}
+
+// Returns the command that a subcommand asks for.
+fn asked_by<'a>(alloc: Global, name: &str, given: &ArgMatches<'a>) -> Result<Asked<'a>, Unasked>
+    ensures stated { IfOk result (λ a. HoldsCommand a (name.now, rows_of (found_of given.now))) }
+    ensures workers { IfOk result WorkersFit }
+    ensures nothing { IfErr result (λ e. e ≢ Unasked.Memory
+        → AsksNothing (name.now, rows_of (found_of given.now))) }
+{
+    if name == "cautions" {
+        return asked_cautions(alloc, given);
+    }
+    if name == "report" {
+        return asked_report(alloc, given);
+    }
+    Err(Unasked::Missing)
+}
+
+// Returns the command that the subcommand asks for.
+fn asked_subcommand<'a>(alloc: Global, matches: &ArgMatches<'a>) -> Result<Asked<'a>, Unasked>
+    ensures stated { IfOk result (λ a. (p : Text × List Row)
+        × (subcommand_rows_of matches.now ≡ Some p) × HoldsCommand a p) }
+    ensures workers { IfOk result WorkersFit }
+    ensures nothing { IfErr result (λ e. e ≢ Unasked.Memory → (p : Text × List Row)
+        → subcommand_rows_of matches.now ≡ Some p → AsksNothing p) }
+{
+    match matches.subcommand() {
+        Some((name, given)) => asked_by(alloc, name, given),
+        None => Err(Unasked::Missing),
+    }
+}
+
+// Returns the error for words that ask for no command.
+fn unasked_error(command: &mut Command<'_>, unasked: Unasked) -> Result<Error, AllocError>
+    ensures memory { unasked ≡ Unasked.Memory
+        → IfOk result (λ e. error_kind e ≡ ErrorKind.OutOfMemory) }
+    ensures kinds { unasked ≢ Unasked.Memory
+        → IfOk result (λ e. IsUnaskedKind (error_kind e)) }
+{
+    match unasked {
+        Unasked::Missing => command.error(
+            ErrorKind::MissingRequiredArgument,
+            "a required argument was not provided",
+        ),
+        Unasked::BadClass => command.error(
+            ErrorKind::InvalidValue,
+            "CLASS is none of the classes of cautions",
+        ),
+        Unasked::Memory => Ok(Error::from(AllocError)),
+    }
+}
+
+// Returns the command that the words ask for, as the program's command reads them.
+fn asked_of<'a, S: AsStr>(
+    alloc: Global,
+    command: &mut Command<'a>,
+    words: &'a [S],
+) -> Result<Asked<'a>, Error>
+    requires { app_of command.old ≡ program_app }
+    ensures stated { IfOk result (λ a. (p : Text × List Row)
+        × (subcommand_of program_app (map S.text words.entry.now) ≡ Some p) × HoldsCommand a p) }
+    ensures workers { IfOk result WorkersFit }
+    ensures refused { IfErr result (λ e. IsErrorOfWords (map S.text words.entry.now) e) }
+{
+    let matches = command.try_get_matches_from_mut(words)?;
+    match asked_subcommand(alloc, &matches) {
+        Ok(asked) => Ok(asked),
+        Err(unasked) => Err(unasked_error(command, unasked)?),
+    }
+}
+
+/// Returns the command that the words ask for, the program's own name first, as `clap` reads them:
+/// `cautions FILE [--without CLASS]...`, or `report FILE --users F --hosts F [--workers N] [NAME=PATH]...`, where N is 1 to 16, by default 2.
+///
+/// Returns `clap`'s error, apart from allocation failure, exactly if `clap` does not accept the
+/// words (they are no such command, or ask for help or for the version), or a CLASS is no class of cautions.
+pub fn asked<'a, S: AsStr>(alloc: Global, words: &'a [S]) -> Result<Asked<'a>, Error>
+    ensures stated { IfOk result (λ a. (p : Text × List Row)
+        × (subcommand_of program_app (map S.text words.entry.now) ≡ Some p) × HoldsCommand a p) }
+    ensures workers { IfOk result WorkersFit }
+    ensures refused { IfErr result (λ e. IsErrorOfWords (map S.text words.entry.now) e) }
+{
+    let mut command = program(alloc)?;
+    let asked = asked_of(alloc, &mut command, words);
+    drop(command);
+    asked
+}
+
+// Returns the error for a word that is not text.
+fn no_text(alloc: Global) -> Result<Error, AllocError>
+    ensures { IfOk result (λ e. error_kind e ≡ ErrorKind.ValueValidation) }
+{
+    let mut program = program(alloc)?;
+    program.error(
+        ErrorKind::ValueValidation,
+        "invalid UTF-8 was detected in one or more arguments",
+    )
+}
+
+/// Returns the error for words of the command line that could not be read, by its kind: out of
+/// memory, or else a word that is not text, which is misuse.
+pub fn unread(alloc: Global, kind: ReadKind) -> Error
+    ensures memory { kind ≡ ReadKind.OutOfMemory → error_kind result ≡ ErrorKind.OutOfMemory }
+    ensures kinds { IsUnreadableWord (error_kind result) }
+{
+    if kind == ReadKind::OutOfMemory {
+        return Error::from(AllocError);
+    }
+    match no_text(alloc) {
+        Ok(error) => error,
+        Err(refused) => Error::from(refused),
+    }
+}
