@@ -27,7 +27,7 @@ fn is_left_out(without: &[CautionClass], class: CautionClass) -> bool
 
 // Returns the cautions but for those of some classes.
 fn listed(mut found: Vec<Caution>, without: &[CautionClass]) -> Vec<Caution>
-    ensures { result.items ≡ kept_cautions without.now found.entry.items }
+    ensures { result.items ≡ kept_cautions without.now found.items }
 {
     found.retain(|caution| !is_left_out(without, caution.class));
     found
