@@ -1,6 +1,5 @@
 -- Fields that are written one after the other.
-use Rattle.std.proofs.Common.{◌≡◌, ℕ, List, [], ◌∷◌, ◌++◌, append_assoc}
-use Rattle.std.proofs.lemmas.List.{append-nil}
+use Rattle.std.proofs.Common.{◌≡◌, ℕ, List, [], ◌∷◌, ◌++◌, append_assoc, append-nil}
 use Rattle.csv.specs.Writing.{default_writer, field_text, fields_text}
 
 -- four fields, each after a comma
