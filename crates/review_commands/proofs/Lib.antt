@@ -2,4 +2,3 @@ pub mod Refusals
 pub mod Subcommands
 pub mod ReportSteps
 pub mod EndingSteps
-pub mod FieldLemmas

@@ -1,5 +1,6 @@
 -- The lines of cautions, and the line that counts them.
 use Rattle.std.specs.Prelude.{ℕ, Bool, not, List, [], ◌∷◌, ◌++◌, codes, decimal, filter, flat_map, fold, length, bytes_eq}
+use Rattle.std.specs.Prelude.{◌==◌, if◌then◌else◌}
 use Rattle.std.specs.List.{list_any}
 use Rattle.audit_files.specs.Places.{place_text}
 use Rattle.run_base.specs.Endings.{Notices, notices}
@@ -22,10 +23,14 @@ abbrev pub subject_text : List ℕ → List ℕ
 subject_text [] = []
 subject_text (b ∷ rest) = (b ∷ rest) ++ codes ": "
 
--- `PATH:LINE: caution: CLASS: TEXT`
+-- the class of a caution, between colons
+abbrev pub heading : CautionClass → List ℕ
+heading class = codes ": caution: " ++ class_name class ++ codes ": "
+
+-- `PATH:LINE: caution: CLASS: TEXT`, or `PATH:LINE: caution: CLASS: SUBJECT: TEXT`
 abbrev pub caution_line : List (List ℕ) → Caution → List ℕ
-caution_line files caution = place_text files caution.place ++ codes ": caution: " ++ class_name caution.class ++ codes ": "
-    ++ subject_text caution.subject ++ class_text caution.class ++ 10 ∷ []
+caution_line files caution = place_text files caution.place ++ heading caution.class ++ subject_text caution.subject
+    ++ class_text caution.class ++ 10 ∷ []
 
 -- `cautions: N`
 abbrev pub counted_line : ℕ → List ℕ
@@ -61,11 +66,14 @@ with_class (b ∷ before) class = (b ∷ before) ++ codes ", " ++ class_name cla
 abbrev pub listed_classes : List Caution → List ℕ
 listed_classes found = fold with_class [] (filter (has_class found) classes)
 
+-- a number of cautions, and their classes in parentheses
+abbrev pub counted_classes : ℕ → List ℕ → List ℕ
+counted_classes count names = decimal count ++ codes " cautions (" ++ names ++ codes ")" ++ 10 ∷ []
+
 -- the line that a command which judges ends with: `sudo_review: N cautions (CLASS, ..)`; nothing if there is no caution
 abbrev pub notice_text : List Caution → List ℕ
-notice_text [] = []
-notice_text (caution ∷ rest) = program_name ++ codes ": " ++ decimal (length (caution ∷ rest)) ++ codes " cautions ("
-    ++ listed_classes (caution ∷ rest) ++ codes ")" ++ 10 ∷ []
+notice_text found = if length found == 0 then []
+    else (program_name ++ codes ": ") ++ counted_classes (length found) (listed_classes found)
 
 -- what each command prints for its faults
 abbrev pub cautions_notices : Notices PolicyFault

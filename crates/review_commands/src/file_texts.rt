@@ -1,8 +1,7 @@
 //! The texts of the files of a policy.
 ghost use Rattle.std.specs.Prelude.{◌≡◌, ◌∷◌, [], IfOk, map, option_map, unwrap_or};
 ghost use Rattle.sudo_load.specs.Supplies.{file_in};
-ghost use Rattle.run_base.specs.Holding.{file_at};
-ghost use Rattle.review_commands.specs.FileTexts.{texts_of, texts_at};
+ghost use Rattle.review_commands.specs.FileTexts.{text_at, texts_of, texts_at};
 
 use std::alloc::{AllocError, Global};
 use sudo_load::Supply;
@@ -28,12 +27,12 @@ fn text_in<'a>(supply: &'a Supply, path: &[u8]) -> Option<&'a [u8]>
 }
 
 // Returns the text of the file at a path among the supplies, empty if there is none.
-fn supplied<'a>(supplies: &'a [Supply], path: &[u8]) -> &'a [u8]
-    ensures { result.now ≡ unwrap_or (file_at supplies.now path.now) [] }
+fn supplied<'a>(supplies: &'a [Supply], path: &Seq<u8>) -> &'a [u8]
+    ensures { result.now ≡ text_at supplies.now path.now }
 {
     let mut left = supplies;
     while let Some((supply, rest)) = left.split_first() {
-        if let Some(text) = text_in(supply, path) {
+        if let Some(text) = text_in(supply, path.as_slice()) {
             return text;
         }
         left = rest;
@@ -54,7 +53,7 @@ fn supplied_texts<'a>(
     let mut texts = Vec::new(alloc);
     texts.push(main)?;
     for path in paths {
-        texts.push(supplied(supplies, path.as_slice()))?;
+        texts.push(supplied(supplies, path))?;
     }
     Ok(texts)
 }

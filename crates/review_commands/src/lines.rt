@@ -1,6 +1,7 @@
 //! The lines of cautions, and the line that counts them.
 ghost use Rattle.std.specs.Prelude.{◌≡◌, ◌++◌, IfOk, OnOk};
-ghost use Rattle.review_commands.specs.CautionLines.{caution_line, cautions_status, cautions_text, counted_line};
+ghost use Rattle.review_commands.specs.CautionLines.{caution_line, cautions_status, cautions_text, counted_classes};
+ghost use Rattle.review_commands.specs.CautionLines.{counted_line, heading};
 ghost use Rattle.review_commands.specs.CautionLines.{has_class, listed_classes, notice_text, subject_text, with_class};
 
 use crate::program_name::PROGRAM;
@@ -21,14 +22,25 @@ fn push_subject(line: &mut Vec<u8>, subject: &[u8]) -> Result<(), AllocError>
     push(line, b": ")
 }
 
+// Appends the class of a caution, between colons.
+fn push_heading(lines: &mut Vec<u8>, class: CautionClass) -> Result<(), AllocError>
+    ensures { OnOk result (lines.new.items ≡ lines.old.items ++ heading class) }
+{
+    push(lines, b": caution: ")?;
+    push(lines, class.name())?;
+    push(lines, b": ")
+}
+
 // Appends the line of a caution.
-fn push_caution(lines: &mut Vec<u8>, files: &[Seq<u8>], caution: &Caution) -> Result<(), AllocError>
+fn push_caution(
+    lines: &mut Vec<u8>,
+    files: &[Seq<u8>],
+    caution: &Caution,
+) -> Result<(), AllocError>
     ensures { OnOk result (lines.new.items ≡ lines.old.items ++ caution_line files.now caution.now) }
 {
     push_place(lines, files, caution.place)?;
-    push(lines, b": caution: ")?;
-    push(lines, caution.class.name())?;
-    push(lines, b": ")?;
+    push_heading(lines, caution.class)?;
     push_subject(lines, caution.subject.as_slice())?;
     push(lines, caution.class.text())?;
     push(lines, b"\n")
@@ -94,6 +106,16 @@ fn class_names(alloc: Global, found: &[Caution]) -> Result<Vec<u8>, AllocError>
     Ok(names)
 }
 
+// Appends the number of cautions, and their classes in parentheses.
+fn push_counted(line: &mut Vec<u8>, count: usize, names: &[u8]) -> Result<(), AllocError>
+    ensures { OnOk result (line.new.items ≡ line.old.items ++ counted_classes count names.now) }
+{
+    push_number(line, count as u64)?;
+    push(line, b" cautions (")?;
+    push(line, names)?;
+    push(line, b")\n")
+}
+
 /// Returns the line that a command which judges ends with: the number of cautions and their classes. Returns nothing if there
 /// is no caution, and `AllocError` if allocation failed.
 pub(crate) fn notice(alloc: Global, found: &[Caution]) -> Result<Vec<u8>, AllocError>
@@ -104,9 +126,6 @@ pub(crate) fn notice(alloc: Global, found: &[Caution]) -> Result<Vec<u8>, AllocE
     }
     let names = class_names(alloc, found)?;
     let mut line = begin_line(alloc, PROGRAM)?;
-    push_number(&mut line, found.len() as u64)?;
-    push(&mut line, b" cautions (")?;
-    push(&mut line, &names)?;
-    push(&mut line, b")\n")?;
+    push_counted(&mut line, found.len(), &names)?;
     Ok(line)
 }

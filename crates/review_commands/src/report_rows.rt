@@ -23,6 +23,7 @@ fn asked_bytes(target: &Option<Seq<u8>>) -> &[u8]
 }
 
 // Appends the fields of a request, each after a comma.
+#[tactic(auto, unfolding(csv::specs::Writing::fields_text))]
 fn push_request(text: &mut Vec<u8>, request: &Request) -> Result<(), AllocError>
     ensures { OnOk result (text.new.items
         ≡ text.old.items ++ fields_text default_writer (request_fields request.now)) }
@@ -47,6 +48,7 @@ struct Scratch {
 }
 
 // Appends the fields of a verdict, each after a comma.
+#[tactic(auto, unfolding(csv::specs::Writing::fields_text))]
 fn push_verdict(
     text: &mut Vec<u8>,
     scratch: &mut Scratch,

@@ -8,8 +8,8 @@ returns-in-Ok-write_all_of g c =
     let told = notices g.F.Fails.status g.F.Fails.printed c.args.program.now in
     let out = sent g.O.Sink.taken g.O.Sink.stalled_writes c.args.out.now c.write_all_of.new.writer in
     let err = sent g.E.Sink.taken g.E.Sink.stalled_writes c.args.err.now c.write_text.new.err in
-    whole_noted told c.args.ended c.in-Ok.noted c.deref.result.now c.deref-2.result.now c.write_text.result out err
-    c.in-Ok.is c.deref.ensures.value c.deref-2.ensures.value
+    whole_noted told c.args.ended c.in-Ok.noted c.deref.result.now c.deref-in-Ok-write_all_of.result.now c.write_text.result out err
+    c.in-Ok.is c.deref.ensures.value c.deref-in-Ok-write_all_of.ensures.value
     (omega (arith, c.in-Ok-write_all_of.ensures.stalls))
     c.in-Ok-write_all_of.ensures.whole c.write_text.ensures
 
