@@ -1,5 +1,5 @@
 -- The cautions on a policy, class by class.
-use Rattle.std.specs.Prelude.{ℕ, Bool, true, false, not, ◌&&◌, ◌||◌, ◌==◌, nat_lt, nat_le, if◌then◌else◌, List, [], ◌∷◌, ◌++◌}
+use Rattle.std.specs.Prelude.{ℕ, Bool, false, ◌&&◌, ◌==◌, nat_lt, nat_le, if◌then◌else◌, List, [], ◌∷◌, ◌++◌}
 use Rattle.std.specs.Prelude.{map, filter, find, flat_map, length, option_to_list, ◌^◌, Option, None, Some}
 use Rattle.std.specs.List.{enumerate_from}
 use Rattle.sudo_text.specs.Lines.{cut, place, text_limit}

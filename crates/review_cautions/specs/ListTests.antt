@@ -10,7 +10,7 @@ use Rattle.sudo_grammar.specs.declared.kind.Member.{Member}
 use Rattle.sudo_grammar.specs.Words.{is_upper}
 use Rattle.sudo_policy.specs.Definitions.{MemberList}
 use Rattle.review_cautions.specs.declared.class.CautionClass.{CautionClass}
-use Rattle.review_cautions.specs.declared.class.CautionClass.TheVariants.{Return, BlankAfterBackslash, Join, TornMark, Caret, Case, Linked, Defaults}
+use Rattle.review_cautions.specs.declared.class.CautionClass.TheVariants.{Caret, Case, Linked}
 
 -- a `[` that no escape yields
 abbrev pub opens_bracket : Ch → Bool
