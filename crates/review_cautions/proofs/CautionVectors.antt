@@ -13,7 +13,8 @@ use Rattle.sudo_grammar.specs.declared.kind.Member.{Member}
 use Rattle.sudo_grammar.specs.declared.policy.Parameter.{Parameter}
 use Rattle.sudo_grammar.specs.declared.policy.Parameter.TheVariants.{Switch}
 use Rattle.sudo_policy.specs.Definitions.{MemberList, granting_list}
-use Rattle.review_cautions.specs.declared.class.CautionClass.TheVariants.{Return, BlankAfterBackslash, Join, TornMark, Caret, Case, Linked, Defaults}
+use Rattle.review_cautions.specs.declared.class.CautionClass.TheVariants.{Return, BlankAfterBackslash, Join, TornMark}
+use Rattle.review_cautions.specs.declared.class.CautionClass.TheVariants.{Caret, Case, Linked, Defaults}
 use Rattle.review_cautions.specs.Cautions.{caution_at, text_cautions, list_cautions, linked_cautions, parameter_cautions}
 
 -- the carriage return of a rule is dropped; that of a comment means nothing
@@ -27,8 +28,8 @@ blank : text_cautions BlankAfterBackslash (codes "Defaults insults" ∷ (codes "
 blank = refl
 
 -- the command `/bin/ls-l` here; a blank before the backslash is one for both
-join : text_cautions Join ((codes "alice ALL = /bin/ls\\" ++ 10 ∷ codes "  -l" ++ 10 ∷ codes "bob ALL = /bin/ls \\" ++ 10 ∷ codes "-l") ∷ [])
-    ≡ caution_at Join (place 0 1) ∷ []
+join : text_cautions Join ((codes "alice ALL = /bin/ls\\" ++ 10 ∷ codes "  -l" ++ 10
+    ∷ codes "bob ALL = /bin/ls \\" ++ 10 ∷ codes "-l") ∷ []) ≡ caution_at Join (place 0 1) ∷ []
 join = refl
 
 -- a line that ends in a comma or an equals sign tears no word, and an escaped blank is a part of one
