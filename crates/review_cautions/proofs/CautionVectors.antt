@@ -37,10 +37,20 @@ no_join : text_cautions Join ((codes "alice ALL =\\" ++ 10 ∷ codes "/bin/ls,\\
     ≡ caution_at Join (place 0 3) ∷ []
 no_join = refl
 
+-- in arguments an equals sign is a part of a word
+equals : text_cautions Join ((codes "alice ALL =\\" ++ 10 ∷ codes "/bin/dd if=\\" ++ 10 ∷ codes "/dev/zero") ∷ [])
+    ≡ caution_at Join (place 0 2) ∷ []
+equals = refl
+
 -- the colon of a tag on the next line; a comment is never continued
 torn : text_cautions TornMark ((codes "alice ALL = NOPASSWD\\" ++ 10 ∷ codes ": ALL" ++ 10 ∷ codes "# NOPASSWD\\" ++ 10
     ∷ codes ": ALL" ++ 10 ∷ codes "alice ALL = NOPASSWD: \\" ++ 10 ∷ codes "ALL") ∷ []) ≡ caution_at TornMark (place 0 1) ∷ []
 torn = refl
+
+-- a percent sign apart from its group
+group : text_cautions TornMark ((codes "%\\" ++ 10 ∷ codes "#27 ALL = ALL" ++ 10 ∷ codes "%adm \\" ++ 10 ∷ codes "ALL = ALL") ∷ [])
+    ≡ caution_at TornMark (place 0 1) ∷ []
+group = refl
 
 -- a member with this atom
 member : Atom → Member
