@@ -1,8 +1,8 @@
 //! Runs in which each read and each write fails in turn.
 
 use crate::runs::{
-    FILES, HOSTS, Item, REQUESTS, Readers, Shelf, USERS, audit_shown, check_shown, shown,
-    wrong_runs,
+    FILES, HOSTS, Item, REQUESTS, Readers, Shelf, USERS, audit_shown, cautions_shown, check_shown,
+    report_shown, shown, wrong_runs,
 };
 use audit_commands::expand_run;
 use audit_files::{ReadFault, Script, read_whole};
@@ -108,6 +108,37 @@ fn each_read_of_an_audit_may_fail(rt: HostRuntime) -> Result<(), Fail> {
     Ok(())
 }
 
+// Shows a report in which this read of the file that the word names fails.
+fn report_failing<T: Threads + Wait + Sync>(
+    alloc: Global,
+    rt: &T,
+    word: &str,
+    call: u64,
+) -> Result<String, AllocError> {
+    let mut files = Failing {
+        items: &FILES,
+        path: b"p",
+        call: call_of(word, "policy", call),
+    };
+    let out = Script::of(alloc, b"", 1000)?;
+    report_shown(alloc, rt, &mut files, readers(alloc, word, call)?, out)
+}
+
+const REPORTS: &str = "users 1 13 => 4 ! sudo_review: users: read failed;
+hosts 1 10 => 4 ! sudo_review: hosts: read failed;
+requests 1 17 => 4 ! sudo_review: sender s: read failed;
+policy 1 10 => 4 ! sudo_review: cannot read p;";
+
+#[test]
+fn each_read_of_a_report_may_fail(rt: HostRuntime) -> Result<(), Fail> {
+    let alloc = rt.alloc();
+    let wrong = wrong_runs(alloc, REPORTS, |word, call| {
+        Ok(report_failing(alloc, &rt, word, call)?)
+    })?;
+    assert_eq!(rt; wrong.as_str(), "");
+    Ok(())
+}
+
 // A policy of two files, of 26 and 31 bytes.
 const TWO_FILES: [Item<'static>; 2] = [
     Item {
@@ -167,6 +198,11 @@ fn written<T: Threads + Wait + Sync>(
             audit_shown(alloc, rt, &mut Shelf { items: &FILES }, readers, out)
         }
         "check" => check_shown(alloc, &mut Shelf { items: &ALIASES }, out),
+        "report" => {
+            let readers = readers(alloc, "none", 0)?;
+            report_shown(alloc, rt, &mut Shelf { items: &FILES }, readers, out)
+        }
+        "cautions" => cautions_shown(alloc, &mut Shelf { items: &CAPITALS }, out),
         _ => expansion(alloc, &mut Shelf { items: &ALIASES }, out),
     }
 }
@@ -177,12 +213,45 @@ const ALIASES: [Item<'static>; 1] = [Item {
     text: b"Cmnd_Alias A = /bin/ls, /bin/cat, !/bin/su\nHost_Alias B = web1\n",
 }];
 
+// A policy with one caution.
+const CAPITALS: [Item<'static>; 1] = [Item {
+    path: b"p",
+    text: b"Alice ALL = /opt/run\n",
+}];
+
+// Returns the program that has the command which the word names.
+fn program(word: &str) -> &'static str {
+    match word {
+        "report" | "cautions" => "sudo_review",
+        _ => "sudo_audit",
+    }
+}
+
 // Returns the whole output of the command that the word names, on one line.
 fn whole(word: &str) -> &'static str {
     match word {
         "audit" => "sender,number,verdict,line,tags;s,1,allow,p:1,NOPASSWD;s,2,unknown-user,,;",
         "check" => "p:1: warning: unused Cmnd_Alias A;p:2: warning: unused Host_Alias B;ok;",
+        "report" => {
+            "sender,number,user,host,runas_user,runas_group,command,arguments,verdict,place,tags,depends;\
+            s,1,alice,web1.example.org,,,/bin/kill,-9 7,allow,p:1,NOPASSWD,;\
+            s,2,carol,web1.example.org,,,/bin/kill,,unknown-user,,,;"
+        }
+        "cautions" => {
+            "p:1: caution: case: a name has a capital letter: letter case counts here, not for sudo;\
+            cautions: 1;"
+        }
         _ => "/bin/ls;/bin/cat;!/bin/su;",
+    }
+}
+
+// Returns the expected text of a run whose output is whole: its status, what it prints, and for a report the line of cautions.
+fn whole_shown(alloc: Global, word: &str) -> Result<String, AllocError> {
+    let text = whole(word);
+    match word {
+        "report" => format!(in alloc; "0 {text}! sudo_review: 1 cautions (linked);"),
+        "cautions" => format!(in alloc; "5 {text}"),
+        _ => format!(in alloc; "0 {text}"),
     }
 }
 
@@ -192,16 +261,23 @@ fn cut_off(alloc: Global, word: &str, call: u64) -> Result<String, AllocError> {
     let text = whole(word);
     match text.get(..gone as usize) {
         Some(front) if front.len() < text.len() => {
-            format!(in alloc; "4 {front}! sudo_audit: write failed after {gone} bytes;")
+            let name = program(word);
+            format!(in alloc; "4 {front}! {name}: write failed after {gone} bytes;")
         }
-        _ => format!(in alloc; "0 {text}"),
+        _ => whole_shown(alloc, word),
     }
 }
 
 #[test]
 fn each_write_may_fail(rt: HostRuntime) -> Result<(), Fail> {
     let alloc = rt.alloc();
-    for (word, calls) in [("audit", 9u64), ("check", 9), ("expand", 4)] {
+    for (word, calls) in [
+        ("audit", 9u64),
+        ("check", 9),
+        ("expand", 4),
+        ("report", 23),
+        ("cautions", 11),
+    ] {
         for call in 1..calls.saturating_add(1) {
             let out = Script::of(alloc, b"", 10)?.failing_at(call);
             let found = written(alloc, &rt, word, out)?;
@@ -209,8 +285,9 @@ fn each_write_may_fail(rt: HostRuntime) -> Result<(), Fail> {
             assert_eq!(rt; found.as_str(), wanted.as_str());
         }
         let found = written(alloc, &rt, word, Script::of(alloc, b"", 0)?)?;
-        let wanted = "4 ! sudo_audit: write failed after 0 bytes;";
-        assert_eq!(rt; found.as_str(), wanted);
+        let name = program(word);
+        let wanted = format!(in alloc; "4 ! {name}: write failed after 0 bytes;")?;
+        assert_eq!(rt; found.as_str(), wanted.as_str());
     }
     Ok(())
 }

@@ -7,6 +7,7 @@
 use audit_commands::{audit_into, check_run};
 use audit_files::Script;
 use audit_run::Source;
+use review_commands::{cautions_run, report_into};
 use run_base::{Files, FilesFault};
 use std::alloc::{AllocError, Global};
 use std::sync::Wait;
@@ -131,6 +132,42 @@ pub(crate) fn check_shown<F: Files>(
 ) -> Result<String, AllocError> {
     let mut err = Script::of(alloc, b"", 1000)?;
     let status = check_run(alloc, b"p", files, &mut out, &mut err);
+    shown(alloc, status, &out, &err)
+}
+
+/// Shows a report by two workers of these files and readers, with this writer.
+pub(crate) fn report_shown<T: Threads + Wait + Sync, F: Files>(
+    alloc: Global,
+    rt: &T,
+    files: &mut F,
+    readers: Readers,
+    mut out: Script,
+) -> Result<String, AllocError> {
+    let Readers {
+        mut users,
+        mut hosts,
+        requests,
+    } = readers;
+    let mut sources = Vec::new(alloc);
+    sources.push(Source {
+        name: Seq::from_slice(alloc, b"s")?,
+        reader: requests,
+    })?;
+    let mut err = Script::of(alloc, b"", 1000)?;
+    let status = report_into(
+        alloc, rt, b"p", files, &mut users, &mut hosts, sources, 2, &mut out, &mut err,
+    );
+    shown(alloc, status, &out, &err)
+}
+
+/// Shows the cautions on the policy `p`, with this writer.
+pub(crate) fn cautions_shown<F: Files>(
+    alloc: Global,
+    files: &mut F,
+    mut out: Script,
+) -> Result<String, AllocError> {
+    let mut err = Script::of(alloc, b"", 1000)?;
+    let status = cautions_run(alloc, b"p", files, &[], &mut out, &mut err);
     shown(alloc, status, &out, &err)
 }
 

@@ -71,8 +71,8 @@ impl CautionClass {
     }
 }
 
-// The classes, in the order in which they are listed.
-const CLASSES: [CautionClass; 8] = [
+/// The classes, in the order in which they are listed.
+pub const CAUTION_CLASSES: [CautionClass; 8] = [
     CautionClass::Return,
     CautionClass::BlankAfterBackslash,
     CautionClass::Join,
@@ -87,7 +87,10 @@ const CLASSES: [CautionClass; 8] = [
 fn first_class(name: &[u8]) -> Option<CautionClass>
     ensures { result ≡ find (λ class. bytes_eq (class_name class) name.now) classes }
 {
-    CLASSES.iter().copied().find(|class| class.name() == name)
+    CAUTION_CLASSES
+        .iter()
+        .copied()
+        .find(|class| class.name() == name)
 }
 
 /// Returns the class of a name, or `None` if no class has it.

@@ -13,5 +13,5 @@ mod lines;
 mod lists;
 
 pub use caution::Caution;
-pub use class::{CautionClass, class_named};
+pub use class::{CAUTION_CLASSES, CautionClass, class_named};
 pub use collecting::cautions;

@@ -1,5 +1,5 @@
 pub mod Refusals
 pub mod Subcommands
-pub mod RowLemmas
 pub mod ReportSteps
 pub mod EndingSteps
+pub mod FieldLemmas

@@ -1,8 +1,10 @@
 -- Words that ask for no command.
-use Rattle.std.proofs.Common.{◌≡◌, List, Option, Some, None, codes, sym}
-use Rattle.std.specs.Prelude.{◌≢◌}
-use Rattle.clap.specs.Words.{Row, Text, first_of}
+use Rattle.std.proofs.Common.{◌≡◌, ◌<◌, ◌∙◌, ◌∷◌, ℕ, zero, suc, List, [], Option, Some, None, Bor, codes, get_or, length, map, sym, arith}
+use Rattle.std.specs.Prelude.{◌≢◌, unwrap_or}
+use Rattle.clap.specs.Words.{Row, Text, all_of, first_of}
 use Rattle.run_base.specs.Arguments.{HasNoWorkers}
+use Rattle.review_cautions.specs.Classes.{class_name}
+use Rattle.review_cautions.specs.declared.class.CautionClass.{CautionClass}
 use Rattle.review_commands.specs.declared.request.Asked.TheVariants.{Cautions, Report}
 use Rattle.review_commands.specs.Words.{AsksNothing}
 
@@ -13,25 +15,42 @@ none_there : (o : Option Text) (text : Text) → o ≡ None → o ≡ Some text 
 none_there o text none there = cc
 
 pub no_name : (name : Text) (rows : List Row) → name ≢ codes "cautions" → name ≢ codes "report" → AsksNothing (name, rows)
-no_name name rows cautions report (Cautions file) stated fit = cautions stated.0
+no_name name rows cautions report (Cautions file without) stated fit = cautions stated.0
 no_name name rows cautions report (Report file users hosts workers senders) stated fit = report stated.0
 
 pub cautions_without_file : (rows : List Row) → first_of (codes "file") rows ≡ None → AsksNothing (codes "cautions", rows)
-cautions_without_file rows none (Cautions file) stated fit = none_there _ _ none stated.1
+cautions_without_file rows none (Cautions file without) stated fit = none_there _ _ none stated.1
 cautions_without_file rows none (Report file users hosts workers senders) stated fit = report_is_cautions (sym stated.0)
 
 pub report_without_file : (rows : List Row) → first_of (codes "file") rows ≡ None → AsksNothing (codes "report", rows)
-report_without_file rows none (Cautions file) stated fit = report_is_cautions stated.0
+report_without_file rows none (Cautions file without) stated fit = report_is_cautions stated.0
 report_without_file rows none (Report file users hosts workers senders) stated fit = none_there _ _ none stated.1
 
 pub report_without_users : (rows : List Row) → first_of (codes "users") rows ≡ None → AsksNothing (codes "report", rows)
-report_without_users rows none (Cautions file) stated fit = report_is_cautions stated.0
+report_without_users rows none (Cautions file without) stated fit = report_is_cautions stated.0
 report_without_users rows none (Report file users hosts workers senders) stated fit = none_there _ _ none stated.2
 
 pub report_without_hosts : (rows : List Row) → first_of (codes "hosts") rows ≡ None → AsksNothing (codes "report", rows)
-report_without_hosts rows none (Cautions file) stated fit = report_is_cautions stated.0
+report_without_hosts rows none (Cautions file without) stated fit = report_is_cautions stated.0
 report_without_hosts rows none (Report file users hosts workers senders) stated fit = none_there _ _ none stated.3
 
 pub report_without_workers : (rows : List Row) → HasNoWorkers rows → AsksNothing (codes "report", rows)
-report_without_workers rows none (Cautions file) stated fit = report_is_cautions stated.0
-report_without_workers rows none (Report file users hosts workers senders) stated fit = none stated.4 fit.0 fit.1
+report_without_workers rows none (Cautions file without) stated fit = report_is_cautions stated.0
+report_without_workers rows none (Report file users hosts workers senders) stated fit = none workers stated.4 fit.0 fit.1
+
+-- a word for `--without` names no class
+pub cautions_of_bad_class : (rows : List Row) (words : List Text) → unwrap_or (all_of (codes "without") rows) [] ≡ words
+    → ((classes : List CautionClass) → map class_name classes ≢ words) → AsksNothing (codes "cautions", rows)
+cautions_of_bad_class rows words are bad (Cautions file without) stated fit = bad without.items (sym stated.2 ∙ are)
+cautions_of_bad_class rows words are bad (Report file users hosts workers senders) stated fit = report_is_cautions (sym stated.0)
+
+-- a word that names no class is no name of a class in a list of such names
+pub no_classes : (words : List (Bor (List ℕ))) (at : ℕ) → at < length words
+    → ((class : CautionClass) → (get_or words at (record { ref_ptr = (0, 0); now = [] })).now ≡ class_name class → ⊥)
+    → (classes : List CautionClass) → map class_name classes ≡ map (λ b. b.now) words → ⊥
+no_classes [] at within bad classes same = absurd (omega (arith, within))
+no_classes (w ∷ ws) zero within bad [] same = absurd cc
+no_classes (w ∷ ws) zero within bad (c ∷ cs) same = bad c (let e : w.now ≡ class_name c = cc in e)
+no_classes (w ∷ ws) (suc at) within bad [] same = absurd cc
+no_classes (w ∷ ws) (suc at) within bad (c ∷ cs) same =
+    no_classes ws at (omega (arith, within)) bad cs (let e : map class_name cs ≡ map (λ b. b.now) ws = cc in e)

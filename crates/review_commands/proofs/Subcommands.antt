@@ -12,7 +12,7 @@ use Rattle.review_commands.specs.Words.{AsksNothing, HoldsCommand, IsErrorOfWord
 use Rattle.run_base.specs.Arguments.{IsUnaskedKind}
 use Rattle.review_commands.specs.declared.request.Asked.{Asked}
 use Rattle.review_commands.specs.declared.words.Unasked.{Unasked}
-use Rattle.review_commands.specs.declared.words.Unasked.TheVariants.{Missing, Memory}
+use Rattle.review_commands.specs.declared.words.Unasked.TheVariants.{BadClass, Missing, Memory}
 
 -- a subcommand by its name and its rows
 pub by_parts : {Z : Type 0} (s : Option (Box SubCommand Z)) (name : Text) (rows : List Row)
@@ -50,4 +50,7 @@ pub refused_by : (words : List Text) (e : Error) (unasked : Unasked) (o : Option
 refused_by words e Memory o read memory kinds nothing = inl (memory refl)
 refused_by words e Missing o read memory kinds nothing =
     let other : Missing ≢ Memory = λ same. cc in
+    inr (inr (kinds other, λ p is. nothing other p (sym read ∙ is)))
+refused_by words e BadClass o read memory kinds nothing =
+    let other : BadClass ≢ Memory = λ same. cc in
     inr (inr (kinds other, λ p is. nothing other p (sym read ∙ is)))

@@ -1,5 +1,5 @@
 -- The lines of cautions, and the line that counts them.
-use Rattle.std.specs.Prelude.{ℕ, Bool, List, [], ◌∷◌, ◌++◌, codes, decimal, filter, flat_map, fold, length}
+use Rattle.std.specs.Prelude.{ℕ, Bool, not, List, [], ◌∷◌, ◌++◌, codes, decimal, filter, flat_map, fold, length, bytes_eq}
 use Rattle.std.specs.List.{list_any}
 use Rattle.audit_files.specs.Places.{place_text}
 use Rattle.run_base.specs.Endings.{Notices, notices}
@@ -9,7 +9,7 @@ use Rattle.run_base.specs.declared.fault.PolicyFault.{PolicyFault}
 use Rattle.audit_commands.specs.FaultLines.{report_printed}
 use Rattle.audit_commands.specs.Faults.{report_status}
 use Rattle.audit_commands.specs.declared.fault.ReportFault.{ReportFault}
-use Rattle.review_cautions.specs.Classes.{all_classes, class_name, class_text, same_class}
+use Rattle.review_cautions.specs.Classes.{class_name, class_text, classes}
 use Rattle.review_cautions.specs.declared.caution.Caution.{Caution}
 use Rattle.review_cautions.specs.declared.class.CautionClass.{CautionClass}
 
@@ -40,9 +40,17 @@ abbrev pub cautions_status : List Caution → ℕ
 cautions_status [] = 0
 cautions_status (caution ∷ rest) = 5
 
--- one of the cautions has this class
+-- the class is one of these: its name is that of one of them
+abbrev pub is_without : List CautionClass → CautionClass → Bool
+is_without without class = list_any (λ other. bytes_eq (class_name other) (class_name class)) without
+
+-- the cautions but for those of these classes
+abbrev pub kept_cautions : List CautionClass → List Caution → List Caution
+kept_cautions without found = filter (λ caution. not (is_without without caution.class)) found
+
+-- one of the cautions has this class: its name
 abbrev pub has_class : List Caution → CautionClass → Bool
-has_class found class = list_any (λ caution. same_class caution.class class) found
+has_class found class = list_any (λ caution. bytes_eq (class_name caution.class) (class_name class)) found
 
 -- the name of a class after those so far, after a comma unless it is the first
 abbrev pub with_class : List ℕ → CautionClass → List ℕ
@@ -51,7 +59,7 @@ with_class (b ∷ before) class = (b ∷ before) ++ codes ", " ++ class_name cla
 
 -- the names of the classes of the cautions, in the order of the classes
 abbrev pub listed_classes : List Caution → List ℕ
-listed_classes found = fold with_class [] (filter (has_class found) all_classes)
+listed_classes found = fold with_class [] (filter (has_class found) classes)
 
 -- the line that a command which judges ends with: `sudo_review: N cautions (CLASS, ..)`; nothing if there is no caution
 abbrev pub notice_text : List Caution → List ℕ

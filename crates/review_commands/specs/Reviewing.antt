@@ -8,7 +8,8 @@ use Rattle.run_base.specs.Holding.{Holdings}
 use Rattle.run_base.specs.Loading.{IsLoadedFrom}
 use Rattle.review_cautions.specs.Cautions.{policy_cautions}
 use Rattle.review_cautions.specs.declared.caution.Caution.{Caution}
-use Rattle.review_commands.specs.CautionLines.{cautions_status, cautions_text, notice_text}
+use Rattle.review_cautions.specs.declared.class.CautionClass.{CautionClass}
+use Rattle.review_commands.specs.CautionLines.{cautions_status, cautions_text, kept_cautions, notice_text}
 use Rattle.review_commands.specs.FileTexts.{texts_of}
 use Rattle.review_commands.specs.Rows.{report_text}
 
@@ -19,13 +20,13 @@ pub record AreCautions (held : Option Holdings) (path : List ℕ) (policy : Poli
   pub loaded : IsLoadedFrom held path main handed policy
   pub found_are : found ≡ policy_cautions (texts_of main handed policy.files) policy
 
--- the output of `cautions` and its status, for the policy that the file at a path unfolds to
-pub record IsCautioned (held : Option Holdings) (path : List ℕ) (text : List ℕ) (status : ℕ) : Type 0 where
+-- the output of `cautions` and its status, for the policy that the file at a path unfolds to, without these classes
+pub record IsCautioned (held : Option Holdings) (path : List ℕ) (without : List CautionClass) (text : List ℕ) (status : ℕ) : Type 0 where
   pub policy : Policy
   pub found : List Caution
   pub are : AreCautions held path policy found
-  pub text_is : text ≡ cautions_text policy.files found
-  pub status_is : status ≡ cautions_status found
+  pub text_is : text ≡ cautions_text policy.files (kept_cautions without found)
+  pub status_is : status ≡ cautions_status (kept_cautions without found)
 
 -- the output of `report`: the text of the report of an audit, and the line of the cautions on its policy
 pub record IsReviewed (given : Given) (text notice : List ℕ) : Type 0 where

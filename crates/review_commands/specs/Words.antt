@@ -1,15 +1,21 @@
 -- The commands that the words of the command line ask for, by `clap`'s meaning of a simple command.
 use Rattle.std.specs.Prelude.{◌≡◌, ◌≤◌, true, List, [], map, codes, ⊤, Some, unwrap_or}
-use Rattle.clap.specs.Words.{App, Row, Text, all_of, first_of, new_app, with_rule, with_subcommand}
+use Rattle.clap.specs.Words.{App, Row, Rule, Text, all_of, first_of, new_app, new_rule, with_rule, with_subcommand}
 use Rattle.clap.specs.Simple.{on_top}
 use Rattle.clap.specs.declared.error.Error.{Error}
+use Rattle.clap.specs.declared.builder.action.ArgAction.TheVariants.{Append}
+use Rattle.review_cautions.specs.Classes.{class_name}
 use Rattle.run_base.specs.Arguments.{IsErrorFor, IsNumberIn, required_option, required_word, senders_rule, workers_rule}
 use Rattle.review_commands.specs.declared.request.Asked.{Asked}
 use Rattle.review_commands.specs.declared.request.Asked.TheVariants.{Cautions, Report}
 
--- cautions FILE
+-- --without CLASS, any number of times
+abbrev pub without_rule : Rule
+without_rule = record (new_rule (codes "without")) { long = Some (codes "without"); action = Some Append }
+
+-- cautions FILE [--without CLASS]...
 abbrev pub cautions_app : App
-cautions_app = with_rule (new_app (codes "cautions")) (required_word (codes "file"))
+cautions_app = with_rule (with_rule (new_app (codes "cautions")) (required_word (codes "file"))) without_rule
 
 -- report FILE --users F --hosts F
 abbrev pub report_paths_app : App
@@ -30,7 +36,9 @@ program_app = with_subcommand (with_subcommand named_app cautions_app.top) repor
 
 -- the rows of the subcommand hold this command
 abbrev pub HoldsCommand : Asked → Text × List Row → Type 0
-HoldsCommand (Cautions file) p = (p.0 ≡ codes "cautions") × (first_of (codes "file") p.1 ≡ Some file.now)
+HoldsCommand (Cautions file without) p =
+    (p.0 ≡ codes "cautions") × (first_of (codes "file") p.1 ≡ Some file.now)
+    × (unwrap_or (all_of (codes "without") p.1) [] ≡ map class_name without.items)
 HoldsCommand (Report file users hosts workers senders) p =
     (p.0 ≡ codes "report") × (first_of (codes "file") p.1 ≡ Some file.now)
     × (first_of (codes "users") p.1 ≡ Some users.now) × (first_of (codes "hosts") p.1 ≡ Some hosts.now)
@@ -38,11 +46,11 @@ HoldsCommand (Report file users hosts workers senders) p =
 
 -- the number of workers is one that an audit accepts
 abbrev pub WorkersFit : Asked → Type 0
-WorkersFit (Cautions file) = ⊤
+WorkersFit (Cautions file without) = ⊤
 WorkersFit (Report file users hosts workers senders) = (1 ≤ workers) × (workers ≤ 16)
 
--- a subcommand with these rows asks for no command: its name is another, a word is missing, or its number of workers is
--- outside the range that an audit accepts
+-- a subcommand with these rows asks for no command: its name is another, a word is missing, a CLASS is no class of
+-- cautions, or its number of workers is outside the range that an audit accepts
 abbrev pub AsksNothing : Text × List Row → Type 0
 AsksNothing p = (asked : Asked) → HoldsCommand asked p → WorkersFit asked → ⊥
 

@@ -3,7 +3,7 @@ ghost use Rattle.std.specs.Prelude.{◌≡◌, IfErr, IfOk};
 ghost use Rattle.run_base.specs.Endings.{writer_states as sent, Ends};
 ghost use Rattle.run_base.specs.Loading.{IsNoPolicy};
 ghost use Rattle.review_cautions.specs.Cautions.{policy_cautions};
-ghost use Rattle.review_commands.specs.CautionLines.{cautions_notices};
+ghost use Rattle.review_commands.specs.CautionLines.{cautions_notices, is_without, kept_cautions};
 ghost use Rattle.review_commands.specs.Reviewing.{IsCautioned};
 ghost use Rattle.review_commands.specs.FileTexts.{texts_of};
 
@@ -11,12 +11,27 @@ use crate::file_texts::file_texts;
 use crate::lines::caution_lines;
 use crate::program_name::PROGRAM;
 use audit_files::Sink;
-use review_cautions::{Caution, cautions};
+use review_cautions::{Caution, CautionClass, cautions};
 use run_base::{Files, Loaded, PolicyFault, RunOutput, end_run, load_files};
 use std::alloc::{AllocError, Global};
 use std::mem;
 use sudo_grammar::Policy;
 use sudo_load::Supply;
+
+// Whether the cautions of a class are not to be listed.
+fn is_left_out(without: &[CautionClass], class: CautionClass) -> bool
+    ensures { result ≡ is_without without.now class }
+{
+    without.iter().any(|other| other.name() == class.name())
+}
+
+// Returns the cautions but for those of some classes.
+fn listed(mut found: Vec<Caution>, without: &[CautionClass]) -> Vec<Caution>
+    ensures { result.items ≡ kept_cautions without.now found.items }
+{
+    found.retain(|caution| !is_left_out(without, caution.class));
+    found
+}
 
 /// Returns the cautions on a policy that was read from the text of its main file and from these files and folders. Returns
 /// `AllocError` if allocation failed.
@@ -41,9 +56,10 @@ fn cautions_output<F: Files>(
     alloc: Global,
     path: &[u8],
     files: &mut F,
+    without: &[CautionClass],
 ) -> Result<RunOutput, PolicyFault>
     ensures printed { IfOk result (λ p. IsCautioned
-        (F.held files.old) path.now p.text.items p.status) }
+        (F.held files.old) path.now without.now p.text.items p.status) }
     ensures fault { IfErr result (IsNoPolicy (F.held files.old) path.now) }
 {
     let loaded = load_files(alloc, path, files)?;
@@ -53,13 +69,14 @@ fn cautions_output<F: Files>(
         policy,
     } = &loaded;
     let found = found_in(alloc, text.as_slice(), supplies.as_slice(), policy)?;
-    let printed = caution_lines(alloc, policy.files.as_slice(), &found)?;
+    let kept = listed(found, without);
+    let printed = caution_lines(alloc, policy.files.as_slice(), &kept)?;
     mem::forget(loaded);
     Ok(printed)
 }
 
-/// Prints on `out` one line for each construct of the policy of a file that sudo reads or judges otherwise, and a last line
-/// with their number.
+/// Prints on `out` one line for each construct of the policy of a file that sudo reads or judges otherwise, but for those of
+/// the classes in `without`, and a last line with their number.
 ///
 /// Returns the exit status: 0 if there is none; 5 if there is one; 1 if the policy is refused; 4 if reading, writing or memory
 /// failed. Prints a fault as one line on `err`; then nothing was printed on `out`, except by a write that failed part way.
@@ -67,14 +84,15 @@ pub fn cautions_run<F: Files, O: Sink, E: Sink>(
     alloc: Global,
     path: &[u8],
     files: &mut F,
+    without: &[CautionClass],
     out: &mut O,
     err: &mut E,
 ) -> u8
-    ensures ends { Ends cautions_notices (IsCautioned (F.held files.old) path.now)
+    ensures ends { Ends cautions_notices (IsCautioned (F.held files.old) path.now without.now)
         (IsNoPolicy (F.held files.old) path.now) result
         (sent O.taken O.stalled_writes out.old out.new)
         (sent E.taken E.stalled_writes err.old err.new) }
 {
-    let ended = cautions_output(alloc, path, files);
+    let ended = cautions_output(alloc, path, files, without);
     end_run(alloc, PROGRAM, ended, out, err)
 }

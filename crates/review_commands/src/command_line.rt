@@ -1,22 +1,34 @@
 //! The command that `clap` reads.
 ghost use Rattle.std.specs.Prelude.{◌≡◌, IfOk, false};
-ghost use Rattle.clap.specs.Words.{app_of};
+ghost use Rattle.clap.specs.Words.{app_of, rule_of};
 ghost use Rattle.clap.specs.declared.builder.command.Command.TheViews.{out-Command as fields_of};
 ghost use Rattle.review_commands.specs.Words.{report_app, report_paths_app, cautions_app, named_app};
-ghost use Rattle.review_commands.specs.Words.{program_app};
+ghost use Rattle.review_commands.specs.Words.{program_app, without_rule};
 
-use clap::Command;
+use clap::{Arg, ArgAction, Command};
 use run_base::{file, path_option, senders_words, with_subcommand, workers_option};
 use std::alloc::{AllocError, Global};
 
-// Returns `cautions FILE`.
+// Returns `--without CLASS`, any number of times.
+fn without<'a>(alloc: Global) -> Arg<'a>
+    ensures rule { rule_of result ≡ without_rule }
+    ensures local { result.global ≡ false }
+{
+    Arg::new(alloc, "without")
+        .long("without")
+        .action(ArgAction::Append)
+        .help("A class of cautions that is not listed")
+}
+
+// Returns `cautions FILE [--without CLASS]...`.
 fn cautions<'a>(alloc: Global) -> Result<Command<'a>, AllocError>
     ensures app { IfOk result (λ c. app_of c ≡ cautions_app) }
     ensures local { IfOk result (λ c. (fields_of c).has_globals ≡ false) }
 {
     Command::new(alloc, "cautions")
         .about("Lists what sudo reads or judges otherwise")
-        .arg(file(alloc))
+        .arg(file(alloc))?
+        .arg(without(alloc))
 }
 
 // Returns `report FILE --users F --hosts F`.

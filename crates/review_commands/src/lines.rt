@@ -22,11 +22,7 @@ fn push_subject(line: &mut Vec<u8>, subject: &[u8]) -> Result<(), AllocError>
 }
 
 // Appends the line of a caution.
-fn push_caution(
-    lines: &mut Vec<u8>,
-    files: &[Seq<u8>],
-    caution: &Caution,
-) -> Result<(), AllocError>
+fn push_caution(lines: &mut Vec<u8>, files: &[Seq<u8>], caution: &Caution) -> Result<(), AllocError>
     ensures { OnOk result (lines.new.items ≡ lines.old.items ++ caution_line files.now caution.now) }
 {
     push_place(lines, files, caution.place)?;
@@ -70,7 +66,9 @@ pub(crate) fn caution_lines(
 fn some_has(found: &[Caution], class: CautionClass) -> bool
     ensures { result ≡ has_class found.now class }
 {
-    found.iter().any(|caution| caution.class == class)
+    found
+        .iter()
+        .any(|caution| caution.class.name() == class.name())
 }
 
 // Appends the name of a class, after a comma unless it is the first.
@@ -88,9 +86,9 @@ fn class_names(alloc: Global, found: &[Caution]) -> Result<Vec<u8>, AllocError>
     ensures { IfOk result (λ names. names.items ≡ listed_classes found.now) }
 {
     let mut names = Vec::new(alloc);
-    for class in CAUTION_CLASSES {
-        if some_has(found, class) {
-            push_class(&mut names, class)?;
+    for class in CAUTION_CLASSES.iter() {
+        if some_has(found, *class) {
+            push_class(&mut names, *class)?;
         }
     }
     Ok(names)

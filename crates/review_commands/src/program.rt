@@ -66,9 +66,14 @@ fn run<T: Threads + Wait + Sync>(rt: &HostRuntime, threads: &T, asked: Asked<'_>
     let mut err = Device::new(rt.stderr());
     let mut disk = Disk::new(rt);
     match asked {
-        Asked::Cautions { file } => {
-            cautions_run(alloc, file.as_bytes(), &mut disk, &mut out, &mut err)
-        }
+        Asked::Cautions { file, without } => cautions_run(
+            alloc,
+            file.as_bytes(),
+            &mut disk,
+            &without,
+            &mut out,
+            &mut err,
+        ),
         Asked::Report {
             file,
             users,

@@ -1,5 +1,5 @@
 //! The text of a report with the request beside each answer, record by record.
-ghost use Rattle.std.specs.Prelude.{◌≡◌, ◌++◌, ◌∷◌, [], ℕ, List, IfOk, OnOk, map, unwrap_or};
+ghost use Rattle.std.specs.Prelude.{◌≡◌, ◌++◌, ◌∷◌, [], ℕ, List, IfOk, OnOk, unwrap_or};
 ghost use Rattle.csv.specs.Writing.{default_writer, field_text, fields_text};
 ghost use Rattle.audit_files.specs.Report.{line};
 ghost use Rattle.review_commands.specs.Rows.{answer_fields, header, report_text as text_of, request_fields};
@@ -11,17 +11,6 @@ use itoa::Buffer;
 use std::alloc::{AllocError, Global};
 use sudo_match::{Request, Verdict};
 use sudo_text::Seq;
-
-// Appends fields, each after a comma.
-fn push_fields(text: &mut Vec<u8>, fields: &[&[u8]]) -> Result<(), AllocError>
-    ensures { OnOk result (text.new.items
-        ≡ text.old.items ++ fields_text default_writer (map (λ f. f.now) fields.now)) }
-{
-    for field in fields {
-        push_next_field(text, field)?;
-    }
-    Ok(())
-}
 
 // Returns the bytes of a target, none if it is not asked for.
 fn asked_bytes(target: &Option<Seq<u8>>) -> &[u8]
@@ -39,18 +28,13 @@ fn push_request(text: &mut Vec<u8>, request: &Request) -> Result<(), AllocError>
         ≡ text.old.items ++ fields_text default_writer (request_fields request.now)) }
 {
     let mut number = Buffer::new();
-    push_fields(
-        text,
-        &[
-            number.format(request.number).as_bytes(),
-            request.user.as_slice(),
-            request.host.as_slice(),
-            asked_bytes(&request.runas_user),
-            asked_bytes(&request.runas_group),
-            request.command.as_slice(),
-            request.arguments.as_slice(),
-        ],
-    )
+    push_next_field(text, number.format(request.number).as_bytes())?;
+    push_next_field(text, request.user.as_slice())?;
+    push_next_field(text, request.host.as_slice())?;
+    push_next_field(text, asked_bytes(&request.runas_user))?;
+    push_next_field(text, asked_bytes(&request.runas_group))?;
+    push_next_field(text, request.command.as_slice())?;
+    push_next_field(text, request.arguments.as_slice())
 }
 
 // The parts of a record that many records share or overwrite.
@@ -75,15 +59,10 @@ fn push_verdict(
 {
     set_place(&mut scratch.place, files, verdict)?;
     set_tags(&mut scratch.tags, verdict)?;
-    push_fields(
-        text,
-        &[
-            verdict_word(verdict),
-            scratch.place.as_slice(),
-            scratch.tags.as_slice(),
-            b"",
-        ],
-    )
+    push_next_field(text, verdict_word(verdict))?;
+    push_next_field(text, scratch.place.as_slice())?;
+    push_next_field(text, scratch.tags.as_slice())?;
+    push_next_field(text, b"")
 }
 
 // Appends the record of an answer of the sender whose field is in `scratch`.

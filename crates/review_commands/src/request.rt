@@ -1,11 +1,14 @@
 //! The commands that the command line can ask for.
 
+use review_cautions::CautionClass;
+
 /// A command that the command line asks for, with its texts as given.
 #[derive(Debug, Drop)]
 pub enum Asked<'a> {
-    /// `cautions FILE`: lists what sudo reads or judges otherwise.
+    /// `cautions FILE [--without CLASS]...`: lists what sudo reads or judges otherwise, but for some classes.
     Cautions {
         file: &'a str,
+        without: Vec<CautionClass>,
     },
     /// `report FILE --users F --hosts F [--workers N] [NAME=PATH]...`: answers requests, each beside its answer.
     Report {

@@ -3,6 +3,8 @@ ghost use Rattle.std.specs.Prelude.{◌≡◌, ◌≢◌, None, Some, IfErr, IfO
 ghost use Rattle.clap.specs.Words.{Row, Text, app_of, found_of, kind_of as error_kind, rows_of};
 ghost use Rattle.clap.specs.Words.{subcommand_of, subcommand_rows_of};
 ghost use Rattle.run_base.specs.Arguments.{IsUnaskedKind, IsUnreadableWord};
+ghost use Rattle.review_cautions.specs.Classes.{class_name};
+ghost use Rattle.review_cautions.specs.declared.class.CautionClass.{CautionClass};
 ghost use Rattle.review_commands.specs.Words.{AsksNothing, IsErrorOfWords};
 ghost use Rattle.review_commands.specs.Words.{HoldsCommand};
 ghost use Rattle.review_commands.specs.Words.{WorkersFit, program_app};
@@ -11,8 +13,9 @@ use crate::command_line::program;
 use crate::request::Asked;
 use clap::error::ErrorKind;
 use clap::{ArgMatches, Command, Error};
+use review_cautions::{CautionClass, class_named};
 use run_base::{value, values, workers};
-use std::alloc::{AllocError, Global};
+use std::alloc::{AllocError, AllocFailed, Global};
 use std::convert::AsStr;
 use std::io::ErrorKind as ReadKind;
 
@@ -21,6 +24,8 @@ use std::io::ErrorKind as ReadKind;
 enum Unasked {
     // A required argument has no value, or the number of workers is outside 1 to 16.
     Missing,
+    // A word names no class of cautions.
+    BadClass,
     // Out of memory.
     Memory,
 }
@@ -36,17 +41,47 @@ impl From<AllocError> for Unasked {
     }
 }
 
+impl<T: Drop> From<AllocFailed<T>> for Unasked {
+    ghost use Rattle.std.specs.Prelude.{◌≡◌};
+    ghost use Rattle.review_commands.specs.declared.words.Unasked.TheVariants.{Memory};
+
+    ghost from_gives = { λ _ e. e ≡ Memory };
+
+    fn from(_: AllocFailed<T>) -> Unasked {
+        Unasked::Memory
+    }
+}
+
+// Returns the classes that words name.
+fn classes_named(alloc: Global, words: &[&str]) -> Result<Vec<CautionClass>, Unasked>
+    ensures named { IfOk result (λ v. map class_name v.items ≡ map (λ w. w.now) words.now) }
+    ensures bad { IfErr result (λ e. e ≢ Unasked.Memory → (classes : List CautionClass)
+        → map class_name classes ≢ map (λ w. w.now) words.now) }
+{
+    let mut classes = Vec::new(alloc);
+    for word in words {
+        match class_named(word.as_bytes()) {
+            Some(class) => classes.push(class)?,
+            None => return Err(Unasked::BadClass),
+        }
+    }
+    Ok(classes)
+}
+
 // Returns the command of the values of `cautions`.
-fn asked_cautions<'a>(given: &ArgMatches<'a>) -> Result<Asked<'a>, Unasked>
+fn asked_cautions<'a>(alloc: Global, given: &ArgMatches<'a>) -> Result<Asked<'a>, Unasked>
     ensures stated { IfOk result
         (λ a. HoldsCommand a (codes "cautions", rows_of (found_of given.now))) }
     ensures workers { IfOk result WorkersFit }
-    ensures nothing { IfErr result (λ _. AsksNothing (codes "cautions", rows_of (found_of given.now))) }
+    ensures nothing { IfErr result (λ e. e ≢ Unasked.Memory
+        → AsksNothing (codes "cautions", rows_of (found_of given.now))) }
 {
     let Some(file) = value(given, "file") else {
         return Err(Unasked::Missing);
     };
-    Ok(Asked::Cautions { file })
+    let words = values(alloc, given, "without")?;
+    let without = classes_named(alloc, &words)?;
+    Ok(Asked::Cautions { file, without })
 }
 
 // Returns the command of the values of `report`.
@@ -87,7 +122,7 @@ fn asked_by<'a>(alloc: Global, name: &str, given: &ArgMatches<'a>) -> Result<Ask
         → AsksNothing (name.now, rows_of (found_of given.now))) }
 {
     if name == "cautions" {
-        return asked_cautions(given);
+        return asked_cautions(alloc, given);
     }
     if name == "report" {
         return asked_report(alloc, given);
@@ -121,6 +156,10 @@ fn unasked_error(command: &mut Command<'_>, unasked: Unasked) -> Result<Error, A
             ErrorKind::MissingRequiredArgument,
             "a required argument was not provided",
         ),
+        Unasked::BadClass => command.error(
+            ErrorKind::InvalidValue,
+            "CLASS is none of the classes of cautions",
+        ),
         Unasked::Memory => Ok(Error::from(AllocError)),
     }
 }
@@ -145,10 +184,10 @@ fn asked_of<'a, S: AsStr>(
 }
 
 /// Returns the command that the words ask for, the program's own name first, as `clap` reads them:
-/// `cautions FILE`, or `report FILE --users F --hosts F [--workers N] [NAME=PATH]...`, where N is 1 to 16, by default 2.
+/// `cautions FILE [--without CLASS]...`, or `report FILE --users F --hosts F [--workers N] [NAME=PATH]...`, where N is 1 to 16, by default 2.
 ///
 /// Returns `clap`'s error, apart from allocation failure, exactly if `clap` does not accept the
-/// words: they are no such command, or ask for help or for the version.
+/// words (they are no such command, or ask for help or for the version), or a CLASS is no class of cautions.
 pub fn asked<'a, S: AsStr>(alloc: Global, words: &'a [S]) -> Result<Asked<'a>, Error>
     ensures stated { IfOk result (λ a. (p : Text × List Row)
         × (subcommand_of program_app (map S.text words.entry.now) ≡ Some p) × HoldsCommand a p) }

@@ -2,4 +2,3 @@ pub mod HeldSupplies
 pub mod EndingLemmas
 pub mod Steps
 pub mod RowLemmas
-pub mod NumberLemmas

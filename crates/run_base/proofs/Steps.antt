@@ -10,7 +10,7 @@ use Rattle.run_base.specs.Body.Loading.{IsNotCheckedOf, IsNotHanded}
 use Rattle.run_base.specs.declared.fault.PolicyFault.{PolicyFault}
 use Rattle.run_base.specs.declared.fault.PolicyFault.TheVariants as faults
 
-not_passed : (held : Option Holdings) (path : List ℕ) (policy : Policy) (fault : PolicyFault)
+pub not_passed : (held : Option Holdings) (path : List ℕ) (policy : Policy) (fault : PolicyFault)
     → IsLoaded held path policy → IsNotCheckedOf policy fault → IsNotChecked held path fault
 not_passed held path policy (faults.Errors lines) loaded h = (policy, loaded, h)
 not_passed held path policy faults.Memory loaded h = tt

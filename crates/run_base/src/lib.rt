@@ -2,6 +2,7 @@
 //! their texts, the arguments of command lines, and the end of a run.
 #![tactic(auto)]
 
+mod argument_values;
 mod arguments;
 mod ending;
 mod fails;
@@ -13,8 +14,8 @@ mod lines;
 mod loading;
 mod opening;
 mod run_output;
-mod values;
 
+pub use argument_values::{value, values, workers};
 pub use arguments::{file, path_option, senders_words, with_subcommand, word, workers_option};
 pub use ending::{end_run, report_fault, write_text};
 pub use fails::Fails;
@@ -25,4 +26,3 @@ pub use lines::{begin_line, finding_lines, push, push_both, push_number};
 pub use loading::{CheckedFiles, Loaded, checked_files, checked_policy, load_files, load_policy};
 pub use opening::{Opener, SystemOpener, open};
 pub use run_output::RunOutput;
-pub use values::{value, values, workers};

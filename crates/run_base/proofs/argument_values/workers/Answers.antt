@@ -4,7 +4,7 @@ use Rattle.clap.specs.declared.parser.matches.Found.{Found}
 use Rattle.clap.proofs.WalkLemmas.{one_text-rows}
 use Rattle.clap.specs.Words.{Text, rows_of}
 use Rattle.run_base.specs.Arguments.{IsNumberIn}
-use Rattle.run_base.proofs.values.workers.Goals as goal
+use Rattle.run_base.proofs.argument_values.workers.Goals as goal
 
 pub returns-in-Some-clause-read : goal.returns-in-Some-clause-read
 returns-in-Some-clause-read c = by (one_text found (codes "workers")) refl

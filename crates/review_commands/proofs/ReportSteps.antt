@@ -1,0 +1,51 @@
+-- The contract of `report` from those of its parts.
+use Rattle.std.proofs.Common.{◌≡◌, ◌⊎◌, ℕ, List, Option, Result, Ok, Err, inl, inr, refl, sym, subst, ◌∙◌}
+use Rattle.std.specs.Prelude.{IfErr, IfOk}
+use Rattle.audit_collect.specs.declared.report.Report.{Report}
+use Rattle.audit_commands.specs.Auditing.{Given, IsAnswer, IsNotAudited}
+use Rattle.audit_commands.specs.declared.fault.ReportFault.{ReportFault}
+use Rattle.audit_commands.specs.declared.fault.ReportFault.TheVariants as reports
+use Rattle.run_base.specs.Holding.{Holdings}
+use Rattle.run_base.specs.Loading.{IsChecked, IsLoadedFrom}
+use Rattle.sudo_grammar.specs.declared.policy.Policy.{Policy}
+use Rattle.sudo_load.specs.declared.supply.Supply.{Supply}
+use Rattle.sudo_policy.specs.Checking.{Passes}
+use Rattle.review_cautions.specs.Cautions.{policy_cautions}
+use Rattle.review_commands.specs.Body.Reviewing.{IsPrintedReview}
+use Rattle.review_commands.specs.CautionLines.{notice_text}
+use Rattle.review_commands.specs.FileTexts.{texts_of}
+use Rattle.review_commands.specs.Reviewing.{IsReviewed}
+use Rattle.review_commands.specs.declared.ending.NotedOutput.{NotedOutput}
+
+pub checked_of : (held : Option Holdings) (path main : List ℕ) (handed : List Supply) (policy : Policy)
+    → IsLoadedFrom held path main handed policy → Passes policy → IsChecked held path policy
+checked_of held path main handed policy loaded passes = record { loaded = (main, handed, loaded); passes = passes }
+
+-- the text of a report and its notice are the output
+pub reviewed_of : (given : Given) (main : List ℕ) (handed : List Supply) (policy : Policy) (answered : Result Report ReportFault)
+    (notice : List ℕ) (r : Result NotedOutput ReportFault)
+    → IsLoadedFrom given.held given.path main handed policy
+    → notice ≡ notice_text (policy_cautions (texts_of main handed policy.files) policy)
+    → IfOk answered (λ report. IsAnswer given policy (Ok report))
+    → IfOk r (λ p. IsPrintedReview policy answered p.text.items) → IfOk r (λ p. p.notice.items ≡ notice)
+    → IfOk r (λ p. IsReviewed given p.text.items p.notice.items)
+reviewed_of given main handed policy answered notice (Ok p) loaded is answer h same = record {
+  policy = policy;
+  report = h.report;
+  found = policy_cautions (texts_of main handed policy.files) policy;
+  answer = subst (λ a. IfOk a (λ report. IsAnswer given policy (Ok report))) h.is_report answer;
+  are = record { main = main; handed = handed; loaded = loaded; found_are = refl };
+  text_is = h.text_is;
+  notice_is = same ∙ is;
+}
+reviewed_of given main handed policy answered notice (Err fault) loaded is answer h same = tt
+
+-- the fault of an audit, or that of memory, is one of the whole
+pub not_reviewed_of : (given : Given) (answered : Result Report ReportFault) (r : Result NotedOutput ReportFault)
+    → IfErr answered (IsNotAudited given) → IfErr r (λ fault. (fault ≡ reports.Memory) ⊎ (answered ≡ Err fault))
+    → IfErr r (IsNotAudited given)
+not_reviewed_of given answered (Ok p) not h = tt
+not_reviewed_of given answered (Err fault) not h = elim h [
+  | inl memory ↦ subst (IsNotAudited given) (sym memory) tt
+  | inr same ↦ subst (λ a. IfErr a (IsNotAudited given)) same not
+]

@@ -1,0 +1,15 @@
+use Rattle.run_base.specs.Endings.{writer_states as sent}
+use Rattle.run_base.specs.Loading.{IsNoPolicy}
+use Rattle.run_base.proofs.EndingLemmas.{run_ends}
+use Rattle.review_commands.specs.CautionLines.{cautions_notices}
+use Rattle.review_commands.specs.Reviewing.{IsCautioned}
+use Rattle.review_commands.proofs.cautions.cautions_run.Goals as goal
+
+pub returns-clause-ends : goal.returns-clause-ends
+returns-clause-ends g c =
+    let held = g.F.Files.held c.args.files.now in
+    let out = sent g.O.Sink.taken g.O.Sink.stalled_writes c.args.out.now c.end_run.new.out in
+    let err = sent g.E.Sink.taken g.E.Sink.stalled_writes c.args.err.now c.end_run.new.err in
+    run_ends cautions_notices (IsCautioned held c.args.path.now c.args.without.now) (IsNoPolicy held c.args.path.now)
+    c.cautions_output-ended.result c.end_run.result out err
+    c.cautions_output-ended.ensures.printed c.cautions_output-ended.ensures.fault c.end_run.ensures
