@@ -1,11 +1,9 @@
 -- Worked examples of the classes of cautions: for each one a construct that has it, and one that does not.
-use Rattle.std.proofs.Common.{◌≡◌, ℕ, Bool, true, false, List, [], ◌∷◌, ◌++◌, None, Some, map, refl}
+use Rattle.std.proofs.Common.{◌≡◌, ℕ, false, List, [], ◌∷◌, ◌++◌, None, Some, map, refl}
 use Rattle.std.specs.Prelude.{codes}
 use Rattle.sudo_text.specs.Lines.{place}
 use Rattle.sudo_text.specs.Pieces.{plain, escaped}
 use Rattle.sudo_text.specs.declared.token.Ch.{Ch}
-use Rattle.sudo_text.specs.declared.token.Token.{Token}
-use Rattle.sudo_text.specs.declared.token.TokenKind.{TokenKind}
 use Rattle.sudo_text.specs.declared.token.TokenKind.TheVariants as tokens
 use Rattle.sudo_grammar.specs.declared.kind.Kind.{Kind}
 use Rattle.sudo_grammar.specs.declared.kind.Kind.TheVariants as kinds
@@ -15,8 +13,8 @@ use Rattle.sudo_grammar.specs.declared.kind.Member.{Member}
 use Rattle.sudo_grammar.specs.declared.policy.Parameter.{Parameter}
 use Rattle.sudo_grammar.specs.declared.policy.Parameter.TheVariants.{Switch}
 use Rattle.sudo_policy.specs.Definitions.{MemberList, granting_list}
-use Rattle.review_cautions.specs.declared.caution.Caution.{Caution}
-use Rattle.review_cautions.specs.declared.class.CautionClass.TheVariants.{Return, BlankAfterBackslash, Join, TornMark, Caret, Case, Linked, Defaults}
+use Rattle.review_cautions.specs.declared.class.CautionClass.TheVariants.{Return, BlankAfterBackslash, Join, TornMark}
+use Rattle.review_cautions.specs.declared.class.CautionClass.TheVariants.{Caret, Case, Linked, Defaults}
 use Rattle.review_cautions.specs.Cautions.{caution_at, text_cautions, list_cautions, linked_cautions, parameter_cautions}
 
 -- the carriage return of a rule is dropped; that of a comment means nothing
@@ -30,8 +28,8 @@ blank : text_cautions BlankAfterBackslash (codes "Defaults insults" ∷ (codes "
 blank = refl
 
 -- the command `/bin/ls-l` here; a blank before the backslash is one for both
-join : text_cautions Join ((codes "alice ALL = /bin/ls\\" ++ 10 ∷ codes "  -l" ++ 10 ∷ codes "bob ALL = /bin/ls \\" ++ 10 ∷ codes "-l") ∷ [])
-    ≡ caution_at Join (place 0 1) ∷ []
+join : text_cautions Join ((codes "alice ALL = /bin/ls\\" ++ 10 ∷ codes "  -l" ++ 10
+    ∷ codes "bob ALL = /bin/ls \\" ++ 10 ∷ codes "-l") ∷ []) ≡ caution_at Join (place 0 1) ∷ []
 join = refl
 
 -- a line that ends in a comma or an equals sign tears no word, and an escaped blank is a part of one
@@ -39,10 +37,20 @@ no_join : text_cautions Join ((codes "alice ALL =\\" ++ 10 ∷ codes "/bin/ls,\\
     ≡ caution_at Join (place 0 3) ∷ []
 no_join = refl
 
+-- in arguments an equals sign is a part of a word
+equals : text_cautions Join ((codes "alice ALL =\\" ++ 10 ∷ codes "/bin/dd if=\\" ++ 10 ∷ codes "/dev/zero") ∷ [])
+    ≡ caution_at Join (place 0 2) ∷ []
+equals = refl
+
 -- the colon of a tag on the next line; a comment is never continued
 torn : text_cautions TornMark ((codes "alice ALL = NOPASSWD\\" ++ 10 ∷ codes ": ALL" ++ 10 ∷ codes "# NOPASSWD\\" ++ 10
     ∷ codes ": ALL" ++ 10 ∷ codes "alice ALL = NOPASSWD: \\" ++ 10 ∷ codes "ALL") ∷ []) ≡ caution_at TornMark (place 0 1) ∷ []
 torn = refl
+
+-- a percent sign apart from its group
+group : text_cautions TornMark ((codes "%\\" ++ 10 ∷ codes "#27 ALL = ALL" ++ 10 ∷ codes "%adm \\" ++ 10 ∷ codes "ALL = ALL") ∷ [])
+    ≡ caution_at TornMark (place 0 1) ∷ []
+group = refl
 
 -- a member with this atom
 member : Atom → Member

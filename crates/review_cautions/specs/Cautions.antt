@@ -1,5 +1,5 @@
 -- The cautions on a policy, class by class.
-use Rattle.std.specs.Prelude.{ℕ, Bool, true, false, not, ◌&&◌, ◌||◌, ◌==◌, nat_lt, nat_le, if◌then◌else◌, List, [], ◌∷◌, ◌++◌}
+use Rattle.std.specs.Prelude.{ℕ, Bool, false, ◌&&◌, ◌==◌, nat_lt, nat_le, if◌then◌else◌, List, [], ◌∷◌, ◌++◌}
 use Rattle.std.specs.Prelude.{map, filter, find, flat_map, length, option_to_list, ◌^◌, Option, None, Some}
 use Rattle.std.specs.List.{enumerate_from}
 use Rattle.sudo_text.specs.Lines.{cut, place, text_limit}
@@ -12,7 +12,8 @@ use Rattle.sudo_grammar.specs.declared.policy.Policy.{Policy}
 use Rattle.sudo_policy.specs.Definitions.{MemberList, lists}
 use Rattle.review_cautions.specs.declared.caution.Caution.{Caution}
 use Rattle.review_cautions.specs.declared.class.CautionClass.{CautionClass}
-use Rattle.review_cautions.specs.declared.class.CautionClass.TheVariants.{Return, BlankAfterBackslash, Join, TornMark, Caret, Case, Linked, Defaults}
+use Rattle.review_cautions.specs.declared.class.CautionClass.TheVariants.{Return, BlankAfterBackslash, Join, TornMark}
+use Rattle.review_cautions.specs.declared.class.CautionClass.TheVariants.{Caret, Case, Linked, Defaults}
 use Rattle.review_cautions.specs.PhysicalLines.{numbers_of}
 use Rattle.review_cautions.specs.ListTests.{list_holds}
 use Rattle.review_cautions.specs.Parameters.{decides, name_of}
@@ -34,9 +35,11 @@ file_cautions class file text = if is_readable file text
 abbrev pub text_cautions : CautionClass → List (List ℕ) → List Caution
 text_cautions class texts = flat_map (λ (file : ℕ × List ℕ). file_cautions class file.0 file.1) (enumerate_from 0 texts)
 
+-- the same line of the same file
 abbrev pub same_place : Place → Place → Bool
 same_place a b = (a.file == b.file) && (a.line == b.line)
 
+-- the place before, if any, is the same
 abbrev pub is_at : Option Place → Place → Bool
 is_at None at = false
 is_at (Some before) at = same_place before at
@@ -56,7 +59,7 @@ list_cautions class lists =
 abbrev pub linked_cautions : List MemberList → List Caution
 linked_cautions lists = map (λ (l : MemberList). caution_at Linked l.place) (option_to_list (find (list_holds Linked) lists))
 
--- a parameter of a line
+-- the caution on a parameter of a line; its subject is the parameter's name
 abbrev pub parameter_caution : Place → Parameter → Caution
 parameter_caution at parameter = record { class = Defaults; place = at; subject = name_of parameter }
 
@@ -64,14 +67,16 @@ parameter_caution at parameter = record { class = Defaults; place = at; subject 
 abbrev pub parameter_cautions : Place → List Parameter → List Caution
 parameter_cautions at parameters = map (parameter_caution at) (filter decides parameters)
 
+-- the cautions on an entry: a `Defaults` line, bound or not, has those on its parameters
 abbrev pub body_cautions : Place → EntryBody → List Caution
 body_cautions at (entries.Defaults binding parameters) = parameter_cautions at parameters
 body_cautions at _ = []
 
+-- the cautions on the `Defaults` lines of a policy, in order
 abbrev pub defaults_cautions : List Entry → List Caution
 defaults_cautions es = flat_map (λ (e : Entry). body_cautions e.place e.body) es
 
--- the cautions on a policy whose files have these texts
+-- the cautions on a policy whose files have these texts: the classes one after the other, in the order of `CautionClass`
 abbrev pub policy_cautions : List (List ℕ) → Policy → List Caution
 policy_cautions texts policy =
     text_cautions Return texts ++ text_cautions BlankAfterBackslash texts ++ text_cautions Join texts

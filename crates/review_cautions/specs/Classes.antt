@@ -1,7 +1,8 @@
 -- The classes of cautions: their names, and the texts that explain them.
 use Rattle.std.specs.Prelude.{ℕ, List, [], ◌∷◌, codes}
 use Rattle.review_cautions.specs.declared.class.CautionClass.{CautionClass}
-use Rattle.review_cautions.specs.declared.class.CautionClass.TheVariants.{Return, BlankAfterBackslash, Join, TornMark, Caret, Case, Linked, Defaults}
+use Rattle.review_cautions.specs.declared.class.CautionClass.TheVariants.{Return, BlankAfterBackslash, Join, TornMark}
+use Rattle.review_cautions.specs.declared.class.CautionClass.TheVariants.{Caret, Case, Linked, Defaults}
 
 -- the classes, in the order in which they are listed
 abbrev pub classes : List CautionClass

@@ -1,4 +1,4 @@
--- What the members of a list of a policy contain. sudoers(5), "Wildcards" and "Aliases".
+-- What the members of a list of a policy contain.
 use Rattle.std.specs.Prelude.{ℕ, Bool, true, false, not, ◌&&◌, ◌||◌, ◌==◌, List, [], ◌∷◌, Option, None, Some, codes}
 use Rattle.std.specs.List.{list_any}
 use Rattle.sudo_text.specs.declared.token.Ch.{Ch}
@@ -10,13 +10,14 @@ use Rattle.sudo_grammar.specs.declared.kind.Member.{Member}
 use Rattle.sudo_grammar.specs.Words.{is_upper}
 use Rattle.sudo_policy.specs.Definitions.{MemberList}
 use Rattle.review_cautions.specs.declared.class.CautionClass.{CautionClass}
-use Rattle.review_cautions.specs.declared.class.CautionClass.TheVariants.{Return, BlankAfterBackslash, Join, TornMark, Caret, Case, Linked, Defaults}
+use Rattle.review_cautions.specs.declared.class.CautionClass.TheVariants.{Caret, Case, Linked}
 
--- a `[` that no escape yields
+-- a `[` that no escape yields. sudoers(5), "Wildcards"
 abbrev pub opens_bracket : Ch → Bool
 opens_bracket c = not c.escaped && (c.byte == 91)
 
--- a `^` stands directly behind such a `[`; `opened`: one stands directly before the characters
+-- a `^` stands directly behind such a `[`, where sudo takes it for `!`, as fnmatch(3) does; `opened`: such a `[` stands
+-- directly before the characters
 abbrev pub has_caret : Bool → List Ch → Bool
 has_caret opened [] = false
 has_caret opened (c ∷ cs) = (opened && (c.byte == 94)) || has_caret (opens_bracket c) cs
@@ -31,11 +32,13 @@ may_begin [] path = true
 may_begin (b ∷ bs) [] = false
 may_begin (b ∷ bs) (c ∷ cs) = is_wildcard c || ((c.byte == b) && may_begin bs cs)
 
--- the path may lie below a folder that is a link to another one on most machines, or below that other one
+-- the path may lie below `/bin/`, `/sbin/` or `/lib/`, which are links to folders in `/usr` on most machines, or below
+-- those folders; sudo compares the files that the paths lead to
 abbrev pub is_linked : List Ch → Bool
 is_linked path = may_begin (codes "/bin/") path || may_begin (codes "/sbin/") path || may_begin (codes "/lib/") path
     || may_begin (codes "/usr/bin/") path || may_begin (codes "/usr/sbin/") path || may_begin (codes "/usr/lib/") path
 
+-- the arguments of a command, if any are given, have such a `^`
 abbrev pub arguments_have_caret : Option (List Ch) → Bool
 arguments_have_caret None = false
 arguments_have_caret (Some args) = has_caret false args
@@ -46,7 +49,7 @@ atom_has_caret (atoms.Host chars quoted) = not quoted && has_caret false chars
 atom_has_caret (atoms.Command path args) = has_caret false path || arguments_have_caret args
 atom_has_caret _ = false
 
--- the name of a user or a group has a capital letter
+-- the name of a user or a group has a capital letter. sudoers(5), `case_insensitive_user` and `case_insensitive_group`
 abbrev pub atom_has_capital : Atom → Bool
 atom_has_capital (atoms.Name name) = list_any is_upper name
 atom_has_capital (atoms.Group name) = list_any is_upper name

@@ -1,13 +1,14 @@
 -- Constructs of physical lines: what ends them, and what their joins to the next line tear apart. sudoers(5), "Other
 -- special characters and reserved words".
-use Rattle.std.specs.Prelude.{ℕ, Bool, true, false, not, ◌&&◌, ◌||◌, ◌==◌, nat_lt, nat_le, if◌then◌else◌, List, [], ◌∷◌, ◌++◌}
+use Rattle.std.specs.Prelude.{ℕ, Bool, false, not, ◌&&◌, ◌||◌, ◌==◌, nat_lt, nat_le, if◌then◌else◌, List, [], ◌∷◌, ◌++◌}
 use Rattle.std.specs.Prelude.{reverse, length, take, slice_index, codes, ◌+◌, ◌-◌}
-use Rattle.std.specs.List.{take_while}
+use Rattle.std.specs.List.{list_any, take_while}
 use Rattle.std.specs.Str.{bytes_eq}
 use Rattle.sudo_text.specs.Bytes.{is_blank}
 use Rattle.sudo_text.specs.Lines.{without_return, without_indent, without_escape, is_comment, ends_in_escape, is_continued}
 use Rattle.review_cautions.specs.declared.class.CautionClass.{CautionClass}
-use Rattle.review_cautions.specs.declared.class.CautionClass.TheVariants.{Return, BlankAfterBackslash, Join, TornMark, Caret, Case, Linked, Defaults}
+use Rattle.review_cautions.specs.declared.class.CautionClass.TheVariants.{Return, BlankAfterBackslash, Join, TornMark}
+use Rattle.review_cautions.specs.declared.class.CautionClass.TheVariants.{Caret, Case, Linked, Defaults}
 
 -- the last byte of a line, and 0 if it has none
 abbrev pub last_byte : List ℕ → ℕ
@@ -25,23 +26,31 @@ end_blanks line = length (take_while is_blank (reverse line))
 abbrev pub ends_in_escaped_blanks : List ℕ → Bool
 ends_in_escaped_blanks line = nat_lt 0 (end_blanks line) && ends_in_escape (take (length line - end_blanks line) line)
 
--- a blank, a comma, a double quote, and the marks and signs that stand between words: `:`, `=`, `(`, `)`, `!` and `#`
-abbrev pub parts_words : ℕ → Bool
-parts_words b = is_blank b || (b == 44) || (b == 34) || (b == 58) || (b == 61) || (b == 40) || (b == 41) || (b == 33) || (b == 35)
+-- a slash stands in the line, and so a command may
+abbrev pub has_slash : List ℕ → Bool
+has_slash line = list_any (λ b. b == 47) line
+
+-- a blank, a comma or a colon; in a line without a command also a double quote, `=`, `(`, `)` and `!`, which arguments
+-- of a command may contain
+abbrev pub parts_words : Bool → ℕ → Bool
+parts_words command b =
+    is_blank b || (b == 44) || (b == 58) || (not command && ((b == 34) || (b == 61) || (b == 40) || (b == 41) || (b == 33)))
 
 -- the last byte belongs to a word: it parts no words, or it is escaped
-abbrev pub ends_in_word : List ℕ → Bool
-ends_in_word line =
-    nat_lt 0 (length line) && (not (parts_words (last_byte line)) || ends_in_escape (without_escape line))
+abbrev pub ends_in_word : Bool → List ℕ → Bool
+ends_in_word command line =
+    nat_lt 0 (length line) && (not (parts_words command (last_byte line)) || ends_in_escape (without_escape line))
 
--- the first byte belongs to a word
-abbrev pub begins_in_word : List ℕ → Bool
-begins_in_word line = nat_lt 0 (length line) && not (parts_words (slice_index line 0))
+-- the first byte belongs to a word: it parts no words and begins no comment
+abbrev pub begins_in_word : Bool → List ℕ → Bool
+begins_in_word command line =
+    nat_lt 0 (length line) && not ((slice_index line 0 == 35) || parts_words command (slice_index line 0))
 
 -- the line ends in a word, goes on in the next one, and that one begins in a word; between double quotes sudo joins
 -- lines as the reader does, and the line is taken for one that tears a word all the same
 abbrev pub tears_word : List ℕ → List ℕ → Bool
-tears_word line next = ends_in_escape line && (ends_in_word (without_escape line) && begins_in_word next)
+tears_word line next =
+    ends_in_escape line && (ends_in_word (has_slash line) (without_escape line) && begins_in_word (has_slash line) next)
 
 -- the word `Defaults` alone, or with the mark of a list to which the line is bound
 abbrev pub is_keyword : List ℕ → Bool
@@ -57,10 +66,22 @@ tears_tag line next = nat_le 65 (last_byte line) && nat_le (last_byte line) 90 &
 abbrev pub tears_bangs : List ℕ → List ℕ → Bool
 tears_bangs line next = (last_byte line == 33) && (slice_index next 0 == 33)
 
+-- a percent sign, as before the name of a group, is the last byte
+abbrev pub tears_group : List ℕ → Bool
+tears_group line = last_byte line == 37
+
+-- a plus or a minus sign is the last byte, and an equals sign the first one of the next line
+abbrev pub tears_operator : List ℕ → List ℕ → Bool
+tears_operator line next = ((last_byte line == 43) || (last_byte line == 45)) && (slice_index next 0 == 61)
+
+-- the line ends in one of these marks, which the next one ends
+abbrev pub ends_in_mark : List ℕ → List ℕ → Bool
+ends_in_mark line next =
+    is_keyword line || tears_group line || tears_tag line next || tears_bangs line next || tears_operator line next
+
 -- the line goes on in the next one within a mark that sudo wants on one line
 abbrev pub tears_mark : List ℕ → List ℕ → Bool
-tears_mark line next = ends_in_escape line
-    && (is_keyword (without_escape line) || tears_tag (without_escape line) next || tears_bangs (without_escape line) next)
+tears_mark line next = ends_in_escape line && ends_in_mark (without_escape line) next
 
 -- a line as the reader joins it: without a carriage return at its end and blanks at its front
 abbrev pub stripped : List ℕ → List ℕ

@@ -1,5 +1,5 @@
 //! The reader's rules for bytes and physical lines: blanks, comments, backslashes at the end of a line.
-ghost use Rattle.std.specs.Prelude.{◌≡◌, ◌≤◌, ◌+◌, ◌<◌, ◌∷◌, length, reverse, slice_index, ◌==◌, not, IsTrue};
+ghost use Rattle.std.specs.Prelude.{◌≡◌, ◌≤◌, ◌<◌, ◌∷◌, length, reverse, slice_index, ◌==◌, not, bytes_eq};
 ghost use Rattle.std.specs.List.{take_while};
 ghost use Rattle.sudo_text.specs.Bytes as bytes;
 ghost use Rattle.sudo_text.specs.Lines as lines;
@@ -13,6 +13,13 @@ pub(crate) fn is_blank(byte: u8) -> bool
     ensures { result ≡ bytes.is_blank byte }
 {
     byte == b' ' || byte == b'\t'
+}
+
+/// Whether two texts are equal.
+pub(crate) fn is_text(bytes: &[u8], text: &[u8]) -> bool
+    ensures { result ≡ bytes_eq bytes.now text.now }
+{
+    bytes == text
 }
 
 // Whether a byte is a decimal digit.

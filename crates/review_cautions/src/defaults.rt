@@ -1,20 +1,14 @@
 //! Cautions on the parameters of `Defaults` lines.
-ghost use Rattle.std.specs.Prelude.{◌≡◌, ◌++◌, ◌∷◌, [], OnOk, IfOk, if◌then◌else◌, bytes_eq};
+ghost use Rattle.std.specs.Prelude.{◌≡◌, ◌++◌, ◌∷◌, [], OnOk, IfOk, if◌then◌else◌};
 ghost use Rattle.sudo_grammar.specs.Words.{bytes_of};
 ghost use Rattle.review_cautions.specs.Parameters as spec;
 ghost use Rattle.review_cautions.specs.Cautions as cautions;
 
+use crate::bytes::is_text;
 use crate::{Caution, CautionClass};
 use std::alloc::{AllocError, Global};
 use sudo_policy::{Entry, EntryBody, Parameter};
 use sudo_text::{Ch, Place, Seq, TokenKind};
-
-// Whether a name is this text.
-fn is_text(name: &[u8], text: &[u8]) -> bool
-    ensures { result ≡ bytes_eq name.now text.now }
-{
-    name == text
-}
 
 // Whether a name is that of a flag that is on by default.
 fn is_on_flag(name: &[u8]) -> bool

@@ -1,24 +1,28 @@
 //! What the join of a physical line to the next one tears apart. Lines are given as the reader joins them: without a
 //! carriage return at their ends and blanks at their fronts.
-ghost use Rattle.std.specs.Prelude.{◌≡◌, ◌||◌, bytes_eq};
+ghost use Rattle.std.specs.Prelude.{◌≡◌};
 ghost use Rattle.sudo_text.specs.Lines.{without_escape as without_escape_of};
 ghost use Rattle.review_cautions.specs.PhysicalLines as spec;
 
-use crate::bytes::{ends_in_escape, is_blank, peek};
+use crate::bytes::{ends_in_escape, is_blank, is_text, peek};
 
-// Whether a byte is a blank, a comma, a double quote, or one of the marks and signs between words.
-fn parts_words(byte: u8) -> bool
-    ensures { result ≡ spec.parts_words byte }
+// Whether a slash stands in a line, and so a command may.
+fn has_slash(line: &[u8]) -> bool
+    ensures { result ≡ spec.has_slash line.now }
+{
+    line.iter().any(|byte| *byte == b'/')
+}
+
+// Whether a byte stands between words; `command` says that a command may stand in the line, whose arguments may contain
+// the byte.
+fn parts_words(command: bool, byte: u8) -> bool
+    ensures { result ≡ spec.parts_words command byte }
 {
     is_blank(byte)
         || byte == b','
-        || byte == b'"'
         || byte == b':'
-        || byte == b'='
-        || byte == b'('
-        || byte == b')'
-        || byte == b'!'
-        || byte == b'#'
+        || (!command
+            && (byte == b'"' || byte == b'=' || byte == b'(' || byte == b')' || byte == b'!'))
 }
 
 // Returns the last byte of a line, or 0 if it is empty.
@@ -42,23 +46,18 @@ fn without_escape(line: &[u8]) -> &[u8]
 }
 
 // Whether the last byte of a line belongs to a word.
-fn ends_in_word(line: &[u8]) -> bool
-    ensures { result ≡ spec.ends_in_word line.now }
+fn ends_in_word(command: bool, line: &[u8]) -> bool
+    ensures { result ≡ spec.ends_in_word command line.now }
 {
-    !line.is_empty() && (!parts_words(last_byte(line)) || ends_in_escape(without_escape(line)))
+    !line.is_empty()
+        && (!parts_words(command, last_byte(line)) || ends_in_escape(without_escape(line)))
 }
 
 // Whether the first byte of a line belongs to a word.
-fn begins_in_word(line: &[u8]) -> bool
-    ensures { result ≡ spec.begins_in_word line.now }
+fn begins_in_word(command: bool, line: &[u8]) -> bool
+    ensures { result ≡ spec.begins_in_word command line.now }
 {
-    !line.is_empty() && !parts_words(peek(line, 0))
-}
-
-fn is_text(line: &[u8], text: &[u8]) -> bool
-    ensures { result ≡ bytes_eq line.now text.now }
-{
-    line == text
+    !line.is_empty() && !(peek(line, 0) == b'#' || parts_words(command, peek(line, 0)))
 }
 
 // Whether a line is the word `Defaults` alone, or with the mark of a list to which the line is bound.
@@ -87,19 +86,39 @@ fn tears_bangs(line: &[u8], next: &[u8]) -> bool
     last_byte(line) == b'!' && peek(next, 0) == b'!'
 }
 
+// Whether a line ends in a percent sign, as before the name of a group.
+fn tears_group(line: &[u8]) -> bool
+    ensures { result ≡ spec.tears_group line.now }
+{
+    last_byte(line) == b'%'
+}
+
+// Whether a line ends in `+` or `-`, and the next one begins with `=`.
+fn tears_operator(line: &[u8], next: &[u8]) -> bool
+    ensures { result ≡ spec.tears_operator line.now next.now }
+{
+    let last = last_byte(line);
+    (last == b'+' || last == b'-') && peek(next, 0) == b'='
+}
+
+// Whether a line ends in a mark that the next one ends.
+fn ends_in_mark(line: &[u8], next: &[u8]) -> bool
+    ensures { result ≡ spec.ends_in_mark line.now next.now }
+{
+    is_keyword(line)
+        || tears_group(line)
+        || tears_tag(line, next)
+        || tears_bangs(line, next)
+        || tears_operator(line, next)
+}
+
 /// Whether a line is joined to the next one inside a word.
 pub(crate) fn tears_word(line: &[u8], next: &[u8]) -> bool
     ensures { result ≡ spec.tears_word line.now next.now }
 {
-    ends_in_escape(line) && (ends_in_word(without_escape(line)) && begins_in_word(next))
-}
-
-// Whether a line, whose backslash at the end is left out, ends within a mark that the next line ends.
-fn ends_in_mark(line: &[u8], next: &[u8]) -> bool
-    ensures { result ≡ (spec.is_keyword line.now || spec.tears_tag line.now next.now
-        || spec.tears_bangs line.now next.now) }
-{
-    is_keyword(line) || tears_tag(line, next) || tears_bangs(line, next)
+    let command = has_slash(line);
+    ends_in_escape(line)
+        && (ends_in_word(command, without_escape(line)) && begins_in_word(command, next))
 }
 
 /// Whether a line is joined to the next one within a mark that sudo wants on one line.

@@ -175,7 +175,8 @@ fn push_caution(
     place: Place,
     found: &mut Vec<Caution>,
 ) -> Result<(), AllocError>
-    ensures { OnOk result (found.new.items ≡ found.old.items ++ cautions.caution_at class place ∷ []) }
+    ensures { OnOk result (found.new.items
+        ≡ found.old.items ++ cautions.caution_at class place ∷ []) }
 {
     found.push(Caution::on_line(alloc, class, place))?;
     Ok(())

@@ -1,4 +1,4 @@
-use Rattle.std.proofs.Common.{◌≡◌, ◌++◌, map, drop, None}
+use Rattle.std.proofs.Common.{◌≡◌, ◌++◌, map, drop}
 use Rattle.std.specs.Prelude.{filter}
 use Rattle.sudo_policy.specs.Definitions.{MemberList, list_view}
 use Rattle.review_cautions.specs.ListTests.{list_holds}
