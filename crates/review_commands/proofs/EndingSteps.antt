@@ -36,7 +36,7 @@ pub lost_noted : {F : Type 0} (told : Notices F) (ended : Result NotedOutput F) 
 lost_noted told ended noted text count status out err is same part got failed printed_fault = inr (inr (record {
   text = text;
   meant = 0;
-  good = (noted.notice.items, noted, is, same, refl);
+  good = (noted.notice.items, (noted, is, same, refl));
   count = count;
   part = part;
   got = got;

@@ -1,5 +1,5 @@
 //! The texts of the files of a policy.
-ghost use Rattle.std.specs.Prelude.{◌≡◌, ◌∷◌, [], IfOk, map, option_map, unwrap_or};
+ghost use Rattle.std.specs.Prelude.{◌≡◌, ◌++◌, ◌∷◌, [], IfOk, OnOk, map, option_map, unwrap_or};
 ghost use Rattle.sudo_load.specs.Supplies.{file_in};
 ghost use Rattle.review_commands.specs.FileTexts.{text_at, texts_of, texts_at};
 
@@ -40,7 +40,20 @@ fn supplied<'a>(supplies: &'a [Supply], path: &Seq<u8>) -> &'a [u8]
     &[]
 }
 
-// Returns the texts of the files at these paths among the supplies.
+// Appends the text of the file at a path among the supplies.
+fn push_supplied<'a>(
+    texts: &mut Vec<&'a [u8]>,
+    supplies: &'a [Supply],
+    path: &Seq<u8>,
+) -> Result<(), AllocError>
+    ensures { OnOk result (map (λ t. t.now) texts.new.items
+        ≡ map (λ t. t.now) texts.old.items ++ text_at supplies.now path.now ∷ []) }
+{
+    texts.push(supplied(supplies, path))?;
+    Ok(())
+}
+
+// Returns the text of the main file, and the texts of the files at these paths among the supplies.
 fn supplied_texts<'a>(
     alloc: Global,
     supplies: &'a [Supply],
@@ -53,7 +66,7 @@ fn supplied_texts<'a>(
     let mut texts = Vec::new(alloc);
     texts.push(main)?;
     for path in paths {
-        texts.push(supplied(supplies, path))?;
+        push_supplied(&mut texts, supplies, path)?;
     }
     Ok(texts)
 }

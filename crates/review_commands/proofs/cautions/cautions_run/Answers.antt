@@ -5,8 +5,8 @@ use Rattle.review_commands.specs.CautionLines.{cautions_notices}
 use Rattle.review_commands.specs.Reviewing.{IsCautioned}
 use Rattle.review_commands.proofs.cautions.cautions_run.Goals as goal
 
-pub returns-clause-ends : goal.returns-clause-ends
-returns-clause-ends g c =
+pub returns : goal.returns
+returns g c =
     let held = g.F.Files.held c.args.files.now in
     let out = sent g.O.Sink.taken g.O.Sink.stalled_writes c.args.out.now c.end_run.new.out in
     let err = sent g.E.Sink.taken g.E.Sink.stalled_writes c.args.err.now c.end_run.new.err in

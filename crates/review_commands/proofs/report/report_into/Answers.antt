@@ -6,8 +6,8 @@ use Rattle.review_commands.specs.Reviewing.{IsReviewed}
 use Rattle.review_commands.proofs.EndingSteps.{run_noted}
 use Rattle.review_commands.proofs.report.report_into.Goals as goal
 
-pub returns-clause-ends : goal.returns-clause-ends
-returns-clause-ends g c =
+pub returns : goal.returns
+returns g c =
     let given : Given = given_by (g.F.Files.held c.args.files.now) c.args.path.now (g.U.Feed.ahead c.args.users.now)
     (g.H.Feed.ahead c.args.hosts.now)
     (map (λ s. s.name) c.args.sources.items) (map (λ s. g.R.Feed.ahead s.reader) c.args.sources.items) c.args.workers in
