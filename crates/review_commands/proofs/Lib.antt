@@ -2,3 +2,4 @@ pub mod Refusals
 pub mod Subcommands
 pub mod ReportSteps
 pub mod EndingSteps
+pub mod RowSteps

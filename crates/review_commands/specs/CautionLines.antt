@@ -27,10 +27,13 @@ subject_text (b ∷ rest) = (b ∷ rest) ++ codes ": "
 abbrev pub heading : CautionClass → List ℕ
 heading class = codes ": caution: " ++ class_name class ++ codes ": "
 
+-- what a caution says: its subject, if it has one, and the text of its class
+abbrev pub explanation : Caution → List ℕ
+explanation caution = subject_text caution.subject ++ class_text caution.class ++ 10 ∷ []
+
 -- `PATH:LINE: caution: CLASS: TEXT`, or `PATH:LINE: caution: CLASS: SUBJECT: TEXT`
 abbrev pub caution_line : List (List ℕ) → Caution → List ℕ
-caution_line files caution = place_text files caution.place ++ heading caution.class ++ subject_text caution.subject
-    ++ class_text caution.class ++ 10 ∷ []
+caution_line files caution = place_text files caution.place ++ heading caution.class ++ explanation caution
 
 -- `cautions: N`
 abbrev pub counted_line : ℕ → List ℕ

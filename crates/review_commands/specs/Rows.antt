@@ -12,10 +12,13 @@ abbrev pub header : List (List ℕ)
 header = codes "sender" ∷ codes "number" ∷ codes "user" ∷ codes "host" ∷ codes "runas_user" ∷ codes "runas_group"
     ∷ codes "command" ∷ codes "arguments" ∷ codes "verdict" ∷ codes "place" ∷ codes "tags" ∷ codes "depends" ∷ []
 
--- the fields of a request; a target that is not asked for is empty
-abbrev pub request_fields : Request → List (List ℕ)
-request_fields r = decimal r.number ∷ r.user ∷ r.host ∷ unwrap_or r.runas_user [] ∷ unwrap_or r.runas_group []
-    ∷ r.command ∷ r.arguments ∷ []
+-- the number of a request, its user and its host
+abbrev pub asker_fields : Request → List (List ℕ)
+asker_fields r = decimal r.number ∷ r.user ∷ r.host ∷ []
+
+-- what a request asks for: a target and a group, each empty if none is asked for, a command and its arguments
+abbrev pub asked_fields : Request → List (List ℕ)
+asked_fields r = unwrap_or r.runas_user [] ∷ unwrap_or r.runas_group [] ∷ r.command ∷ r.arguments ∷ []
 
 -- the fields of a verdict; nothing is noted that it depends on
 abbrev pub verdict_fields : List (List ℕ) → Verdict → List (List ℕ)
@@ -23,7 +26,8 @@ verdict_fields files v = verdict_word v ∷ verdict_place files v ∷ verdict_ta
 
 -- the fields of an answer's record
 abbrev pub answer_fields : List (List ℕ) → List ℕ → Answer → List (List ℕ)
-answer_fields files sender a = sender ∷ (request_fields a.request ++ verdict_fields files a.verdict)
+answer_fields files sender a =
+    sender ∷ (asker_fields a.request ++ (asked_fields a.request ++ verdict_fields files a.verdict))
 
 -- one record for each answer of a sender, in order
 abbrev pub sender_text : List (List ℕ) → SenderReport → List ℕ

@@ -17,6 +17,7 @@ use std::alloc::{AllocError, Global};
 use std::mem;
 use sudo_grammar::Policy;
 use sudo_load::Supply;
+use sudo_text::Seq;
 
 // Whether the cautions of a class are not to be listed.
 fn is_left_out(without: &[CautionClass], class: CautionClass) -> bool
@@ -37,14 +38,19 @@ fn listed(mut found: Vec<Caution>, without: &[CautionClass]) -> Vec<Caution>
 /// `AllocError` if allocation failed.
 pub(crate) fn found_in(
     alloc: Global,
-    main: &[u8],
-    supplies: &[Supply],
+    main: &Seq<u8>,
+    supplies: &Seq<Supply>,
     policy: &Policy,
 ) -> Result<Vec<Caution>, AllocError>
     ensures { let texts = texts_of main.now supplies.now policy.now.files in
         IfOk result (λ found. found.items ≡ policy_cautions texts policy.now) }
 {
-    let texts = file_texts(alloc, main, supplies, policy.files.as_slice())?;
+    let texts = file_texts(
+        alloc,
+        main.as_slice(),
+        supplies.as_slice(),
+        policy.files.as_slice(),
+    )?;
     let found = cautions(alloc, &texts, policy);
     drop(texts);
     found
@@ -68,7 +74,7 @@ fn cautions_output<F: Files>(
         supplies,
         policy,
     } = &loaded;
-    let found = found_in(alloc, text.as_slice(), supplies.as_slice(), policy)?;
+    let found = found_in(alloc, text, supplies, policy)?;
     let kept = listed(found, without);
     let printed = caution_lines(alloc, policy.files.as_slice(), &kept)?;
     mem::forget(loaded);

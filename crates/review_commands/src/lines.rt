@@ -1,7 +1,7 @@
 //! The lines of cautions, and the line that counts them.
-ghost use Rattle.std.specs.Prelude.{◌≡◌, ◌++◌, IfOk, OnOk};
+ghost use Rattle.std.specs.Prelude.{◌≡◌, ◌++◌, IfOk, OnOk, flat_map};
 ghost use Rattle.review_commands.specs.CautionLines.{caution_line, cautions_status, cautions_text, counted_classes};
-ghost use Rattle.review_commands.specs.CautionLines.{counted_line, heading};
+ghost use Rattle.review_commands.specs.CautionLines.{counted_line, explanation, heading};
 ghost use Rattle.review_commands.specs.CautionLines.{has_class, listed_classes, notice_text, subject_text, with_class};
 
 use crate::program_name::PROGRAM;
@@ -31,19 +31,33 @@ fn push_heading(lines: &mut Vec<u8>, class: CautionClass) -> Result<(), AllocErr
     push(lines, b": ")
 }
 
+// Appends what a caution says: its subject, if it has one, and the text of its class.
+fn push_explanation(lines: &mut Vec<u8>, caution: &Caution) -> Result<(), AllocError>
+    ensures { OnOk result (lines.new.items ≡ lines.old.items ++ explanation caution.now) }
+{
+    push_subject(lines, caution.subject.as_slice())?;
+    push(lines, caution.class.text())?;
+    push(lines, b"\n")
+}
+
 // Appends the line of a caution.
-fn push_caution(
-    lines: &mut Vec<u8>,
-    files: &[Seq<u8>],
-    caution: &Caution,
-) -> Result<(), AllocError>
+fn push_caution(lines: &mut Vec<u8>, files: &[Seq<u8>], caution: &Caution) -> Result<(), AllocError>
     ensures { OnOk result (lines.new.items ≡ lines.old.items ++ caution_line files.now caution.now) }
 {
     push_place(lines, files, caution.place)?;
     push_heading(lines, caution.class)?;
-    push_subject(lines, caution.subject.as_slice())?;
-    push(lines, caution.class.text())?;
-    push(lines, b"\n")
+    push_explanation(lines, caution)
+}
+
+// Returns a line for each caution.
+fn lines_of(alloc: Global, files: &[Seq<u8>], cautions: &[Caution]) -> Result<Vec<u8>, AllocError>
+    ensures { IfOk result (λ lines. lines.items ≡ flat_map (caution_line files.now) cautions.now) }
+{
+    let mut lines = Vec::new(alloc);
+    for caution in cautions {
+        push_caution(&mut lines, files, caution)?;
+    }
+    Ok(lines)
 }
 
 // Appends `cautions: ` and a number.
@@ -65,10 +79,7 @@ pub(crate) fn caution_lines(
     ensures text { IfOk result (λ printed. printed.text.items ≡ cautions_text files.now found.now) }
     ensures status { IfOk result (λ printed. printed.status ≡ cautions_status found.now) }
 {
-    let mut text = Vec::new(alloc);
-    for caution in found {
-        push_caution(&mut text, files, caution)?;
-    }
+    let mut text = lines_of(alloc, files, found)?;
     push_count(&mut text, found.len())?;
     let status = if found.is_empty() { 0 } else { 5 };
     Ok(RunOutput { text, status })

@@ -33,12 +33,7 @@ fn notice_on(alloc: Global, checked: &CheckedFiles) -> Result<Vec<u8>, AllocErro
         ≡ notice_text (policy_cautions texts checked.now.policy)) }
 {
     let policy = checked.policy.policy();
-    let found = found_in(
-        alloc,
-        checked.text.as_slice(),
-        checked.supplies.as_slice(),
-        policy,
-    )?;
+    let found = found_in(alloc, &checked.text, &checked.supplies, policy)?;
     notice(alloc, &found)
 }
 
@@ -90,7 +85,10 @@ fn report_output<T: Threads + Wait + Sync, F: Files, U: Feed, H: Feed, R: Feed +
         Err(PolicyFault::Memory) => return Err(ReportFault::Memory),
         Err(fault) => return Err(ReportFault::Policy(fault)),
     };
-    let notice = notice_on(alloc, &checked)?;
+    let notice = match notice_on(alloc, &checked) {
+        Ok(notice) => notice,
+        Err(_) => return Err(ReportFault::Memory),
+    };
     let answered = answer_requests(alloc, rt, &checked.policy, users, hosts, work);
     let ended = printed(alloc, &checked.policy, answered, notice);
     mem::forget(checked);

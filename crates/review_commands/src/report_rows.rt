@@ -2,7 +2,8 @@
 ghost use Rattle.std.specs.Prelude.{◌≡◌, ◌++◌, ◌∷◌, [], ℕ, List, IfOk, OnOk, unwrap_or};
 ghost use Rattle.csv.specs.Writing.{default_writer, field_text, fields_text};
 ghost use Rattle.audit_files.specs.Report.{line};
-ghost use Rattle.review_commands.specs.Rows.{answer_fields, header, report_text as text_of, request_fields};
+ghost use Rattle.review_commands.specs.Rows.{answer_fields, asked_fields, asker_fields, header};
+ghost use Rattle.review_commands.specs.Rows.{report_text as text_of};
 ghost use Rattle.review_commands.specs.Rows.{sender_text, verdict_fields};
 
 use audit_collect::{Answer, Report, SenderReport};
@@ -22,16 +23,24 @@ fn asked_bytes(target: &Option<Seq<u8>>) -> &[u8]
     }
 }
 
-// Appends the fields of a request, each after a comma.
+// Appends the number of a request, its user and its host, each after a comma.
 #[tactic(auto, unfolding(csv::specs::Writing::fields_text))]
-fn push_request(text: &mut Vec<u8>, request: &Request) -> Result<(), AllocError>
+fn push_asker(text: &mut Vec<u8>, request: &Request) -> Result<(), AllocError>
     ensures { OnOk result (text.new.items
-        ≡ text.old.items ++ fields_text default_writer (request_fields request.now)) }
+        ≡ text.old.items ++ fields_text default_writer (asker_fields request.now)) }
 {
     let mut number = Buffer::new();
     push_next_field(text, number.format(request.number).as_bytes())?;
     push_next_field(text, request.user.as_slice())?;
-    push_next_field(text, request.host.as_slice())?;
+    push_next_field(text, request.host.as_slice())
+}
+
+// Appends what a request asks for, each field after a comma: a target, a group, a command and its arguments.
+#[tactic(auto, unfolding(csv::specs::Writing::fields_text))]
+fn push_asked(text: &mut Vec<u8>, request: &Request) -> Result<(), AllocError>
+    ensures { OnOk result (text.new.items
+        ≡ text.old.items ++ fields_text default_writer (asked_fields request.now)) }
+{
     push_next_field(text, asked_bytes(&request.runas_user))?;
     push_next_field(text, asked_bytes(&request.runas_group))?;
     push_next_field(text, request.command.as_slice())?;
@@ -80,7 +89,8 @@ fn push_answer(
     ensures sender { OnOk result (scratch.new.sender.items ≡ scratch.old.sender.items) }
 {
     text.extend_from_slice(scratch.sender.as_slice())?;
-    push_request(text, &answer.request)?;
+    push_asker(text, &answer.request)?;
+    push_asked(text, &answer.request)?;
     push_verdict(text, scratch, files, &answer.verdict)?;
     text.push(b'\n')?;
     Ok(())
@@ -108,6 +118,14 @@ fn push_sender(
 const HEADER: &[u8] = b"sender,number,user,host,runas_user,runas_group,\
     command,arguments,verdict,place,tags,depends\n";
 
+// Appends the record of the names of the columns.
+#[tactic(auto, unfolding(csv::specs::Writing::fields_text, csv::specs::Writing::is_blank))]
+fn push_header(text: &mut Vec<u8>) -> Result<(), AllocError>
+    ensures { OnOk result (text.new.items ≡ text.old.items ++ line header) }
+{
+    text.extend_from_slice(HEADER)
+}
+
 /// Returns the report as CSV, with the request beside each answer: the header `sender,number,user,host,runas_user,
 /// runas_group,command,arguments,verdict,place,tags,depends`, then for each sender a record for each of its answers, in their
 /// order.
@@ -127,7 +145,7 @@ pub(crate) fn report_text(
         place: Vec::new(alloc),
         tags: Vec::new(alloc),
     };
-    text.extend_from_slice(HEADER)?;
+    push_header(&mut text)?;
     for sender in report.senders.as_slice() {
         push_sender(&mut text, &mut scratch, files, sender)?;
     }

@@ -1,0 +1,37 @@
+-- A row of a report from its parts.
+use Rattle.std.proofs.Common.{◌≡◌, ◌∙◌, ℕ, List, [], ◌∷◌, ◌++◌, ap, append_assoc, append-nil, refl, sym}
+use Rattle.csv.specs.Writing.{default_writer, field_text, fields_text, is_blank}
+use Rattle.audit_files.specs.Report.{line}
+
+fields_text-append : (xs ys : List (List ℕ))
+    → fields_text default_writer (xs ++ ys) ≡ fields_text default_writer xs ++ fields_text default_writer ys
+unfolding fields_text
+fields_text-append [] ys = refl
+fields_text-append (x ∷ xs) ys =
+    ap (λ (t : List ℕ). 44 ∷ (field_text default_writer x ++ t)) (fields_text-append xs ys)
+    ∙ ap (λ (t : List ℕ). 44 ∷ t) (sym (append_assoc (field_text default_writer x) (fields_text default_writer xs) (fields_text default_writer ys)))
+
+-- the record of a first field and of others, the first of which is there
+line_text : (sender field : List ℕ) (rest : List (List ℕ))
+    → line (sender ∷ field ∷ rest) ≡ (field_text default_writer sender ++ fields_text default_writer (field ∷ rest)) ++ 10 ∷ []
+unfolding is_blank
+line_text sender field rest = refl
+
+regrouped : (s a b c d e : List ℕ) → ((((s ++ a) ++ b) ++ c) ++ d) ++ e ≡ s ++ ((a ++ (b ++ (c ++ d))) ++ e)
+regrouped s a b c d e = simp append_assoc
+
+pub row_of : (old one two three four new scratch sender field : List ℕ) (asker asked verdict : List (List ℕ))
+    → one ≡ old ++ scratch → scratch ≡ field_text default_writer sender
+    → two ≡ one ++ fields_text default_writer (field ∷ asker) → three ≡ two ++ fields_text default_writer asked
+    → four ≡ three ++ fields_text default_writer verdict → new ≡ four ++ 10 ∷ []
+    → new ≡ old ++ line (sender ∷ ((field ∷ asker) ++ (asked ++ verdict)))
+row_of old one two three four new scratch sender field asker asked verdict first is second third fourth end =
+    let text : List (List ℕ) → List ℕ = fields_text default_writer in
+    let all : text ((field ∷ asker) ++ (asked ++ verdict)) ≡ text (field ∷ asker) ++ (text asked ++ text verdict) =
+    fields_text-append (field ∷ asker) (asked ++ verdict) ∙ ap (λ (t : List ℕ). text (field ∷ asker) ++ t) (fields_text-append asked verdict) in
+    let begun : one ≡ old ++ field_text default_writer sender = first ∙ ap (λ (t : List ℕ). old ++ t) is in
+    end ∙ ap (λ (t : List ℕ). t ++ 10 ∷ []) (fourth ∙ ap (λ (t : List ℕ). t ++ text verdict)
+    (third ∙ ap (λ (t : List ℕ). t ++ text asked) (second ∙ ap (λ (t : List ℕ). t ++ text (field ∷ asker)) begun)))
+    ∙ regrouped old (field_text default_writer sender) (text (field ∷ asker)) (text asked) (text verdict) (10 ∷ [])
+    ∙ ap (λ (t : List ℕ). old ++ ((field_text default_writer sender ++ t) ++ 10 ∷ [])) (sym all)
+    ∙ ap (λ (t : List ℕ). old ++ t) (sym (line_text sender field (asker ++ (asked ++ verdict))))
