@@ -10,7 +10,7 @@ returns-clause-report g c =
     (map (λ s. s.name) c.args.work.sources.items) (map (λ s. g.R.Feed.ahead s.reader) c.args.work.sources.items) c.args.work.workers in
     let checked = c.in-Ok.checked in
     reviewed_of given checked.text checked.supplies checked.policy c.answer_requests-answered.result _ c.printed-ended.result
-    c.in-Ok.ensures.loaded c.in-Ok-notice.ensures
+    c.in-Ok.ensures.loaded c.in-Ok-notice_on.ensures
     (c.answer_requests-answered.ensures.report (g.F.Files.held c.args.files.now) c.args.path.now
     (checked_of _ _ _ _ _ c.in-Ok.ensures.loaded c.in-Ok.ensures.passes))
     c.printed-ended.ensures.text c.printed-ended.ensures.notice
