@@ -3,4 +3,3 @@ pub mod Subcommands
 pub mod ReportSteps
 pub mod EndingSteps
 pub mod RowSteps
-pub mod TextSteps

@@ -69,9 +69,13 @@ with_class (b ∷ before) class = (b ∷ before) ++ codes ", " ++ class_name cla
 abbrev pub listed_classes : List Caution → List ℕ
 listed_classes found = fold with_class [] (filter (has_class found) classes)
 
--- a number of cautions, and their classes in parentheses
+-- names of classes in parentheses
+abbrev pub in_parentheses : List ℕ → List ℕ
+in_parentheses names = codes " cautions (" ++ names ++ codes ")" ++ 10 ∷ []
+
+-- a number of cautions, and their classes
 abbrev pub counted_classes : ℕ → List ℕ → List ℕ
-counted_classes count names = decimal count ++ codes " cautions (" ++ names ++ codes ")" ++ 10 ∷ []
+counted_classes count names = decimal count ++ in_parentheses names
 
 -- the line that a command which judges ends with: `sudo_review: N cautions (CLASS, ..)`; nothing if there is no caution
 abbrev pub notice_text : List Caution → List ℕ

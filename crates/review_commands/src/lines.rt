@@ -1,7 +1,7 @@
 //! The lines of cautions, and the line that counts them.
 ghost use Rattle.std.specs.Prelude.{◌≡◌, ◌++◌, IfOk, OnOk, flat_map};
 ghost use Rattle.review_commands.specs.CautionLines.{caution_line, cautions_status, cautions_text, counted_classes};
-ghost use Rattle.review_commands.specs.CautionLines.{counted_line, explanation, heading};
+ghost use Rattle.review_commands.specs.CautionLines.{counted_line, explanation, heading, in_parentheses};
 ghost use Rattle.review_commands.specs.CautionLines.{has_class, listed_classes, notice_text, subject_text, with_class};
 
 use crate::program_name::PROGRAM;
@@ -117,14 +117,21 @@ fn class_names(alloc: Global, found: &[Caution]) -> Result<Vec<u8>, AllocError>
     Ok(names)
 }
 
+// Appends names of classes in parentheses.
+fn push_classes(line: &mut Vec<u8>, names: &[u8]) -> Result<(), AllocError>
+    ensures { OnOk result (line.new.items ≡ line.old.items ++ in_parentheses names.now) }
+{
+    push(line, b" cautions (")?;
+    push(line, names)?;
+    push(line, b")\n")
+}
+
 // Appends the number of cautions, and their classes in parentheses.
 fn push_counted(line: &mut Vec<u8>, count: usize, names: &[u8]) -> Result<(), AllocError>
     ensures { OnOk result (line.new.items ≡ line.old.items ++ counted_classes count names.now) }
 {
     push_number(line, count as u64)?;
-    push(line, b" cautions (")?;
-    push(line, names)?;
-    push(line, b")\n")
+    push_classes(line, names)
 }
 
 /// Returns the line that a command which judges ends with: the number of cautions and their classes. Returns nothing if there
