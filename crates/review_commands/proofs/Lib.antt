@@ -3,3 +3,4 @@ pub mod Subcommands
 pub mod ReportSteps
 pub mod EndingSteps
 pub mod RowSteps
+pub mod ListSteps
