@@ -1,5 +1,6 @@
 """Tests of `packaging/install` and `packaging/deb`, with a stub in the place of each program."""
 
+import glob
 import gzip
 import os
 import re
@@ -20,6 +21,13 @@ def text_of(*names: str) -> str:
     """Returns the text of a file of the repository."""
     with open(os.path.join(REPOSITORY, *names), encoding="utf-8") as file:
         return file.read()
+
+
+def command_line_of(program: str) -> str:
+    """Returns the source of the command line of a program: that which names it."""
+    sources = [text_of(path) for path in glob.glob(os.path.join(REPOSITORY, "crates", "*", "src", "command_line.rt"))]
+    source, = [text for text in sources if f'Command::new(alloc, "{program}")' in text]
+    return source
 
 
 def all_below(folder: str) -> list[str]:
@@ -202,9 +210,9 @@ class Versions(unittest.TestCase):
         self.assertTrue(text_of("packaging", "debian", "changelog").startswith(f"kulavemia ({version}) "))
 
     def test_source_of_the_program_has_the_version(self) -> None:
-        for crate in ("audit_commands", "review_commands"):
-            source = text_of("crates", crate, "src", "command_line.rt")
-            self.assertEqual(re.findall(r"\.version\((.*)\)", source), [f'"{text_of("VERSION").strip()}"'], crate)
+        for program in PROGRAMS:
+            found = re.findall(r"\.version\((.*)\)", command_line_of(program))
+            self.assertEqual(found, [f'"{text_of("VERSION").strip()}"'], program)
 
     @needs_program
     def test_program_tells_the_version(self) -> None:
@@ -232,8 +240,7 @@ class Completions(unittest.TestCase):
 
     def commands_of(self, program: str) -> list[str]:
         """Returns the commands of a program, as the source of its command line names them."""
-        crate = {"sudo_audit": "audit_commands", "sudo_review": "review_commands"}[program]
-        return re.findall(r'Command::new\(alloc, "([a-z]+)"\)', text_of("crates", crate, "src", "command_line.rt"))
+        return re.findall(r'Command::new\(alloc, "([a-z]+)"\)', command_line_of(program))
 
     def test_commands(self) -> None:
         for program in PROGRAMS:
