@@ -22,6 +22,8 @@ from kulavemia.rows import row
 from kulavemia.shown import Form
 
 NAME = "sudo_audit"
+# The second program; the tests and commands of developers alone ask it.
+REVIEW = "sudo_review"
 REPOSITORY = os.path.dirname(os.path.dirname(os.path.dirname(os.path.realpath(__file__))))
 _WRITE_FAILED = b"write failed"
 _PIECE = 1 << 20
