@@ -10,6 +10,7 @@ import tempfile
 import unittest
 
 from support import PROGRAM, REVIEW, needs_program, needs_review
+from tables import read_table
 
 TESTS = os.path.dirname(os.path.realpath(__file__))
 REPOSITORY = os.path.dirname(os.path.dirname(TESTS))
@@ -258,7 +259,8 @@ class Completions(unittest.TestCase):
                 self.assertEqual(self.proposed(program, command, "p", "-"), options)
                 self.assertEqual(self.proposed(program, command, "p", "--workers", "16"), ["16"])
                 self.assertEqual(self.proposed(program, command, "p", "s=di"), ["a file for di"])
-        self.assertEqual(self.proposed("sudo_review", "cautions", "-"), ["--help"])
+        self.assertEqual(self.proposed("sudo_review", "cautions", "-"), ["--without", "--help"])
+        self.assertEqual(self.proposed("sudo_review", "cautions", "--without", ""), list(read_table("cautions")["classes"]))
         self.assertEqual(self.proposed("sudo_audit", "expand", "p", "h"), ["host"])
 
 
