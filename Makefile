@@ -19,19 +19,22 @@ lint:
 # Runs the tests of the commands in tools/ and dev/ alone: all of them, those of a file, or those of a name.
 #   make tools-test FILE=test_page.py     make tools-test FILE=test_runs.py TEST=table_check
 # What they need is installed where that is allowed. Missing packages are reported, and the tests that need them are skipped;
-# so are those that need the program where none is found.
+# so are those that need a program where none is found.
 FILE ?= test*.py
 tools-test:
 	tools/tests/prepare
 	/usr/bin/python3 -m unittest discover -s tools/tests -p '$(FILE)' $(if $(TEST),-k '$(TEST)')
 
-# Builds the program, checks the example policy, writes two of its aliases out, and audits the example's requests.
+# Builds the programs, checks the example policy, writes two of its aliases out, audits the example's requests, and shows what
+# sudo reads or judges otherwise there (status 5 says that there is such) and the requests beside their answers.
+AUDITED := ../../examples/sudoers --users ../../examples/users.csv --hosts ../../examples/hosts.csv \
+	web=../../examples/web.csv ops=../../examples/ops-odd.csv ops=../../examples/ops-even.csv
 run:
 	cd crates/sudo_audit && rt run -- check ../../examples/sudoers
 	cd crates/sudo_audit && rt run -- expand ../../examples/sudoers cmnd SAFE
 	cd crates/sudo_audit && rt run -- expand ../../examples/sudoers host SERVERS
-	cd crates/sudo_audit && rt run -- audit ../../examples/sudoers \
-		--users ../../examples/users.csv --hosts ../../examples/hosts.csv \
-		web=../../examples/web.csv ops=../../examples/ops-odd.csv ops=../../examples/ops-even.csv
+	cd crates/sudo_audit && rt run -- audit $(AUDITED)
+	cd crates/sudo_review && rt run -- cautions ../../examples/sudoers || [ $$? -eq 5 ]
+	cd crates/sudo_review && rt run -- report $(AUDITED)
 
 include packaging/install.mk

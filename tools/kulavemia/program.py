@@ -22,8 +22,9 @@ from kulavemia.rows import row
 from kulavemia.shown import Form
 
 NAME = "sudo_audit"
+# The second program; the tests and commands of developers alone ask it.
+REVIEW = "sudo_review"
 REPOSITORY = os.path.dirname(os.path.dirname(os.path.dirname(os.path.realpath(__file__))))
-BUILT = os.path.join(REPOSITORY, "crates", NAME, "out", NAME)
 _WRITE_FAILED = b"write failed"
 _PIECE = 1 << 20
 # Bytes of rows that are shown as they are; a quote is none of them, since its field may end in another piece.
@@ -53,16 +54,18 @@ def add_options(words: ArgumentParser) -> None:
     )
 
 
-def find(given: str | None) -> str:
-    """Returns the path of the program. Raises `Fault` if it is not there."""
-    named = given or os.environ.get("SUDO_AUDIT")
-    beside = os.path.join(os.path.dirname(os.path.abspath(sys.argv[0])), NAME)
-    found = shutil.which(named) if named else shutil.which(NAME) or shutil.which(beside) or shutil.which(BUILT)
+def find(given: str | None, name: str = NAME) -> str:
+    """Returns the path of the program of this name. Raises `Fault` if it is not there."""
+    variable = name.upper()
+    named = given or os.environ.get(variable)
+    beside = os.path.join(os.path.dirname(os.path.abspath(sys.argv[0])), name)
+    built = os.path.join(REPOSITORY, "crates", name, "out", name)
+    found = shutil.which(named) if named else shutil.which(name) or shutil.which(beside) or shutil.which(built)
     if found:
         return found
     if named:
         raise Fault(f"{named}: no program", PROGRAM)
-    raise Fault(f"no program {NAME}: build it, or name it by --program or $SUDO_AUDIT", PROGRAM)
+    raise Fault(f"no program {name}: build it, or name it by --program or ${variable}", PROGRAM)
 
 
 def sum_of(program: str) -> str:

@@ -19,12 +19,12 @@ from kulavemia.command import Fault  # noqa: E402
 from kulavemia.program import find  # noqa: E402
 
 
-def program() -> str | None:
-    """Returns the path of the built program, or `None`."""
+def program(name: str) -> str:
+    """Returns the path of a built program, or nothing."""
     try:
-        return find(None)
+        return find(None, name)
     except Fault:
-        return None
+        return ""
 
 
 def has_jinja() -> bool:
@@ -40,17 +40,20 @@ def has_dask() -> bool:
 
 
 # Empty where there is none: the tests that need it are skipped.
-PROGRAM = program() or ""
+PROGRAM = program("sudo_audit")
+REVIEW = program("sudo_review")
 BROWSER = shutil.which("chromium") or shutil.which("chromium-browser")
 JINJA = has_jinja()
 DASK = has_dask()
 needs_program = unittest.skipUnless(PROGRAM, "the program sudo_audit is not built")
+needs_review = unittest.skipUnless(REVIEW, "the program sudo_review is not built")
 needs_jinja = unittest.skipUnless(JINJA, "python3-jinja2 is not installed")
 needs_dask = unittest.skipUnless(DASK, "python3-distributed or python3-cryptography is not installed")
 needs_browser = unittest.skipUnless(BROWSER, "chromium is not installed")
 
 for there, missing in (
     (PROGRAM, "the program sudo_audit is not built"),
+    (REVIEW, "the program sudo_review is not built"),
     (JINJA, "python3-jinja2 is not installed"),
     (DASK, "python3-distributed or python3-cryptography is not installed"),
     (BROWSER, "chromium is not installed"),

@@ -1,7 +1,7 @@
 """Tests of the documents: what they name is there.
 
 Each function, clause and definition of the tables of README.md and docs/PROOFS.md, each file and each word behind it in
-docs/LAYERS.md, and each relative link.
+docs/LAYERS.md, and each relative link. The examples print what is shown.
 """
 
 import glob
@@ -12,7 +12,7 @@ import tempfile
 import unittest
 from collections.abc import Iterator
 
-from support import PROGRAM, needs_program
+from support import PROGRAM, REVIEW, needs_program, needs_review
 
 REPOSITORY = os.path.dirname(os.path.dirname(os.path.dirname(os.path.realpath(__file__))))
 CRATES = os.path.join(REPOSITORY, "crates")
@@ -129,7 +129,7 @@ class Contracts(unittest.TestCase):
 
     def test_the_readme(self) -> None:
         rows = list(rows_of("README.md", ["Guarantee", "Function", "Clauses", "Definitions"]))
-        self.assertEqual(len(rows), 5)
+        self.assertEqual(len(rows), 7)
         for _, (_, functions, clauses, definitions) in rows:
             self.holds("", functions, clauses, definitions)
 
@@ -184,11 +184,20 @@ class Files(unittest.TestCase):
             self.assertEqual(wide, [], document)
 
 
-def examples_of(document: str) -> Iterator[tuple[str, str]]:
+def lines_of_manual(page: str) -> list[str]:
+    """Returns the lines of a manual page, with the characters that they stand for in place of their names."""
+    characters = (("\\(ga", "`"), ("\\(ha", "^"), ("\\-", "-"), ("\\&", ""), ("\\e", "\\"))
+    text = text_of(page)
+    for name, character in characters:
+        text = text.replace(name, character)
+    return text.splitlines()
+
+
+def examples_of(lines: list[str]) -> Iterator[tuple[str, str]]:
     """Yields each command that an indented block of a document shows behind `$`, with the lines that follow it."""
     command: str | None = None
     shown: list[str] = []
-    for line in text_of(document).splitlines() + ["end"]:
+    for line in [*lines, "end"]:
         inside = line.startswith("    ")
         if command and (not inside or line.startswith("    $ ")):
             yield command, "".join(shown)
@@ -200,32 +209,43 @@ def examples_of(document: str) -> Iterator[tuple[str, str]]:
 
 
 class Examples(unittest.TestCase):
-    """The examples of the program in documents."""
+    """The examples of the programs in documents."""
 
-    def shows(self, document: str) -> int:
-        """Fails where the program prints something else than the document shows, on the files that the document shows."""
+    def shows(self, lines: list[str]) -> int:
+        """Fails where a program prints something else than the lines show, on the files that they show."""
         ran = 0
+        programs = {"sudo_audit": PROGRAM, "sudo_review": REVIEW}
         with tempfile.TemporaryDirectory() as folder:
-            for command, shown in examples_of(document):
+            for command, shown in examples_of(lines):
                 word, *words = command.split()
                 if word == "cat":
                     path = os.path.join(folder, words[0])
                     os.makedirs(os.path.dirname(path), exist_ok=True)
                     with open(path, "w", encoding="utf-8") as file:
                         file.write(shown)
-                elif word == "sudo_audit":
+                elif word in programs:
                     ran += 1
-                    done = subprocess.run([PROGRAM, *words], cwd=folder, capture_output=True, text=True, check=False)
+                    done = subprocess.run([programs[word], *words], cwd=folder, capture_output=True, text=True, check=False)
                     self.assertEqual(done.stdout + done.stderr, shown, command)
         return ran
 
     @needs_program
     def test_the_readme(self) -> None:
-        self.assertEqual(self.shows("README.md"), 1)
+        self.assertEqual(self.shows(text_of("README.md").splitlines()), 1)
 
     @needs_program
     def test_the_definitions(self) -> None:
-        self.assertEqual(self.shows("docs/DEFINITIONS.md"), 3)
+        self.assertEqual(self.shows(text_of("docs/DEFINITIONS.md").splitlines()), 3)
+
+    @needs_review
+    def test_the_review(self) -> None:
+        self.assertEqual(self.shows(text_of("docs/REVIEW.md").splitlines()), 2)
+
+    @needs_review
+    def test_the_manual_page_of_the_review(self) -> None:
+        page = "\n".join(lines_of_manual("docs/sudo_review.1"))
+        block = page.partition("\n.SH EXAMPLES\n.nf\n")[2].partition("\n.fi\n")[0]
+        self.assertEqual(self.shows([f"    {line}" for line in block.splitlines()]), 2)
 
 
 if __name__ == "__main__":

@@ -1,4 +1,7 @@
-"""A disk that is full: each command ends with status 4 and names a path on it, and leaves nothing half written."""
+"""A disk that is full: each command ends with status 4 and names a path on it, and leaves nothing half written.
+
+The programs say how many bytes of their output went out before.
+"""
 
 import os
 import shutil
@@ -8,7 +11,7 @@ import unittest
 from collections.abc import Sequence
 
 from fleet_case import STUB, USERS, FleetCase, requests
-from support import EXAMPLES, TOOLS, needs_jinja, needs_program
+from support import EXAMPLES, PROGRAM, REVIEW, TOOLS, needs_jinja, needs_program, needs_review
 
 MOUNT = 'mount -t tmpfs -o size=16k,mode=0700 none "$0" && exec "$@"'
 FULL = "No space left on device"
@@ -118,6 +121,27 @@ class FullDisk(FleetCase):
             file.add(self.path("web1"), "web1")
         said = self.failing("gather", "--tar", "web1.tar", "--out", "disk/out")
         self.assertRegex(said, rf"gather: disk/out/\.\w+\.part/logs/auth.log: {FULL}")
+
+    def fill(self, program: str, name: str, *words: str) -> None:
+        """Has the program of a name write its output to the disk, and wants the disk's size told."""
+        said = self.failing("/bin/sh", "-c", 'exec "$0" "$@" >disk/out', program, *words)
+        self.assertEqual(said, f"{name}: write failed after 16384 bytes\n")
+
+    def write_policy(self) -> tuple[str, ...]:
+        """Writes a policy of many cautions, and many requests, and returns the words that name what they need."""
+        self.write("policy", "Alice ALL = ALL\n" * 2000)
+        self.write("r.csv", requests(range(1, 2001), 2000))
+        return "policy", "--users", f"{EXAMPLES}/users.csv", "--hosts", f"{EXAMPLES}/hosts.csv", "s=r.csv"
+
+    @needs_program
+    def test_the_program(self) -> None:
+        self.fill(PROGRAM, "sudo_audit", "audit", *self.write_policy())
+
+    @needs_review
+    def test_the_second_program(self) -> None:
+        words = self.write_policy()
+        self.fill(REVIEW, "sudo_review", "report", *words)
+        self.fill(REVIEW, "sudo_review", "cautions", words[0])
 
     def test_standard_output(self) -> None:
         self.write("policy", "root ALL = ALL\n")

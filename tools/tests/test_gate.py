@@ -7,7 +7,7 @@ import unittest
 
 from support import DEV, Case
 
-BUILT = "crates/sudo_audit/out/sudo_audit"
+PROGRAMS = ("sudo_audit", "sudo_review")
 SAMPLES = """import os
 import unittest
 
@@ -16,8 +16,9 @@ class Samples(unittest.TestCase):
     def test_passes(self) -> None:
         pass
 
-    def test_finds_the_program(self) -> None:
-        self.assertEqual(os.environ.get("SUDO_AUDIT"), os.path.abspath("crates/sudo_audit/out/sudo_audit"))
+    def test_finds_the_programs(self) -> None:
+        for name in ("sudo_audit", "sudo_review"):
+            self.assertEqual(os.environ.get(name.upper()), os.path.abspath(f"crates/{name}/out/{name}"))
 
     @unittest.skip("no moon")
     def test_is_skipped(self) -> None:
@@ -73,7 +74,7 @@ class Gate(Case):
 
     def start(self, **more: str) -> subprocess.Popen[str]:
         """Starts the gate on the test's folder, with more variables of its environment."""
-        environment = {name: value for name, value in os.environ.items() if name not in ("SUDO_AUDIT", "RT_JOBS")}
+        environment = {name: value for name, value in os.environ.items() if name not in ("SUDO_AUDIT", "SUDO_REVIEW", "RT_JOBS")}
         environment |= {"PATH": f"{self.path('bin')}:/usr/bin:/bin", **more}
         words = [os.path.join(DEV, "gate"), "--repository", self.folder]
         return subprocess.Popen(
@@ -87,18 +88,18 @@ class Gate(Case):
         self.assertEqual(child.returncode, status, lines)
         return lines
 
-    def build(self) -> str:
-        """Returns the command that builds a program where `rt ci` does."""
-        out = self.path("crates", "sudo_audit", "out")
-        return f"mkdir -p {out} && cp {self.path('bin', 'rt')} {out}/sudo_audit\n"
+    def build(self, *programs: str) -> str:
+        """Returns the commands that build programs where `rt ci` does, all unless some are named."""
+        folders = {name: self.path("crates", name, "out") for name in programs or PROGRAMS}
+        return "".join(f"mkdir -p {out} && cp {self.path('bin', 'rt')} {out}/{name}\n" for name, out in folders.items())
 
     def test_the_sum_is_the_last_line(self) -> None:
         said = ["rt: low proved", "rt: low: its tests are proved", "3 passed, 0 failed"]
         self.rt(self.build() + "".join(f"echo {line}\n" for line in [*said, "40 passed, 0 failed"]))
         lines = self.gate(0)
         self.assertEqual(lines[:3], said)
-        self.assertEqual(lines[3], f"gate: the tests of the tools use {BUILT}")
-        self.assertEqual(lines[4], "prepared")
+        self.assertEqual(lines[3:5], [f"gate: the tests of the tools use crates/{name}/out/{name}" for name in PROGRAMS])
+        self.assertEqual(lines[5], "prepared")
         self.assertEqual(lines[-4], "skipped: test_samples.Samples.test_is_skipped: no moon")
         self.assertEqual(lines[-3], "gate: proved after minutes: low 0, low (tests) 0")
         self.assertRegex(lines[-2], r"^gate: rt ci took [0-9.]+ min \([0-9.]+ min of processor time\), and all of it [0-9.]+ min")
@@ -114,8 +115,17 @@ class Gate(Case):
     def test_no_program(self) -> None:
         self.rt("echo 3 passed, 1 failed; exit 1\n")
         lines = self.gate(1)
-        self.assertIn(f"gate: rt ci left no program {BUILT}; tests that find no other one are skipped", lines)
+        for name in PROGRAMS:
+            built = f"crates/{name}/out/{name}"
+            self.assertIn(f"gate: rt ci left no program {built}; tests that find no other one are skipped", lines)
         self.assertEqual(lines[-1], "4 passed, 2 failed")
+
+    def test_one_program_of_two(self) -> None:
+        self.rt(f"{self.build('sudo_audit')}echo 3 passed, 0 failed\n")
+        lines = self.gate(1)
+        self.assertTrue(lines[0].endswith("/sudo_audit"), lines[0])
+        self.assertTrue(lines[1].endswith("/sudo_review; tests that find no other one are skipped"), lines[1])
+        self.assertEqual(lines[-1], "4 passed, 1 failed")
 
     def test_no_last_line(self) -> None:
         for text in ("echo stopped; exit 2", "printf stopped", "echo 3 passed, 0 failed; echo stopped"):

@@ -1,5 +1,6 @@
-"""Tests of `packaging/install` and `packaging/deb`, with a stub in the program's place."""
+"""Tests of `packaging/install` and `packaging/deb`, with a stub in the place of each program."""
 
+import glob
 import gzip
 import os
 import re
@@ -8,17 +9,26 @@ import subprocess
 import tempfile
 import unittest
 
-from support import PROGRAM, needs_program
+from support import PROGRAM, REVIEW, needs_program, needs_review
+from tables import read_table
 
 TESTS = os.path.dirname(os.path.realpath(__file__))
 REPOSITORY = os.path.dirname(os.path.dirname(TESTS))
 STUB = os.path.join(TESTS, "lint_stub")
+PROGRAMS = ("sudo_audit", "sudo_review")
 
 
 def text_of(*names: str) -> str:
     """Returns the text of a file of the repository."""
     with open(os.path.join(REPOSITORY, *names), encoding="utf-8") as file:
         return file.read()
+
+
+def command_line_of(program: str) -> str:
+    """Returns the source of the command line of a program: that which names it."""
+    sources = [text_of(path) for path in glob.glob(os.path.join(REPOSITORY, "crates", "*", "src", "command_line.rt"))]
+    source, = [text for text in sources if f'Command::new(alloc, "{program}")' in text]
+    return source
 
 
 def all_below(folder: str) -> list[str]:
@@ -48,7 +58,7 @@ class Installed(unittest.TestCase):
     def do(self, action: str, prefix: str = "/usr/local") -> str:
         """Installs or uninstalls below the folder."""
         return run(os.path.join(REPOSITORY, "packaging", "install"), action, "--prefix", prefix,
-                   "--destdir", self.root, "--program", STUB)
+                   "--destdir", self.root, "--program", STUB, "--review", STUB)
 
     def write(self, path: str, text: str = "") -> None:
         """Writes a file below the folder."""
@@ -58,7 +68,8 @@ class Installed(unittest.TestCase):
 
     def test_uninstall_leaves_nothing(self) -> None:
         self.do("install")
-        self.assertTrue(os.access(self.at("/usr/local/bin/sudo_audit"), os.X_OK))
+        for name in PROGRAMS:
+            self.assertTrue(os.access(self.at(f"/usr/local/bin/{name}"), os.X_OK), name)
         self.do("uninstall")
         self.assertEqual(all_below(self.root), [])
 
@@ -85,10 +96,18 @@ class Installed(unittest.TestCase):
     def test_a_program_that_is_not_there_changes_nothing(self) -> None:
         self.do("install")
         first = all_below(self.root)
-        done = subprocess.run([os.path.join(REPOSITORY, "packaging", "install"), "install", "--destdir", self.root,
-                               "--program", "/gone"], capture_output=True, text=True, check=False)
-        self.assertEqual((done.returncode, done.stderr), (1, "/gone: No such file or directory\n"))
-        self.assertEqual(all_below(self.root), first)
+        for option, other in (("--program", "--review"), ("--review", "--program")):
+            words = [os.path.join(REPOSITORY, "packaging", "install"), "install", "--destdir", self.root]
+            done = subprocess.run([*words, option, "/gone", other, STUB], capture_output=True, text=True, check=False)
+            self.assertEqual((done.returncode, done.stderr), (1, "/gone: No such file or directory\n"), option)
+            self.assertEqual(all_below(self.root), first)
+
+    def test_each_program_is_the_one_that_is_named(self) -> None:
+        other = os.path.join(TESTS, "fleet_stub")
+        run(os.path.join(REPOSITORY, "packaging", "install"), "install", "--destdir", self.root,
+            "--program", STUB, "--review", other)
+        for name, path in zip(PROGRAMS, (STUB, other)):
+            self.assertEqual(text_of(self.at("/usr/local/bin"), name), text_of(path))
 
     def test_what_a_broken_off_install_left_is_no_hindrance(self) -> None:
         self.do("install")
@@ -106,8 +125,9 @@ class Installed(unittest.TestCase):
 
     @unittest.skipUnless(shutil.which("make"), "make is not installed")
     def test_make(self) -> None:
-        words = ["make", "-s", "-C", REPOSITORY, f"DESTDIR={self.root}", "PREFIX=/opt/a b", f"PROGRAM={STUB}"]
+        words = ["make", "-s", "-C", REPOSITORY, f"DESTDIR={self.root}", "PREFIX=/opt/a b", f"PROGRAM={STUB}", f"REVIEW={STUB}"]
         run(*words, "install")
+        self.assertLessEqual(set(PROGRAMS), set(os.listdir(self.at("/opt/a b/bin"))))
         self.assertEqual(run(self.at("/opt/a b/bin/kulavemia-lint"), "--version"), f"kulavemia-lint {text_of('VERSION')}")
         run(*words, "uninstall")
         self.assertEqual(all_below(self.root), [])
@@ -166,7 +186,7 @@ class Installed(unittest.TestCase):
         tools = os.path.join(REPOSITORY, "tools")
         there = {name for name in os.listdir(tools) if os.path.isfile(os.path.join(tools, name))}
         self.do("install")
-        self.assertEqual({f"kulavemia-{name}" for name in there}, set(os.listdir(self.at("/usr/local/bin"))) - {"sudo_audit"})
+        self.assertEqual({f"kulavemia-{name}" for name in there}, set(os.listdir(self.at("/usr/local/bin"))) - set(PROGRAMS))
         self.assertEqual(set(os.listdir(self.at("/usr/local/lib/kulavemia/tools"))) - {"kulavemia"}, there)
 
     def test_each_command_has_a_page_and_completions(self) -> None:
@@ -191,12 +211,57 @@ class Versions(unittest.TestCase):
         self.assertTrue(text_of("packaging", "debian", "changelog").startswith(f"kulavemia ({version}) "))
 
     def test_source_of_the_program_has_the_version(self) -> None:
-        source = text_of("crates", "audit_commands", "src", "command_line.rt")
-        self.assertEqual(re.findall(r"\.version\((.*)\)", source), [f'"{text_of("VERSION").strip()}"'])
+        for program in PROGRAMS:
+            found = re.findall(r"\.version\((.*)\)", command_line_of(program))
+            self.assertEqual(found, [f'"{text_of("VERSION").strip()}"'], program)
 
     @needs_program
     def test_program_tells_the_version(self) -> None:
         self.assertEqual(run(PROGRAM, "--version"), f"sudo_audit {text_of('VERSION')}")
+
+    @needs_review
+    def test_second_program_tells_the_version(self) -> None:
+        self.assertEqual(run(REVIEW, "--version"), f"sudo_review {text_of('VERSION')}")
+
+
+@unittest.skipUnless(shutil.which("bash"), "bash is not installed")
+class Completions(unittest.TestCase):
+    """What bash proposes for the words of the programs; the functions of bash-completion are stubs."""
+
+    def proposed(self, *words: str) -> list[str]:
+        """Returns what is proposed for the last of some words."""
+        script = """
+            _init_completion() { words=("${asked[@]}"); cword=$((${#asked[@]} - 1)); cur=${asked[-1]}; prev=${asked[-2]}; }
+            _filedir() { COMPREPLY=("a file for $cur"); }
+            source "$0"
+            asked=("$@")
+            complete -p "$1" >/dev/null && _sudo_programs "$1" && printf '%s\\n' "${COMPREPLY[@]}"
+        """
+        return run("bash", "-c", script, os.path.join(REPOSITORY, "packaging", "bash-completion"), *words).split("\n")[:-1]
+
+    def commands_of(self, program: str) -> list[str]:
+        """Returns the commands of a program, as the source of its command line names them."""
+        return re.findall(r'Command::new\(alloc, "([a-z]+)"\)', command_line_of(program))
+
+    def test_commands(self) -> None:
+        for program in PROGRAMS:
+            with self.subTest(program):
+                commands = self.commands_of(program)
+                self.assertGreater(len(commands), 1)
+                self.assertEqual(self.proposed(program, ""), [*commands, "help", "--help", "--version"])
+                self.assertEqual(self.proposed(program, "help", ""), commands)
+                self.assertEqual(self.proposed(program, "help", commands[-1][:1]), commands[-1:])
+
+    def test_words_of_commands(self) -> None:
+        for program, command in (("sudo_audit", "audit"), ("sudo_review", "report")):
+            with self.subTest(program):
+                options = ["--users", "--hosts", "--workers", "--help"]
+                self.assertEqual(self.proposed(program, command, "p", "-"), options)
+                self.assertEqual(self.proposed(program, command, "p", "--workers", "16"), ["16"])
+                self.assertEqual(self.proposed(program, command, "p", "s=di"), ["a file for di"])
+        self.assertEqual(self.proposed("sudo_review", "cautions", "-"), ["--without", "--help"])
+        self.assertEqual(self.proposed("sudo_review", "cautions", "--without", ""), list(read_table("cautions")["classes"]))
+        self.assertEqual(self.proposed("sudo_audit", "expand", "p", "h"), ["host"])
 
 
 @unittest.skipUnless(shutil.which("dpkg-deb"), "dpkg-deb is not installed")
@@ -206,7 +271,7 @@ class Package(unittest.TestCase):
     def build(self) -> str:
         """Builds the package, and returns its path."""
         folder = self.enterContext(tempfile.TemporaryDirectory())
-        run(os.path.join(REPOSITORY, "packaging", "deb"), STUB, folder)
+        run(os.path.join(REPOSITORY, "packaging", "deb"), STUB, STUB, folder)
         name, = os.listdir(folder)
         return os.path.join(folder, name)
 
@@ -218,8 +283,9 @@ class Package(unittest.TestCase):
         self.assertRegex(fields, r"\nDepends: .*python3")
         self.assertIn("\nRecommends: python3-jinja2\n", fields)
         listing = run("dpkg-deb", "--contents", package)
-        for path in ("usr/bin/sudo_audit", "usr/bin/kulavemia-lint -> ../lib/kulavemia/tools/lint",
-                     "usr/share/doc/kulavemia/copyright", "usr/share/man/man1/sudo_audit.1.gz"):
+        of_programs = [path for name in PROGRAMS for path in (f"usr/bin/{name}", f"usr/share/man/man1/{name}.1.gz")]
+        for path in (*of_programs, "usr/bin/kulavemia-lint -> ../lib/kulavemia/tools/lint", "usr/share/doc/kulavemia/copyright",
+                     "usr/share/bash-completion/completions/sudo_review -> sudo_audit"):
             self.assertIn(f" ./{path}\n", listing)
         self.assertNotIn("lib/kulavemia/installed", listing)
         self.assertTrue(all(line.split()[1] == "root/root" for line in listing.splitlines()))

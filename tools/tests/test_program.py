@@ -17,7 +17,7 @@ class Find(Case):
         environment = {"PATH": self.path("path")}
         self.enterContext(mock.patch("sys.argv", words))
         self.enterContext(mock.patch.dict(os.environ, environment, clear=True))
-        self.enterContext(mock.patch.object(program, "BUILT", self.path("built", "sudo_audit")))
+        self.enterContext(mock.patch.object(program, "REPOSITORY", self.folder))
 
     def program(self, name: str, mode: int = 0o755) -> str:
         """Writes a program, and returns its path."""
@@ -26,7 +26,7 @@ class Find(Case):
         return path
 
     def test_the_first_that_is_there(self) -> None:
-        for name in ("built/sudo_audit", "bin/sudo_audit", "path/sudo_audit", "named"):
+        for name in ("crates/sudo_audit/out/sudo_audit", "bin/sudo_audit", "path/sudo_audit", "named"):
             path = self.program(name)
             if name == "named":
                 os.environ["SUDO_AUDIT"] = path
@@ -47,6 +47,17 @@ class Find(Case):
     def test_none(self) -> None:
         with self.assertRaisesRegex(Fault, "no program sudo_audit: build it"):
             program.find(None)
+
+    def test_the_second_program(self) -> None:
+        self.program("path/sudo_audit")
+        with self.assertRaisesRegex(Fault, r"no program sudo_review: build it, or name it by --program or \$SUDO_REVIEW"):
+            program.find(None, "sudo_review")
+        os.environ["SUDO_AUDIT"] = self.program("other")
+        for name in ("crates/sudo_review/out/sudo_review", "bin/sudo_review", "path/sudo_review"):
+            path = self.program(name)
+            self.assertEqual(program.find(None, "sudo_review"), path)
+        os.environ["SUDO_REVIEW"] = self.program("named")
+        self.assertEqual(program.find(None, "sudo_review"), self.path("named"))
 
 
 class Streams(Case):

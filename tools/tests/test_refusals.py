@@ -1,4 +1,4 @@
-"""Runs of the program in which each allocation is refused in turn, and of `dev/refusals`."""
+"""Runs of the programs in which each allocation is refused in turn, and of `dev/refusals`."""
 
 import importlib.machinery
 import importlib.util
@@ -7,7 +7,7 @@ import shutil
 import subprocess
 import unittest
 
-from support import DEV, PROGRAM, Case, needs_program
+from support import DEV, PROGRAM, REVIEW, Case, needs_program, needs_review
 
 needs_compiler = unittest.skipUnless(shutil.which("cc"), "there is no C compiler")
 
@@ -54,6 +54,17 @@ RUNS = {
     "a user twice": (TAGS, AUDIT.replace("users users", "users twice"), 3),
     "no root": (TAGS, AUDIT.replace("users users", "users rootless"), 3),
 }
+REPORT = AUDIT.replace("audit", "report")
+MANY = "Defaults targetpw\nAlice ALL = /bin/ls [^-]*\\\n-l, /bin/cat a\\ \n@include i\n"
+OF_REVIEW = {
+    "no caution": (TAGS.replace("bin", "opt"), "cautions p", 0),
+    "cautions of many classes": (MANY, "cautions p", 5),
+    "a fault before cautions": (MANY + "alice ALL = ALL,\n", "cautions p", 1),
+    "a report": (TAGS.replace("bin", "opt"), REPORT, 0),
+    "a report with cautions": (MANY + TAGS, REPORT, 0),
+    "a report of errors": (CYCLES, REPORT, 1),
+    "a report on a sender without a close row": (MANY + TAGS, REPORT.replace("=requests", "=open"), 3),
+}
 FILES = {
     "users": USERS,
     "hosts": HOSTS,
@@ -75,18 +86,26 @@ class Refusals(Case):
         super().setUp()
         self.library = refusals.built_shim(self.folder)
 
-    @needs_program
-    def test_each_allocation_of_each_run(self) -> None:
-        for name, text in FILES.items():
-            self.write(name, text)
-        for title, (policy, words, status) in RUNS.items():
+    def sweep(self, program: str, name: str, runs: dict[str, tuple[str, str, int]]) -> None:
+        """Refuses each allocation of each of the runs of a program in turn."""
+        for path, text in FILES.items():
+            self.write(path, text)
+        for title, (policy, words, status) in runs.items():
             self.write("p", policy)
             with self.subTest(title):
-                run = [PROGRAM, *words.split()]
+                run = [program, *words.split()]
                 self.assertEqual(refusals.tried(run, self.library, 0, self.folder).ended.status, status)
-                found = refusals.swept(run, self.library, folder=self.folder)
+                found = refusals.swept(run, self.library, folder=self.folder, name=name)
                 self.assertEqual(found.wrong, [])
                 self.assertGreater(found.counts[refusals.MEMORY], 10)
+
+    @needs_program
+    def test_each_allocation_of_each_run(self) -> None:
+        self.sweep(PROGRAM, "sudo_audit", RUNS)
+
+    @needs_review
+    def test_each_allocation_of_each_run_of_the_second_program(self) -> None:
+        self.sweep(REVIEW, "sudo_review", OF_REVIEW)
 
     @needs_program
     def test_a_refused_start_of_a_thread(self) -> None:
@@ -108,6 +127,9 @@ class Refusals(Case):
         code += ' if (!a) { fputs("sudo_audit: out of memory\\n", stderr); return 4; } return b ? 0 : 1; }'
         out = self.run_dev("refusals", "--program", self.program(code), "--", "check", "p", status=1)[0]
         self.assertEqual(out.splitlines()[0], "2: status 1: ")
+        self.assertEqual(out.splitlines()[-1], "| 0 | 1 | 0 | 1 | 3 |")
+        other = self.program(code.replace("sudo_audit", "sudo_review"))
+        out = self.run_dev("refusals", "--of", "sudo_review", "--program", other, "--", "cautions", "p", status=1)[0]
         self.assertEqual(out.splitlines()[-1], "| 0 | 1 | 0 | 1 | 3 |")
 
     def test_from_a_number_on(self) -> None:

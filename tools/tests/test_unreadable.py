@@ -1,4 +1,4 @@
-"""Runs of the program on files and folders that cannot be read, or that are no regular files."""
+"""Runs of the programs on files and folders that cannot be read, or that are no regular files."""
 
 import os
 import shutil
@@ -7,7 +7,7 @@ import stat
 import subprocess
 import unittest
 
-from support import PROGRAM, REQUESTS_HEADER, Case, needs_program
+from support import PROGRAM, REQUESTS_HEADER, REVIEW, Case, needs_program, needs_review
 
 NOBODY = 65534
 SECONDS = 20
@@ -17,10 +17,12 @@ SECONDS = 20
 class Unreadable(Case):
     """Runs in a folder, as a user other than root."""
 
+    name, built = "sudo_audit", PROGRAM
+
     def setUp(self) -> None:
         super().setUp()
         os.chmod(self.folder, 0o755)
-        self.program = shutil.copy(PROGRAM, self.path("program"))
+        self.program = shutil.copy(self.built, self.path("program"))
         os.chmod(self.program, 0o755)
 
     def ran(self, *words: str, before: str = ":") -> tuple[int, str, str]:
@@ -41,7 +43,14 @@ class Unreadable(Case):
 
     def assert_cannot_read(self, path: str, *words: str) -> None:
         """Checks that a run ends since a path cannot be read."""
-        self.assertEqual(self.ran(*words), (4, "", f"sudo_audit: cannot read {path}\n"))
+        self.assertEqual(self.ran(*words), (4, "", f"{self.name}: cannot read {path}\n"))
+
+    def write_directory(self) -> tuple[str, ...]:
+        """Writes the users, the hosts and a request, and returns the words that name them."""
+        self.write("users", "user,uid,groups\nroot,0,root:0\nalice,1,alice:1\n")
+        self.write("hosts", "host,interfaces\nweb1,\n")
+        self.write("requests", f"{REQUESTS_HEADER}1,alice,web1,,,/bin/ls,\nclose,1,,,,,\n")
+        return "--users", "users", "--hosts", "hosts", "s=requests"
 
     def make_folder(self, path: str, mode: int = 0o755) -> None:
         """Makes a folder."""
@@ -64,10 +73,7 @@ class Folders(Unreadable):
         self.write("d/a", "alice ALL = !ALL\n")
         os.chmod(self.path("d"), 0o744)
         self.assert_cannot_read("d/a", "check", "p")
-        self.write("users", "user,uid,groups\nroot,0,root:0\nalice,1,alice:1\n")
-        self.write("hosts", "host,interfaces\nweb1,\n")
-        self.write("requests", f"{REQUESTS_HEADER}1,alice,web1,,,/bin/ls,\nclose,1,,,,,\n")
-        self.assert_cannot_read("d/a", "audit", "p", "--users", "users", "--hosts", "hosts", "s=requests")
+        self.assert_cannot_read("d/a", "audit", "p", *self.write_directory())
         self.assert_cannot_read("d/a", "expand", "p", "cmnd", "A")
 
     def test_names_that_are_not_read_anyway(self) -> None:
@@ -121,6 +127,30 @@ class Folders(Unreadable):
         os.mkdir(self.path("d", "folder"))
         self.link("d/null", "/dev/null")
         self.assertEqual(self.ran("check", "p"), (0, "ok\n", ""))
+
+
+@needs_review
+class Reviewed(Unreadable):
+    """The same of the second program."""
+
+    name, built = "sudo_review", REVIEW
+
+    def test_a_folder_that_can_be_listed_and_not_searched(self) -> None:
+        self.write("p", "alice ALL = ALL\n@includedir d\n")
+        self.write("d/a", "alice ALL = !ALL\n")
+        os.chmod(self.path("d"), 0o744)
+        self.assert_cannot_read("d/a", "cautions", "p")
+        self.assert_cannot_read("d/a", "report", "p", *self.write_directory())
+
+    def test_files_without_leave(self) -> None:
+        words = self.write_directory()
+        self.write("p", "alice ALL = ALL\n")
+        for path in ("requests", "hosts", "users", "p"):
+            os.chmod(self.path(path), 0o000)
+            self.assert_cannot_read(path, "report", "p", *words)
+            os.chmod(self.path(path), 0o644)
+        os.chmod(self.path("p"), 0o000)
+        self.assert_cannot_read("p", "cautions", "p")
 
 
 class Files(Unreadable):
