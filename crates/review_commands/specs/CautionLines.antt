@@ -69,9 +69,9 @@ with_class (b ∷ before) class = (b ∷ before) ++ codes ", " ++ class_name cla
 abbrev pub listed_classes : List Caution → List ℕ
 listed_classes found = fold with_class [] (filter (has_class found) classes)
 
--- names of classes in parentheses
+-- names of classes in parentheses, and the end of the line (41 is `)`)
 abbrev pub in_parentheses : List ℕ → List ℕ
-in_parentheses names = codes " cautions (" ++ names ++ codes ")" ++ 10 ∷ []
+in_parentheses names = codes " cautions (" ++ names ++ 41 ∷ 10 ∷ []
 
 -- a number of cautions, and their classes
 abbrev pub counted_classes : ℕ → List ℕ → List ℕ

@@ -184,7 +184,8 @@ fn asked_of<'a, S: AsStr>(
 }
 
 /// Returns the command that the words ask for, the program's own name first, as `clap` reads them:
-/// `cautions FILE [--without CLASS]...`, or `report FILE --users F --hosts F [--workers N] [NAME=PATH]...`, where N is 1 to 16, by default 2.
+/// `cautions FILE [--without CLASS]...`, or `report FILE --users F --hosts F [--workers N] [NAME=PATH]...`, where N is 1 to
+/// 16, by default 2.
 ///
 /// Returns `clap`'s error, apart from allocation failure, exactly if `clap` does not accept the
 /// words (they are no such command, or ask for help or for the version), or a CLASS is no class of cautions.
