@@ -4,3 +4,4 @@ pub mod ReportSteps
 pub mod EndingSteps
 pub mod RowSteps
 pub mod ListSteps
+pub mod TextSteps
