@@ -1,5 +1,5 @@
 -- Worked examples of the classes of cautions: for each one a construct that has it, and one that does not.
-use Rattle.std.proofs.Common.{◌≡◌, ℕ, false, List, [], ◌∷◌, ◌++◌, None, Some, map, refl}
+use Rattle.std.proofs.Common.{◌≡◌, ℕ, Bool, true, false, List, [], ◌∷◌, ◌++◌, None, Some, map, refl}
 use Rattle.std.specs.Prelude.{codes}
 use Rattle.sudo_text.specs.Lines.{place}
 use Rattle.sudo_text.specs.Pieces.{plain, escaped}
@@ -14,7 +14,7 @@ use Rattle.sudo_grammar.specs.declared.policy.Parameter.{Parameter}
 use Rattle.sudo_grammar.specs.declared.policy.Parameter.TheVariants.{Switch}
 use Rattle.sudo_policy.specs.Definitions.{MemberList, granting_list}
 use Rattle.review_cautions.specs.declared.class.CautionClass.TheVariants.{Return, BlankAfterBackslash, Join, TornMark}
-use Rattle.review_cautions.specs.declared.class.CautionClass.TheVariants.{Caret, Case, Linked, Defaults}
+use Rattle.review_cautions.specs.declared.class.CautionClass.TheVariants.{Caret, Escape, Case, Linked, Defaults}
 use Rattle.review_cautions.specs.Cautions.{caution_at, text_cautions, list_cautions, linked_cautions, parameter_cautions}
 
 -- the carriage return of a rule is dropped; that of a comment means nothing
@@ -70,6 +70,35 @@ caret : list_cautions Caret (list kinds.Cmnd 1 (command (map plain (codes "/usr/
     ∷ list kinds.Cmnd 2 (command (map plain (codes "/usr/bin/passwd")) (map plain (codes "^-"))) ∷ []) ≡ caution_at Caret (place 0 1) ∷ []
 unfolding list member command
 caret = refl
+
+-- a member with this atom, spelled by a word of these characters
+word : Bool → List Ch → Atom → Member
+word quoted chars atom = record { bangs = 0; token = record { kind = tokens.Word quoted chars; start = 0; end = 0 }; atom = atom }
+
+-- `/bin/ls a\\b` and `/bin/l!\*`, and not `/bin/ls a\,b`
+escape : list_cautions Escape (list kinds.Cmnd 1 (command (map plain (codes "/bin/ls")) (plain 97 ∷ escaped 92 ∷ plain 98 ∷ []))
+    ∷ list kinds.Cmnd 2 (atoms.Command (map plain (codes "/bin/l!") ++ escaped 42 ∷ []) None)
+    ∷ list kinds.Cmnd 3 (command (map plain (codes "/bin/ls")) (plain 97 ∷ escaped 44 ∷ plain 98 ∷ [])) ∷ [])
+    ≡ caution_at Escape (place 0 1) ∷ caution_at Escape (place 0 2) ∷ []
+unfolding list member command
+escape = refl
+
+-- `web\*`, and not `web*` and `web\ 1`
+host_escape : list_cautions Escape (list kinds.Host 1 (atoms.Host (map plain (codes "web") ++ escaped 42 ∷ []) false)
+    ∷ list kinds.Host 2 (atoms.Host (map plain (codes "web*")) false)
+    ∷ list kinds.Host 3 (atoms.Host (map plain (codes "web") ++ escaped 32 ∷ plain 49 ∷ []) false) ∷ [])
+    ≡ caution_at Escape (place 0 1) ∷ []
+unfolding list member
+host_escape = refl
+
+-- `\#1000`, and not `"\#1000"` and `a\#`
+id_escape : list_cautions Escape
+    (granting_list kinds.User (place 0 1) (word false (escaped 35 ∷ map plain (codes "1000")) (atoms.Name (codes "#1000")) ∷ [])
+    ∷ granting_list kinds.Runas (place 0 2) (word true (escaped 35 ∷ map plain (codes "1000")) (atoms.Name (codes "#1000")) ∷ [])
+    ∷ granting_list kinds.Runas (place 0 3) (word false (plain 97 ∷ escaped 35 ∷ []) (atoms.Name (codes "a#")) ∷ []) ∷ [])
+    ≡ caution_at Escape (place 0 1) ∷ []
+unfolding word
+id_escape = refl
 
 -- `Alice` and `%ADM`, and not the host `WEB1` and the user `alice`
 case : list_cautions Case (list kinds.User 1 (atoms.Name (codes "Alice"))

@@ -2,11 +2,11 @@
 use Rattle.std.specs.Prelude.{ℕ, List, [], ◌∷◌, codes}
 use Rattle.review_cautions.specs.declared.class.CautionClass.{CautionClass}
 use Rattle.review_cautions.specs.declared.class.CautionClass.TheVariants.{Return, BlankAfterBackslash, Join, TornMark}
-use Rattle.review_cautions.specs.declared.class.CautionClass.TheVariants.{Caret, Case, Linked, Defaults}
+use Rattle.review_cautions.specs.declared.class.CautionClass.TheVariants.{Caret, Escape, Case, Linked, Defaults}
 
 -- the classes, in the order in which they are listed
 abbrev pub classes : List CautionClass
-classes = Return ∷ BlankAfterBackslash ∷ Join ∷ TornMark ∷ Caret ∷ Case ∷ Linked ∷ Defaults ∷ []
+classes = Return ∷ BlankAfterBackslash ∷ Join ∷ TornMark ∷ Caret ∷ Escape ∷ Case ∷ Linked ∷ Defaults ∷ []
 
 -- the name of a class
 abbrev pub class_name : CautionClass → List ℕ
@@ -15,6 +15,7 @@ class_name BlankAfterBackslash = codes "blank-after-backslash"
 class_name Join = codes "join"
 class_name TornMark = codes "torn-mark"
 class_name Caret = codes "caret"
+class_name Escape = codes "escape"
 class_name Case = codes "case"
 class_name Linked = codes "linked"
 class_name Defaults = codes "defaults"
@@ -27,6 +28,7 @@ class_text BlankAfterBackslash =
 class_text Join = codes "lines are joined inside a word: nothing stands between them here, for sudo a blank"
 class_text TornMark = codes "lines are joined where sudo does not join them: read here, refused by sudo"
 class_text Caret = codes "`[^` begins a bracket: `^` is one of its characters here, for sudo a complement"
+class_text Escape = codes "an escape is read otherwise by sudo: as a wildcard, as an ID, or as two characters"
 class_text Case = codes "a name has a capital letter: letter case counts here, not for sudo"
 class_text Linked =
     codes "a command is below a folder that is a link on most machines: two paths here, for sudo one file"

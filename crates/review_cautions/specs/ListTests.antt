@@ -9,8 +9,9 @@ use Rattle.sudo_grammar.specs.declared.kind.Atom.TheVariants as atoms
 use Rattle.sudo_grammar.specs.declared.kind.Member.{Member}
 use Rattle.sudo_grammar.specs.Words.{is_upper}
 use Rattle.sudo_policy.specs.Definitions.{MemberList}
+use Rattle.review_cautions.specs.Escapes.{has_other_escape}
 use Rattle.review_cautions.specs.declared.class.CautionClass.{CautionClass}
-use Rattle.review_cautions.specs.declared.class.CautionClass.TheVariants.{Caret, Case, Linked}
+use Rattle.review_cautions.specs.declared.class.CautionClass.TheVariants.{Caret, Escape, Case, Linked}
 
 -- a `[` that no escape yields. sudoers(5), "Wildcards"
 abbrev pub opens_bracket : Ch → Bool
@@ -64,18 +65,20 @@ atom_is_linked _ = false
 abbrev pub concerns : CautionClass → Kind → Bool
 concerns Caret kinds.Host = true
 concerns Caret kinds.Cmnd = true
+concerns Escape kind = true
 concerns Case kinds.User = true
 concerns Case kinds.Runas = true
 concerns Linked kinds.Cmnd = true
 concerns _ _ = false
 
--- the atom has the construct of the class
-abbrev pub atom_holds : CautionClass → Atom → Bool
-atom_holds Caret atom = atom_has_caret atom
-atom_holds Case atom = atom_has_capital atom
-atom_holds Linked atom = atom_is_linked atom
-atom_holds _ atom = false
+-- the member has the construct of the class
+abbrev pub member_holds : CautionClass → Member → Bool
+member_holds Caret m = atom_has_caret m.atom
+member_holds Escape m = has_other_escape m
+member_holds Case m = atom_has_capital m.atom
+member_holds Linked m = atom_is_linked m.atom
+member_holds _ m = false
 
 -- a member of the list has the construct of the class
 abbrev pub list_holds : CautionClass → MemberList → Bool
-list_holds class list = concerns class list.kind && list_any (λ (m : Member). atom_holds class m.atom) list.members
+list_holds class list = concerns class list.kind && list_any (member_holds class) list.members

@@ -8,7 +8,6 @@ use Rattle.sudo_text.specs.Bytes.{is_blank}
 use Rattle.sudo_text.specs.Lines.{without_return, without_indent, without_escape, is_comment, ends_in_escape, is_continued}
 use Rattle.review_cautions.specs.declared.class.CautionClass.{CautionClass}
 use Rattle.review_cautions.specs.declared.class.CautionClass.TheVariants.{Return, BlankAfterBackslash, Join, TornMark}
-use Rattle.review_cautions.specs.declared.class.CautionClass.TheVariants.{Caret, Case, Linked, Defaults}
 
 -- the last byte of a line, and 0 if it has none
 abbrev pub last_byte : List ℕ → ℕ
@@ -93,10 +92,7 @@ line_holds Return line next = ends_in_return line
 line_holds BlankAfterBackslash line next = ends_in_escaped_blanks (without_return line)
 line_holds Join line next = tears_word (stripped line) (stripped next)
 line_holds TornMark line next = tears_mark (stripped line) (stripped next)
-line_holds Caret line next = false
-line_holds Case line next = false
-line_holds Linked line next = false
-line_holds Defaults line next = false
+line_holds _ line next = false
 
 -- the line is a comment; a line that continues another is none
 abbrev pub is_remark : Bool → List ℕ → Bool

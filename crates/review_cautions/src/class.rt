@@ -15,6 +15,8 @@ pub enum CautionClass {
     TornMark,
     /// A bracket of a pattern that begins with `^`.
     Caret,
+    /// An escape that sudo reads as a wildcard, as the mark of an ID, or as two characters.
+    Escape,
     /// A name of a user or a group with a capital letter.
     Case,
     /// A command below a folder that is a link on most machines.
@@ -34,6 +36,7 @@ impl CautionClass {
             CautionClass::Join => b"join",
             CautionClass::TornMark => b"torn-mark",
             CautionClass::Caret => b"caret",
+            CautionClass::Escape => b"escape",
             CautionClass::Case => b"case",
             CautionClass::Linked => b"linked",
             CautionClass::Defaults => b"defaults",
@@ -60,6 +63,9 @@ impl CautionClass {
             CautionClass::Caret => {
                 b"`[^` begins a bracket: `^` is one of its characters here, for sudo a complement"
             }
+            CautionClass::Escape => {
+                b"an escape is read otherwise by sudo: as a wildcard, as an ID, or as two characters"
+            }
             CautionClass::Case => {
                 b"a name has a capital letter: letter case counts here, not for sudo"
             }
@@ -72,12 +78,13 @@ impl CautionClass {
 }
 
 /// The classes, in the order in which they are listed.
-pub const CAUTION_CLASSES: [CautionClass; 8] = [
+pub const CAUTION_CLASSES: [CautionClass; 9] = [
     CautionClass::Return,
     CautionClass::BlankAfterBackslash,
     CautionClass::Join,
     CautionClass::TornMark,
     CautionClass::Caret,
+    CautionClass::Escape,
     CautionClass::Case,
     CautionClass::Linked,
     CautionClass::Defaults,

@@ -8,6 +8,7 @@ mod caution;
 mod class;
 mod collecting;
 mod defaults;
+mod escapes;
 mod joins;
 mod lines;
 mod lists;

@@ -62,10 +62,7 @@ fn line_holds(class: CautionClass, line: &[u8], next: &[u8]) -> bool
         CautionClass::BlankAfterBackslash => ends_in_escaped_blanks(without_return(line)),
         CautionClass::Join => tears_word(strip(line), strip(next)),
         CautionClass::TornMark => tears_mark(strip(line), strip(next)),
-        CautionClass::Caret => false,
-        CautionClass::Case => false,
-        CautionClass::Linked => false,
-        CautionClass::Defaults => false,
+        _ => false,
     }
 }
 

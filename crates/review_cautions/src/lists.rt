@@ -6,6 +6,7 @@ ghost use Rattle.sudo_policy.specs.Definitions.{list_view};
 ghost use Rattle.review_cautions.specs.ListTests as spec;
 ghost use Rattle.review_cautions.specs.Cautions as cautions;
 
+use crate::escapes::has_other_escape;
 use crate::{Caution, CautionClass};
 use std::alloc::{AllocError, Global};
 use sudo_policy::{Atom, Kind, Member, MemberList};
@@ -119,29 +120,31 @@ fn concerns(class: CautionClass, kind: Kind) -> bool
 {
     match class {
         CautionClass::Caret => matches!(kind, Kind::Host | Kind::Cmnd),
+        CautionClass::Escape => true,
         CautionClass::Case => matches!(kind, Kind::User | Kind::Runas),
         CautionClass::Linked => matches!(kind, Kind::Cmnd),
         _ => false,
     }
 }
 
-// Whether an atom has the construct of a class.
-fn atom_holds(class: CautionClass, atom: &Atom) -> bool
-    ensures { result ≡ spec.atom_holds class atom.now }
+// Whether a member has the construct of a class.
+fn member_holds(class: CautionClass, member: &Member) -> bool
+    ensures { result ≡ spec.member_holds class member.now }
 {
     match class {
-        CautionClass::Caret => atom_has_caret(atom),
-        CautionClass::Case => atom_has_capital(atom),
-        CautionClass::Linked => atom_is_linked(atom),
+        CautionClass::Caret => atom_has_caret(&member.atom),
+        CautionClass::Escape => has_other_escape(member),
+        CautionClass::Case => atom_has_capital(&member.atom),
+        CautionClass::Linked => atom_is_linked(&member.atom),
         _ => false,
     }
 }
 
 // Whether one of the members has the construct of a class.
 fn members_hold(class: CautionClass, members: &[Member]) -> bool
-    ensures { result ≡ list_any (λ m. spec.atom_holds class m.atom) members.now }
+    ensures { result ≡ list_any (spec.member_holds class) members.now }
 {
-    members.iter().any(|member| atom_holds(class, &member.atom))
+    members.iter().any(|member| member_holds(class, member))
 }
 
 // Whether a list has the construct of a class.
