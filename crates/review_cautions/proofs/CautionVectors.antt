@@ -14,7 +14,7 @@ use Rattle.sudo_grammar.specs.declared.policy.Parameter.{Parameter}
 use Rattle.sudo_grammar.specs.declared.policy.Parameter.TheVariants.{Switch}
 use Rattle.sudo_policy.specs.Definitions.{MemberList, granting_list}
 use Rattle.review_cautions.specs.declared.class.CautionClass.TheVariants.{Return, BlankAfterBackslash, Join, TornMark}
-use Rattle.review_cautions.specs.declared.class.CautionClass.TheVariants.{Caret, Escape, Case, Linked, Defaults}
+use Rattle.review_cautions.specs.declared.class.CautionClass.TheVariants.{Caret, Escape, Case, QuotedHost, QuotedEscape, Linked, Defaults}
 use Rattle.review_cautions.specs.Cautions.{caution_at, text_cautions, list_cautions, linked_cautions, parameter_cautions}
 
 -- the carriage return of a rule is dropped; that of a comment means nothing
@@ -106,6 +106,22 @@ case : list_cautions Case (list kinds.User 1 (atoms.Name (codes "Alice"))
     ∷ list kinds.Runas 4 (atoms.Group (codes "ADM")) ∷ []) ≡ caution_at Case (place 0 1) ∷ caution_at Case (place 0 4) ∷ []
 unfolding list member
 case = refl
+
+-- `"web?"`, and not `web?` and `"web1"`
+quoted_host : list_cautions QuotedHost (list kinds.Host 1 (atoms.Host (map plain (codes "web?")) true)
+    ∷ list kinds.Host 2 (atoms.Host (map plain (codes "web?")) false)
+    ∷ list kinds.Host 3 (atoms.Host (map plain (codes "web1")) true) ∷ []) ≡ caution_at QuotedHost (place 0 1) ∷ []
+unfolding list member
+quoted_host = refl
+
+-- `"al\ice"`, and not `al\ice` and `"al\"ice"`
+quoted_escape : list_cautions QuotedEscape
+    (granting_list kinds.User (place 0 1) (word true (plain 97 ∷ plain 108 ∷ escaped 105 ∷ []) (atoms.Name (codes "ali")) ∷ [])
+    ∷ granting_list kinds.User (place 0 2) (word false (plain 97 ∷ plain 108 ∷ escaped 105 ∷ []) (atoms.Name (codes "ali")) ∷ [])
+    ∷ granting_list kinds.User (place 0 3) (word true (plain 97 ∷ plain 108 ∷ escaped 34 ∷ []) (atoms.Name (codes "al\"")) ∷ []) ∷ [])
+    ≡ caution_at QuotedEscape (place 0 1) ∷ []
+unfolding word
+quoted_escape = refl
 
 -- `/opt/*` and `/bi`; `/usr/*` may lie below `/usr/bin/`, and so does `/bin/ls`, but one caution is enough
 linked : linked_cautions (list kinds.Cmnd 1 (atoms.Command (map plain (codes "/opt/*")) None)

@@ -6,7 +6,7 @@ use Rattle.sudo_base.proofs.Lists.{find-holds}
 use Rattle.sudo_base.proofs.IndexLemmas.{bytes_eq-is}
 use Rattle.review_cautions.specs.declared.class.CautionClass.{CautionClass}
 use Rattle.review_cautions.specs.declared.class.CautionClass.TheVariants.{Return, BlankAfterBackslash, Join, TornMark}
-use Rattle.review_cautions.specs.declared.class.CautionClass.TheVariants.{Caret, Escape, Case, Linked, Defaults}
+use Rattle.review_cautions.specs.declared.class.CautionClass.TheVariants.{Caret, Escape, Case, QuotedHost, QuotedEscape, Linked, Defaults}
 use Rattle.review_cautions.specs.Classes.{classes, class_name}
 
 -- the class is the first of its own name
@@ -18,6 +18,8 @@ own_name TornMark = refl
 own_name Caret = refl
 own_name Escape = refl
 own_name Case = refl
+own_name QuotedHost = refl
+own_name QuotedEscape = refl
 own_name Linked = refl
 own_name Defaults = refl
 

@@ -13,7 +13,7 @@ use Rattle.sudo_policy.specs.Definitions.{MemberList, lists}
 use Rattle.review_cautions.specs.declared.caution.Caution.{Caution}
 use Rattle.review_cautions.specs.declared.class.CautionClass.{CautionClass}
 use Rattle.review_cautions.specs.declared.class.CautionClass.TheVariants.{Return, BlankAfterBackslash, Join, TornMark}
-use Rattle.review_cautions.specs.declared.class.CautionClass.TheVariants.{Caret, Escape, Case, Linked, Defaults}
+use Rattle.review_cautions.specs.declared.class.CautionClass.TheVariants.{Caret, Escape, Case, QuotedHost, QuotedEscape, Linked, Defaults}
 use Rattle.review_cautions.specs.PhysicalLines.{numbers_of}
 use Rattle.review_cautions.specs.ListTests.{list_holds}
 use Rattle.review_cautions.specs.Parameters.{decides, name_of}
@@ -82,5 +82,5 @@ policy_cautions texts policy =
     text_cautions Return texts ++ text_cautions BlankAfterBackslash texts ++ text_cautions Join texts
     ++ text_cautions TornMark texts
     ++ list_cautions Caret (lists policy) ++ list_cautions Escape (lists policy) ++ list_cautions Case (lists policy)
-    ++ linked_cautions (lists policy)
+    ++ list_cautions QuotedHost (lists policy) ++ list_cautions QuotedEscape (lists policy) ++ linked_cautions (lists policy)
     ++ defaults_cautions policy.entries

@@ -2,11 +2,12 @@
 use Rattle.std.specs.Prelude.{ℕ, List, [], ◌∷◌, codes}
 use Rattle.review_cautions.specs.declared.class.CautionClass.{CautionClass}
 use Rattle.review_cautions.specs.declared.class.CautionClass.TheVariants.{Return, BlankAfterBackslash, Join, TornMark}
-use Rattle.review_cautions.specs.declared.class.CautionClass.TheVariants.{Caret, Escape, Case, Linked, Defaults}
+use Rattle.review_cautions.specs.declared.class.CautionClass.TheVariants.{Caret, Escape, Case, QuotedHost, QuotedEscape, Linked, Defaults}
 
 -- the classes, in the order in which they are listed
 abbrev pub classes : List CautionClass
-classes = Return ∷ BlankAfterBackslash ∷ Join ∷ TornMark ∷ Caret ∷ Escape ∷ Case ∷ Linked ∷ Defaults ∷ []
+classes = Return ∷ BlankAfterBackslash ∷ Join ∷ TornMark ∷ Caret ∷ Escape ∷ Case ∷ QuotedHost ∷ QuotedEscape ∷ Linked
+    ∷ Defaults ∷ []
 
 -- the name of a class
 abbrev pub class_name : CautionClass → List ℕ
@@ -17,6 +18,8 @@ class_name TornMark = codes "torn-mark"
 class_name Caret = codes "caret"
 class_name Escape = codes "escape"
 class_name Case = codes "case"
+class_name QuotedHost = codes "quoted-host"
+class_name QuotedEscape = codes "quoted-escape"
 class_name Linked = codes "linked"
 class_name Defaults = codes "defaults"
 
@@ -30,6 +33,9 @@ class_text TornMark = codes "lines are joined where sudo does not join them: rea
 class_text Caret = codes "`[^` begins a bracket: `^` is one of its characters here, for sudo a complement"
 class_text Escape = codes "an escape is read otherwise by sudo: as a wildcard, as an ID, or as two characters"
 class_text Case = codes "a name has a capital letter: letter case counts here, not for sudo"
+class_text QuotedHost = codes "a quoted host has a wildcard: it stands for itself here, for sudo it is a pattern"
+class_text QuotedEscape =
+    codes "a backslash stands between double quotes: an escape here, for sudo a byte of the name"
 class_text Linked =
     codes "a command is below a folder that is a link on most machines: two paths here, for sudo one file"
 class_text Defaults = codes "decides for sudo, has no effect here"

@@ -47,3 +47,21 @@ has_escape _ token = false
 -- the member has an escape that sudo reads otherwise
 abbrev pub has_other_escape : Member → Bool
 has_other_escape m = has_escape m.atom m.token.kind
+
+-- one of `*`, `?`, `[` and `\`, escaped or not
+abbrev pub is_mark : Ch → Bool
+is_mark c = (c.byte == 42) || (c.byte == 63) || (c.byte == 91) || (c.byte == 92)
+
+-- a host between double quotes has such a byte: sudo drops the quotes and takes the host for a pattern
+abbrev pub has_quoted_mark : Atom → Bool
+has_quoted_mark (atoms.Host chars quoted) = quoted && list_any is_mark chars
+has_quoted_mark _ = false
+
+-- a byte that an escape yields; a double quote has to be escaped between double quotes, for sudo too
+abbrev pub is_escaped_byte : Ch → Bool
+is_escaped_byte c = c.escaped && not (c.byte == 34)
+
+-- the token is a word between double quotes that has such a byte: sudo keeps the backslash
+abbrev pub has_quoted_escape : TokenKind → Bool
+has_quoted_escape (tokens.Word quoted chars) = quoted && list_any is_escaped_byte chars
+has_quoted_escape _ = false

@@ -9,9 +9,9 @@ use Rattle.sudo_grammar.specs.declared.kind.Atom.TheVariants as atoms
 use Rattle.sudo_grammar.specs.declared.kind.Member.{Member}
 use Rattle.sudo_grammar.specs.Words.{is_upper}
 use Rattle.sudo_policy.specs.Definitions.{MemberList}
-use Rattle.review_cautions.specs.Escapes.{has_other_escape}
+use Rattle.review_cautions.specs.Escapes.{has_other_escape, has_quoted_mark, has_quoted_escape}
 use Rattle.review_cautions.specs.declared.class.CautionClass.{CautionClass}
-use Rattle.review_cautions.specs.declared.class.CautionClass.TheVariants.{Caret, Escape, Case, Linked}
+use Rattle.review_cautions.specs.declared.class.CautionClass.TheVariants.{Caret, Escape, Case, QuotedHost, QuotedEscape, Linked}
 
 -- a `[` that no escape yields. sudoers(5), "Wildcards"
 abbrev pub opens_bracket : Ch → Bool
@@ -68,6 +68,10 @@ concerns Caret kinds.Cmnd = true
 concerns Escape kind = true
 concerns Case kinds.User = true
 concerns Case kinds.Runas = true
+concerns QuotedHost kinds.Host = true
+concerns QuotedEscape kinds.User = true
+concerns QuotedEscape kinds.Runas = true
+concerns QuotedEscape kinds.Host = true
 concerns Linked kinds.Cmnd = true
 concerns _ _ = false
 
@@ -76,6 +80,8 @@ abbrev pub member_holds : CautionClass → Member → Bool
 member_holds Caret m = atom_has_caret m.atom
 member_holds Escape m = has_other_escape m
 member_holds Case m = atom_has_capital m.atom
+member_holds QuotedHost m = has_quoted_mark m.atom
+member_holds QuotedEscape m = has_quoted_escape m.token.kind
 member_holds Linked m = atom_is_linked m.atom
 member_holds _ m = false
 

@@ -19,6 +19,10 @@ pub enum CautionClass {
     Escape,
     /// A name of a user or a group with a capital letter.
     Case,
+    /// A quoted host with a byte that is a mark of a pattern for sudo.
+    QuotedHost,
+    /// A quoted name with an escape, whose backslash sudo keeps.
+    QuotedEscape,
     /// A command below a folder that is a link on most machines.
     Linked,
     /// A parameter of a `Defaults` line that decides.
@@ -38,6 +42,8 @@ impl CautionClass {
             CautionClass::Caret => b"caret",
             CautionClass::Escape => b"escape",
             CautionClass::Case => b"case",
+            CautionClass::QuotedHost => b"quoted-host",
+            CautionClass::QuotedEscape => b"quoted-escape",
             CautionClass::Linked => b"linked",
             CautionClass::Defaults => b"defaults",
         }
@@ -69,6 +75,12 @@ impl CautionClass {
             CautionClass::Case => {
                 b"a name has a capital letter: letter case counts here, not for sudo"
             }
+            CautionClass::QuotedHost => {
+                b"a quoted host has a wildcard: it stands for itself here, for sudo it is a pattern"
+            }
+            CautionClass::QuotedEscape => {
+                b"a backslash stands between double quotes: an escape here, for sudo a byte of the name"
+            }
             CautionClass::Linked => {
                 b"a command is below a folder that is a link on most machines: two paths here, for sudo one file"
             }
@@ -78,7 +90,7 @@ impl CautionClass {
 }
 
 /// The classes, in the order in which they are listed.
-pub const CAUTION_CLASSES: [CautionClass; 9] = [
+pub const CAUTION_CLASSES: [CautionClass; 11] = [
     CautionClass::Return,
     CautionClass::BlankAfterBackslash,
     CautionClass::Join,
@@ -86,6 +98,8 @@ pub const CAUTION_CLASSES: [CautionClass; 9] = [
     CautionClass::Caret,
     CautionClass::Escape,
     CautionClass::Case,
+    CautionClass::QuotedHost,
+    CautionClass::QuotedEscape,
     CautionClass::Linked,
     CautionClass::Defaults,
 ];

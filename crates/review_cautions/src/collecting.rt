@@ -27,6 +27,18 @@ pub fn cautions(alloc: Global, texts: &[&[u8]], policy: &Policy) -> Result<Vec<C
     push_lists(alloc, CautionClass::Caret, lists.as_slice(), &mut found)?;
     push_lists(alloc, CautionClass::Escape, lists.as_slice(), &mut found)?;
     push_lists(alloc, CautionClass::Case, lists.as_slice(), &mut found)?;
+    push_lists(
+        alloc,
+        CautionClass::QuotedHost,
+        lists.as_slice(),
+        &mut found,
+    )?;
+    push_lists(
+        alloc,
+        CautionClass::QuotedEscape,
+        lists.as_slice(),
+        &mut found,
+    )?;
     push_linked(alloc, lists.as_slice(), &mut found)?;
     push_defaults(alloc, policy.entries.as_slice(), &mut found)?;
     Ok(found)

@@ -100,3 +100,51 @@ pub(crate) fn has_other_escape(member: &Member) -> bool
         _ => false,
     }
 }
+
+// Whether a character is a mark of patterns, escaped or not.
+fn is_mark(ch: Ch) -> bool
+    ensures { result ≡ spec.is_mark ch }
+{
+    ch.byte == b'*' || ch.byte == b'?' || ch.byte == b'[' || ch.byte == b'\\'
+}
+
+// Whether characters have such a mark.
+fn has_mark(chars: &[Ch]) -> bool
+    ensures { result ≡ list_any spec.is_mark chars.now }
+{
+    chars.iter().any(|ch| is_mark(*ch))
+}
+
+/// Whether an atom is a quoted host with a mark of patterns.
+pub(crate) fn has_quoted_mark(atom: &Atom) -> bool
+    ensures { result ≡ spec.has_quoted_mark atom.now }
+{
+    match atom {
+        Atom::Host { chars, quoted } => *quoted && has_mark(chars.as_slice()),
+        _ => false,
+    }
+}
+
+// Whether an escape yields a character, other than a double quote.
+fn is_escaped_byte(ch: Ch) -> bool
+    ensures { result ≡ spec.is_escaped_byte ch }
+{
+    ch.escaped && ch.byte != b'"'
+}
+
+// Whether characters have such a character.
+fn has_escaped_byte(chars: &[Ch]) -> bool
+    ensures { result ≡ list_any spec.is_escaped_byte chars.now }
+{
+    chars.iter().any(|ch| is_escaped_byte(*ch))
+}
+
+/// Whether a token is a quoted word with an escape, other than that of a double quote.
+pub(crate) fn has_quoted_escape(token: &TokenKind) -> bool
+    ensures { result ≡ spec.has_quoted_escape token.now }
+{
+    match token {
+        TokenKind::Word { quoted, chars } => *quoted && has_escaped_byte(chars.as_slice()),
+        _ => false,
+    }
+}

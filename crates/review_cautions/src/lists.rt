@@ -6,7 +6,7 @@ ghost use Rattle.sudo_policy.specs.Definitions.{list_view};
 ghost use Rattle.review_cautions.specs.ListTests as spec;
 ghost use Rattle.review_cautions.specs.Cautions as cautions;
 
-use crate::escapes::has_other_escape;
+use crate::escapes::{has_other_escape, has_quoted_escape, has_quoted_mark};
 use crate::{Caution, CautionClass};
 use std::alloc::{AllocError, Global};
 use sudo_policy::{Atom, Kind, Member, MemberList};
@@ -122,6 +122,8 @@ fn concerns(class: CautionClass, kind: Kind) -> bool
         CautionClass::Caret => matches!(kind, Kind::Host | Kind::Cmnd),
         CautionClass::Escape => true,
         CautionClass::Case => matches!(kind, Kind::User | Kind::Runas),
+        CautionClass::QuotedHost => matches!(kind, Kind::Host),
+        CautionClass::QuotedEscape => matches!(kind, Kind::User | Kind::Runas | Kind::Host),
         CautionClass::Linked => matches!(kind, Kind::Cmnd),
         _ => false,
     }
@@ -135,6 +137,8 @@ fn member_holds(class: CautionClass, member: &Member) -> bool
         CautionClass::Caret => atom_has_caret(&member.atom),
         CautionClass::Escape => has_other_escape(member),
         CautionClass::Case => atom_has_capital(&member.atom),
+        CautionClass::QuotedHost => has_quoted_mark(&member.atom),
+        CautionClass::QuotedEscape => has_quoted_escape(&member.token.kind),
         CautionClass::Linked => atom_is_linked(&member.atom),
         _ => false,
     }
