@@ -1,5 +1,5 @@
 -- Worked examples of the classes of cautions: for each one a construct that has it, and one that does not.
-use Rattle.std.proofs.Common.{◌≡◌, ℕ, Bool, true, false, List, [], ◌∷◌, ◌++◌, None, Some, map, refl}
+use Rattle.std.proofs.Common.{◌≡◌, ℕ, Bool, true, false, List, [], ◌∷◌, ◌++◌, Option, None, Some, map, refl}
 use Rattle.std.specs.Prelude.{codes}
 use Rattle.sudo_text.specs.Lines.{place}
 use Rattle.sudo_text.specs.Pieces.{plain, escaped}
@@ -12,10 +12,19 @@ use Rattle.sudo_grammar.specs.declared.kind.Atom.TheVariants as atoms
 use Rattle.sudo_grammar.specs.declared.kind.Member.{Member}
 use Rattle.sudo_grammar.specs.declared.policy.Parameter.{Parameter}
 use Rattle.sudo_grammar.specs.declared.policy.Parameter.TheVariants.{Switch}
+use Rattle.sudo_grammar.specs.declared.tag.TagPair.{TagPair}
+use Rattle.sudo_grammar.specs.declared.tag.TagPair.TheVariants as pair
+use Rattle.sudo_grammar.specs.declared.policy.Runas.{Runas}
+use Rattle.sudo_grammar.specs.declared.policy.CommandSpec.{CommandSpec}
+use Rattle.sudo_grammar.specs.declared.policy.EntryBody.{EntryBody}
+use Rattle.sudo_grammar.specs.declared.policy.EntryBody.TheVariants as entries
+use Rattle.sudo_grammar.specs.declared.policy.Entry.{Entry}
 use Rattle.sudo_policy.specs.Definitions.{MemberList, granting_list}
 use Rattle.review_cautions.specs.declared.class.CautionClass.TheVariants.{Return, BlankAfterBackslash, Join, TornMark}
 use Rattle.review_cautions.specs.declared.class.CautionClass.TheVariants.{Caret, Escape, Case, QuotedHost, QuotedEscape, Linked, Defaults}
+use Rattle.review_cautions.specs.declared.class.CautionClass.TheVariants.{Sudoedit, Network, Setenv, GroupForm}
 use Rattle.review_cautions.specs.Cautions.{caution_at, text_cautions, list_cautions, linked_cautions, parameter_cautions}
+use Rattle.review_cautions.specs.Cautions.{entry_cautions}
 
 -- the carriage return of a rule is dropped; that of a comment means nothing
 return : text_cautions Return ((codes "alice ALL = ALL" ++ 13 ∷ 10 ∷ codes "# note" ++ 13 ∷ 10 ∷ codes "bob ALL = ALL") ∷ [])
@@ -142,3 +151,72 @@ defaults : parameter_cautions (place 0 1) (switch 1 (codes "authenticate") ∷ s
     ∷ record { class = Defaults; place = place 0 1; subject = codes "targetpw" } ∷ []
 unfolding switch
 defaults = refl
+
+-- `/usr/bin/sudoedit`, and not `sudoedit` and `/usr/bin/sudoedit.sh`
+sudoedit : list_cautions Sudoedit (list kinds.Cmnd 1 (atoms.Command (map plain (codes "/usr/bin/sudoedit")) None)
+    ∷ list kinds.Cmnd 2 (atoms.Command (map plain (codes "sudoedit")) None)
+    ∷ list kinds.Cmnd 3 (atoms.Command (map plain (codes "/usr/bin/sudoedit.sh")) None) ∷ []) ≡ caution_at Sudoedit (place 0 1) ∷ []
+unfolding list member
+sudoedit = refl
+
+-- a host that a word of these bytes spells, on a line
+spelled : ℕ → List ℕ → Atom → MemberList
+spelled line bytes atom = granting_list kinds.Host (place 0 line) (word false (map plain bytes) atom ∷ [])
+
+-- `010.0.0.1`, and not `10.0.0.100`
+leading_zero : list_cautions Network (spelled 1 (codes "010.0.0.1") (atoms.Address 167772161)
+    ∷ spelled 2 (codes "10.0.0.100") (atoms.Address 167772260) ∷ []) ≡ caution_at Network (place 0 1) ∷ []
+unfolding spelled word
+leading_zero = refl
+
+-- `10.0.0.0/0` and `127.5.0.1`, and not `10.0.0.0/8` and the host `web01`
+network : list_cautions Network (spelled 1 (codes "10.0.0.0/0") (atoms.Net 167772160 0)
+    ∷ spelled 2 (codes "127.5.0.1") (atoms.Address 2131034113) ∷ spelled 3 (codes "10.0.0.0/8") (atoms.Net 167772160 4278190080)
+    ∷ spelled 4 (codes "web01") (atoms.Host (map plain (codes "web01")) false) ∷ [])
+    ≡ caution_at Network (place 0 1) ∷ caution_at Network (place 0 2) ∷ []
+unfolding spelled word
+network = refl
+
+-- a command with this runas, and SETENV or no tag
+granted : Option Runas → Bool → Atom → CommandSpec
+granted runas true atom = record { runas = runas; tags = record { pair = pair.SetEnv; on = true } ∷ []; command = member atom }
+granted runas false atom = record { runas = runas; tags = []; command = member atom }
+
+-- a rule on a line with one section of these commands
+rule : ℕ → List CommandSpec → Entry
+rule line commands = record {
+  place = place 0 line;
+  body = entries.Rule (member atoms.All ∷ [])
+      (record { hosts = member atoms.All ∷ []; commands = commands } ∷ []);
+}
+
+-- `SETENV: /bin/ls, ALL`, and not `SETENV: /bin/ls` and `ALL`
+setenv : entry_cautions Setenv (rule 1 (granted None true (atoms.Command (map plain (codes "/bin/ls")) None) ∷ granted None false atoms.All ∷ [])
+    ∷ rule 2 (granted None true (atoms.Command (map plain (codes "/bin/ls")) None) ∷ [])
+    ∷ rule 3 (granted None false atoms.All ∷ []) ∷ []) ≡ caution_at Setenv (place 0 1) ∷ []
+unfolding rule granted member
+setenv = refl
+
+-- the definitions of an alias `X` of `ALL`
+alias : Kind → ℕ → Entry
+alias kind line = record {
+  place = place 0 line;
+  body = entries.Aliases kind (record { name = codes "X"; members = member atoms.All ∷ [] } ∷ []);
+}
+
+-- `Cmnd_Alias X = ALL`, and not `Host_Alias X = ALL`
+alias_of_all : entry_cautions Setenv (alias kinds.Cmnd 1 ∷ alias kinds.Host 2 ∷ []) ≡ caution_at Setenv (place 0 1) ∷ []
+unfolding alias member
+alias_of_all = refl
+
+-- `(:adm) ALL` and `() ALL`, and not `(bob:adm) ALL` and `ALL`
+group_form : entry_cautions GroupForm
+    (rule 1 (granted (Some (record { users = None; groups = Some (member (atoms.Name (codes "adm")) ∷ []) })) false atoms.All ∷ [])
+    ∷ rule 2 (granted (Some (record { users = None; groups = None })) false atoms.All ∷ [])
+    ∷ rule 3 (granted (Some (record {
+      users = Some (member (atoms.Name (codes "bob")) ∷ []);
+      groups = Some (member (atoms.Name (codes "adm")) ∷ []);
+    })) false atoms.All ∷ [])
+    ∷ rule 4 (granted None false atoms.All ∷ []) ∷ []) ≡ caution_at GroupForm (place 0 1) ∷ caution_at GroupForm (place 0 2) ∷ []
+unfolding rule granted member
+group_form = refl

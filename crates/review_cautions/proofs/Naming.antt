@@ -7,6 +7,7 @@ use Rattle.sudo_base.proofs.IndexLemmas.{bytes_eq-is}
 use Rattle.review_cautions.specs.declared.class.CautionClass.{CautionClass}
 use Rattle.review_cautions.specs.declared.class.CautionClass.TheVariants.{Return, BlankAfterBackslash, Join, TornMark}
 use Rattle.review_cautions.specs.declared.class.CautionClass.TheVariants.{Caret, Escape, Case, QuotedHost, QuotedEscape, Linked, Defaults}
+use Rattle.review_cautions.specs.declared.class.CautionClass.TheVariants.{Sudoedit, Network, Setenv, GroupForm}
 use Rattle.review_cautions.specs.Classes.{classes, class_name}
 
 -- the class is the first of its own name
@@ -22,6 +23,10 @@ own_name QuotedHost = refl
 own_name QuotedEscape = refl
 own_name Linked = refl
 own_name Defaults = refl
+own_name Sudoedit = refl
+own_name Network = refl
+own_name Setenv = refl
+own_name GroupForm = refl
 
 -- what the search finds for a name is a class exactly if the name is that of the class
 pub found_by_name : (name : List ℕ) (found : Option CautionClass) → found ≡ find (λ c. bytes_eq (class_name c) name) classes

@@ -3,11 +3,12 @@ use Rattle.std.specs.Prelude.{ℕ, List, [], ◌∷◌, codes}
 use Rattle.review_cautions.specs.declared.class.CautionClass.{CautionClass}
 use Rattle.review_cautions.specs.declared.class.CautionClass.TheVariants.{Return, BlankAfterBackslash, Join, TornMark}
 use Rattle.review_cautions.specs.declared.class.CautionClass.TheVariants.{Caret, Escape, Case, QuotedHost, QuotedEscape, Linked, Defaults}
+use Rattle.review_cautions.specs.declared.class.CautionClass.TheVariants.{Sudoedit, Network, Setenv, GroupForm}
 
 -- the classes, in the order in which they are listed
 abbrev pub classes : List CautionClass
 classes = Return ∷ BlankAfterBackslash ∷ Join ∷ TornMark ∷ Caret ∷ Escape ∷ Case ∷ QuotedHost ∷ QuotedEscape ∷ Linked
-    ∷ Defaults ∷ []
+    ∷ Defaults ∷ Sudoedit ∷ Network ∷ Setenv ∷ GroupForm ∷ []
 
 -- the name of a class
 abbrev pub class_name : CautionClass → List ℕ
@@ -22,6 +23,10 @@ class_name QuotedHost = codes "quoted-host"
 class_name QuotedEscape = codes "quoted-escape"
 class_name Linked = codes "linked"
 class_name Defaults = codes "defaults"
+class_name Sudoedit = codes "sudoedit"
+class_name Network = codes "network"
+class_name Setenv = codes "setenv"
+class_name GroupForm = codes "group-form"
 
 -- what the reader does with the construct, and what sudo does
 abbrev pub class_text : CautionClass → List ℕ
@@ -39,3 +44,10 @@ class_text QuotedEscape =
 class_text Linked =
     codes "a command is below a folder that is a link on most machines: two paths here, for sudo one file"
 class_text Defaults = codes "decides for sudo, has no effect here"
+class_text Sudoedit = codes "a path ends in sudoedit: a program here, for sudo the editing of files"
+class_text Network =
+    codes "an address is read otherwise by sudo: a mask of 0, a zero in front of a number, or an address of the loopback"
+class_text Setenv =
+    codes "SETENV is given otherwise: ALL has it for sudo whatever the tag, an alias of ALL has it here alone"
+class_text GroupForm =
+    codes "a runas names no user: allowed here also where no group is asked for, for sudo only with a group"

@@ -1,17 +1,21 @@
 -- What the members of a list of a policy contain.
 use Rattle.std.specs.Prelude.{ℕ, Bool, true, false, not, ◌&&◌, ◌||◌, ◌==◌, List, [], ◌∷◌, Option, None, Some, codes}
+use Rattle.std.specs.Prelude.{length, drop, ◌-◌}
 use Rattle.std.specs.List.{list_any}
+use Rattle.std.specs.Str.{bytes_eq}
 use Rattle.sudo_text.specs.declared.token.Ch.{Ch}
 use Rattle.sudo_grammar.specs.declared.kind.Kind.{Kind}
 use Rattle.sudo_grammar.specs.declared.kind.Kind.TheVariants as kinds
 use Rattle.sudo_grammar.specs.declared.kind.Atom.{Atom}
 use Rattle.sudo_grammar.specs.declared.kind.Atom.TheVariants as atoms
 use Rattle.sudo_grammar.specs.declared.kind.Member.{Member}
-use Rattle.sudo_grammar.specs.Words.{is_upper}
+use Rattle.sudo_grammar.specs.Words.{is_upper, bytes_of}
 use Rattle.sudo_policy.specs.Definitions.{MemberList}
+use Rattle.review_cautions.specs.Addresses.{has_other_address}
 use Rattle.review_cautions.specs.Escapes.{has_other_escape, has_quoted_mark, has_quoted_escape}
 use Rattle.review_cautions.specs.declared.class.CautionClass.{CautionClass}
 use Rattle.review_cautions.specs.declared.class.CautionClass.TheVariants.{Caret, Escape, Case, QuotedHost, QuotedEscape, Linked}
+use Rattle.review_cautions.specs.declared.class.CautionClass.TheVariants.{Sudoedit, Network}
 
 -- a `[` that no escape yields. sudoers(5), "Wildcards"
 abbrev pub opens_bracket : Ch → Bool
@@ -61,6 +65,15 @@ abbrev pub atom_is_linked : Atom → Bool
 atom_is_linked (atoms.Command path args) = is_linked path
 atom_is_linked _ = false
 
+-- the path ends in `/sudoedit`, which sudo takes for `sudoedit`
+abbrev pub ends_in_sudoedit : List Ch → Bool
+ends_in_sudoedit path = bytes_eq (bytes_of (drop (length path - 9) path)) (codes "/sudoedit")
+
+-- a command's path ends so
+abbrev pub atom_is_sudoedit : Atom → Bool
+atom_is_sudoedit (atoms.Command path args) = ends_in_sudoedit path
+atom_is_sudoedit _ = false
+
 -- the lists in which the construct of the class may stand
 abbrev pub concerns : CautionClass → Kind → Bool
 concerns Caret kinds.Host = true
@@ -73,6 +86,8 @@ concerns QuotedEscape kinds.User = true
 concerns QuotedEscape kinds.Runas = true
 concerns QuotedEscape kinds.Host = true
 concerns Linked kinds.Cmnd = true
+concerns Sudoedit kinds.Cmnd = true
+concerns Network kinds.Host = true
 concerns _ _ = false
 
 -- the member has the construct of the class
@@ -83,6 +98,8 @@ member_holds Case m = atom_has_capital m.atom
 member_holds QuotedHost m = has_quoted_mark m.atom
 member_holds QuotedEscape m = has_quoted_escape m.token.kind
 member_holds Linked m = atom_is_linked m.atom
+member_holds Sudoedit m = atom_is_sudoedit m.atom
+member_holds Network m = has_other_address m
 member_holds _ m = false
 
 -- a member of the list has the construct of the class

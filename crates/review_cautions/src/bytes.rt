@@ -22,8 +22,8 @@ pub(crate) fn is_text(bytes: &[u8], text: &[u8]) -> bool
     bytes == text
 }
 
-// Whether a byte is a decimal digit.
-fn is_digit(byte: u8) -> bool
+/// Whether a byte is a decimal digit.
+pub(crate) fn is_digit(byte: u8) -> bool
     ensures { result ≡ bytes.is_digit byte }
 {
     b'0' <= byte && byte <= b'9'

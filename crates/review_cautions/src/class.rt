@@ -27,6 +27,14 @@ pub enum CautionClass {
     Linked,
     /// A parameter of a `Defaults` line that decides.
     Defaults,
+    /// A path that ends in `/sudoedit`.
+    Sudoedit,
+    /// An address or a network that sudo reads otherwise.
+    Network,
+    /// `ALL` among commands, where SETENV is given or an alias stands for it.
+    Setenv,
+    /// A runas that names no user.
+    GroupForm,
 }
 
 impl CautionClass {
@@ -46,6 +54,10 @@ impl CautionClass {
             CautionClass::QuotedEscape => b"quoted-escape",
             CautionClass::Linked => b"linked",
             CautionClass::Defaults => b"defaults",
+            CautionClass::Sudoedit => b"sudoedit",
+            CautionClass::Network => b"network",
+            CautionClass::Setenv => b"setenv",
+            CautionClass::GroupForm => b"group-form",
         }
     }
 
@@ -85,12 +97,24 @@ impl CautionClass {
                 b"a command is below a folder that is a link on most machines: two paths here, for sudo one file"
             }
             CautionClass::Defaults => b"decides for sudo, has no effect here",
+            CautionClass::Sudoedit => {
+                b"a path ends in sudoedit: a program here, for sudo the editing of files"
+            }
+            CautionClass::Network => {
+                b"an address is read otherwise by sudo: a mask of 0, a zero in front of a number, or an address of the loopback"
+            }
+            CautionClass::Setenv => {
+                b"SETENV is given otherwise: ALL has it for sudo whatever the tag, an alias of ALL has it here alone"
+            }
+            CautionClass::GroupForm => {
+                b"a runas names no user: allowed here also where no group is asked for, for sudo only with a group"
+            }
         }
     }
 }
 
 /// The classes, in the order in which they are listed.
-pub const CAUTION_CLASSES: [CautionClass; 11] = [
+pub const CAUTION_CLASSES: [CautionClass; 15] = [
     CautionClass::Return,
     CautionClass::BlankAfterBackslash,
     CautionClass::Join,
@@ -102,6 +126,10 @@ pub const CAUTION_CLASSES: [CautionClass; 11] = [
     CautionClass::QuotedEscape,
     CautionClass::Linked,
     CautionClass::Defaults,
+    CautionClass::Sudoedit,
+    CautionClass::Network,
+    CautionClass::Setenv,
+    CautionClass::GroupForm,
 ];
 
 // Returns the first class of a name.

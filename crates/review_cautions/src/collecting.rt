@@ -3,6 +3,7 @@ ghost use Rattle.std.specs.Prelude.{◌≡◌, IfOk, map};
 ghost use Rattle.review_cautions.specs.Cautions.{policy_cautions};
 
 use crate::defaults::push_defaults;
+use crate::entries::push_entries;
 use crate::lines::push_texts;
 use crate::lists::{push_linked, push_lists};
 use crate::{Caution, CautionClass};
@@ -41,5 +42,19 @@ pub fn cautions(alloc: Global, texts: &[&[u8]], policy: &Policy) -> Result<Vec<C
     )?;
     push_linked(alloc, lists.as_slice(), &mut found)?;
     push_defaults(alloc, policy.entries.as_slice(), &mut found)?;
+    push_lists(alloc, CautionClass::Sudoedit, lists.as_slice(), &mut found)?;
+    push_lists(alloc, CautionClass::Network, lists.as_slice(), &mut found)?;
+    push_entries(
+        alloc,
+        CautionClass::Setenv,
+        policy.entries.as_slice(),
+        &mut found,
+    )?;
+    push_entries(
+        alloc,
+        CautionClass::GroupForm,
+        policy.entries.as_slice(),
+        &mut found,
+    )?;
     Ok(found)
 }

@@ -1,11 +1,12 @@
 //! Cautions on the lists of a policy.
-ghost use Rattle.std.specs.Prelude.{◌≡◌, ◌++◌, ◌∷◌, [], OnOk, map, false};
+ghost use Rattle.std.specs.Prelude.{◌≡◌, ◌++◌, ◌∷◌, [], OnOk, map, false, bytes_eq};
 ghost use Rattle.std.specs.List.{list_any};
-ghost use Rattle.sudo_grammar.specs.Words.{is_upper};
+ghost use Rattle.sudo_grammar.specs.Words.{is_upper, bytes_of};
 ghost use Rattle.sudo_policy.specs.Definitions.{list_view};
 ghost use Rattle.review_cautions.specs.ListTests as spec;
 ghost use Rattle.review_cautions.specs.Cautions as cautions;
 
+use crate::addresses::has_other_address;
 use crate::escapes::{has_other_escape, has_quoted_escape, has_quoted_mark};
 use crate::{Caution, CautionClass};
 use std::alloc::{AllocError, Global};
@@ -114,6 +115,35 @@ fn atom_is_linked(atom: &Atom) -> bool
     }
 }
 
+// Whether the bytes of characters are a text.
+fn spells(chars: &[Ch], text: &[u8]) -> bool
+    ensures { result ≡ bytes_eq (bytes_of chars.now) text.now }
+{
+    match (chars, text) {
+        ([], []) => true,
+        ([ch, chars @ ..], [byte, text @ ..]) => ch.byte == *byte && spells(chars, text),
+        _ => false,
+    }
+}
+
+// Whether a path ends in `/sudoedit`.
+fn ends_in_sudoedit(path: &[Ch]) -> bool
+    ensures { result ≡ spec.ends_in_sudoedit path.now }
+{
+    let front = path.len().saturating_sub(9);
+    spells(&path[front..], b"/sudoedit")
+}
+
+// Whether an atom is a command whose path ends so.
+fn atom_is_sudoedit(atom: &Atom) -> bool
+    ensures { result ≡ spec.atom_is_sudoedit atom.now }
+{
+    match atom {
+        Atom::Command { path, .. } => ends_in_sudoedit(path.as_slice()),
+        _ => false,
+    }
+}
+
 // Whether the construct of a class may stand in the lists of a kind.
 fn concerns(class: CautionClass, kind: Kind) -> bool
     ensures { result ≡ spec.concerns class kind }
@@ -125,6 +155,8 @@ fn concerns(class: CautionClass, kind: Kind) -> bool
         CautionClass::QuotedHost => matches!(kind, Kind::Host),
         CautionClass::QuotedEscape => matches!(kind, Kind::User | Kind::Runas | Kind::Host),
         CautionClass::Linked => matches!(kind, Kind::Cmnd),
+        CautionClass::Sudoedit => matches!(kind, Kind::Cmnd),
+        CautionClass::Network => matches!(kind, Kind::Host),
         _ => false,
     }
 }
@@ -140,6 +172,8 @@ fn member_holds(class: CautionClass, member: &Member) -> bool
         CautionClass::QuotedHost => has_quoted_mark(&member.atom),
         CautionClass::QuotedEscape => has_quoted_escape(&member.token.kind),
         CautionClass::Linked => atom_is_linked(&member.atom),
+        CautionClass::Sudoedit => atom_is_sudoedit(&member.atom),
+        CautionClass::Network => has_other_address(member),
         _ => false,
     }
 }
