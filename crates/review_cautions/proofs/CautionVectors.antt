@@ -21,8 +21,9 @@ use Rattle.sudo_grammar.specs.declared.policy.EntryBody.TheVariants as entries
 use Rattle.sudo_grammar.specs.declared.policy.Entry.{Entry}
 use Rattle.sudo_policy.specs.Definitions.{MemberList, granting_list}
 use Rattle.review_cautions.specs.declared.class.CautionClass.TheVariants.{Return, BlankAfterBackslash, Join, TornMark}
+use Rattle.review_cautions.specs.declared.class.CautionClass.TheVariants.{IncludeEscape, IncludeIndent}
 use Rattle.review_cautions.specs.declared.class.CautionClass.TheVariants.{Caret, Escape, Case, QuotedHost, QuotedEscape, Linked, Defaults}
-use Rattle.review_cautions.specs.declared.class.CautionClass.TheVariants.{Sudoedit, Network, Setenv, GroupForm}
+use Rattle.review_cautions.specs.declared.class.CautionClass.TheVariants.{Sudoedit, Network, Bracket, Setenv, GroupForm}
 use Rattle.review_cautions.specs.Cautions.{caution_at, text_cautions, list_cautions, linked_cautions, parameter_cautions}
 use Rattle.review_cautions.specs.Cautions.{entry_cautions}
 
@@ -60,6 +61,20 @@ torn = refl
 group : text_cautions TornMark ((codes "%\\" ++ 10 ∷ codes "#27 ALL = ALL" ++ 10 ∷ codes "%adm \\" ++ 10 ∷ codes "ALL = ALL") ∷ [])
     ≡ caution_at TornMark (place 0 1) ∷ []
 group = refl
+
+-- a backslash in the path of an include line, and none
+include_escape : text_cautions IncludeEscape ((codes "@include /x/a\\%h" ++ 10 ∷ codes "@include /x/a" ++ 10 ∷ codes "alice ALL = /bin/ls a\\,b") ∷ [])
+    ≡ caution_at IncludeEscape (place 0 1) ∷ []
+include_escape = refl
+
+-- blanks before `#include`; none before the next, and blanks before `@include` are blanks for both
+include_indent : text_cautions IncludeIndent ((codes "  #include /x/a" ++ 10 ∷ codes "#include /x/a" ++ 10 ∷ codes "  @include /x/a" ++ 10
+    ∷ codes " # include /x/a") ∷ []) ≡ caution_at IncludeIndent (place 0 1) ∷ []
+include_indent = refl
+
+-- an include directive on a line that continues another is none
+include_continued : text_cautions IncludeIndent ((codes "alice ALL = ALL, \\" ++ 10 ∷ codes "  #include /x/a") ∷ []) ≡ []
+include_continued = refl
 
 -- a member with this atom
 member : Atom → Member
@@ -220,3 +235,27 @@ group_form : entry_cautions GroupForm
     ∷ rule 4 (granted None false atoms.All ∷ []) ∷ []) ≡ caution_at GroupForm (place 0 1) ∷ caution_at GroupForm (place 0 2) ∷ []
 unfolding rule granted member
 group_form = refl
+
+-- `/usr/bin/[l/]s`, and not `/usr/[bs]bin/ls`
+bracket_slash : list_cautions Bracket (list kinds.Cmnd 1 (atoms.Command (map plain (codes "/usr/bin/[l/]s")) None)
+    ∷ list kinds.Cmnd 2 (atoms.Command (map plain (codes "/usr/[bs]bin/ls")) None) ∷ []) ≡ caution_at Bracket (place 0 1) ∷ []
+unfolding list member
+bracket_slash = refl
+
+-- `/bin/ls [[=a=]]` and `/bin/ls [[\:word\:]]`, and not `/bin/ls [[\:upper\:]=]`
+bracket_class : list_cautions Bracket
+    (list kinds.Cmnd 1 (command (map plain (codes "/bin/ls")) (map plain (codes "[[=a=]]")))
+    ∷ list kinds.Cmnd 2 (command (map plain (codes "/bin/ls")) (map plain (codes "[[") ++ escaped 58 ∷ map plain (codes "word") ++ escaped 58
+    ∷ map plain (codes "]]")))
+    ∷ list kinds.Cmnd 3 (command (map plain (codes "/bin/ls")) (map plain (codes "[[") ++ escaped 58 ∷ map plain (codes "upper") ++ escaped 58
+    ∷ map plain (codes "]=]"))) ∷ []) ≡ caution_at Bracket (place 0 1) ∷ caution_at Bracket (place 0 2) ∷ []
+unfolding list member command
+bracket_class = refl
+
+-- `[[\:upper\:]]`, and not `[[\:lower\:]]` and `"[[:upper:]]"`
+bracket_host : list_cautions Bracket
+    (list kinds.Host 1 (atoms.Host (map plain (codes "[[") ++ escaped 58 ∷ map plain (codes "upper") ++ escaped 58 ∷ map plain (codes "]]")) false)
+    ∷ list kinds.Host 2 (atoms.Host (map plain (codes "[[") ++ escaped 58 ∷ map plain (codes "lower") ++ escaped 58 ∷ map plain (codes "]]")) false)
+    ∷ list kinds.Host 3 (atoms.Host (map plain (codes "[[:upper:]]")) true) ∷ []) ≡ caution_at Bracket (place 0 1) ∷ []
+unfolding list member
+bracket_host = refl

@@ -1,5 +1,6 @@
 pub mod Classes
 pub mod PhysicalLines
+pub mod Brackets
 pub mod Escapes
 pub mod Addresses
 pub mod ListTests

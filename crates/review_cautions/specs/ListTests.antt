@@ -12,20 +12,11 @@ use Rattle.sudo_grammar.specs.declared.kind.Member.{Member}
 use Rattle.sudo_grammar.specs.Words.{is_upper, bytes_of}
 use Rattle.sudo_policy.specs.Definitions.{MemberList}
 use Rattle.review_cautions.specs.Addresses.{has_other_address}
+use Rattle.review_cautions.specs.Brackets.{atom_has_caret, atom_has_other_bracket}
 use Rattle.review_cautions.specs.Escapes.{has_other_escape, has_quoted_mark, has_quoted_escape}
 use Rattle.review_cautions.specs.declared.class.CautionClass.{CautionClass}
 use Rattle.review_cautions.specs.declared.class.CautionClass.TheVariants.{Caret, Escape, Case, QuotedHost, QuotedEscape, Linked}
-use Rattle.review_cautions.specs.declared.class.CautionClass.TheVariants.{Sudoedit, Network}
-
--- a `[` that no escape yields. sudoers(5), "Wildcards"
-abbrev pub opens_bracket : Ch → Bool
-opens_bracket c = not c.escaped && (c.byte == 91)
-
--- a `^` stands directly behind such a `[`, where sudo takes it for `!`, as fnmatch(3) does; `opened`: such a `[` stands
--- directly before the characters
-abbrev pub has_caret : Bool → List Ch → Bool
-has_caret opened [] = false
-has_caret opened (c ∷ cs) = (opened && (c.byte == 94)) || has_caret (opens_bracket c) cs
+use Rattle.review_cautions.specs.declared.class.CautionClass.TheVariants.{Sudoedit, Network, Bracket}
 
 -- a wildcard that no escape yields: `*`, `?` or `[`
 abbrev pub is_wildcard : Ch → Bool
@@ -42,17 +33,6 @@ may_begin (b ∷ bs) (c ∷ cs) = is_wildcard c || ((c.byte == b) && may_begin b
 abbrev pub is_linked : List Ch → Bool
 is_linked path = may_begin (codes "/bin/") path || may_begin (codes "/sbin/") path || may_begin (codes "/lib/") path
     || may_begin (codes "/usr/bin/") path || may_begin (codes "/usr/sbin/") path || may_begin (codes "/usr/lib/") path
-
--- the arguments of a command, if any are given, have such a `^`
-abbrev pub arguments_have_caret : Option (List Ch) → Bool
-arguments_have_caret None = false
-arguments_have_caret (Some args) = has_caret false args
-
--- a pattern of a host or of a command has a bracket that begins with `^`
-abbrev pub atom_has_caret : Atom → Bool
-atom_has_caret (atoms.Host chars quoted) = not quoted && has_caret false chars
-atom_has_caret (atoms.Command path args) = has_caret false path || arguments_have_caret args
-atom_has_caret _ = false
 
 -- the name of a user or a group has a capital letter. sudoers(5), `case_insensitive_user` and `case_insensitive_group`
 abbrev pub atom_has_capital : Atom → Bool
@@ -88,6 +68,8 @@ concerns QuotedEscape kinds.Host = true
 concerns Linked kinds.Cmnd = true
 concerns Sudoedit kinds.Cmnd = true
 concerns Network kinds.Host = true
+concerns Bracket kinds.Host = true
+concerns Bracket kinds.Cmnd = true
 concerns _ _ = false
 
 -- the member has the construct of the class
@@ -100,6 +82,7 @@ member_holds QuotedEscape m = has_quoted_escape m.token.kind
 member_holds Linked m = atom_is_linked m.atom
 member_holds Sudoedit m = atom_is_sudoedit m.atom
 member_holds Network m = has_other_address m
+member_holds Bracket m = atom_has_other_bracket m.atom
 member_holds _ m = false
 
 -- a member of the list has the construct of the class

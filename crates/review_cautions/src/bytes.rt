@@ -43,8 +43,8 @@ fn begins_word(text: &[u8], word: &[u8]) -> bool
     text.starts_with(word) && (text.len() == word.len() || is_blank(peek(text, word.len())))
 }
 
-// Whether the text begins with an include directive.
-fn is_include(text: &[u8]) -> bool
+/// Whether the text begins with an include directive.
+pub(crate) fn is_include(text: &[u8]) -> bool
     ensures { result ≡ bytes.is_include text.now }
 {
     begins_word(text, b"@include")

@@ -13,6 +13,10 @@ pub enum CautionClass {
     Join,
     /// A line that is joined to the next one at a mark, where sudo joins no lines.
     TornMark,
+    /// An include line with a backslash.
+    IncludeEscape,
+    /// An include line that begins with `#` behind blanks.
+    IncludeIndent,
     /// A bracket of a pattern that begins with `^`.
     Caret,
     /// An escape that sudo reads as a wildcard, as the mark of an ID, or as two characters.
@@ -31,6 +35,8 @@ pub enum CautionClass {
     Sudoedit,
     /// An address or a network that sudo reads otherwise.
     Network,
+    /// A bracket of a pattern with a slash, a class or an equivalence.
+    Bracket,
     /// `ALL` among commands, where SETENV is given or an alias stands for it.
     Setenv,
     /// A runas that names no user.
@@ -47,6 +53,8 @@ impl CautionClass {
             CautionClass::BlankAfterBackslash => b"blank-after-backslash",
             CautionClass::Join => b"join",
             CautionClass::TornMark => b"torn-mark",
+            CautionClass::IncludeEscape => b"include-escape",
+            CautionClass::IncludeIndent => b"include-indent",
             CautionClass::Caret => b"caret",
             CautionClass::Escape => b"escape",
             CautionClass::Case => b"case",
@@ -56,6 +64,7 @@ impl CautionClass {
             CautionClass::Defaults => b"defaults",
             CautionClass::Sudoedit => b"sudoedit",
             CautionClass::Network => b"network",
+            CautionClass::Bracket => b"bracket",
             CautionClass::Setenv => b"setenv",
             CautionClass::GroupForm => b"group-form",
         }
@@ -77,6 +86,12 @@ impl CautionClass {
             }
             CautionClass::TornMark => {
                 b"lines are joined where sudo does not join them: read here, refused by sudo"
+            }
+            CautionClass::IncludeEscape => {
+                b"an include line has a backslash: read here as everywhere, for sudo a part of the path"
+            }
+            CautionClass::IncludeIndent => {
+                b"blanks stand before #include: the file is read here, for sudo the line is a comment"
             }
             CautionClass::Caret => {
                 b"`[^` begins a bracket: `^` is one of its characters here, for sudo a complement"
@@ -103,6 +118,9 @@ impl CautionClass {
             CautionClass::Network => {
                 b"an address is read otherwise by sudo: a mask of 0, a zero in front of a number, or an address of the loopback"
             }
+            CautionClass::Bracket => {
+                b"a bracket is read otherwise by sudo: a slash, a class or an equivalence stands in it"
+            }
             CautionClass::Setenv => {
                 b"SETENV is given otherwise: ALL has it for sudo whatever the tag, an alias of ALL has it here alone"
             }
@@ -114,11 +132,13 @@ impl CautionClass {
 }
 
 /// The classes, in the order in which they are listed.
-pub const CAUTION_CLASSES: [CautionClass; 15] = [
+pub const CAUTION_CLASSES: [CautionClass; 18] = [
     CautionClass::Return,
     CautionClass::BlankAfterBackslash,
     CautionClass::Join,
     CautionClass::TornMark,
+    CautionClass::IncludeEscape,
+    CautionClass::IncludeIndent,
     CautionClass::Caret,
     CautionClass::Escape,
     CautionClass::Case,
@@ -128,6 +148,7 @@ pub const CAUTION_CLASSES: [CautionClass; 15] = [
     CautionClass::Defaults,
     CautionClass::Sudoedit,
     CautionClass::Network,
+    CautionClass::Bracket,
     CautionClass::Setenv,
     CautionClass::GroupForm,
 ];

@@ -7,53 +7,12 @@ ghost use Rattle.review_cautions.specs.ListTests as spec;
 ghost use Rattle.review_cautions.specs.Cautions as cautions;
 
 use crate::addresses::has_other_address;
+use crate::brackets::{atom_has_caret, atom_has_other_bracket};
 use crate::escapes::{has_other_escape, has_quoted_escape, has_quoted_mark};
 use crate::{Caution, CautionClass};
 use std::alloc::{AllocError, Global};
 use sudo_policy::{Atom, Kind, Member, MemberList};
-use sudo_text::{Ch, Place, Seq};
-
-// Whether a character is a `[` that no escape yields.
-fn opens_bracket(ch: Ch) -> bool
-    ensures { result ≡ spec.opens_bracket ch }
-{
-    !ch.escaped && ch.byte == b'['
-}
-
-// Whether a `^` stands directly behind such a `[`.
-fn has_caret(chars: &[Ch]) -> bool
-    ensures { result ≡ spec.has_caret false chars.now }
-{
-    let mut opened = false;
-    for ch in chars {
-        if opened && ch.byte == b'^' {
-            return true;
-        }
-        opened = opens_bracket(*ch);
-    }
-    false
-}
-
-// Whether arguments, if any are given, have such a `^`.
-fn arguments_have_caret(arguments: &Option<Seq<Ch>>) -> bool
-    ensures { result ≡ spec.arguments_have_caret arguments.now }
-{
-    match arguments {
-        Some(arguments) => has_caret(arguments.as_slice()),
-        None => false,
-    }
-}
-
-// Whether a pattern of a host or of a command has such a `^`.
-fn atom_has_caret(atom: &Atom) -> bool
-    ensures { result ≡ spec.atom_has_caret atom.now }
-{
-    match atom {
-        Atom::Host { chars, quoted } => !*quoted && has_caret(chars.as_slice()),
-        Atom::Command { path, args } => has_caret(path.as_slice()) || arguments_have_caret(args),
-        _ => false,
-    }
-}
+use sudo_text::{Ch, Place};
 
 // Whether a name has a capital letter.
 fn has_capital(name: &[u8]) -> bool
@@ -157,6 +116,7 @@ fn concerns(class: CautionClass, kind: Kind) -> bool
         CautionClass::Linked => matches!(kind, Kind::Cmnd),
         CautionClass::Sudoedit => matches!(kind, Kind::Cmnd),
         CautionClass::Network => matches!(kind, Kind::Host),
+        CautionClass::Bracket => matches!(kind, Kind::Host | Kind::Cmnd),
         _ => false,
     }
 }
@@ -174,6 +134,7 @@ fn member_holds(class: CautionClass, member: &Member) -> bool
         CautionClass::Linked => atom_is_linked(&member.atom),
         CautionClass::Sudoedit => atom_is_sudoedit(&member.atom),
         CautionClass::Network => has_other_address(member),
+        CautionClass::Bracket => atom_has_other_bracket(&member.atom),
         _ => false,
     }
 }
