@@ -63,7 +63,8 @@ group : text_cautions TornMark ((codes "%\\" ++ 10 ∷ codes "#27 ALL = ALL" ++ 
 group = refl
 
 -- a backslash in the path of an include line, and none
-include_escape : text_cautions IncludeEscape ((codes "@include /x/a\\%h" ++ 10 ∷ codes "@include /x/a" ++ 10 ∷ codes "alice ALL = /bin/ls a\\,b") ∷ [])
+include_escape : text_cautions IncludeEscape ((codes "@include /x/a\\%h" ++ 10 ∷ codes "@include /x/a" ++ 10
+    ∷ codes "alice ALL = /bin/ls a\\,b") ∷ [])
     ≡ caution_at IncludeEscape (place 0 1) ∷ []
 include_escape = refl
 
@@ -206,7 +207,8 @@ rule line commands = record {
 }
 
 -- `SETENV: /bin/ls, ALL`, and not `SETENV: /bin/ls` and `ALL`
-setenv : entry_cautions Setenv (rule 1 (granted None true (atoms.Command (map plain (codes "/bin/ls")) None) ∷ granted None false atoms.All ∷ [])
+setenv : entry_cautions Setenv
+    (rule 1 (granted None true (atoms.Command (map plain (codes "/bin/ls")) None) ∷ granted None false atoms.All ∷ [])
     ∷ rule 2 (granted None true (atoms.Command (map plain (codes "/bin/ls")) None) ∷ [])
     ∷ rule 3 (granted None false atoms.All ∷ []) ∷ []) ≡ caution_at Setenv (place 0 1) ∷ []
 unfolding rule granted member
@@ -242,20 +244,23 @@ bracket_slash : list_cautions Bracket (list kinds.Cmnd 1 (atoms.Command (map pla
 unfolding list member
 bracket_slash = refl
 
+-- `[[\:name\:`
+class : List ℕ → List Ch
+class name = map plain (codes "[[") ++ escaped 58 ∷ map plain name ++ escaped 58 ∷ []
+
 -- `/bin/ls [[=a=]]` and `/bin/ls [[\:word\:]]`, and not `/bin/ls [[\:upper\:]=]`
 bracket_class : list_cautions Bracket
     (list kinds.Cmnd 1 (command (map plain (codes "/bin/ls")) (map plain (codes "[[=a=]]")))
-    ∷ list kinds.Cmnd 2 (command (map plain (codes "/bin/ls")) (map plain (codes "[[") ++ escaped 58 ∷ map plain (codes "word") ++ escaped 58
-    ∷ map plain (codes "]]")))
-    ∷ list kinds.Cmnd 3 (command (map plain (codes "/bin/ls")) (map plain (codes "[[") ++ escaped 58 ∷ map plain (codes "upper") ++ escaped 58
-    ∷ map plain (codes "]=]"))) ∷ []) ≡ caution_at Bracket (place 0 1) ∷ caution_at Bracket (place 0 2) ∷ []
-unfolding list member command
+    ∷ list kinds.Cmnd 2 (command (map plain (codes "/bin/ls")) (class (codes "word") ++ map plain (codes "]]")))
+    ∷ list kinds.Cmnd 3 (command (map plain (codes "/bin/ls")) (class (codes "upper") ++ map plain (codes "]=]"))) ∷ [])
+    ≡ caution_at Bracket (place 0 1) ∷ caution_at Bracket (place 0 2) ∷ []
+unfolding list member command class
 bracket_class = refl
 
 -- `[[\:upper\:]]`, and not `[[\:lower\:]]` and `"[[:upper:]]"`
 bracket_host : list_cautions Bracket
-    (list kinds.Host 1 (atoms.Host (map plain (codes "[[") ++ escaped 58 ∷ map plain (codes "upper") ++ escaped 58 ∷ map plain (codes "]]")) false)
-    ∷ list kinds.Host 2 (atoms.Host (map plain (codes "[[") ++ escaped 58 ∷ map plain (codes "lower") ++ escaped 58 ∷ map plain (codes "]]")) false)
+    (list kinds.Host 1 (atoms.Host (class (codes "upper") ++ map plain (codes "]]")) false)
+    ∷ list kinds.Host 2 (atoms.Host (class (codes "lower") ++ map plain (codes "]]")) false)
     ∷ list kinds.Host 3 (atoms.Host (map plain (codes "[[:upper:]]")) true) ∷ []) ≡ caution_at Bracket (place 0 1) ∷ []
-unfolding list member
+unfolding list member class
 bracket_host = refl
