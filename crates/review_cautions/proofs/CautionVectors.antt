@@ -1,5 +1,5 @@
 -- Worked examples of the classes of cautions: for each one a construct that has it, and one that does not.
-use Rattle.std.proofs.Common.{◌≡◌, ℕ, false, List, [], ◌∷◌, ◌++◌, None, Some, map, refl}
+use Rattle.std.proofs.Common.{◌≡◌, ℕ, Bool, true, false, List, [], ◌∷◌, ◌++◌, Option, None, Some, map, refl}
 use Rattle.std.specs.Prelude.{codes}
 use Rattle.sudo_text.specs.Lines.{place}
 use Rattle.sudo_text.specs.Pieces.{plain, escaped}
@@ -12,10 +12,20 @@ use Rattle.sudo_grammar.specs.declared.kind.Atom.TheVariants as atoms
 use Rattle.sudo_grammar.specs.declared.kind.Member.{Member}
 use Rattle.sudo_grammar.specs.declared.policy.Parameter.{Parameter}
 use Rattle.sudo_grammar.specs.declared.policy.Parameter.TheVariants.{Switch}
+use Rattle.sudo_grammar.specs.declared.tag.TagPair.{TagPair}
+use Rattle.sudo_grammar.specs.declared.tag.TagPair.TheVariants as pair
+use Rattle.sudo_grammar.specs.declared.policy.Runas.{Runas}
+use Rattle.sudo_grammar.specs.declared.policy.CommandSpec.{CommandSpec}
+use Rattle.sudo_grammar.specs.declared.policy.EntryBody.{EntryBody}
+use Rattle.sudo_grammar.specs.declared.policy.EntryBody.TheVariants as entries
+use Rattle.sudo_grammar.specs.declared.policy.Entry.{Entry}
 use Rattle.sudo_policy.specs.Definitions.{MemberList, granting_list}
 use Rattle.review_cautions.specs.declared.class.CautionClass.TheVariants.{Return, BlankAfterBackslash, Join, TornMark}
-use Rattle.review_cautions.specs.declared.class.CautionClass.TheVariants.{Caret, Case, Linked, Defaults}
+use Rattle.review_cautions.specs.declared.class.CautionClass.TheVariants.{IncludeEscape, IncludeIndent}
+use Rattle.review_cautions.specs.declared.class.CautionClass.TheVariants.{Caret, Escape, Case, QuotedHost, QuotedEscape, Linked, Defaults}
+use Rattle.review_cautions.specs.declared.class.CautionClass.TheVariants.{Sudoedit, Network, Bracket, Setenv, GroupForm}
 use Rattle.review_cautions.specs.Cautions.{caution_at, text_cautions, list_cautions, linked_cautions, parameter_cautions}
+use Rattle.review_cautions.specs.Cautions.{entry_cautions}
 
 -- the carriage return of a rule is dropped; that of a comment means nothing
 return : text_cautions Return ((codes "alice ALL = ALL" ++ 13 ∷ 10 ∷ codes "# note" ++ 13 ∷ 10 ∷ codes "bob ALL = ALL") ∷ [])
@@ -52,6 +62,21 @@ group : text_cautions TornMark ((codes "%\\" ++ 10 ∷ codes "#27 ALL = ALL" ++ 
     ≡ caution_at TornMark (place 0 1) ∷ []
 group = refl
 
+-- a backslash in the path of an include line, and none
+include_escape : text_cautions IncludeEscape ((codes "@include /x/a\\%h" ++ 10 ∷ codes "@include /x/a" ++ 10
+    ∷ codes "alice ALL = /bin/ls a\\,b") ∷ [])
+    ≡ caution_at IncludeEscape (place 0 1) ∷ []
+include_escape = refl
+
+-- blanks before `#include`; none before the next, and blanks before `@include` are blanks for both
+include_indent : text_cautions IncludeIndent ((codes "  #include /x/a" ++ 10 ∷ codes "#include /x/a" ++ 10 ∷ codes "  @include /x/a" ++ 10
+    ∷ codes " # include /x/a") ∷ []) ≡ caution_at IncludeIndent (place 0 1) ∷ []
+include_indent = refl
+
+-- an include directive on a line that continues another is none
+include_continued : text_cautions IncludeIndent ((codes "alice ALL = ALL, \\" ++ 10 ∷ codes "  #include /x/a") ∷ []) ≡ []
+include_continued = refl
+
 -- a member with this atom
 member : Atom → Member
 member atom = record { bangs = 0; token = record { kind = tokens.Word false []; start = 0; end = 0 }; atom = atom }
@@ -71,12 +96,57 @@ caret : list_cautions Caret (list kinds.Cmnd 1 (command (map plain (codes "/usr/
 unfolding list member command
 caret = refl
 
+-- a member with this atom, spelled by a word of these characters
+word : Bool → List Ch → Atom → Member
+word quoted chars atom = record { bangs = 0; token = record { kind = tokens.Word quoted chars; start = 0; end = 0 }; atom = atom }
+
+-- `/bin/ls a\\b` and `/bin/l!\*`, and not `/bin/ls a\,b`
+escape : list_cautions Escape (list kinds.Cmnd 1 (command (map plain (codes "/bin/ls")) (plain 97 ∷ escaped 92 ∷ plain 98 ∷ []))
+    ∷ list kinds.Cmnd 2 (atoms.Command (map plain (codes "/bin/l!") ++ escaped 42 ∷ []) None)
+    ∷ list kinds.Cmnd 3 (command (map plain (codes "/bin/ls")) (plain 97 ∷ escaped 44 ∷ plain 98 ∷ [])) ∷ [])
+    ≡ caution_at Escape (place 0 1) ∷ caution_at Escape (place 0 2) ∷ []
+unfolding list member command
+escape = refl
+
+-- `web\*`, and not `web*` and `web\ 1`
+host_escape : list_cautions Escape (list kinds.Host 1 (atoms.Host (map plain (codes "web") ++ escaped 42 ∷ []) false)
+    ∷ list kinds.Host 2 (atoms.Host (map plain (codes "web*")) false)
+    ∷ list kinds.Host 3 (atoms.Host (map plain (codes "web") ++ escaped 32 ∷ plain 49 ∷ []) false) ∷ [])
+    ≡ caution_at Escape (place 0 1) ∷ []
+unfolding list member
+host_escape = refl
+
+-- `\#1000`, and not `"\#1000"` and `a\#`
+id_escape : list_cautions Escape
+    (granting_list kinds.User (place 0 1) (word false (escaped 35 ∷ map plain (codes "1000")) (atoms.Name (codes "#1000")) ∷ [])
+    ∷ granting_list kinds.Runas (place 0 2) (word true (escaped 35 ∷ map plain (codes "1000")) (atoms.Name (codes "#1000")) ∷ [])
+    ∷ granting_list kinds.Runas (place 0 3) (word false (plain 97 ∷ escaped 35 ∷ []) (atoms.Name (codes "a#")) ∷ []) ∷ [])
+    ≡ caution_at Escape (place 0 1) ∷ []
+unfolding word
+id_escape = refl
+
 -- `Alice` and `%ADM`, and not the host `WEB1` and the user `alice`
 case : list_cautions Case (list kinds.User 1 (atoms.Name (codes "Alice"))
     ∷ list kinds.Host 2 (atoms.Host (map plain (codes "WEB1")) false) ∷ list kinds.User 3 (atoms.Name (codes "alice"))
     ∷ list kinds.Runas 4 (atoms.Group (codes "ADM")) ∷ []) ≡ caution_at Case (place 0 1) ∷ caution_at Case (place 0 4) ∷ []
 unfolding list member
 case = refl
+
+-- `"web?"`, and not `web?` and `"web1"`
+quoted_host : list_cautions QuotedHost (list kinds.Host 1 (atoms.Host (map plain (codes "web?")) true)
+    ∷ list kinds.Host 2 (atoms.Host (map plain (codes "web?")) false)
+    ∷ list kinds.Host 3 (atoms.Host (map plain (codes "web1")) true) ∷ []) ≡ caution_at QuotedHost (place 0 1) ∷ []
+unfolding list member
+quoted_host = refl
+
+-- `"al\ice"`, and not `al\ice` and `"al\"ice"`
+quoted_escape : list_cautions QuotedEscape
+    (granting_list kinds.User (place 0 1) (word true (plain 97 ∷ plain 108 ∷ escaped 105 ∷ []) (atoms.Name (codes "ali")) ∷ [])
+    ∷ granting_list kinds.User (place 0 2) (word false (plain 97 ∷ plain 108 ∷ escaped 105 ∷ []) (atoms.Name (codes "ali")) ∷ [])
+    ∷ granting_list kinds.User (place 0 3) (word true (plain 97 ∷ plain 108 ∷ escaped 34 ∷ []) (atoms.Name (codes "al\"")) ∷ []) ∷ [])
+    ≡ caution_at QuotedEscape (place 0 1) ∷ []
+unfolding word
+quoted_escape = refl
 
 -- `/opt/*` and `/bi`; `/usr/*` may lie below `/usr/bin/`, and so does `/bin/ls`, but one caution is enough
 linked : linked_cautions (list kinds.Cmnd 1 (atoms.Command (map plain (codes "/opt/*")) None)
@@ -97,3 +167,100 @@ defaults : parameter_cautions (place 0 1) (switch 1 (codes "authenticate") ∷ s
     ∷ record { class = Defaults; place = place 0 1; subject = codes "targetpw" } ∷ []
 unfolding switch
 defaults = refl
+
+-- `/usr/bin/sudoedit`, and not `sudoedit` and `/usr/bin/sudoedit.sh`
+sudoedit : list_cautions Sudoedit (list kinds.Cmnd 1 (atoms.Command (map plain (codes "/usr/bin/sudoedit")) None)
+    ∷ list kinds.Cmnd 2 (atoms.Command (map plain (codes "sudoedit")) None)
+    ∷ list kinds.Cmnd 3 (atoms.Command (map plain (codes "/usr/bin/sudoedit.sh")) None) ∷ []) ≡ caution_at Sudoedit (place 0 1) ∷ []
+unfolding list member
+sudoedit = refl
+
+-- a host that a word of these bytes spells, on a line
+spelled : ℕ → List ℕ → Atom → MemberList
+spelled line bytes atom = granting_list kinds.Host (place 0 line) (word false (map plain bytes) atom ∷ [])
+
+-- `010.0.0.1`, and not `10.0.0.100`
+leading_zero : list_cautions Network (spelled 1 (codes "010.0.0.1") (atoms.Address 167772161)
+    ∷ spelled 2 (codes "10.0.0.100") (atoms.Address 167772260) ∷ []) ≡ caution_at Network (place 0 1) ∷ []
+unfolding spelled word
+leading_zero = refl
+
+-- `10.0.0.0/0` and `127.5.0.1`, and not `10.0.0.0/8` and the host `web01`
+network : list_cautions Network (spelled 1 (codes "10.0.0.0/0") (atoms.Net 167772160 0)
+    ∷ spelled 2 (codes "127.5.0.1") (atoms.Address 2131034113) ∷ spelled 3 (codes "10.0.0.0/8") (atoms.Net 167772160 4278190080)
+    ∷ spelled 4 (codes "web01") (atoms.Host (map plain (codes "web01")) false) ∷ [])
+    ≡ caution_at Network (place 0 1) ∷ caution_at Network (place 0 2) ∷ []
+unfolding spelled word
+network = refl
+
+-- a command with this runas, and SETENV or no tag
+granted : Option Runas → Bool → Atom → CommandSpec
+granted runas true atom = record { runas = runas; tags = record { pair = pair.SetEnv; on = true } ∷ []; command = member atom }
+granted runas false atom = record { runas = runas; tags = []; command = member atom }
+
+-- a rule on a line with one section of these commands
+rule : ℕ → List CommandSpec → Entry
+rule line commands = record {
+  place = place 0 line;
+  body = entries.Rule (member atoms.All ∷ [])
+      (record { hosts = member atoms.All ∷ []; commands = commands } ∷ []);
+}
+
+-- `SETENV: /bin/ls, ALL`, and not `SETENV: /bin/ls` and `ALL`
+setenv : entry_cautions Setenv
+    (rule 1 (granted None true (atoms.Command (map plain (codes "/bin/ls")) None) ∷ granted None false atoms.All ∷ [])
+    ∷ rule 2 (granted None true (atoms.Command (map plain (codes "/bin/ls")) None) ∷ [])
+    ∷ rule 3 (granted None false atoms.All ∷ []) ∷ []) ≡ caution_at Setenv (place 0 1) ∷ []
+unfolding rule granted member
+setenv = refl
+
+-- the definitions of an alias `X` of `ALL`
+alias : Kind → ℕ → Entry
+alias kind line = record {
+  place = place 0 line;
+  body = entries.Aliases kind (record { name = codes "X"; members = member atoms.All ∷ [] } ∷ []);
+}
+
+-- `Cmnd_Alias X = ALL`, and not `Host_Alias X = ALL`
+alias_of_all : entry_cautions Setenv (alias kinds.Cmnd 1 ∷ alias kinds.Host 2 ∷ []) ≡ caution_at Setenv (place 0 1) ∷ []
+unfolding alias member
+alias_of_all = refl
+
+-- `(:adm) ALL` and `() ALL`, and not `(bob:adm) ALL` and `ALL`
+group_form : entry_cautions GroupForm
+    (rule 1 (granted (Some (record { users = None; groups = Some (member (atoms.Name (codes "adm")) ∷ []) })) false atoms.All ∷ [])
+    ∷ rule 2 (granted (Some (record { users = None; groups = None })) false atoms.All ∷ [])
+    ∷ rule 3 (granted (Some (record {
+      users = Some (member (atoms.Name (codes "bob")) ∷ []);
+      groups = Some (member (atoms.Name (codes "adm")) ∷ []);
+    })) false atoms.All ∷ [])
+    ∷ rule 4 (granted None false atoms.All ∷ []) ∷ []) ≡ caution_at GroupForm (place 0 1) ∷ caution_at GroupForm (place 0 2) ∷ []
+unfolding rule granted member
+group_form = refl
+
+-- `/usr/bin/[l/]s`, and not `/usr/[bs]bin/ls`
+bracket_slash : list_cautions Bracket (list kinds.Cmnd 1 (atoms.Command (map plain (codes "/usr/bin/[l/]s")) None)
+    ∷ list kinds.Cmnd 2 (atoms.Command (map plain (codes "/usr/[bs]bin/ls")) None) ∷ []) ≡ caution_at Bracket (place 0 1) ∷ []
+unfolding list member
+bracket_slash = refl
+
+-- `[[\:name\:`
+class : List ℕ → List Ch
+class name = map plain (codes "[[") ++ escaped 58 ∷ map plain name ++ escaped 58 ∷ []
+
+-- `/bin/ls [[=a=]]` and `/bin/ls [[\:word\:]]`, and not `/bin/ls [[\:upper\:]=]`
+bracket_class : list_cautions Bracket
+    (list kinds.Cmnd 1 (command (map plain (codes "/bin/ls")) (map plain (codes "[[=a=]]")))
+    ∷ list kinds.Cmnd 2 (command (map plain (codes "/bin/ls")) (class (codes "word") ++ map plain (codes "]]")))
+    ∷ list kinds.Cmnd 3 (command (map plain (codes "/bin/ls")) (class (codes "upper") ++ map plain (codes "]=]"))) ∷ [])
+    ≡ caution_at Bracket (place 0 1) ∷ caution_at Bracket (place 0 2) ∷ []
+unfolding list member command class
+bracket_class = refl
+
+-- `[[\:upper\:]]`, and not `[[\:lower\:]]` and `"[[:upper:]]"`
+bracket_host : list_cautions Bracket
+    (list kinds.Host 1 (atoms.Host (class (codes "upper") ++ map plain (codes "]]")) false)
+    ∷ list kinds.Host 2 (atoms.Host (class (codes "lower") ++ map plain (codes "]]")) false)
+    ∷ list kinds.Host 3 (atoms.Host (map plain (codes "[[:upper:]]")) true) ∷ []) ≡ caution_at Bracket (place 0 1) ∷ []
+unfolding list member class
+bracket_host = refl

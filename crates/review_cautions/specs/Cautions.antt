@@ -13,10 +13,13 @@ use Rattle.sudo_policy.specs.Definitions.{MemberList, lists}
 use Rattle.review_cautions.specs.declared.caution.Caution.{Caution}
 use Rattle.review_cautions.specs.declared.class.CautionClass.{CautionClass}
 use Rattle.review_cautions.specs.declared.class.CautionClass.TheVariants.{Return, BlankAfterBackslash, Join, TornMark}
-use Rattle.review_cautions.specs.declared.class.CautionClass.TheVariants.{Caret, Case, Linked, Defaults}
+use Rattle.review_cautions.specs.declared.class.CautionClass.TheVariants.{IncludeEscape, IncludeIndent}
+use Rattle.review_cautions.specs.declared.class.CautionClass.TheVariants.{Caret, Escape, Case, QuotedHost, QuotedEscape, Linked, Defaults}
+use Rattle.review_cautions.specs.declared.class.CautionClass.TheVariants.{Sudoedit, Network, Bracket, Setenv, GroupForm}
 use Rattle.review_cautions.specs.PhysicalLines.{numbers_of}
 use Rattle.review_cautions.specs.ListTests.{list_holds}
 use Rattle.review_cautions.specs.Parameters.{decides, name_of}
+use Rattle.review_cautions.specs.EntryTests.{body_holds}
 
 -- a caution on a line
 abbrev pub caution_at : CautionClass → Place → Caution
@@ -76,10 +79,17 @@ body_cautions at _ = []
 abbrev pub defaults_cautions : List Entry → List Caution
 defaults_cautions es = flat_map (λ (e : Entry). body_cautions e.place e.body) es
 
+-- the entries that have the construct of the class, one caution for each
+abbrev pub entry_cautions : CautionClass → List Entry → List Caution
+entry_cautions class es = map (λ (e : Entry). caution_at class e.place) (filter (λ (e : Entry). body_holds class e.body) es)
+
 -- the cautions on a policy whose files have these texts: the classes one after the other, in the order of `CautionClass`
 abbrev pub policy_cautions : List (List ℕ) → Policy → List Caution
 policy_cautions texts policy =
     text_cautions Return texts ++ text_cautions BlankAfterBackslash texts ++ text_cautions Join texts
-    ++ text_cautions TornMark texts
-    ++ list_cautions Caret (lists policy) ++ list_cautions Case (lists policy) ++ linked_cautions (lists policy)
+    ++ text_cautions TornMark texts ++ text_cautions IncludeEscape texts ++ text_cautions IncludeIndent texts
+    ++ list_cautions Caret (lists policy) ++ list_cautions Escape (lists policy) ++ list_cautions Case (lists policy)
+    ++ list_cautions QuotedHost (lists policy) ++ list_cautions QuotedEscape (lists policy) ++ linked_cautions (lists policy)
     ++ defaults_cautions policy.entries
+    ++ list_cautions Sudoedit (lists policy) ++ list_cautions Network (lists policy) ++ list_cautions Bracket (lists policy)
+    ++ entry_cautions Setenv policy.entries ++ entry_cautions GroupForm policy.entries

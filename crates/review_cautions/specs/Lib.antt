@@ -1,5 +1,9 @@
 pub mod Classes
 pub mod PhysicalLines
+pub mod Brackets
+pub mod Escapes
+pub mod Addresses
 pub mod ListTests
+pub mod EntryTests
 pub mod Parameters
 pub mod Cautions

@@ -1,26 +1,22 @@
 -- What the members of a list of a policy contain.
 use Rattle.std.specs.Prelude.{ℕ, Bool, true, false, not, ◌&&◌, ◌||◌, ◌==◌, List, [], ◌∷◌, Option, None, Some, codes}
+use Rattle.std.specs.Prelude.{length, drop, ◌-◌}
 use Rattle.std.specs.List.{list_any}
+use Rattle.std.specs.Str.{bytes_eq}
 use Rattle.sudo_text.specs.declared.token.Ch.{Ch}
 use Rattle.sudo_grammar.specs.declared.kind.Kind.{Kind}
 use Rattle.sudo_grammar.specs.declared.kind.Kind.TheVariants as kinds
 use Rattle.sudo_grammar.specs.declared.kind.Atom.{Atom}
 use Rattle.sudo_grammar.specs.declared.kind.Atom.TheVariants as atoms
 use Rattle.sudo_grammar.specs.declared.kind.Member.{Member}
-use Rattle.sudo_grammar.specs.Words.{is_upper}
+use Rattle.sudo_grammar.specs.Words.{is_upper, bytes_of}
 use Rattle.sudo_policy.specs.Definitions.{MemberList}
+use Rattle.review_cautions.specs.Addresses.{has_other_address}
+use Rattle.review_cautions.specs.Brackets.{atom_has_caret, atom_has_other_bracket}
+use Rattle.review_cautions.specs.Escapes.{has_other_escape, has_quoted_mark, has_quoted_escape}
 use Rattle.review_cautions.specs.declared.class.CautionClass.{CautionClass}
-use Rattle.review_cautions.specs.declared.class.CautionClass.TheVariants.{Caret, Case, Linked}
-
--- a `[` that no escape yields. sudoers(5), "Wildcards"
-abbrev pub opens_bracket : Ch → Bool
-opens_bracket c = not c.escaped && (c.byte == 91)
-
--- a `^` stands directly behind such a `[`, where sudo takes it for `!`, as fnmatch(3) does; `opened`: such a `[` stands
--- directly before the characters
-abbrev pub has_caret : Bool → List Ch → Bool
-has_caret opened [] = false
-has_caret opened (c ∷ cs) = (opened && (c.byte == 94)) || has_caret (opens_bracket c) cs
+use Rattle.review_cautions.specs.declared.class.CautionClass.TheVariants.{Caret, Escape, Case, QuotedHost, QuotedEscape, Linked}
+use Rattle.review_cautions.specs.declared.class.CautionClass.TheVariants.{Sudoedit, Network, Bracket}
 
 -- a wildcard that no escape yields: `*`, `?` or `[`
 abbrev pub is_wildcard : Ch → Bool
@@ -38,17 +34,6 @@ abbrev pub is_linked : List Ch → Bool
 is_linked path = may_begin (codes "/bin/") path || may_begin (codes "/sbin/") path || may_begin (codes "/lib/") path
     || may_begin (codes "/usr/bin/") path || may_begin (codes "/usr/sbin/") path || may_begin (codes "/usr/lib/") path
 
--- the arguments of a command, if any are given, have such a `^`
-abbrev pub arguments_have_caret : Option (List Ch) → Bool
-arguments_have_caret None = false
-arguments_have_caret (Some args) = has_caret false args
-
--- a pattern of a host or of a command has a bracket that begins with `^`
-abbrev pub atom_has_caret : Atom → Bool
-atom_has_caret (atoms.Host chars quoted) = not quoted && has_caret false chars
-atom_has_caret (atoms.Command path args) = has_caret false path || arguments_have_caret args
-atom_has_caret _ = false
-
 -- the name of a user or a group has a capital letter. sudoers(5), `case_insensitive_user` and `case_insensitive_group`
 abbrev pub atom_has_capital : Atom → Bool
 atom_has_capital (atoms.Name name) = list_any is_upper name
@@ -60,22 +45,46 @@ abbrev pub atom_is_linked : Atom → Bool
 atom_is_linked (atoms.Command path args) = is_linked path
 atom_is_linked _ = false
 
+-- the path ends in `/sudoedit`, which sudo takes for `sudoedit`
+abbrev pub ends_in_sudoedit : List Ch → Bool
+ends_in_sudoedit path = bytes_eq (bytes_of (drop (length path - 9) path)) (codes "/sudoedit")
+
+-- a command's path ends so
+abbrev pub atom_is_sudoedit : Atom → Bool
+atom_is_sudoedit (atoms.Command path args) = ends_in_sudoedit path
+atom_is_sudoedit _ = false
+
 -- the lists in which the construct of the class may stand
 abbrev pub concerns : CautionClass → Kind → Bool
 concerns Caret kinds.Host = true
 concerns Caret kinds.Cmnd = true
+concerns Escape kind = true
 concerns Case kinds.User = true
 concerns Case kinds.Runas = true
+concerns QuotedHost kinds.Host = true
+concerns QuotedEscape kinds.User = true
+concerns QuotedEscape kinds.Runas = true
+concerns QuotedEscape kinds.Host = true
 concerns Linked kinds.Cmnd = true
+concerns Sudoedit kinds.Cmnd = true
+concerns Network kinds.Host = true
+concerns Bracket kinds.Host = true
+concerns Bracket kinds.Cmnd = true
 concerns _ _ = false
 
--- the atom has the construct of the class
-abbrev pub atom_holds : CautionClass → Atom → Bool
-atom_holds Caret atom = atom_has_caret atom
-atom_holds Case atom = atom_has_capital atom
-atom_holds Linked atom = atom_is_linked atom
-atom_holds _ atom = false
+-- the member has the construct of the class
+abbrev pub member_holds : CautionClass → Member → Bool
+member_holds Caret m = atom_has_caret m.atom
+member_holds Escape m = has_other_escape m
+member_holds Case m = atom_has_capital m.atom
+member_holds QuotedHost m = has_quoted_mark m.atom
+member_holds QuotedEscape m = has_quoted_escape m.token.kind
+member_holds Linked m = atom_is_linked m.atom
+member_holds Sudoedit m = atom_is_sudoedit m.atom
+member_holds Network m = has_other_address m
+member_holds Bracket m = atom_has_other_bracket m.atom
+member_holds _ m = false
 
 -- a member of the list has the construct of the class
 abbrev pub list_holds : CautionClass → MemberList → Bool
-list_holds class list = concerns class list.kind && list_any (λ (m : Member). atom_holds class m.atom) list.members
+list_holds class list = concerns class list.kind && list_any (member_holds class) list.members

@@ -4,11 +4,11 @@ use Rattle.std.specs.Prelude.{ℕ, Bool, false, not, ◌&&◌, ◌||◌, ◌==�
 use Rattle.std.specs.Prelude.{reverse, length, take, slice_index, codes, ◌+◌, ◌-◌}
 use Rattle.std.specs.List.{list_any, take_while}
 use Rattle.std.specs.Str.{bytes_eq}
-use Rattle.sudo_text.specs.Bytes.{is_blank}
+use Rattle.sudo_text.specs.Bytes.{is_blank, is_include}
 use Rattle.sudo_text.specs.Lines.{without_return, without_indent, without_escape, is_comment, ends_in_escape, is_continued}
 use Rattle.review_cautions.specs.declared.class.CautionClass.{CautionClass}
 use Rattle.review_cautions.specs.declared.class.CautionClass.TheVariants.{Return, BlankAfterBackslash, Join, TornMark}
-use Rattle.review_cautions.specs.declared.class.CautionClass.TheVariants.{Caret, Case, Linked, Defaults}
+use Rattle.review_cautions.specs.declared.class.CautionClass.TheVariants.{IncludeEscape, IncludeIndent}
 
 -- the last byte of a line, and 0 if it has none
 abbrev pub last_byte : List ℕ → ℕ
@@ -87,16 +87,24 @@ tears_mark line next = ends_in_escape line && ends_in_mark (without_escape line)
 abbrev pub stripped : List ℕ → List ℕ
 stripped line = without_indent (without_return line)
 
--- the line has the construct of the class; `next`: the line after it
-abbrev pub line_holds : CautionClass → List ℕ → List ℕ → Bool
-line_holds Return line next = ends_in_return line
-line_holds BlankAfterBackslash line next = ends_in_escaped_blanks (without_return line)
-line_holds Join line next = tears_word (stripped line) (stripped next)
-line_holds TornMark line next = tears_mark (stripped line) (stripped next)
-line_holds Caret line next = false
-line_holds Case line next = false
-line_holds Linked line next = false
-line_holds Defaults line next = false
+-- a line that continues no other is an include line and has a backslash; the line is given as the reader joins it
+abbrev pub is_escaped_include : Bool → List ℕ → Bool
+is_escaped_include continuing line = not continuing && is_include line && list_any (λ b. b == 92) line
+
+-- a line that continues no other is an include line that begins with `#`, behind blanks
+abbrev pub is_indented_include : Bool → List ℕ → Bool
+is_indented_include continuing line =
+    not continuing && is_blank (slice_index line 0) && (slice_index (stripped line) 0 == 35) && is_include (stripped line)
+
+-- the line has the construct of the class; `continuing`: it continues another; `next`: the line after it
+abbrev pub line_holds : CautionClass → Bool → List ℕ → List ℕ → Bool
+line_holds Return continuing line next = ends_in_return line
+line_holds BlankAfterBackslash continuing line next = ends_in_escaped_blanks (without_return line)
+line_holds Join continuing line next = tears_word (stripped line) (stripped next)
+line_holds TornMark continuing line next = tears_mark (stripped line) (stripped next)
+line_holds IncludeEscape continuing line next = is_escaped_include continuing (stripped line)
+line_holds IncludeIndent continuing line next = is_indented_include continuing line
+line_holds _ continuing line next = false
 
 -- the line is a comment; a line that continues another is none
 abbrev pub is_remark : Bool → List ℕ → Bool
@@ -104,7 +112,7 @@ is_remark continuing line = not continuing && is_comment (stripped line)
 
 -- the line has the construct of the class and is no comment; `continuing`: it continues another
 abbrev pub is_marked : CautionClass → Bool → List ℕ → List ℕ → Bool
-is_marked class continuing line next = not (is_remark continuing line) && line_holds class line next
+is_marked class continuing line next = not (is_remark continuing line) && line_holds class continuing line next
 
 -- the first of the lines, and an empty one if there is none
 abbrev pub first_line : List (List ℕ) → List ℕ

@@ -22,8 +22,8 @@ pub(crate) fn is_text(bytes: &[u8], text: &[u8]) -> bool
     bytes == text
 }
 
-// Whether a byte is a decimal digit.
-fn is_digit(byte: u8) -> bool
+/// Whether a byte is a decimal digit.
+pub(crate) fn is_digit(byte: u8) -> bool
     ensures { result ≡ bytes.is_digit byte }
 {
     b'0' <= byte && byte <= b'9'
@@ -43,8 +43,8 @@ fn begins_word(text: &[u8], word: &[u8]) -> bool
     text.starts_with(word) && (text.len() == word.len() || is_blank(peek(text, word.len())))
 }
 
-// Whether the text begins with an include directive.
-fn is_include(text: &[u8]) -> bool
+/// Whether the text begins with an include directive.
+pub(crate) fn is_include(text: &[u8]) -> bool
     ensures { result ≡ bytes.is_include text.now }
 {
     begins_word(text, b"@include")

@@ -13,14 +13,34 @@ pub enum CautionClass {
     Join,
     /// A line that is joined to the next one at a mark, where sudo joins no lines.
     TornMark,
+    /// An include line with a backslash.
+    IncludeEscape,
+    /// An include line that begins with `#` behind blanks.
+    IncludeIndent,
     /// A bracket of a pattern that begins with `^`.
     Caret,
+    /// An escape that sudo reads as a wildcard, as the mark of an ID, or as two characters.
+    Escape,
     /// A name of a user or a group with a capital letter.
     Case,
+    /// A quoted host with a byte that is a mark of a pattern for sudo.
+    QuotedHost,
+    /// A quoted name with an escape, whose backslash sudo keeps.
+    QuotedEscape,
     /// A command below a folder that is a link on most machines.
     Linked,
     /// A parameter of a `Defaults` line that decides.
     Defaults,
+    /// A path that ends in `/sudoedit`.
+    Sudoedit,
+    /// An address or a network that sudo reads otherwise.
+    Network,
+    /// A bracket of a pattern with a slash, a class or an equivalence.
+    Bracket,
+    /// `ALL` among commands, where SETENV is given or an alias stands for it.
+    Setenv,
+    /// A runas that names no user.
+    GroupForm,
 }
 
 impl CautionClass {
@@ -33,10 +53,20 @@ impl CautionClass {
             CautionClass::BlankAfterBackslash => b"blank-after-backslash",
             CautionClass::Join => b"join",
             CautionClass::TornMark => b"torn-mark",
+            CautionClass::IncludeEscape => b"include-escape",
+            CautionClass::IncludeIndent => b"include-indent",
             CautionClass::Caret => b"caret",
+            CautionClass::Escape => b"escape",
             CautionClass::Case => b"case",
+            CautionClass::QuotedHost => b"quoted-host",
+            CautionClass::QuotedEscape => b"quoted-escape",
             CautionClass::Linked => b"linked",
             CautionClass::Defaults => b"defaults",
+            CautionClass::Sudoedit => b"sudoedit",
+            CautionClass::Network => b"network",
+            CautionClass::Bracket => b"bracket",
+            CautionClass::Setenv => b"setenv",
+            CautionClass::GroupForm => b"group-form",
         }
     }
 
@@ -57,30 +87,70 @@ impl CautionClass {
             CautionClass::TornMark => {
                 b"lines are joined where sudo does not join them: read here, refused by sudo"
             }
+            CautionClass::IncludeEscape => {
+                b"an include line has a backslash: read here as everywhere, for sudo a part of the path"
+            }
+            CautionClass::IncludeIndent => {
+                b"blanks stand before #include: the file is read here, for sudo the line is a comment"
+            }
             CautionClass::Caret => {
                 b"`[^` begins a bracket: `^` is one of its characters here, for sudo a complement"
             }
+            CautionClass::Escape => {
+                b"an escape is read otherwise by sudo: as a wildcard, as an ID, or as two characters"
+            }
             CautionClass::Case => {
                 b"a name has a capital letter: letter case counts here, not for sudo"
+            }
+            CautionClass::QuotedHost => {
+                b"a quoted host has a wildcard: it stands for itself here, for sudo it is a pattern"
+            }
+            CautionClass::QuotedEscape => {
+                b"a backslash stands between double quotes: an escape here, for sudo a byte of the name"
             }
             CautionClass::Linked => {
                 b"a command is below a folder that is a link on most machines: two paths here, for sudo one file"
             }
             CautionClass::Defaults => b"decides for sudo, has no effect here",
+            CautionClass::Sudoedit => {
+                b"a path ends in sudoedit: a program here, for sudo the editing of files"
+            }
+            CautionClass::Network => {
+                b"an address is read otherwise by sudo: a mask of 0, a zero in front of a number, or an address of the loopback"
+            }
+            CautionClass::Bracket => {
+                b"a bracket is read otherwise by sudo: a slash, a class or an equivalence stands in it"
+            }
+            CautionClass::Setenv => {
+                b"SETENV is given otherwise: ALL has it for sudo whatever the tag, an alias of ALL has it here alone"
+            }
+            CautionClass::GroupForm => {
+                b"a runas names no user: allowed here also where no group is asked for, for sudo only with a group"
+            }
         }
     }
 }
 
 /// The classes, in the order in which they are listed.
-pub const CAUTION_CLASSES: [CautionClass; 8] = [
+pub const CAUTION_CLASSES: [CautionClass; 18] = [
     CautionClass::Return,
     CautionClass::BlankAfterBackslash,
     CautionClass::Join,
     CautionClass::TornMark,
+    CautionClass::IncludeEscape,
+    CautionClass::IncludeIndent,
     CautionClass::Caret,
+    CautionClass::Escape,
     CautionClass::Case,
+    CautionClass::QuotedHost,
+    CautionClass::QuotedEscape,
     CautionClass::Linked,
     CautionClass::Defaults,
+    CautionClass::Sudoedit,
+    CautionClass::Network,
+    CautionClass::Bracket,
+    CautionClass::Setenv,
+    CautionClass::GroupForm,
 ];
 
 // Returns the first class of a name.

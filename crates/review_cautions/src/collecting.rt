@@ -3,6 +3,7 @@ ghost use Rattle.std.specs.Prelude.{◌≡◌, IfOk, map};
 ghost use Rattle.review_cautions.specs.Cautions.{policy_cautions};
 
 use crate::defaults::push_defaults;
+use crate::entries::push_entries;
 use crate::lines::push_texts;
 use crate::lists::{push_linked, push_lists};
 use crate::{Caution, CautionClass};
@@ -18,15 +19,27 @@ pub fn cautions(alloc: Global, texts: &[&[u8]], policy: &Policy) -> Result<Vec<C
     ensures { IfOk result (λ found. found.items
         ≡ policy_cautions (map (λ t. t.now) texts.now) policy.now) }
 {
-    let lists = lists(alloc, policy)?;
+    let written = lists(alloc, policy)?;
+    let lists = written.as_slice();
+    let entries = policy.entries.as_slice();
     let mut found = Vec::new(alloc);
     push_texts(alloc, CautionClass::Return, texts, &mut found)?;
     push_texts(alloc, CautionClass::BlankAfterBackslash, texts, &mut found)?;
     push_texts(alloc, CautionClass::Join, texts, &mut found)?;
     push_texts(alloc, CautionClass::TornMark, texts, &mut found)?;
-    push_lists(alloc, CautionClass::Caret, lists.as_slice(), &mut found)?;
-    push_lists(alloc, CautionClass::Case, lists.as_slice(), &mut found)?;
-    push_linked(alloc, lists.as_slice(), &mut found)?;
-    push_defaults(alloc, policy.entries.as_slice(), &mut found)?;
+    push_texts(alloc, CautionClass::IncludeEscape, texts, &mut found)?;
+    push_texts(alloc, CautionClass::IncludeIndent, texts, &mut found)?;
+    push_lists(alloc, CautionClass::Caret, lists, &mut found)?;
+    push_lists(alloc, CautionClass::Escape, lists, &mut found)?;
+    push_lists(alloc, CautionClass::Case, lists, &mut found)?;
+    push_lists(alloc, CautionClass::QuotedHost, lists, &mut found)?;
+    push_lists(alloc, CautionClass::QuotedEscape, lists, &mut found)?;
+    push_linked(alloc, lists, &mut found)?;
+    push_defaults(alloc, entries, &mut found)?;
+    push_lists(alloc, CautionClass::Sudoedit, lists, &mut found)?;
+    push_lists(alloc, CautionClass::Network, lists, &mut found)?;
+    push_lists(alloc, CautionClass::Bracket, lists, &mut found)?;
+    push_entries(alloc, CautionClass::Setenv, entries, &mut found)?;
+    push_entries(alloc, CautionClass::GroupForm, entries, &mut found)?;
     Ok(found)
 }

@@ -3,11 +3,15 @@
 //! sudoers(5). A policy without a caution may still be judged otherwise: no list of such constructs is complete.
 #![tactic(auto)]
 
+mod addresses;
+mod brackets;
 mod bytes;
 mod caution;
 mod class;
 mod collecting;
 mod defaults;
+mod entries;
+mod escapes;
 mod joins;
 mod lines;
 mod lists;

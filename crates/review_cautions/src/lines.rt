@@ -1,5 +1,7 @@
 //! Cautions on physical lines.
 ghost use Rattle.std.specs.Prelude.{◌≡◌, ◌++◌, ◌≤◌, ◌∷◌, [], length, map, OnOk, false, if◌then◌else◌};
+ghost use Rattle.std.specs.List.{list_any};
+ghost use Rattle.std.specs.Prelude.{◌==◌};
 ghost use Rattle.sudo_text.specs.Lines as text;
 ghost use Rattle.sudo_text.specs.Lines.{cut, place};
 ghost use Rattle.review_cautions.specs.PhysicalLines as spec;
@@ -7,7 +9,10 @@ ghost use Rattle.review_cautions.specs.PhysicalLines.{numbers_of, is_remark, str
 ghost use Rattle.review_cautions.specs.Cautions as cautions;
 ghost use Rattle.review_cautions.specs.Cautions.{caution_at};
 
-use crate::bytes::{cut_first, end_blank_count, ends_in_escape, is_comment, strip, without_return};
+use crate::bytes::{
+    cut_first, end_blank_count, ends_in_escape, is_blank, is_comment, is_include, peek, strip,
+    without_return,
+};
 use crate::joins::{tears_mark, tears_word};
 use crate::{Caution, CautionClass};
 use std::alloc::{AllocError, Global};
@@ -53,19 +58,40 @@ fn ends_in_escaped_blanks(line: &[u8]) -> bool
     blanks > 0 && ends_in_escape(&line[..line.len() - blanks])
 }
 
-// Whether a physical line has the construct of a class, before the next one.
-fn line_holds(class: CautionClass, line: &[u8], next: &[u8]) -> bool
-    ensures { result ≡ spec.line_holds class line.now next.now }
+// Whether a backslash stands in a line.
+fn has_backslash(line: &[u8]) -> bool
+    ensures { result ≡ list_any (λ b. b == 92) line.now }
+{
+    line.iter().any(|byte| *byte == b'\\')
+}
+
+// Whether a line, as it is joined, is an include line with a backslash, and continues no other.
+fn is_escaped_include(continuing: bool, line: &[u8]) -> bool
+    ensures { result ≡ spec.is_escaped_include continuing line.now }
+{
+    !continuing && is_include(line) && has_backslash(line)
+}
+
+// Whether a physical line is an include line that begins with `#` behind blanks, and continues no other.
+fn is_indented_include(continuing: bool, line: &[u8]) -> bool
+    ensures { result ≡ spec.is_indented_include continuing line.now }
+{
+    let text = strip(line);
+    !continuing && is_blank(peek(line, 0)) && peek(text, 0) == b'#' && is_include(text)
+}
+
+// Whether a physical line, which continues another one or not, has the construct of a class, before the next one.
+fn line_holds(class: CautionClass, continuing: bool, line: &[u8], next: &[u8]) -> bool
+    ensures { result ≡ spec.line_holds class continuing line.now next.now }
 {
     match class {
         CautionClass::Return => ends_in_return(line),
         CautionClass::BlankAfterBackslash => ends_in_escaped_blanks(without_return(line)),
         CautionClass::Join => tears_word(strip(line), strip(next)),
         CautionClass::TornMark => tears_mark(strip(line), strip(next)),
-        CautionClass::Caret => false,
-        CautionClass::Case => false,
-        CautionClass::Linked => false,
-        CautionClass::Defaults => false,
+        CautionClass::IncludeEscape => is_escaped_include(continuing, strip(line)),
+        CautionClass::IncludeIndent => is_indented_include(continuing, line),
+        _ => false,
     }
 }
 
@@ -74,7 +100,8 @@ fn is_marked(class: CautionClass, line: &PhysicalLine<'_>) -> bool
     ensures { result ≡ spec.is_marked class line.now.continuing line.now.bytes.now
         line.now.next.now }
 {
-    !is_comment_line(line.continuing, line.bytes) && line_holds(class, line.bytes, line.next)
+    !is_comment_line(line.continuing, line.bytes)
+        && line_holds(class, line.continuing, line.bytes, line.next)
 }
 
 // Appends the caution on a physical line, if it has the construct of the class and is no comment.

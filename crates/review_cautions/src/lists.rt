@@ -1,57 +1,18 @@
 //! Cautions on the lists of a policy.
-ghost use Rattle.std.specs.Prelude.{◌≡◌, ◌++◌, ◌∷◌, [], OnOk, map, false};
+ghost use Rattle.std.specs.Prelude.{◌≡◌, ◌++◌, ◌∷◌, [], OnOk, map, false, bytes_eq};
 ghost use Rattle.std.specs.List.{list_any};
-ghost use Rattle.sudo_grammar.specs.Words.{is_upper};
+ghost use Rattle.sudo_grammar.specs.Words.{is_upper, bytes_of};
 ghost use Rattle.sudo_policy.specs.Definitions.{list_view};
 ghost use Rattle.review_cautions.specs.ListTests as spec;
 ghost use Rattle.review_cautions.specs.Cautions as cautions;
 
+use crate::addresses::has_other_address;
+use crate::brackets::{atom_has_caret, atom_has_other_bracket};
+use crate::escapes::{has_other_escape, has_quoted_escape, has_quoted_mark};
 use crate::{Caution, CautionClass};
 use std::alloc::{AllocError, Global};
 use sudo_policy::{Atom, Kind, Member, MemberList};
-use sudo_text::{Ch, Place, Seq};
-
-// Whether a character is a `[` that no escape yields.
-fn opens_bracket(ch: Ch) -> bool
-    ensures { result ≡ spec.opens_bracket ch }
-{
-    !ch.escaped && ch.byte == b'['
-}
-
-// Whether a `^` stands directly behind such a `[`.
-fn has_caret(chars: &[Ch]) -> bool
-    ensures { result ≡ spec.has_caret false chars.now }
-{
-    let mut opened = false;
-    for ch in chars {
-        if opened && ch.byte == b'^' {
-            return true;
-        }
-        opened = opens_bracket(*ch);
-    }
-    false
-}
-
-// Whether arguments, if any are given, have such a `^`.
-fn arguments_have_caret(arguments: &Option<Seq<Ch>>) -> bool
-    ensures { result ≡ spec.arguments_have_caret arguments.now }
-{
-    match arguments {
-        Some(arguments) => has_caret(arguments.as_slice()),
-        None => false,
-    }
-}
-
-// Whether a pattern of a host or of a command has such a `^`.
-fn atom_has_caret(atom: &Atom) -> bool
-    ensures { result ≡ spec.atom_has_caret atom.now }
-{
-    match atom {
-        Atom::Host { chars, quoted } => !*quoted && has_caret(chars.as_slice()),
-        Atom::Command { path, args } => has_caret(path.as_slice()) || arguments_have_caret(args),
-        _ => false,
-    }
-}
+use sudo_text::{Ch, Place};
 
 // Whether a name has a capital letter.
 fn has_capital(name: &[u8]) -> bool
@@ -113,35 +74,76 @@ fn atom_is_linked(atom: &Atom) -> bool
     }
 }
 
+// Whether the bytes of characters are a text.
+fn spells(chars: &[Ch], text: &[u8]) -> bool
+    ensures { result ≡ bytes_eq (bytes_of chars.now) text.now }
+{
+    match (chars, text) {
+        ([], []) => true,
+        ([ch, chars @ ..], [byte, text @ ..]) => ch.byte == *byte && spells(chars, text),
+        _ => false,
+    }
+}
+
+// Whether a path ends in `/sudoedit`.
+fn ends_in_sudoedit(path: &[Ch]) -> bool
+    ensures { result ≡ spec.ends_in_sudoedit path.now }
+{
+    let front = path.len().saturating_sub(9);
+    spells(&path[front..], b"/sudoedit")
+}
+
+// Whether an atom is a command whose path ends so.
+fn atom_is_sudoedit(atom: &Atom) -> bool
+    ensures { result ≡ spec.atom_is_sudoedit atom.now }
+{
+    match atom {
+        Atom::Command { path, .. } => ends_in_sudoedit(path.as_slice()),
+        _ => false,
+    }
+}
+
 // Whether the construct of a class may stand in the lists of a kind.
 fn concerns(class: CautionClass, kind: Kind) -> bool
     ensures { result ≡ spec.concerns class kind }
 {
     match class {
         CautionClass::Caret => matches!(kind, Kind::Host | Kind::Cmnd),
+        CautionClass::Escape => true,
         CautionClass::Case => matches!(kind, Kind::User | Kind::Runas),
+        CautionClass::QuotedHost => matches!(kind, Kind::Host),
+        CautionClass::QuotedEscape => matches!(kind, Kind::User | Kind::Runas | Kind::Host),
         CautionClass::Linked => matches!(kind, Kind::Cmnd),
+        CautionClass::Sudoedit => matches!(kind, Kind::Cmnd),
+        CautionClass::Network => matches!(kind, Kind::Host),
+        CautionClass::Bracket => matches!(kind, Kind::Host | Kind::Cmnd),
         _ => false,
     }
 }
 
-// Whether an atom has the construct of a class.
-fn atom_holds(class: CautionClass, atom: &Atom) -> bool
-    ensures { result ≡ spec.atom_holds class atom.now }
+// Whether a member has the construct of a class.
+fn member_holds(class: CautionClass, member: &Member) -> bool
+    ensures { result ≡ spec.member_holds class member.now }
 {
     match class {
-        CautionClass::Caret => atom_has_caret(atom),
-        CautionClass::Case => atom_has_capital(atom),
-        CautionClass::Linked => atom_is_linked(atom),
+        CautionClass::Caret => atom_has_caret(&member.atom),
+        CautionClass::Escape => has_other_escape(member),
+        CautionClass::Case => atom_has_capital(&member.atom),
+        CautionClass::QuotedHost => has_quoted_mark(&member.atom),
+        CautionClass::QuotedEscape => has_quoted_escape(&member.token.kind),
+        CautionClass::Linked => atom_is_linked(&member.atom),
+        CautionClass::Sudoedit => atom_is_sudoedit(&member.atom),
+        CautionClass::Network => has_other_address(member),
+        CautionClass::Bracket => atom_has_other_bracket(&member.atom),
         _ => false,
     }
 }
 
 // Whether one of the members has the construct of a class.
 fn members_hold(class: CautionClass, members: &[Member]) -> bool
-    ensures { result ≡ list_any (λ m. spec.atom_holds class m.atom) members.now }
+    ensures { result ≡ list_any (spec.member_holds class) members.now }
 {
-    members.iter().any(|member| atom_holds(class, &member.atom))
+    members.iter().any(|member| member_holds(class, member))
 }
 
 // Whether a list has the construct of a class.

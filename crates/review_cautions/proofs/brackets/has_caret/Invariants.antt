@@ -1,6 +1,6 @@
 use Rattle.std.proofs.Common.{◌≡◌, drop, false}
-use Rattle.review_cautions.specs.ListTests.{has_caret}
-use Rattle.review_cautions.proofs.lists.has_caret.Given as goal
+use Rattle.review_cautions.specs.Brackets.{has_caret}
+use Rattle.review_cautions.proofs.brackets.has_caret.Given as goal
 
 abbrev pub invariant-loop-ch : goal.invariant-loop-ch
 invariant-loop-ch l = has_caret l.opened (drop l.ch-index l.chars) ≡ has_caret false l.chars
