@@ -1,7 +1,8 @@
 -- Lists that a loop goes over, one item further.
-use Rattle.std.proofs.Common.{◌≡◌, ◌<◌, ◌+◌, ◌∙◌, ℕ, List, [], ◌∷◌, ◌++◌, ap, append-nil, arith, flat_map, get_or, length, map, suc, sym, take}
+use Rattle.std.proofs.Common.{◌≡◌, ◌<◌, ◌+◌, ◌∙◌, ℕ, List, [], ◌∷◌, ◌++◌, ap, append-nil, arith, drop, flat_map, fold, get_or, length, map}
+use Rattle.std.proofs.Common.{suc, sym, take}
 use Rattle.std.proofs.lemmas.Grind.{flat_map-append}
-use Rattle.std.proofs.lemmas.List.{map-append}
+use Rattle.std.proofs.lemmas.List.{drop_more, map-append}
 use lib.Seq.{take-suc}
 
 take-more : {X : Type 0} (xs : List X) (at : ℕ) (x : X) → at < length xs → x ≡ get_or xs at x
@@ -25,3 +26,10 @@ pub map-more : {X Y : Type 0} (g : X → Y) (xs : List X) (at : ℕ) (x : X) (fi
 map-more g xs at x first images new within is so_far more =
     more ∙ ap (λ (ys : List _). ys ++ g x ∷ []) so_far
     ∙ ap (λ (ys : List _). first ∷ ys) (sym (ap (map g) (take-more xs at x within is) ∙ map-append g (take at xs) (x ∷ [])))
+
+-- one more item of a fold
+pub fold-more : {X A : Type 0} (f : A → X → A) (xs : List X) (at : ℕ) (x : X) (before new whole : A) → at < length xs
+    → x ≡ get_or xs at x → whole ≡ fold f before (drop at xs) → new ≡ f before x → whole ≡ fold f new (drop (at + 1) xs)
+fold-more f xs at x before new whole within is so_far more =
+    so_far ∙ ap (fold f before) (drop_more xs at x within ∙ ap (λ y. y ∷ drop (at + 1) xs) (sym is))
+    ∙ ap (λ a. fold f a (drop (at + 1) xs)) (sym more)

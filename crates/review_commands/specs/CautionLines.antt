@@ -65,9 +65,13 @@ abbrev pub with_class : List ℕ → CautionClass → List ℕ
 with_class [] class = class_name class
 with_class (b ∷ before) class = (b ∷ before) ++ codes ", " ++ class_name class
 
+-- the names so far, and that of a class if one of the cautions has it
+abbrev pub with_found : List Caution → List ℕ → CautionClass → List ℕ
+with_found found before class = if has_class found class then with_class before class else before
+
 -- the names of the classes of the cautions, in the order of the classes
 abbrev pub listed_classes : List Caution → List ℕ
-listed_classes found = fold with_class [] (filter (has_class found) classes)
+listed_classes found = fold (with_found found) [] classes
 
 -- names of classes in parentheses, and the end of the line (41 is `)`)
 abbrev pub in_parentheses : List ℕ → List ℕ

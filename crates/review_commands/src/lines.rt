@@ -1,8 +1,8 @@
 //! The lines of cautions, and the line that counts them.
-ghost use Rattle.std.specs.Prelude.{◌≡◌, ◌++◌, IfOk, OnOk, flat_map};
+ghost use Rattle.std.specs.Prelude.{◌≡◌, ◌++◌, [], IfOk, OnOk, flat_map, fold};
 ghost use Rattle.review_commands.specs.CautionLines.{caution_line, cautions_status, cautions_text, counted_classes};
 ghost use Rattle.review_commands.specs.CautionLines.{counted_line, explanation, heading, in_parentheses};
-ghost use Rattle.review_commands.specs.CautionLines.{has_class, listed_classes, notice_text, subject_text, with_class};
+ghost use Rattle.review_commands.specs.CautionLines.{has_class, notice_text, subject_text, with_class, with_found};
 
 use crate::program_name::PROGRAM;
 use audit_files::push_place;
@@ -104,15 +104,28 @@ fn push_class(names: &mut Vec<u8>, class: CautionClass) -> Result<(), AllocError
     push(names, class.name())
 }
 
-// Returns the names of the classes of the cautions.
-fn class_names(alloc: Global, found: &[Caution]) -> Result<Vec<u8>, AllocError>
-    ensures { IfOk result (λ names. names.items ≡ listed_classes found.now) }
+// Appends the name of a class, if one of the cautions has it.
+fn push_found(names: &mut Vec<u8>, found: &[Caution], class: CautionClass) -> Result<(), AllocError>
+    ensures { OnOk result (names.new.items ≡ with_found found.now names.old.items class) }
+{
+    if some_has(found, class) {
+        push_class(names, class)
+    } else {
+        Ok(())
+    }
+}
+
+// Returns the names of those of the classes that the cautions have.
+fn class_names(
+    alloc: Global,
+    found: &[Caution],
+    classes: &[CautionClass],
+) -> Result<Vec<u8>, AllocError>
+    ensures { IfOk result (λ names. names.items ≡ fold (with_found found.now) [] classes.now) }
 {
     let mut names = Vec::new(alloc);
-    for class in CAUTION_CLASSES.iter() {
-        if some_has(found, *class) {
-            push_class(&mut names, *class)?;
-        }
+    for class in classes {
+        push_found(&mut names, found, *class)?;
     }
     Ok(names)
 }
@@ -142,7 +155,7 @@ pub(crate) fn notice(alloc: Global, found: &[Caution]) -> Result<Vec<u8>, AllocE
     if found.is_empty() {
         return Ok(Vec::new(alloc));
     }
-    let names = class_names(alloc, found)?;
+    let names = class_names(alloc, found, &CAUTION_CLASSES)?;
     let mut line = begin_line(alloc, PROGRAM)?;
     push_counted(&mut line, found.len(), &names)?;
     Ok(line)
