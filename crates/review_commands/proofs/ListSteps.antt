@@ -28,8 +28,7 @@ map-more g xs at x first images new within is so_far more =
     ∙ ap (λ (ys : List _). first ∷ ys) (sym (ap (map g) (take-more xs at x within is) ∙ map-append g (take at xs) (x ∷ [])))
 
 -- one more item of a fold
-pub fold-more : {X A : Type 0} (f : A → X → A) (xs : List X) (at : ℕ) (x : X) (before new whole : A) → at < length xs
-    → x ≡ get_or xs at x → whole ≡ fold f before (drop at xs) → new ≡ f before x → whole ≡ fold f new (drop (at + 1) xs)
-fold-more f xs at x before new whole within is so_far more =
-    so_far ∙ ap (fold f before) (drop_more xs at x within ∙ ap (λ y. y ∷ drop (at + 1) xs) (sym is))
-    ∙ ap (λ a. fold f a (drop (at + 1) xs)) (sym more)
+pub fold-more : {X A : Type 0} (f : A → X → A) (xs : List X) (at : ℕ) (other : X) (before new whole : A) → at < length xs
+    → whole ≡ fold f before (drop at xs) → new ≡ f before (get_or xs at other) → whole ≡ fold f new (drop (at + 1) xs)
+fold-more f xs at other before new whole within so_far more =
+    so_far ∙ ap (fold f before) (drop_more xs at other within) ∙ ap (λ a. fold f a (drop (at + 1) xs)) (sym more)

@@ -12,5 +12,5 @@ returns c =
     let checked = c.args.checked.now in
     let found : c.in_ok-found.found.items ≡ policy_cautions (texts_of checked.text checked.supplies checked.policy.files) checked.policy =
     c.in_ok-found.ensures
-    ∙ ap (λ (p : Policy). policy_cautions (texts_of checked.text checked.supplies p.files) p) c.policy.ensures.value in
+    ∙ ap (λ (p : Policy). policy_cautions (texts_of checked.text checked.supplies p.files) p) c.policy-policy.ensures.value in
     subst (λ (f : List Caution). IfOk c.notice.result (λ line. line.items ≡ notice_text f)) (c.deref.ensures.value ∙ found) c.notice.ensures
