@@ -1,5 +1,5 @@
 -- What the rules and the definitions of a policy contain. sudoers(5), "Runas_Spec", "Tag_Spec" and "SETENV and NOSETENV".
-use Rattle.std.specs.Prelude.{Bool, true, false, not, ◌&&◌, List, Option, None, Some, is_some}
+use Rattle.std.specs.Prelude.{Bool, true, false, not, ◌&&◌, Option, None, Some, is_some}
 use Rattle.std.specs.List.{list_any}
 use Rattle.sudo_grammar.specs.declared.kind.Kind.{Kind}
 use Rattle.sudo_grammar.specs.declared.kind.Kind.TheVariants as kinds

@@ -1,5 +1,5 @@
 -- Escapes that sudo reads otherwise. sudoers(5), "Other special characters and reserved words" and "Wildcards".
-use Rattle.std.specs.Prelude.{ℕ, Bool, false, not, ◌&&◌, ◌||◌, ◌==◌, List, [], ◌∷◌, Option, None, Some}
+use Rattle.std.specs.Prelude.{Bool, false, not, ◌&&◌, ◌||◌, ◌==◌, List, [], ◌∷◌, Option, None, Some}
 use Rattle.std.specs.List.{list_any}
 use Rattle.sudo_text.specs.declared.token.Ch.{Ch}
 use Rattle.sudo_text.specs.declared.token.TokenKind.{TokenKind}

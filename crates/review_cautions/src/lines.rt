@@ -1,7 +1,6 @@
 //! Cautions on physical lines.
-ghost use Rattle.std.specs.Prelude.{◌≡◌, ◌++◌, ◌≤◌, ◌∷◌, [], length, map, OnOk, false, if◌then◌else◌};
+ghost use Rattle.std.specs.Prelude.{◌≡◌, ◌==◌, ◌++◌, ◌≤◌, ◌∷◌, [], length, map, OnOk, false, if◌then◌else◌};
 ghost use Rattle.std.specs.List.{list_any};
-ghost use Rattle.std.specs.Prelude.{◌==◌};
 ghost use Rattle.sudo_text.specs.Lines as text;
 ghost use Rattle.sudo_text.specs.Lines.{cut, place};
 ghost use Rattle.review_cautions.specs.PhysicalLines as spec;
