@@ -17,14 +17,13 @@ use crate::{Caution, CautionClass};
 use std::alloc::{AllocError, Global};
 use sudo_text::{Place, TEXT_LIMIT};
 
-// A physical line: its place, whether it continues another line, its bytes, and the bytes of the line after it, none if
-// it is the last.
+// A physical line: its place, whether it continues another line, its bytes, and the text after it.
 #[derive(Clone, Copy)]
 struct PhysicalLine<'a> {
     place: Place,
     continuing: bool,
     bytes: &'a [u8],
-    next: &'a [u8],
+    after: &'a [u8],
 }
 
 // Whether the next line continues a physical line, which continues another one or not.
@@ -79,15 +78,26 @@ fn is_indented_include(continuing: bool, line: &[u8]) -> bool
     !continuing && is_blank(peek(line, 0)) && peek(text, 0) == b'#' && is_include(text)
 }
 
-// Whether a physical line, which continues another one or not, has the construct of a class, before the next one.
-fn line_holds(class: CautionClass, continuing: bool, line: &[u8], next: &[u8]) -> bool
-    ensures { result ≡ spec.line_holds class continuing line.now next.now }
+// Returns the first physical line of a text, and an empty one if the text has none.
+fn first_of(text: &[u8]) -> &[u8]
+    ensures { result.now ≡ first_line (cut text.now) }
+{
+    if text.is_empty() {
+        return &[];
+    }
+    let (line, _) = cut_first(text);
+    line
+}
+
+// Whether a physical line, which continues another one or not, has the construct of a class, before this text.
+fn line_holds(class: CautionClass, continuing: bool, line: &[u8], after: &[u8]) -> bool
+    ensures { result ≡ spec.line_holds class continuing line.now (first_line (cut after.now)) }
 {
     match class {
         CautionClass::Return => ends_in_return(line),
         CautionClass::BlankAfterBackslash => ends_in_escaped_blanks(without_return(line)),
-        CautionClass::Join => tears_word(strip(line), strip(next)),
-        CautionClass::TornMark => tears_mark(strip(line), strip(next)),
+        CautionClass::Join => tears_word(strip(line), strip(first_of(after))),
+        CautionClass::TornMark => tears_mark(strip(line), strip(first_of(after))),
         CautionClass::IncludeEscape => is_escaped_include(continuing, strip(line)),
         CautionClass::IncludeIndent => is_indented_include(continuing, line),
         _ => false,
@@ -97,10 +107,10 @@ fn line_holds(class: CautionClass, continuing: bool, line: &[u8], next: &[u8]) -
 // Whether a physical line has the construct of a class and is no comment.
 fn is_marked(class: CautionClass, line: &PhysicalLine<'_>) -> bool
     ensures { result ≡ spec.is_marked class line.now.continuing line.now.bytes.now
-        line.now.next.now }
+        (first_line (cut line.now.after.now)) }
 {
     !is_comment_line(line.continuing, line.bytes)
-        && line_holds(class, line.continuing, line.bytes, line.next)
+        && line_holds(class, line.continuing, line.bytes, line.after)
 }
 
 // Appends the caution on a physical line, if it has the construct of the class and is no comment.
@@ -111,24 +121,13 @@ fn push_line(
     found: &mut Vec<Caution>,
 ) -> Result<(), AllocError>
     ensures { OnOk result (found.new.items ≡ found.old.items
-        ++ (if spec.is_marked class line.now.continuing line.now.bytes.now line.now.next.now
-        then caution_at class line.now.place ∷ [] else [])) }
+        ++ (if spec.is_marked class line.now.continuing line.now.bytes.now
+        (first_line (cut line.now.after.now)) then caution_at class line.now.place ∷ [] else [])) }
 {
     if is_marked(class, line) {
         found.push(Caution::on_line(alloc, class, line.place))?;
     }
     Ok(())
-}
-
-// Returns the first physical line of a text, and an empty one if the text has none.
-fn first_of(text: &[u8]) -> &[u8]
-    ensures { result.now ≡ first_line (cut text.now) }
-{
-    if text.is_empty() {
-        return &[];
-    }
-    let (line, _) = cut_first(text);
-    line
 }
 
 // Appends the cautions of a class on the physical lines of a file.
@@ -153,7 +152,7 @@ fn push_lines(
             place: Place { file, line: number },
             continuing,
             bytes,
-            next: first_of(after),
+            after,
         };
         push_line(alloc, class, &line, found)?;
         continuing = is_continued(continuing, bytes);
