@@ -75,7 +75,7 @@ class Classes(Shown):
     program = REVIEW
 
     def names_class(self, example: str, here: str, name: str) -> None:
-        """Fails where the program has no caution of a class on the policy that a cell shows; `here`: the file that it includes."""
+        """Fails where the program has no caution of a class on the policy that a cell shows; `here`: the file it includes."""
         self.write("p", INCLUDES.sub(r"\1", policy_of(example)))
         self.write_all(dict.fromkeys(INCLUDED.findall(here), ""))
         self.assertIn(f": caution: {name}: ", self.shown("cautions", "p"))
