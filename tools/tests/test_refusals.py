@@ -55,7 +55,8 @@ RUNS = {
     "no root": (TAGS, AUDIT.replace("users users", "users rootless"), 3),
 }
 REPORT = AUDIT.replace("audit", "report")
-MANY = "Defaults targetpw\nAlice ALL = /bin/ls [^-]*\\\n-l, /bin/cat a\\ \n@include i\n"
+MANY = "Defaults targetpw\nAlice ALL = /bin/ls [^-]*\\\n-l, /bin/cat a\\ \n #include \\i\n"
+MANY += '"al\\ice" web\\*, "web?", 0.0.0.0/0 = (:adm) SETENV: /opt/sudoedit, /opt/x [[.a.]], ALL\n'
 OF_REVIEW = {
     "no caution": (TAGS.replace("bin", "opt"), "cautions p", 0),
     "cautions of many classes": (MANY, "cautions p", 5),

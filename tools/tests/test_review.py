@@ -18,6 +18,8 @@ HEADER = [*"sender,number,user,host,runas_user,runas_group,command,arguments,ver
 AUDITED = REPORT.removeprefix("0 ").rstrip(";").split(",")
 CLASSES: dict[str, str] = read_table("cautions")["classes"]
 MARK = re.compile(r"\(`([a-z-]+)`\)$")
+INCLUDED = re.compile(r"^the file `/([^`]+)`")
+INCLUDES = re.compile(r"^( *[@#]include \"?)/")
 NOTICE = re.compile(r"(?:sudo_review: [1-9][0-9]* cautions \(([a-z, -]+)\)\n)?")
 
 
@@ -51,13 +53,13 @@ def classes_of_manual() -> dict[str, str]:
     return dict(re.findall(r"^\.TP\n\.B (.*)\n\.RS\n\.nf\n(.*)\n\.fi$", section, re.MULTILINE))
 
 
-def marked_rows() -> Iterator[tuple[str, str]]:
-    """Yields the example of each row of the profile that names a class, and the class."""
-    for first in ("Policy", "Policy and request"):
+def marked_rows() -> Iterator[tuple[str, str, str]]:
+    """Yields the example of each row of the profile that names a class, what it is here, and the class."""
+    for first in ("Policy", "Policy and request", "Rule and request of alice, who has the group `adm`"):
         for heading, cells in rows_of("docs/PROFILE.md", [first, "Here", "sudo"]):
             found = MARK.search(cells[1])
             if found or heading == "Defaults that decide":
-                yield cells[0], found[1] if found else "defaults"
+                yield cells[0], cells[1], found[1] if found else "defaults"
 
 
 def policy_of(cell: str) -> str:
@@ -72,9 +74,10 @@ class Classes(Shown):
 
     program = REVIEW
 
-    def names_class(self, cell: str, name: str) -> None:
-        """Fails where the program has no caution of a class on the policy that a cell shows."""
-        self.write("p", policy_of(cell))
+    def names_class(self, example: str, here: str, name: str) -> None:
+        """Fails where the program has no caution of a class on the policy that a cell shows; `here`: the file it includes."""
+        self.write("p", INCLUDES.sub(r"\1", policy_of(example)))
+        self.write_all(dict.fromkeys(INCLUDED.findall(here), ""))
         self.assertIn(f": caution: {name}: ", self.shown("cautions", "p"))
 
     def test_the_program(self) -> None:
@@ -96,18 +99,18 @@ class Classes(Shown):
 
     @needs_review
     def test_the_examples_of_the_page(self) -> None:
-        for _, (name, example, *_) in rows_of("docs/REVIEW.md", ["Class", "Example", "Here", "sudo"]):
+        for _, (name, example, here, _) in rows_of("docs/REVIEW.md", ["Class", "Example", "Here", "sudo"]):
             with self.subTest(example):
-                self.names_class(example, name.strip("`"))
+                self.names_class(example, here, name.strip("`"))
 
     def test_the_profile(self) -> None:
-        self.assertEqual({name for _, name in marked_rows()}, set(CLASSES))
+        self.assertEqual({name for _, _, name in marked_rows()}, set(CLASSES))
 
     @needs_review
     def test_the_examples_of_the_profile(self) -> None:
-        for example, name in marked_rows():
+        for example, here, name in marked_rows():
             with self.subTest(example):
-                self.names_class(example, name)
+                self.names_class(example, here, name)
 
 
 def rows_of_csv(text: str) -> list[list[str]]:

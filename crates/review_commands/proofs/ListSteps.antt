@@ -1,6 +1,6 @@
 -- Lists that a loop goes over, one item further.
-use Rattle.std.proofs.Common.{◌≡◌, ◌<◌, ◌+◌, ◌∙◌, ℕ, List, [], ◌∷◌, ◌++◌, ap, append-nil, arith, drop, flat_map, fold, get_or, length, map}
-use Rattle.std.proofs.Common.{suc, sym, take}
+use Rattle.std.proofs.Common.{◌≡◌, ◌<◌, ◌+◌, ◌∙◌, ℕ, List, [], ◌∷◌, ◌++◌, ap, append-nil, arith, drop, flat_map, fold}
+use Rattle.std.proofs.Common.{get_or, length, map, suc, sym, take}
 use Rattle.std.proofs.lemmas.Grind.{flat_map-append}
 use Rattle.std.proofs.lemmas.List.{drop_more, map-append}
 use lib.Seq.{take-suc}

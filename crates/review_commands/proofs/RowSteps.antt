@@ -9,7 +9,8 @@ unfolding fields_text
 fields_text-append [] ys = refl
 fields_text-append (x ∷ xs) ys =
     ap (λ (t : List ℕ). 44 ∷ (field_text default_writer x ++ t)) (fields_text-append xs ys)
-    ∙ ap (λ (t : List ℕ). 44 ∷ t) (sym (append_assoc (field_text default_writer x) (fields_text default_writer xs) (fields_text default_writer ys)))
+    ∙ ap (λ (t : List ℕ). 44 ∷ t)
+    (sym (append_assoc (field_text default_writer x) (fields_text default_writer xs) (fields_text default_writer ys)))
 
 -- the record of a first field and of others, the first of which is there
 line_text : (sender field : List ℕ) (rest : List (List ℕ))
@@ -28,7 +29,8 @@ pub row_of : (old one two three four new scratch sender field : List ℕ) (asker
 row_of old one two three four new scratch sender field asker asked verdict first is second third fourth end =
     let text : List (List ℕ) → List ℕ = fields_text default_writer in
     let all : text ((field ∷ asker) ++ (asked ++ verdict)) ≡ text (field ∷ asker) ++ (text asked ++ text verdict) =
-    fields_text-append (field ∷ asker) (asked ++ verdict) ∙ ap (λ (t : List ℕ). text (field ∷ asker) ++ t) (fields_text-append asked verdict) in
+    fields_text-append (field ∷ asker) (asked ++ verdict)
+    ∙ ap (λ (t : List ℕ). text (field ∷ asker) ++ t) (fields_text-append asked verdict) in
     let begun : one ≡ old ++ field_text default_writer sender = first ∙ ap (λ (t : List ℕ). old ++ t) is in
     end ∙ ap (λ (t : List ℕ). t ++ 10 ∷ []) (fourth ∙ ap (λ (t : List ℕ). t ++ text verdict)
     (third ∙ ap (λ (t : List ℕ). t ++ text asked) (second ∙ ap (λ (t : List ℕ). t ++ text (field ∷ asker)) begun)))
