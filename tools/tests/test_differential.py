@@ -89,6 +89,12 @@ class Drawn(unittest.TestCase):
         changed = [case.text for case in row.change(ask.Case(text))]
         self.assertEqual(changed, [one, one.replace("#5, zz", "#5, zz zz")])
 
+    def test_a_default_is_taken_out_with_its_value(self) -> None:
+        row = next(row for row in GRANTS if row.cell == "Defaults sudoers_locale=C.UTF-8")
+        case = ask.Case('Defaults sudoers_locale = "C.UTF-8", !syslog\nbob ALL = ALL # sudoers_locale=C\n')
+        text = "Defaults insults, !syslog\nbob ALL = ALL # sudoers_locale=C\n"
+        self.assertEqual(next(row.change(case)).text, text)
+
     def test_complements_are_written_as_both_read_them(self) -> None:
         row = next(row for row in GRANTS if row.cell == "alice ALL = /usr/bin/passwd [^-]*")
         case = ask.Case("a w[^b] = /[^c]/\\[^d [^e]\n")
@@ -208,6 +214,11 @@ class Sorted(Case):
     def test_an_escape_behind_a_mark_and_an_escaped_blank_of_a_path(self) -> None:
         request = Request("alice", "web1.example.org", "", "", "/proc/self/cwd/b/a b", "")
         self.assertEqual(self.sorted("alice ALL = /proc/self/cwd/b/a\\ [!\\*]\n", request), ["alice ALL = /bin/l!\\*"])
+
+    def test_an_explained_default_with_a_byte_in_its_value(self) -> None:
+        request = Request("alice", "web1.example.org", "", "", "/bin/ls", "")
+        text = "Defaults@web1 insults, runas_default=pos\x80tgres, !syslog\nalice ALL = /bin/ls\n"
+        self.assertEqual(self.sorted(text, request), ["Defaults runas_default=postgres"])
 
     def test_an_explained_file(self) -> None:
         self.assertEqual(self.sorted("alice ALL = ALL\nsha256 ALL = ALL\n"), ["sha256 ALL = ALL"])
