@@ -296,6 +296,22 @@ def _numbers_cut(piece: Piece) -> str:
     return "zz zz" if is_cut and _is_bad_number(piece) else _numbers_read(piece)
 
 
+def _has_escaped_digits(piece: Piece) -> bool:
+    """Returns whether a piece is an ID some of whose digits, but not the first one, are escaped."""
+    is_number = piece.role in ("user", "runas") and re.match(r"%?#[0-9]+\\", piece.text) is not None
+    return is_number and re.fullmatch("%?#[0-9]+", plain(piece.text)) is not None
+
+
+def _digits_joined(piece: Piece) -> str:
+    """Returns a piece without the escapes of the digits of an ID."""
+    return plain(piece.text) if _has_escaped_digits(piece) else piece.text
+
+
+def _digits_cut(piece: Piece) -> str:
+    """Returns a piece with a blank before the first escaped digit of an ID."""
+    return piece.text.replace("\\", " \\", 1) if _has_escaped_digits(piece) else piece.text
+
+
 def _aliases_like_tags(case: Case) -> Iterator[Case]:
     """Yields a case in which aliases that have the name of a tag have another."""
     names = {piece.text for piece in pieces_of(case.text) if piece.role == "name" and TAG.match(piece.text)}
@@ -480,6 +496,7 @@ FILES = (
     Row("alice #5 = ALL", swapped("*", "comment", "^#-?[0-9]+", " z ")),
     Row("a control byte, outside a comment", replaced(r"[\x00-\x08\x0b-\x1f\x7f]", "z", "", " z ")),
     Row("#4294967296", in_turn(pieces_changed(_numbers_read), pieces_changed(_numbers_cut))),
+    Row("#5\\4 = ALL", pieces_changed(_digits_cut)),
     Row("bo\\x2 ALL = ALL", swapped("*", WORDS + " value", rf"{EVEN}\\x(?![0-9A-Fa-f]{{2}})", r"\1z")),
     Row("alice 2001:db8::1 = ALL", replaced(r"[0-9A-Fa-f]*:[0-9A-Fa-f]*:[0-9A-Fa-f:.]*(/\w+)?", "zz", " zz ", "z zz ")),
     Row(
@@ -512,6 +529,7 @@ FILES = (
     Row("^a$ ALL = ALL", swapped(LISTS, "word", r"^\^", "z")),
     Row("10.1.2.3 ALL = ALL", swapped("user runas", "word", r"^[0-9.]+(/.*)?$", "zz")),
     Row("alice %adm = ALL", swapped("host", WORDS, r'^("?)%#?', r"\1z")),
+    Row("#5\\4 ALL = ALL", pieces_changed(_digits_joined)),
     Row("%#\\5 ALL = ALL", swapped("user runas", "word", r"^%#(?=\\)", "%")),
     Row("alice db,#5x = ALL", swapped("host", "word", "^#(?=[0-9]+[^0-9])", "z")),
     Row("alice ALL = /bin/ -l", replaced(r"/(?=[ \t]+[^\s,:#])", "/z")),

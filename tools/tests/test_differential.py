@@ -95,6 +95,15 @@ class Drawn(unittest.TestCase):
         text = "Defaults insults, !syslog\nbob ALL = ALL # sudoers_locale=C\n"
         self.assertEqual(next(row.change(case)).text, text)
 
+    def test_escaped_digits_of_numbers_alone_are_replaced(self) -> None:
+        case = ask.Case("#5\\4, %#5\\x34\\5, #5\\z, a5\\4, %#\\5, #54 a5\\4 = (#5\\4) /b5\\4\n")
+        joined = next(row for row in FILES if row.cell == "#5\\4 ALL = ALL")
+        text = "#54, %#545, #5\\z, a5\\4, %#\\5, #54 a5\\4 = (#54) /b5\\4\n"
+        self.assertEqual(next(joined.change(case)).text, text)
+        cut = next(row for row in FILES if row.cell == "#5\\4 = ALL")
+        case = ask.Case("%#5\\x34\\5, bob, a5\\4 = ALL\n")
+        self.assertEqual(next(cut.change(case)).text, "%#5 \\x34\\5, bob, a5\\4 = ALL\n")
+
     def test_complements_are_written_as_both_read_them(self) -> None:
         row = next(row for row in GRANTS if row.cell == "alice ALL = /usr/bin/passwd [^-]*")
         case = ask.Case("a w[^b] = /[^c]/\\[^d [^e]\n")
