@@ -464,6 +464,8 @@ def _blank_behind_a_backslash(found: re.Match[str]) -> str:
     return f"{found[1]}\\x20\n" if is_behind_a_word else f"{found[1]} "
 
 
+# An include line that continues no other line, up to the end of its path, which has no quotes around it.
+INCLUDED_PATH = r"(?<!\\\n)^((?:[ \t]*@|#)include(?:dir)?[ \t]+(?:\\[^\r\n]|[^\s\"\\])(?:\\[^\r\n]|[^\s\\])*)"
 OPEN_QUOTE = r'(?:[^"\n]*"[^"\n]*")*[^"\n]*"[^"\n]*?'
 BYTE_OF_WORD = r"(?:\\[^\t\n]|[^\s!,:=()#\"\\>])"
 OPTION_VALUE = rf"/(?:\\[,:= \t#]|[^\s,:=#\\])+|{BYTE_OF_WORD}+"
@@ -481,6 +483,7 @@ FILES = (
     BLANK_BEFORE_INCLUDE,
     Row('@include /x/a"b"', _quotes_in_included_paths),
     Row("@includedir,x", replaced(r"^([ \t]*@includedir)(?=[^\s\\])", r"\1 ")),
+    Row("@includedir /x\\", replaced(rf"{INCLUDED_PATH}\\(?=\r?\n)", r"\1z")),
     Row("@include /x/a\\x62", swapped("include", "word path", r"\\x([0-9A-Fa-f]{2})", _byte)),
     Row('@include "/x/a\\x62"', swapped("include", "quoted", r"\\(?:x([0-9A-Fa-f]{2})|([^\"]))", _byte)),
     Row(

@@ -119,6 +119,12 @@ class Drawn(unittest.TestCase):
         self.assertEqual([piece.role for piece in pieces if piece.text in ("d", "e")], ["user", "host"])
         self.assertIn('"f\\\n g"', [piece.text for piece in pieces])
 
+    def test_a_backslash_behind_the_path_of_an_include_line_ends_it(self) -> None:
+        row = next(row for row in FILES if row.cell == "@includedir /x\\")
+        case = ask.Case("@includedir x\\\\\\\nbob a\\\nb = ALL\n@includedir \\\nx\\\\\n")
+        text = "@includedir x\\\\z\nbob a\\\nb = ALL\n@includedir \\\nx\\\\\n"
+        self.assertEqual(next(row.change(case)).text, text)
+
     def test_backslashes_that_escape_one_another_join_no_lines(self) -> None:
         row = next(row for row in FILES if row.cell == "alice\\")
         case = ask.Case("a\\\\\nb\\\\\\\n c\n")
