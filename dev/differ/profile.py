@@ -466,6 +466,8 @@ def _blank_behind_a_backslash(found: re.Match[str]) -> str:
 
 # An include line that continues no other line, up to the end of its path, which has no quotes around it.
 INCLUDED_PATH = r"(?<!\\\n)^((?:[ \t]*@|#)include(?:dir)?[ \t]+(?:\\[^\r\n]|[^\s\"\\])(?:\\[^\r\n]|[^\s\\])*)"
+# A command with its arguments.
+COMMAND = r"(?:/(?:\\[^\r\n]|[^\s,:=#\\])*|sudoedit|\^[^\s#]*\$)(?:[ \t]+(?:\\[^\r\n]|[^\s,:#\\])+)*"
 OPEN_QUOTE = r'(?:[^"\n]*"[^"\n]*")*[^"\n]*"[^"\n]*?'
 BYTE_OF_WORD = r"(?:\\[^\t\n]|[^\s!,:=()#\"\\>])"
 OPTION_VALUE = rf"/(?:\\[,:= \t#]|[^\s,:=#\\])+|{BYTE_OF_WORD}+"
@@ -482,6 +484,8 @@ FILES = (
     Row("#includedir", replaced(r"^[ \t]*#include(dir)?[ \t]*$", "# x")),
     BLANK_BEFORE_INCLUDE,
     Row('@include /x/a"b"', _quotes_in_included_paths),
+    Row("a line of a command alone, with CR LF at the end", replaced(rf"(?<!\\\n)^[ \t]*{COMMAND}[ \t]*\r$", "")),
+    Row("a name, a backslash and CR LF, and then a rule", swapped(LISTS, "word", rf"{EVEN}\\\r\Z", r"\1z")),
     Row("@includedir,x", replaced(r"^([ \t]*@includedir)(?=[^\s\\])", r"\1 ")),
     Row("@includedir /x\\", replaced(rf"{INCLUDED_PATH}\\(?=\r?\n)", r"\1z")),
     Row("@include /x/a\\x62", swapped("include", "word path", r"\\x([0-9A-Fa-f]{2})", _byte)),

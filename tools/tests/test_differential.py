@@ -125,6 +125,16 @@ class Drawn(unittest.TestCase):
         text = "@includedir x\\\\z\nbob a\\\nb = ALL\n@includedir \\\nx\\\\\n"
         self.assertEqual(next(row.change(case)).text, text)
 
+    def test_carriage_returns_are_taken_out_by_their_places(self) -> None:
+        row = next(row for row in FILES if row.cell == "a name, a backslash and CR LF, and then a rule")
+        case = ask.Case("Runas_Alias A = !%\\\r\n\nbob ALL = ALL,\\\r\n ALL\r\n")
+        text = "Runas_Alias A = !%z\n\nbob ALL = ALL,\\\r\n ALL\r\n"
+        self.assertEqual(next(row.change(case)).text, text)
+        row = next(row for row in FILES if row.cell == "a line of a command alone, with CR LF at the end")
+        case = ask.Case("/u -l\r\nsudoedit\r\n/u, /v\r\nbob ALL = ALL, \\\n/u\r\n/u\n/u\r")
+        text = "\n\n/u, /v\r\nbob ALL = ALL, \\\n/u\r\n/u\n"
+        self.assertEqual(next(row.change(case)).text, text)
+
     def test_backslashes_that_escape_one_another_join_no_lines(self) -> None:
         row = next(row for row in FILES if row.cell == "alice\\")
         case = ask.Case("a\\\\\nb\\\\\\\n c\n")
