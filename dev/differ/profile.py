@@ -25,6 +25,11 @@ def _byte(found: re.Match[str]) -> str:
     return chr(int(found[1], 16)) if found[1] else found[2]
 
 
+def _byte_of_pattern(found: re.Match[str]) -> str:
+    """Returns the byte that a found escape of a host's pattern stands for, a letter in place of a backslash."""
+    return _byte(found).replace("\\", "z")
+
+
 def _known(name: str, names: set[str]) -> str | None:
     """Returns the known name that differs from a name in letter case alone."""
     said = name.encode(world.ENCODING).lower()
@@ -402,11 +407,14 @@ GRANTS = (
     Row('alice "web?" = ALL', swapped("host", "quoted", r"[*?\[\]]", "z")),
     Row(
         "alice web\\* = ALL",
-        swapped(
-            "host",
-            WORDS,
-            r"\\x(?:2[aAdD]|3[fF]|5[bBdDeE])|\\(?=[*?\[\]^\\-])",
-            lambda found: chr(int(found[0][2:], 16)) if len(found[0]) > 1 else "",
+        in_turn(
+            swapped(
+                "host",
+                WORDS,
+                r"\\x(?:2[aAdD]|3[fF]|5[bBdDeE])|\\(?=[*?\[\]^\\-])",
+                lambda found: chr(int(found[0][2:], 16)) if len(found[0]) > 1 else "",
+            ),
+            swapped("host", WORDS, r"\\x(2[aAdD]|3[fF]|5[b-eB-E])|\\([*?\[\]^\\-])", _byte_of_pattern),
         ),
     ),
     Row(

@@ -109,6 +109,11 @@ class Drawn(unittest.TestCase):
         case = ask.Case("a w[^b] = /[^c]/\\[^d [^e]\n")
         self.assertEqual(next(row.change(case)).text, "a w[\\!b] = /[!c]/\\[^d [!e]\n")
 
+    def test_backslashes_in_pairs_are_taken_out_of_hosts_together(self) -> None:
+        row = next(row for row in GRANTS if row.cell == "alice web\\* = ALL")
+        *_, case = row.change(ask.Case("a b[\\\\\\,\\\\x-z], c\\\\d, e\\*\\x5cf\\g = /h\\\\i\n"))
+        self.assertEqual(case.text, "a b[z\\,zx-z], czd, e*zf\\g = /h\\\\i\n")
+
     def test_a_blank_behind_a_backslash_is_read_by_its_place(self) -> None:
         row = next(row for row in FILES if row.cell.startswith("Cmnd_Alias A = /bin/ls, "))
         *_, case = row.change(ask.Case("Host_Alias A = web1, b\\ \nalice, bob A, \\  \n web2 = ALL\n"))
