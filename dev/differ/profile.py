@@ -236,7 +236,7 @@ def _parameters(name: str) -> Callable[[Case], Iterator[Case]]:
         inside = False
         for piece in pieces_of(text):
             is_own = piece.role == "parameter" and piece.kind not in ("blank", "join", "newline", "comment")
-            if not is_own or piece.text in (",", "!"):
+            if not is_own or piece.kind == "mark" and piece.text in (",", "!"):
                 inside = inside and piece.text != "," and piece.kind in ("blank", "join")
                 out.append("" if inside else piece.text)
             elif not inside:
@@ -530,6 +530,7 @@ FILES = (
     Row("Runas_Alias A = B", _undefined),
     # Read here, refused by sudo.
     Row("alice ALL = /bin/ls", replaced(r"\r$", "")),
+    Row("Defaults badpass_message=!x", swapped("parameter", "value", "[=!]", "z")),
     Row("Defaults nonsense", _parameters("[a-z_]+")),
     Row("alice ALL = /bin/ls ^-l", replaced(r"(?<=[ \t])\^", "z")),
     Row("alice ALL = /", swapped("cmnd", "path", r"^/$", "/z/")),

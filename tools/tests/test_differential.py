@@ -109,6 +109,11 @@ class Drawn(unittest.TestCase):
         case = ask.Case("a w[^b] = /[^c]/\\[^d [^e]\n")
         self.assertEqual(next(row.change(case)).text, "a w[\\!b] = /[!c]/\\[^d [!e]\n")
 
+    def test_a_value_may_be_a_sign(self) -> None:
+        row = next(row for row in FILES if row.cell == "Defaults nonsense")
+        case = ask.Case("Defaults!ALL passwd_tries=!, ! umask = =x, lecture\n")
+        self.assertEqual(next(row.change(case)).text, "Defaults!ALL insults, ! insults, insults\n")
+
     def test_backslashes_in_pairs_are_taken_out_of_hosts_together(self) -> None:
         row = next(row for row in GRANTS if row.cell == "alice web\\* = ALL")
         *_, case = row.change(ask.Case("a b[\\\\\\,\\\\x-z], c\\\\d, e\\*\\x5cf\\g = /h\\\\i\n"))
