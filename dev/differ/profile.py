@@ -25,6 +25,11 @@ def _byte(found: re.Match[str]) -> str:
     return chr(int(found[1], 16)) if found[1] else found[2]
 
 
+def _byte_of_pattern(found: re.Match[str]) -> str:
+    """Returns the byte that a found escape of a host's pattern stands for, a letter in place of a backslash."""
+    return _byte(found).replace("\\", "z")
+
+
 def _known(name: str, names: set[str]) -> str | None:
     """Returns the known name that differs from a name in letter case alone."""
     said = name.encode(world.ENCODING).lower()
@@ -231,7 +236,7 @@ def _parameters(name: str) -> Callable[[Case], Iterator[Case]]:
         inside = False
         for piece in pieces_of(text):
             is_own = piece.role == "parameter" and piece.kind not in ("blank", "join", "newline", "comment")
-            if not is_own or piece.text in (",", "!"):
+            if not is_own or piece.kind == "mark" and piece.text in (",", "!"):
                 inside = inside and piece.text != "," and piece.kind in ("blank", "join")
                 out.append("" if inside else piece.text)
             elif not inside:
@@ -294,6 +299,22 @@ def _numbers_cut(piece: Piece) -> str:
     """Returns a piece with a name in place of a bad number, and with two in place of an ID with letters behind it."""
     is_cut = re.match(r"%?#-?[0-9]+[^0-9]", piece.text) is not None
     return "zz zz" if is_cut and _is_bad_number(piece) else _numbers_read(piece)
+
+
+def _has_escaped_digits(piece: Piece) -> bool:
+    """Returns whether a piece is an ID some of whose digits, but not the first one, are escaped."""
+    is_number = piece.role in ("user", "runas") and re.match(r"%?#[0-9]+\\", piece.text) is not None
+    return is_number and re.fullmatch("%?#[0-9]+", plain(piece.text)) is not None
+
+
+def _digits_joined(piece: Piece) -> str:
+    """Returns a piece without the escapes of the digits of an ID."""
+    return plain(piece.text) if _has_escaped_digits(piece) else piece.text
+
+
+def _digits_cut(piece: Piece) -> str:
+    """Returns a piece with a blank before the first escaped digit of an ID."""
+    return piece.text.replace("\\", " \\", 1) if _has_escaped_digits(piece) else piece.text
 
 
 def _aliases_like_tags(case: Case) -> Iterator[Case]:
@@ -386,11 +407,14 @@ GRANTS = (
     Row('alice "web?" = ALL', swapped("host", "quoted", r"[*?\[\]]", "z")),
     Row(
         "alice web\\* = ALL",
-        swapped(
-            "host",
-            WORDS,
-            r"\\x(?:2[aAdD]|3[fF]|5[bBdDeE])|\\(?=[*?\[\]^\\-])",
-            lambda found: chr(int(found[0][2:], 16)) if len(found[0]) > 1 else "",
+        in_turn(
+            swapped(
+                "host",
+                WORDS,
+                r"\\x(?:2[aAdD]|3[fF]|5[bBdDeE])|\\(?=[*?\[\]^\\-])",
+                lambda found: chr(int(found[0][2:], 16)) if len(found[0]) > 1 else "",
+            ),
+            swapped("host", WORDS, r"\\x(2[aAdD]|3[fF]|5[b-eB-E])|\\([*?\[\]^\\-])", _byte_of_pattern),
         ),
     ),
     Row(
@@ -428,9 +452,9 @@ GRANTS = (
         ),
     ),
     Row("alice ALL = /opt/*", where(_asks_for(world.GONE), swapped("cmnd", "path", r".*[*?\[].*|.*/$", "/nowhere"))),
-    Row("Defaults runas_default=postgres", replaced(r"runas_default[ \t]*=[ \t]*postgres", "insults")),
+    Row("Defaults runas_default=postgres", _parameters("runas_default")),
     Row("Defaults fast_glob", replaced(r"fast_glob", "insults")),
-    Row("Defaults sudoers_locale=C.UTF-8", replaced(r"sudoers_locale[ \t]*=[ \t]*C.UTF-8", "insults")),
+    Row("Defaults sudoers_locale=C.UTF-8", _parameters("sudoers_locale")),
     Row("alice ALL = /bin/id", _group_beside_root),
     Row("(operator) /bin/id", _group_alone),
     Row("alice ALL = (!alice:adm) /bin/id", _denied_oneself),
@@ -448,6 +472,10 @@ def _blank_behind_a_backslash(found: re.Match[str]) -> str:
     return f"{found[1]}\\x20\n" if is_behind_a_word else f"{found[1]} "
 
 
+# An include line that continues no other line, up to the end of its path, which has no quotes around it.
+INCLUDED_PATH = r"(?<!\\\n)^((?:[ \t]*@|#)include(?:dir)?[ \t]+(?:\\[^\r\n]|[^\s\"\\])(?:\\[^\r\n]|[^\s\\])*)"
+# A command with its arguments.
+COMMAND = r"(?:/(?:\\[^\r\n]|[^\s,:=#\\])*|sudoedit|\^[^\s#]*\$)(?:[ \t]+(?:\\[^\r\n]|[^\s,:#\\])+)*"
 OPEN_QUOTE = r'(?:[^"\n]*"[^"\n]*")*[^"\n]*"[^"\n]*?'
 BYTE_OF_WORD = r"(?:\\[^\t\n]|[^\s!,:=()#\"\\>])"
 OPTION_VALUE = rf"/(?:\\[,:= \t#]|[^\s,:=#\\])+|{BYTE_OF_WORD}+"
@@ -464,7 +492,10 @@ FILES = (
     Row("#includedir", replaced(r"^[ \t]*#include(dir)?[ \t]*$", "# x")),
     BLANK_BEFORE_INCLUDE,
     Row('@include /x/a"b"', _quotes_in_included_paths),
+    Row("a line of a command alone, with CR LF at the end", replaced(rf"(?<!\\\n)^[ \t]*{COMMAND}[ \t]*\r$", "")),
+    Row("a name, a backslash and CR LF, and then a rule", swapped(LISTS, "word", rf"{EVEN}\\\r\Z", r"\1z")),
     Row("@includedir,x", replaced(r"^([ \t]*@includedir)(?=[^\s\\])", r"\1 ")),
+    Row("@includedir /x\\", replaced(rf"{INCLUDED_PATH}\\(?=\r?\n)", r"\1z")),
     Row("@include /x/a\\x62", swapped("include", "word path", r"\\x([0-9A-Fa-f]{2})", _byte)),
     Row('@include "/x/a\\x62"', swapped("include", "quoted", r"\\(?:x([0-9A-Fa-f]{2})|([^\"]))", _byte)),
     Row(
@@ -480,6 +511,7 @@ FILES = (
     Row("alice #5 = ALL", swapped("*", "comment", "^#-?[0-9]+", " z ")),
     Row("a control byte, outside a comment", replaced(r"[\x00-\x08\x0b-\x1f\x7f]", "z", "", " z ")),
     Row("#4294967296", in_turn(pieces_changed(_numbers_read), pieces_changed(_numbers_cut))),
+    Row("#5\\4 = ALL", pieces_changed(_digits_cut)),
     Row("bo\\x2 ALL = ALL", swapped("*", WORDS + " value", rf"{EVEN}\\x(?![0-9A-Fa-f]{{2}})", r"\1z")),
     Row("alice 2001:db8::1 = ALL", replaced(r"[0-9A-Fa-f]*:[0-9A-Fa-f]*:[0-9A-Fa-f:.]*(/\w+)?", "zz", " zz ", "z zz ")),
     Row(
@@ -498,6 +530,7 @@ FILES = (
     Row("Runas_Alias A = B", _undefined),
     # Read here, refused by sudo.
     Row("alice ALL = /bin/ls", replaced(r"\r$", "")),
+    Row("Defaults badpass_message=!x", swapped("parameter", "value", "[=!]", "z")),
     Row("Defaults nonsense", _parameters("[a-z_]+")),
     Row("alice ALL = /bin/ls ^-l", replaced(r"(?<=[ \t])\^", "z")),
     Row("alice ALL = /", swapped("cmnd", "path", r"^/$", "/z/")),
@@ -512,6 +545,7 @@ FILES = (
     Row("^a$ ALL = ALL", swapped(LISTS, "word", r"^\^", "z")),
     Row("10.1.2.3 ALL = ALL", swapped("user runas", "word", r"^[0-9.]+(/.*)?$", "zz")),
     Row("alice %adm = ALL", swapped("host", WORDS, r'^("?)%#?', r"\1z")),
+    Row("#5\\4 ALL = ALL", pieces_changed(_digits_joined)),
     Row("%#\\5 ALL = ALL", swapped("user runas", "word", r"^%#(?=\\)", "%")),
     Row("alice db,#5x = ALL", swapped("host", "word", "^#(?=[0-9]+[^0-9])", "z")),
     Row("alice ALL = /bin/ -l", replaced(r"/(?=[ \t]+[^\s,:#])", "/z")),

@@ -89,10 +89,35 @@ class Drawn(unittest.TestCase):
         changed = [case.text for case in row.change(ask.Case(text))]
         self.assertEqual(changed, [one, one.replace("#5, zz", "#5, zz zz")])
 
+    def test_a_default_is_taken_out_with_its_value(self) -> None:
+        row = next(row for row in GRANTS if row.cell == "Defaults sudoers_locale=C.UTF-8")
+        case = ask.Case('Defaults sudoers_locale = "C.UTF-8", !syslog\nbob ALL = ALL # sudoers_locale=C\n')
+        text = "Defaults insults, !syslog\nbob ALL = ALL # sudoers_locale=C\n"
+        self.assertEqual(next(row.change(case)).text, text)
+
+    def test_escaped_digits_of_numbers_alone_are_replaced(self) -> None:
+        case = ask.Case("#5\\4, %#5\\x34\\5, #5\\z, a5\\4, %#\\5, #54 a5\\4 = (#5\\4) /b5\\4\n")
+        joined = next(row for row in FILES if row.cell == "#5\\4 ALL = ALL")
+        text = "#54, %#545, #5\\z, a5\\4, %#\\5, #54 a5\\4 = (#54) /b5\\4\n"
+        self.assertEqual(next(joined.change(case)).text, text)
+        cut = next(row for row in FILES if row.cell == "#5\\4 = ALL")
+        case = ask.Case("%#5\\x34\\5, bob, a5\\4 = ALL\n")
+        self.assertEqual(next(cut.change(case)).text, "%#5 \\x34\\5, bob, a5\\4 = ALL\n")
+
     def test_complements_are_written_as_both_read_them(self) -> None:
         row = next(row for row in GRANTS if row.cell == "alice ALL = /usr/bin/passwd [^-]*")
         case = ask.Case("a w[^b] = /[^c]/\\[^d [^e]\n")
         self.assertEqual(next(row.change(case)).text, "a w[\\!b] = /[!c]/\\[^d [!e]\n")
+
+    def test_a_value_may_be_a_sign(self) -> None:
+        row = next(row for row in FILES if row.cell == "Defaults nonsense")
+        case = ask.Case("Defaults!ALL passwd_tries=!, ! umask = =x, lecture\n")
+        self.assertEqual(next(row.change(case)).text, "Defaults!ALL insults, ! insults, insults\n")
+
+    def test_backslashes_in_pairs_are_taken_out_of_hosts_together(self) -> None:
+        row = next(row for row in GRANTS if row.cell == "alice web\\* = ALL")
+        *_, case = row.change(ask.Case("a b[\\\\\\,\\\\x-z], c\\\\d, e\\*\\x5cf\\g = /h\\\\i\n"))
+        self.assertEqual(case.text, "a b[z\\,zx-z], czd, e*zf\\g = /h\\\\i\n")
 
     def test_a_blank_behind_a_backslash_is_read_by_its_place(self) -> None:
         row = next(row for row in FILES if row.cell.startswith("Cmnd_Alias A = /bin/ls, "))
@@ -103,6 +128,22 @@ class Drawn(unittest.TestCase):
         pieces = pieces_of('a b = /c"\nd e = "f\\\n g" # h\n')
         self.assertEqual([piece.role for piece in pieces if piece.text in ("d", "e")], ["user", "host"])
         self.assertIn('"f\\\n g"', [piece.text for piece in pieces])
+
+    def test_a_backslash_behind_the_path_of_an_include_line_ends_it(self) -> None:
+        row = next(row for row in FILES if row.cell == "@includedir /x\\")
+        case = ask.Case("@includedir x\\\\\\\nbob a\\\nb = ALL\n@includedir \\\nx\\\\\n")
+        text = "@includedir x\\\\z\nbob a\\\nb = ALL\n@includedir \\\nx\\\\\n"
+        self.assertEqual(next(row.change(case)).text, text)
+
+    def test_carriage_returns_are_taken_out_by_their_places(self) -> None:
+        row = next(row for row in FILES if row.cell == "a name, a backslash and CR LF, and then a rule")
+        case = ask.Case("Runas_Alias A = !%\\\r\n\nbob ALL = ALL,\\\r\n ALL\r\n")
+        text = "Runas_Alias A = !%z\n\nbob ALL = ALL,\\\r\n ALL\r\n"
+        self.assertEqual(next(row.change(case)).text, text)
+        row = next(row for row in FILES if row.cell == "a line of a command alone, with CR LF at the end")
+        case = ask.Case("/u -l\r\nsudoedit\r\n/u, /v\r\nbob ALL = ALL, \\\n/u\r\n/u\n/u\r")
+        text = "\n\n/u, /v\r\nbob ALL = ALL, \\\n/u\r\n/u\n"
+        self.assertEqual(next(row.change(case)).text, text)
 
     def test_backslashes_that_escape_one_another_join_no_lines(self) -> None:
         row = next(row for row in FILES if row.cell == "alice\\")
@@ -208,6 +249,11 @@ class Sorted(Case):
     def test_an_escape_behind_a_mark_and_an_escaped_blank_of_a_path(self) -> None:
         request = Request("alice", "web1.example.org", "", "", "/proc/self/cwd/b/a b", "")
         self.assertEqual(self.sorted("alice ALL = /proc/self/cwd/b/a\\ [!\\*]\n", request), ["alice ALL = /bin/l!\\*"])
+
+    def test_an_explained_default_with_a_byte_in_its_value(self) -> None:
+        request = Request("alice", "web1.example.org", "", "", "/bin/ls", "")
+        text = "Defaults@web1 insults, runas_default=pos\x80tgres, !syslog\nalice ALL = /bin/ls\n"
+        self.assertEqual(self.sorted(text, request), ["Defaults runas_default=postgres"])
 
     def test_an_explained_file(self) -> None:
         self.assertEqual(self.sorted("alice ALL = ALL\nsha256 ALL = ALL\n"), ["sha256 ALL = ALL"])
