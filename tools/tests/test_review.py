@@ -66,7 +66,7 @@ def policy_of(cell: str) -> str:
     """Returns the policy that a cell shows: its lines, or the first text that it shows."""
     lines = CODE.findall(cell)
     text = "\n".join(lines if cell.startswith("lines ") else lines[:1])
-    return text + ("\r\n" if "with CR LF" in cell else "\n")
+    return text + ("\r\n" if "with CR LF" in cell else "\n") + ("\n" if "and an empty line" in cell else "")
 
 
 class Classes(Shown):
