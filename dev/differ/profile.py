@@ -370,7 +370,7 @@ def _target_number(case: Case) -> Iterator[Case]:
                 yield case._replace(request=case.request._replace(runas_user=user.name))
 
 
-BLANK_BEFORE_INCLUDE = Row("#include /etc/x", replaced(r"^[ \t]+#include", "# include"))
+BLANK_BEFORE_INCLUDE = Row(" #include /etc/x", replaced(r"^[ \t]+#include", "# include"))
 GRANTS = (
     Row(
         "alice ALL = NOSETENV: /bin/ls, ALL, /bin/cat", _if_said(r"SETENV[ \t]*:(?:.*\\\n)*.*\bALL\b"), _without_setenv
