@@ -67,17 +67,17 @@ class Outputs(Case):
         self.assertEqual((self.read("victim"), self.read("b")), ("victim", "new"))
 
     def test_a_folder_that_others_can_write_is_refused_by_name(self) -> None:
-        os.makedirs(self.path("open", "work"))
+        os.makedirs(self.path("open", "inner"))
         os.chmod(self.path("open"), 0o777)
-        for path in (self.path("open"), self.path("open", "work"), self.path("open", "none")):
+        for path in (self.path("open"), self.path("open", "inner"), self.path("open", "none")):
             with self.assertRaisesRegex(Fault, r"open can be written by other users: take that from them \(chmod"):
                 outputs.folder(path)
         with self.assertRaisesRegex(Fault, "open can be written"):
-            self.put("open/work/a")
-        os.symlink(self.path("open", "work"), self.path("link"))
+            self.put("open/inner/a")
+        os.symlink(self.path("open", "inner"), self.path("link"))
         with self.assertRaisesRegex(Fault, "open can be written"):
             outputs.folder(self.path("link"))
-        self.assertEqual(os.listdir(self.path("open")), ["work"])
+        self.assertEqual(os.listdir(self.path("open")), ["inner"])
 
     @needs_root
     def test_a_folder_of_another_user_is_refused_by_name(self) -> None:

@@ -14,7 +14,8 @@ use sudo_grammar::{TAG_PAIRS, Tag, TagPair};
 use sudo_match::{Tags, Verdict, What};
 use sudo_text::Seq;
 
-/// Returns the word for a verdict: `allow`, `deny`, `nomatch`, or `unknown-` and what is unknown.
+/// Returns the report's word for a verdict: `allow`, `deny` or `nomatch`, or `unknown-user`, `unknown-host`,
+/// `unknown-target` or `unknown-group`.
 pub fn verdict_word(verdict: &Verdict) -> &'static [u8]
     ensures { result.now ≡ word_of verdict.now }
 {

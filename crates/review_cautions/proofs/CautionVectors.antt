@@ -71,7 +71,7 @@ include_indent : text_cautions IncludeIndent ((codes "  #include /x/a" ++ 10 ∷
     ∷ codes " # include /x/a") ∷ []) ≡ caution_at IncludeIndent (place 0 1) ∷ []
 include_indent = refl
 
--- an include directive on a line that continues another is none
+-- a continuation line is never an include line
 include_continued : text_cautions IncludeIndent ((codes "alice ALL = ALL, \\" ++ 10 ∷ codes "  #include /x/a") ∷ []) ≡ []
 include_continued = refl
 

@@ -28,7 +28,7 @@ abbrev pub has_value : List ℕ → Bool
 has_value name = list_any (bytes_eq name) (codes "runas_default" ∷ codes "exempt_group" ∷ codes "group_plugin"
     ∷ codes "sudoers_locale" ∷ codes "runchroot" ∷ [])
 
--- a switch that differs from the default: the flag is turned on, or else off
+-- a switch that departs from the default: `true` turns the flag on, `false` turns it off
 abbrev pub switch_decides : Bool → List ℕ → Bool
 switch_decides true name = is_off_flag name || is_either_flag name || has_value name
 switch_decides false name = is_on_flag name || is_either_flag name

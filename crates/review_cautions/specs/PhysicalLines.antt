@@ -106,7 +106,7 @@ line_holds IncludeEscape continuing line next = is_escaped_include continuing (s
 line_holds IncludeIndent continuing line next = is_indented_include continuing line
 line_holds _ continuing line next = false
 
--- the line is a comment; a line that continues another is none
+-- the line is a comment; a continuation line never is
 abbrev pub is_remark : Bool → List ℕ → Bool
 is_remark continuing line = not continuing && is_comment (stripped line)
 
@@ -114,7 +114,7 @@ is_remark continuing line = not continuing && is_comment (stripped line)
 abbrev pub is_marked : CautionClass → Bool → List ℕ → List ℕ → Bool
 is_marked class continuing line next = not (is_remark continuing line) && line_holds class continuing line next
 
--- the first of the lines, and an empty one if there is none
+-- the first line, or an empty line if the list is empty
 abbrev pub first_line : List (List ℕ) → List ℕ
 first_line [] = []
 first_line (line ∷ rest) = line

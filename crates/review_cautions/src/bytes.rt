@@ -108,7 +108,7 @@ pub(crate) fn strip(line: &[u8]) -> &[u8]
     &line[blank_count(line)..]
 }
 
-// Returns the offset of the first newline, or the length if there is none.
+// Returns the offset of the first newline, or the length of a text without newlines.
 #[tactic(auto, using(sudo_text::proofs::Newlines::newline_at))]
 fn line_end(text: &[u8]) -> usize
     ensures at { result ≡ length (take_while (λ b. not (b == 10)) text.now) }

@@ -84,8 +84,8 @@ fn cautions_output<F: Files>(
 /// Prints on `out` one line for each construct of the policy of a file that sudo reads or judges otherwise, but for those of
 /// the classes in `without`, and a last line with their number.
 ///
-/// Returns the exit status: 0 if there is none; 5 if there is one; 1 if the policy is refused; 4 if reading, writing or memory
-/// failed. Prints a fault as one line on `err`; then nothing was printed on `out`, except by a write that failed part way.
+/// Returns the exit status: 0 without such a line, 5 with one or more, 1 if the policy is refused, 4 if reading, writing or
+/// memory failed. Prints a fault as one line on `err`; then nothing was printed on `out`, except by a write that failed part way.
 pub fn cautions_run<F: Files, O: Sink, E: Sink>(
     alloc: Global,
     path: &[u8],

@@ -7,7 +7,7 @@ use std::alloc::{AllocError, Global};
 use sudo_load::Supply;
 use sudo_text::Seq;
 
-// Returns the text of the file at a path, empty if it is missing, if this is its supply.
+// Returns the text of the file at a path if this is its supply: an empty text for a missing file.
 fn text_in<'a>(supply: &'a Supply, path: &[u8]) -> Option<&'a [u8]>
     ensures { option_map (λ t. t.now) result
         ≡ option_map (λ t. unwrap_or t []) (file_in path.now supply.now) }
@@ -26,7 +26,7 @@ fn text_in<'a>(supply: &'a Supply, path: &[u8]) -> Option<&'a [u8]>
     }
 }
 
-// Returns the text of the file at a path among the supplies, empty if there is none.
+// Returns the text of the file at a path among the supplies, or an empty text if no supply has that file.
 fn supplied<'a>(supplies: &'a [Supply], path: &Seq<u8>) -> &'a [u8]
     ensures { result.now ≡ text_at supplies.now path.now }
 {

@@ -13,7 +13,7 @@ use std::alloc::{AllocError, Global};
 use sudo_match::{Request, Verdict};
 use sudo_text::Seq;
 
-// Returns the bytes of a target, none if it is not asked for.
+// Returns the bytes of a target, or no bytes where no target is asked for.
 fn asked_bytes(target: &Option<Seq<u8>>) -> &[u8]
     ensures { result.now ≡ unwrap_or target.now [] }
 {
