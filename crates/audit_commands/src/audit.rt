@@ -23,8 +23,11 @@ use sudo_match::{DirFault, Directory};
 use sudo_policy::Checked;
 use sudo_text::Seq;
 
-// Reads the users and the hosts, and returns the directory of both.
-fn directory_of<U: Feed, H: Feed>(
+/// Reads the users and the hosts, and returns the directory of both.
+///
+/// Returns `Users` if the users are refused, `Hosts` if the hosts are, `Both` if both together are, and `Memory` if allocation
+/// failed.
+pub fn directory_of<U: Feed, H: Feed>(
     alloc: Global,
     users: &mut U,
     hosts: &mut H,

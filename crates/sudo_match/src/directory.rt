@@ -83,6 +83,20 @@ impl Directory {
         let _people = &self.people;
     }
 
+    /// Returns the known users, in the order of their rows.
+    pub fn people(&self) -> &[Person]
+        ensures { result.now ≡ self.now.people }
+    {
+        self.people.as_slice()
+    }
+
+    /// Returns the known hosts, in the order of their rows.
+    pub fn machines(&self) -> &[Machine]
+        ensures { result.now ≡ self.now.machines }
+    {
+        self.machines.as_slice()
+    }
+
     /// Returns the user of this name, or `None` if there is none. Does not allocate.
     pub fn user(&self, name: &[u8]) -> Option<&Person>
         ensures { option_copied result ≡ user_named self.now name.now }

@@ -12,6 +12,6 @@ mod tags;
 
 pub use index::{Budget, RuleIndex};
 pub use listing::{Asker, allows_runas, lists_host, lists_user};
-pub use search::verdict;
+pub use search::{runas_before_end, verdict};
 pub use sudo_match::{Request, Tags, Verdict, What};
 pub use tags::tags_before_end;

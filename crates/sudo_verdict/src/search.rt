@@ -263,7 +263,7 @@ pub(crate) fn verdict_at(place: Place, commands: &[CommandSpec], decision: Decis
 }
 
 /// Returns the runas named last among these commands, or `None`. Searches from the last command back.
-pub(crate) fn runas_before_end(commands: &[CommandSpec]) -> Option<&Runas>
+pub fn runas_before_end(commands: &[CommandSpec]) -> Option<&Runas>
     ensures { option_copied result ≡ runas_before commands.now }
 {
     let mut left = commands;
