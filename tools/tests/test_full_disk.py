@@ -142,6 +142,7 @@ class FullDisk(FleetCase):
         words = self.write_policy()
         self.fill(REVIEW, "sudo_review", "report", *words)
         self.fill(REVIEW, "sudo_review", "cautions", words[0])
+        self.fill(REVIEW, "sudo_review", "grants", *words[:-1])
 
     def test_standard_output(self) -> None:
         self.write("policy", "root ALL = ALL\n")

@@ -261,6 +261,7 @@ class Completions(unittest.TestCase):
                 self.assertEqual(self.proposed(program, command, "p", "s=di"), ["a file for di"])
         self.assertEqual(self.proposed("sudo_review", "cautions", "-"), ["--without", "--help"])
         self.assertEqual(self.proposed("sudo_review", "cautions", "--without", ""), list(read_table("cautions")["classes"]))
+        self.assertEqual(self.proposed("sudo_review", "grants", "p", "-"), ["--users", "--hosts", "--user", "--host", "--help"])
         self.assertEqual(self.proposed("sudo_audit", "expand", "p", "h"), ["host"])
 
 

@@ -55,6 +55,7 @@ RUNS = {
     "no root": (TAGS, AUDIT.replace("users users", "users rootless"), 3),
 }
 REPORT = AUDIT.replace("audit", "report")
+GRANTS = "grants p --users users --hosts hosts"
 MANY = "Defaults targetpw\nAlice ALL = /bin/ls [^-]*\\\n-l, /bin/cat a\\ \n #include \\i\n"
 MANY += '"al\\ice" web\\*, "web?", 0.0.0.0/0 = (:adm) SETENV: /opt/sudoedit, /opt/x [[.a.]], ALL\n'
 OF_REVIEW = {
@@ -65,6 +66,10 @@ OF_REVIEW = {
     "a report with cautions": (MANY + TAGS, REPORT, 0),
     "a report of errors": (CYCLES, REPORT, 1),
     "a report on a sender without a close row": (MANY + TAGS, REPORT.replace("=requests", "=open"), 3),
+    "grants": (SIGNS + TAGS, GRANTS, 0),
+    "grants with cautions": (MANY + TAGS, f"{GRANTS} --user alice --host web1.example.org", 0),
+    "grants of errors": (CYCLES, GRANTS, 1),
+    "grants of a user that is not known": (TAGS, f"{GRANTS} --user carol", 3),
 }
 FILES = {
     "users": USERS,

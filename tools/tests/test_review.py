@@ -30,6 +30,9 @@ class Tables(TableCase):
     def test_table_cautions(self) -> None:
         self.check_table("cautions")
 
+    def test_table_grants(self) -> None:
+        self.check_table("grants")
+
     def test_table_report(self) -> None:
         self.check_table("report")
 

@@ -151,6 +151,7 @@ class Reviewed(Unreadable):
             os.chmod(self.path(path), 0o644)
         os.chmod(self.path("p"), 0o000)
         self.assert_cannot_read("p", "cautions", "p")
+        self.assert_cannot_read("p", "grants", "p", *words[:4])
 
 
 class Files(Unreadable):

@@ -5,43 +5,72 @@ use Rattle.clap.specs.Words.{Row, Text, all_of, first_of}
 use Rattle.run_base.specs.Arguments.{HasNoWorkers}
 use Rattle.review_cautions.specs.Classes.{class_name}
 use Rattle.review_cautions.specs.declared.class.CautionClass.{CautionClass}
-use Rattle.review_commands.specs.declared.request.Asked.TheVariants.{Cautions, Report}
+use Rattle.review_commands.specs.declared.request.Asked.TheVariants.{Cautions, Grants, Report}
 use Rattle.review_commands.specs.Words.{AsksNothing}
 
 report_is_cautions : codes "report" ≡ codes "cautions" → ⊥
 report_is_cautions e = absurd cc
 
+report_is_grants : codes "report" ≡ codes "grants" → ⊥
+report_is_grants e = absurd cc
+
+grants_is_cautions : codes "grants" ≡ codes "cautions" → ⊥
+grants_is_cautions e = absurd cc
+
 none_there : (o : Option Text) (text : Text) → o ≡ None → o ≡ Some text → ⊥
 none_there o text none there = cc
 
-pub no_name : (name : Text) (rows : List Row) → name ≢ codes "cautions" → name ≢ codes "report" → AsksNothing (name, rows)
-no_name name rows cautions report (Cautions file without) stated fit = cautions stated.0
-no_name name rows cautions report (Report file users hosts workers senders) stated fit = report stated.0
+pub no_name : (name : Text) (rows : List Row) → name ≢ codes "cautions" → name ≢ codes "grants" → name ≢ codes "report"
+    → AsksNothing (name, rows)
+no_name name rows cautions grants report (Cautions file without) stated fit = cautions stated.0
+no_name name rows cautions grants report (Grants file users hosts user host) stated fit = grants stated.0
+no_name name rows cautions grants report (Report file users hosts workers senders) stated fit = report stated.0
 
 pub cautions_without_file : (rows : List Row) → first_of (codes "file") rows ≡ None → AsksNothing (codes "cautions", rows)
 cautions_without_file rows none (Cautions file without) stated fit = none_there _ _ none stated.1
+cautions_without_file rows none (Grants file users hosts user host) stated fit = grants_is_cautions (sym stated.0)
 cautions_without_file rows none (Report file users hosts workers senders) stated fit = report_is_cautions (sym stated.0)
 
 pub report_without_file : (rows : List Row) → first_of (codes "file") rows ≡ None → AsksNothing (codes "report", rows)
 report_without_file rows none (Cautions file without) stated fit = report_is_cautions stated.0
+report_without_file rows none (Grants file users hosts user host) stated fit = report_is_grants stated.0
 report_without_file rows none (Report file users hosts workers senders) stated fit = none_there _ _ none stated.1
 
 pub report_without_users : (rows : List Row) → first_of (codes "users") rows ≡ None → AsksNothing (codes "report", rows)
 report_without_users rows none (Cautions file without) stated fit = report_is_cautions stated.0
+report_without_users rows none (Grants file users hosts user host) stated fit = report_is_grants stated.0
 report_without_users rows none (Report file users hosts workers senders) stated fit = none_there _ _ none stated.2
 
 pub report_without_hosts : (rows : List Row) → first_of (codes "hosts") rows ≡ None → AsksNothing (codes "report", rows)
 report_without_hosts rows none (Cautions file without) stated fit = report_is_cautions stated.0
+report_without_hosts rows none (Grants file users hosts user host) stated fit = report_is_grants stated.0
 report_without_hosts rows none (Report file users hosts workers senders) stated fit = none_there _ _ none stated.3
 
 pub report_without_workers : (rows : List Row) → HasNoWorkers rows → AsksNothing (codes "report", rows)
 report_without_workers rows none (Cautions file without) stated fit = report_is_cautions stated.0
+report_without_workers rows none (Grants file users hosts user host) stated fit = report_is_grants stated.0
 report_without_workers rows none (Report file users hosts workers senders) stated fit = none workers stated.4 fit.0 fit.1
+
+pub grants_without_file : (rows : List Row) → first_of (codes "file") rows ≡ None → AsksNothing (codes "grants", rows)
+grants_without_file rows none (Cautions file without) stated fit = grants_is_cautions stated.0
+grants_without_file rows none (Grants file users hosts user host) stated fit = none_there _ _ none stated.1
+grants_without_file rows none (Report file users hosts workers senders) stated fit = report_is_grants (sym stated.0)
+
+pub grants_without_users : (rows : List Row) → first_of (codes "users") rows ≡ None → AsksNothing (codes "grants", rows)
+grants_without_users rows none (Cautions file without) stated fit = grants_is_cautions stated.0
+grants_without_users rows none (Grants file users hosts user host) stated fit = none_there _ _ none stated.2
+grants_without_users rows none (Report file users hosts workers senders) stated fit = report_is_grants (sym stated.0)
+
+pub grants_without_hosts : (rows : List Row) → first_of (codes "hosts") rows ≡ None → AsksNothing (codes "grants", rows)
+grants_without_hosts rows none (Cautions file without) stated fit = grants_is_cautions stated.0
+grants_without_hosts rows none (Grants file users hosts user host) stated fit = none_there _ _ none stated.3
+grants_without_hosts rows none (Report file users hosts workers senders) stated fit = report_is_grants (sym stated.0)
 
 -- a word for `--without` names no class
 pub cautions_of_bad_class : (rows : List Row) (words : List Text) → unwrap_or (all_of (codes "without") rows) [] ≡ words
     → ((classes : List CautionClass) → map class_name classes ≢ words) → AsksNothing (codes "cautions", rows)
 cautions_of_bad_class rows words are bad (Cautions file without) stated fit = bad without.items (sym stated.2 ∙ are)
+cautions_of_bad_class rows words are bad (Grants file users hosts user host) stated fit = grants_is_cautions (sym stated.0)
 cautions_of_bad_class rows words are bad (Report file users hosts workers senders) stated fit = report_is_cautions (sym stated.0)
 
 -- a word that names no class is no name of a class in a list of such names

@@ -1,1 +1,2 @@
 pub mod Reviewing
+pub mod Surveying

@@ -1,5 +1,5 @@
 -- The commands that the words of the command line ask for, by `clap`'s meaning of a simple command.
-use Rattle.std.specs.Prelude.{◌≡◌, ◌≤◌, true, List, [], map, codes, ⊤, Some, unwrap_or}
+use Rattle.std.specs.Prelude.{◌≡◌, ◌≤◌, true, List, [], map, codes, ⊤, Some, option_map, unwrap_or}
 use Rattle.clap.specs.Words.{App, Row, Rule, Text, all_of, first_of, new_app, new_rule, with_rule, with_subcommand}
 use Rattle.clap.specs.Simple.{on_top}
 use Rattle.clap.specs.declared.error.Error.{Error}
@@ -7,7 +7,7 @@ use Rattle.clap.specs.declared.builder.action.ArgAction.TheVariants.{Append}
 use Rattle.review_cautions.specs.Classes.{class_name}
 use Rattle.run_base.specs.Arguments.{IsErrorFor, IsNumberIn, required_option, required_word, senders_rule, workers_rule}
 use Rattle.review_commands.specs.declared.request.Asked.{Asked}
-use Rattle.review_commands.specs.declared.request.Asked.TheVariants.{Cautions, Report}
+use Rattle.review_commands.specs.declared.request.Asked.TheVariants.{Cautions, Grants, Report}
 
 -- --without CLASS, any number of times
 abbrev pub without_rule : Rule
@@ -16,6 +16,19 @@ without_rule = record (new_rule (codes "without")) { long = Some (codes "without
 -- cautions FILE [--without CLASS]...
 abbrev pub cautions_app : App
 cautions_app = with_rule (with_rule (new_app (codes "cautions")) (required_word (codes "file"))) without_rule
+
+-- --ID NAME
+abbrev pub name_rule : Text → Rule
+name_rule id = record (new_rule id) { long = Some id }
+
+-- grants FILE --users F --hosts F
+abbrev pub grants_paths_app : App
+grants_paths_app = with_rule (with_rule (with_rule (new_app (codes "grants")) (required_word (codes "file")))
+    (required_option (codes "users"))) (required_option (codes "hosts"))
+
+-- grants FILE --users F --hosts F [--user NAME] [--host NAME]
+abbrev pub grants_app : App
+grants_app = with_rule (with_rule grants_paths_app (name_rule (codes "user"))) (name_rule (codes "host"))
 
 -- report FILE --users F --hosts F
 abbrev pub report_paths_app : App
@@ -30,15 +43,19 @@ report_app = with_rule (with_rule report_paths_app workers_rule) senders_rule
 abbrev pub named_app : App
 named_app = on_top (λ s. record s { has_version = true; subcommand_required = true }) (new_app (codes "sudo_review"))
 
--- the program's command, with its two subcommands
+-- the program's command, with its subcommands
 abbrev pub program_app : App
-program_app = with_subcommand (with_subcommand named_app cautions_app.top) report_app.top
+program_app = with_subcommand (with_subcommand (with_subcommand named_app cautions_app.top) grants_app.top) report_app.top
 
 -- the rows of the subcommand hold this command
 abbrev pub HoldsCommand : Asked → Text × List Row → Type 0
 HoldsCommand (Cautions file without) p =
     (p.0 ≡ codes "cautions") × (first_of (codes "file") p.1 ≡ Some file.now)
     × (unwrap_or (all_of (codes "without") p.1) [] ≡ map class_name without.items)
+HoldsCommand (Grants file users hosts user host) p =
+    (p.0 ≡ codes "grants") × (first_of (codes "file") p.1 ≡ Some file.now)
+    × (first_of (codes "users") p.1 ≡ Some users.now) × (first_of (codes "hosts") p.1 ≡ Some hosts.now)
+    × (first_of (codes "user") p.1 ≡ option_map (λ s. s.now) user) × (first_of (codes "host") p.1 ≡ option_map (λ s. s.now) host)
 HoldsCommand (Report file users hosts workers senders) p =
     (p.0 ≡ codes "report") × (first_of (codes "file") p.1 ≡ Some file.now)
     × (first_of (codes "users") p.1 ≡ Some users.now) × (first_of (codes "hosts") p.1 ≡ Some hosts.now)
@@ -47,6 +64,7 @@ HoldsCommand (Report file users hosts workers senders) p =
 -- the number of workers is one that an audit accepts
 abbrev pub WorkersFit : Asked → Type 0
 WorkersFit (Cautions file without) = ⊤
+WorkersFit (Grants file users hosts user host) = ⊤
 WorkersFit (Report file users hosts workers senders) = (1 ≤ workers) × (workers ≤ 16)
 
 -- a subcommand with these rows asks for no command: its name is another, a word is missing, a CLASS is no class of

@@ -2,8 +2,8 @@
 ghost use Rattle.std.specs.Prelude.{◌≡◌, IfOk, false};
 ghost use Rattle.clap.specs.Words.{app_of, rule_of};
 ghost use Rattle.clap.specs.declared.builder.command.Command.TheViews.{out-Command as fields_of};
-ghost use Rattle.review_commands.specs.Words.{report_app, report_paths_app, cautions_app, named_app};
-ghost use Rattle.review_commands.specs.Words.{program_app, without_rule};
+ghost use Rattle.review_commands.specs.Words.{cautions_app, grants_app, grants_paths_app, name_rule};
+ghost use Rattle.review_commands.specs.Words.{named_app, program_app, report_app, report_paths_app, without_rule};
 
 use clap::{Arg, ArgAction, Command};
 use run_base::{file, path_option, senders_words, with_subcommand, workers_option};
@@ -29,6 +29,36 @@ fn cautions<'a>(alloc: Global) -> Result<Command<'a>, AllocError>
         .about("Lists what sudo reads or judges otherwise")
         .arg(file(alloc))?
         .arg(without(alloc))
+}
+
+// Returns `--ID NAME`.
+fn name_option<'a>(alloc: Global, id: &'a str, help: &'a str) -> Arg<'a>
+    ensures rule { rule_of result ≡ name_rule id.entry.now }
+    ensures local { result.global ≡ false }
+{
+    Arg::new(alloc, id).long(id).help(help)
+}
+
+// Returns `grants FILE --users F --hosts F`.
+fn grants_paths<'a>(alloc: Global) -> Result<Command<'a>, AllocError>
+    ensures app { IfOk result (λ c. app_of c ≡ grants_paths_app) }
+    ensures local { IfOk result (λ c. (fields_of c).has_globals ≡ false) }
+{
+    Command::new(alloc, "grants")
+        .about("Lists the grants of a policy, with the known users and hosts of each")
+        .arg(file(alloc))?
+        .arg(path_option(alloc, "users", "The known users, as CSV"))?
+        .arg(path_option(alloc, "hosts", "The known hosts, as CSV"))
+}
+
+// Returns `grants FILE --users F --hosts F [--user NAME] [--host NAME]`.
+fn grants<'a>(alloc: Global) -> Result<Command<'a>, AllocError>
+    ensures app { IfOk result (λ c. app_of c ≡ grants_app) }
+    ensures local { IfOk result (λ c. (fields_of c).has_globals ≡ false) }
+{
+    grants_paths(alloc)?
+        .arg(name_option(alloc, "user", "Only the grants of this user"))?
+        .arg(name_option(alloc, "host", "Only the grants on this host"))
 }
 
 // Returns `report FILE --users F --hosts F`.
@@ -63,10 +93,11 @@ fn named<'a>(alloc: Global) -> Command<'a>
         .subcommand_required(true)
 }
 
-/// Returns the program's command, with its two subcommands.
+/// Returns the program's command, with its subcommands.
 pub(crate) fn program<'a>(alloc: Global) -> Result<Command<'a>, AllocError>
     ensures app { IfOk result (λ c. app_of c ≡ program_app) }
 {
     let cautioning = with_subcommand(named(alloc), cautions(alloc))?;
-    with_subcommand(cautioning, report(alloc))
+    let granting = with_subcommand(cautioning, grants(alloc))?;
+    with_subcommand(granting, report(alloc))
 }

@@ -4,16 +4,21 @@
 mod cautions;
 mod command_line;
 mod ending;
+mod fault;
 mod file_texts;
+mod grants;
 mod lines;
 mod program;
 mod program_name;
 mod report;
 mod report_rows;
 mod request;
+mod survey;
 mod words;
 
 pub use cautions::cautions_run;
+pub use fault::TableFault;
+pub use grants::{ScopeNames, grants_run};
 pub use program::run_program;
 pub use report::report_into;
 pub use request::Asked;

@@ -3,6 +3,7 @@ ghost use Rattle.std.specs.Prelude.{◌≤◌};
 ghost use Rattle.review_commands.specs.Words.{WorkersFit};
 
 use crate::cautions::cautions_run;
+use crate::grants::{ScopeNames, grants_run};
 use crate::program_name::PROGRAM;
 use crate::report::report_into;
 use crate::request::Asked;
@@ -57,6 +58,41 @@ fn run_report<T: Threads + Wait + Sync>(
     }
 }
 
+// Lists the grants of the policy of a file, and returns the exit status.
+fn run_grants(rt: &HostRuntime, file: &str, users: &str, hosts: &str, names: ScopeNames<'_>) -> u8 {
+    let alloc = rt.alloc();
+    let mut out = Device::new(rt.stdout());
+    let mut err = Device::new(rt.stderr());
+    match open_all(alloc, &SystemOpener::new(rt), users, hosts, &[]) {
+        Ok(files) => {
+            let OpenedFiles {
+                mut users,
+                mut hosts,
+                ..
+            } = files;
+            grants_run(
+                alloc,
+                file.as_bytes(),
+                &mut Disk::new(rt),
+                &mut users,
+                &mut hosts,
+                names,
+                &mut out,
+                &mut err,
+            )
+        }
+        Err(fault) => report_fault(alloc, PROGRAM, fault, &mut err),
+    }
+}
+
+// Returns the bytes of a text, where one is given.
+fn bytes_of<'a>(text: Option<&'a str>) -> Option<&'a [u8]> {
+    match text {
+        None => None,
+        Some(text) => Some(text.as_bytes()),
+    }
+}
+
 // Executes a command, and returns the exit status.
 fn run<T: Threads + Wait + Sync>(rt: &HostRuntime, threads: &T, asked: Asked<'_>) -> u8
     requires { WorkersFit asked }
@@ -74,6 +110,19 @@ fn run<T: Threads + Wait + Sync>(rt: &HostRuntime, threads: &T, asked: Asked<'_>
             &mut out,
             &mut err,
         ),
+        Asked::Grants {
+            file,
+            users,
+            hosts,
+            user,
+            host,
+        } => {
+            let names = ScopeNames {
+                user: bytes_of(user),
+                host: bytes_of(host),
+            };
+            run_grants(rt, file, users, hosts, names)
+        }
         Asked::Report {
             file,
             users,

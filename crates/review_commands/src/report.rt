@@ -25,8 +25,8 @@ use std::sync::Wait;
 use std::thread::Threads;
 use sudo_policy::Checked;
 
-// Returns the line of the cautions on a checked policy.
-fn notice_on(alloc: Global, checked: &CheckedFiles) -> Result<Vec<u8>, AllocError>
+/// Returns the line of the cautions on a checked policy. Returns `AllocError` if allocation failed.
+pub(crate) fn notice_on(alloc: Global, checked: &CheckedFiles) -> Result<Vec<u8>, AllocError>
     ensures { let files = checked.now.policy.files in
         let texts = texts_of checked.now.text checked.now.supplies files in
         IfOk result (λ line. line.items

@@ -10,6 +10,15 @@ pub enum Asked<'a> {
         file: &'a str,
         without: Vec<CautionClass>,
     },
+    /// `grants FILE --users F --hosts F [--user NAME] [--host NAME]`: lists the grants of a policy, with the known users and
+    /// hosts of each.
+    Grants {
+        file: &'a str,
+        users: &'a str,
+        hosts: &'a str,
+        user: Option<&'a str>,
+        host: Option<&'a str>,
+    },
     /// `report FILE --users F --hosts F [--workers N] [NAME=PATH]...`: answers requests, each beside its answer.
     Report {
         file: &'a str,

@@ -84,6 +84,32 @@ fn asked_cautions<'a>(alloc: Global, given: &ArgMatches<'a>) -> Result<Asked<'a>
     Ok(Asked::Cautions { file, without })
 }
 
+// Returns the command of the values of `grants`.
+fn asked_grants<'a>(given: &ArgMatches<'a>) -> Result<Asked<'a>, Unasked>
+    ensures stated { IfOk result
+        (λ a. HoldsCommand a (codes "grants", rows_of (found_of given.now))) }
+    ensures workers { IfOk result WorkersFit }
+    ensures nothing { IfErr result (λ e. e ≢ Unasked.Memory
+        → AsksNothing (codes "grants", rows_of (found_of given.now))) }
+{
+    let Some(file) = value(given, "file") else {
+        return Err(Unasked::Missing);
+    };
+    let Some(users) = value(given, "users") else {
+        return Err(Unasked::Missing);
+    };
+    let Some(hosts) = value(given, "hosts") else {
+        return Err(Unasked::Missing);
+    };
+    Ok(Asked::Grants {
+        file,
+        users,
+        hosts,
+        user: value(given, "user"),
+        host: value(given, "host"),
+    })
+}
+
 // Returns the command of the values of `report`.
 fn asked_report<'a>(alloc: Global, given: &ArgMatches<'a>) -> Result<Asked<'a>, Unasked>
     ensures stated { IfOk result
@@ -123,6 +149,9 @@ fn asked_by<'a>(alloc: Global, name: &str, given: &ArgMatches<'a>) -> Result<Ask
 {
     if name == "cautions" {
         return asked_cautions(alloc, given);
+    }
+    if name == "grants" {
+        return asked_grants(given);
     }
     if name == "report" {
         return asked_report(alloc, given);
@@ -184,8 +213,8 @@ fn asked_of<'a, S: AsStr>(
 }
 
 /// Returns the command that the words ask for, the program's own name first, as `clap` reads them:
-/// `cautions FILE [--without CLASS]...`, or `report FILE --users F --hosts F [--workers N] [NAME=PATH]...`, where N is 1 to
-/// 16, by default 2.
+/// `cautions FILE [--without CLASS]...`, `grants FILE --users F --hosts F [--user NAME] [--host NAME]`, or
+/// `report FILE --users F --hosts F [--workers N] [NAME=PATH]...`, where N is 1 to 16, by default 2.
 ///
 /// Returns `clap`'s error, apart from allocation failure, exactly if `clap` does not accept the
 /// words (they are no such command, or ask for help or for the version), or a CLASS is no class of cautions.

@@ -1,6 +1,12 @@
-//! Who may do what: the rows of a written-out policy that let a user run commands on a host.
+//! Who may do what: the grants of a written-out policy, with the known users and hosts that their lists allow.
 #![tactic(auto)]
 
+mod fields;
+mod in_force;
 mod laws;
+mod names;
+mod rows;
+mod runas_text;
 
 pub use laws::last_row_decides;
+pub use rows::{Scope, grants_text};

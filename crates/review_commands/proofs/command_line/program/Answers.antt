@@ -3,7 +3,7 @@ use Rattle.std.specs.declared.alloc.AllocError.{AllocError}
 use Rattle.clap.specs.Words.{AddsSubcommand, App, app_of, with_subcommand}
 use Rattle.clap.specs.declared.builder.command.Command.{Command}
 use Rattle.clap.specs.declared.builder.command.Command.TheViews.{out-Command}
-use Rattle.review_commands.specs.Words.{cautions_app, named_app, report_app}
+use Rattle.review_commands.specs.Words.{cautions_app, grants_app, named_app, report_app}
 use Rattle.review_commands.proofs.command_line.program.Goals as goal
 
 -- a command to which a subcommand is added
@@ -21,7 +21,9 @@ pub returns : goal.returns
 returns c =
     let cautioning = added (Ok c.in_ok-cautioning.cautioning) c.cautions.result c.named.result named_app cautions_app
     c.named.ensures.app c.cautions.ensures.app c.cautions.ensures.local c.in_ok-cautioning.ensures in
+    let granting = added (Ok c.in_ok-granting.granting) c.grants.result c.in_ok-cautioning.cautioning _ grants_app cautioning
+    c.grants.ensures.app c.grants.ensures.local c.in_ok-granting.ensures in
     record {
-      app = added c.with_subcommand-2.result c.report.result c.in_ok-cautioning.cautioning _ report_app cautioning
-          c.report.ensures.app c.report.ensures.local c.with_subcommand-2.ensures;
+      app = added c.with_subcommand-3.result c.report.result c.in_ok-granting.granting _ report_app granting
+          c.report.ensures.app c.report.ensures.local c.with_subcommand-3.ensures;
     }

@@ -1,0 +1,108 @@
+-- What the tables of a policy are made of, and why there is none.
+use Rattle.std.specs.Prelude.{◌≡◌, ◌≢◌, ⊤, ⊥, ℕ, List, ◌++◌, codes, Option, None, Some}
+use Rattle.audit_commands.specs.Auditing.{IsDirectory, IsNoDirectory}
+use Rattle.audit_commands.specs.FaultLines.{directory_printed}
+use Rattle.audit_commands.specs.Faults.{directory_status}
+use Rattle.audit_commands.specs.declared.fault.DirectoryFault.TheVariants as directories
+use Rattle.audit_files.specs.Feeding.{Ahead}
+use Rattle.run_base.specs.Endings.{Notices, notices}
+use Rattle.run_base.specs.FaultLines.{error_line, memory_line, policy_printed}
+use Rattle.run_base.specs.Faults.{policy_status}
+use Rattle.run_base.specs.Holding.{Holdings}
+use Rattle.run_base.specs.Loading.{IsNotChecked, PassesCheck}
+use Rattle.run_base.specs.declared.fault.PolicyFault.TheVariants as policies
+use Rattle.sudo_grammar.specs.declared.policy.Policy.{Policy}
+use Rattle.sudo_match.specs.KnownRows.{KnownRows, host_named, user_named}
+use Rattle.sudo_match.specs.declared.people.Machine.{Machine}
+use Rattle.sudo_match.specs.declared.people.Person.{Person}
+use Rattle.sudo_policy.specs.Checking.{Passes}
+use Rattle.sudo_verdict.specs.Questions.{looked_up}
+use Rattle.review_cautions.specs.declared.caution.Caution.{Caution}
+use Rattle.review_commands.specs.CautionLines.{notice_text, program_name}
+use Rattle.review_commands.specs.Reviewing.{AreCautions}
+use Rattle.review_commands.specs.declared.fault.TableFault.{TableFault}
+use Rattle.review_commands.specs.declared.fault.TableFault.TheVariants as tables
+use Rattle.review_grants.specs.GrantRows.{grants_text}
+
+-- the input of a table: the files of its policy and the path of the main one, and the bytes ahead of the readers of users
+-- and of hosts
+pub record Inputs : Type 0 where
+  pub held : Option Holdings
+  pub path : List ℕ
+  pub users : Option Ahead
+  pub hosts : Option Ahead
+
+abbrev pub inputs_by : Option Holdings → List ℕ → Option Ahead → Option Ahead → Inputs
+inputs_by held path users hosts = record { held = held; path = path; users = users; hosts = hosts }
+
+-- the policy, which passes the check, the known users and hosts, and the line of the cautions on the policy
+pub record IsSurveyed (given : Inputs) (policy : Policy) (directory : KnownRows) (notice : List ℕ) : Type 0 where
+  pub found : List Caution
+  pub are : AreCautions given.held given.path policy found
+  pub passes : Passes policy
+  pub is_directory : IsDirectory given.users given.hosts directory
+  pub notice_is : notice ≡ notice_text found
+
+-- why there are none: no policy passes the check; the users, the hosts or both together are refused; or memory failed
+abbrev pub IsNotSurveyed : Inputs → TableFault → Type 0
+IsNotSurveyed given (tables.Policy fault) = (fault ≢ policies.Memory) × IsNotChecked given.held given.path fault
+IsNotSurveyed given (tables.Directory fault) = (fault ≢ directories.Memory) × PassesCheck given.held given.path
+    × IsNoDirectory given.users given.hosts fault
+IsNotSurveyed given (tables.NoSuchUser name) = ⊥
+IsNotSurveyed given (tables.NoSuchHost name) = ⊥
+IsNotSurveyed given tables.Memory = ⊤
+
+-- the output of `grants`: the table for the user and the host of these names, where one is given, and the line of the
+-- cautions
+pub record IsGranted (given : Inputs) (user host : Option (List ℕ)) (text notice : List ℕ) : Type 0 where
+  pub policy : Policy
+  pub directory : KnownRows
+  pub surveyed : IsSurveyed given policy directory notice
+  pub person : Option Person
+  pub machine : Option Machine
+  pub is_person : looked_up (user_named directory) user ≡ Some person
+  pub is_machine : looked_up (host_named directory) host ≡ Some machine
+  pub text_is : text ≡ grants_text policy directory person machine
+
+-- the directory of the input has no user of the name that is asked about
+pub record LacksUser (given : Inputs) (user : Option (List ℕ)) (name : List ℕ) : Type 0 where
+  pub directory : KnownRows
+  pub passes : PassesCheck given.held given.path
+  pub is_directory : IsDirectory given.users given.hosts directory
+  pub asked : user ≡ Some name
+  pub lacks : user_named directory name ≡ None
+
+-- it has no host of that name
+pub record LacksHost (given : Inputs) (host : Option (List ℕ)) (name : List ℕ) : Type 0 where
+  pub directory : KnownRows
+  pub passes : PassesCheck given.held given.path
+  pub is_directory : IsDirectory given.users given.hosts directory
+  pub asked : host ≡ Some name
+  pub lacks : host_named directory name ≡ None
+
+-- why there is no table of grants: as for every table; or no known user or host has the name that is given
+abbrev pub IsNotGranted : Inputs → Option (List ℕ) → Option (List ℕ) → TableFault → Type 0
+IsNotGranted given user host (tables.Policy fault) = IsNotSurveyed given (tables.Policy fault)
+IsNotGranted given user host (tables.Directory fault) = IsNotSurveyed given (tables.Directory fault)
+IsNotGranted given user host (tables.NoSuchUser name) = LacksUser given user name
+IsNotGranted given user host (tables.NoSuchHost name) = LacksHost given host name
+IsNotGranted given user host tables.Memory = ⊤
+
+-- 1: the policy is refused or has errors. 3: the users or the hosts are refused, or no known one has a name that is given.
+-- 4: reading, writing or memory failed.
+abbrev pub table_status : TableFault → ℕ
+table_status (tables.Policy fault) = policy_status fault
+table_status (tables.Directory fault) = directory_status fault
+table_status (tables.NoSuchUser name) = 3
+table_status (tables.NoSuchHost name) = 3
+table_status tables.Memory = 4
+
+abbrev pub table_printed : List ℕ → TableFault → List ℕ
+table_printed program (tables.Policy fault) = policy_printed program fault
+table_printed program (tables.Directory fault) = directory_printed program fault
+table_printed program (tables.NoSuchUser name) = error_line program (codes "no such user " ++ name)
+table_printed program (tables.NoSuchHost name) = error_line program (codes "no such host " ++ name)
+table_printed program tables.Memory = memory_line program
+
+abbrev pub table_notices : Notices TableFault
+table_notices = notices table_status table_printed program_name

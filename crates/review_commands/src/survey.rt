@@ -1,0 +1,54 @@
+//! What the tables of a policy are made of.
+ghost use Rattle.std.specs.Prelude.{IfErr, IfOk};
+ghost use Rattle.review_commands.specs.Surveying.{Inputs, inputs_by, IsNotSurveyed, IsSurveyed};
+
+use crate::fault::TableFault;
+use crate::report::notice_on;
+use audit_commands::{DirectoryFault, directory_of};
+use audit_files::Feed;
+use run_base::{CheckedFiles, Files, PolicyFault, checked_files};
+use std::alloc::Global;
+use sudo_match::Directory;
+
+/// A policy that passes the check, the known users and hosts, and the line of the cautions on the policy.
+#[derive(Drop)]
+pub(crate) struct Survey {
+    pub(crate) checked: CheckedFiles,
+    pub(crate) directory: Directory,
+    pub(crate) notice: Vec<u8>,
+}
+
+/// Loads the policy of a file, and reads the known users and hosts.
+///
+/// Returns `Policy` if the policy is refused or has errors, `Directory` if the users, the hosts or both together are refused,
+/// and `Memory` if allocation failed.
+pub(crate) fn survey<F: Files, U: Feed, H: Feed>(
+    alloc: Global,
+    path: &[u8],
+    files: &mut F,
+    users: &mut U,
+    hosts: &mut H,
+) -> Result<Survey, TableFault>
+    ensures surveyed { let given : Inputs = inputs_by (F.held files.old) path.now
+        (U.ahead users.old) (H.ahead hosts.old) in
+        IfOk result (λ s. IsSurveyed given s.checked.policy s.directory s.notice.items) }
+    ensures fault { let given : Inputs = inputs_by (F.held files.old) path.now
+        (U.ahead users.old) (H.ahead hosts.old) in
+        IfErr result (IsNotSurveyed given) }
+{
+    let checked = match checked_files(alloc, path, files) {
+        Ok(checked) => checked,
+        Err(PolicyFault::Memory) => return Err(TableFault::Memory),
+        Err(fault) => return Err(TableFault::Policy(fault)),
+    };
+    let notice = notice_on(alloc, &checked)?;
+    match directory_of(alloc, users, hosts) {
+        Ok(directory) => Ok(Survey {
+            checked,
+            directory,
+            notice,
+        }),
+        Err(DirectoryFault::Memory) => Err(TableFault::Memory),
+        Err(fault) => Err(TableFault::Directory(fault)),
+    }
+}
