@@ -5,3 +5,4 @@ pub mod EndingSteps
 pub mod RowSteps
 pub mod ListSteps
 pub mod TextSteps
+pub mod TableSteps

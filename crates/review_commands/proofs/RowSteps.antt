@@ -1,5 +1,5 @@
 -- A row of a report from its parts.
-use Rattle.std.proofs.Common.{◌≡◌, ◌∙◌, ℕ, List, [], ◌∷◌, ◌++◌, ap, append_assoc, append-nil, refl, sym}
+use Rattle.std.proofs.Common.{◌≡◌, ◌∙◌, ℕ, List, [], ◌∷◌, ◌++◌, ap, append_assoc, refl, sym}
 use Rattle.csv.specs.Writing.{default_writer, field_text, fields_text, is_blank}
 use Rattle.audit_files.specs.Report.{line}
 

@@ -1,2 +1,3 @@
 pub mod Reviewing
 pub mod Surveying
+pub mod Paths

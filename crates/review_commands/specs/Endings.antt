@@ -1,5 +1,5 @@
 -- The end of a run that prints a notice beside its text.
-use Rattle.std.specs.Prelude.{◌≡◌, ◌⊎◌, ℕ, List, Result, Ok, Err}
+use Rattle.std.specs.Prelude.{◌≡◌, ◌⊎◌, ℕ, List, Result, Ok}
 use Rattle.run_base.specs.Endings.{EndsInFault, FailsToWrite, HasWritten, IsWell, Notices, WriterStates}
 use Rattle.review_commands.specs.declared.ending.NotedOutput.{NotedOutput}
 

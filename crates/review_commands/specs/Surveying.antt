@@ -1,5 +1,5 @@
 -- What the tables of a policy are made of, and why there is none.
-use Rattle.std.specs.Prelude.{◌≡◌, ◌≢◌, ⊤, ⊥, ℕ, List, ◌++◌, codes, Option, None, Some}
+use Rattle.std.specs.Prelude.{◌≡◌, ◌≢◌, ⊤, ℕ, List, ◌++◌, codes, Option, None, Some}
 use Rattle.audit_commands.specs.Auditing.{IsDirectory, IsNoDirectory}
 use Rattle.audit_commands.specs.FaultLines.{directory_printed}
 use Rattle.audit_commands.specs.Faults.{directory_status}

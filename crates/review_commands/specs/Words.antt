@@ -47,19 +47,22 @@ named_app = on_top (λ s. record s { has_version = true; subcommand_required = t
 abbrev pub program_app : App
 program_app = with_subcommand (with_subcommand (with_subcommand named_app cautions_app.top) grants_app.top) report_app.top
 
+-- the rows hold the paths of a policy, of the known users and of the known hosts
+pub record HavePaths (rows : List Row) (file users hosts : Text) : Type 0 where
+  pub file_is : first_of (codes "file") rows ≡ Some file
+  pub users_is : first_of (codes "users") rows ≡ Some users
+  pub hosts_is : first_of (codes "hosts") rows ≡ Some hosts
+
 -- the rows of the subcommand hold this command
 abbrev pub HoldsCommand : Asked → Text × List Row → Type 0
 HoldsCommand (Cautions file without) p =
     (p.0 ≡ codes "cautions") × (first_of (codes "file") p.1 ≡ Some file.now)
     × (unwrap_or (all_of (codes "without") p.1) [] ≡ map class_name without.items)
 HoldsCommand (Grants file users hosts user host) p =
-    (p.0 ≡ codes "grants") × (first_of (codes "file") p.1 ≡ Some file.now)
-    × (first_of (codes "users") p.1 ≡ Some users.now) × (first_of (codes "hosts") p.1 ≡ Some hosts.now)
+    (p.0 ≡ codes "grants") × HavePaths p.1 file.now users.now hosts.now
     × (first_of (codes "user") p.1 ≡ option_map (λ s. s.now) user) × (first_of (codes "host") p.1 ≡ option_map (λ s. s.now) host)
 HoldsCommand (Report file users hosts workers senders) p =
-    (p.0 ≡ codes "report") × (first_of (codes "file") p.1 ≡ Some file.now)
-    × (first_of (codes "users") p.1 ≡ Some users.now) × (first_of (codes "hosts") p.1 ≡ Some hosts.now)
-    × IsNumberIn workers p.1 × (unwrap_or (all_of (codes "senders") p.1) [] ≡ map (λ s. s.now) senders.items)
+    (p.0 ≡ codes "report") × HavePaths p.1 file.now users.now hosts.now × IsNumberIn workers p.1 × (unwrap_or (all_of (codes "senders") p.1) [] ≡ map (λ s. s.now) senders.items)
 
 -- the number of workers is one that an audit accepts
 abbrev pub WorkersFit : Asked → Type 0

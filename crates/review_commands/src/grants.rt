@@ -4,19 +4,19 @@ ghost use Rattle.run_base.specs.Endings.{writer_states as sent};
 ghost use Rattle.sudo_match.specs.KnownRows.{host_named, user_named};
 ghost use Rattle.sudo_verdict.specs.Questions.{looked_up};
 ghost use Rattle.review_commands.specs.Endings.{EndsNoted};
-ghost use Rattle.review_commands.specs.Body.Surveying.{IsNotInScope};
+ghost use Rattle.review_commands.specs.Body.Surveying.{IsNotInScope, IsTable};
 ghost use Rattle.review_commands.specs.Surveying.{Inputs, inputs_by, IsGranted, IsNotGranted, table_notices};
 
 use crate::ending::{NotedOutput, end_noted};
 use crate::fault::TableFault;
 use crate::program_name::PROGRAM;
-use crate::survey::{Survey, survey};
+use crate::survey::{noted, read_survey};
 use audit_files::{Feed, Sink};
 use review_grants::{Scope, grants_text};
 use run_base::Files;
 use std::alloc::Global;
-use std::mem;
 use sudo_match::Directory;
+use sudo_policy::Checked;
 use sudo_text::Seq;
 
 /// The names of the user and of the host that a table is about, where one is given.
@@ -34,11 +34,11 @@ fn scope_of<'a>(
     names: ScopeNames<'_>,
 ) -> Result<Scope<'a>, TableFault>
     ensures user { IfOk result (λ s. looked_up (user_named directory.now)
-        (option_copied names.user) ≡ Some (option_copied s.user)) }
+        (option_copied names.entry.user) ≡ Some (option_copied s.user)) }
     ensures host { IfOk result (λ s. looked_up (host_named directory.now)
-        (option_copied names.host) ≡ Some (option_copied s.host)) }
-    ensures fault { IfErr result (IsNotInScope directory.now (option_copied names.user)
-        (option_copied names.host)) }
+        (option_copied names.entry.host) ≡ Some (option_copied s.host)) }
+    ensures fault { IfErr result (IsNotInScope directory.now (option_copied names.entry.user)
+        (option_copied names.entry.host)) }
 {
     let user = match names.user {
         None => None,
@@ -57,7 +57,26 @@ fn scope_of<'a>(
     Ok(Scope { user, host })
 }
 
-// Returns the text and the notice of the grants of the policy of a file. Forgets the policy: the run ends here.
+// Returns the table of the grants of a policy, all or those of the user and the host of these names.
+fn table_text(
+    alloc: Global,
+    policy: &Checked,
+    directory: &Directory,
+    names: ScopeNames<'_>,
+) -> Result<Vec<u8>, TableFault>
+    ensures text { IfOk result (λ text. IsTable policy.now directory.now
+        (option_copied names.entry.user) (option_copied names.entry.host) text.items) }
+    ensures fault { IfErr result (IsNotInScope directory.now (option_copied names.entry.user)
+        (option_copied names.entry.host)) }
+{
+    let scope = scope_of(alloc, directory, names)?;
+    match grants_text(alloc, policy, directory, scope) {
+        Ok(text) => Ok(text),
+        Err(_) => Err(TableFault::Memory),
+    }
+}
+
+// Returns the text and the notice of the grants of the policy of a file.
 fn grants_output<F: Files, U: Feed, H: Feed>(
     alloc: Global,
     path: &[u8],
@@ -68,22 +87,16 @@ fn grants_output<F: Files, U: Feed, H: Feed>(
 ) -> Result<NotedOutput, TableFault>
     ensures printed { let given : Inputs = inputs_by (F.held files.old) path.now
         (U.ahead users.old) (H.ahead hosts.old) in
-        IfOk result (λ p. IsGranted given (option_copied names.user) (option_copied names.host)
-        p.text.items p.notice.items) }
+        IfOk result (λ p. IsGranted given (option_copied names.entry.user)
+        (option_copied names.entry.host) p.text.items p.notice.items) }
     ensures fault { let given : Inputs = inputs_by (F.held files.old) path.now
         (U.ahead users.old) (H.ahead hosts.old) in
-        IfErr result (IsNotGranted given (option_copied names.user) (option_copied names.host)) }
+        IfErr result (IsNotGranted given (option_copied names.entry.user)
+        (option_copied names.entry.host)) }
 {
-    let Survey {
-        checked,
-        directory,
-        notice,
-    } = survey(alloc, path, files, users, hosts)?;
-    let scope = scope_of(alloc, &directory, names)?;
-    let text = grants_text(alloc, &checked.policy, &directory, scope)?;
-    drop(directory);
-    mem::forget(checked);
-    Ok(NotedOutput { text, notice })
+    let survey = read_survey(alloc, path, files, users, hosts)?;
+    let text = table_text(alloc, &survey.checked.policy, &survey.directory, names);
+    noted(survey, text)
 }
 
 /// Prints on `out` the table of the grants of the policy of a file, each with the known users and hosts that its lists allow:
@@ -106,8 +119,8 @@ pub fn grants_run<F: Files, U: Feed, H: Feed, O: Sink, E: Sink>(
 ) -> u8
     ensures ends { let given : Inputs = inputs_by (F.held files.old) path.now
         (U.ahead users.old) (H.ahead hosts.old) in
-        EndsNoted table_notices (IsGranted given (option_copied names.user) (option_copied names.host))
-        (IsNotGranted given (option_copied names.user) (option_copied names.host)) result
+        EndsNoted table_notices (IsGranted given (option_copied names.entry.user) (option_copied names.entry.host))
+        (IsNotGranted given (option_copied names.entry.user) (option_copied names.entry.host)) result
         (sent O.taken O.stalled_writes out.old out.new)
         (sent E.taken E.stalled_writes err.old err.new) }
 {

@@ -1,13 +1,15 @@
 //! What the tables of a policy are made of.
-ghost use Rattle.std.specs.Prelude.{IfErr, IfOk};
+ghost use Rattle.std.specs.Prelude.{◌≡◌, Ok, Err, IfErr, IfOk};
 ghost use Rattle.review_commands.specs.Surveying.{Inputs, inputs_by, IsNotSurveyed, IsSurveyed};
 
+use crate::ending::NotedOutput;
 use crate::fault::TableFault;
 use crate::report::notice_on;
 use audit_commands::{DirectoryFault, directory_of};
 use audit_files::Feed;
 use run_base::{CheckedFiles, Files, PolicyFault, checked_files};
 use std::alloc::Global;
+use std::mem;
 use sudo_match::Directory;
 
 /// A policy that passes the check, the known users and hosts, and the line of the cautions on the policy.
@@ -22,7 +24,7 @@ pub(crate) struct Survey {
 ///
 /// Returns `Policy` if the policy is refused or has errors, `Directory` if the users, the hosts or both together are refused,
 /// and `Memory` if allocation failed.
-pub(crate) fn survey<F: Files, U: Feed, H: Feed>(
+pub(crate) fn read_survey<F: Files, U: Feed, H: Feed>(
     alloc: Global,
     path: &[u8],
     files: &mut F,
@@ -41,7 +43,10 @@ pub(crate) fn survey<F: Files, U: Feed, H: Feed>(
         Err(PolicyFault::Memory) => return Err(TableFault::Memory),
         Err(fault) => return Err(TableFault::Policy(fault)),
     };
-    let notice = notice_on(alloc, &checked)?;
+    let notice = match notice_on(alloc, &checked) {
+        Ok(notice) => notice,
+        Err(_) => return Err(TableFault::Memory),
+    };
     match directory_of(alloc, users, hosts) {
         Ok(directory) => Ok(Survey {
             checked,
@@ -50,5 +55,28 @@ pub(crate) fn survey<F: Files, U: Feed, H: Feed>(
         }),
         Err(DirectoryFault::Memory) => Err(TableFault::Memory),
         Err(fault) => Err(TableFault::Directory(fault)),
+    }
+}
+
+/// Returns a text with the notice that is printed behind it, or the fault in place of the text. Forgets the policy: the run ends
+/// here.
+pub(crate) fn noted(
+    survey: Survey,
+    text: Result<Vec<u8>, TableFault>,
+) -> Result<NotedOutput, TableFault>
+    ensures noted { IfOk result (λ p. (text ≡ Ok p.text)
+        × (p.notice.items ≡ survey.notice.items)) }
+    ensures fault { IfErr result (λ fault. text ≡ Err fault) }
+{
+    let Survey {
+        checked,
+        directory,
+        notice,
+    } = survey;
+    drop(directory);
+    mem::forget(checked);
+    match text {
+        Ok(text) => Ok(NotedOutput { text, notice }),
+        Err(fault) => Err(fault),
     }
 }

@@ -6,7 +6,8 @@ ghost use Rattle.run_base.specs.Arguments.{IsUnaskedKind, IsUnreadableWord};
 ghost use Rattle.review_cautions.specs.Classes.{class_name};
 ghost use Rattle.review_cautions.specs.declared.class.CautionClass.{CautionClass};
 ghost use Rattle.review_commands.specs.Words.{AsksNothing, IsErrorOfWords};
-ghost use Rattle.review_commands.specs.Words.{HoldsCommand};
+ghost use Rattle.review_commands.specs.Body.Paths.{LackPaths};
+ghost use Rattle.review_commands.specs.Words.{HavePaths, HoldsCommand};
 ghost use Rattle.review_commands.specs.Words.{WorkersFit, program_app};
 
 use crate::command_line::program;
@@ -84,6 +85,26 @@ fn asked_cautions<'a>(alloc: Global, given: &ArgMatches<'a>) -> Result<Asked<'a>
     Ok(Asked::Cautions { file, without })
 }
 
+// The paths of a policy, of the known users and of the known hosts.
+#[derive(Clone, Copy)]
+struct Paths<'a> {
+    file: &'a str,
+    users: &'a str,
+    hosts: &'a str,
+}
+
+// Returns the paths that a command takes, or `None` if one has no value.
+fn paths_of<'a>(given: &ArgMatches<'a>) -> Option<Paths<'a>>
+    ensures stated { IfSome result (λ p. HavePaths (rows_of (found_of given.now))
+        p.file.now p.users.now p.hosts.now) }
+    ensures none { result ≡ None → LackPaths (rows_of (found_of given.now)) }
+{
+    let file = value(given, "file")?;
+    let users = value(given, "users")?;
+    let hosts = value(given, "hosts")?;
+    Some(Paths { file, users, hosts })
+}
+
 // Returns the command of the values of `grants`.
 fn asked_grants<'a>(given: &ArgMatches<'a>) -> Result<Asked<'a>, Unasked>
     ensures stated { IfOk result
@@ -92,13 +113,7 @@ fn asked_grants<'a>(given: &ArgMatches<'a>) -> Result<Asked<'a>, Unasked>
     ensures nothing { IfErr result (λ e. e ≢ Unasked.Memory
         → AsksNothing (codes "grants", rows_of (found_of given.now))) }
 {
-    let Some(file) = value(given, "file") else {
-        return Err(Unasked::Missing);
-    };
-    let Some(users) = value(given, "users") else {
-        return Err(Unasked::Missing);
-    };
-    let Some(hosts) = value(given, "hosts") else {
+    let Some(Paths { file, users, hosts }) = paths_of(given) else {
         return Err(Unasked::Missing);
     };
     Ok(Asked::Grants {
@@ -118,13 +133,7 @@ fn asked_report<'a>(alloc: Global, given: &ArgMatches<'a>) -> Result<Asked<'a>, 
     ensures nothing { IfErr result (λ e. e ≢ Unasked.Memory
         → AsksNothing (codes "report", rows_of (found_of given.now))) }
 {
-    let Some(file) = value(given, "file") else {
-        return Err(Unasked::Missing);
-    };
-    let Some(users) = value(given, "users") else {
-        return Err(Unasked::Missing);
-    };
-    let Some(hosts) = value(given, "hosts") else {
+    let Some(Paths { file, users, hosts }) = paths_of(given) else {
         return Err(Unasked::Missing);
     };
     let Some(workers) = workers(given) else {

@@ -1,5 +1,4 @@
 use Rattle.std.proofs.Common.{◌≡◌, ◌∙◌, None, Some, sym}
-use Rattle.review_cautions.specs.declared.class.CautionClass.{CautionClass}
 use Rattle.review_commands.proofs.Refusals.{no_classes}
 use Rattle.review_commands.proofs.words.classes_named.Goals as goal
 
