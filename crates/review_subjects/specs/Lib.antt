@@ -1,0 +1,7 @@
+pub mod Kinds
+pub mod Unknown
+pub mod Reach
+pub mod Subjects
+pub mod Idle
+pub mod Counts
+pub mod Body
