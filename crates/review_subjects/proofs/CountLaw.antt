@@ -42,7 +42,8 @@ counted_once at earlier [] = nothing (list_any (same_place at) earlier)
 counted_once at earlier (x ∷ xs) =
     let later : List Place = firsts (earlier ++ x ∷ []) xs in
     let g : Place → Bool = λ q. same_place q at in
-    let ih : count_by g later ≡ cond (list_any (same_place at) earlier || (same_place at x || false)) 0 (cond (list_any (same_place at) xs) 1 0) =
+    let ih : count_by g later
+    ≡ cond (list_any (same_place at) earlier || (same_place at x || false)) 0 (cond (list_any (same_place at) xs) 1 0) =
     counted_once at (earlier ++ x ∷ []) xs
     ∙ ap (λ b. cond b 0 (cond (list_any (same_place at) xs) 1 0)) (list_any-append (same_place at) earlier (x ∷ [])) in
     bits (same_place at x) (list_any (same_place x) earlier) (list_any (same_place at) earlier) (list_any (same_place at) xs)
@@ -115,7 +116,8 @@ total rp (v ∷ vs) h =
     ∙ ap (λ n. cond (is_decided v) 1 0 + n) (total rp vs k.1)
     ∙ sym (sum_by-cons (λ w. cond (is_decided w) 1 0) v vs)
 
-of_rows : (p : Policy) (vs : List Verdict) (qs : List Place) → sum (map decided_at_row (map (rule_count p vs) qs)) ≡ sum_by (decided_at vs) qs
+of_rows : (p : Policy) (vs : List Verdict) (qs : List Place)
+    → sum (map decided_at_row (map (rule_count p vs) qs)) ≡ sum_by (decided_at vs) qs
 unfolding decided_at
 of_rows p vs [] = refl
 of_rows p vs (q ∷ qs) =

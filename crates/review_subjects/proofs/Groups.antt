@@ -1,5 +1,6 @@
 -- Known groups of one ID are one group.
-use Rattle.std.proofs.Common.{◌≡◌, ℕ, zero, suc, ◌+◌, ◌<◌, ◌≤◌, ◌⊎◌, inl, inr, Bool, true, false, cond, ◌&&◌, ◌||◌, ◌==◌, List, [], ◌∷◌, length, take, Option, Some, None, refl, sym, ◌∙◌, ap, subst, arith, slice_get}
+use Rattle.std.proofs.Common.{◌≡◌, ℕ, zero, suc, ◌+◌, ◌<◌, ◌≤◌, ◌⊎◌, inl, inr, Bool, true, false, cond, ◌&&◌, ◌||◌, ◌==◌}
+use Rattle.std.proofs.Common.{List, [], ◌∷◌, length, take, Option, Some, None, refl, sym, ◌∙◌, ap, subst, arith, slice_get}
 use Rattle.std.specs.Prelude.{find, option_map, option_and_then, bytes_eq, not}
 use Rattle.std.specs.List.{list_any, range_with_len}
 use Rattle.std.proofs.lemmas.Bool.{cases_lt, false≢true, eq-eqb, eqb-true}
@@ -10,7 +11,8 @@ use Rattle.sudo_match.specs.declared.people.Person.{Person}
 use Rattle.sudo_match.specs.declared.people.Group.{Group}
 use Rattle.sudo_match.specs.declared.people.Machine.{Machine}
 use Rattle.sudo_match.specs.declared.fault.DirFault.TheVariants.{GroupClash}
-use Rattle.sudo_match.specs.KnownRows.{clashes_at, first_clash, groups_clash, groups_of, group_fault, directory_fault, or_else, user_fault, host_fault, ungrouped_fault, root_fault}
+use Rattle.sudo_match.specs.KnownRows.{clashes_at, first_clash, groups_clash, groups_of, group_fault, directory_fault}
+use Rattle.sudo_match.specs.KnownRows.{or_else, user_fault, host_fault, ungrouped_fault, root_fault}
 use Rattle.sudo_match.proofs.ClashLemmas.{clash-here}
 use Rattle.review_subjects.proofs.Known.{IsOf, or_parts}
 
@@ -143,9 +145,10 @@ faultless_groups : (people : List Person) (machines : List Machine) → director
     → first_clash groups_clash (groups_of people) ≡ None
 unfolding directory_fault
 faultless_groups people machines h =
-    let one = or_else_none (user_fault people) (or_else (host_fault machines) (or_else (group_fault people) (or_else (ungrouped_fault people) (root_fault people)))) h in
-    let two = or_else_none (host_fault machines) (or_else (group_fault people) (or_else (ungrouped_fault people) (root_fault people))) one.1 in
-    let three = or_else_none (group_fault people) (or_else (ungrouped_fault people) (root_fault people)) two.1 in
+    let later = or_else (ungrouped_fault people) (root_fault people) in
+    let one = or_else_none (user_fault people) (or_else (host_fault machines) (or_else (group_fault people) later)) h in
+    let two = or_else_none (host_fault machines) (or_else (group_fault people) later) one.1 in
+    let three = or_else_none (group_fault people) later two.1 in
     mapped_none (λ (g : Group). GroupClash g.name) (first_clash groups_clash (groups_of people)) three.0
 
 names_agree : (n i : Bool) → ((n && not i) || (i && not n)) ≡ false → i ≡ true → n ≡ true

@@ -1,5 +1,6 @@
 -- No grant of a rule that reaches nobody applies to a request whose names are known.
-use Rattle.std.proofs.Common.{◌≡◌, ◌<◌, ◌≤◌, ◌⊎◌, inl, inr, length, ℕ, zero, suc, ◌+◌, Bool, true, false, ◌&&◌, ◌||◌, ◌==◌, List, [], ◌∷◌, map, take, Option, Some, None, refl, sym, ◌∙◌, ap, arith}
+use Rattle.std.proofs.Common.{◌≡◌, ◌<◌, ◌≤◌, ◌⊎◌, inl, inr, length, ℕ, zero, suc, ◌+◌, Bool, true, false, ◌&&◌, ◌||◌, ◌==◌}
+use Rattle.std.proofs.Common.{List, [], ◌∷◌, map, take, Option, Some, None, refl, sym, ◌∙◌, ap, arith}
 use Rattle.std.specs.Prelude.{flat_map, unwrap_or, is_some}
 use Rattle.std.specs.Option.{option_or}
 use Rattle.std.specs.List.{list_any, enumerate_from}
@@ -22,7 +23,8 @@ use Rattle.sudo_verdict.specs.Last.{last_set}
 use Rattle.sudo_verdict.specs.Tagged.{runas_before, runas_at}
 use Rattle.sudo_verdict.specs.Values.{allows, user_allowed, host_allowed}
 use Rattle.sudo_verdict.specs.Questions.{Question}
-use Rattle.sudo_verdict.specs.RunasForms.{runas_allows, form_allows, users_allow, users_and_groups_allow, group_allowed, has_group, has_asked, is_same_user}
+use Rattle.sudo_verdict.specs.RunasForms.{runas_allows, form_allows, users_allow, users_and_groups_allow, group_allowed}
+use Rattle.sudo_verdict.specs.RunasForms.{has_group, has_asked, is_same_user}
 use Rattle.sudo_verdict.specs.Grants.{grant_of, place_grants, section_grants, applies}
 use Rattle.sudo_verdict.proofs.Lasts.{option_or-assoc}
 use Rattle.review_subjects.specs.Reach.{user_value, group_value, allows_user, allows_group, spares_own_group, pair_reaches}
@@ -78,7 +80,8 @@ module _ (p : Policy) (d : KnownRows) (none : directory_fault d.people d.machine
   group_refused groups t of_t (Some g) is free spared =
       let of_g = knows.group g is in
       let plus : allows (group_value p groups g) ≡ false =
-      of_g (λ x. allows (group_value p groups x)) (any_flat (λ x. allows (group_value p groups x)) (λ (u : Person). u.groups) d.people ∙ free) in
+      of_g (λ x. allows (group_value p groups x))
+      (any_flat (λ x. allows (group_value p groups x)) (λ (u : Person). u.groups) d.people ∙ free) in
       last (is_same_user t q.user) (go (group_value p groups g) plus (λ e. has_none groups t of_t g of_g e spared))
     where
       go : (v : Option Bool) → allows v ≡ false → (unwrap_or v true ≡ true → has_group t g ≡ false) → unwrap_or v (has_group t g) ≡ false
@@ -124,7 +127,8 @@ module _ (p : Policy) (d : KnownRows) (none : directory_fault d.people d.machine
   named_refuses [] (suc i) before refused h = refused
   named_refuses (c ∷ cs) zero before refused h = refused
   named_refuses (c ∷ cs) (suc i) before refused h =
-      let parts = or_parts (own_reaches p d.people false c.runas) (list_any (λ (x : CommandSpec). own_reaches p d.people false x.runas) cs) h in
+      let parts = or_parts (own_reaches p d.people false c.runas)
+      (list_any (λ (x : CommandSpec). own_reaches p d.people false x.runas) cs) h in
       ap (runas_allows p q) (option_or-assoc (last_set (map (λ (x : CommandSpec). x.runas) (take i cs))) c.runas before)
       ∙ named_refuses cs i (option_or c.runas before) (go c.runas parts.0) parts.1
     where
@@ -137,11 +141,13 @@ module _ (p : Policy) (d : KnownRows) (none : directory_fault d.people d.machine
   first_refuses (Some r) k = runas_refuses r k
 
   -- no command of the section can be run
-  at_refuses : (cs : List CommandSpec) (i : ℕ) → commands_reach p d.people cs ≡ false → i < length cs → runas_allows p q (runas_at cs i) ≡ false
+  at_refuses : (cs : List CommandSpec) (i : ℕ) → commands_reach p d.people cs ≡ false → i < length cs
+      → runas_allows p q (runas_at cs i) ≡ false
   unfolding runas_at runas_before
   at_refuses [] i h within = absurd (omega (arith, within))
   at_refuses (c ∷ cs) i h within =
-      let parts = or_parts (own_reaches p d.people true c.runas) (list_any (λ (x : CommandSpec). own_reaches p d.people false x.runas) cs) h in
+      let parts = or_parts (own_reaches p d.people true c.runas)
+      (list_any (λ (x : CommandSpec). own_reaches p d.people false x.runas) cs) h in
       let e : i + 1 ≡ suc i = omega arith in
       ap (λ n. runas_allows p q (last_set (map (λ (x : CommandSpec). x.runas) (take n (c ∷ cs))))) e
       ∙ named_refuses cs i c.runas (first_refuses c.runas parts.0) parts.1
@@ -156,7 +162,8 @@ module _ (p : Policy) (d : KnownRows) (none : directory_fault d.people d.machine
   grant_fails : (place : Place) (users : List Member) (s : Section) (i : ℕ) (w : Signed) → Fails users s i
       → applies p q (grant_of place users s i w) ≡ false
   unfolding applies
-  grant_fails place users s i w f = go (user_allowed p users q.user) (host_allowed p s.hosts q.host) (runas_allows p q (runas_at s.commands i)) f
+  grant_fails place users s i w f =
+      go (user_allowed p users q.user) (host_allowed p s.hosts q.host) (runas_allows p q (runas_at s.commands i)) f
     where
       go : (a b c : Bool) → (a ≡ false) ⊎ (b ≡ false) ⊎ (c ≡ false) → (((a && b) && c) && command_fits w.atom q.command q.arguments) ≡ false
       go false b c h = refl
@@ -179,7 +186,8 @@ module _ (p : Policy) (d : KnownRows) (none : directory_fault d.people d.machine
   unfolding place_grants
   commands_fail place users s a [] f = refl
   commands_fail place users s a (c ∷ cs) f =
-      list_any-append (applies p q) (place_grants p place users s (a, c)) (flat_map (place_grants p place users s) (enumerate_from (a + 1) cs))
+      list_any-append (applies p q) (place_grants p place users s (a, c))
+      (flat_map (place_grants p place users s) (enumerate_from (a + 1) cs))
       ∙ ap (λ b. b || list_any (applies p q) (flat_map (place_grants p place users s) (enumerate_from (a + 1) cs)))
       (atoms_fail place users s a (written_form kinds.Cmnd p (c.command ∷ [])) (f a (omega arith) (omega arith)))
       ∙ commands_fail place users s (a + 1) cs (λ i from to. f i (omega (arith, from)) (omega (arith, to)))
@@ -192,7 +200,8 @@ module _ (p : Policy) (d : KnownRows) (none : directory_fault d.people d.machine
   section_fails : (users : List Member) (s : Section) → (user_allowed p users q.user ≡ false) ⊎ (section_reaches p d s ≡ false)
       → (i : ℕ) → i < length s.commands → Fails users s i
   section_fails users s (inl h) i within = inl h
-  section_fails users s (inr h) i within = go (and_fails (list_any (host_allowed p s.hosts) d.machines) (commands_reach p d.people s.commands) h)
+  section_fails users s (inr h) i within =
+      go (and_fails (list_any (host_allowed p s.hosts) d.machines) (commands_reach p d.people s.commands) h)
     where
       go : (list_any (host_allowed p s.hosts) d.machines ≡ false) ⊎ (commands_reach p d.people s.commands ≡ false) → Fails users s i
       go (inl k) = inr (inl (knows.host (host_allowed p s.hosts) k))

@@ -30,7 +30,8 @@ found_is_of test (y ∷ ys) x h f none =
     go true here rest e = let same : y ≡ x = cc in subst (λ z. f z ≡ false) same here
     go false here rest e = rest e
 
-pub any_flat : {X Y : Type 0} (f : Y → Bool) (g : X → List Y) (xs : List X) → list_any f (flat_map g xs) ≡ list_any (λ x. list_any f (g x)) xs
+pub any_flat : {X Y : Type 0} (f : Y → Bool) (g : X → List Y) (xs : List X)
+    → list_any f (flat_map g xs) ≡ list_any (λ x. list_any f (g x)) xs
 any_flat f g [] = refl
 any_flat f g (x ∷ xs) = list_any-append f (g x) (flat_map g xs) ∙ ap (λ b. list_any f (g x) || b) (any_flat f g xs)
 
@@ -75,7 +76,15 @@ group_step : (d : KnownRows) (r : Request) (u : Person) (m : Machine) (t : Optio
     → ((x : Person) → t ≡ Some x → IsOf x d.people) → with_group d r u m t o ≡ Ok q → Knows d q
 group_step d r u m t None q is user host asked h = cc
 group_step d r u m t (Some g) q is user host asked h =
-    let made : Question = record { user = u; host = m; asked = t; group = g; target = target_of d u t g; command = r.command; arguments = r.arguments } in
+    let made : Question = record {
+      user = u;
+      host = m;
+      asked = t;
+      group = g;
+      target = target_of d u t g;
+      command = r.command;
+      arguments = r.arguments;
+    } in
     let same : made ≡ q = cc in
     subst (Knows d) same (record {
       user = user;

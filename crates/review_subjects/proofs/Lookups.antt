@@ -42,7 +42,8 @@ group_has_users d name = known_group d name
 
 swapped : (name : List ℕ) (u : Person) → list_any (λ (g : Group). bytes_eq g.name name) u.groups
     ≡ list_any (λ (g : Group). bytes_eq name g.name) u.groups
-swapped name u = any_same (λ (g : Group). bytes_eq g.name name) (λ (g : Group). bytes_eq name g.name) (λ g. bytes_eq-swap g.name name) u.groups
+swapped name u =
+    any_same (λ (g : Group). bytes_eq g.name name) (λ (g : Group). bytes_eq name g.name) (λ g. bytes_eq-swap g.name name) u.groups
 
 pub group_is_known : (d : KnownRows) (name : List ℕ) → is_some (group_named d name) ≡ list_any (fits_own_group (atoms.Group name)) d.people
 unfolding group_fits
@@ -51,7 +52,8 @@ group_is_known d name =
     ∙ any_same (λ (u : Person). list_any (λ (g : Group). bytes_eq g.name name) u.groups)
     (λ (u : Person). list_any (λ (g : Group). bytes_eq name g.name) u.groups) (swapped name) d.people
 
-pub plain_group_is_known : (d : KnownRows) (name : List ℕ) → is_some (group_named d name) ≡ list_any (fits_own_group (atoms.Name name)) d.people
+pub plain_group_is_known : (d : KnownRows) (name : List ℕ)
+    → is_some (group_named d name) ≡ list_any (fits_own_group (atoms.Name name)) d.people
 unfolding group_fits
 plain_group_is_known d name =
     known_group d name

@@ -20,7 +20,8 @@ use Rattle.sudo_policy.specs.Written.{written_form}
 use Rattle.sudo_verdict.specs.Grants.{Grant, grants, grant_of, place_grants, section_grants, body_grants, entry_grants}
 use Rattle.review_subjects.specs.declared.rules.RuleCount.{RuleCount}
 use Rattle.review_subjects.specs.Counts.{same_place, allows_at, denies_at, grant_at}
-use Rattle.review_subjects.specs.Body.Places.{atom_places, command_places, section_places, body_places, granted_places, allowed_place, denied_place}
+use Rattle.review_subjects.specs.Body.Places.{atom_places, command_places, section_places, body_places, granted_places}
+use Rattle.review_subjects.specs.Body.Places.{allowed_place, denied_place}
 
 -- ---- A count goes through a map, and through lists of at most one
 
@@ -82,7 +83,8 @@ of_commands : (p : Policy) (place : Place) (users : List Member) (s : Section) (
 unfolding place_grants
 of_commands p place users s i [] = refl
 of_commands p place users s i (c ∷ cs) =
-    map-append (λ (g : Grant). g.place) (place_grants p place users s (i, c)) (flat_map (place_grants p place users s) (enumerate_from (i + 1) cs))
+    map-append (λ (g : Grant). g.place) (place_grants p place users s (i, c))
+    (flat_map (place_grants p place users s) (enumerate_from (i + 1) cs))
     ∙ ap (λ (ps : List Place). ps ++ map (λ (g : Grant). g.place) (flat_map (place_grants p place users s) (enumerate_from (i + 1) cs)))
     (of_atoms place users s i (written_form kinds.Cmnd p (c.command ∷ [])))
     ∙ ap (λ (ps : List Place). command_places p place c ++ ps) (of_commands p place users s (i + 1) cs)

@@ -14,6 +14,7 @@ returns c =
     let people = c.args.people.now in
     let users : c.as_slice.result.now ≡ written_form Runas p c.args.users.now = c.as_slice.ensures.value ∙ c.in_ok-users.ensures in
     let groups : c.as_slice-2.result.now ≡ written_form Runas p c.args.groups.now = c.as_slice-2.ensures.value ∙ c.in_ok-groups.ensures in
+    let groups_now = c.as_slice-2.result.now in
     c.pair_reaches_any.ensures
-    ∙ ap (λ (us : List Signed). list_any (pair_reaches us c.as_slice-2.result.now (allows_group c.as_slice-2.result.now people)) people) users
+    ∙ ap (λ (us : List Signed). list_any (pair_reaches us groups_now (allows_group groups_now people)) people) users
     ∙ ap (λ (gs : List Signed). list_any (pair_reaches (written_form Runas p c.args.users.now) gs (allows_group gs people)) people) groups
