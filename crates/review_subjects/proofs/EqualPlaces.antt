@@ -13,7 +13,7 @@ place_is a b h =
     let second = λ (n : ℕ). let made : Place = record { file = b.file; line = n } in made in
     ap first (eqb-true a.file b.file k.0) ∙ ap second (eqb-true a.line b.line k.1)
 
-place_same : (a : Place) → same_place a a ≡ true
+pub place_same : (a : Place) → same_place a a ≡ true
 place_same a = and_from (a.file == a.file) (a.line == a.line) (eq-eqb a.file a.file refl) (eq-eqb a.line a.line refl)
 
 pub place_swap : (a b : Place) → same_place a b ≡ same_place b a

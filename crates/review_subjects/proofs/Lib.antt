@@ -8,3 +8,6 @@ pub mod Lookups
 pub mod Groups
 pub mod IdleLaw
 pub mod SubjectVectors
+pub mod InForce
+pub mod VerdictPlaces
+pub mod CountVectors

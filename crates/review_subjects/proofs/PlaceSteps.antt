@@ -102,7 +102,7 @@ of_body p place (Rule users sections) =
     map_flat (λ (g : Grant). g.place) (section_grants p place users) (section_places p place) (of_section p place users) sections
 of_body p place (Include folder hash path) = refl
 
-grants_places : (p : Policy) → map (λ (g : Grant). g.place) (grants p) ≡ granted_places p p.entries
+pub grants_places : (p : Policy) → map (λ (g : Grant). g.place) (grants p) ≡ granted_places p p.entries
 unfolding grants
 grants_places p =
     map_flat (λ (g : Grant). g.place) (entry_grants p) (λ (e : Entry). body_places p e.place e.body)

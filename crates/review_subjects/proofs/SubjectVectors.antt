@@ -74,10 +74,10 @@ host name = one (atoms.Host (map (λ b. record { byte = b; escaped = false }) na
 
 -- ---- Lines
 
-abbrev line : ℕ → Place
+abbrev pub line : ℕ → Place
 line n = record { file = 0; line = n }
 
-abbrev command : Option Runas → CommandSpec
+abbrev pub command : Option Runas → CommandSpec
 command r = record { runas = r; tags = []; command = one atoms.All }
 
 abbrev run_as : Option (List Member) → Option (List Member) → Option Runas
@@ -90,13 +90,13 @@ abbrev rule : ℕ → List Member → List Section → Entry
 rule n users sections = record { place = line n; body = Rule users sections }
 
 -- a rule of alice on all hosts
-abbrev alice_runs : ℕ → List CommandSpec → Entry
+abbrev pub alice_runs : ℕ → List CommandSpec → Entry
 alice_runs n commands = rule n alice (on everybody commands ∷ [])
 
 abbrev alias : Kind → ℕ → List ℕ → List Member → Entry
 alias k n name members = record { place = line n; body = Aliases k (record { name = name; members = members } ∷ []) }
 
-abbrev policy : (entries : List Entry) → IsTrue (list_all (λ (e : Entry). nat_lt e.place.file 1) entries)
+abbrev pub policy : (entries : List Entry) → IsTrue (list_all (λ (e : Entry). nat_lt e.place.file 1) entries)
     → IsTrue (list_all (λ (e : Entry). not (is_include_entry e.body)) entries) → Policy
 policy entries placed unfolded = record { files = [] ∷ []; entries = entries; placed = placed; unfolded = unfolded }
 

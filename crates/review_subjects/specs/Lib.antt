@@ -4,4 +4,5 @@ pub mod Reach
 pub mod Subjects
 pub mod Idle
 pub mod Counts
+pub mod Laws
 pub mod Body

@@ -1,6 +1,9 @@
 //! The laws of subjects and of the counts of rules. The functions have no effect: each contract is a law.
 ghost use Rattle.review_subjects.specs.Counts.{CountsAddUp};
 ghost use Rattle.review_subjects.specs.Idle.{IdleRulesNeverApply};
+ghost use Rattle.review_subjects.specs.Laws.{AllInForce, VerdictsAreOfRules};
+
+use sudo_policy::Checked;
 
 /// No grant of a rule that reaches nobody applies to a request whose names are known, if the rows of the directory have no
 /// fault, as those of a [`sudo_match::Directory`] have none.
@@ -12,3 +15,15 @@ pub fn idle_rules_never_apply()
 pub fn counts_add_up()
     ensures { CountsAddUp }
 {}
+
+/// The verdict on a request, if it allows or denies, has the place of a rule.
+pub fn verdicts_are_of_rules()
+    ensures { VerdictsAreOfRules }
+{}
+
+/// Each definition of an alias of a checked policy is in force.
+pub fn definitions_are_in_force(checked: &Checked)
+    ensures { AllInForce checked.now }
+{
+    let _policy = checked.policy();
+}

@@ -18,6 +18,8 @@ mod written;
 
 pub use collecting::subjects;
 pub use kind::{SubjectFault, SubjectKind};
-pub use laws::{counts_add_up, idle_rules_never_apply};
+pub use laws::{
+    counts_add_up, definitions_are_in_force, idle_rules_never_apply, verdicts_are_of_rules,
+};
 pub use rules::{RuleCount, rule_counts};
 pub use subject::Subject;
