@@ -8,7 +8,7 @@ use Rattle.sudo_policy.specs.declared.finding.Class.TheVariants.{Redefined}
 use Rattle.sudo_policy.specs.Checking.{Passes}
 use Rattle.sudo_policy.specs.Definitions.{AliasDefinition, aliases, definitions, definitions_in_force, redefinitions, is_defined_in}
 use Rattle.sudo_policy.specs.Found.{finding_on, has_error, is_error}
-use Rattle.review_subjects.specs.Laws.{AllInForce}
+use Rattle.review_subjects.specs.Laws.{DefinitionsAreInForce}
 
 none_redefined : (earlier ds : List AliasDefinition) → redefinitions earlier ds ≡ [] → definitions_in_force earlier ds ≡ ds
 none_redefined earlier [] h = refl
@@ -26,7 +26,7 @@ no_redefinition : (ds : List AliasDefinition) (more : List Finding)
 no_redefinition [] more h = refl
 no_redefinition (d ∷ ds) more h = absurd (false≢true (sym h))
 
-pub all_in_force : (p : Policy) → Passes p → AllInForce p
+pub all_in_force : DefinitionsAreInForce
 all_in_force p passes =
     none_redefined [] (definitions p)
     (no_redefinition (redefinitions [] (definitions p)) _ (sym (ap has_error passes.are.list) ∙ passes.none))

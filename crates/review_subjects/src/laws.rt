@@ -1,9 +1,7 @@
 //! The laws of subjects and of the counts of rules. The functions have no effect: each contract is a law.
 ghost use Rattle.review_subjects.specs.Counts.{CountsAddUp};
 ghost use Rattle.review_subjects.specs.Idle.{IdleRulesNeverApply};
-ghost use Rattle.review_subjects.specs.Laws.{AllInForce, VerdictsAreOfRules};
-
-use sudo_policy::Checked;
+ghost use Rattle.review_subjects.specs.Laws.{DefinitionsAreInForce, VerdictsAreOfRules};
 
 /// No grant of a rule that reaches nobody applies to a request whose names are known, if the rows of the directory have no
 /// fault, as those of a [`sudo_match::Directory`] have none.
@@ -21,9 +19,7 @@ pub fn verdicts_are_of_rules()
     ensures { VerdictsAreOfRules }
 {}
 
-/// Each definition of an alias of a checked policy is in force.
-pub fn definitions_are_in_force(checked: &Checked)
-    ensures { AllInForce checked.now }
-{
-    let _policy = checked.policy();
-}
+/// Each definition of an alias of a policy that passes the check is in force.
+pub fn definitions_are_in_force()
+    ensures { DefinitionsAreInForce }
+{}
