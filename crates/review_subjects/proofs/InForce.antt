@@ -1,12 +1,10 @@
 -- In a policy that passes the check each definition is in force.
-use Rattle.std.proofs.Common.{◌≡◌, Bool, true, false, cond, ◌||◌, List, [], ◌∷◌, ◌++◌, map, refl, sym, ◌∙◌, ap}
+use Rattle.std.proofs.Common.{◌≡◌, Bool, true, false, cond, List, [], ◌∷◌, ◌++◌, map, refl, sym, ◌∙◌, ap}
 use Rattle.std.specs.List.{list_any}
 use Rattle.std.proofs.lemmas.Bool.{false≢true}
-use Rattle.sudo_grammar.specs.declared.policy.Policy.{Policy}
 use Rattle.sudo_policy.specs.declared.finding.Finding.{Finding}
 use Rattle.sudo_policy.specs.declared.finding.Class.TheVariants.{Redefined}
-use Rattle.sudo_policy.specs.Checking.{Passes}
-use Rattle.sudo_policy.specs.Definitions.{AliasDefinition, aliases, definitions, definitions_in_force, redefinitions, is_defined_in}
+use Rattle.sudo_policy.specs.Definitions.{AliasDefinition, definitions, definitions_in_force, redefinitions, is_defined_in}
 use Rattle.sudo_policy.specs.Found.{finding_on, has_error, is_error}
 use Rattle.review_subjects.specs.Laws.{DefinitionsAreInForce}
 

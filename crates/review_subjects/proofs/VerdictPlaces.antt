@@ -12,11 +12,9 @@ use Rattle.sudo_grammar.specs.declared.policy.Entry.{Entry}
 use Rattle.sudo_grammar.specs.declared.policy.EntryBody.{EntryBody}
 use Rattle.sudo_grammar.specs.declared.policy.EntryBody.TheVariants.{Aliases, Defaults, Rule, Include}
 use Rattle.sudo_grammar.specs.declared.policy.Policy.{Policy}
-use Rattle.sudo_match.specs.declared.request.Request.{Request}
 use Rattle.sudo_match.specs.declared.request.What.{What}
-use Rattle.sudo_match.specs.KnownRows.{KnownRows}
 use Rattle.sudo_verdict.specs.Last.{last_that}
-use Rattle.sudo_verdict.specs.Grants.{Grant, grants, applies, section_grants, body_grants, entry_grants}
+use Rattle.sudo_verdict.specs.Grants.{Grant, grants, applies}
 use Rattle.sudo_verdict.specs.Questions.{Question, question_of}
 use Rattle.sudo_verdict.specs.Values.{is_all}
 use Rattle.sudo_verdict.specs.Verdicts.{verdict_by, verdict_if_any, verdict_on, verdict_if_known, verdict_of, decided_by}
