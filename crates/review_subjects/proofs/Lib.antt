@@ -1,0 +1,13 @@
+pub mod Values
+pub mod Resolving
+pub mod EqualPlaces
+pub mod PlaceSteps
+pub mod CountLaw
+pub mod Known
+pub mod Lookups
+pub mod Groups
+pub mod IdleLaw
+pub mod SubjectVectors
+pub mod InForce
+pub mod VerdictPlaces
+pub mod CountVectors
