@@ -4,10 +4,10 @@
 //! Each line of a table of runs has a word, the first and the last number of the runs, ` =>`, and
 //! the text that each of them shows.
 
-use audit_commands::{audit_into, check_run};
+use audit_commands::{Work, audit_into, check_run};
 use audit_files::Script;
 use audit_run::Source;
-use review_commands::{cautions_run, report_into};
+use review_commands::{Form, cautions_run, report_into};
 use run_base::{Files, FilesFault};
 use std::alloc::{AllocError, Global};
 use std::sync::Wait;
@@ -154,8 +154,21 @@ pub(crate) fn report_shown<T: Threads + Wait + Sync, F: Files>(
         reader: requests,
     })?;
     let mut err = Script::of(alloc, b"", 1000)?;
+    let work = Work {
+        sources,
+        workers: 2,
+    };
     let status = report_into(
-        alloc, rt, b"p", files, &mut users, &mut hosts, sources, 2, &mut out, &mut err,
+        alloc,
+        rt,
+        b"p",
+        files,
+        &mut users,
+        &mut hosts,
+        work,
+        Form::Requests,
+        &mut out,
+        &mut err,
     );
     shown(alloc, status, &out, &err)
 }

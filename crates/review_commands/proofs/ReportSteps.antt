@@ -15,6 +15,7 @@ use Rattle.review_commands.specs.Body.Reviewing.{IsPrintedReview}
 use Rattle.review_commands.specs.CautionLines.{notice_text}
 use Rattle.review_commands.specs.FileTexts.{texts_of}
 use Rattle.review_commands.specs.Reviewing.{IsReviewed}
+use Rattle.review_commands.specs.declared.report.Form.{Form}
 use Rattle.review_commands.specs.declared.ending.NotedOutput.{NotedOutput}
 
 pub checked_of : (held : Option Holdings) (path main : List ℕ) (handed : List Supply) (policy : Policy)
@@ -22,23 +23,25 @@ pub checked_of : (held : Option Holdings) (path main : List ℕ) (handed : List 
 checked_of held path main handed policy loaded passes = record { loaded = (main, handed, loaded); passes = passes }
 
 -- the text of a report and its notice are the output
-pub reviewed_of : (given : Given) (main : List ℕ) (handed : List Supply) (policy : Policy) (answered : Result Report ReportFault)
+pub reviewed_of : (given : Given) (form : Form) (main : List ℕ) (handed : List Supply) (policy : Policy) (answered : Result Report ReportFault)
     (notice : List ℕ) (r : Result NotedOutput ReportFault)
     → IsLoadedFrom given.held given.path main handed policy
     → notice ≡ notice_text (policy_cautions (texts_of main handed policy.files) policy)
     → IfOk answered (λ report. IsAnswer given policy (Ok report))
-    → IfOk r (λ p. IsPrintedReview policy answered p.text.items) → IfOk r (λ p. p.notice.items ≡ notice)
-    → IfOk r (λ p. IsReviewed given p.text.items p.notice.items)
-reviewed_of given main handed policy answered notice (Ok p) loaded is answer h same = record {
+    → IfOk r (λ p. IsPrintedReview policy form answered p.text.items)
+    → IfOk r (λ p. (p.notice.items ≡ notice) × (p.status ≡ 0))
+    → IfOk r (λ p. IsReviewed given form p.text.items p.notice.items p.status)
+reviewed_of given form main handed policy answered notice (Ok p) loaded is answer h same = record {
   policy = policy;
   report = h.report;
   found = policy_cautions (texts_of main handed policy.files) policy;
   answer = subst (λ a. IfOk a (λ report. IsAnswer given policy (Ok report))) h.is_report answer;
   are = record { main = main; handed = handed; loaded = loaded; found_are = refl };
   text_is = h.text_is;
-  notice_is = same ∙ is;
+  notice_is = same.0 ∙ is;
+  status_is = same.1;
 }
-reviewed_of given main handed policy answered notice (Err fault) loaded is answer h same = tt
+reviewed_of given form main handed policy answered notice (Err fault) loaded is answer h same = tt
 
 -- the fault of an audit, or that of memory, is one of the whole
 pub not_reviewed_of : (given : Given) (answered : Result Report ReportFault) (r : Result NotedOutput ReportFault)

@@ -37,3 +37,25 @@ row_of old one two three four new scratch sender field asker asked verdict first
     ∙ regrouped old (field_text default_writer sender) (text (field ∷ asker)) (text asked) (text verdict) (10 ∷ [])
     ∙ ap (λ (t : List ℕ). old ++ ((field_text default_writer sender ++ t) ++ 10 ∷ [])) (sym all)
     ∙ ap (λ (t : List ℕ). old ++ t) (sym (line_text sender field (asker ++ (asked ++ verdict))))
+
+-- a record from its first field and the others
+pub line-of : (old one new first second : List ℕ) (rest : List (List ℕ)) → one ≡ old ++ field_text default_writer first
+    → new ≡ one ++ (fields_text default_writer (second ∷ rest) ++ 10 ∷ []) → new ≡ old ++ line (first ∷ second ∷ rest)
+line-of old one new first second rest begun more =
+    more ∙ ap (λ (t : List ℕ). t ++ (fields_text default_writer (second ∷ rest) ++ 10 ∷ [])) begun
+    ∙ gathered old (field_text default_writer first) (fields_text default_writer (second ∷ rest)) (10 ∷ [])
+    ∙ ap (λ (t : List ℕ). old ++ t) (sym (line_text first second rest))
+  where
+    gathered : (a b c d : List ℕ) → (a ++ b) ++ (c ++ d) ≡ a ++ ((b ++ c) ++ d)
+    gathered a b c d = simp append_assoc
+
+-- a record of four fields, of which three are known by other words
+pub line-four : (old one new first a b c second third fourth : List ℕ) → one ≡ old ++ field_text default_writer first
+    → a ≡ second → b ≡ third → c ≡ fourth
+    → new ≡ one ++ (fields_text default_writer (a ∷ b ∷ c ∷ []) ++ 10 ∷ [])
+    → new ≡ old ++ line (first ∷ second ∷ third ∷ fourth ∷ [])
+line-four old one new first a b c second third fourth begun is_a is_b is_c more =
+    line-of old one new first second (third ∷ fourth ∷ []) begun
+    (more ∙ ap (λ (t : List ℕ). one ++ (fields_text default_writer (t ∷ b ∷ c ∷ []) ++ 10 ∷ [])) is_a
+    ∙ ap (λ (t : List ℕ). one ++ (fields_text default_writer (second ∷ t ∷ c ∷ []) ++ 10 ∷ [])) is_b
+    ∙ ap (λ (t : List ℕ). one ++ (fields_text default_writer (second ∷ third ∷ t ∷ []) ++ 10 ∷ [])) is_c)

@@ -2,6 +2,7 @@ pub mod FileTexts
 pub mod CautionLines
 pub mod Endings
 pub mod Rows
+pub mod SubjectRows
 pub mod Reviewing
 pub mod Surveying
 pub mod Words

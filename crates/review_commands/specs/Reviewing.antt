@@ -1,4 +1,4 @@
--- The output of `cautions` and of `report`.
+-- The output of `cautions`, of `report` and of `rules`.
 use Rattle.std.specs.Prelude.{◌≡◌, ℕ, List, Option, Ok}
 use Rattle.sudo_grammar.specs.declared.policy.Policy.{Policy}
 use Rattle.sudo_load.specs.declared.supply.Supply.{Supply}
@@ -11,7 +11,11 @@ use Rattle.review_cautions.specs.declared.caution.Caution.{Caution}
 use Rattle.review_cautions.specs.declared.class.CautionClass.{CautionClass}
 use Rattle.review_commands.specs.CautionLines.{cautions_status, cautions_text, kept_cautions, notice_text}
 use Rattle.review_commands.specs.FileTexts.{texts_of}
+use Rattle.review_subjects.specs.Counts.{rule_counts}
 use Rattle.review_commands.specs.Rows.{report_text}
+use Rattle.review_commands.specs.SubjectRows.{rules_text}
+use Rattle.review_commands.specs.declared.report.Form.{Form}
+use Rattle.review_commands.specs.declared.report.Form.TheVariants as forms
 
 -- these are the cautions on the policy to which the file at a path unfolds, by the texts that were read for it
 pub record AreCautions (held : Option Holdings) (path : List ℕ) (policy : Policy) (found : List Caution) : Type 0 where
@@ -28,12 +32,19 @@ pub record IsCautioned (held : Option Holdings) (path : List ℕ) (without : Lis
   pub text_is : text ≡ cautions_text policy.files (kept_cautions without found)
   pub status_is : status ≡ cautions_status (kept_cautions without found)
 
--- the output of `report`: the text of the report of an audit, and the line of the cautions on its policy
-pub record IsReviewed (given : Given) (text notice : List ℕ) : Type 0 where
+-- the text of the report of an audit under a policy, in each of its forms
+abbrev pub text_in : Form → Policy → Report → List ℕ
+text_in forms.Requests policy report = report_text policy.files report
+text_in forms.Rules policy report = rules_text policy.files (rule_counts policy report)
+
+-- the output of `report` and of `rules`, with status 0: the text of the report of an audit, and the line of the cautions on
+-- its policy
+pub record IsReviewed (given : Given) (form : Form) (text notice : List ℕ) (status : ℕ) : Type 0 where
   pub policy : Policy
   pub report : Report
   pub found : List Caution
   pub answer : IsAnswer given policy (Ok report)
   pub are : AreCautions given.held given.path policy found
-  pub text_is : text ≡ report_text policy.files report
+  pub text_is : text ≡ text_in form policy report
   pub notice_is : notice ≡ notice_text found
+  pub status_is : status ≡ 0

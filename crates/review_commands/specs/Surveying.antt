@@ -23,6 +23,8 @@ use Rattle.review_commands.specs.Reviewing.{AreCautions}
 use Rattle.review_commands.specs.declared.fault.TableFault.{TableFault}
 use Rattle.review_commands.specs.declared.fault.TableFault.TheVariants as tables
 use Rattle.review_grants.specs.GrantRows.{grants_text}
+use Rattle.review_subjects.specs.Subjects.{policy_subjects}
+use Rattle.review_commands.specs.SubjectRows.{subjects_status, subjects_text}
 
 -- the input of a table: the files of its policy and the path of the main one, and the bytes ahead of the readers of users
 -- and of hosts
@@ -52,17 +54,30 @@ IsNotSurveyed given (tables.NoSuchUser name) = ⊥
 IsNotSurveyed given (tables.NoSuchHost name) = ⊥
 IsNotSurveyed given tables.Memory = ⊤
 
--- the output of `grants`: the table for the user and the host of these names, where one is given, and the line of the
--- cautions
-pub record IsGranted (given : Inputs) (user host : Option (List ℕ)) (text notice : List ℕ) : Type 0 where
+-- a table of a policy that passes the check and of the known users and hosts: its text, and the status for it
+abbrev pub Table : Type 1
+Table = Policy → KnownRows → List ℕ → ℕ → Type 0
+
+-- the output of a run that prints such a table: it, and the line of the cautions
+pub record IsTabled (Made : Table) (given : Inputs) (text notice : List ℕ) (status : ℕ) : Type 0 where
   pub policy : Policy
   pub directory : KnownRows
   pub surveyed : IsSurveyed given policy directory notice
+  pub made : Made policy directory text status
+
+-- the table of grants for the user and the host of these names, where one is given, with status 0
+pub record AreGrants (user host : Option (List ℕ)) (p : Policy) (d : KnownRows) (text : List ℕ) (status : ℕ) : Type 0 where
   pub person : Option Person
   pub machine : Option Machine
-  pub is_person : looked_up (user_named directory) user ≡ Some person
-  pub is_machine : looked_up (host_named directory) host ≡ Some machine
-  pub text_is : text ≡ grants_text policy directory person machine
+  pub is_person : looked_up (user_named d) user ≡ Some person
+  pub is_machine : looked_up (host_named d) host ≡ Some machine
+  pub text_is : text ≡ grants_text p d person machine
+  pub status_is : status ≡ 0
+
+-- the table of what reaches nobody, with status 5 if it has a row
+abbrev pub AreSubjects : Table
+AreSubjects p d text status =
+    (text ≡ subjects_text p.files (policy_subjects p d)) × (status ≡ subjects_status (policy_subjects p d))
 
 -- the directory of the input has no user of the name that is asked about
 pub record LacksUser (given : Inputs) (user : Option (List ℕ)) (name : List ℕ) : Type 0 where

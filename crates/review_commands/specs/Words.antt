@@ -7,7 +7,7 @@ use Rattle.clap.specs.declared.builder.action.ArgAction.TheVariants.{Append}
 use Rattle.review_cautions.specs.Classes.{class_name}
 use Rattle.run_base.specs.Arguments.{IsErrorFor, IsNumberIn, required_option, required_word, senders_rule, workers_rule}
 use Rattle.review_commands.specs.declared.request.Asked.{Asked}
-use Rattle.review_commands.specs.declared.request.Asked.TheVariants.{Cautions, Grants, Report}
+use Rattle.review_commands.specs.declared.request.Asked.TheVariants.{Cautions, Grants, Report, Rules, Subjects}
 
 -- --without CLASS, any number of times
 abbrev pub without_rule : Rule
@@ -21,23 +21,18 @@ cautions_app = with_rule (with_rule (new_app (codes "cautions")) (required_word 
 abbrev pub name_rule : Text → Rule
 name_rule id = record (new_rule id) { long = Some id }
 
--- grants FILE --users F --hosts F
-abbrev pub grants_paths_app : App
-grants_paths_app = with_rule (with_rule (with_rule (new_app (codes "grants")) (required_word (codes "file")))
+-- NAME FILE --users F --hosts F
+abbrev pub paths_app : Text → App
+paths_app name = with_rule (with_rule (with_rule (new_app name) (required_word (codes "file")))
     (required_option (codes "users"))) (required_option (codes "hosts"))
 
 -- grants FILE --users F --hosts F [--user NAME] [--host NAME]
 abbrev pub grants_app : App
-grants_app = with_rule (with_rule grants_paths_app (name_rule (codes "user"))) (name_rule (codes "host"))
+grants_app = with_rule (with_rule (paths_app (codes "grants")) (name_rule (codes "user"))) (name_rule (codes "host"))
 
--- report FILE --users F --hosts F
-abbrev pub report_paths_app : App
-report_paths_app = with_rule (with_rule (with_rule (new_app (codes "report")) (required_word (codes "file")))
-    (required_option (codes "users"))) (required_option (codes "hosts"))
-
--- report FILE --users F --hosts F [--workers N] [NAME=PATH]...
-abbrev pub report_app : App
-report_app = with_rule (with_rule report_paths_app workers_rule) senders_rule
+-- NAME FILE --users F --hosts F [--workers N] [NAME=PATH]...
+abbrev pub judging_app : Text → App
+judging_app name = with_rule (with_rule (paths_app name) workers_rule) senders_rule
 
 -- the program's name; it has a version and requires a subcommand
 abbrev pub named_app : App
@@ -45,7 +40,8 @@ named_app = on_top (λ s. record s { has_version = true; subcommand_required = t
 
 -- the program's command, with its subcommands
 abbrev pub program_app : App
-program_app = with_subcommand (with_subcommand (with_subcommand named_app cautions_app.top) grants_app.top) report_app.top
+program_app = with_subcommand (with_subcommand (with_subcommand (with_subcommand (with_subcommand named_app cautions_app.top)
+    (judging_app (codes "report")).top) grants_app.top) (paths_app (codes "subjects")).top) (judging_app (codes "rules")).top
 
 -- the rows hold the paths of a policy, of the known users and of the known hosts
 pub record HavePaths (rows : List Row) (file users hosts : Text) : Type 0 where
@@ -61,13 +57,20 @@ HoldsCommand (Cautions file without) p =
 HoldsCommand (Grants file users hosts user host) p =
     (p.0 ≡ codes "grants") × HavePaths p.1 file.now users.now hosts.now
     × (first_of (codes "user") p.1 ≡ option_map (λ s. s.now) user) × (first_of (codes "host") p.1 ≡ option_map (λ s. s.now) host)
+HoldsCommand (Subjects file users hosts) p = (p.0 ≡ codes "subjects") × HavePaths p.1 file.now users.now hosts.now
+HoldsCommand (Rules file users hosts workers senders) p =
+    (p.0 ≡ codes "rules") × HavePaths p.1 file.now users.now hosts.now × IsNumberIn workers p.1
+    × (unwrap_or (all_of (codes "senders") p.1) [] ≡ map (λ s. s.now) senders.items)
 HoldsCommand (Report file users hosts workers senders) p =
-    (p.0 ≡ codes "report") × HavePaths p.1 file.now users.now hosts.now × IsNumberIn workers p.1 × (unwrap_or (all_of (codes "senders") p.1) [] ≡ map (λ s. s.now) senders.items)
+    (p.0 ≡ codes "report") × HavePaths p.1 file.now users.now hosts.now × IsNumberIn workers p.1
+    × (unwrap_or (all_of (codes "senders") p.1) [] ≡ map (λ s. s.now) senders.items)
 
 -- the number of workers is one that an audit accepts
 abbrev pub WorkersFit : Asked → Type 0
 WorkersFit (Cautions file without) = ⊤
 WorkersFit (Grants file users hosts user host) = ⊤
+WorkersFit (Subjects file users hosts) = ⊤
+WorkersFit (Rules file users hosts workers senders) = (1 ≤ workers) × (workers ≤ 16)
 WorkersFit (Report file users hosts workers senders) = (1 ≤ workers) × (workers ≤ 16)
 
 -- a subcommand with these rows asks for no command: its name is another, a word is missing, a CLASS is no class of

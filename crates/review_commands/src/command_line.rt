@@ -1,9 +1,9 @@
 //! The command that `clap` reads.
-ghost use Rattle.std.specs.Prelude.{◌≡◌, IfOk, false};
+ghost use Rattle.std.specs.Prelude.{◌≡◌, IfOk, codes, false};
 ghost use Rattle.clap.specs.Words.{app_of, rule_of};
 ghost use Rattle.clap.specs.declared.builder.command.Command.TheViews.{out-Command as fields_of};
-ghost use Rattle.review_commands.specs.Words.{cautions_app, grants_app, grants_paths_app, name_rule};
-ghost use Rattle.review_commands.specs.Words.{named_app, program_app, report_app, report_paths_app, without_rule};
+ghost use Rattle.review_commands.specs.Words.{cautions_app, grants_app, judging_app, name_rule, named_app};
+ghost use Rattle.review_commands.specs.Words.{paths_app, program_app, without_rule};
 
 use clap::{Arg, ArgAction, Command};
 use run_base::{file, path_option, senders_words, with_subcommand, workers_option};
@@ -31,6 +31,18 @@ fn cautions<'a>(alloc: Global) -> Result<Command<'a>, AllocError>
         .arg(without(alloc))
 }
 
+// Returns `NAME FILE --users F --hosts F`.
+fn with_paths<'a>(alloc: Global, name: &'a str, about: &'a str) -> Result<Command<'a>, AllocError>
+    ensures app { IfOk result (λ c. app_of c ≡ paths_app name.entry.now) }
+    ensures local { IfOk result (λ c. (fields_of c).has_globals ≡ false) }
+{
+    Command::new(alloc, name)
+        .about(about)
+        .arg(file(alloc))?
+        .arg(path_option(alloc, "users", "The known users, as CSV"))?
+        .arg(path_option(alloc, "hosts", "The known hosts, as CSV"))
+}
+
 // Returns `--ID NAME`.
 fn name_option<'a>(alloc: Global, id: &'a str, help: &'a str) -> Arg<'a>
     ensures rule { rule_of result ≡ name_rule id.entry.now }
@@ -39,46 +51,44 @@ fn name_option<'a>(alloc: Global, id: &'a str, help: &'a str) -> Arg<'a>
     Arg::new(alloc, id).long(id).help(help)
 }
 
-// Returns `grants FILE --users F --hosts F`.
-fn grants_paths<'a>(alloc: Global) -> Result<Command<'a>, AllocError>
-    ensures app { IfOk result (λ c. app_of c ≡ grants_paths_app) }
-    ensures local { IfOk result (λ c. (fields_of c).has_globals ≡ false) }
-{
-    Command::new(alloc, "grants")
-        .about("Lists the grants of a policy, with the known users and hosts of each")
-        .arg(file(alloc))?
-        .arg(path_option(alloc, "users", "The known users, as CSV"))?
-        .arg(path_option(alloc, "hosts", "The known hosts, as CSV"))
-}
-
 // Returns `grants FILE --users F --hosts F [--user NAME] [--host NAME]`.
 fn grants<'a>(alloc: Global) -> Result<Command<'a>, AllocError>
     ensures app { IfOk result (λ c. app_of c ≡ grants_app) }
     ensures local { IfOk result (λ c. (fields_of c).has_globals ≡ false) }
 {
-    grants_paths(alloc)?
+    let about = "Lists the grants of a policy, with the known users and hosts of each";
+    with_paths(alloc, "grants", about)?
         .arg(name_option(alloc, "user", "Only the grants of this user"))?
         .arg(name_option(alloc, "host", "Only the grants on this host"))
 }
 
-// Returns `report FILE --users F --hosts F`.
-fn report_paths<'a>(alloc: Global) -> Result<Command<'a>, AllocError>
-    ensures app { IfOk result (λ c. app_of c ≡ report_paths_app) }
+// Returns `subjects FILE --users F --hosts F`.
+fn subjects<'a>(alloc: Global) -> Result<Command<'a>, AllocError>
+    ensures app { IfOk result (λ c. app_of c ≡ paths_app (codes "subjects")) }
     ensures local { IfOk result (λ c. (fields_of c).has_globals ≡ false) }
 {
-    Command::new(alloc, "report")
-        .about("Prints what a policy grants to each request, beside the request")
-        .arg(file(alloc))?
-        .arg(path_option(alloc, "users", "The known users, as CSV"))?
-        .arg(path_option(alloc, "hosts", "The known hosts, as CSV"))
+    let about = "Lists what of a policy reaches nobody that the users and hosts files know";
+    with_paths(alloc, "subjects", about)
+}
+
+// Returns `rules FILE --users F --hosts F [--workers N] [NAME=PATH]...`.
+fn rules<'a>(alloc: Global) -> Result<Command<'a>, AllocError>
+    ensures app { IfOk result (λ c. app_of c ≡ judging_app (codes "rules")) }
+    ensures local { IfOk result (λ c. (fields_of c).has_globals ≡ false) }
+{
+    let about = "Counts the requests that each rule of a policy decides";
+    with_paths(alloc, "rules", about)?
+        .arg(workers_option(alloc))?
+        .arg(senders_words(alloc))
 }
 
 // Returns `report FILE --users F --hosts F [--workers N] [NAME=PATH]...`.
 fn report<'a>(alloc: Global) -> Result<Command<'a>, AllocError>
-    ensures app { IfOk result (λ c. app_of c ≡ report_app) }
+    ensures app { IfOk result (λ c. app_of c ≡ judging_app (codes "report")) }
     ensures local { IfOk result (λ c. (fields_of c).has_globals ≡ false) }
 {
-    report_paths(alloc)?
+    let about = "Prints what a policy grants to each request, beside the request";
+    with_paths(alloc, "report", about)?
         .arg(workers_option(alloc))?
         .arg(senders_words(alloc))
 }
@@ -97,7 +107,9 @@ fn named<'a>(alloc: Global) -> Command<'a>
 pub(crate) fn program<'a>(alloc: Global) -> Result<Command<'a>, AllocError>
     ensures app { IfOk result (λ c. app_of c ≡ program_app) }
 {
-    let cautioning = with_subcommand(named(alloc), cautions(alloc))?;
-    let granting = with_subcommand(cautioning, grants(alloc))?;
-    with_subcommand(granting, report(alloc))
+    let with_cautions = with_subcommand(named(alloc), cautions(alloc))?;
+    let with_report = with_subcommand(with_cautions, report(alloc))?;
+    let with_grants = with_subcommand(with_report, grants(alloc))?;
+    let with_subjects = with_subcommand(with_grants, subjects(alloc))?;
+    with_subcommand(with_subjects, rules(alloc))
 }

@@ -7,15 +7,16 @@ use audit_files::{Sink, write_all_of};
 use run_base::{Fails, report_fault, write_text};
 use std::alloc::Global;
 
-/// The text that a run prints on the output, and the notice that it then prints on the error output.
+/// The text that a run prints on the output, the notice that it then prints on the error output, and its exit status.
 #[derive(Drop)]
 pub(crate) struct NotedOutput {
     pub(crate) text: Vec<u8>,
     pub(crate) notice: Vec<u8>,
+    pub(crate) status: u8,
 }
 
-/// Ends a run of the program of this name: prints its text on `out` and then its notice on `err`, and returns 0; or prints the
-/// fault on `err` and returns the fault's status. A write on `out` that fails is a fault; one on `err` is ignored.
+/// Ends a run of the program of this name: prints its text on `out` and then its notice on `err`, and returns its status; or
+/// prints the fault on `err` and returns the fault's status. A write on `out` that fails is a fault; one on `err` is ignored.
 pub(crate) fn end_noted<F: Fails, O: Sink, E: Sink>(
     alloc: Global,
     program: &[u8],
@@ -30,7 +31,7 @@ pub(crate) fn end_noted<F: Fails, O: Sink, E: Sink>(
 {
     match ended {
         Ok(noted) => match write_all_of(out, &noted.text) {
-            Ok(()) => write_text(&noted.notice, 0, err),
+            Ok(()) => write_text(&noted.notice, noted.status, err),
             Err(lost) => report_fault(alloc, program, lost, err),
         },
         Err(fault) => report_fault(alloc, program, fault, err),

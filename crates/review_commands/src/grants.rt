@@ -4,8 +4,9 @@ ghost use Rattle.run_base.specs.Endings.{writer_states as sent};
 ghost use Rattle.sudo_match.specs.KnownRows.{host_named, user_named};
 ghost use Rattle.sudo_verdict.specs.Questions.{looked_up};
 ghost use Rattle.review_commands.specs.Endings.{EndsNoted};
-ghost use Rattle.review_commands.specs.Body.Surveying.{IsNotInScope, IsTable};
-ghost use Rattle.review_commands.specs.Surveying.{Inputs, inputs_by, IsGranted, IsNotGranted, table_notices};
+ghost use Rattle.review_commands.specs.Body.Surveying.{IsNotInScope};
+ghost use Rattle.review_commands.specs.Surveying.{AreGrants, Inputs, inputs_by, IsNotGranted, IsTabled};
+ghost use Rattle.review_commands.specs.Surveying.{table_notices};
 
 use crate::ending::{NotedOutput, end_noted};
 use crate::fault::TableFault;
@@ -13,7 +14,7 @@ use crate::program_name::PROGRAM;
 use crate::survey::{noted, read_survey};
 use audit_files::{Feed, Sink};
 use review_grants::{Scope, grants_text};
-use run_base::Files;
+use run_base::{Files, RunOutput};
 use std::alloc::Global;
 use sudo_match::Directory;
 use sudo_policy::Checked;
@@ -58,20 +59,20 @@ fn scope_of<'a>(
 }
 
 // Returns the table of the grants of a policy, all or those of the user and the host of these names.
-fn table_text(
+fn grants_table(
     alloc: Global,
     policy: &Checked,
     directory: &Directory,
     names: ScopeNames<'_>,
-) -> Result<Vec<u8>, TableFault>
-    ensures text { IfOk result (λ text. IsTable policy.now directory.now
-        (option_copied names.entry.user) (option_copied names.entry.host) text.items) }
+) -> Result<RunOutput, TableFault>
+    ensures made { IfOk result (λ o. AreGrants (option_copied names.entry.user)
+        (option_copied names.entry.host) policy.now directory.now o.text.items o.status) }
     ensures fault { IfErr result (IsNotInScope directory.now (option_copied names.entry.user)
         (option_copied names.entry.host)) }
 {
     let scope = scope_of(alloc, directory, names)?;
     match grants_text(alloc, policy, directory, scope) {
-        Ok(text) => Ok(text),
+        Ok(text) => Ok(RunOutput { text, status: 0 }),
         Err(_) => Err(TableFault::Memory),
     }
 }
@@ -87,16 +88,16 @@ fn grants_output<F: Files, U: Feed, H: Feed>(
 ) -> Result<NotedOutput, TableFault>
     ensures printed { let given : Inputs = inputs_by (F.held files.old) path.now
         (U.ahead users.old) (H.ahead hosts.old) in
-        IfOk result (λ p. IsGranted given (option_copied names.entry.user)
-        (option_copied names.entry.host) p.text.items p.notice.items) }
+        IfOk result (λ p. IsTabled (AreGrants (option_copied names.entry.user)
+        (option_copied names.entry.host)) given p.text.items p.notice.items p.status) }
     ensures fault { let given : Inputs = inputs_by (F.held files.old) path.now
         (U.ahead users.old) (H.ahead hosts.old) in
         IfErr result (IsNotGranted given (option_copied names.entry.user)
         (option_copied names.entry.host)) }
 {
     let survey = read_survey(alloc, path, files, users, hosts)?;
-    let text = table_text(alloc, &survey.checked.policy, &survey.directory, names);
-    noted(survey, text)
+    let table = grants_table(alloc, &survey.checked.policy, &survey.directory, names);
+    noted(survey, table)
 }
 
 /// Prints on `out` the table of the grants of the policy of a file, each with the known users and hosts that its lists allow:
@@ -119,7 +120,8 @@ pub fn grants_run<F: Files, U: Feed, H: Feed, O: Sink, E: Sink>(
 ) -> u8
     ensures ends { let given : Inputs = inputs_by (F.held files.old) path.now
         (U.ahead users.old) (H.ahead hosts.old) in
-        EndsNoted table_notices (IsGranted given (option_copied names.entry.user) (option_copied names.entry.host))
+        EndsNoted table_notices
+        (IsTabled (AreGrants (option_copied names.entry.user) (option_copied names.entry.host)) given)
         (IsNotGranted given (option_copied names.entry.user) (option_copied names.entry.host)) result
         (sent O.taken O.stalled_writes out.old out.new)
         (sent E.taken E.stalled_writes err.old err.new) }

@@ -13,6 +13,8 @@ mod program_name;
 mod report;
 mod report_rows;
 mod request;
+mod subject_rows;
+mod subjects;
 mod survey;
 mod words;
 
@@ -20,6 +22,7 @@ pub use cautions::cautions_run;
 pub use fault::TableFault;
 pub use grants::{ScopeNames, grants_run};
 pub use program::run_program;
-pub use report::report_into;
+pub use report::{Form, report_into};
 pub use request::Asked;
+pub use subjects::subjects_run;
 pub use words::{asked, unread};

@@ -5,10 +5,11 @@ ghost use Rattle.review_commands.specs.Words.{WorkersFit};
 use crate::cautions::cautions_run;
 use crate::grants::{ScopeNames, grants_run};
 use crate::program_name::PROGRAM;
-use crate::report::report_into;
+use crate::report::{Form, report_into};
 use crate::request::Asked;
+use crate::subjects::subjects_run;
 use crate::words::{asked, unread};
-use audit_commands::{OpenedFiles, open_all};
+use audit_commands::{OpenedFiles, Work, open_all};
 use audit_files::Device;
 use clap::Error;
 use clap::error::ErrorKind;
@@ -28,6 +29,7 @@ fn run_report<T: Threads + Wait + Sync>(
     hosts: &str,
     workers: u32,
     words: &[&str],
+    form: Form,
 ) -> u8
     requires { (1 ≤ workers) × (workers ≤ 16) }
 {
@@ -48,8 +50,8 @@ fn run_report<T: Threads + Wait + Sync>(
                 &mut Disk::new(rt),
                 &mut users,
                 &mut hosts,
-                sources,
-                workers,
+                Work { sources, workers },
+                form,
                 &mut out,
                 &mut err,
             )
@@ -77,6 +79,32 @@ fn run_grants(rt: &HostRuntime, file: &str, users: &str, hosts: &str, names: Sco
                 &mut users,
                 &mut hosts,
                 names,
+                &mut out,
+                &mut err,
+            )
+        }
+        Err(fault) => report_fault(alloc, PROGRAM, fault, &mut err),
+    }
+}
+
+// Lists what of the policy of a file reaches nobody, and returns the exit status.
+fn run_subjects(rt: &HostRuntime, file: &str, users: &str, hosts: &str) -> u8 {
+    let alloc = rt.alloc();
+    let mut out = Device::new(rt.stdout());
+    let mut err = Device::new(rt.stderr());
+    match open_all(alloc, &SystemOpener::new(rt), users, hosts, &[]) {
+        Ok(files) => {
+            let OpenedFiles {
+                mut users,
+                mut hosts,
+                ..
+            } = files;
+            subjects_run(
+                alloc,
+                file.as_bytes(),
+                &mut Disk::new(rt),
+                &mut users,
+                &mut hosts,
                 &mut out,
                 &mut err,
             )
@@ -123,13 +151,36 @@ fn run<T: Threads + Wait + Sync>(rt: &HostRuntime, threads: &T, asked: Asked<'_>
             };
             run_grants(rt, file, users, hosts, names)
         }
+        Asked::Subjects { file, users, hosts } => run_subjects(rt, file, users, hosts),
+        Asked::Rules {
+            file,
+            users,
+            hosts,
+            workers,
+            senders,
+        } => {
+            let words = senders.as_slice();
+            run_report(rt, threads, file, users, hosts, workers, words, Form::Rules)
+        }
         Asked::Report {
             file,
             users,
             hosts,
             workers,
             senders,
-        } => run_report(rt, threads, file, users, hosts, workers, senders.as_slice()),
+        } => {
+            let words = senders.as_slice();
+            run_report(
+                rt,
+                threads,
+                file,
+                users,
+                hosts,
+                workers,
+                words,
+                Form::Requests,
+            )
+        }
     }
 }
 

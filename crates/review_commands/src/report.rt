@@ -1,4 +1,4 @@
-//! `report`: answers requests, each beside its answer.
+//! `report` and `rules`: answers requests, each beside its answer, or counted by the rule that decided.
 ghost use Rattle.std.specs.Prelude.{◌≡◌, ◌≤◌, ◌⊎◌, ℕ, List, Ok, Err, IfErr, IfOk, map};
 ghost use Rattle.run_base.specs.Endings.{writer_states as sent};
 ghost use Rattle.audit_commands.specs.Auditing.{Given, given_by, IsNotAudited};
@@ -7,17 +7,18 @@ ghost use Rattle.review_commands.specs.CautionLines.{notice_text, report_notices
 ghost use Rattle.review_commands.specs.Endings.{EndsNoted};
 ghost use Rattle.review_cautions.specs.Cautions.{policy_cautions};
 ghost use Rattle.review_commands.specs.FileTexts.{texts_of};
-ghost use Rattle.review_commands.specs.Reviewing.{IsReviewed};
+ghost use Rattle.review_commands.specs.Reviewing.{IsReviewed, text_in};
 
 use crate::cautions::found_in;
 use crate::ending::{NotedOutput, end_noted};
 use crate::lines::notice;
 use crate::program_name::PROGRAM;
 use crate::report_rows::report_text;
+use crate::subject_rows::rules_text;
 use audit_collect::Report;
 use audit_commands::{ReportFault, Work, answer_requests};
 use audit_files::{Feed, Sink};
-use audit_run::Source;
+use review_subjects::rule_counts;
 use run_base::{CheckedFiles, Files, PolicyFault, checked_files};
 use std::alloc::{AllocError, Global};
 use std::mem;
@@ -37,23 +38,53 @@ pub(crate) fn notice_on(alloc: Global, checked: &CheckedFiles) -> Result<Vec<u8>
     notice(alloc, &found)
 }
 
-// Returns the text of a report, with this notice. Forgets the report: the run ends here, and texts of many requests are not
-// freed one by one.
+/// The forms in which a report of an audit is printed.
+#[derive(Clone, Copy, Debug, PartialEq, Eq)]
+pub enum Form {
+    /// A row for each request, beside its answer.
+    Requests,
+    /// A row for each rule of the policy, with the number of requests that it decided.
+    Rules,
+}
+
+// Returns the text of a report under a policy, in a form.
+fn text_of(
+    alloc: Global,
+    policy: &Checked,
+    report: &Report,
+    form: Form,
+) -> Result<Vec<u8>, AllocError>
+    ensures { IfOk result (λ text. text.items ≡ text_in form policy.now report.now) }
+{
+    let files = policy.policy().files.as_slice();
+    match form {
+        Form::Requests => report_text(alloc, report, files),
+        Form::Rules => rules_text(alloc, files, &rule_counts(alloc, policy, report)?),
+    }
+}
+
+// Returns the text of a report in a form, with this notice. Forgets the report: the run ends here, and texts of many requests
+// are not freed one by one.
 fn printed(
     alloc: Global,
     policy: &Checked,
     answered: Result<Report, ReportFault>,
+    form: Form,
     notice: Vec<u8>,
 ) -> Result<NotedOutput, ReportFault>
-    ensures text { IfOk result (λ p. IsPrintedReview policy.now answered p.text.items) }
-    ensures notice { IfOk result (λ p. p.notice.items ≡ notice.items) }
+    ensures text { IfOk result (λ p. IsPrintedReview policy.now form answered p.text.items) }
+    ensures notice { IfOk result (λ p. (p.notice.items ≡ notice.items) × (p.status ≡ 0)) }
     ensures fault { IfErr result (λ fault. (fault ≡ ReportFault.Memory) ⊎ (answered ≡ Err fault)) }
 {
     match answered {
         Ok(report) => {
-            let text = report_text(alloc, &report, policy.policy().files.as_slice())?;
+            let text = text_of(alloc, policy, &report, form)?;
             mem::forget(report);
-            Ok(NotedOutput { text, notice })
+            Ok(NotedOutput {
+                text,
+                notice,
+                status: 0,
+            })
         }
         Err(fault) => Err(fault),
     }
@@ -69,12 +100,13 @@ fn report_output<T: Threads + Wait + Sync, F: Files, U: Feed, H: Feed, R: Feed +
     users: &mut U,
     hosts: &mut H,
     work: Work<R>,
+    form: Form,
 ) -> Result<NotedOutput, ReportFault>
     requires { (1 ≤ work.workers) × (work.workers ≤ 16) }
     ensures report { let given : Given = given_by (F.held files.old) path.now
         (U.ahead users.old) (H.ahead hosts.old) (map (λ s. s.name) work.sources.items)
         (map (λ s. R.ahead s.reader) work.sources.items) work.workers in
-        IfOk result (λ p. IsReviewed given p.text.items p.notice.items) }
+        IfOk result (λ p. IsReviewed given form p.text.items p.notice.items p.status) }
     ensures fault { let given : Given = given_by (F.held files.old) path.now
         (U.ahead users.old) (H.ahead hosts.old) (map (λ s. s.name) work.sources.items)
         (map (λ s. R.ahead s.reader) work.sources.items) work.workers in
@@ -90,14 +122,14 @@ fn report_output<T: Threads + Wait + Sync, F: Files, U: Feed, H: Feed, R: Feed +
         Err(_) => return Err(ReportFault::Memory),
     };
     let answered = answer_requests(alloc, rt, &checked.policy, users, hosts, work);
-    let ended = printed(alloc, &checked.policy, answered, notice);
+    let ended = printed(alloc, &checked.policy, answered, form, notice);
     mem::forget(checked);
     ended
 }
 
-/// Prints on `out` the report of the requests of the sources, each request beside its answer: for each sender, in the order
-/// in which their names first appear, and for each of its requests, in the order of their numbers, the verdict of the policy
-/// of a file. Then prints on `err` the line that counts the cautions on the policy, if there is one.
+/// Prints on `out` the report of the requests of the sources in a form: as `Requests` each request beside its answer, for each
+/// sender, in the order in which their names first appear, and for each of its requests, in the order of their numbers, the
+/// verdict of the policy of a file; as `Rules` how many requests each rule of the policy decided, in the policy's order. Then prints on `err` the line that counts the cautions on the policy, if there is one.
 ///
 /// Returns the exit status: 0; 1 if the policy is refused or has errors; 3 if the users, the hosts or the requests are
 /// refused; 4 if reading, writing, a thread or memory failed. Checks in this order: the policy, the users, the hosts, both
@@ -118,20 +150,19 @@ pub fn report_into<
     files: &mut F,
     users: &mut U,
     hosts: &mut H,
-    sources: Vec<Source<R>>,
-    workers: u32,
+    work: Work<R>,
+    form: Form,
     out: &mut O,
     err: &mut E,
 ) -> u8
-    requires { (1 ≤ workers) × (workers ≤ 16) }
+    requires { (1 ≤ work.workers) × (work.workers ≤ 16) }
     ensures ends { let given : Given = given_by (F.held files.old) path.now
-        (U.ahead users.old) (H.ahead hosts.old) (map (λ s. s.name) sources.items)
-        (map (λ s. R.ahead s.reader) sources.items) workers in
-        EndsNoted report_notices (IsReviewed given) (IsNotAudited given) result
+        (U.ahead users.old) (H.ahead hosts.old) (map (λ s. s.name) work.sources.items)
+        (map (λ s. R.ahead s.reader) work.sources.items) work.workers in
+        EndsNoted report_notices (IsReviewed given form) (IsNotAudited given) result
         (sent O.taken O.stalled_writes out.old out.new)
         (sent E.taken E.stalled_writes err.old err.new) }
 {
-    let work = Work { sources, workers };
-    let ended = report_output(alloc, rt, path, files, users, hosts, work);
+    let ended = report_output(alloc, rt, path, files, users, hosts, work, form);
     end_noted(alloc, PROGRAM, ended, out, err)
 }

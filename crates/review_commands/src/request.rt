@@ -19,6 +19,21 @@ pub enum Asked<'a> {
         user: Option<&'a str>,
         host: Option<&'a str>,
     },
+    /// `subjects FILE --users F --hosts F`: lists what of a policy reaches nobody.
+    Subjects {
+        file: &'a str,
+        users: &'a str,
+        hosts: &'a str,
+    },
+    /// `rules FILE --users F --hosts F [--workers N] [NAME=PATH]...`: counts the requests that each rule decides.
+    Rules {
+        file: &'a str,
+        users: &'a str,
+        hosts: &'a str,
+        workers: u32,
+        /// The words `NAME=PATH`, as given.
+        senders: Vec<&'a str>,
+    },
     /// `report FILE --users F --hosts F [--workers N] [NAME=PATH]...`: answers requests, each beside its answer.
     Report {
         file: &'a str,

@@ -1,5 +1,6 @@
 //! What the tables of a policy are made of.
 ghost use Rattle.std.specs.Prelude.{◌≡◌, Ok, Err, IfErr, IfOk};
+ghost use Rattle.review_commands.specs.Body.Surveying.{IsMemory, IsNotedTable};
 ghost use Rattle.review_commands.specs.Surveying.{Inputs, inputs_by, IsNotSurveyed, IsSurveyed};
 
 use crate::ending::NotedOutput;
@@ -7,8 +8,8 @@ use crate::fault::TableFault;
 use crate::report::notice_on;
 use audit_commands::{DirectoryFault, directory_of};
 use audit_files::Feed;
-use run_base::{CheckedFiles, Files, PolicyFault, checked_files};
-use std::alloc::Global;
+use run_base::{CheckedFiles, Files, PolicyFault, RunOutput, checked_files};
+use std::alloc::{AllocError, Global};
 use std::mem;
 use sudo_match::Directory;
 
@@ -58,15 +59,25 @@ pub(crate) fn read_survey<F: Files, U: Feed, H: Feed>(
     }
 }
 
-/// Returns a text with the notice that is printed behind it, or the fault in place of the text. Forgets the policy: the run ends
-/// here.
+/// Returns a table, or an allocation failure as the fault of a table.
+pub(crate) fn or_memory(table: Result<RunOutput, AllocError>) -> Result<RunOutput, TableFault>
+    ensures made { IfOk result (λ o. table ≡ Ok o) }
+    ensures fault { IfErr result IsMemory }
+{
+    match table {
+        Ok(table) => Ok(table),
+        Err(_) => Err(TableFault::Memory),
+    }
+}
+
+/// Returns a table with the notice that is printed behind it, or the fault in place of the table. Forgets the policy: the run
+/// ends here.
 pub(crate) fn noted(
     survey: Survey,
-    text: Result<Vec<u8>, TableFault>,
+    table: Result<RunOutput, TableFault>,
 ) -> Result<NotedOutput, TableFault>
-    ensures noted { IfOk result (λ p. (text ≡ Ok p.text)
-        × (p.notice.items ≡ survey.notice.items)) }
-    ensures fault { IfErr result (λ fault. text ≡ Err fault) }
+    ensures noted { IfOk result (λ p. IsNotedTable table survey.notice.items p) }
+    ensures fault { IfErr result (λ fault. table ≡ Err fault) }
 {
     let Survey {
         checked,
@@ -75,8 +86,12 @@ pub(crate) fn noted(
     } = survey;
     drop(directory);
     mem::forget(checked);
-    match text {
-        Ok(text) => Ok(NotedOutput { text, notice }),
+    match table {
+        Ok(RunOutput { text, status }) => Ok(NotedOutput {
+            text,
+            notice,
+            status,
+        }),
         Err(fault) => Err(fault),
     }
 }

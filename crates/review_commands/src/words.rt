@@ -125,6 +125,44 @@ fn asked_grants<'a>(given: &ArgMatches<'a>) -> Result<Asked<'a>, Unasked>
     })
 }
 
+// Returns the command of the values of `subjects`.
+fn asked_subjects<'a>(given: &ArgMatches<'a>) -> Result<Asked<'a>, Unasked>
+    ensures stated { IfOk result
+        (λ a. HoldsCommand a (codes "subjects", rows_of (found_of given.now))) }
+    ensures workers { IfOk result WorkersFit }
+    ensures nothing { IfErr result (λ e. e ≢ Unasked.Memory
+        → AsksNothing (codes "subjects", rows_of (found_of given.now))) }
+{
+    match paths_of(given) {
+        Some(Paths { file, users, hosts }) => Ok(Asked::Subjects { file, users, hosts }),
+        None => Err(Unasked::Missing),
+    }
+}
+
+// Returns the command of the values of `rules`.
+fn asked_rules<'a>(alloc: Global, given: &ArgMatches<'a>) -> Result<Asked<'a>, Unasked>
+    ensures stated { IfOk result
+        (λ a. HoldsCommand a (codes "rules", rows_of (found_of given.now))) }
+    ensures workers { IfOk result WorkersFit }
+    ensures nothing { IfErr result (λ e. e ≢ Unasked.Memory
+        → AsksNothing (codes "rules", rows_of (found_of given.now))) }
+{
+    let Some(Paths { file, users, hosts }) = paths_of(given) else {
+        return Err(Unasked::Missing);
+    };
+    let Some(workers) = workers(given) else {
+        return Err(Unasked::Missing);
+    };
+    let senders = values(alloc, given, "senders")?;
+    Ok(Asked::Rules {
+        file,
+        users,
+        hosts,
+        workers,
+        senders,
+    })
+}
+
 // Returns the command of the values of `report`.
 fn asked_report<'a>(alloc: Global, given: &ArgMatches<'a>) -> Result<Asked<'a>, Unasked>
     ensures stated { IfOk result
@@ -164,6 +202,12 @@ fn asked_by<'a>(alloc: Global, name: &str, given: &ArgMatches<'a>) -> Result<Ask
     }
     if name == "report" {
         return asked_report(alloc, given);
+    }
+    if name == "rules" {
+        return asked_rules(alloc, given);
+    }
+    if name == "subjects" {
+        return asked_subjects(given);
     }
     Err(Unasked::Missing)
 }
@@ -222,8 +266,9 @@ fn asked_of<'a, S: AsStr>(
 }
 
 /// Returns the command that the words ask for, the program's own name first, as `clap` reads them:
-/// `cautions FILE [--without CLASS]...`, `grants FILE --users F --hosts F [--user NAME] [--host NAME]`, or
-/// `report FILE --users F --hosts F [--workers N] [NAME=PATH]...`, where N is 1 to 16, by default 2.
+/// `cautions FILE [--without CLASS]...`, `report FILE --users F --hosts F [--workers N] [NAME=PATH]...`,
+/// `grants FILE --users F --hosts F [--user NAME] [--host NAME]`, `subjects FILE --users F --hosts F`, or
+/// `rules FILE --users F --hosts F [--workers N] [NAME=PATH]...`, where N is 1 to 16, by default 2.
 ///
 /// Returns `clap`'s error, apart from allocation failure, exactly if `clap` does not accept the
 /// words (they are no such command, or ask for help or for the version), or a CLASS is no class of cautions.

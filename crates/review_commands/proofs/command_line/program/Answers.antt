@@ -1,9 +1,9 @@
-use Rattle.std.proofs.Common.{◌≡◌, ◌∙◌, ap, false, Result, Ok, Err, IfOk, IsOkAnd}
+use Rattle.std.proofs.Common.{◌≡◌, ◌∙◌, ap, codes, false, Result, Ok, Err, IfOk, IsOkAnd}
 use Rattle.std.specs.declared.alloc.AllocError.{AllocError}
 use Rattle.clap.specs.Words.{AddsSubcommand, App, app_of, with_subcommand}
 use Rattle.clap.specs.declared.builder.command.Command.{Command}
 use Rattle.clap.specs.declared.builder.command.Command.TheViews.{out-Command}
-use Rattle.review_commands.specs.Words.{cautions_app, grants_app, named_app, report_app}
+use Rattle.review_commands.specs.Words.{cautions_app, grants_app, judging_app, named_app, paths_app}
 use Rattle.review_commands.proofs.command_line.program.Goals as goal
 
 -- a command to which a subcommand is added
@@ -19,11 +19,15 @@ added (Ok new) (Err refused) old old_app sub_app is sub_is local adds = absurd a
 
 pub returns : goal.returns
 returns c =
-    let cautioning = added (Ok c.in_ok-cautioning.cautioning) c.cautions.result c.named.result named_app cautions_app
-    c.named.ensures.app c.cautions.ensures.app c.cautions.ensures.local c.in_ok-cautioning.ensures in
-    let granting = added (Ok c.in_ok-granting.granting) c.grants.result c.in_ok-cautioning.cautioning _ grants_app cautioning
-    c.grants.ensures.app c.grants.ensures.local c.in_ok-granting.ensures in
+    let cautions = added (Ok c.in_ok-with_cautions.with_cautions) c.cautions.result c.named.result named_app cautions_app
+    c.named.ensures.app c.cautions.ensures.app c.cautions.ensures.local c.in_ok-with_cautions.ensures in
+    let report = added (Ok c.in_ok-with_report.with_report) c.report.result c.in_ok-with_cautions.with_cautions _
+    (judging_app (codes "report")) cautions c.report.ensures.app c.report.ensures.local c.in_ok-with_report.ensures in
+    let grants = added (Ok c.in_ok-with_grants.with_grants) c.grants.result c.in_ok-with_report.with_report _ grants_app report
+    c.grants.ensures.app c.grants.ensures.local c.in_ok-with_grants.ensures in
+    let subjects = added (Ok c.in_ok-with_subjects.with_subjects) c.subjects.result c.in_ok-with_grants.with_grants _
+    (paths_app (codes "subjects")) grants c.subjects.ensures.app c.subjects.ensures.local c.in_ok-with_subjects.ensures in
     record {
-      app = added c.with_subcommand-3.result c.report.result c.in_ok-granting.granting _ report_app granting
-          c.report.ensures.app c.report.ensures.local c.with_subcommand-3.ensures;
+      app = added c.with_subcommand-5.result c.rules.result c.in_ok-with_subjects.with_subjects _ (judging_app (codes "rules"))
+          subjects c.rules.ensures.app c.rules.ensures.local c.with_subcommand-5.ensures;
     }

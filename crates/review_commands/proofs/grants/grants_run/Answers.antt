@@ -1,6 +1,6 @@
 use Rattle.std.proofs.Common.{option_copied}
 use Rattle.run_base.specs.Endings.{writer_states as sent}
-use Rattle.review_commands.specs.Surveying.{Inputs, inputs_by, IsGranted, IsNotGranted, table_notices}
+use Rattle.review_commands.specs.Surveying.{AreGrants, Inputs, inputs_by, IsNotGranted, IsTabled, table_notices}
 use Rattle.review_commands.proofs.EndingSteps.{run_noted}
 use Rattle.review_commands.proofs.grants.grants_run.Goals as goal
 
@@ -13,6 +13,6 @@ returns g c =
     let out = sent g.O.Sink.taken g.O.Sink.stalled_writes c.args.out.now c.end_noted.new.out in
     let err = sent g.E.Sink.taken g.E.Sink.stalled_writes c.args.err.now c.end_noted.new.err in
     record {
-      ends = run_noted table_notices (IsGranted given user host) (IsNotGranted given user host) c.grants_output-ended.result
+      ends = run_noted table_notices (IsTabled (AreGrants user host) given) (IsNotGranted given user host) c.grants_output-ended.result
           c.end_noted.result out err c.grants_output-ended.ensures.printed c.grants_output-ended.ensures.fault c.end_noted.ensures;
     }

@@ -9,7 +9,7 @@ returns-clause-report g c =
     (g.H.Feed.ahead c.args.hosts.now)
     (map (λ s. s.name) c.args.work.sources.items) (map (λ s. g.R.Feed.ahead s.reader) c.args.work.sources.items) c.args.work.workers in
     let checked = c.in-Ok.checked in
-    reviewed_of given checked.text checked.supplies checked.policy c.answer_requests-answered.result _ c.printed-ended.result
+    reviewed_of given c.args.form checked.text checked.supplies checked.policy c.answer_requests-answered.result _ c.printed-ended.result
     c.in-Ok.ensures.loaded c.in-Ok-notice_on.ensures
     (c.answer_requests-answered.ensures.report (g.F.Files.held c.args.files.now) c.args.path.now
     (checked_of _ _ _ _ _ c.in-Ok.ensures.loaded c.in-Ok.ensures.passes))
