@@ -1,0 +1,22 @@
+//! The laws of levels. The functions have no effect: each contract is a law.
+ghost use Rattle.std.specs.Prelude.{◌≡◌, Some, slice_get};
+ghost use Rattle.sudo_grammar.specs.Tags.{pairs};
+ghost use Rattle.sudo_grammar.specs.declared.tag.TagPair.TheVariants.{Passwd};
+ghost use Rattle.review_roots.specs.Levels.{AllAllowsAll, NoneAllowsNone};
+ghost use Rattle.review_roots.specs.Passwords.{FreeNeedsNoPassword};
+
+/// Where the level of the rows for a target is `All`, every command is allowed, with any arguments.
+pub fn all_allows_all()
+    ensures { AllAllowsAll }
+{}
+
+/// Where the level of the rows for a target is `None`, no command is allowed, with any arguments.
+pub fn none_allows_none()
+    ensures { NoneAllowsNone }
+{}
+
+/// Where the rows for a target are free of passwords, every command is allowed with the tag NOPASSWD.
+pub fn free_needs_no_password()
+    ensures place { slice_get pairs 6 ≡ Some Passwd }
+    ensures free { FreeNeedsNoPassword }
+{}
