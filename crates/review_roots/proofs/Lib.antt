@@ -1,3 +1,14 @@
 pub mod LevelLemmas
 pub mod PasswordLemmas
 pub mod LevelVectors
+pub mod StepVectors
+pub mod ListSteps
+pub mod TagSteps
+pub mod BlockLemmas
+pub mod GivenLemmas
+pub mod SearchLemmas
+pub mod DrawLemmas
+pub mod StartLemmas
+pub mod WayLemmas
+pub mod RootLemmas
+pub mod LoopLemmas
