@@ -9,7 +9,9 @@ use Rattle.review_roots.specs.declared.host.HostSteps.{HostSteps}
 use Rattle.review_roots.specs.declared.level.Level.{Level}
 use Rattle.review_roots.specs.declared.search.Aim.{Aim}
 use Rattle.review_roots.specs.declared.search.Found.{Found}
+use Rattle.review_roots.specs.declared.search.Sought.{Sought}
 use Rattle.review_roots.specs.Candidates.{IsCandidate, steps_of}
+use Rattle.review_roots.specs.States.{steps_to}
 use Rattle.review_roots.specs.Found.{IsSearch, IsDrawn, found_by, reaches, states_of}
 use Rattle.review_roots.proofs.ListSteps.{take-more, filter-mapped, map-twice}
 use Rattle.review_roots.proofs.SearchLemmas.{drawn_to, new_found, drawn-search, drawn-more, parted-length}
@@ -55,41 +57,41 @@ one-found f now by left first old new i c within is passes so_far more =
 module _ (h : HostSteps) (target : ℕ) (aim : Aim) (cs : List Candidate) where
   pub draw-found :
       map (found_by aim) (filter (reaches h aim) cs)
-      ≡ map (new_found aim.level aim.index) (filter (drawn_to (steps_of h target) aim.level aim.state) (states_of cs))
+      ≡ map (new_found aim.level aim.index) (filter (drawn_to (steps_to h.checked.now h.directory.now h.host.now h.groups.now target aim.free) aim.level aim.state) (states_of cs))
   draw-found =
-      sym (ap (map (new_found aim.level aim.index)) (filter-mapped (drawn_to (steps_of h target) aim.level aim.state) (λ (c : Candidate). c.state) cs)
+      sym (ap (map (new_found aim.level aim.index)) (filter-mapped (drawn_to (steps_to h.checked.now h.directory.now h.host.now h.groups.now target aim.free) aim.level aim.state) (λ (c : Candidate). c.state) cs)
       ∙ map-twice (new_found aim.level aim.index) (λ (c : Candidate). c.state) (filter (reaches h aim) cs))
 
   pub draw-kept :
-      states_of (filter (λ c. not (reaches h aim c)) cs) ≡ filter (λ s. not (drawn_to (steps_of h target) aim.level aim.state s)) (states_of cs)
-  draw-kept = sym (filter-mapped (λ s. not (drawn_to (steps_of h target) aim.level aim.state s)) (λ (c : Candidate). c.state) cs)
+      states_of (filter (λ c. not (reaches h aim c)) cs) ≡ filter (λ s. not (drawn_to (steps_to h.checked.now h.directory.now h.host.now h.groups.now target aim.free) aim.level aim.state s)) (states_of cs)
+  draw-kept = sym (filter-mapped (λ s. not (drawn_to (steps_to h.checked.now h.directory.now h.host.now h.groups.now target aim.free) aim.level aim.state s)) (λ (c : Candidate). c.state) cs)
 
 module _
-    (h : HostSteps) (target : ℕ) (l : Level) (n : ℕ) (t : Found) (found new : List Found) (cs kept : List Candidate)
+    (h : HostSteps) (q : Sought) (l : Level) (n : ℕ) (t : Found) (found new : List Found) (cs kept : List Candidate)
     (there : slice_get found n ≡ Some t)
-    (finds : new ≡ found ++ map (found_by (record { index = n; state = t.state; level = l })) (filter (reaches h (record { index = n; state = t.state; level = l })) cs))
-    (keeps : kept ≡ filter (λ c. not (reaches h (record { index = n; state = t.state; level = l }) c)) cs)
+    (finds : new ≡ found ++ map (found_by (record { index = n; state = t.state; level = l; free = q.free })) (filter (reaches h (record { index = n; state = t.state; level = l; free = q.free })) cs))
+    (keeps : kept ≡ filter (λ c. not (reaches h (record { index = n; state = t.state; level = l; free = q.free }) c)) cs)
   where
     abbrev aim : Aim
-    aim = record { index = n; state = t.state; level = l }
+    aim = record { index = n; state = t.state; level = l; free = q.free }
 
-    finds_states : new ≡ found ++ map (new_found l n) (filter (drawn_to (steps_of h target) l t.state) (states_of cs))
-    finds_states = finds ∙ ap (λ (xs : List Found). found ++ xs) (draw-found h target aim cs)
+    finds_states : new ≡ found ++ map (new_found l n) (filter (drawn_to (steps_of h q) l t.state) (states_of cs))
+    finds_states = finds ∙ ap (λ (xs : List Found). found ++ xs) (draw-found h q.target aim cs)
 
-    keeps_states : states_of kept ≡ filter (λ s. not (drawn_to (steps_of h target) l t.state s)) (states_of cs)
-    keeps_states = ap states_of keeps ∙ draw-kept h target aim cs
+    keeps_states : states_of kept ≡ filter (λ s. not (drawn_to (steps_of h q) l t.state s)) (states_of cs)
+    keeps_states = ap states_of keeps ∙ draw-kept h q.target aim cs
 
-    pub spread-search : IsSearch (steps_of h target) l found (states_of cs) → IsSearch (steps_of h target) l new (states_of kept)
+    pub spread-search : IsSearch (steps_of h q) l found (states_of cs) → IsSearch (steps_of h q) l new (states_of kept)
     spread-search search =
-        subst (λ xs. IsSearch (steps_of h target) l xs (states_of kept)) (sym finds_states)
-        (subst (IsSearch (steps_of h target) l (found ++ map (new_found l n) (filter (drawn_to (steps_of h target) l t.state) (states_of cs)))) (sym keeps_states)
-        (drawn-search (steps_of h target) l n t found (states_of cs) search there))
+        subst (λ xs. IsSearch (steps_of h q) l xs (states_of kept)) (sym finds_states)
+        (subst (IsSearch (steps_of h q) l (found ++ map (new_found l n) (filter (drawn_to (steps_of h q) l t.state) (states_of cs)))) (sym keeps_states)
+        (drawn-search (steps_of h q) l n t found (states_of cs) search there))
 
-    pub spread-drawn : IsSearch (steps_of h target) l found (states_of cs) → IsDrawn (steps_of h target) l n found (states_of cs) → IsDrawn (steps_of h target) l (n + 1) new (states_of kept)
+    pub spread-drawn : IsSearch (steps_of h q) l found (states_of cs) → IsDrawn (steps_of h q) l n found (states_of cs) → IsDrawn (steps_of h q) l (n + 1) new (states_of kept)
     spread-drawn search drawn =
-        subst (λ xs. IsDrawn (steps_of h target) l (n + 1) xs (states_of kept)) (sym finds_states)
-        (subst (IsDrawn (steps_of h target) l (n + 1) (found ++ map (new_found l n) (filter (drawn_to (steps_of h target) l t.state) (states_of cs)))) (sym keeps_states)
-        (drawn-more (steps_of h target) l n t found (states_of cs) search there drawn))
+        subst (λ xs. IsDrawn (steps_of h q) l (n + 1) xs (states_of kept)) (sym finds_states)
+        (subst (IsDrawn (steps_of h q) l (n + 1) (found ++ map (new_found l n) (filter (drawn_to (steps_of h q) l t.state) (states_of cs)))) (sym keeps_states)
+        (drawn-more (steps_of h q) l n t found (states_of cs) search there drawn))
 
     pub spread-candidates : All (IsCandidate h) cs → All (IsCandidate h) kept
     spread-candidates all = subst (All (IsCandidate h)) (sym keeps) (All-filter (λ c. not (reaches h aim c)) (IsCandidate h) cs all)

@@ -12,3 +12,4 @@ pub mod StartLemmas
 pub mod WayLemmas
 pub mod RootLemmas
 pub mod LoopLemmas
+pub mod FreeLemmas

@@ -23,13 +23,14 @@ use Rattle.review_roots.specs.declared.host.HostSteps.{HostSteps}
 use Rattle.review_roots.specs.declared.level.Level.{Level}
 use Rattle.review_roots.specs.declared.way.Password.{Password}
 use Rattle.review_roots.specs.declared.search.Found.{Found}
+use Rattle.review_roots.specs.declared.search.Sought.{Sought}
 use Rattle.review_roots.specs.declared.state.State.{State}
 use Rattle.review_roots.specs.Asked.{given_asked, nothing}
 use Rattle.review_roots.specs.Blocks.{AreBlocks, sign_of, standing_rows, with_rows}
 use Rattle.review_roots.specs.Found.{PointBack, AreFound, IsFound}
 use Rattle.review_roots.specs.Candidates.{steps_of}
 use Rattle.review_roots.specs.Ranks.{is_at_least}
-use Rattle.review_roots.specs.Ways.{IsWay, first_row, password_along}
+use Rattle.review_roots.specs.Ways.{IsChain, first_row, password_along}
 use Rattle.review_roots.proofs.GivenLemmas.{blocks_give}
 use Rattle.review_roots.proofs.SearchLemmas.{to-map}
 use Rattle.review_roots.proofs.WayLemmas.{LeadsSoFar, LeadsWhole, leads-more, leads-all}
@@ -81,15 +82,15 @@ pub chain-all :
 chain-all found index at chain d inside is so_far = leads-all found index at chain (get_or found at d) (there found at d inside) is so_far
 
 pub way-is :
-    (h : HostSteps) (target : ℕ) (least : Level) (found : List Found) (index : ℕ) (d f : Found) (chain : Vec State Global) (by : Option AllowingRow) (password : Password)
-    (states same : List State) → AreFound (steps_of h target) least found → index < length found → slice_get found index ≡ Some f →
+    (h : HostSteps) (q : Sought) (least : Level) (found : List Found) (index : ℕ) (d f : Found) (chain : Vec State Global) (by : Option AllowingRow) (password : Password)
+    (states same : List State) → AreFound (steps_of h q) least found → index < length found → slice_get found index ≡ Some f →
     LeadsWhole found index chain.items → states ≡ chain.items → by ≡ first_row h (get_or found index d).state states → same ≡ chain.items →
     password ≡ password_along h (get_or found index d).state.user (get_or found index d).state same →
-    IsWay h target least f.state (record { level = (get_or found index d).level; chain = chain; by = by; password = password })
-way-is h target least found index d f chain by password states same are inside at leads first is also asks =
-    subst (λ (e : Found). IsWay h target least e.state (record { level = (get_or found index d).level; chain = chain; by = by; password = password })) this (record {
-      leads = leads (steps_of h target) (get_or found index d) are.linked (there found index d inside);
-      best = (All-contains (IsFound (steps_of h target)) found (get_or found index d) are.right (Contains-get_or found index d inside)).best;
+    IsChain h q least f.state (record { level = (get_or found index d).level; chain = chain; by = by; password = password })
+way-is h q least found index d f chain by password states same are inside at leads first is also asks =
+    subst (λ (e : Found). IsChain h q least e.state (record { level = (get_or found index d).level; chain = chain; by = by; password = password })) this (record {
+      leads = leads (steps_of h q) (get_or found index d) are.linked (there found index d inside);
+      best = (All-contains (IsFound (steps_of h q)) found (get_or found index d) are.right (Contains-get_or found index d inside)).best;
       enough = All-contains (λ f. is_at_least least f.level ≡ true) found (get_or found index d) are.levels (Contains-get_or found index d inside);
       by = is ∙ ap (first_row h (get_or found index d).state) first;
       password = asks ∙ ap (password_along h (get_or found index d).state.user (get_or found index d).state) also;

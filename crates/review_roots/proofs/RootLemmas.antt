@@ -12,11 +12,11 @@ use Rattle.review_roots.specs.declared.level.Level.{Level}
 use Rattle.review_roots.specs.declared.roots.Root.{Root}
 use Rattle.review_roots.specs.declared.search.Found.{Found}
 use Rattle.review_roots.specs.declared.state.State.{State}
-use Rattle.review_roots.specs.Candidates.{steps_of}
-use Rattle.review_roots.specs.Chains.{HasNoPath}
-use Rattle.review_roots.specs.Found.{AreFound, found_states}
+use Rattle.review_roots.specs.Candidates.{any_steps}
+use Rattle.review_roots.specs.Chains.{HasNoPath, Steps}
+use Rattle.review_roots.specs.Found.{AreFound, found_states, is_start}
 use Rattle.review_roots.specs.States.{all_states, states_with, state_with}
-use Rattle.review_roots.specs.Roots.{AreRoots, IsRoot, IsNoRoot, IsIncreasing, has_zero, is_itself, is_start}
+use Rattle.review_roots.specs.Roots.{AreRoots, IsRoot, IsNoRoot, IsIncreasing, has_zero, is_itself}
 use Rattle.review_roots.proofs.SearchLemmas.{from-map, to-map}
 
 -- ---- The state with which a user begins
@@ -46,20 +46,23 @@ states-have users groups user less =
 
 -- a user that is not found without an added group has no chain
 pub not-found :
-    (h : HostSteps) (target : ℕ) (least : Level) (found : List Found) (user : ℕ) → AreFound (steps_of h target) least found →
-    user < length h.directory.now.people → All (λ f. is_start user f.state ≡ false) found → HasNoPath (steps_of h target) least (state_with None user)
-not-found h target least found user are less none =
-    go (are.complete (state_with None user) (states-have (length h.directory.now.people) (length h.groups.now) user less))
+    (g : Steps State) (least : Level) (found : List Found) (user : ℕ) → AreFound g least found → Contains g.states (state_with None user) →
+    All (λ f. is_start user f.state ≡ false) found → HasNoPath g least (state_with None user)
+not-found g least found user are inside none = go (are.complete (state_with None user) inside)
   where
-    go :
-        Contains (found_states found) (state_with None user) ⊎ HasNoPath (steps_of h target) least (state_with None user) →
-        HasNoPath (steps_of h target) least (state_with None user)
+    go : Contains (found_states found) (state_with None user) ⊎ HasNoPath g least (state_with None user) → HasNoPath g least (state_with None user)
     go (inr away) = away
     go (inl in_found) =
         let f = from-map (λ (f : Found). f.state) found (state_with None user) in_found in
         let near : is_start user f.0.state ≡ true = ap (is_start user) f.2 ∙ starts user in
         let far : is_start user f.0.state ≡ false = All-contains (λ f. is_start user f.state ≡ false) found f.0 none f.1 in
         absurd (let bad : true ≡ false = sym near ∙ far in cc)
+
+pub no-root :
+    (h : HostSteps) (target : ℕ) (least : Level) (found : List Found) (user : ℕ) → AreFound (any_steps h target) least found →
+    user < length h.directory.now.people → All (λ f. is_start user f.state ≡ false) found → HasNoPath (any_steps h target) least (state_with None user)
+no-root h target least found user are less none =
+    not-found (any_steps h target) least found user are (states-have (length h.directory.now.people) (length h.groups.now) user less) none
 
 -- ---- The list of users
 

@@ -19,6 +19,7 @@ use Rattle.review_roots.specs.declared.host.HostSteps.{HostSteps}
 use Rattle.review_roots.specs.declared.level.Level.{Level}
 use Rattle.review_roots.specs.declared.level.Level.TheVariants as level
 use Rattle.review_roots.specs.declared.search.Found.{Found}
+use Rattle.review_roots.specs.declared.search.Sought.{Sought}
 use Rattle.review_roots.specs.declared.state.State.{State}
 use Rattle.review_roots.specs.Asked.{better, given_alone, given_asked, given_towards, nothing}
 use Rattle.review_roots.specs.Blocks.{AreBlocks, lists, block_rows, standing_rows, with_rows}
@@ -26,7 +27,7 @@ use Rattle.review_roots.specs.Candidates.{IsCandidate, steps_of}
 use Rattle.review_roots.specs.Chains.{Steps, Path, here, more}
 use Rattle.review_roots.specs.Found.{IsFound, IsLinked, found_states, states_of, IsIdle, IsStuck, IsSearch, IsStartOf}
 use Rattle.review_roots.specs.Ranks.{rank, is_at_least}
-use Rattle.review_roots.specs.States.{given_between, step_given, person_of, group_at}
+use Rattle.review_roots.specs.States.{given_between, step_given, person_of, group_at, level_for}
 use Rattle.review_roots.proofs.GivenLemmas.{blocks_give}
 use Rattle.review_roots.proofs.SearchLemmas.{at-least-below, at-least-trans, at-contains, both-all}
 
@@ -63,14 +64,18 @@ module _ (p : Policy) (d : KnownRows) (m : Machine) (u : Person) (bs : List Bloc
   between_nothing None g = refl
   between_nothing (Some v) g = towards_nothing v g
 
-module _ (h : HostSteps) (target : ℕ) where
+none_for : (free : Bool) → level_for free nothing ≡ level.None
+none_for true = refl
+none_for false = refl
+
+module _ (h : HostSteps) (q : Sought) where
   abbrev g : Steps State
-  g = steps_of h target
+  g = steps_of h q
 
   pub unlisted-idle :
       AreBlocks h.checked.now h.host.now h.blocks.items → (c : Candidate) → IsCandidate h c → list_any (λ b. b) c.listed.items ≡ false →
       g.goal c.state ≡ false → IsIdle g c.state
-  unlisted-idle tied c is none away = (away, λ t. ap (λ (a : Given). a.level) (step t))
+  unlisted-idle tied c is none away = (away, λ t. ap (level_for q.free) (step t) ∙ none_for q.free)
     where
       step : (t : State) → step_given h.checked.now h.directory.now h.host.now h.groups.now c.state t ≡ nothing
       step t =
@@ -81,8 +86,9 @@ module _ (h : HostSteps) (target : ℕ) where
   pub unknown-idle : (s : State) → person_of h.directory.now h.groups.now s ≡ None → g.goal s ≡ false → IsIdle g s
   unknown-idle s none away = (
     away,
-    λ t. ap (λ (a : Given). a.level)
-        (ap (λ o. given_between h.checked.now h.directory.now h.host.now o (slice_get h.directory.now.people t.user) (group_at h.groups.now t.added)) none),
+    λ t. ap (level_for q.free)
+        (ap (λ o. given_between h.checked.now h.directory.now h.host.now o (slice_get h.directory.now.people t.user) (group_at h.groups.now t.added)) none)
+        ∙ none_for q.free,
   )
 
   idle-stuck : (s : State) → IsIdle g s → IsStuck g s
@@ -97,12 +103,12 @@ module _ (h : HostSteps) (target : ℕ) where
 
   -- ---- One state more
 
-  module _ (before : List State) (found : List Found) (left : List Candidate) (start : IsStartOf h target before found left) (s : State) where
+  module _ (before : List State) (found : List Found) (left : List Candidate) (start : IsStartOf h q before found left) (s : State) where
     further : (t : State) → Contains before t → Contains (before ++ s ∷ []) t
     further t c = Contains-append_left before (s ∷ []) t c
 
     pub sorted-goal :
-        g.goal s ≡ true → IsStartOf h target (before ++ s ∷ []) (found ++ record { state = s; level = level.All; next = None } ∷ []) left
+        g.goal s ≡ true → IsStartOf h q (before ++ s ∷ []) (found ++ record { state = s; level = level.All; next = None } ∷ []) left
     sorted-goal at =
         let f : Found = record { state = s; level = level.All; next = None } in
         record {
@@ -128,7 +134,7 @@ module _ (h : HostSteps) (target : ℕ) where
         widen t (inr o) = inr o
 
     pub sorted-listed :
-        (c : Candidate) → IsCandidate h c → c.state ≡ s → g.goal s ≡ false → IsStartOf h target (before ++ s ∷ []) found (left ++ c ∷ [])
+        (c : Candidate) → IsCandidate h c → c.state ≡ s → g.goal s ≡ false → IsStartOf h q (before ++ s ∷ []) found (left ++ c ∷ [])
     sorted-listed c is at away = record {
       goals = start.goals;
       found_inside = All-weaker (λ f. Contains before f.state) (λ f. Contains (before ++ s ∷ []) f.state) (λ f. further f.state) found start.found_inside;
@@ -153,7 +159,7 @@ module _ (h : HostSteps) (target : ℕ) where
             (Contains-append_left (states_of left) (c.state ∷ []) t k)))
         widen t (inr (inr idle)) = inr (inr idle)
 
-    pub sorted-idle : IsIdle g s → IsStartOf h target (before ++ s ∷ []) found left
+    pub sorted-idle : IsIdle g s → IsStartOf h q (before ++ s ∷ []) found left
     sorted-idle idle = record {
       goals = start.goals;
       found_inside = All-weaker (λ f. Contains before f.state) (λ f. Contains (before ++ s ∷ []) f.state) (λ f. further f.state) found start.found_inside;
@@ -171,7 +177,7 @@ module _ (h : HostSteps) (target : ℕ) where
   rank-most level.AllBut = omega arith
   rank-most level.All = omega arith
 
-  pub start-search : (found : List Found) (left : List Candidate) → IsStartOf h target g.states found left → IsSearch g level.All found (states_of left)
+  pub start-search : (found : List Found) (left : List Candidate) → IsStartOf h q g.states found left → IsSearch g level.All found (states_of left)
   start-search found left start = record {
     level = refl;
     right = All-weaker (λ f. ((f.level ≡ level.All) × ((f.next ≡ None) × (g.goal f.state ≡ true))) × Contains g.states f.state) (IsFound g)

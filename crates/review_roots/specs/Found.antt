@@ -1,17 +1,19 @@
 -- The states that are found to lead to a target, and what is known of those that are left.
-use Rattle.std.specs.Prelude.{◌≡◌, ◌<◌, ◌⊎◌, ℕ, Bool, true, false, List, All, map, slice_get, Option, Some, None}
+use Rattle.std.specs.Prelude.{◌≡◌, ◌<◌, ◌⊎◌, ◌&&◌, ◌==◌, ℕ, Bool, true, false, not, is_some, List, All, map, slice_get, Option, Some, None}
 use Rattle.std.specs.List.{Contains}
 use Rattle.review_roots.specs.declared.level.Level.{Level}
 use Rattle.review_roots.specs.declared.level.Level.TheVariants as level
 use Rattle.review_roots.specs.declared.host.HostSteps.{HostSteps}
 use Rattle.review_roots.specs.declared.candidate.Candidate.{Candidate}
 use Rattle.review_roots.specs.declared.search.Aim.{Aim}
+use Rattle.review_roots.specs.declared.search.Chains.{Chains}
 use Rattle.review_roots.specs.declared.search.Found.{Found}
+use Rattle.review_roots.specs.declared.search.Sought.{Sought}
 use Rattle.review_roots.specs.declared.state.State.{State}
-use Rattle.review_roots.specs.Candidates.{IsCandidate, steps_of}
+use Rattle.review_roots.specs.Candidates.{IsCandidate, any_steps, free_steps, steps_of}
 use Rattle.review_roots.specs.Chains.{Steps, HasPath, HasNoPath}
 use Rattle.review_roots.specs.Ranks.{rank, is_at_least}
-use Rattle.review_roots.specs.States.{step_given}
+use Rattle.review_roots.specs.States.{level_for, step_given}
 
 -- the found state leads to the goal by a chain of its level, and by none of a better level
 pub record IsFound (g : Steps State) (f : Found) : Type 0 where
@@ -52,6 +54,34 @@ pub record AreFound (g : Steps State) (l : Level) (found : List Found) : Type 0 
   pub levels : All (λ f. is_at_least l f.level ≡ true) found
   pub complete : IsComplete g l found
 
+-- the first steps of both lists lead back
+pub record AreChains (c : Chains) : Type 0 where
+  pub any : PointBack c.any.items
+  pub free : PointBack c.free.items
+
+-- the chains to a target, by any steps, and by steps that ask for no password
+pub record ChainsLead (h : HostSteps) (target : ℕ) (l : Level) (c : Chains) : Type 0 where
+  pub level : is_at_least level.Listed l ≡ true
+  pub any : AreFound (any_steps h target) l c.any.items
+  pub free : AreFound (free_steps h target) l c.free.items
+
+-- the user without an added group
+abbrev pub is_start : ℕ → State → Bool
+is_start user s = (s.user == user) && not (is_some s.added)
+
+-- the found state at the index is that of the user without an added group; without an index there is none
+abbrev pub IsFoundAt : List Found → ℕ → Option ℕ → Type 0
+IsFoundAt found user None = All (λ f. is_start user f.state ≡ false) found
+IsFoundAt found user (Some i) = (f : Found) × ((slice_get found i ≡ Some f) × (is_start user f.state ≡ true))
+
+-- the same of a found state with the level or a better one; without an index, one without an added group has a worse level
+abbrev pub IsFreeAt : List Found → ℕ → Level → Option ℕ → Type 0
+IsFreeAt found user l None =
+    All (λ f. is_start user f.state ≡ false) found
+    ⊎ ((i : ℕ) × ((f : Found) × ((slice_get found i ≡ Some f) × ((is_start user f.state ≡ true) × (is_at_least l f.level ≡ false)))))
+IsFreeAt found user l (Some i) =
+    (f : Found) × ((slice_get found i ≡ Some f) × ((is_start user f.state ≡ true) × (is_at_least l f.level ≡ true)))
+
 -- ---- While a search goes on: what is found, and the states that are left
 
 -- no chain of a level other than none leads from the state to the goal
@@ -82,7 +112,7 @@ states_of cs = map (λ c. c.state) cs
 -- the step of the candidate to the aim has its level or a better one
 abbrev pub reaches : HostSteps → Aim → Candidate → Bool
 reaches h aim c =
-    is_at_least aim.level (step_given h.checked.now h.directory.now h.host.now h.groups.now c.state aim.state).level
+    is_at_least aim.level (level_for aim.free (step_given h.checked.now h.directory.now h.host.now h.groups.now c.state aim.state))
 
 abbrev pub found_by : Aim → Candidate → Found
 found_by aim c = record { state = c.state; level = aim.level; next = Some aim.index }
@@ -92,10 +122,10 @@ abbrev pub IsIdle : Steps State → State → Type 0
 IsIdle g s = (g.goal s ≡ false) × ((t : State) → g.level s t ≡ level.None)
 
 -- what the search begins with, among the first states: those at the goal, and those that are left
-pub record IsStartOf (h : HostSteps) (target : ℕ) (states : List State) (found : List Found) (left : List Candidate) : Type 0 where
-  pub goals : All (λ f. (f.level ≡ level.All) × ((f.next ≡ None) × ((steps_of h target).goal f.state ≡ true))) found
+pub record IsStartOf (h : HostSteps) (q : Sought) (states : List State) (found : List Found) (left : List Candidate) : Type 0 where
+  pub goals : All (λ f. (f.level ≡ level.All) × ((f.next ≡ None) × ((steps_of h q).goal f.state ≡ true))) found
   pub found_inside : All (λ f. Contains states f.state) found
   pub candidates : All (IsCandidate h) left
   pub inside : All (λ c. Contains states c.state) left
-  pub away : All (λ c. (steps_of h target).goal c.state ≡ false) left
-  pub covered : All (λ s. Contains (found_states found) s ⊎ (Contains (states_of left) s ⊎ IsIdle (steps_of h target) s)) states
+  pub away : All (λ c. (steps_of h q).goal c.state ≡ false) left
+  pub covered : All (λ s. Contains (found_states found) s ⊎ (Contains (states_of left) s ⊎ IsIdle (steps_of h q) s)) states

@@ -1,14 +1,12 @@
 -- Who can become a target on a host, and who cannot. sudo(8), options -u and -g.
-use Rattle.std.specs.Prelude.{◌≡◌, ◌<◌, ◌⊎◌, ℕ, Bool, true, false, not, ◌&&◌, ◌||◌, ◌==◌, List, [], ◌∷◌, All, length, map, slice_get, Option, Some, None, is_some}
+use Rattle.std.specs.Prelude.{◌≡◌, ◌<◌, ◌⊎◌, ℕ, Bool, true, false, ◌||◌, ◌==◌, List, [], ◌∷◌, All, length, map, slice_get, Option, Some, None}
 use Rattle.std.specs.List.{AllByRecursion, Contains}
 use Rattle.sudo_match.specs.declared.people.Person.{Person}
 use Rattle.review_roots.specs.declared.host.HostSteps.{HostSteps}
 use Rattle.review_roots.specs.declared.level.Level.{Level}
 use Rattle.review_roots.specs.declared.roots.Root.{Root}
-use Rattle.review_roots.specs.declared.search.Found.{Found}
-use Rattle.review_roots.specs.declared.state.State.{State}
 use Rattle.review_roots.specs.declared.way.Way.{Way}
-use Rattle.review_roots.specs.Candidates.{steps_of}
+use Rattle.review_roots.specs.Candidates.{any_steps}
 use Rattle.review_roots.specs.Chains.{HasNoPath}
 use Rattle.review_roots.specs.States.{state_with}
 use Rattle.review_roots.specs.Ways.{IsWay}
@@ -20,15 +18,6 @@ zero_if_known (Some u) = u.uid == 0
 -- the user is known and has ID 0
 abbrev pub has_zero : HostSteps → ℕ → Bool
 has_zero h user = zero_if_known (slice_get h.directory.now.people user)
-
--- the user without an added group
-abbrev pub is_start : ℕ → State → Bool
-is_start user s = (s.user == user) && not (is_some s.added)
-
--- the found state at the index is that of the user without an added group; without an index there is none
-abbrev pub IsFoundAt : List Found → ℕ → Option ℕ → Type 0
-IsFoundAt found user None = All (λ f. is_start user f.state ≡ false) found
-IsFoundAt found user (Some i) = (f : Found) × ((slice_get found i ≡ Some f) × (is_start user f.state ≡ true))
 
 -- the user is the target, or has ID 0
 abbrev pub is_itself : HostSteps → ℕ → ℕ → Bool
@@ -49,7 +38,7 @@ IsRootAt h target least user r = (r.user ≡ user) × IsRoot h target least r
 -- the user cannot: it is not the target, its ID is not 0, and no chain of the level, however long, leads from it to the target
 abbrev pub IsNoRoot : HostSteps → ℕ → Level → ℕ → Type 0
 IsNoRoot h target least user =
-    (is_itself h target user ≡ false) × HasNoPath (steps_of h target) least (state_with None user)
+    (is_itself h target user ≡ false) × HasNoPath (any_steps h target) least (state_with None user)
 
 -- each number is less than the next one
 abbrev pub IsIncreasing : List ℕ → Type 0

@@ -1,12 +1,14 @@
 -- Who a user can be on the way to a target: a known user, with at most one added group, since sudo runs a command with the
 -- group that is asked for. sudo(8), options -u and -g.
-use Rattle.std.specs.Prelude.{ℕ, ◌==◌, List, [], ◌∷◌, ◌++◌, map, flat_map, length, slice_get, Option, Some, None, option_map}
+use Rattle.std.specs.Prelude.{ℕ, Bool, true, false, if◌then◌else◌, ◌==◌, List, [], ◌∷◌, ◌++◌, map, flat_map, length, slice_get, Option, Some, None, option_map}
 use Rattle.std.specs.List.{range_with_len}
 use Rattle.sudo_grammar.specs.declared.policy.Policy.{Policy}
 use Rattle.sudo_match.specs.declared.people.Person.{Person}
 use Rattle.sudo_match.specs.declared.people.Group.{Group}
 use Rattle.sudo_match.specs.declared.people.Machine.{Machine}
 use Rattle.sudo_match.specs.KnownRows.{KnownRows}
+use Rattle.review_roots.specs.declared.level.Level.{Level}
+use Rattle.review_roots.specs.declared.level.Level.TheVariants as level
 use Rattle.review_roots.specs.declared.state.State.{State}
 use Rattle.review_roots.specs.declared.given.Given.{Given}
 use Rattle.review_roots.specs.Asked.{given_towards, nothing}
@@ -49,10 +51,15 @@ abbrev pub all_states : ℕ → ℕ → List State
 all_states users groups =
     states_with users None ++ flat_map (λ i. states_with users (Some i)) (range_with_len 0 groups)
 
--- the steps on a host, towards a user
-abbrev pub steps_to : Policy → KnownRows → Machine → List Group → ℕ → Steps State
-steps_to p d m groups target = record {
+-- the level of what is given, where every step counts; and where only those count that ask for no password
+abbrev pub level_for : Bool → Given → Level
+level_for true a = if a.free then a.level else level.None
+level_for false a = a.level
+
+-- the steps on a host towards a user: all of them, or only those that ask for no password
+abbrev pub steps_to : Policy → KnownRows → Machine → List Group → ℕ → Bool → Steps State
+steps_to p d m groups target free = record {
   states = all_states (length d.people) (length groups);
-  level = λ s t. (step_given p d m groups s t).level;
+  level = λ s t. level_for free (step_given p d m groups s t);
   goal = λ s. s.user == target;
 }

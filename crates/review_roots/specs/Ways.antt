@@ -1,16 +1,17 @@
 -- A chain of steps to a target: its level, the row that allows its first step, and whose passwords it asks for.
 -- sudo(8), sudoers(5), "Tag_Spec": a password is asked unless NOPASSWD is in force.
-use Rattle.std.specs.Prelude.{◌≡◌, ℕ, Bool, true, ◌==◌, if◌then◌else◌, List, [], ◌∷◌, Option, None, codes}
+use Rattle.std.specs.Prelude.{◌≡◌, ◌⊎◌, ℕ, Bool, true, ◌==◌, if◌then◌else◌, List, [], ◌∷◌, Option, None, codes}
 use Rattle.review_roots.specs.declared.given.AllowingRow.{AllowingRow}
 use Rattle.review_roots.specs.declared.given.Given.{Given}
 use Rattle.review_roots.specs.declared.host.HostSteps.{HostSteps}
 use Rattle.review_roots.specs.declared.level.Level.{Level}
+use Rattle.review_roots.specs.declared.search.Sought.{Sought}
 use Rattle.review_roots.specs.declared.state.State.{State}
 use Rattle.review_roots.specs.declared.way.Password.{Password}
 use Rattle.review_roots.specs.declared.way.Password.TheVariants as password
 use Rattle.review_roots.specs.declared.way.Way.{Way}
-use Rattle.review_roots.specs.Candidates.{steps_of}
-use Rattle.review_roots.specs.Chains.{HasPath, LeadsAlong}
+use Rattle.review_roots.specs.Candidates.{any_steps, free_steps, steps_of}
+use Rattle.review_roots.specs.Chains.{HasNoPath, HasPath, LeadsAlong}
 use Rattle.review_roots.specs.Ranks.{is_at_least}
 use Rattle.review_roots.specs.States.{step_given}
 
@@ -44,11 +45,20 @@ abbrev pub first_row : HostSteps → State → List State → Option AllowingRow
 first_row h s [] = None
 first_row h s (t ∷ ts) = (step_on h s t).by
 
--- the chain leads from the state to the target with its level, which no chain betters and which is the least asked for or a
--- better one; the row is one that allows the first step, and the password is that of the chain
-pub record IsWay (h : HostSteps) (target : ℕ) (least : Level) (s : State) (w : Way) : Type 0 where
-  pub leads : LeadsAlong (steps_of h target) w.level s w.chain.items
-  pub best : (l : Level) → HasPath (steps_of h target) l s → is_at_least l w.level ≡ true
+-- of the steps that are sought, the chain leads from the state to the target with its level, which no chain betters and which
+-- is the least asked for or a better one; the row allows the first step, and the password is that of the chain
+pub record IsChain (h : HostSteps) (q : Sought) (least : Level) (s : State) (w : Way) : Type 0 where
+  pub leads : LeadsAlong (steps_of h q) w.level s w.chain.items
+  pub best : (l : Level) → HasPath (steps_of h q) l s → is_at_least l w.level ≡ true
   pub enough : is_at_least least w.level ≡ true
   pub by : w.by ≡ first_row h s w.chain.items
+  pub password : w.password ≡ password_along h s.user s w.chain.items
+
+-- the same of all steps; and where the chain asks for a password, no chain of its level, however long, asks for none
+pub record IsWay (h : HostSteps) (target : ℕ) (least : Level) (s : State) (w : Way) : Type 0 where
+  pub leads : LeadsAlong (any_steps h target) w.level s w.chain.items
+  pub best : (l : Level) → HasPath (any_steps h target) l s → is_at_least l w.level ≡ true
+  pub enough : is_at_least least w.level ≡ true
+  pub by : w.by ≡ first_row h s w.chain.items
+  pub free : (w.password ≡ password.None) ⊎ HasNoPath (free_steps h target) w.level s
   pub password : w.password ≡ password_along h s.user s w.chain.items

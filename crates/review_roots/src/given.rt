@@ -3,6 +3,7 @@ ghost use Rattle.std.specs.Prelude.{◌≡◌};
 ghost use Rattle.review_roots.specs.Asked as asked;
 ghost use Rattle.review_roots.specs.Passwords.{nopasswd};
 ghost use Rattle.review_roots.specs.Blocks as blocks;
+ghost use Rattle.review_roots.specs.States.{level_for};
 
 use crate::Level;
 use crate::block::{Block, Sign};
@@ -90,6 +91,17 @@ impl Given {
     {
         let (own, its) = (self.level.rank(), other.level.rank());
         own < its || (own == its && (other.free && !self.free))
+    }
+
+    /// Returns the level, where every step counts; or, where only those count that ask for no password, the level if it is one.
+    pub(crate) fn level_for(self, free: bool) -> Level
+        ensures { result ≡ level_for free self }
+    {
+        if free && !self.free {
+            Level::None
+        } else {
+            self.level
+        }
     }
 
     /// Returns the better of the two: by the level, and then by the password.

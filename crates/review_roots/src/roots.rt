@@ -1,15 +1,16 @@
 //! Who can become a target on a host.
-ghost use Rattle.std.specs.Prelude.{◌≡◌, ◌<◌, IfOk, IsTrue, MatchOption, length};
-ghost use Rattle.review_roots.specs.Candidates.{steps_of};
-ghost use Rattle.review_roots.specs.Found.{AreFound, PointBack};
+ghost use Rattle.std.specs.Prelude.{◌≡◌, ◌<◌, IfOk, IsTrue, MatchOption, Some, None, length};
+ghost use Rattle.review_roots.specs.States.{state_with};
+ghost use Rattle.review_roots.specs.Ways.{IsWay};
+ghost use Rattle.review_roots.specs.Found.{AreChains, ChainsLead, IsFoundAt, IsFreeAt, is_start};
 ghost use Rattle.review_roots.specs.Ranks.{is_at_least};
-ghost use Rattle.review_roots.specs.Roots.{AreRoots, IsFoundAt, IsRootAt, IsNoRoot, has_zero, is_start};
+ghost use Rattle.review_roots.specs.Roots.{AreRoots, IsRootAt, IsNoRoot, has_zero};
 ghost use Rattle.review_roots.specs.declared.level.Level.{Level as TheLevel};
 ghost use Rattle.review_roots.specs.declared.level.Level.TheVariants as level;
 
 use crate::Level;
 use crate::host::HostSteps;
-use crate::search::{Found, search};
+use crate::search::{Chains, Found, search};
 use crate::state::State;
 use crate::way::{Way, way_of};
 use std::alloc::{AllocError, Global};
@@ -51,17 +52,50 @@ fn has_zero(steps: &HostSteps<'_>, user: usize) -> bool
     }
 }
 
+// Returns the index of the user among the states that chains without passwords lead from, if one of them has the level or a
+// better one.
+fn free_index(chains: &Chains, user: usize, level: Level) -> Option<usize>
+    ensures { IsFreeAt chains.now.free.items user level result }
+{
+    let index = found_index(&chains.free, user)?;
+    if chains.free[index].level.is_at_least(level) {
+        Some(index)
+    } else {
+        None
+    }
+}
+
+// Returns the chain of a found state that is the user without an added group: one without passwords, if one has its level.
+fn best_way(
+    alloc: Global,
+    steps: &HostSteps<'_>,
+    target: usize,
+    chains: &Chains,
+    user: usize,
+    index: usize,
+) -> Result<Way, AllocError>
+    requires chains { AreChains chains.now }
+    requires start { IsFoundAt chains.now.any.items user (Some index) }
+    ensures { IfOk result (λ way. (least : TheLevel) → ChainsLead steps.now target least chains.now
+        → IsWay steps.now target least (state_with None user) way) }
+{
+    match free_index(chains, user, chains.any[index].level) {
+        Some(index) => way_of(alloc, steps, &chains.free, index),
+        None => way_of(alloc, steps, &chains.any, index),
+    }
+}
+
 // Returns the user if it can become the target, and `None` if it cannot.
 fn root_of(
     alloc: Global,
     steps: &HostSteps<'_>,
     target: usize,
-    found: &[Found],
+    chains: &Chains,
     user: usize,
 ) -> Result<Option<Root>, AllocError>
-    requires back { PointBack found.now }
+    requires { AreChains chains.now }
     ensures { IfOk result (λ root. (least : TheLevel)
-        → AreFound (steps_of steps.now target) least found.now
+        → ChainsLead steps.now target least chains.now
         → user < length steps.now.directory.now.people
         → MatchOption root (IsNoRoot steps.now target least user)
         (IsRootAt steps.now target least user)) }
@@ -69,11 +103,11 @@ fn root_of(
     if user == target || has_zero(steps, user) {
         return Ok(Some(Root { user, way: None }));
     }
-    match found_index(found, user) {
+    match found_index(&chains.any, user) {
         None => Ok(None),
         Some(index) => Ok(Some(Root {
             user,
-            way: Some(way_of(alloc, steps, found, index)?),
+            way: Some(best_way(alloc, steps, target, chains, user, index)?),
         })),
     }
 }
@@ -91,10 +125,10 @@ pub fn roots_on(
     requires { IsTrue (is_at_least level.Listed least) }
     ensures { IfOk result (λ roots. AreRoots steps.now target least roots.items) }
 {
-    let found = search(alloc, steps, target, least)?;
+    let chains = search(alloc, steps, target, least)?;
     let mut roots = Vec::new(alloc);
     for user in 0..steps.directory.people().len() {
-        if let Some(root) = root_of(alloc, steps, target, &found, user)? {
+        if let Some(root) = root_of(alloc, steps, target, &chains, user)? {
             roots.push(root)?;
         }
     }

@@ -1,6 +1,6 @@
 //! The search for the states that lead to a target: back from the target, level by level.
-ghost use Rattle.std.specs.Prelude.{◌≡◌, ◌++◌, ◌∷◌, [], List, IfOk, OnOk, IsTrue, All, filter, map, not};
-ghost use Rattle.review_roots.specs.Candidates.{IsCandidate, steps_of};
+ghost use Rattle.std.specs.Prelude.{◌≡◌, ◌++◌, ◌∷◌, [], Bool, List, IfOk, OnOk, IsTrue, All, filter, map, not};
+ghost use Rattle.review_roots.specs.Candidates.{IsCandidate, any_steps, free_steps, steps_of};
 ghost use Rattle.review_roots.specs.Found.{AreFound, IsSearch, HaveNoPath, IsStartOf, found_by, reaches, states_of};
 ghost use Rattle.review_roots.specs.declared.state.State.{State as TheState};
 ghost use Rattle.review_roots.specs.Ranks.{is_at_least};
@@ -21,12 +21,28 @@ pub(crate) struct Found {
     pub(crate) next: Option<usize>,
 }
 
-// A found state to which steps are sought: its index, the state, and the level of the steps.
+/// What is sought: steps to the target, all of them, or only those that ask for no password.
+#[derive(Clone, Copy)]
+pub(crate) struct Sought {
+    pub(crate) target: usize,
+    pub(crate) free: bool,
+}
+
+/// The states from which chains lead to a target: by any steps, and by steps that ask for no password.
+#[derive(Drop)]
+pub(crate) struct Chains {
+    pub(crate) any: Vec<Found>,
+    pub(crate) free: Vec<Found>,
+}
+
+// A found state to which steps are sought: its index, the state, the level of the steps, and whether they must not ask for
+// a password.
 #[derive(Clone, Copy)]
 struct Aim {
     index: usize,
     state: State,
     level: Level,
+    free: bool,
 }
 
 // The states that are found, and those that may still be.
@@ -41,10 +57,8 @@ fn reaches(steps: &HostSteps<'_>, aim: Aim, candidate: &Candidate) -> bool
     requires { IsCandidate steps.now candidate.now }
     ensures { result ≡ reaches steps.now aim candidate.now }
 {
-    steps
-        .step(candidate, aim.state)
-        .level
-        .is_at_least(aim.level)
+    let given = steps.step(candidate, aim.state);
+    given.level_for(aim.free).is_at_least(aim.level)
 }
 
 // Moves the candidates with a step to the aim to those that are found, and returns the others.
@@ -80,19 +94,19 @@ fn draw<'c>(
 fn spread<'c>(
     alloc: Global,
     steps: &HostSteps<'_>,
-    target: usize,
+    sought: Sought,
     level: Level,
     left: Vec<&'c Candidate>,
     found: &mut Vec<Found>,
 ) -> Result<Vec<&'c Candidate>, AllocError>
     requires candidates { All (IsCandidate steps.now) (map (λ c. c.now) left.items) }
-    requires search { IsSearch (steps_of steps.now target) level found.old.items
+    requires search { IsSearch (steps_of steps.now sought) level found.old.items
         (states_of (map (λ c. c.now) left.items)) }
     ensures candidates { IfOk result (λ rest. All (IsCandidate steps.now)
         (map (λ c. c.now) rest.items)) }
-    ensures search { IfOk result (λ rest. IsSearch (steps_of steps.now target) level
+    ensures search { IfOk result (λ rest. IsSearch (steps_of steps.now sought) level
         found.new.items (states_of (map (λ c. c.now) rest.items))) }
-    ensures done { IfOk result (λ rest. HaveNoPath (steps_of steps.now target) level
+    ensures done { IfOk result (λ rest. HaveNoPath (steps_of steps.now sought) level
         (states_of (map (λ c. c.now) rest.items))) }
 {
     let mut left = left;
@@ -102,6 +116,7 @@ fn spread<'c>(
             index,
             state: found[index].state,
             level,
+            free: sought.free,
         };
         left = draw(alloc, steps, aim, &left, found)?;
         index += 1;
@@ -117,9 +132,11 @@ fn sort_state(
     state: State,
     start: &mut Start,
 ) -> Result<(), AllocError>
-    ensures { OnOk result ((before : List TheState) → IsStartOf steps.now target before
-        start.old.found.items start.old.candidates.items → IsStartOf steps.now target
-        (before ++ state ∷ []) start.new.found.items start.new.candidates.items) }
+    ensures { OnOk result ((free : Bool) (before : List TheState)
+        → IsStartOf steps.now (record { target = target; free = free }) before
+        start.old.found.items start.old.candidates.items
+        → IsStartOf steps.now (record { target = target; free = free }) (before ++ state ∷ [])
+        start.new.found.items start.new.candidates.items) }
 {
     if state.user == target {
         start.found.push(Found {
@@ -139,8 +156,9 @@ fn sort_state(
 
 // Returns the states at the target, and the others that a user list allows.
 fn first_found(alloc: Global, steps: &HostSteps<'_>, target: usize) -> Result<Start, AllocError>
-    ensures { IfOk result (λ start. IsStartOf steps.now target
-        (steps_of steps.now target).states start.found.items start.candidates.items) }
+    ensures { IfOk result (λ start. (free : Bool)
+        → IsStartOf steps.now (record { target = target; free = free })
+        (any_steps steps.now target).states start.found.items start.candidates.items) }
 {
     let users = steps.directory.people().len();
     let mut start = Start {
@@ -171,34 +189,34 @@ fn borrowed<'c>(
 fn search_levels(
     alloc: Global,
     steps: &HostSteps<'_>,
-    target: usize,
+    sought: Sought,
     least: Level,
     candidates: &[Candidate],
     found: &mut Vec<Found>,
 ) -> Result<(), AllocError>
     requires least { IsTrue (is_at_least level.Listed least) }
-    requires start { IsStartOf steps.now target (steps_of steps.now target).states found.old.items
+    requires start { IsStartOf steps.now sought (steps_of steps.now sought).states found.old.items
         candidates.now }
-    ensures { OnOk result (AreFound (steps_of steps.now target) least found.new.items) }
+    ensures { OnOk result (AreFound (steps_of steps.now sought) least found.new.items) }
 {
     let left = borrowed(alloc, candidates)?;
-    let left = spread(alloc, steps, target, Level::All, left, found)?;
+    let left = spread(alloc, steps, sought, Level::All, left, found)?;
     match least {
         Level::All => Ok(()),
         Level::AllBut => {
-            spread(alloc, steps, target, Level::AllBut, left, found)?;
+            spread(alloc, steps, sought, Level::AllBut, left, found)?;
             Ok(())
         }
         _ => {
-            let left = spread(alloc, steps, target, Level::AllBut, left, found)?;
-            spread(alloc, steps, target, Level::Listed, left, found)?;
+            let left = spread(alloc, steps, sought, Level::AllBut, left, found)?;
+            spread(alloc, steps, sought, Level::Listed, left, found)?;
             Ok(())
         }
     }
 }
 
 /// Returns the states from which a chain of steps of the level, or a better one, leads to the target, each with the best
-/// level of such a chain.
+/// level of such a chain; and the same of chains whose steps ask for no password.
 ///
 /// Returns `AllocError` if allocation fails.
 pub(crate) fn search(
@@ -206,14 +224,24 @@ pub(crate) fn search(
     steps: &HostSteps<'_>,
     target: usize,
     least: Level,
-) -> Result<Vec<Found>, AllocError>
+) -> Result<Chains, AllocError>
     requires { IsTrue (is_at_least level.Listed least) }
-    ensures { IfOk result (λ found. AreFound (steps_of steps.now target) least found.items) }
+    ensures any { IfOk result (λ chains. AreFound (any_steps steps.now target) least
+        chains.any.items) }
+    ensures free { IfOk result (λ chains. AreFound (free_steps steps.now target) least
+        chains.free.items) }
 {
     let Start {
-        mut found,
+        found: mut any,
         candidates,
     } = first_found(alloc, steps, target)?;
-    search_levels(alloc, steps, target, least, &candidates, &mut found)?;
-    Ok(found)
+    let mut free = Vec::from_slice(alloc, &any)?;
+    let sought = Sought {
+        target,
+        free: false,
+    };
+    search_levels(alloc, steps, sought, least, &candidates, &mut any)?;
+    let sought = Sought { target, free: true };
+    search_levels(alloc, steps, sought, least, &candidates, &mut free)?;
+    Ok(Chains { any, free })
 }

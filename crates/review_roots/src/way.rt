@@ -1,11 +1,12 @@
 //! A chain of steps to a target, with the row that allows its first step, and whose passwords it asks for.
-ghost use Rattle.std.specs.Prelude.{◌≡◌, ◌<◌, ℕ, IfOk, Some, length, slice_get};
+ghost use Rattle.std.specs.Prelude.{◌≡◌, ◌<◌, IfOk, Some, length, slice_get};
 ghost use Rattle.review_roots.specs.Candidates.{steps_of};
 ghost use Rattle.review_roots.specs.Chains.{LeadsAlong, Steps as TheSteps};
 ghost use Rattle.review_roots.specs.Found.{AreFound, AreLinked, PointBack};
-ghost use Rattle.review_roots.specs.Ways.{IsWay, first_row, password_along, password_name, step_password, worse};
+ghost use Rattle.review_roots.specs.Ways.{IsChain, first_row, password_along, password_name, step_password, worse};
 ghost use Rattle.review_roots.specs.declared.level.Level.{Level as TheLevel};
 ghost use Rattle.review_roots.specs.declared.search.Found.{Found as TheFound};
+ghost use Rattle.review_roots.specs.declared.search.Sought.{Sought as TheSought};
 ghost use Rattle.review_roots.specs.declared.state.State.{State as TheState};
 
 use crate::Level;
@@ -136,9 +137,9 @@ pub(crate) fn way_of(
 ) -> Result<Way, AllocError>
     requires back { PointBack found.now }
     requires inside { index < length found.now }
-    ensures { IfOk result (λ way. (target : ℕ) (least : TheLevel) (f : TheFound)
-        → AreFound (steps_of steps.now target) least found.now → slice_get found.now index ≡ Some f
-        → IsWay steps.now target least f.state way) }
+    ensures { IfOk result (λ way. (q : TheSought) (least : TheLevel) (f : TheFound)
+        → AreFound (steps_of steps.now q) least found.now → slice_get found.now index ≡ Some f
+        → IsChain steps.now q least f.state way) }
 {
     let Found {
         state,

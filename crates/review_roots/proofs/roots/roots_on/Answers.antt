@@ -2,9 +2,7 @@ use Rattle.std.proofs.Common.{◌<◌, ◌∙◌, ◌+◌, List, Vec, Global, ap
 use Rattle.std.specs.Prelude.{MatchOption}
 use Rattle.sudo_match.specs.declared.people.Person.{Person}
 use Rattle.review_roots.specs.declared.roots.Root.{Root}
-use Rattle.review_roots.specs.declared.search.Found.{Found}
-use Rattle.review_roots.specs.Candidates.{steps_of}
-use Rattle.review_roots.specs.Found.{AreFound}
+use Rattle.review_roots.specs.Found.{ChainsLead}
 use Rattle.review_roots.specs.Roots.{IsNoRoot, IsRootAt}
 use Rattle.review_roots.proofs.RootLemmas.{AreRootsBefore, roots-more, roots-same}
 use Rattle.review_roots.proofs.roots.roots_on.Goals as goal
@@ -17,8 +15,12 @@ loop-user-preserved c =
     let least = c.args.least in
     let n = c.loop-user.user in
     let less : n < length h.directory.now.people = subst (λ (xs : List Person). n < length xs) c.people-user-end.ensures c.loop-user-test.true in
-    let found = subst (λ (xs : List Found). AreFound (steps_of h target) least xs) (sym c.deref.ensures.value) c.in_ok-found.ensures in
-    let is = c.in_ok-root.ensures least found less in
+    let lead : ChainsLead h target least c.in_ok-chains.chains = record {
+      level = c.requires;
+      any = c.in_ok-chains.ensures.any;
+      free = c.in_ok-chains.ensures.free;
+    } in
+    let is = c.in_ok-root.ensures least lead less in
     elim c.match-branch-3.branch [
       | in-Some+in_ok-push w ↦
           (let root = subst (λ o. MatchOption o (IsNoRoot h target least n) (IsRootAt h target least n)) w.in-Some.is is in

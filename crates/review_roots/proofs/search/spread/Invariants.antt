@@ -7,8 +7,8 @@ use Rattle.review_roots.proofs.search.spread.Given as goal
 abbrev pub invariant-loop-index : goal.invariant-loop-index
 invariant-loop-index l = record {
   candidates : All (IsCandidate l.steps) (map (λ c. c.now) l.left.items);
-  search : IsSearch (steps_of l.steps l.target) l.level l.found.items (states_of (map (λ c. c.now) l.left.items));
-  drawn : IsDrawn (steps_of l.steps l.target) l.level l.index l.found.items (states_of (map (λ c. c.now) l.left.items));
+  search : IsSearch (steps_of l.steps l.sought) l.level l.found.items (states_of (map (λ c. c.now) l.left.items));
+  drawn : IsDrawn (steps_of l.steps l.sought) l.level l.index l.found.items (states_of (map (λ c. c.now) l.left.items));
 }
 
 abbrev pub decreases-loop-index : goal.decreases-loop-index
