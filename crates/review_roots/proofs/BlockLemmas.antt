@@ -29,7 +29,8 @@ use Rattle.review_roots.specs.declared.block.InForce.{InForce}
 use Rattle.review_roots.specs.declared.block.Sign.{Sign}
 use Rattle.review_roots.specs.Blocks.{Row, row_of, sign_of, block_row, block_rows, block_resolves, AreBlocks}
 use Rattle.review_roots.specs.Heads.{IsInForce, signed_row, head_resolves}
-use Rattle.review_roots.proofs.ListSteps.{take-more, take-enumerated, flat-one, all-push, all-taken, all-there, filter-constant, filter-flat-constant, map-same, map-twice}
+use Rattle.review_roots.proofs.ListSteps.{take-more, take-enumerated, flat-one, all-push, all-taken, all-there, filter-constant}
+use Rattle.review_roots.proofs.ListSteps.{filter-flat-constant, map-same, map-twice}
 
 -- ---- The block of a command
 
@@ -65,7 +66,15 @@ command-rows p h f s i c at =
     same : (w : Signed) → signed_row h f w ≡ row_of (grant_of h.place h.users.now s i w)
     same w =
         ap (λ r. record { place = h.place; users = h.users.now; runas = r; tags = f.tags; negated = w.negated; all = is_all w.atom }) at.0
-        ∙ ap (λ t. record { place = h.place; users = h.users.now; runas = runas_before (take (i + 1) s.commands); tags = t; negated = w.negated; all = is_all w.atom }) at.1
+        ∙ ap (λ t. record {
+          place = h.place;
+          users = h.users.now;
+          runas = runas_before (take (i + 1) s.commands);
+          tags = t;
+          negated =
+              w.negated;
+          all = is_all w.atom;
+        }) at.1
 
 -- one command more
 pub section-more :
@@ -102,14 +111,16 @@ in-force-more cs i c f g within is old more = subst (λ xs. IsInForce xs g) (sym
 
 -- the runas in force at a command resolves, and so does the command
 pub in-force-resolves :
-    (p : Policy) (h : Head) (f : InForce) (cs : List CommandSpec) (i : ℕ) → IsInForce (take (i + 1) cs) f → list_all (command_resolves p) cs ≡ true →
+    (p : Policy) (h : Head) (f : InForce) (cs : List CommandSpec) (i : ℕ) → IsInForce (take (i + 1) cs) f
+    → list_all (command_resolves p) cs ≡ true →
     resolves kind.User p h.users.now ≡ true → head_resolves p h f ≡ true
 in-force-resolves p h f cs i at all users =
     ap (λ b. b && runas_resolves p (option_copied f.runas)) users
     ∙ ap (runas_resolves p) at.0 ∙ runas_before-resolves p (take (i + 1) cs) (all-taken (command_resolves p) (i + 1) cs all)
 
 pub command-resolved :
-    (p : Policy) (cs : List CommandSpec) (i : ℕ) (c : CommandSpec) → i < length cs → c ≡ get_or cs i c → list_all (command_resolves p) cs ≡ true →
+    (p : Policy) (cs : List CommandSpec) (i : ℕ) (c : CommandSpec) → i < length cs → c ≡ get_or cs i c → list_all (command_resolves p) cs
+    ≡ true →
     resolves kind.Cmnd p (c.command ∷ []) ≡ true
 command-resolved p cs i c within is all =
     (and_parts (resolves kind.Cmnd p (c.command ∷ [])) (runas_resolves p c.runas) (all-there (command_resolves p) cs i c within is all)).0
@@ -129,7 +140,8 @@ section-for-host p m place users s =
     (enumerate_from 0 s.commands)
 
 pub section-of-host :
-    (p : Policy) (m : Machine) (place : Place) (users : List Member) (s : Section) (first new : List Row) → host_allowed p s.hosts m ≡ true →
+    (p : Policy) (m : Machine) (place : Place) (users : List Member) (s : Section) (first new : List Row) → host_allowed p s.hosts m
+    ≡ true →
     new ≡ first ++ map row_of (section_grants p place users s) →
     new ≡ first ++ map row_of (filter (λ (g : Grant). host_allowed p g.hosts m) (section_grants p place users s))
 section-of-host p m place users s first new allowed more =
@@ -146,7 +158,8 @@ section-of-none p m place users s first refused =
 
 -- one item more of a list of which each one's grants are filtered
 pub filtered-more :
-    {X : Type 0} (t : Grant → Bool) (f : X → List Grant) (xs : List X) (i : ℕ) (x : X) (first old new : List Row) → i < length xs → x ≡ get_or xs i x →
+    {X : Type 0} (t : Grant → Bool) (f : X → List Grant) (xs : List X) (i : ℕ) (x : X) (first old new : List Row) → i < length xs → x
+    ≡ get_or xs i x →
     old ≡ first ++ map row_of (filter t (flat_map f (take i xs))) → new ≡ old ++ map row_of (filter t (f x)) →
     new ≡ first ++ map row_of (filter t (flat_map f (take (i + 1) xs)))
 filtered-more t f xs i x first old new within is so_far more =
@@ -161,7 +174,10 @@ filtered-more t f xs i x first old new within is so_far more =
 -- all entries
 pub entries-all :
     (p : Policy) (m : Machine) (blocks : List Block) (i : ℕ) → length p.entries ≤ i →
-    flat_map block_rows blocks ≡ map row_of (filter (λ (g : Grant). host_allowed p g.hosts m) (flat_map (entry_grants p) (take i p.entries))) → AreBlocks p m blocks
+    flat_map block_rows blocks
+    ≡ map row_of (filter (λ (g : Grant). host_allowed p g.hosts m) (flat_map (entry_grants p) (take i p.entries)))
+    → AreBlocks p m blocks
 unfolding grants
 entries-all p m blocks i all so_far =
-    so_far ∙ ap (λ (es : List Entry). map row_of (filter (λ (g : Grant). host_allowed p g.hosts m) (flat_map (entry_grants p) es))) (take_all i p.entries all)
+    so_far ∙ ap (λ (es : List Entry). map row_of (filter (λ (g : Grant). host_allowed p g.hosts m) (flat_map (entry_grants p) es)))
+    (take_all i p.entries all)

@@ -1,5 +1,6 @@
 -- The loops of a search: over the candidates that are left, and over what is found.
-use Rattle.std.proofs.Common.{◌≡◌, ◌<◌, ◌∙◌, ◌+◌, ℕ, Bool, true, false, not, cond, List, [], ◌∷◌, ◌++◌, ap, arith, get_or, length, length-append}
+use Rattle.std.proofs.Common.{◌≡◌, ◌<◌, ◌∙◌, ◌+◌, ℕ, Bool, true, false, not, cond, List, [], ◌∷◌, ◌++◌, ap, arith, get_or, length}
+use Rattle.std.proofs.Common.{length-append}
 use Rattle.std.proofs.Common.{map, sym, subst, take, Some, append_assoc, append-nil}
 use Rattle.std.specs.Prelude.{All, filter, slice_get}
 use Rattle.std.proofs.lemmas.List.{length-map, map-append}
@@ -26,7 +27,8 @@ filtered-more f now left i c within is =
 
 -- an item that passes is kept
 pub one-kept :
-    {R X : Type 0} (f : X → Bool) (now : R → X) (left old new : List R) (i : ℕ) (c : R) → i < length left → c ≡ get_or left i c → f (now c) ≡ true →
+    {R X : Type 0} (f : X → Bool) (now : R → X) (left old new : List R) (i : ℕ) (c : R) → i < length left → c ≡ get_or left i c → f (now c)
+    ≡ true →
     map now old ≡ filter f (map now (take i left)) → new ≡ old ++ c ∷ [] → map now new ≡ filter f (map now (take (i + 1) left))
 one-kept f now left old new i c within is passes so_far more =
     ap (map now) more ∙ map-append now old (c ∷ []) ∙ ap (λ (xs : List _). xs ++ now c ∷ []) so_far
@@ -34,7 +36,8 @@ one-kept f now left old new i c within is passes so_far more =
 
 -- another one is not
 pub none-kept :
-    {R X : Type 0} (f : X → Bool) (now : R → X) (left : List R) (i : ℕ) (c : R) → i < length left → c ≡ get_or left i c → f (now c) ≡ false →
+    {R X : Type 0} (f : X → Bool) (now : R → X) (left : List R) (i : ℕ) (c : R) → i < length left → c ≡ get_or left i c → f (now c)
+    ≡ false →
     filter f (map now (take (i + 1) left)) ≡ filter f (map now (take i left))
 none-kept f now left i c within is fails =
     filtered-more f now left i c within is ∙ ap (λ b. filter f (map now (take i left)) ++ cond b (now c ∷ []) []) fails
@@ -42,7 +45,8 @@ none-kept f now left i c within is fails =
 
 -- an item that passes is found
 pub one-found :
-    {R X Y : Type 0} (f : X → Bool) (now : R → X) (by : X → Y) (left : List R) (first old new : List Y) (i : ℕ) (c : R) → i < length left → c ≡ get_or left i c →
+    {R X Y : Type 0} (f : X → Bool) (now : R → X) (by : X → Y) (left : List R) (first old new : List Y) (i : ℕ) (c : R) → i < length left
+    → c ≡ get_or left i c →
     f (now c) ≡ true → old ≡ first ++ map by (filter f (map now (take i left))) → new ≡ old ++ by (now c) ∷ [] →
     new ≡ first ++ map by (filter f (map now (take (i + 1) left)))
 one-found f now by left first old new i c within is passes so_far more =
@@ -57,19 +61,29 @@ one-found f now by left first old new i c within is passes so_far more =
 module _ (h : HostSteps) (target : ℕ) (aim : Aim) (cs : List Candidate) where
   pub draw-found :
       map (found_by aim) (filter (reaches h aim) cs)
-      ≡ map (new_found aim.level aim.index) (filter (drawn_to (steps_to h.checked.now h.directory.now h.host.now h.groups.now target aim.free) aim.level aim.state) (states_of cs))
+      ≡ map (new_found aim.level aim.index)
+      (filter (drawn_to (steps_to h.checked.now h.directory.now h.host.now h.groups.now target aim.free) aim.level aim.state)
+      (states_of cs))
   draw-found =
-      sym (ap (map (new_found aim.level aim.index)) (filter-mapped (drawn_to (steps_to h.checked.now h.directory.now h.host.now h.groups.now target aim.free) aim.level aim.state) (λ (c : Candidate). c.state) cs)
+      sym (ap (map (new_found aim.level aim.index))
+      (filter-mapped (drawn_to (steps_to h.checked.now h.directory.now h.host.now h.groups.now target aim.free) aim.level aim.state)
+      (λ (c : Candidate). c.state) cs)
       ∙ map-twice (new_found aim.level aim.index) (λ (c : Candidate). c.state) (filter (reaches h aim) cs))
 
   pub draw-kept :
-      states_of (filter (λ c. not (reaches h aim c)) cs) ≡ filter (λ s. not (drawn_to (steps_to h.checked.now h.directory.now h.host.now h.groups.now target aim.free) aim.level aim.state s)) (states_of cs)
-  draw-kept = sym (filter-mapped (λ s. not (drawn_to (steps_to h.checked.now h.directory.now h.host.now h.groups.now target aim.free) aim.level aim.state s)) (λ (c : Candidate). c.state) cs)
+      states_of (filter (λ c. not (reaches h aim c)) cs)
+      ≡ filter (λ s. not (drawn_to (steps_to h.checked.now h.directory.now h.host.now h.groups.now target aim.free) aim.level aim.state
+      s)) (states_of cs)
+  draw-kept = sym (filter-mapped
+      (λ s. not (drawn_to (steps_to h.checked.now h.directory.now h.host.now h.groups.now target aim.free) aim.level aim.state s))
+      (λ (c : Candidate). c.state) cs)
 
 module _
     (h : HostSteps) (q : Sought) (l : Level) (n : ℕ) (t : Found) (found new : List Found) (cs kept : List Candidate)
     (there : slice_get found n ≡ Some t)
-    (finds : new ≡ found ++ map (found_by (record { index = n; state = t.state; level = l; free = q.free })) (filter (reaches h (record { index = n; state = t.state; level = l; free = q.free })) cs))
+    (finds : new ≡ found
+    ++ map (found_by (record { index = n; state = t.state; level = l; free = q.free }))
+    (filter (reaches h (record { index = n; state = t.state; level = l; free = q.free })) cs))
     (keeps : kept ≡ filter (λ c. not (reaches h (record { index = n; state = t.state; level = l; free = q.free }) c)) cs)
   where
     abbrev aim : Aim
@@ -84,13 +98,16 @@ module _
     pub spread-search : IsSearch (steps_of h q) l found (states_of cs) → IsSearch (steps_of h q) l new (states_of kept)
     spread-search search =
         subst (λ xs. IsSearch (steps_of h q) l xs (states_of kept)) (sym finds_states)
-        (subst (IsSearch (steps_of h q) l (found ++ map (new_found l n) (filter (drawn_to (steps_of h q) l t.state) (states_of cs)))) (sym keeps_states)
+        (subst (IsSearch (steps_of h q) l (found ++ map (new_found l n) (filter (drawn_to (steps_of h q) l t.state) (states_of cs))))
+        (sym keeps_states)
         (drawn-search (steps_of h q) l n t found (states_of cs) search there))
 
-    pub spread-drawn : IsSearch (steps_of h q) l found (states_of cs) → IsDrawn (steps_of h q) l n found (states_of cs) → IsDrawn (steps_of h q) l (n + 1) new (states_of kept)
+    pub spread-drawn : IsSearch (steps_of h q) l found (states_of cs) → IsDrawn (steps_of h q) l n found (states_of cs)
+        → IsDrawn (steps_of h q) l (n + 1) new (states_of kept)
     spread-drawn search drawn =
         subst (λ xs. IsDrawn (steps_of h q) l (n + 1) xs (states_of kept)) (sym finds_states)
-        (subst (IsDrawn (steps_of h q) l (n + 1) (found ++ map (new_found l n) (filter (drawn_to (steps_of h q) l t.state) (states_of cs)))) (sym keeps_states)
+        (subst (IsDrawn (steps_of h q) l (n + 1)
+        (found ++ map (new_found l n) (filter (drawn_to (steps_of h q) l t.state) (states_of cs)))) (sym keeps_states)
         (drawn-more (steps_of h q) l n t found (states_of cs) search there drawn))
 
     pub spread-candidates : All (IsCandidate h) cs → All (IsCandidate h) kept
@@ -102,5 +119,6 @@ module _
         let k : length kept ≡ length (filter (λ c. not (reaches h aim c)) cs) = ap length keeps in
         let f : length new ≡ length found + length (map (found_by aim) (filter (reaches h aim) cs)) =
         ap length finds ∙ length-append found (map (found_by aim) (filter (reaches h aim) cs)) in
-        let m : length (map (found_by aim) (filter (reaches h aim) cs)) ≡ length (filter (reaches h aim) cs) = length-map (filter (reaches h aim) cs) (found_by aim) in
+        let m : length (map (found_by aim) (filter (reaches h aim) cs))
+        ≡ length (filter (reaches h aim) cs) = length-map (filter (reaches h aim) cs) (found_by aim) in
         omega (arith, parted, k, f, m)

@@ -31,16 +31,19 @@ free-step :
     (a.free ≡ true) × (is_at_least l a.level ≡ true)
 free-step l a listed step = go a.free refl step
   where
-    go : (b : Bool) → a.free ≡ b → is_at_least l (level_for true (record { level = a.level; free = b; by = a.by })) ≡ true → (a.free ≡ true) × (is_at_least l a.level ≡ true)
+    go : (b : Bool) → a.free ≡ b → is_at_least l (level_for true (record { level = a.level; free = b; by = a.by })) ≡ true
+        → (a.free ≡ true) × (is_at_least l a.level ≡ true)
     go true is at = (is, at)
-    go false is at = absurd (let bad : is_at_least level.Listed level.None ≡ true = at-least-trans level.Listed l level.None listed at in cc)
+    go false is at = absurd
+        (let bad : is_at_least level.Listed level.None ≡ true = at-least-trans level.Listed l level.None listed at in cc)
 
 module _ (h : HostSteps) (target : ℕ) (l : Level) (listed : is_at_least level.Listed l ≡ true) where
   pub free-leads : (s : State) (chain : List State) → LeadsAlong (free_steps h target) l s chain → LeadsAlong (any_steps h target) l s chain
   free-leads s [] leads = leads
   free-leads s (t ∷ ts) leads = ((free-step l (step_on h s t) listed leads.0).1, free-leads t ts leads.1)
 
-  pub free-asks-none : (user : ℕ) (s : State) (chain : List State) → LeadsAlong (free_steps h target) l s chain → password_along h user s chain ≡ password.None
+  pub free-asks-none : (user : ℕ) (s : State) (chain : List State) → LeadsAlong (free_steps h target) l s chain
+      → password_along h user s chain ≡ password.None
   free-asks-none user s [] leads = refl
   free-asks-none user s (t ∷ ts) leads =
       ap (λ b. worse (step_password b user s) (password_along h user t ts)) (free-step l (step_on h s t) listed leads.0).0
@@ -65,7 +68,8 @@ module _ (h : HostSteps) (target : ℕ) (least : Level) (chains : Chains) (lead 
 
   -- another chain, where no chain without passwords has its level
   pub way-any :
-      (f : Found) (w : Way) → is_at_least f.level w.level ≡ true → Contains (free_steps h target).states (state_with None user) → IsFreeAt chains.free.items user f.level None →
+      (f : Found) (w : Way) → is_at_least f.level w.level ≡ true → Contains (free_steps h target).states (state_with None user)
+      → IsFreeAt chains.free.items user f.level None →
       IsChain h (record { target = target; free = false }) least (state_with None user) w → IsWay h target least (state_with None user) w
   way-any f w good inside none is = record {
     leads = is.leads;
@@ -96,52 +100,55 @@ module _ (h : HostSteps) (target : ℕ) (least : Level) (chains : Chains) (lead 
       (w : Way) (xs : List Found) (k : ℕ)
       (is : (q : Sought) (l : Level) (f : Found) → AreFound (steps_of h q) l xs → slice_get xs k ≡ Some f → IsChain h q l f.state w)
     where
-    f : Found
-    f = begin.0
+      f : Found
+      f = begin.0
 
-    f_is : f ≡ a
-    unfolding f
-    f_is =
-        let within = slice_get_within chains.any.items index begin.0 begin.1.0 in
-        let e : Some begin.0 ≡ Some a =
-        sym begin.1.0 ∙ there chains.any.items index a within ∙ ap Some (sym read) in
-        cc
+      f_is : f ≡ a
+      unfolding f
+      f_is =
+          let within = slice_get_within chains.any.items index begin.0 begin.1.0 in
+          let e : Some begin.0 ≡ Some a =
+          sym begin.1.0 ∙ there chains.any.items index a within ∙ ap Some (sym read) in
+          cc
 
-    right : IsFound (any_steps h target) f
-    unfolding f
-    right = All-contains (IsFound (any_steps h target)) chains.any.items begin.0 lead.any.right (at-contains chains.any.items begin.0 index begin.1.0)
+      right : IsFound (any_steps h target) f
+      unfolding f
+      right = All-contains (IsFound (any_steps h target)) chains.any.items begin.0 lead.any.right
+          (at-contains chains.any.items begin.0 index begin.1.0)
 
-    begins : f.state ≡ state_with None user
-    unfolding f
-    begins = start-is user begin.0.state begin.1.1
+      begins : f.state ≡ state_with None user
+      unfolding f
+      begins = start-is user begin.0.state begin.1.1
 
-    at_index : slice_get chains.any.items index ≡ Some f
-    unfolding f
-    at_index = begin.1.0
+      at_index : slice_get chains.any.items index ≡ Some f
+      unfolding f
+      at_index = begin.1.0
 
-    best : (m : Level) → HasPath (any_steps h target) m (state_with None user) → is_at_least m a.level ≡ true
-    best m p =
-        ap (λ (e : Found). is_at_least m e.level) (sym f_is)
-        ∙ right.best m (subst (HasPath (any_steps h target) m) (sym begins) p)
+      best : (m : Level) → HasPath (any_steps h target) m (state_with None user) → is_at_least m a.level ≡ true
+      best m p =
+          ap (λ (e : Found). is_at_least m e.level) (sym f_is)
+          ∙ right.best m (subst (HasPath (any_steps h target) m) (sym begins) p)
 
-    pub best-free : xs ≡ chains.free.items → IsFreeAt chains.free.items user a.level (Some k) → IsWay h target least (state_with None user) w
-    best-free same (e, (at, (start, good))) =
-        let chain = subst (λ s. IsChain h (record { target = target; free = true }) least s w) (start-is user e.state start)
-        (is (record { target = target; free = true }) least e (subst (AreFound (free_steps h target) least) (sym same) lead.free)
-        (ap (λ (ys : List Found). slice_get ys k) same ∙ at)) in
-        let found : IsFound (free_steps h target) e =
-        All-contains (IsFound (free_steps h target)) chains.free.items e lead.free.right (at-contains chains.free.items e k at) in
-        way-free a w best
-        (at-least-trans a.level e.level w.level good
-        (chain.best e.level (subst (HasPath (free_steps h target) e.level) (start-is user e.state start) found.path)))
-        chain
+      pub best-free : xs ≡ chains.free.items → IsFreeAt chains.free.items user a.level (Some k)
+          → IsWay h target least (state_with None user) w
+      best-free same (e, (at, (start, good))) =
+          let chain = subst (λ s. IsChain h (record { target = target; free = true }) least s w) (start-is user e.state start)
+          (is (record { target = target; free = true }) least e (subst (AreFound (free_steps h target) least) (sym same) lead.free)
+          (ap (λ (ys : List Found). slice_get ys k) same ∙ at)) in
+          let found : IsFound (free_steps h target) e =
+          All-contains (IsFound (free_steps h target)) chains.free.items e lead.free.right (at-contains chains.free.items e k at) in
+          way-free a w best
+          (at-least-trans a.level e.level w.level good
+          (chain.best e.level (subst (HasPath (free_steps h target) e.level) (start-is user e.state start) found.path)))
+          chain
 
-    pub best-any : k ≡ index → xs ≡ chains.any.items → IsFreeAt chains.free.items user a.level None → IsWay h target least (state_with None user) w
-    best-any this same none =
-        let chain = subst (λ s. IsChain h (record { target = target; free = false }) least s w) begins
-        (is (record { target = target; free = false }) least f (subst (AreFound (any_steps h target) least) (sym same) lead.any)
-        (ap (λ (ys : List Found). slice_get ys k) same ∙ ap (slice_get chains.any.items) this ∙ at_index)) in
-        way-any a w
-        (ap (λ (e : Found). is_at_least e.level w.level) (sym f_is)
-        ∙ chain.best f.level (subst (HasPath (any_steps h target) f.level) begins right.path))
-        (subst (Contains (free_steps h target).states) begins right.inside) none chain
+      pub best-any : k ≡ index → xs ≡ chains.any.items → IsFreeAt chains.free.items user a.level None
+          → IsWay h target least (state_with None user) w
+      best-any this same none =
+          let chain = subst (λ s. IsChain h (record { target = target; free = false }) least s w) begins
+          (is (record { target = target; free = false }) least f (subst (AreFound (any_steps h target) least) (sym same) lead.any)
+          (ap (λ (ys : List Found). slice_get ys k) same ∙ ap (slice_get chains.any.items) this ∙ at_index)) in
+          way-any a w
+          (ap (λ (e : Found). is_at_least e.level w.level) (sym f_is)
+          ∙ chain.best f.level (subst (HasPath (any_steps h target) f.level) begins right.path))
+          (subst (Contains (free_steps h target).states) begins right.inside) none chain

@@ -1,5 +1,6 @@
 -- What the rows of standing blocks give is what the rows for a target give.
-use Rattle.std.proofs.Common.{◌≡◌, ◌∙◌, Bool, true, false, not, cond, ◌&&◌, List, [], ◌∷◌, ◌++◌, ap, refl, flat_map, fold, map, sym, Option, Some, None}
+use Rattle.std.proofs.Common.{◌≡◌, ◌∙◌, Bool, true, false, not, cond, ◌&&◌, List, [], ◌∷◌, ◌++◌, ap, refl, flat_map, fold, map, sym, Option}
+use Rattle.std.proofs.Common.{Some, None}
 use Rattle.std.specs.Prelude.{filter, option_map}
 use Rattle.std.specs.Option.{option_or}
 use Rattle.std.proofs.lemmas.List.Elements.{filter-append}
@@ -16,7 +17,8 @@ use Rattle.review_roots.specs.declared.given.Given.{Given}
 use Rattle.review_roots.specs.Levels.{after_one, target_rows}
 use Rattle.review_roots.specs.Passwords.{after_free}
 use Rattle.review_roots.specs.Asked.{is_allowing, allowing_row, given_by, nothing}
-use Rattle.review_roots.specs.Blocks.{Row, row_of, host_grants, block_row, block_rows, AreBlocks, with_row, with_rows, stands, standing_rows}
+use Rattle.review_roots.specs.Blocks.{Row, row_of, host_grants, block_row, block_rows, AreBlocks, with_row, with_rows, stands}
+use Rattle.review_roots.specs.Blocks.{standing_rows}
 use Rattle.review_roots.proofs.ListSteps.{filter-constant, filter-mapped, filter-twice}
 
 -- ---- Rows, one after the other
@@ -52,7 +54,8 @@ rows_give_all : (gs : List Grant) → with_rows nothing (map row_of gs) ≡ give
 unfolding given_from
 rows_give_all gs =
     rows_give gs nothing
-    ∙ ap (λ o. record { level = (given_by gs).level; free = (given_by gs).free; by = o }) (from_nothing (option_map allowing_row (last_that is_allowing gs)))
+    ∙ ap (λ o. record { level = (given_by gs).level; free = (given_by gs).free; by = o })
+    (from_nothing (option_map allowing_row (last_that is_allowing gs)))
 
 -- ---- The blocks that stand have the rows for the target
 
@@ -63,7 +66,8 @@ row_stands p q r = user_allowed p r.users q.user && runas_allows p q r.runas
 abbrev grant_stands : Policy → Question → Grant → Bool
 grant_stands p q g = user_allowed p g.users q.user && runas_allows p q g.runas
 
-standing_are : (p : Policy) (q : Question) (bs : List Block) → flat_map (standing_rows p q) bs ≡ filter (row_stands p q) (flat_map block_rows bs)
+standing_are : (p : Policy) (q : Question) (bs : List Block) → flat_map (standing_rows p q) bs
+    ≡ filter (row_stands p q) (flat_map block_rows bs)
 standing_are p q [] = refl
 standing_are p q (b ∷ bs) =
     ap (λ (rs : List Row). standing_rows p q b ++ rs) (standing_are p q bs)
@@ -87,7 +91,8 @@ rows_for_target p q =
 
 -- what the blocks that stand give
 pub blocks_give :
-    (p : Policy) (q : Question) (bs : List Block) → AreBlocks p q.host bs → with_rows nothing (flat_map (standing_rows p q) bs) ≡ given_by (target_rows p q)
+    (p : Policy) (q : Question) (bs : List Block) → AreBlocks p q.host bs → with_rows nothing (flat_map (standing_rows p q) bs)
+    ≡ given_by (target_rows p q)
 blocks_give p q bs tied =
     ap (with_rows nothing)
     (standing_are p q bs ∙ ap (filter (row_stands p q)) tied

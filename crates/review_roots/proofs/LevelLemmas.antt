@@ -29,7 +29,8 @@ root_same : (q : Question) (c x : List ℕ) (t : Option Person) → root_allowed
 root_same q c x None = refl
 root_same q c x (Some t) = refl
 
-users_same : (p : Policy) (q : Question) (c x : List ℕ) (us : List Member) (t : Option Person) → users_allow p (with_command q c x) us t ≡ users_allow p q us t
+users_same : (p : Policy) (q : Question) (c x : List ℕ) (us : List Member) (t : Option Person) → users_allow p (with_command q c x) us t
+    ≡ users_allow p q us t
 users_same p q c x us None = refl
 users_same p q c x us (Some t) = refl
 
@@ -58,7 +59,8 @@ abbrev pub fitting : List ℕ → List ℕ → Grant → Bool
 fitting c x g = command_fits g.atom c x
 
 pub target_decides :
-    (p : Policy) (q : Question) (c x : List ℕ) → verdict_on p (with_command q c x) ≡ verdict_if_any (last_that (fitting c x) (target_rows p q))
+    (p : Policy) (q : Question) (c x : List ℕ) → verdict_on p (with_command q c x)
+    ≡ verdict_if_any (last_that (fitting c x) (target_rows p q))
 target_decides p q c x =
     last_row p (with_command q c x)
     ∙ ap verdict_if_any
@@ -82,7 +84,8 @@ pub verdict_allowed : (o : Option Grant) → allowed (verdict_if_any o) ≡ allo
 verdict_allowed None = refl
 verdict_allowed (Some g) = decided_allowed g.place g.tags g.negated (is_all g.atom)
 
-pub one_more : (o : Option Grant) (e b : Bool) (g : Grant) → allows_last o (cond e (sign g) b) ≡ allows_last (option_or o (cond e (Some g) None)) b
+pub one_more : (o : Option Grant) (e b : Bool) (g : Grant) → allows_last o (cond e (sign g) b)
+    ≡ allows_last (option_or o (cond e (Some g) None)) b
 one_more (Some h) e b g = refl
 one_more None true b g = refl
 one_more None false b g = refl

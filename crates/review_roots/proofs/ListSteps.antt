@@ -38,11 +38,13 @@ all-taken t n xs all =
     (and_parts (list_all t (take n xs)) (list_all t (drop n xs))
     (sym (list_all-append t (take n xs) (drop n xs)) ∙ ap (list_all t) (take-append-drop n xs) ∙ all)).0
 
-pub all-there : {X : Type 0} (t : X → Bool) (xs : List X) (at : ℕ) (x : X) → at < length xs → x ≡ get_or xs at x → list_all t xs ≡ true → t x ≡ true
+pub all-there : {X : Type 0} (t : X → Bool) (xs : List X) (at : ℕ) (x : X) → at < length xs → x ≡ get_or xs at x → list_all t xs ≡ true
+    → t x ≡ true
 all-there t xs at x within is all =
     (and_parts (t x) true
     (and_parts (list_all t (take at xs)) (list_all t (x ∷ []))
-    (sym (list_all-append t (take at xs) (x ∷ [])) ∙ ap (list_all t) (sym (take-more xs at x within is)) ∙ all-taken t (at + 1) xs all)).1).0
+    (sym (list_all-append t (take at xs) (x ∷ [])) ∙ ap (list_all t) (sym (take-more xs at x within is))
+    ∙ all-taken t (at + 1) xs all)).1).0
 
 -- a filter whose test is the same for each item
 pub filter-constant : {X Y : Type 0} (t : Y → Bool) (f : X → Y) (b : Bool) → ((x : X) → t (f x) ≡ b) → (xs : List X)
@@ -70,12 +72,14 @@ filter-mapped t f [] = refl
 filter-mapped {X} {Y} t f (x ∷ xs) = go (t (f x)) (filter-mapped t f xs)
   where
     go : (b : Bool) → filter t (map f xs) ≡ map f (filter (λ x. t (f x)) xs)
-        → cond b (f x ∷ filter t (map f xs)) (filter t (map f xs)) ≡ map f (cond b (x ∷ filter (λ x. t (f x)) xs) (filter (λ x. t (f x)) xs))
+        → cond b (f x ∷ filter t (map f xs)) (filter t (map f xs))
+        ≡ map f (cond b (x ∷ filter (λ x. t (f x)) xs) (filter (λ x. t (f x)) xs))
     go true e = ap (λ ys. f x ∷ ys) e
     go false e = e
 
 -- one filter behind another
-pub filter-twice : {X : Type 0} (s t both : X → Bool) → ((x : X) → both x ≡ (t x && s x)) → (xs : List X) → filter s (filter t xs) ≡ filter both xs
+pub filter-twice : {X : Type 0} (s t both : X → Bool) → ((x : X) → both x ≡ (t x && s x)) → (xs : List X) → filter s (filter t xs)
+    ≡ filter both xs
 filter-twice s t both same [] = refl
 filter-twice {X} s t both same (x ∷ xs) = go (t x) refl (s x) refl (filter-twice s t both same xs)
   where
@@ -103,7 +107,8 @@ index-there xs at other within = get_or_default xs at other (get_or xs at other)
 range-more : (a n : ℕ) → range_with_len a (suc n) ≡ range_with_len a n ++ (a + n) ∷ []
 range-more a zero = ap (λ k. k ∷ []) (let e : a ≡ a + 0 = omega arith in e)
 range-more a (suc n) =
-    ap (λ (ks : List ℕ). a ∷ ks) (range-more (a + 1) n ∙ ap (λ k. range_with_len (a + 1) n ++ k ∷ []) (let e : (a + 1) + n ≡ a + suc n = omega arith in e))
+    ap (λ (ks : List ℕ). a ∷ ks)
+    (range-more (a + 1) n ∙ ap (λ k. range_with_len (a + 1) n ++ k ∷ []) (let e : (a + 1) + n ≡ a + suc n = omega arith in e))
 
 -- one index more
 pub flat-range : {X : Type 0} (f : ℕ → List X) (n : ℕ) → flat_map f (range_with_len 0 (n + 1)) ≡ flat_map f (range_with_len 0 n) ++ f n

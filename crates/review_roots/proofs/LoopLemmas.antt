@@ -1,5 +1,6 @@
 -- What loops and calls leave, in the words of the definitions.
-use Rattle.std.proofs.Common.{◌≡◌, ◌<◌, ◌≤◌, ◌∙◌, ℕ, zero, suc, true, false, List, [], ◌∷◌, ◌++◌, ap, arith, drop, flat_map, get_or, length, map, refl, subst, sym, take}
+use Rattle.std.proofs.Common.{◌≡◌, ◌<◌, ◌≤◌, ◌∙◌, ℕ, zero, suc, true, false, List, [], ◌∷◌, ◌++◌, ap, arith, drop, flat_map, get_or, length}
+use Rattle.std.proofs.Common.{map, refl, subst, sym, take}
 use Rattle.std.proofs.Common.{Option, Some, None, Bor, Global, Vec, option_copied}
 use Rattle.std.specs.Prelude.{All, slice_get}
 use Rattle.std.specs.List.{Contains}
@@ -44,7 +45,8 @@ pub copied-or : {X : Type 0} (a b : Option (Bor X)) → option_copied (option_or
 copied-or None b = refl
 copied-or (Some x) b = refl
 
-pub all-mapped : {R X : Type 0} (P : X → Type 0) (now : R → X) (xs : List R) (i : ℕ) (x : R) → i < length xs → x ≡ get_or xs i x → All P (map now xs) → P (now x)
+pub all-mapped : {R X : Type 0} (P : X → Type 0) (now : R → X) (xs : List R) (i : ℕ) (x : R) → i < length xs → x ≡ get_or xs i x
+    → All P (map now xs) → P (now x)
 all-mapped P now xs i x within is all =
     All-contains P (map now xs) (now x) all (to-map now xs x (subst (Contains xs) (sym is) (Contains-get_or xs i x within)))
 
@@ -55,9 +57,11 @@ signs-all ws items signs i is all so_far =
     so_far ∙ ap (map sign_of) (take_all i items all ∙ is ∙ negated_never ws)
 
 pub asked-all :
-    (p : Policy) (d : KnownRows) (u : Person) (m : Machine) (t : Option Person) (g : Option Group) (bs : List Block) (given : Given) (i : ℕ) →
+    (p : Policy) (d : KnownRows) (u : Person) (m : Machine) (t : Option Person) (g : Option Group) (bs : List Block) (given : Given)
+    (i : ℕ) →
     AreBlocks p m bs → length bs ≤ i →
-    with_rows given (flat_map (standing_rows p (question_as d u m t g)) (drop i bs)) ≡ with_rows nothing (flat_map (standing_rows p (question_as d u m t g)) bs) →
+    with_rows given (flat_map (standing_rows p (question_as d u m t g)) (drop i bs))
+    ≡ with_rows nothing (flat_map (standing_rows p (question_as d u m t g)) bs) →
     given ≡ given_asked p d u m t g
 asked-all p d u m t g bs given i tied all so_far =
     sym (ap (λ xs. with_rows given (flat_map (standing_rows p (question_as d u m t g)) xs)) (drop_all i bs all))
@@ -71,27 +75,33 @@ back-at found at next d back inside is = back at next (get_or found at d) (there
 
 pub chain-more :
     (found : List Found) (index at next : ℕ) (chain new : List State) (d e : Found) → at < length found → next < length found →
-    (get_or found at d).next ≡ Some next → new ≡ chain ++ (get_or found next e).state ∷ [] → LeadsSoFar found index at chain → LeadsSoFar found index next new
+    (get_or found at d).next ≡ Some next → new ≡ chain ++ (get_or found next e).state ∷ [] → LeadsSoFar found index at chain
+    → LeadsSoFar found index next new
 chain-more found index at next chain new d e inside also is more so_far =
     subst (LeadsSoFar found index next) (sym more)
-    (leads-more found index at next chain (get_or found at d) (get_or found next e) (there found at d inside) is (there found next e also) so_far)
+    (leads-more found index at next chain (get_or found at d) (get_or found next e) (there found at d inside) is (there found next e also)
+    so_far)
 
 pub chain-all :
-    (found : List Found) (index at : ℕ) (chain : List State) (d : Found) → at < length found → (get_or found at d).next ≡ None → LeadsSoFar found index at chain →
+    (found : List Found) (index at : ℕ) (chain : List State) (d : Found) → at < length found → (get_or found at d).next ≡ None
+    → LeadsSoFar found index at chain →
     LeadsWhole found index chain
 chain-all found index at chain d inside is so_far = leads-all found index at chain (get_or found at d) (there found at d inside) is so_far
 
 pub way-is :
-    (h : HostSteps) (q : Sought) (least : Level) (found : List Found) (index : ℕ) (d f : Found) (chain : Vec State Global) (by : Option AllowingRow) (password : Password)
+    (h : HostSteps) (q : Sought) (least : Level) (found : List Found) (index : ℕ) (d f : Found) (chain : Vec State Global)
+    (by : Option AllowingRow) (password : Password)
     (states same : List State) → AreFound (steps_of h q) least found → index < length found → slice_get found index ≡ Some f →
     LeadsWhole found index chain.items → states ≡ chain.items → by ≡ first_row h (get_or found index d).state states → same ≡ chain.items →
     password ≡ password_along h (get_or found index d).state.user (get_or found index d).state same →
     IsChain h q least f.state (record { level = (get_or found index d).level; chain = chain; by = by; password = password })
 way-is h q least found index d f chain by password states same are inside at leads first is also asks =
-    subst (λ (e : Found). IsChain h q least e.state (record { level = (get_or found index d).level; chain = chain; by = by; password = password })) this (record {
+    subst (λ (e : Found). IsChain h q least e.state
+    (record { level = (get_or found index d).level; chain = chain; by = by; password = password })) this (record {
       leads = leads (steps_of h q) (get_or found index d) are.linked (there found index d inside);
       best = (All-contains (IsFound (steps_of h q)) found (get_or found index d) are.right (Contains-get_or found index d inside)).best;
-      enough = All-contains (λ f. is_at_least least f.level ≡ true) found (get_or found index d) are.levels (Contains-get_or found index d inside);
+      enough = All-contains (λ f. is_at_least least f.level ≡ true) found (get_or found index d) are.levels
+          (Contains-get_or found index d inside);
       by = is ∙ ap (first_row h (get_or found index d).state) first;
       password = asks ∙ ap (password_along h (get_or found index d).state.user (get_or found index d).state) also;
     })

@@ -19,7 +19,8 @@ setenv_apart : (t : Tags) → nopasswd (or_tags t (tags_named (setenv ∷ []))) 
 unfolding tags_named
 setenv_apart t = ap is_off (at t.choices)
   where
-    at : (cs : List (Option Bool)) → get_or ((or_tags (record { choices = cs }) (tags_named (setenv ∷ []))).choices) 6 None ≡ get_or cs 6 None
+    at : (cs : List (Option Bool)) → get_or ((or_tags (record { choices = cs }) (tags_named (setenv ∷ []))).choices) 6 None
+        ≡ get_or cs 6 None
     at [] = refl
     at (a ∷ []) = refl
     at (a ∷ b ∷ []) = refl
@@ -47,7 +48,8 @@ verdict_freely : (o : Option Grant) → freely_allowed (verdict_if_any o) ≡ fr
 verdict_freely None = refl
 verdict_freely (Some g) = decided_freely g.place g.tags g.negated (is_all g.atom)
 
-one_more : (o : Option Grant) (e b : Bool) (g : Grant) → free_last o (cond e (freely g) b) ≡ free_last (option_or o (cond e (Some g) None)) b
+one_more : (o : Option Grant) (e b : Bool) (g : Grant) → free_last o (cond e (freely g) b)
+    ≡ free_last (option_or o (cond e (Some g) None)) b
 one_more (Some h) e b g = refl
 one_more None true b g = refl
 one_more None false b g = refl
@@ -67,7 +69,8 @@ says :
 says d every [] free b s e = s e
 says d every (g ∷ gs) free b s e =
     sym (one_more (last_that d gs) (d g) b g)
-    ∙ says d every gs (after_free free g) (cond (d g) (freely g) b) (step g.negated (nopasswd g.tags) (is_all g.atom) (d g) free b (every g) s) e
+    ∙ says d every gs (after_free free g) (cond (d g) (freely g) b)
+    (step g.negated (nopasswd g.tags) (is_all g.atom) (d g) free b (every g) s) e
 
 pub free_needs_none : FreeNeedsNoPassword
 free_needs_none p q e c x =

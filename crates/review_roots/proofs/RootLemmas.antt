@@ -1,11 +1,13 @@
 -- Users that can become the target, and users that cannot.
-use Rattle.std.proofs.Common.{◌≡◌, ◌<◌, ◌≤◌, ◌∙◌, ◌+◌, ℕ, Bool, true, false, not, ◌&&◌, ◌||◌, ◌==◌, List, [], ◌∷◌, ◌++◌, ap, refl, get_or, length, map, sym, subst}
+use Rattle.std.proofs.Common.{◌≡◌, ◌<◌, ◌≤◌, ◌∙◌, ◌+◌, ℕ, Bool, true, false, not, ◌&&◌, ◌||◌, ◌==◌, List, [], ◌∷◌, ◌++◌, ap, refl, get_or}
+use Rattle.std.proofs.Common.{length, map, sym, subst}
 use Rattle.std.proofs.Common.{Option, Some, None, arith, inl, inr, ◌⊎◌, flat_map}
 use Rattle.std.specs.Prelude.{All, is_some}
 use Rattle.std.specs.List.{AllByRecursion, Contains, range_with_len}
 use Rattle.std.proofs.lemmas.Bool.{and_parts, cases_lt, eqb-true, eq-eqb, ne_eqb}
 use Rattle.std.proofs.lemmas.List.{map-append}
-use Rattle.std.proofs.lemmas.List.Elements.{All-contains, All-map, All-push, All-weaker, Contains-append_left, Contains-get_or, Contains-push, recursion_from_All}
+use Rattle.std.proofs.lemmas.List.Elements.{All-contains, All-map, All-push, All-weaker, Contains-append_left, Contains-get_or}
+use Rattle.std.proofs.lemmas.List.Elements.{Contains-push, recursion_from_All}
 use Rattle.std.proofs.lemmas.List.FromFn.{length-range_with_len, get_or-range_with_len}
 use Rattle.review_roots.specs.declared.host.HostSteps.{HostSteps}
 use Rattle.review_roots.specs.declared.level.Level.{Level}
@@ -41,7 +43,8 @@ range-has n i l =
 
 pub states-have : (users groups user : ℕ) → user < users → Contains (all_states users groups) (state_with None user)
 states-have users groups user less =
-    Contains-append_left (states_with users None) (flat_map (λ i. states_with users (Some i)) (range_with_len 0 groups)) (state_with None user)
+    Contains-append_left (states_with users None) (flat_map (λ i. states_with users (Some i)) (range_with_len 0 groups))
+    (state_with None user)
     (to-map (state_with None) (range_with_len 0 users) user (range-has users user less))
 
 -- a user that is not found without an added group has no chain
@@ -50,7 +53,8 @@ pub not-found :
     All (λ f. is_start user f.state ≡ false) found → HasNoPath g least (state_with None user)
 not-found g least found user are inside none = go (are.complete (state_with None user) inside)
   where
-    go : Contains (found_states found) (state_with None user) ⊎ HasNoPath g least (state_with None user) → HasNoPath g least (state_with None user)
+    go : Contains (found_states found) (state_with None user) ⊎ HasNoPath g least (state_with None user)
+        → HasNoPath g least (state_with None user)
     go (inr away) = away
     go (inl in_found) =
         let f = from-map (λ (f : Found). f.state) found (state_with None user) in_found in
@@ -60,7 +64,8 @@ not-found g least found user are inside none = go (are.complete (state_with None
 
 pub no-root :
     (h : HostSteps) (target : ℕ) (least : Level) (found : List Found) (user : ℕ) → AreFound (any_steps h target) least found →
-    user < length h.directory.now.people → All (λ f. is_start user f.state ≡ false) found → HasNoPath (any_steps h target) least (state_with None user)
+    user < length h.directory.now.people → All (λ f. is_start user f.state ≡ false) found
+    → HasNoPath (any_steps h target) least (state_with None user)
 no-root h target least found user are less none =
     not-found (any_steps h target) least found user are (states-have (length h.directory.now.people) (length h.groups.now) user less) none
 
@@ -95,23 +100,29 @@ roots-none h target least = record {
 }
 
 module _ (h : HostSteps) (target : ℕ) (least : Level) (n : ℕ) (roots : List Root) (before : AreRootsBefore h target least n roots) where
-  pub roots-more : (r : Root) → n < length h.directory.now.people → r.user ≡ n → IsRoot h target least r → AreRootsBefore h target least (n + 1) (roots ++ r ∷ [])
+  pub roots-more : (r : Root) → n < length h.directory.now.people → r.user ≡ n → IsRoot h target least r
+      → AreRootsBefore h target least (n + 1) (roots ++ r ∷ [])
   roots-more r less is root = record {
     right = All-push (IsRoot h target least) roots r before.right root;
     known = All-push (λ r. r.user < length h.directory.now.people) roots r before.known (omega (arith, less, is));
-    below = All-push (λ r. r.user < n + 1) roots r (All-weaker (λ r. r.user < n) (λ r. r.user < n + 1) (λ r l. omega (arith, l)) roots before.below) (omega (arith, is));
+    below = All-push (λ r. r.user < n + 1) roots r
+        (All-weaker (λ r. r.user < n) (λ r. r.user < n + 1) (λ r l. omega (arith, l)) roots before.below) (omega (arith, is));
     ordered =
         subst IsIncreasing (sym (map-append (λ (r : Root). r.user) roots (r ∷ [])))
         (above-all (users_of roots) r.user before.ordered
         (recursion_from_All (λ x. x < r.user) (users_of roots)
-        (All-map (λ x. x < r.user) (λ (r : Root). r.user) roots (All-weaker (λ r. r.user < n) (λ s. s.user < r.user) (λ s l. omega (arith, l, is)) roots before.below))));
-    complete = λ user l. subst (λ xs. Contains xs user ⊎ IsNoRoot h target least user) (sym (map-append (λ (r : Root). r.user) roots (r ∷ []))) (go user l (cases_lt user n));
+        (All-map (λ x. x < r.user) (λ (r : Root). r.user) roots
+        (All-weaker (λ r. r.user < n) (λ s. s.user < r.user) (λ s l. omega (arith, l, is)) roots before.below))));
+    complete = λ user l. subst (λ xs. Contains xs user ⊎ IsNoRoot h target least user)
+        (sym (map-append (λ (r : Root). r.user) roots (r ∷ []))) (go user l (cases_lt user n));
   }
     where
-      go : (user : ℕ) → user < n + 1 → (user < n) ⊎ (n ≤ user) → Contains (users_of roots ++ r.user ∷ []) user ⊎ IsNoRoot h target least user
+      go : (user : ℕ) → user < n + 1 → (user < n) ⊎ (n ≤ user) → Contains (users_of roots ++ r.user ∷ []) user
+          ⊎ IsNoRoot h target least user
       go user l (inl old) = widen (before.complete user old)
         where
-          widen : Contains (users_of roots) user ⊎ IsNoRoot h target least user → Contains (users_of roots ++ r.user ∷ []) user ⊎ IsNoRoot h target least user
+          widen : Contains (users_of roots) user ⊎ IsNoRoot h target least user → Contains (users_of roots ++ r.user ∷ []) user
+              ⊎ IsNoRoot h target least user
           widen (inl c) = inl (Contains-append_left (users_of roots) (r.user ∷ []) user c)
           widen (inr away) = inr away
       go user l (inr new) =
@@ -139,5 +150,6 @@ module _ (h : HostSteps) (target : ℕ) (least : Level) (n : ℕ) (roots : List 
     complete = λ user l. before.complete user (omega (arith, l, all));
   }
 
-pub not-itself : (h : HostSteps) (target user : ℕ) (b : Bool) → (user ≡ target → ⊥) → b ≡ has_zero h user → b ≡ false → is_itself h target user ≡ false
+pub not-itself : (h : HostSteps) (target user : ℕ) (b : Bool) → (user ≡ target → ⊥) → b ≡ has_zero h user → b ≡ false
+    → is_itself h target user ≡ false
 not-itself h target user b other is falsely = ap (λ a. a || has_zero h user) (ne_eqb user target other) ∙ sym is ∙ falsely

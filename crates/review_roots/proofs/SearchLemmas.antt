@@ -1,5 +1,6 @@
 -- A search back from the goal, level by level, finds every state with a chain, at its best level.
-use Rattle.std.proofs.Common.{◌≡◌, ◌<◌, ◌≤◌, ◌+◌, ◌∙◌, ℕ, zero, suc, Bool, true, false, not, cond, List, [], ◌∷◌, ◌++◌, ap, arith, refl, length}
+use Rattle.std.proofs.Common.{◌≡◌, ◌<◌, ◌≤◌, ◌+◌, ◌∙◌, ℕ, zero, suc, Bool, true, false, not, cond, List, [], ◌∷◌, ◌++◌, ap, arith, refl}
+use Rattle.std.proofs.Common.{length}
 use Rattle.std.proofs.Common.{map, sym, subst, Option, Some, None, inl, inr, ◌⊎◌}
 use Rattle.std.specs.Prelude.{All, filter, slice_get}
 use Rattle.std.specs.List.{Contains, slice_index_or}
@@ -15,7 +16,8 @@ use Rattle.review_roots.specs.declared.search.Found.{Found}
 use Rattle.review_roots.specs.declared.state.State.{State}
 use Rattle.review_roots.specs.Chains.{Steps, Path, here, more, HasPath, HasNoPath}
 use Rattle.review_roots.specs.Ranks.{rank, is_at_least}
-use Rattle.review_roots.specs.Found.{IsFound, IsLinked, AreLinked, PointBack, found_states, AreFound, IsStuck, HaveNoPath, IsSearch, IsDrawn}
+use Rattle.review_roots.specs.Found.{IsFound, IsLinked, AreLinked, PointBack, found_states, AreFound, IsStuck, HaveNoPath, IsSearch}
+use Rattle.review_roots.specs.Found.{IsDrawn}
 
 -- ---- Levels
 
@@ -97,7 +99,8 @@ to-map f xs x h = let r = contains-at xs x h in at xs r.0 r.1
 
 -- an item of two lists end to end is one of the first, or of the second
 pub get-append-cases :
-    {X : Type 0} (xs ys : List X) (i : ℕ) (x : X) → slice_get (xs ++ ys) i ≡ Some x → (slice_get xs i ≡ Some x) ⊎ ((length xs ≤ i) × Contains ys x)
+    {X : Type 0} (xs ys : List X) (i : ℕ) (x : X) → slice_get (xs ++ ys) i ≡ Some x → (slice_get xs i ≡ Some x)
+    ⊎ ((length xs ≤ i) × Contains ys x)
 get-append-cases [] ys i x e = inr (omega arith, at-contains ys x i e)
 get-append-cases (y ∷ xs) ys zero x e = inl e
 get-append-cases (y ∷ xs) ys (suc i) x e = elim (get-append-cases xs ys i x e) [
@@ -141,13 +144,15 @@ module _ (g : Steps State) (l : Level) (found : List Found) (left : List State) 
     complete = λ s c. go s (search.covered s c);
   }
     where
-      go : (s : State) → Contains (found_states found) s ⊎ (Contains left s ⊎ IsStuck g s) → Contains (found_states found) s ⊎ HasNoPath g l s
+      go : (s : State) → Contains (found_states found) s ⊎ (Contains left s ⊎ IsStuck g s) → Contains (found_states found) s
+          ⊎ HasNoPath g l s
       go s (inl in_found) = inl in_found
       go s (inr (inl in_left)) = inr (All-contains (HasNoPath g l) left s none in_left)
       go s (inr (inr stuck)) = inr (stuck l search.level)
 
   -- the search at the next lower level begins with what this one left
-  pub next-level : HaveNoPath g l left → (k : Level) → is_at_least level.Listed k ≡ true → rank k < rank l → ((m : Level) → rank k < rank m → rank l ≤ rank m) → IsSearch g k found left
+  pub next-level : HaveNoPath g l left → (k : Level) → is_at_least level.Listed k ≡ true → rank k < rank l
+      → ((m : Level) → rank k < rank m → rank l ≤ rank m) → IsSearch g k found left
   next-level none k listed lower next = record {
     level = listed;
     right = search.right;
@@ -162,12 +167,15 @@ module _ (g : Steps State) (l : Level) (found : List Found) (left : List State) 
   }
 
 pub below-all :
-    (g : Steps State) (found : List Found) (left : List State) → IsSearch g level.All found left → HaveNoPath g level.All left → IsSearch g level.AllBut found left
+    (g : Steps State) (found : List Found) (left : List State) → IsSearch g level.All found left → HaveNoPath g level.All left
+    → IsSearch g level.AllBut found left
 below-all g found left search none = next-level g level.All found left search none level.AllBut refl (omega arith) (λ m h. omega (arith, h))
 
 pub below-all-but :
-    (g : Steps State) (found : List Found) (left : List State) → IsSearch g level.AllBut found left → HaveNoPath g level.AllBut left → IsSearch g level.Listed found left
-below-all-but g found left search none = next-level g level.AllBut found left search none level.Listed refl (omega arith) (λ m h. omega (arith, h))
+    (g : Steps State) (found : List Found) (left : List State) → IsSearch g level.AllBut found left → HaveNoPath g level.AllBut left
+    → IsSearch g level.Listed found left
+below-all-but g found left search none =
+    next-level g level.AllBut found left search none level.Listed refl (omega arith) (λ m h. omega (arith, h))
 
 pub listed-alone : (l : Level) → is_at_least level.Listed l ≡ true → (l ≡ level.All → ⊥) → (l ≡ level.AllBut → ⊥) → l ≡ level.Listed
 listed-alone level.None e f h = cc
@@ -199,7 +207,8 @@ not-false : (b : Bool) → b ≡ false → not b ≡ true
 not-false true e = cc
 not-false false e = refl
 
-module _ (g : Steps State) (l : Level) (n : ℕ) (t : Found) (found : List Found) (left : List State) (search : IsSearch g l found left) (there : slice_get found n ≡ Some t) where
+module _ (g : Steps State) (l : Level) (n : ℕ) (t : Found) (found : List Found) (left : List State) (search : IsSearch g l found left)
+    (there : slice_get found n ≡ Some t) where
   abbrev r : State → Bool
   r = drawn_to g l t.state
 
@@ -220,7 +229,8 @@ module _ (g : Steps State) (l : Level) (n : ℕ) (t : Found) (found : List Found
       let f : IsFound g t = All-contains (IsFound g) found t search.right (at-contains found t n there) in
       (f.path.0, path-weaker g l t.level t_level f.path.0 t.state f.path.1)
 
-  taken_right : (s : State) → (Contains g.states s × ((m : Level) → rank l < rank m → HasNoPath g m s)) × (r s ≡ true) → IsFound g (new_found l n s)
+  taken_right : (s : State) → (Contains g.states s × ((m : Level) → rank l < rank m → HasNoPath g m s)) × (r s ≡ true)
+      → IsFound g (new_found l n s)
   taken_right s h = record {
     inside = h.0.0;
     path = (suc t_path.0, more h.0.0 h.1 t_path.1);
@@ -244,8 +254,16 @@ module _ (g : Steps State) (l : Level) (n : ℕ) (t : Found) (found : List Found
     where
       old : (o : Option ℕ) → IsLinked g found i f o → IsLinked g grown i f o
       old None h = h
-      old (Some next) h =
-          (h.0, record { there = get-append found (map (new_found l n) taken) next h.0 h.1.there; before = h.1.before; step = h.1.step; level = h.1.level })
+      old (Some next) h = (
+        h.0,
+        record {
+          there = get-append found (map (new_found l n) taken) next h.0 h.1.there;
+          before = h.1.before;
+          step =
+              h.1.step;
+          level = h.1.level;
+        },
+      )
 
       go : (slice_get found i ≡ Some f) ⊎ ((length found ≤ i) × Contains (map (new_found l n) taken) f) → IsLinked g grown i f f.next
       go (inl before) = old f.next (search.linked i f before)
@@ -253,10 +271,19 @@ module _ (g : Steps State) (l : Level) (n : ℕ) (t : Found) (found : List Found
           let s = from-map (new_found l n) taken f new.1 in
           let passes : r s.0 ≡ true = All-contains (λ s. r s ≡ true) taken s.0 (filter_passes r left) s.1 in
           let w = slice_get_within found n t there in
-          subst (λ (h : Found). IsLinked g grown i h h.next) s.2
-          (t, record { there = get-append found (map (new_found l n) taken) n t there; before = omega (arith, w, new.0); step = passes; level = t_level })
+          subst (λ (h : Found). IsLinked g grown i h h.next) s.2 (
+            t,
+            record {
+              there = get-append found (map (new_found l n) taken) n t there;
+              before = omega (arith, w, new.0);
+              step =
+                  passes;
+              level = t_level;
+            },
+          )
 
-  grown_covered : (s : State) → Contains (found_states found) s ⊎ (Contains left s ⊎ IsStuck g s) → Contains (found_states grown) s ⊎ (Contains kept s ⊎ IsStuck g s)
+  grown_covered : (s : State) → Contains (found_states found) s ⊎ (Contains left s ⊎ IsStuck g s) → Contains (found_states grown) s
+      ⊎ (Contains kept s ⊎ IsStuck g s)
   grown_covered s (inl in_found) =
       inl (subst (λ xs. Contains xs s) (sym (map-append (λ (f : Found). f.state) found (map (new_found l n) taken)))
       (Contains-append_left (found_states found) (found_states (map (new_found l n) taken)) s in_found))
@@ -274,7 +301,9 @@ module _ (g : Steps State) (l : Level) (n : ℕ) (t : Found) (found : List Found
   drawn-search = record {
     level = search.level;
     right = All-append (IsFound g) found (map (new_found l n) taken) search.right
-        (All-map (IsFound g) (new_found l n) taken (All-weaker (λ s. (Contains g.states s × ((m : Level) → rank l < rank m → HasNoPath g m s)) × (r s ≡ true)) (λ s. IsFound g (new_found l n s)) taken_right taken taken_known));
+        (All-map (IsFound g) (new_found l n) taken
+        (All-weaker (λ s. (Contains g.states s × ((m : Level) → rank l < rank m → HasNoPath g m s)) × (r s ≡ true))
+        (λ s. IsFound g (new_found l n s)) taken_right taken taken_known));
     linked = grown_linked;
     levels = All-append (λ f. is_at_least l f.level ≡ true) found (map (new_found l n) taken) search.levels
         (All-map (λ f. is_at_least l f.level ≡ true) (new_found l n) taken (λ k d h. at-least-itself l));
@@ -286,15 +315,19 @@ module _ (g : Steps State) (l : Level) (n : ℕ) (t : Found) (found : List Found
 
   pub drawn-more : IsDrawn g l n found left → IsDrawn g l (n + 1) grown kept
   drawn-more drawn =
-      All-weaker (λ s. ((k : ℕ) (f : Found) → k < n → slice_get found k ≡ Some f → is_at_least l (g.level s f.state) ≡ false) × (not (r s) ≡ true))
+      All-weaker (λ s. ((k : ℕ) (f : Found) → k < n → slice_get found k ≡ Some f → is_at_least l (g.level s f.state) ≡ false)
+      × (not (r s) ≡ true))
       (λ s. (k : ℕ) (f : Found) → k < n + 1 → slice_get grown k ≡ Some f → is_at_least l (g.level s f.state) ≡ false)
       one kept
-      (both-all (λ s. (k : ℕ) (f : Found) → k < n → slice_get found k ≡ Some f → is_at_least l (g.level s f.state) ≡ false) (λ s. not (r s) ≡ true) kept
-      (All-filter (λ s. not (r s)) (λ s. (k : ℕ) (f : Found) → k < n → slice_get found k ≡ Some f → is_at_least l (g.level s f.state) ≡ false) left drawn)
+      (both-all (λ s. (k : ℕ) (f : Found) → k < n → slice_get found k ≡ Some f → is_at_least l (g.level s f.state) ≡ false)
+      (λ s. not (r s) ≡ true) kept
+      (All-filter (λ s. not (r s))
+      (λ s. (k : ℕ) (f : Found) → k < n → slice_get found k ≡ Some f → is_at_least l (g.level s f.state) ≡ false) left drawn)
       (filter_passes (λ s. not (r s)) left))
     where
       one :
-          (s : State) → ((k : ℕ) (f : Found) → k < n → slice_get found k ≡ Some f → is_at_least l (g.level s f.state) ≡ false) × (not (r s) ≡ true) →
+          (s : State) → ((k : ℕ) (f : Found) → k < n → slice_get found k ≡ Some f → is_at_least l (g.level s f.state) ≡ false)
+          × (not (r s) ≡ true) →
           (k : ℕ) (f : Found) → k < n + 1 → slice_get grown k ≡ Some f → is_at_least l (g.level s f.state) ≡ false
       one s h k f less at = go (cases_lt k n)
         where
@@ -321,7 +354,8 @@ parted-length p [] = refl
 parted-length {X} p (x ∷ xs) = go (p x) (parted-length p xs)
   where
     go : (b : Bool) → length (filter p xs) + length (filter (λ x. not (p x)) xs) ≡ length xs
-        → length (cond b (x ∷ filter p xs) (filter p xs)) + length (cond (not b) (x ∷ filter (λ x. not (p x)) xs) (filter (λ x. not (p x)) xs)) ≡ length (x ∷ xs)
+        → length (cond b (x ∷ filter p xs) (filter p xs)) + length
+        (cond (not b) (x ∷ filter (λ x. not (p x)) xs) (filter (λ x. not (p x)) xs)) ≡ length (x ∷ xs)
     go true e = omega (arith, e)
     go false e = omega (arith, e)
 

@@ -1,5 +1,6 @@
 -- What a search begins with: the states at the goal, and those that a user list allows; from no other does a step lead.
-use Rattle.std.proofs.Common.{◌≡◌, ◌<◌, ◌≤◌, ◌∙◌, ℕ, zero, Bool, true, false, cond, ◌&&◌, ◌||◌, List, [], ◌∷◌, ◌++◌, ap, arith, refl, flat_map}
+use Rattle.std.proofs.Common.{◌≡◌, ◌<◌, ◌≤◌, ◌∙◌, ℕ, zero, Bool, true, false, cond, ◌&&◌, ◌||◌, List, [], ◌∷◌, ◌++◌, ap, arith, refl}
+use Rattle.std.proofs.Common.{flat_map}
 use Rattle.std.proofs.Common.{map, sym, subst, Option, Some, None, inl, inr, ◌⊎◌, option_copied}
 use Rattle.std.specs.Prelude.{slice_get, is_some}
 use Rattle.std.specs.List.{Contains, list_any}
@@ -37,14 +38,16 @@ neither : (a b : Bool) → (a || b) ≡ false → (a ≡ false) × (b ≡ false)
 neither true b e = cc
 neither false b e = (refl, e)
 
-none_stand : (p : Policy) (q : Question) (bs : List Block) → list_any (λ b. b) (map (lists p q.user) bs) ≡ false → flat_map (standing_rows p q) bs ≡ []
+none_stand : (p : Policy) (q : Question) (bs : List Block) → list_any (λ b. b) (map (lists p q.user) bs) ≡ false
+    → flat_map (standing_rows p q) bs ≡ []
 none_stand p q [] e = refl
 none_stand p q (b ∷ bs) e =
     let both = neither (lists p q.user b) (list_any (λ b. b) (map (lists p q.user) bs)) e in
     ap (λ v. cond (v && runas_allows p q (option_copied b.runas)) (block_rows b) [] ++ flat_map (standing_rows p q) bs) both.0
     ∙ none_stand p q bs both.1
 
-module _ (p : Policy) (d : KnownRows) (m : Machine) (u : Person) (bs : List Block) (tied : AreBlocks p m bs) (none : list_any (λ b. b) (map (lists p u) bs) ≡ false) where
+module _ (p : Policy) (d : KnownRows) (m : Machine) (u : Person) (bs : List Block) (tied : AreBlocks p m bs)
+    (none : list_any (λ b. b) (map (lists p u) bs) ≡ false) where
   asked_nothing : (t : Option Person) (g : Option Group) → given_asked p d u m t g ≡ nothing
   asked_nothing t g =
       sym (blocks_give p (question_as d u m t g) bs tied) ∙ ap (with_rows nothing) (none_stand p (question_as d u m t g) bs none)
@@ -79,7 +82,8 @@ module _ (h : HostSteps) (q : Sought) where
     where
       step : (t : State) → step_given h.checked.now h.directory.now h.host.now h.groups.now c.state t ≡ nothing
       step t =
-          ap (λ o. given_between h.checked.now h.directory.now h.host.now o (slice_get h.directory.now.people t.user) (group_at h.groups.now t.added)) is.person
+          ap (λ o. given_between h.checked.now h.directory.now h.host.now o (slice_get h.directory.now.people t.user)
+          (group_at h.groups.now t.added)) is.person
           ∙ between_nothing h.checked.now h.directory.now h.host.now c.person h.blocks.items tied
           (ap (list_any (λ b. b)) (sym is.lists) ∙ none) (slice_get h.directory.now.people t.user) (group_at h.groups.now t.added)
 
@@ -87,7 +91,8 @@ module _ (h : HostSteps) (q : Sought) where
   unknown-idle s none away = (
     away,
     λ t. ap (level_for q.free)
-        (ap (λ o. given_between h.checked.now h.directory.now h.host.now o (slice_get h.directory.now.people t.user) (group_at h.groups.now t.added)) none)
+        (ap (λ o. given_between h.checked.now h.directory.now h.host.now o (slice_get h.directory.now.people t.user)
+        (group_at h.groups.now t.added)) none)
         ∙ none_for q.free,
   )
 
@@ -112,24 +117,30 @@ module _ (h : HostSteps) (q : Sought) where
     sorted-goal at =
         let f : Found = record { state = s; level = level.All; next = None } in
         record {
-          goals = All-push (λ f. (f.level ≡ level.All) × ((f.next ≡ None) × (g.goal f.state ≡ true))) found f start.goals (refl, (refl, at));
+          goals = All-push (λ f. (f.level ≡ level.All) × ((f.next ≡ None) × (g.goal f.state ≡ true))) found f start.goals
+              (refl, (refl, at));
           found_inside = All-push (λ f. Contains (before ++ s ∷ []) f.state) found f
-              (All-weaker (λ f. Contains before f.state) (λ f. Contains (before ++ s ∷ []) f.state) (λ f. further f.state) found start.found_inside)
+              (All-weaker (λ f. Contains before f.state) (λ f. Contains (before ++ s ∷ []) f.state) (λ f. further f.state) found
+              start.found_inside)
               (Contains-push before s);
           candidates = start.candidates;
-          inside = All-weaker (λ c. Contains before c.state) (λ c. Contains (before ++ s ∷ []) c.state) (λ c. further c.state) left start.inside;
+          inside = All-weaker (λ c. Contains before c.state) (λ c. Contains (before ++ s ∷ []) c.state) (λ c. further c.state) left
+              start.inside;
           away = start.away;
           covered = All-push (λ s. Contains (found_states (found ++ f ∷ [])) s ⊎ (Contains (states_of left) s ⊎ IsIdle g s)) before s
               (All-weaker (λ s. Contains (found_states found) s ⊎ (Contains (states_of left) s ⊎ IsIdle g s))
               (λ s. Contains (found_states (found ++ f ∷ [])) s ⊎ (Contains (states_of left) s ⊎ IsIdle g s)) widen before start.covered)
-              (inl (subst (λ xs. Contains xs s) (sym (map-append (λ (f : Found). f.state) found (f ∷ []))) (Contains-push (found_states found) s)));
+              (inl (subst (λ xs. Contains xs s) (sym (map-append (λ (f : Found). f.state) found (f ∷ [])))
+              (Contains-push (found_states found) s)));
         }
       where
         widen :
             (t : State) → Contains (found_states found) t ⊎ (Contains (states_of left) t ⊎ IsIdle g t) →
-            Contains (found_states (found ++ record { state = s; level = level.All; next = None } ∷ [])) t ⊎ (Contains (states_of left) t ⊎ IsIdle g t)
+            Contains (found_states (found ++ record { state = s; level = level.All; next = None } ∷ [])) t
+            ⊎ (Contains (states_of left) t ⊎ IsIdle g t)
         widen t (inl c) =
-            inl (subst (λ xs. Contains xs t) (sym (map-append (λ (f : Found). f.state) found (record { state = s; level = level.All; next = None } ∷ [])))
+            inl (subst (λ xs. Contains xs t)
+            (sym (map-append (λ (f : Found). f.state) found (record { state = s; level = level.All; next = None } ∷ [])))
             (Contains-append_left (found_states found) (s ∷ []) t c))
         widen t (inr o) = inr o
 
@@ -137,7 +148,8 @@ module _ (h : HostSteps) (q : Sought) where
         (c : Candidate) → IsCandidate h c → c.state ≡ s → g.goal s ≡ false → IsStartOf h q (before ++ s ∷ []) found (left ++ c ∷ [])
     sorted-listed c is at away = record {
       goals = start.goals;
-      found_inside = All-weaker (λ f. Contains before f.state) (λ f. Contains (before ++ s ∷ []) f.state) (λ f. further f.state) found start.found_inside;
+      found_inside = All-weaker (λ f. Contains before f.state) (λ f. Contains (before ++ s ∷ []) f.state) (λ f. further f.state) found
+          start.found_inside;
       candidates = All-push (IsCandidate h) left c start.candidates is;
       inside = All-push (λ c. Contains (before ++ s ∷ []) c.state) left c
           (All-weaker (λ c. Contains before c.state) (λ c. Contains (before ++ s ∷ []) c.state) (λ c. further c.state) left start.inside)
@@ -162,11 +174,14 @@ module _ (h : HostSteps) (q : Sought) where
     pub sorted-idle : IsIdle g s → IsStartOf h q (before ++ s ∷ []) found left
     sorted-idle idle = record {
       goals = start.goals;
-      found_inside = All-weaker (λ f. Contains before f.state) (λ f. Contains (before ++ s ∷ []) f.state) (λ f. further f.state) found start.found_inside;
+      found_inside = All-weaker (λ f. Contains before f.state) (λ f. Contains (before ++ s ∷ []) f.state) (λ f. further f.state) found
+          start.found_inside;
       candidates = start.candidates;
-      inside = All-weaker (λ c. Contains before c.state) (λ c. Contains (before ++ s ∷ []) c.state) (λ c. further c.state) left start.inside;
+      inside = All-weaker (λ c. Contains before c.state) (λ c. Contains (before ++ s ∷ []) c.state) (λ c. further c.state) left
+          start.inside;
       away = start.away;
-      covered = All-push (λ s. Contains (found_states found) s ⊎ (Contains (states_of left) s ⊎ IsIdle g s)) before s start.covered (inr (inr idle));
+      covered = All-push (λ s. Contains (found_states found) s ⊎ (Contains (states_of left) s ⊎ IsIdle g s)) before s start.covered
+          (inr (inr idle));
     }
 
   -- ---- The search begins
@@ -177,7 +192,8 @@ module _ (h : HostSteps) (q : Sought) where
   rank-most level.AllBut = omega arith
   rank-most level.All = omega arith
 
-  pub start-search : (found : List Found) (left : List Candidate) → IsStartOf h q g.states found left → IsSearch g level.All found (states_of left)
+  pub start-search : (found : List Found) (left : List Candidate) → IsStartOf h q g.states found left
+      → IsSearch g level.All found (states_of left)
   start-search found left start = record {
     level = refl;
     right = All-weaker (λ f. ((f.level ≡ level.All) × ((f.next ≡ None) × (g.goal f.state ≡ true))) × Contains g.states f.state) (IsFound g)
@@ -186,13 +202,17 @@ module _ (h : HostSteps) (q : Sought) where
           path = (zero, here k.1 k.0.1.1);
           best = λ m p. ap (is_at_least m) k.0.0 ∙ at-least-below m level.All (rank-most m);
         }) found
-        (both-all (λ f. (f.level ≡ level.All) × ((f.next ≡ None) × (g.goal f.state ≡ true))) (λ f. Contains g.states f.state) found start.goals start.found_inside);
+        (both-all (λ f. (f.level ≡ level.All) × ((f.next ≡ None) × (g.goal f.state ≡ true))) (λ f. Contains g.states f.state) found
+        start.goals start.found_inside);
     linked = λ i f at.
-        let k = All-contains (λ (f : Found). (f.level ≡ level.All) × ((f.next ≡ None) × (g.goal f.state ≡ true))) found f start.goals (at-contains found f i at) in
+        let k = All-contains (λ (f : Found). (f.level ≡ level.All) × ((f.next ≡ None) × (g.goal f.state ≡ true))) found f start.goals
+        (at-contains found f i at) in
         subst (IsLinked g found i f) (sym k.1.0) k.1.1;
-    levels = All-weaker (λ f. (f.level ≡ level.All) × ((f.next ≡ None) × (g.goal f.state ≡ true))) (λ f. is_at_least level.All f.level ≡ true)
+    levels = All-weaker (λ f. (f.level ≡ level.All) × ((f.next ≡ None) × (g.goal f.state ≡ true)))
+        (λ f. is_at_least level.All f.level ≡ true)
         (λ f k. ap (is_at_least level.All) k.0) found start.goals;
-    covered = λ s c. widen s (All-contains (λ s. Contains (found_states found) s ⊎ (Contains (states_of left) s ⊎ IsIdle g s)) g.states s start.covered c);
+    covered = λ s c. widen s
+        (All-contains (λ s. Contains (found_states found) s ⊎ (Contains (states_of left) s ⊎ IsIdle g s)) g.states s start.covered c);
     inside = All-map (Contains g.states) (λ (c : Candidate). c.state) left start.inside;
     away = All-map (λ s. g.goal s ≡ false) (λ (c : Candidate). c.state) left start.away;
     above = All-map (λ s. (m : Level) → rank level.All < rank m → (n : ℕ) → Path g m n s → ⊥) (λ (c : Candidate). c.state) left

@@ -1,5 +1,6 @@
 -- The chain of a found state leads to the goal, and its steps ask for the passwords that are named.
-use Rattle.std.proofs.Common.{◌≡◌, ◌<◌, ◌∙◌, ◌+◌, ℕ, Bool, true, List, [], ◌∷◌, ◌++◌, ap, append-nil, append_assoc, refl, drop, get_or, length, sym, subst}
+use Rattle.std.proofs.Common.{◌≡◌, ◌<◌, ◌∙◌, ◌+◌, ℕ, Bool, true, List, [], ◌∷◌, ◌++◌, ap, append-nil, append_assoc, refl, drop, get_or}
+use Rattle.std.proofs.Common.{length, sym, subst}
 use Rattle.std.proofs.Common.{Some, None}
 use Rattle.std.specs.Prelude.{slice_get}
 use Rattle.std.proofs.lemmas.List.{drop_more}
@@ -57,7 +58,8 @@ leads-more found index at next chain a b here is there so_far g f t linked first
     )
 
 pub leads-all :
-    (found : List Found) (index at : ℕ) (chain : List State) (a : Found) → slice_get found at ≡ Some a → a.next ≡ None → LeadsSoFar found index at chain →
+    (found : List Found) (index at : ℕ) (chain : List State) (a : Found) → slice_get found at ≡ Some a → a.next ≡ None
+    → LeadsSoFar found index at chain →
     LeadsWhole found index chain
 leads-all found index at chain a here is so_far g f linked first =
     let old = so_far g f a linked first here in
@@ -82,7 +84,8 @@ worse-none password.Other = refl
 -- one step more
 pub passwords-more :
     (h : HostSteps) (user : ℕ) (from : State) (chain : List State) (at : ℕ) (to : State) (free : Bool) (so_far new whole : Password) →
-    at < length chain → to ≡ get_or chain at to → worse so_far (password_along h user from (drop at chain)) ≡ whole → free ≡ (step_on h from to).free →
+    at < length chain → to ≡ get_or chain at to → worse so_far (password_along h user from (drop at chain)) ≡ whole → free
+    ≡ (step_on h from to).free →
     new ≡ worse so_far (step_password free user from) → worse new (password_along h user to (drop (at + 1) chain)) ≡ whole
 passwords-more h user from chain at to free so_far new whole within is old given more =
     ap (λ p. worse p (password_along h user to (drop (at + 1) chain)))

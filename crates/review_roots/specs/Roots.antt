@@ -1,5 +1,6 @@
 -- Who can become a target on a host, and who cannot. sudo(8), options -u and -g.
-use Rattle.std.specs.Prelude.{◌≡◌, ◌<◌, ◌⊎◌, ℕ, Bool, true, false, ◌||◌, ◌==◌, List, [], ◌∷◌, All, length, map, slice_get, Option, Some, None}
+use Rattle.std.specs.Prelude.{◌≡◌, ◌<◌, ◌⊎◌, ℕ, Bool, true, false, ◌||◌, ◌==◌, List, [], ◌∷◌, All, length, map, slice_get, Option, Some}
+use Rattle.std.specs.Prelude.{None}
 use Rattle.std.specs.List.{AllByRecursion, Contains}
 use Rattle.sudo_match.specs.declared.people.Person.{Person}
 use Rattle.review_roots.specs.declared.host.HostSteps.{HostSteps}

@@ -13,7 +13,8 @@ use Rattle.review_roots.proofs.block.blocks_of.Goals as goal
 pub push_entry-requires : goal.push_entry-requires
 push_entry-requires c =
     let p = c.args.checked.now in
-    let same : c.as_slice-entry-items.result.now ≡ p.entries = c.as_slice-entry-items.ensures ∙ ap (λ (q : Policy). q.entries) c.policy.ensures.value in
+    let same : c.as_slice-entry-items.result.now ≡ p.entries = c.as_slice-entry-items.ensures
+    ∙ ap (λ (q : Policy). q.entries) c.policy.ensures.value in
     let at = c.loop-entry.entry-index in
     let entry = c.entry-item.result in
     let less : at < length p.entries = subst (λ (es : List Entry). at < length es) same c.loop-entry-test.true in
@@ -23,13 +24,15 @@ push_entry-requires c =
 pub loop-entry-preserved : goal.loop-entry-preserved
 loop-entry-preserved c =
     let p = c.args.checked.now in
-    let same : c.as_slice-entry-items.result.now ≡ p.entries = c.as_slice-entry-items.ensures ∙ ap (λ (q : Policy). q.entries) c.policy.ensures.value in
+    let same : c.as_slice-entry-items.result.now ≡ p.entries = c.as_slice-entry-items.ensures
+    ∙ ap (λ (q : Policy). q.entries) c.policy.ensures.value in
     let at = c.loop-entry.entry-index in
     let entry = c.entry-item.result in
     let less : at < length p.entries = subst (λ (es : List Entry). at < length es) same c.loop-entry-test.true in
     let is : entry ≡ get_or p.entries at entry = c.entry-item.is ∙ ap (λ (es : List Entry). get_or es at entry) same in
     record {
-      rows = filtered-more (λ (g : Grant). host_allowed p g.hosts c.args.host.now) (entry_grants p) p.entries at entry [] (flat_map block_rows c.loop-entry.blocks.items)
+      rows = filtered-more (λ (g : Grant). host_allowed p g.hosts c.args.host.now) (entry_grants p) p.entries at entry []
+          (flat_map block_rows c.loop-entry.blocks.items)
           (flat_map block_rows c.push_entry.new.blocks.items) less is c.loop-entry.invariant.rows c.in_ok-push_entry.ensures.rows;
       resolve = c.in_ok-push_entry.ensures.resolve c.loop-entry.invariant.resolve;
     }
@@ -37,6 +40,8 @@ loop-entry-preserved c =
 pub returns-clause-rows : goal.returns-clause-rows
 returns-clause-rows c =
     let p = c.args.checked.now in
-    let same : c.as_slice-entry-items.result.now ≡ p.entries = c.as_slice-entry-items.ensures ∙ ap (λ (q : Policy). q.entries) c.policy.ensures.value in
+    let same : c.as_slice-entry-items.result.now ≡ p.entries = c.as_slice-entry-items.ensures
+    ∙ ap (λ (q : Policy). q.entries) c.policy.ensures.value in
     let long = ap length same in
-    entries-all p c.args.host.now c.loop-entry.blocks.items c.loop-entry.entry-index (omega (arith, long, c.loop-entry-test.false)) c.loop-entry.invariant.rows
+    entries-all p c.args.host.now c.loop-entry.blocks.items c.loop-entry.entry-index (omega (arith, long, c.loop-entry-test.false))
+    c.loop-entry.invariant.rows

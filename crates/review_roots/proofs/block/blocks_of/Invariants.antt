@@ -9,6 +9,7 @@ use Rattle.review_roots.proofs.block.blocks_of.Given as goal
 abbrev pub invariant-loop-entry : goal.invariant-loop-entry
 invariant-loop-entry l = record {
   rows : flat_map block_rows l.blocks.items
-      ≡ map row_of (filter (λ (g : Grant). host_allowed l.checked g.hosts l.host) (flat_map (entry_grants l.checked) (take l.entry-index l.checked.entries)));
+      ≡ map row_of (filter (λ (g : Grant). host_allowed l.checked g.hosts l.host)
+      (flat_map (entry_grants l.checked) (take l.entry-index l.checked.entries)));
   resolve : IsTrue (list_all (block_resolves l.checked) l.blocks.items);
 }

@@ -12,7 +12,8 @@ returns-then-lists_host-clause-rows c =
     let allowed : host_allowed p c.args.section.now.hosts c.args.host.now ≡ true =
     sym (c.lists_host.ensures ∙ ap (λ (ms : List Member). host_allowed p ms c.args.host.now) c.as_slice.ensures) ∙ c.if-lists_host.true in
     on_ok c.push_section.result
-    (section-of-host p c.args.host.now c.args.head.place c.args.head.users.now c.args.section.now (flat_map block_rows c.args.blocks.now.items)
+    (section-of-host p c.args.host.now c.args.head.place c.args.head.users.now c.args.section.now
+    (flat_map block_rows c.args.blocks.now.items)
     (flat_map block_rows c.push_section.new.blocks.items) allowed)
     c.push_section.ensures.rows
 
@@ -21,4 +22,5 @@ returns-else-lists_host-clause-rows c =
     let p = c.args.checked.now in
     let refused : host_allowed p c.args.section.now.hosts c.args.host.now ≡ false =
     sym (c.lists_host.ensures ∙ ap (λ (ms : List Member). host_allowed p ms c.args.host.now) c.as_slice.ensures) ∙ c.if-lists_host.false in
-    section-of-none p c.args.host.now c.args.head.place c.args.head.users.now c.args.section.now (flat_map block_rows c.args.blocks.now.items) refused
+    section-of-none p c.args.host.now c.args.head.place c.args.head.users.now c.args.section.now
+    (flat_map block_rows c.args.blocks.now.items) refused

@@ -11,5 +11,6 @@ invariant-loop-section l = record {
   rows : flat_map block_rows l.blocks.items ≡ flat_map block_rows l.initial.blocks.items
       ++ map row_of (filter (λ (g : Grant). host_allowed l.checked g.hosts l.host)
       (flat_map (section_grants l.checked l.head.place l.head.users.now) (take l.section-index l.sections)));
-  resolve : IsTrue (list_all (block_resolves l.checked) l.initial.blocks.items) → IsTrue (list_all (block_resolves l.checked) l.blocks.items);
+  resolve : IsTrue (list_all (block_resolves l.checked) l.initial.blocks.items)
+      → IsTrue (list_all (block_resolves l.checked) l.blocks.items);
 }

@@ -15,6 +15,8 @@ returns-in-None c = λ least lead less. (
 pub returns-in_ok-best_way-in-Some : goal.returns-in_ok-best_way-in-Some
 returns-in_ok-best_way-in-Some c = λ least lead less. (
   refl,
-  (not-itself c.args.steps.now c.args.target c.args.user c.has_zero.result c.if-user-target.false c.has_zero.ensures c.if-has_zero.false,
-  c.in_ok-best_way-in-Some.ensures least lead),
+  (
+    not-itself c.args.steps.now c.args.target c.args.user c.has_zero.result c.if-user-target.false c.has_zero.ensures c.if-has_zero.false,
+    c.in_ok-best_way-in-Some.ensures least lead,
+  ),
 )

@@ -14,7 +14,8 @@ loop-user-preserved c =
     let target = c.args.target in
     let least = c.args.least in
     let n = c.loop-user.user in
-    let less : n < length h.directory.now.people = subst (λ (xs : List Person). n < length xs) c.people-user-end.ensures c.loop-user-test.true in
+    let less : n < length h.directory.now.people =
+    subst (λ (xs : List Person). n < length xs) c.people-user-end.ensures c.loop-user-test.true in
     let lead : ChainsLead h target least c.in_ok-chains.chains = record {
       level = c.requires;
       any = c.in_ok-chains.ensures.any;
@@ -24,7 +25,8 @@ loop-user-preserved c =
     elim c.match-branch-3.branch [
       | in-Some+in_ok-push w ↦
           (let root = subst (λ o. MatchOption o (IsNoRoot h target least n) (IsRootAt h target least n)) w.in-Some.is is in
-          subst (AreRootsBefore h target least (n + 1)) (sym (ap (λ (v : Vec Root Global). v.items) w.roots-is ∙ w.in_ok-push.ensures.items))
+          subst (AreRootsBefore h target least (n + 1))
+          (sym (ap (λ (v : Vec Root Global). v.items) w.roots-is ∙ w.in_ok-push.ensures.items))
           (roots-more h target least n c.loop-user.roots.items c.loop-user.invariant w.in-Some.root less root.0 root.1))
       | in_default w ↦
           (let none = subst (λ o. MatchOption o (IsNoRoot h target least n) (IsRootAt h target least n)) w.in_default.is is in

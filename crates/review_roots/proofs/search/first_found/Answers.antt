@@ -14,7 +14,9 @@ loop-state-preserved c = λ free.
 
 pub returns : goal.returns
 returns c = λ free.
-    subst (λ xs. IsStartOf c.args.steps.now (record { target = c.args.target; free = free }) xs c.loop-state.start.found.items c.loop-state.start.candidates.items)
-    (take_all c.loop-state.state-index c.deref-state-items.result.now (omega arith) ∙ c.deref-state-items.ensures.value ∙ c.in_ok-all_states.ensures
+    subst (λ xs. IsStartOf c.args.steps.now (record { target = c.args.target; free = free }) xs c.loop-state.start.found.items
+    c.loop-state.start.candidates.items)
+    (take_all c.loop-state.state-index c.deref-state-items.result.now (omega arith) ∙ c.deref-state-items.ensures.value
+    ∙ c.in_ok-all_states.ensures
     ∙ ap (λ (ps : List Person). all_states (length ps) (length c.args.steps.now.groups.now)) c.people-users.ensures)
     (c.loop-state.invariant free)

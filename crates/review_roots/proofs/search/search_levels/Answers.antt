@@ -9,13 +9,15 @@ use Rattle.review_roots.proofs.search.search_levels.Goals as goal
 
 pub spread-requires-clause-search : goal.spread-requires-clause-search
 spread-requires-clause-search c =
-    subst (λ (cs : List Candidate). IsSearch (steps_of c.args.steps.now c.args.sought) level.All c.args.found.now.items (states_of cs)) (sym c.in_ok-left.ensures)
+    subst (λ (cs : List Candidate). IsSearch (steps_of c.args.steps.now c.args.sought) level.All c.args.found.now.items (states_of cs))
+    (sym c.in_ok-left.ensures)
     (start-search c.args.steps.now c.args.sought c.args.found.now.items c.args.candidates.now c.requires.start)
 
 pub returns-in-All : goal.returns-in-All
 returns-in-All c =
     subst (λ l. AreFound (steps_of c.args.steps.now c.args.sought) l c.spread.new.found.items) (sym c.in-All.is)
-    (all-found (steps_of c.args.steps.now c.args.sought) level.All c.spread.new.found.items (states_of (map (λ k. k.now) c.in_ok-left-2.left.items))
+    (all-found (steps_of c.args.steps.now c.args.sought) level.All c.spread.new.found.items
+    (states_of (map (λ k. k.now) c.in_ok-left-2.left.items))
     c.in_ok-left-2.ensures.search c.in_ok-left-2.ensures.done)
 
 pub returns-in_ok-spread-in-AllBut : goal.returns-in_ok-spread-in-AllBut

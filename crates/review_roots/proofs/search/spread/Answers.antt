@@ -22,13 +22,19 @@ loop-index-preserved c =
     let less : n < length found = omega (arith, c.loop-index-test.true, c.len.ensures) in
     let at : slice_get found n ≡ Some t = there found n t less ∙ ap Some (sym c.index.ensures) in
     let same = sym c.deref.ensures.value in
-    let search = subst (λ (xs : List (Bor Candidate)). IsSearch g c.args.level found (states_of (map (λ c. c.now) xs))) same c.loop-index.invariant.search in
-    let drawn = subst (λ (xs : List (Bor Candidate)). IsDrawn g c.args.level n found (states_of (map (λ c. c.now) xs))) same c.loop-index.invariant.drawn in
-    let candidates = subst (λ (xs : List (Bor Candidate)). All (IsCandidate h) (map (λ c. c.now) xs)) same c.loop-index.invariant.candidates in
+    let search = subst (λ (xs : List (Bor Candidate)). IsSearch g c.args.level found (states_of (map (λ c. c.now) xs))) same
+    c.loop-index.invariant.search in
+    let drawn = subst (λ (xs : List (Bor Candidate)). IsDrawn g c.args.level n found (states_of (map (λ c. c.now) xs))) same
+    c.loop-index.invariant.drawn in
+    let candidates = subst (λ (xs : List (Bor Candidate)). All (IsCandidate h) (map (λ c. c.now) xs)) same
+    c.loop-index.invariant.candidates in
     record {
-      candidates = spread-candidates h c.args.sought c.args.level n t found new cs kept at c.in_ok-left.ensures.found c.in_ok-left.ensures.kept candidates;
-      search = spread-search h c.args.sought c.args.level n t found new cs kept at c.in_ok-left.ensures.found c.in_ok-left.ensures.kept search;
-      drawn = spread-drawn h c.args.sought c.args.level n t found new cs kept at c.in_ok-left.ensures.found c.in_ok-left.ensures.kept search drawn;
+      candidates = spread-candidates h c.args.sought c.args.level n t found new cs kept at c.in_ok-left.ensures.found
+          c.in_ok-left.ensures.kept candidates;
+      search = spread-search h c.args.sought c.args.level n t found new cs kept at c.in_ok-left.ensures.found c.in_ok-left.ensures.kept
+          search;
+      drawn = spread-drawn h c.args.sought c.args.level n t found new cs kept at c.in_ok-left.ensures.found c.in_ok-left.ensures.kept
+          search drawn;
     }
 
 pub loop-index-smaller : goal.loop-index-smaller
@@ -41,7 +47,8 @@ loop-index-smaller c =
     let kept : List Candidate = map (λ c. c.now) c.in_ok-left.left.items in
     let less : n < length found = omega (arith, c.loop-index-test.true, c.len.ensures) in
     let at : slice_get found n ≡ Some t = there found n t less ∙ ap Some (sym c.index.ensures) in
-    let sum = spread-length h c.args.sought c.args.level n t found c.draw.new.found.items cs kept at c.in_ok-left.ensures.found c.in_ok-left.ensures.kept in
+    let sum = spread-length h c.args.sought c.args.level n t found c.draw.new.found.items cs kept at c.in_ok-left.ensures.found
+    c.in_ok-left.ensures.kept in
     let k : length kept ≡ length c.in_ok-left.left.items = length-map c.in_ok-left.left.items (λ c. c.now) in
     let l : length cs ≡ length c.deref.result.now = length-map c.deref.result.now (λ c. c.now) in
     let m : length c.deref.result.now ≡ length c.loop-index.left.items = ap length c.deref.ensures.value in
@@ -49,5 +56,6 @@ loop-index-smaller c =
 
 pub returns-clause-done : goal.returns-clause-done
 returns-clause-done c =
-    none-left (steps_of c.args.steps.now c.args.sought) c.args.level c.loop-index.found.items (states_of (map (λ c. c.now) c.loop-index.left.items))
+    none-left (steps_of c.args.steps.now c.args.sought) c.args.level c.loop-index.found.items
+    (states_of (map (λ c. c.now) c.loop-index.left.items))
     c.loop-index.invariant.search c.loop-index.index (omega (arith, c.loop-index-test.false, c.len.ensures)) c.loop-index.invariant.drawn

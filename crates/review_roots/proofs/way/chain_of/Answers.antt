@@ -16,4 +16,5 @@ loop-at-preserved c =
     }
 
 pub returns : goal.returns
-returns c = chain-all c.args.found.now c.args.index c.loop-at.at c.loop-at.chain.items _ c.loop-at.invariant.inside c.in_default.is c.loop-at.invariant.so_far
+returns c = chain-all c.args.found.now c.args.index c.loop-at.at c.loop-at.chain.items _ c.loop-at.invariant.inside c.in_default.is
+    c.loop-at.invariant.so_far
