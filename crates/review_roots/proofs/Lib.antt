@@ -13,3 +13,4 @@ pub mod WayLemmas
 pub mod RootLemmas
 pub mod LoopLemmas
 pub mod FreeLemmas
+pub mod GroupLemmas

@@ -116,3 +116,10 @@ flat-range f n =
     ap (λ k. flat_map f (range_with_len 0 k)) (let e : n + 1 ≡ suc n = omega arith in e)
     ∙ ap (flat_map f) (range-more 0 n) ∙ flat-one f (range_with_len 0 n) (0 + n)
     ∙ ap (λ k. flat_map f (range_with_len 0 n) ++ f k) (let e : 0 + n ≡ n = omega arith in e)
+
+-- one item's list more
+pub flat-next :
+    {X Y : Type 0} (f : X → List Y) (xs : List X) (at : ℕ) (x : X) (old new : List Y) → at < length xs → x ≡ get_or xs at x →
+    old ≡ flat_map f (take at xs) → new ≡ old ++ f x → new ≡ flat_map f (take (at + 1) xs)
+flat-next f xs at x old new within is so_far more =
+    more ∙ ap (λ (ys : List _). ys ++ f x) so_far ∙ sym (flat-one f (take at xs) x) ∙ ap (flat_map f) (sym (take-more xs at x within is))

@@ -1,9 +1,10 @@
-//! The laws of levels. The functions have no effect: each contract is a law.
+//! The laws of levels, and of groups that may be added. The functions have no effect: each contract is a law.
 ghost use Rattle.std.specs.Prelude.{◌≡◌, Some, slice_get};
 ghost use Rattle.sudo_grammar.specs.Tags.{pairs};
 ghost use Rattle.sudo_grammar.specs.declared.tag.TagPair.TheVariants.{Passwd};
 ghost use Rattle.review_roots.specs.Levels.{AllAllowsAll, NoneAllowsNone};
 ghost use Rattle.review_roots.specs.Passwords.{FreeNeedsNoPassword};
+ghost use Rattle.review_roots.specs.KnownGroups.{OtherGroupsChangeNoList};
 
 /// Where the level of the rows for a target is `All`, every command is allowed, with any arguments.
 pub fn all_allows_all()
@@ -19,4 +20,9 @@ pub fn none_allows_none()
 pub fn free_needs_no_password()
     ensures place { slice_get pairs 6 ≡ Some Passwd }
     ensures free { FreeNeedsNoPassword }
+{}
+
+/// A user with a further group that the user list of no rule names is allowed by those lists that allow it without.
+pub fn other_groups_change_no_list()
+    ensures { OtherGroupsChangeNoList }
 {}

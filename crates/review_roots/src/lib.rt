@@ -17,9 +17,11 @@ mod state;
 mod way;
 
 pub use given::{AllowingRow, Given};
-pub use groups::known_groups;
+pub use groups::{known_groups, named_groups};
 pub use host::HostSteps;
-pub use laws::{all_allows_all, free_needs_no_password, none_allows_none};
+pub use laws::{
+    all_allows_all, free_needs_no_password, none_allows_none, other_groups_change_no_list,
+};
 pub use level::Level;
 pub use roots::{Root, roots_on};
 pub use state::State;
