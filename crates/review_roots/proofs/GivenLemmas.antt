@@ -50,7 +50,7 @@ from_nothing : (o : Option AllowingRow) → option_or o None ≡ o
 from_nothing None = refl
 from_nothing (Some r) = refl
 
-rows_give_all : (gs : List Grant) → with_rows nothing (map row_of gs) ≡ given_by gs
+pub rows_give_all : (gs : List Grant) → with_rows nothing (map row_of gs) ≡ given_by gs
 unfolding given_from
 rows_give_all gs =
     rows_give gs nothing

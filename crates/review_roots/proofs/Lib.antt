@@ -14,3 +14,4 @@ pub mod RootLemmas
 pub mod LoopLemmas
 pub mod FreeLemmas
 pub mod GroupLemmas
+pub mod RowLemmas

@@ -1,6 +1,6 @@
 -- Who can become a target on a host, and who cannot. sudo(8), options -u and -g.
 use Rattle.std.specs.Prelude.{◌≡◌, ◌<◌, ◌⊎◌, ℕ, Bool, true, false, ◌||◌, ◌==◌, List, [], ◌∷◌, All, length, map, slice_get, Option, Some}
-use Rattle.std.specs.Prelude.{None}
+use Rattle.std.specs.Prelude.{None, is_some}
 use Rattle.std.specs.List.{AllByRecursion, Contains}
 use Rattle.sudo_match.specs.declared.people.Person.{Person}
 use Rattle.review_roots.specs.declared.host.HostSteps.{HostSteps}
@@ -26,9 +26,11 @@ is_itself h target user = (user == target) || has_zero h user
 
 abbrev pub IsRootBy : HostSteps → ℕ → Level → ℕ → Option Way → Type 0
 IsRootBy h target least user None = is_itself h target user ≡ true
-IsRootBy h target least user (Some w) = (is_itself h target user ≡ false) × IsWay h target least (state_with None user) w
+IsRootBy h target least user (Some w) =
+    (is_itself h target user ≡ false) × (IsWay h target least (state_with None user) w × (is_some w.by ≡ true))
 
--- the user can become the target: it is the target, or has ID 0; or the chain that is given leads to the target
+-- the user can become the target: it is the target, or has ID 0; or the chain that is given leads to the target, and
+-- a row that allows its first step is given
 abbrev pub IsRoot : HostSteps → ℕ → Level → Root → Type 0
 IsRoot h target least r = IsRootBy h target least r.user r.way
 
