@@ -58,6 +58,7 @@ module _ (h : HostSteps) (target : ℕ) (least : Level) (chains : Chains) (lead 
   way-free f w best good is =
       let listed = at-least-trans level.Listed least w.level lead.level is.enough in
       record {
+        inside = is.inside;
         leads = free-leads h target w.level listed (state_with None user) w.chain.items is.leads;
         best = λ m p. at-least-trans m f.level w.level (best m p) good;
         enough = is.enough;
@@ -72,6 +73,7 @@ module _ (h : HostSteps) (target : ℕ) (least : Level) (chains : Chains) (lead 
       → IsFreeAt chains.free.items user f.level None →
       IsChain h (record { target = target; free = false }) least (state_with None user) w → IsWay h target least (state_with None user) w
   way-any f w good inside none is = record {
+    inside = is.inside;
     leads = is.leads;
     best = is.best;
     enough = is.enough;

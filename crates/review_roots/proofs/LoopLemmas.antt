@@ -6,7 +6,7 @@ use Rattle.std.specs.Prelude.{All, slice_get}
 use Rattle.std.specs.List.{Contains}
 use Rattle.std.specs.Option.{option_or}
 use Rattle.std.proofs.lemmas.List.{drop_all, take_all}
-use Rattle.std.proofs.lemmas.List.Elements.{All-contains, Contains-get_or}
+use Rattle.std.proofs.lemmas.List.Elements.{All-contains, All-push, All-weaker, Contains-get_or}
 use Rattle.sudo_grammar.specs.declared.kind.Signed.{Signed}
 use Rattle.sudo_grammar.specs.declared.policy.Policy.{Policy}
 use Rattle.sudo_match.specs.declared.people.Group.{Group}
@@ -28,12 +28,13 @@ use Rattle.review_roots.specs.declared.search.Sought.{Sought}
 use Rattle.review_roots.specs.declared.state.State.{State}
 use Rattle.review_roots.specs.Asked.{given_asked, nothing}
 use Rattle.review_roots.specs.Blocks.{AreBlocks, sign_of, standing_rows, with_rows}
-use Rattle.review_roots.specs.Found.{PointBack, AreFound, IsFound}
+use Rattle.review_roots.specs.Found.{PointBack, AreFound, IsFound, found_states}
 use Rattle.review_roots.specs.Candidates.{steps_of}
+use Rattle.review_roots.specs.Chains.{Steps}
 use Rattle.review_roots.specs.Ranks.{is_at_least}
 use Rattle.review_roots.specs.Ways.{IsChain, first_row, password_along}
 use Rattle.review_roots.proofs.GivenLemmas.{blocks_give}
-use Rattle.review_roots.proofs.SearchLemmas.{to-map}
+use Rattle.review_roots.proofs.SearchLemmas.{from-map, to-map}
 use Rattle.review_roots.proofs.WayLemmas.{LeadsSoFar, LeadsWhole, leads-more, leads-all}
 
 pub there : {X : Type 0} (xs : List X) (i : ℕ) (d : X) → i < length xs → slice_get xs i ≡ Some (get_or xs i d)
@@ -88,16 +89,32 @@ pub chain-all :
     LeadsWhole found index chain
 chain-all found index at chain d inside is so_far = leads-all found index at chain (get_or found at d) (there found at d inside) is so_far
 
+pub chain-within :
+    (found : List Found) (next : ℕ) (chain new : List State) (e : Found) → next < length found → new ≡ chain ++ (get_or found next e).state ∷ [] →
+    All (Contains (found_states found)) chain → All (Contains (found_states found)) new
+chain-within found next chain new e also more within =
+    subst (All (Contains (found_states found))) (sym more)
+    (All-push (Contains (found_states found)) chain (get_or found next e).state within
+    (to-map (λ (f : Found). f.state) found (get_or found next e) (Contains-get_or found next e also)))
+
+-- the found states are states
+states-inside : (g : Steps State) (found : List Found) → All (IsFound g) found → (s : State) → Contains (found_states found) s → Contains g.states s
+states-inside g found right s c =
+    let f = from-map (λ (f : Found). f.state) found s c in
+    subst (Contains g.states) f.2 (All-contains (IsFound g) found f.0 right f.1).inside
+
 pub way-is :
     (h : HostSteps) (q : Sought) (least : Level) (found : List Found) (index : ℕ) (d f : Found) (chain : Vec State Global)
     (by : Option AllowingRow) (password : Password)
     (states same : List State) → AreFound (steps_of h q) least found → index < length found → slice_get found index ≡ Some f →
-    LeadsWhole found index chain.items → states ≡ chain.items → by ≡ first_row h (get_or found index d).state states → same ≡ chain.items →
+    LeadsWhole found index chain.items → All (Contains (found_states found)) chain.items → states ≡ chain.items → by ≡ first_row h (get_or found index d).state states → same ≡ chain.items →
     password ≡ password_along h (get_or found index d).state.user (get_or found index d).state same →
     IsChain h q least f.state (record { level = (get_or found index d).level; chain = chain; by = by; password = password })
-way-is h q least found index d f chain by password states same are inside at leads first is also asks =
+way-is h q least found index d f chain by password states same are inside at leads within first is also asks =
     subst (λ (e : Found). IsChain h q least e.state
     (record { level = (get_or found index d).level; chain = chain; by = by; password = password })) this (record {
+      inside = All-weaker (Contains (found_states found)) (Contains (steps_of h q).states)
+          (states-inside (steps_of h q) found are.right) chain.items within;
       leads = leads (steps_of h q) (get_or found index d) are.linked (there found index d inside);
       best = (All-contains (IsFound (steps_of h q)) found (get_or found index d) are.right (Contains-get_or found index d inside)).best;
       enough = All-contains (λ f. is_at_least least f.level ≡ true) found (get_or found index d) are.levels

@@ -1,6 +1,7 @@
 -- A chain of steps to a target: its level, the row that allows its first step, and whose passwords it asks for.
 -- sudo(8), sudoers(5), "Tag_Spec": a password is asked unless NOPASSWD is in force.
-use Rattle.std.specs.Prelude.{◌≡◌, ◌⊎◌, ℕ, Bool, true, ◌==◌, if◌then◌else◌, List, [], ◌∷◌, Option, None, codes}
+use Rattle.std.specs.Prelude.{◌≡◌, ◌⊎◌, ℕ, Bool, true, ◌==◌, if◌then◌else◌, List, [], ◌∷◌, All, Option, None, codes}
+use Rattle.std.specs.List.{Contains}
 use Rattle.review_roots.specs.declared.given.AllowingRow.{AllowingRow}
 use Rattle.review_roots.specs.declared.given.Given.{Given}
 use Rattle.review_roots.specs.declared.host.HostSteps.{HostSteps}
@@ -45,9 +46,10 @@ abbrev pub first_row : HostSteps → State → List State → Option AllowingRow
 first_row h s [] = None
 first_row h s (t ∷ ts) = (step_on h s t).by
 
--- of the steps that are sought, the chain leads from the state to the target with its level, which no chain betters and which
--- is the least asked for or a better one; the row allows the first step, and the password is that of the chain
+-- of the steps that are sought, the chain leads from the state to the target through states, with its level, which no chain
+-- betters and which is the least asked for or a better one; the row allows the first step, and the password is the chain's
 pub record IsChain (h : HostSteps) (q : Sought) (least : Level) (s : State) (w : Way) : Type 0 where
+  pub inside : All (Contains (steps_of h q).states) w.chain.items
   pub leads : LeadsAlong (steps_of h q) w.level s w.chain.items
   pub best : (l : Level) → HasPath (steps_of h q) l s → is_at_least l w.level ≡ true
   pub enough : is_at_least least w.level ≡ true
@@ -56,6 +58,7 @@ pub record IsChain (h : HostSteps) (q : Sought) (least : Level) (s : State) (w :
 
 -- the same of all steps; and where the chain asks for a password, no chain of its level, however long, asks for none
 pub record IsWay (h : HostSteps) (target : ℕ) (least : Level) (s : State) (w : Way) : Type 0 where
+  pub inside : All (Contains (any_steps h target).states) w.chain.items
   pub leads : LeadsAlong (any_steps h target) w.level s w.chain.items
   pub best : (l : Level) → HasPath (any_steps h target) l s → is_at_least l w.level ≡ true
   pub enough : is_at_least least w.level ≡ true

@@ -1,8 +1,9 @@
 //! A chain of steps to a target, with the row that allows its first step, and whose passwords it asks for.
-ghost use Rattle.std.specs.Prelude.{◌≡◌, ◌<◌, IfOk, Some, length, slice_get};
+ghost use Rattle.std.specs.Prelude.{◌≡◌, ◌<◌, All, IfOk, Some, length, slice_get};
+ghost use Rattle.std.specs.List.{Contains};
 ghost use Rattle.review_roots.specs.Candidates.{steps_of};
 ghost use Rattle.review_roots.specs.Chains.{LeadsAlong, Steps as TheSteps};
-ghost use Rattle.review_roots.specs.Found.{AreFound, AreLinked, PointBack};
+ghost use Rattle.review_roots.specs.Found.{AreFound, AreLinked, PointBack, found_states};
 ghost use Rattle.review_roots.specs.Ways.{IsChain, first_row, password_along, password_name, step_password, worse};
 ghost use Rattle.review_roots.specs.declared.level.Level.{Level as TheLevel};
 ghost use Rattle.review_roots.specs.declared.search.Found.{Found as TheFound};
@@ -68,8 +69,10 @@ impl Password {
 fn chain_of(alloc: Global, found: &[Found], index: usize) -> Result<Vec<State>, AllocError>
     requires back { PointBack found.now }
     requires inside { index < length found.now }
-    ensures { IfOk result (λ chain. (g : TheSteps TheState) (f : TheFound) → AreLinked g found.now
-        → slice_get found.now index ≡ Some f → LeadsAlong g f.level f.state chain.items) }
+    ensures leads { IfOk result (λ chain. (g : TheSteps TheState) (f : TheFound)
+        → AreLinked g found.now → slice_get found.now index ≡ Some f
+        → LeadsAlong g f.level f.state chain.items) }
+    ensures inside { IfOk result (λ chain. All (Contains (found_states found.now)) chain.items) }
 {
     let mut chain = Vec::new(alloc);
     let mut at = index;

@@ -1,4 +1,7 @@
 use Rattle.std.proofs.Common.{◌<◌, length}
+use Rattle.std.specs.Prelude.{All}
+use Rattle.std.specs.List.{Contains}
+use Rattle.review_roots.specs.Found.{found_states}
 use Rattle.review_roots.proofs.WayLemmas.{LeadsSoFar}
 use Rattle.review_roots.proofs.way.chain_of.Given as goal
 
@@ -6,6 +9,7 @@ abbrev pub invariant-loop-at : goal.invariant-loop-at
 invariant-loop-at l = record {
   inside : l.at < length l.found;
   so_far : LeadsSoFar l.found l.index l.at l.chain.items;
+  within : All (Contains (found_states l.found)) l.chain.items;
 }
 
 -- each step leads further back
