@@ -15,3 +15,4 @@ pub mod LoopLemmas
 pub mod FreeLemmas
 pub mod GroupLemmas
 pub mod RowLemmas
+pub mod ChainLemmas

@@ -1,5 +1,5 @@
 -- Chains of steps that lead to a goal: steps have levels, and a chain has the least of its steps' levels.
-use Rattle.std.specs.Prelude.{◌≡◌, ℕ, zero, suc, Bool, true, List, [], ◌∷◌}
+use Rattle.std.specs.Prelude.{◌≡◌, ℕ, zero, suc, Bool, true, List, [], ◌∷◌, All, length}
 use Rattle.std.specs.List.{Contains}
 use Rattle.review_roots.specs.declared.level.Level.{Level}
 use Rattle.review_roots.specs.Ranks.{is_at_least}
@@ -27,3 +27,9 @@ HasNoPath g l s = (n : ℕ) → Path g l n s → ⊥
 abbrev pub LeadsAlong : {S : Type 0} → Steps S → Level → S → List S → Type 0
 LeadsAlong g l s [] = g.goal s ≡ true
 LeadsAlong g l s (t ∷ ts) = (is_at_least l (g.level s t) ≡ true) × LeadsAlong g l t ts
+
+-- a chain through states that leads to the goal is a path
+abbrev pub ChainsArePaths : Type 0 → Type 0
+ChainsArePaths S =
+    (g : Steps S) (l : Level) (s : S) (ts : List S) → Contains g.states s → All (Contains g.states) ts → LeadsAlong g l s ts →
+    Path g l (length ts) s

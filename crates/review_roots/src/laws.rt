@@ -1,9 +1,10 @@
-//! The laws of levels, and of groups that may be added. The functions have no effect: each contract is a law.
+//! The laws of levels, of chains, and of groups that may be added. The functions have no effect: each contract is a law.
 ghost use Rattle.std.specs.Prelude.{◌≡◌, Some, slice_get};
 ghost use Rattle.sudo_grammar.specs.Tags.{pairs};
 ghost use Rattle.sudo_grammar.specs.declared.tag.TagPair.TheVariants.{Passwd};
 ghost use Rattle.review_roots.specs.Levels.{AllAllowsAll, NoneAllowsNone};
 ghost use Rattle.review_roots.specs.Passwords.{FreeNeedsNoPassword};
+ghost use Rattle.review_roots.specs.Chains.{ChainsArePaths};
 ghost use Rattle.review_roots.specs.KnownGroups.{OtherGroupsChangeNoList};
 
 /// Where the level of the rows for a target is `All`, every command is allowed, with any arguments.
@@ -25,4 +26,9 @@ pub fn free_needs_no_password()
 /// A user with a further group that the user list of no rule names is allowed by those lists that allow it without.
 pub fn other_groups_change_no_list()
     ensures { OtherGroupsChangeNoList }
+{}
+
+/// A chain of steps from a state through states to the goal is a path of as many steps.
+pub fn chains_are_paths<S>()
+    ensures { ChainsArePaths S }
 {}

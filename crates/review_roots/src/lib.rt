@@ -20,7 +20,8 @@ pub use given::{AllowingRow, Given};
 pub use groups::{known_groups, named_groups};
 pub use host::HostSteps;
 pub use laws::{
-    all_allows_all, free_needs_no_password, none_allows_none, other_groups_change_no_list,
+    all_allows_all, chains_are_paths, free_needs_no_password, none_allows_none,
+    other_groups_change_no_list,
 };
 pub use level::Level;
 pub use roots::{Root, roots_on};
