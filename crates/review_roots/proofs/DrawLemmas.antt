@@ -1,0 +1,124 @@
+-- The loops of a search: over the candidates that are left, and over what is found.
+use Rattle.std.proofs.Common.{◌≡◌, ◌<◌, ◌∙◌, ◌+◌, ℕ, Bool, true, false, not, cond, List, [], ◌∷◌, ◌++◌, ap, arith, get_or, length}
+use Rattle.std.proofs.Common.{length-append}
+use Rattle.std.proofs.Common.{map, sym, subst, take, Some, append_assoc, append-nil}
+use Rattle.std.specs.Prelude.{All, filter, slice_get}
+use Rattle.std.proofs.lemmas.List.{length-map, map-append}
+use Rattle.std.proofs.lemmas.List.Elements.{All-filter, filter-append}
+use Rattle.review_roots.specs.declared.candidate.Candidate.{Candidate}
+use Rattle.review_roots.specs.declared.host.HostSteps.{HostSteps}
+use Rattle.review_roots.specs.declared.level.Level.{Level}
+use Rattle.review_roots.specs.declared.search.Aim.{Aim}
+use Rattle.review_roots.specs.declared.search.Found.{Found}
+use Rattle.review_roots.specs.declared.search.Sought.{Sought}
+use Rattle.review_roots.specs.Candidates.{IsCandidate, steps_of}
+use Rattle.review_roots.specs.States.{steps_to}
+use Rattle.review_roots.specs.Found.{IsSearch, IsDrawn, found_by, reaches, states_of}
+use Rattle.review_roots.proofs.ListSteps.{take-more, filter-mapped, map-twice}
+use Rattle.review_roots.proofs.SearchLemmas.{drawn_to, new_found, drawn-search, drawn-more, parted-length}
+
+-- one item more of a list of references that is filtered
+pub filtered-more :
+    {R X : Type 0} (f : X → Bool) (now : R → X) (left : List R) (i : ℕ) (c : R) → i < length left → c ≡ get_or left i c →
+    filter f (map now (take (i + 1) left)) ≡ filter f (map now (take i left)) ++ cond (f (now c)) (now c ∷ []) []
+filtered-more f now left i c within is =
+    ap (λ xs. filter f (map now xs)) (take-more left i c within is)
+    ∙ ap (filter f) (map-append now (take i left) (c ∷ [])) ∙ filter-append f (map now (take i left)) (now c ∷ [])
+
+-- an item that passes is kept
+pub one-kept :
+    {R X : Type 0} (f : X → Bool) (now : R → X) (left old new : List R) (i : ℕ) (c : R) → i < length left → c ≡ get_or left i c → f (now c)
+    ≡ true →
+    map now old ≡ filter f (map now (take i left)) → new ≡ old ++ c ∷ [] → map now new ≡ filter f (map now (take (i + 1) left))
+one-kept f now left old new i c within is passes so_far more =
+    ap (map now) more ∙ map-append now old (c ∷ []) ∙ ap (λ (xs : List _). xs ++ now c ∷ []) so_far
+    ∙ sym (filtered-more f now left i c within is ∙ ap (λ b. filter f (map now (take i left)) ++ cond b (now c ∷ []) []) passes)
+
+-- another one is not
+pub none-kept :
+    {R X : Type 0} (f : X → Bool) (now : R → X) (left : List R) (i : ℕ) (c : R) → i < length left → c ≡ get_or left i c → f (now c)
+    ≡ false →
+    filter f (map now (take (i + 1) left)) ≡ filter f (map now (take i left))
+none-kept f now left i c within is fails =
+    filtered-more f now left i c within is ∙ ap (λ b. filter f (map now (take i left)) ++ cond b (now c ∷ []) []) fails
+    ∙ append-nil (filter f (map now (take i left)))
+
+-- an item that passes is found
+pub one-found :
+    {R X Y : Type 0} (f : X → Bool) (now : R → X) (by : X → Y) (left : List R) (first old new : List Y) (i : ℕ) (c : R) → i < length left
+    → c ≡ get_or left i c →
+    f (now c) ≡ true → old ≡ first ++ map by (filter f (map now (take i left))) → new ≡ old ++ by (now c) ∷ [] →
+    new ≡ first ++ map by (filter f (map now (take (i + 1) left)))
+one-found f now by left first old new i c within is passes so_far more =
+    let xs : List _ = filter f (map now (take i left)) in
+    more ∙ ap (λ (ys : List _). ys ++ by (now c) ∷ []) so_far ∙ append_assoc first (map by xs) (by (now c) ∷ [])
+    ∙ ap (λ (ys : List _). first ++ ys) (sym (map-append by xs (now c ∷ [])))
+    ∙ ap (λ (ys : List _). first ++ map by ys)
+    (sym (filtered-more f now left i c within is ∙ ap (λ b. filter f (map now (take i left)) ++ cond b (now c ∷ []) []) passes))
+
+-- ---- What one aim draws, in terms of states
+
+module _ (h : HostSteps) (target : ℕ) (aim : Aim) (cs : List Candidate) where
+  pub draw-found :
+      map (found_by aim) (filter (reaches h aim) cs)
+      ≡ map (new_found aim.level aim.index)
+      (filter (drawn_to (steps_to h.checked.now h.directory.now h.host.now h.groups.now target aim.free) aim.level aim.state)
+      (states_of cs))
+  draw-found =
+      sym (ap (map (new_found aim.level aim.index))
+      (filter-mapped (drawn_to (steps_to h.checked.now h.directory.now h.host.now h.groups.now target aim.free) aim.level aim.state)
+      (λ (c : Candidate). c.state) cs)
+      ∙ map-twice (new_found aim.level aim.index) (λ (c : Candidate). c.state) (filter (reaches h aim) cs))
+
+  pub draw-kept :
+      states_of (filter (λ c. not (reaches h aim c)) cs)
+      ≡ filter (λ s. not (drawn_to (steps_to h.checked.now h.directory.now h.host.now h.groups.now target aim.free) aim.level aim.state
+      s)) (states_of cs)
+  draw-kept = sym (filter-mapped
+      (λ s. not (drawn_to (steps_to h.checked.now h.directory.now h.host.now h.groups.now target aim.free) aim.level aim.state s))
+      (λ (c : Candidate). c.state) cs)
+
+module _
+    (h : HostSteps) (q : Sought) (l : Level) (n : ℕ) (t : Found) (found new : List Found) (cs kept : List Candidate)
+    (there : slice_get found n ≡ Some t)
+    (finds : new ≡ found
+    ++ map (found_by (record { index = n; state = t.state; level = l; free = q.free }))
+    (filter (reaches h (record { index = n; state = t.state; level = l; free = q.free })) cs))
+    (keeps : kept ≡ filter (λ c. not (reaches h (record { index = n; state = t.state; level = l; free = q.free }) c)) cs)
+  where
+    abbrev aim : Aim
+    aim = record { index = n; state = t.state; level = l; free = q.free }
+
+    finds_states : new ≡ found ++ map (new_found l n) (filter (drawn_to (steps_of h q) l t.state) (states_of cs))
+    finds_states = finds ∙ ap (λ (xs : List Found). found ++ xs) (draw-found h q.target aim cs)
+
+    keeps_states : states_of kept ≡ filter (λ s. not (drawn_to (steps_of h q) l t.state s)) (states_of cs)
+    keeps_states = ap states_of keeps ∙ draw-kept h q.target aim cs
+
+    pub spread-search : IsSearch (steps_of h q) l found (states_of cs) → IsSearch (steps_of h q) l new (states_of kept)
+    spread-search search =
+        subst (λ xs. IsSearch (steps_of h q) l xs (states_of kept)) (sym finds_states)
+        (subst (IsSearch (steps_of h q) l (found ++ map (new_found l n) (filter (drawn_to (steps_of h q) l t.state) (states_of cs))))
+        (sym keeps_states)
+        (drawn-search (steps_of h q) l n t found (states_of cs) search there))
+
+    pub spread-drawn : IsSearch (steps_of h q) l found (states_of cs) → IsDrawn (steps_of h q) l n found (states_of cs)
+        → IsDrawn (steps_of h q) l (n + 1) new (states_of kept)
+    spread-drawn search drawn =
+        subst (λ xs. IsDrawn (steps_of h q) l (n + 1) xs (states_of kept)) (sym finds_states)
+        (subst (IsDrawn (steps_of h q) l (n + 1)
+        (found ++ map (new_found l n) (filter (drawn_to (steps_of h q) l t.state) (states_of cs)))) (sym keeps_states)
+        (drawn-more (steps_of h q) l n t found (states_of cs) search there drawn))
+
+    pub spread-candidates : All (IsCandidate h) cs → All (IsCandidate h) kept
+    spread-candidates all = subst (All (IsCandidate h)) (sym keeps) (All-filter (λ c. not (reaches h aim c)) (IsCandidate h) cs all)
+
+    pub spread-length : length kept + length new ≡ length cs + length found
+    spread-length =
+        let parted = parted-length (reaches h aim) cs in
+        let k : length kept ≡ length (filter (λ c. not (reaches h aim c)) cs) = ap length keeps in
+        let f : length new ≡ length found + length (map (found_by aim) (filter (reaches h aim) cs)) =
+        ap length finds ∙ length-append found (map (found_by aim) (filter (reaches h aim) cs)) in
+        let m : length (map (found_by aim) (filter (reaches h aim) cs))
+        ≡ length (filter (reaches h aim) cs) = length-map (filter (reaches h aim) cs) (found_by aim) in
+        omega (arith, parted, k, f, m)

@@ -1,0 +1,127 @@
+-- What loops and calls leave, in the words of the definitions.
+use Rattle.std.proofs.Common.{◌≡◌, ◌<◌, ◌≤◌, ◌∙◌, ℕ, zero, suc, true, false, List, [], ◌∷◌, ◌++◌, ap, arith, drop, flat_map, get_or, length}
+use Rattle.std.proofs.Common.{map, refl, subst, sym, take}
+use Rattle.std.proofs.Common.{Option, Some, None, Bor, Global, Vec, option_copied}
+use Rattle.std.specs.Prelude.{All, slice_get}
+use Rattle.std.specs.List.{Contains}
+use Rattle.std.specs.Option.{option_or}
+use Rattle.std.proofs.lemmas.List.{drop_all, take_all}
+use Rattle.std.proofs.lemmas.List.Elements.{All-contains, All-push, All-weaker, Contains-get_or}
+use Rattle.sudo_grammar.specs.declared.kind.Signed.{Signed}
+use Rattle.sudo_grammar.specs.declared.policy.Policy.{Policy}
+use Rattle.sudo_match.specs.declared.people.Group.{Group}
+use Rattle.sudo_match.specs.declared.people.Machine.{Machine}
+use Rattle.sudo_match.specs.declared.people.Person.{Person}
+use Rattle.sudo_match.specs.KnownRows.{KnownRows}
+use Rattle.sudo_policy.specs.Written.{negated_if}
+use Rattle.sudo_policy.proofs.Laws.{negated_never}
+use Rattle.sudo_verdict.specs.Questions.{question_as}
+use Rattle.review_roots.specs.declared.block.Block.{Block}
+use Rattle.review_roots.specs.declared.block.Sign.{Sign}
+use Rattle.review_roots.specs.declared.given.Given.{Given}
+use Rattle.review_roots.specs.declared.given.AllowingRow.{AllowingRow}
+use Rattle.review_roots.specs.declared.host.HostSteps.{HostSteps}
+use Rattle.review_roots.specs.declared.level.Level.{Level}
+use Rattle.review_roots.specs.declared.way.Password.{Password}
+use Rattle.review_roots.specs.declared.search.Found.{Found}
+use Rattle.review_roots.specs.declared.search.Sought.{Sought}
+use Rattle.review_roots.specs.declared.state.State.{State}
+use Rattle.review_roots.specs.Asked.{given_asked, nothing}
+use Rattle.review_roots.specs.Blocks.{AreBlocks, sign_of, standing_rows, with_rows}
+use Rattle.review_roots.specs.Found.{PointBack, AreFound, IsFound, found_states}
+use Rattle.review_roots.specs.Candidates.{steps_of}
+use Rattle.review_roots.specs.Chains.{Steps}
+use Rattle.review_roots.specs.Ranks.{is_at_least}
+use Rattle.review_roots.specs.Ways.{IsChain, first_row, password_along}
+use Rattle.review_roots.proofs.GivenLemmas.{blocks_give}
+use Rattle.review_roots.proofs.SearchLemmas.{from-map, to-map}
+use Rattle.review_roots.proofs.WayLemmas.{LeadsSoFar, LeadsWhole, leads-more, leads-all}
+
+pub there : {X : Type 0} (xs : List X) (i : ℕ) (d : X) → i < length xs → slice_get xs i ≡ Some (get_or xs i d)
+there [] i d less = absurd (omega (arith, less))
+there (x ∷ xs) zero d less = refl
+there (x ∷ xs) (suc i) d less = there xs i d (omega (arith, less))
+
+pub copied-or : {X : Type 0} (a b : Option (Bor X)) → option_copied (option_or a b) ≡ option_or (option_copied a) (option_copied b)
+copied-or None b = refl
+copied-or (Some x) b = refl
+
+pub all-mapped : {R X : Type 0} (P : X → Type 0) (now : R → X) (xs : List R) (i : ℕ) (x : R) → i < length xs → x ≡ get_or xs i x
+    → All P (map now xs) → P (now x)
+all-mapped P now xs i x within is all =
+    All-contains P (map now xs) (now x) all (to-map now xs x (subst (Contains xs) (sym is) (Contains-get_or xs i x within)))
+
+pub signs-all :
+    (ws items : List Signed) (signs : List Sign) (i : ℕ) → items ≡ map (negated_if false) ws → length items ≤ i →
+    signs ≡ map sign_of (take i items) → signs ≡ map sign_of ws
+signs-all ws items signs i is all so_far =
+    so_far ∙ ap (map sign_of) (take_all i items all ∙ is ∙ negated_never ws)
+
+pub asked-all :
+    (p : Policy) (d : KnownRows) (u : Person) (m : Machine) (t : Option Person) (g : Option Group) (bs : List Block) (given : Given)
+    (i : ℕ) →
+    AreBlocks p m bs → length bs ≤ i →
+    with_rows given (flat_map (standing_rows p (question_as d u m t g)) (drop i bs))
+    ≡ with_rows nothing (flat_map (standing_rows p (question_as d u m t g)) bs) →
+    given ≡ given_asked p d u m t g
+asked-all p d u m t g bs given i tied all so_far =
+    sym (ap (λ xs. with_rows given (flat_map (standing_rows p (question_as d u m t g)) xs)) (drop_all i bs all))
+    ∙ so_far ∙ blocks_give p (question_as d u m t g) bs tied
+
+-- ---- Chains
+
+pub back-at :
+    (found : List Found) (at next : ℕ) (d : Found) → PointBack found → at < length found → (get_or found at d).next ≡ Some next → next < at
+back-at found at next d back inside is = back at next (get_or found at d) (there found at d inside) is
+
+pub chain-more :
+    (found : List Found) (index at next : ℕ) (chain new : List State) (d e : Found) → at < length found → next < length found →
+    (get_or found at d).next ≡ Some next → new ≡ chain ++ (get_or found next e).state ∷ [] → LeadsSoFar found index at chain
+    → LeadsSoFar found index next new
+chain-more found index at next chain new d e inside also is more so_far =
+    subst (LeadsSoFar found index next) (sym more)
+    (leads-more found index at next chain (get_or found at d) (get_or found next e) (there found at d inside) is (there found next e also)
+    so_far)
+
+pub chain-all :
+    (found : List Found) (index at : ℕ) (chain : List State) (d : Found) → at < length found → (get_or found at d).next ≡ None
+    → LeadsSoFar found index at chain →
+    LeadsWhole found index chain
+chain-all found index at chain d inside is so_far = leads-all found index at chain (get_or found at d) (there found at d inside) is so_far
+
+pub chain-within :
+    (found : List Found) (next : ℕ) (chain new : List State) (e : Found) → next < length found → new ≡ chain ++ (get_or found next e).state ∷ [] →
+    All (Contains (found_states found)) chain → All (Contains (found_states found)) new
+chain-within found next chain new e also more within =
+    subst (All (Contains (found_states found))) (sym more)
+    (All-push (Contains (found_states found)) chain (get_or found next e).state within
+    (to-map (λ (f : Found). f.state) found (get_or found next e) (Contains-get_or found next e also)))
+
+-- the found states are states
+states-inside : (g : Steps State) (found : List Found) → All (IsFound g) found → (s : State) → Contains (found_states found) s → Contains g.states s
+states-inside g found right s c =
+    let f = from-map (λ (f : Found). f.state) found s c in
+    subst (Contains g.states) f.2 (All-contains (IsFound g) found f.0 right f.1).inside
+
+pub way-is :
+    (h : HostSteps) (q : Sought) (least : Level) (found : List Found) (index : ℕ) (d f : Found) (chain : Vec State Global)
+    (by : Option AllowingRow) (password : Password)
+    (states same : List State) → AreFound (steps_of h q) least found → index < length found → slice_get found index ≡ Some f →
+    LeadsWhole found index chain.items → All (Contains (found_states found)) chain.items → states ≡ chain.items → by ≡ first_row h (get_or found index d).state states → same ≡ chain.items →
+    password ≡ password_along h (get_or found index d).state.user (get_or found index d).state same →
+    IsChain h q least f.state (record { level = (get_or found index d).level; chain = chain; by = by; password = password })
+way-is h q least found index d f chain by password states same are inside at leads within first is also asks =
+    subst (λ (e : Found). IsChain h q least e.state
+    (record { level = (get_or found index d).level; chain = chain; by = by; password = password })) this (record {
+      inside = All-weaker (Contains (found_states found)) (Contains (steps_of h q).states)
+          (states-inside (steps_of h q) found are.right) chain.items within;
+      leads = leads (steps_of h q) (get_or found index d) are.linked (there found index d inside);
+      best = (All-contains (IsFound (steps_of h q)) found (get_or found index d) are.right (Contains-get_or found index d inside)).best;
+      enough = All-contains (λ f. is_at_least least f.level ≡ true) found (get_or found index d) are.levels
+          (Contains-get_or found index d inside);
+      by = is ∙ ap (first_row h (get_or found index d).state) first;
+      password = asks ∙ ap (password_along h (get_or found index d).state.user (get_or found index d).state) also;
+    })
+  where
+    this : get_or found index d ≡ f
+    this = let e : Some (get_or found index d) ≡ Some f = sym (there found index d inside) ∙ at in cc

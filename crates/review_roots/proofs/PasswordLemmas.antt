@@ -1,0 +1,78 @@
+-- Where every command is free of a password, the last row that matches is.
+use Rattle.std.proofs.Common.{◌≡◌, Bool, true, false, cond, ◌||◌, List, [], ◌∷◌, Option, Some, None, refl, sym, ◌∙◌, ap}
+use Rattle.std.specs.Prelude.{fold, get_or, unwrap_or, option_map}
+use Rattle.std.specs.Option.{option_or}
+use Rattle.sudo_text.specs.declared.line.Place.{Place}
+use Rattle.sudo_match.specs.declared.request.Tags.{Tags}
+use Rattle.sudo_policy.proofs.SurveyLemmas.{option_or-none}
+use Rattle.sudo_verdict.specs.Last.{last_that}
+use Rattle.sudo_verdict.specs.Values.{is_all}
+use Rattle.sudo_verdict.specs.Tagged.{tags_given, tags_named, or_tags, setenv}
+use Rattle.sudo_verdict.specs.Grants.{Grant}
+use Rattle.sudo_verdict.specs.Verdicts.{decided_by, verdict_if_any}
+use Rattle.review_roots.specs.Levels.{target_rows}
+use Rattle.review_roots.specs.Passwords.{is_off, nopasswd, after_free, freely_allowed, FreeNeedsNoPassword}
+use Rattle.review_roots.proofs.LevelLemmas.{fitting, target_decides, all_matches}
+
+-- SETENV, which ALL adds, is no tag of that pair
+setenv_apart : (t : Tags) → nopasswd (or_tags t (tags_named (setenv ∷ []))) ≡ nopasswd t
+unfolding tags_named
+setenv_apart t = ap is_off (at t.choices)
+  where
+    at : (cs : List (Option Bool)) → get_or ((or_tags (record { choices = cs }) (tags_named (setenv ∷ []))).choices) 6 None
+        ≡ get_or cs 6 None
+    at [] = refl
+    at (a ∷ []) = refl
+    at (a ∷ b ∷ []) = refl
+    at (a ∷ b ∷ c ∷ []) = refl
+    at (a ∷ b ∷ c ∷ d ∷ []) = refl
+    at (a ∷ b ∷ c ∷ d ∷ e ∷ []) = refl
+    at (a ∷ b ∷ c ∷ d ∷ e ∷ f ∷ []) = refl
+    at (a ∷ b ∷ c ∷ d ∷ e ∷ f ∷ o ∷ cs) = option_or-none o
+
+given_same : (all : Bool) (t : Tags) → nopasswd (tags_given all t) ≡ nopasswd t
+given_same true t = setenv_apart t
+given_same false t = refl
+
+abbrev freely : Grant → Bool
+freely g = cond g.negated false (nopasswd g.tags)
+
+decided_freely : (place : Place) (t : Tags) (n a : Bool) → freely_allowed (decided_by place t n a) ≡ cond n false (nopasswd t)
+decided_freely place t true a = refl
+decided_freely place t false a = given_same a t
+
+abbrev free_last : Option Grant → Bool → Bool
+free_last o b = unwrap_or (option_map freely o) b
+
+verdict_freely : (o : Option Grant) → freely_allowed (verdict_if_any o) ≡ free_last o false
+verdict_freely None = refl
+verdict_freely (Some g) = decided_freely g.place g.tags g.negated (is_all g.atom)
+
+one_more : (o : Option Grant) (e b : Bool) (g : Grant) → free_last o (cond e (freely g) b)
+    ≡ free_last (option_or o (cond e (Some g) None)) b
+one_more (Some h) e b g = refl
+one_more None true b g = refl
+one_more None false b g = refl
+
+step :
+    (n w a d free b : Bool) → (a ≡ true → d ≡ true) → (free ≡ true → b ≡ true) →
+    cond n false (cond w (a || free) false) ≡ true → cond d (cond n false w) b ≡ true
+step true w a d free b every s e = cc
+step false false a d free b every s e = cc
+step false true true d free b every s e = ap (λ v. cond v true b) (every refl)
+step false true false true free b every s e = refl
+step false true false false free b every s e = s e
+
+says :
+    (d : Grant → Bool) → ((g : Grant) → is_all g.atom ≡ true → d g ≡ true) → (gs : List Grant) (free b : Bool) → (free ≡ true → b ≡ true) →
+    fold after_free free gs ≡ true → free_last (last_that d gs) b ≡ true
+says d every [] free b s e = s e
+says d every (g ∷ gs) free b s e =
+    sym (one_more (last_that d gs) (d g) b g)
+    ∙ says d every gs (after_free free g) (cond (d g) (freely g) b)
+    (step g.negated (nopasswd g.tags) (is_all g.atom) (d g) free b (every g) s) e
+
+pub free_needs_none : FreeNeedsNoPassword
+free_needs_none p q e c x =
+    ap freely_allowed (target_decides p q c x) ∙ verdict_freely (last_that (fitting c x) (target_rows p q))
+    ∙ says (fitting c x) (λ g. all_matches c x g.atom) (target_rows p q) false false (λ h. h) e

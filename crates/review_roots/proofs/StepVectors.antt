@@ -1,0 +1,154 @@
+-- Worked examples of steps and chains, each by computation.
+use Rattle.std.proofs.Common.{◌≡◌, ℕ, true, false, List, [], ◌∷◌, map, Option, Some, None, refl}
+use Rattle.std.specs.Prelude.{codes}
+use Rattle.sudo_text.specs.declared.token.Mark.TheVariants.{Bang}
+use Rattle.sudo_text.specs.declared.token.TokenKind.TheVariants as token
+use Rattle.sudo_text.specs.declared.token.Ch.{Ch}
+use Rattle.sudo_grammar.specs.declared.kind.Atom.{Atom}
+use Rattle.sudo_grammar.specs.declared.kind.Atom.TheVariants as atom
+use Rattle.sudo_grammar.specs.declared.kind.Member.{Member}
+use Rattle.sudo_grammar.specs.declared.tag.Tag.{Tag}
+use Rattle.sudo_grammar.specs.declared.tag.TagPair.TheVariants as pair
+use Rattle.sudo_grammar.specs.declared.policy.Runas.{Runas}
+use Rattle.sudo_grammar.specs.declared.policy.CommandSpec.{CommandSpec}
+use Rattle.sudo_grammar.specs.declared.policy.Entry.{Entry}
+use Rattle.sudo_grammar.specs.declared.policy.EntryBody.TheVariants.{Rule}
+use Rattle.sudo_grammar.specs.declared.policy.Policy.{Policy}
+use Rattle.sudo_match.specs.declared.people.Group.{Group}
+use Rattle.sudo_match.specs.declared.people.Machine.{Machine}
+use Rattle.sudo_match.specs.KnownRows.{KnownRows, user_named}
+use Rattle.sudo_match.specs.Matching.{user_fits, group_fits, host_fits}
+use Rattle.sudo_policy.specs.Following.{reading_within}
+use Rattle.sudo_policy.specs.Written.{written_form}
+use Rattle.sudo_verdict.specs.Tagged.{tags_named, tags_before, tags_at, runas_before, runas_at}
+use Rattle.sudo_verdict.specs.Values.{value}
+use Rattle.sudo_verdict.specs.RunasForms.{form_allows, runas_allows}
+use Rattle.sudo_verdict.specs.Grants.{place_grants, section_grants, grants}
+use Rattle.review_roots.specs.declared.level.Level.{Level}
+use Rattle.review_roots.specs.declared.level.Level.TheVariants as level
+use Rattle.review_roots.specs.declared.state.State.{State}
+use Rattle.review_roots.specs.declared.way.Password.TheVariants as password
+use Rattle.review_roots.specs.KnownGroups.{known_groups}
+use Rattle.review_roots.specs.States.{all_states, state_with, step_given}
+use Rattle.review_roots.specs.Ways.{worse, step_password}
+
+-- ---- Users root, ben and eve, a group adm, a host
+
+abbrev group : List ℕ → ℕ → Group
+group name gid = record { name = name; gid = gid }
+
+abbrev adm : Group
+adm = group (codes "adm") 4
+
+abbrev known : KnownRows
+known = record {
+  people =
+      record { name = codes "root"; uid = 0; groups = group (codes "root") 0 ∷ [] }
+      ∷ record { name = codes "ben"; uid = 1000; groups = group (codes "ben") 1000 ∷ [] }
+      ∷ record { name = codes "eve"; uid = 1001; groups = adm ∷ group (codes "ben") 1000 ∷ [] }
+      ∷ [];
+  machines = [];
+}
+
+abbrev web : Machine
+web = record { name = codes "web1"; interfaces = [] }
+
+-- each group once
+groups_known : known_groups known ≡ group (codes "root") 0 ∷ group (codes "ben") 1000 ∷ adm ∷ []
+groups_known = refl
+
+abbrev root : State
+root = state_with None 0
+
+abbrev ben : State
+ben = state_with None 1
+
+abbrev ben_with_adm : State
+ben_with_adm = state_with (Some 2) 1
+
+abbrev eve : State
+eve = state_with None 2
+
+states_of_two : all_states 2 1 ≡ state_with None 0 ∷ state_with None 1 ∷ state_with (Some 0) 0 ∷ state_with (Some 0) 1 ∷ []
+states_of_two = refl
+
+-- ---- Policies
+
+abbrev with_bangs : ℕ → Atom → Member
+with_bangs n a = record { bangs = n; token = record { kind = token.Mark Bang; start = 0; «end» = 0 }; atom = a }
+
+abbrev everything : Member
+everything = with_bangs 0 atom.All
+
+abbrev named : List ℕ → Member
+named n = with_bangs 0 (atom.Name n)
+
+abbrev of_group : List ℕ → Member
+of_group n = with_bangs 0 (atom.Group n)
+
+abbrev spelled : List ℕ → List Ch
+spelled bytes = map (λ b. record { byte = b; escaped = false }) bytes
+
+abbrev command : ℕ → List ℕ → Member
+command bangs p = with_bangs bangs (atom.Command (spelled p) None)
+
+abbrev spec : Option Runas → List Tag → Member → CommandSpec
+spec r tags c = record { runas = r; tags = tags; command = c }
+
+abbrev as_users : List Member → Option Runas
+as_users users = Some (record { users = Some users; groups = None })
+
+abbrev as_groups : List Member → Option Runas
+as_groups groups = Some (record { users = None; groups = Some groups })
+
+abbrev rule : ℕ → Member → List CommandSpec → Entry
+rule n user commands = record {
+  place = record { file = 0; line = n };
+  body = Rule (user ∷ []) (record { hosts = everything ∷ []; commands = commands } ∷ []);
+}
+
+-- ben ALL = (:adm) /bin/ls
+-- %adm ALL = (ALL) NOPASSWD: ALL, PASSWD: !/bin/su
+-- eve ALL = (ben) ALL
+abbrev policy : Policy
+policy = record {
+  files = [] ∷ [];
+  entries =
+      rule 1 (named (codes "ben")) (spec (as_groups (named (codes "adm") ∷ [])) [] (command 0 (codes "/bin/ls")) ∷ [])
+      ∷ rule 2 (of_group (codes "adm"))
+      (spec (as_users (everything ∷ [])) (record { pair = pair.Passwd; on = false } ∷ []) everything
+      ∷ spec None (record { pair = pair.Passwd; on = true } ∷ []) (command 1 (codes "/bin/su")) ∷ [])
+      ∷ rule 3 (named (codes "eve")) (spec (as_users (named (codes "ben") ∷ [])) [] everything ∷ [])
+      ∷ [];
+  placed = refl;
+  unfolded = refl;
+}
+
+abbrev level_between : State → State → Level
+level_between s t = (step_given policy known web (known_groups known) s t).level
+
+-- ben reaches root with the group adm alone, which ben may add; eve has it
+steps_between :
+    (level_between ben root ≡ level.None)
+    × (level_between ben ben_with_adm ≡ level.Listed)
+    × (level_between ben_with_adm root ≡ level.AllBut)
+    × (level_between eve root ≡ level.AllBut)
+    × (level_between eve ben ≡ level.All)
+    × (level_between root ben ≡ level.None)
+unfolding reading_within written_form user_named user_fits group_fits host_fits tags_named
+    tags_before tags_at runas_before runas_at value form_allows runas_allows place_grants section_grants grants
+steps_between = (refl, refl, refl, refl, refl, refl)
+
+-- ---- Passwords: the worst of a chain's steps, which begin with user 1
+
+no_password : worse (step_password true 1 ben) (step_password true 1 eve) ≡ password.None
+no_password = refl
+
+own_password : worse (step_password false 1 ben) (step_password true 1 eve) ≡ password.Own
+own_password = refl
+
+own_password_twice : worse (step_password false 1 ben) (step_password false 1 ben_with_adm) ≡ password.Own
+own_password_twice = refl
+
+other_password : worse (step_password false 1 ben) (step_password false 1 eve) ≡ password.Other
+other_password = refl

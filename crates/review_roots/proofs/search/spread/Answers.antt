@@ -1,0 +1,61 @@
+use Rattle.std.proofs.Common.{◌≡◌, ◌<◌, ◌∙◌, Bor, List, Some, ap, arith, length, map, subst, sym}
+use Rattle.std.specs.Prelude.{All, slice_get}
+use Rattle.std.proofs.lemmas.List.{length-map}
+use Rattle.review_roots.specs.declared.candidate.Candidate.{Candidate}
+use Rattle.review_roots.specs.Candidates.{IsCandidate, steps_of}
+use Rattle.review_roots.specs.Found.{IsDrawn, IsSearch, states_of}
+use Rattle.review_roots.proofs.DrawLemmas.{spread-search, spread-drawn, spread-candidates, spread-length}
+use Rattle.review_roots.proofs.LoopLemmas.{there}
+use Rattle.review_roots.proofs.SearchLemmas.{none-left}
+use Rattle.review_roots.proofs.search.spread.Goals as goal
+
+pub loop-index-preserved : goal.loop-index-preserved
+loop-index-preserved c =
+    let h = c.args.steps.now in
+    let g = steps_of h c.args.sought in
+    let n = c.loop-index.index in
+    let t = c.index.result.now in
+    let found = c.loop-index.found.items in
+    let new = c.draw.new.found.items in
+    let cs : List Candidate = map (λ c. c.now) c.deref.result.now in
+    let kept : List Candidate = map (λ c. c.now) c.in_ok-left.left.items in
+    let less : n < length found = omega (arith, c.loop-index-test.true, c.len.ensures) in
+    let at : slice_get found n ≡ Some t = there found n t less ∙ ap Some (sym c.index.ensures) in
+    let same = sym c.deref.ensures.value in
+    let search = subst (λ (xs : List (Bor Candidate)). IsSearch g c.args.level found (states_of (map (λ c. c.now) xs))) same
+    c.loop-index.invariant.search in
+    let drawn = subst (λ (xs : List (Bor Candidate)). IsDrawn g c.args.level n found (states_of (map (λ c. c.now) xs))) same
+    c.loop-index.invariant.drawn in
+    let candidates = subst (λ (xs : List (Bor Candidate)). All (IsCandidate h) (map (λ c. c.now) xs)) same
+    c.loop-index.invariant.candidates in
+    record {
+      candidates = spread-candidates h c.args.sought c.args.level n t found new cs kept at c.in_ok-left.ensures.found
+          c.in_ok-left.ensures.kept candidates;
+      search = spread-search h c.args.sought c.args.level n t found new cs kept at c.in_ok-left.ensures.found c.in_ok-left.ensures.kept
+          search;
+      drawn = spread-drawn h c.args.sought c.args.level n t found new cs kept at c.in_ok-left.ensures.found c.in_ok-left.ensures.kept
+          search drawn;
+    }
+
+pub loop-index-smaller : goal.loop-index-smaller
+loop-index-smaller c =
+    let h = c.args.steps.now in
+    let n = c.loop-index.index in
+    let t = c.index.result.now in
+    let found = c.loop-index.found.items in
+    let cs : List Candidate = map (λ c. c.now) c.deref.result.now in
+    let kept : List Candidate = map (λ c. c.now) c.in_ok-left.left.items in
+    let less : n < length found = omega (arith, c.loop-index-test.true, c.len.ensures) in
+    let at : slice_get found n ≡ Some t = there found n t less ∙ ap Some (sym c.index.ensures) in
+    let sum = spread-length h c.args.sought c.args.level n t found c.draw.new.found.items cs kept at c.in_ok-left.ensures.found
+    c.in_ok-left.ensures.kept in
+    let k : length kept ≡ length c.in_ok-left.left.items = length-map c.in_ok-left.left.items (λ c. c.now) in
+    let l : length cs ≡ length c.deref.result.now = length-map c.deref.result.now (λ c. c.now) in
+    let m : length c.deref.result.now ≡ length c.loop-index.left.items = ap length c.deref.ensures.value in
+    omega (arith, less, sum, k, l, m)
+
+pub returns-clause-done : goal.returns-clause-done
+returns-clause-done c =
+    none-left (steps_of c.args.steps.now c.args.sought) c.args.level c.loop-index.found.items
+    (states_of (map (λ c. c.now) c.loop-index.left.items))
+    c.loop-index.invariant.search c.loop-index.index (omega (arith, c.loop-index-test.false, c.len.ensures)) c.loop-index.invariant.drawn

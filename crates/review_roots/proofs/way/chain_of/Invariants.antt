@@ -1,0 +1,17 @@
+use Rattle.std.proofs.Common.{◌<◌, length}
+use Rattle.std.specs.Prelude.{All}
+use Rattle.std.specs.List.{Contains}
+use Rattle.review_roots.specs.Found.{found_states}
+use Rattle.review_roots.proofs.WayLemmas.{LeadsSoFar}
+use Rattle.review_roots.proofs.way.chain_of.Given as goal
+
+abbrev pub invariant-loop-at : goal.invariant-loop-at
+invariant-loop-at l = record {
+  inside : l.at < length l.found;
+  so_far : LeadsSoFar l.found l.index l.at l.chain.items;
+  within : All (Contains (found_states l.found)) l.chain.items;
+}
+
+-- each step leads further back
+abbrev pub decreases-loop-at : goal.decreases-loop-at
+decreases-loop-at l = l.at

@@ -1,0 +1,131 @@
+-- The states that are found to lead to a target, and what is known of those that are left.
+use Rattle.std.specs.Prelude.{◌≡◌, ◌<◌, ◌⊎◌, ◌&&◌, ◌==◌, ℕ, Bool, true, false, not, is_some, List, All, map, slice_get, Option, Some, None}
+use Rattle.std.specs.List.{Contains}
+use Rattle.review_roots.specs.declared.level.Level.{Level}
+use Rattle.review_roots.specs.declared.level.Level.TheVariants as level
+use Rattle.review_roots.specs.declared.host.HostSteps.{HostSteps}
+use Rattle.review_roots.specs.declared.candidate.Candidate.{Candidate}
+use Rattle.review_roots.specs.declared.search.Aim.{Aim}
+use Rattle.review_roots.specs.declared.search.Chains.{Chains}
+use Rattle.review_roots.specs.declared.search.Found.{Found}
+use Rattle.review_roots.specs.declared.search.Sought.{Sought}
+use Rattle.review_roots.specs.declared.state.State.{State}
+use Rattle.review_roots.specs.Candidates.{IsCandidate, any_steps, free_steps, steps_of}
+use Rattle.review_roots.specs.Chains.{Steps, HasPath, HasNoPath}
+use Rattle.review_roots.specs.Ranks.{rank, is_at_least}
+use Rattle.review_roots.specs.States.{level_for, step_given}
+
+-- the found state leads to the goal by a chain of its level, and by none of a better level
+pub record IsFound (g : Steps State) (f : Found) : Type 0 where
+  pub inside : Contains g.states f.state
+  pub path : HasPath g f.level f.state
+  pub best : (l : Level) → HasPath g l f.state → is_at_least l f.level ≡ true
+
+-- the first step of a found state: none if it is at the goal; otherwise one of its level to a state that was found before
+-- with that level or a better one
+pub record IsStep (g : Steps State) (found : List Found) (i : ℕ) (f : Found) (next : ℕ) (t : Found) : Type 0 where
+  pub there : slice_get found next ≡ Some t
+  pub before : next < i
+  pub step : is_at_least f.level (g.level f.state t.state) ≡ true
+  pub level : is_at_least f.level t.level ≡ true
+
+abbrev pub IsLinked : Steps State → List Found → ℕ → Found → Option ℕ → Type 0
+IsLinked g found i f None = g.goal f.state ≡ true
+IsLinked g found i f (Some next) = (t : Found) × IsStep g found i f next t
+
+abbrev pub AreLinked : Steps State → List Found → Type 0
+AreLinked g found = (i : ℕ) (f : Found) → slice_get found i ≡ Some f → IsLinked g found i f f.next
+
+-- each found state's first step leads to one that was found before
+abbrev pub PointBack : List Found → Type 0
+PointBack found = (i next : ℕ) (f : Found) → slice_get found i ≡ Some f → f.next ≡ Some next → next < i
+
+abbrev pub found_states : List Found → List State
+found_states found = map (λ f. f.state) found
+
+-- whoever is not found has no chain of the level
+abbrev pub IsComplete : Steps State → Level → List Found → Type 0
+IsComplete g l found = (s : State) → Contains g.states s → Contains (found_states found) s ⊎ HasNoPath g l s
+
+-- the states that lead to the goal by chains of the level or a better one
+pub record AreFound (g : Steps State) (l : Level) (found : List Found) : Type 0 where
+  pub right : All (IsFound g) found
+  pub linked : AreLinked g found
+  pub levels : All (λ f. is_at_least l f.level ≡ true) found
+  pub complete : IsComplete g l found
+
+-- the first steps of both lists lead back
+pub record AreChains (c : Chains) : Type 0 where
+  pub any : PointBack c.any.items
+  pub free : PointBack c.free.items
+
+-- the chains to a target, by any steps, and by steps that ask for no password
+pub record ChainsLead (h : HostSteps) (target : ℕ) (l : Level) (c : Chains) : Type 0 where
+  pub level : is_at_least level.Listed l ≡ true
+  pub any : AreFound (any_steps h target) l c.any.items
+  pub free : AreFound (free_steps h target) l c.free.items
+
+-- the user without an added group
+abbrev pub is_start : ℕ → State → Bool
+is_start user s = (s.user == user) && not (is_some s.added)
+
+-- the found state at the index is that of the user without an added group; without an index there is none
+abbrev pub IsFoundAt : List Found → ℕ → Option ℕ → Type 0
+IsFoundAt found user None = All (λ f. is_start user f.state ≡ false) found
+IsFoundAt found user (Some i) = (f : Found) × ((slice_get found i ≡ Some f) × (is_start user f.state ≡ true))
+
+-- the same of a found state with the level or a better one; without an index, one without an added group has a worse level
+abbrev pub IsFreeAt : List Found → ℕ → Level → Option ℕ → Type 0
+IsFreeAt found user l None =
+    All (λ f. is_start user f.state ≡ false) found
+    ⊎ ((i : ℕ) × ((f : Found) × ((slice_get found i ≡ Some f) × ((is_start user f.state ≡ true) × (is_at_least l f.level ≡ false)))))
+IsFreeAt found user l (Some i) =
+    (f : Found) × ((slice_get found i ≡ Some f) × ((is_start user f.state ≡ true) × (is_at_least l f.level ≡ true)))
+
+-- ---- While a search goes on: what is found, and the states that are left
+
+-- no chain of a level other than none leads from the state to the goal
+abbrev pub IsStuck : Steps State → State → Type 0
+IsStuck g s = (l : Level) → is_at_least level.Listed l ≡ true → HasNoPath g l s
+
+abbrev pub HaveNoPath : Steps State → Level → List State → Type 0
+HaveNoPath g l left = All (HasNoPath g l) left
+
+pub record IsSearch (g : Steps State) (l : Level) (found : List Found) (left : List State) : Type 0 where
+  pub level : is_at_least level.Listed l ≡ true
+  pub right : All (IsFound g) found
+  pub linked : AreLinked g found
+  pub levels : All (λ f. is_at_least l f.level ≡ true) found
+  pub covered : (s : State) → Contains g.states s → Contains (found_states found) s ⊎ (Contains left s ⊎ IsStuck g s)
+  pub inside : All (Contains g.states) left
+  pub away : All (λ s. g.goal s ≡ false) left
+  pub above : All (λ s. (m : Level) → rank l < rank m → HasNoPath g m s) left
+
+-- no step of the level leads from a state that is left to one of the first n found
+abbrev pub IsDrawn : Steps State → Level → ℕ → List Found → List State → Type 0
+IsDrawn g l n found left =
+    All (λ s. (k : ℕ) (f : Found) → k < n → slice_get found k ≡ Some f → is_at_least l (g.level s f.state) ≡ false) left
+
+abbrev pub states_of : List Candidate → List State
+states_of cs = map (λ c. c.state) cs
+
+-- the step of the candidate to the aim has its level or a better one
+abbrev pub reaches : HostSteps → Aim → Candidate → Bool
+reaches h aim c =
+    is_at_least aim.level (level_for aim.free (step_given h.checked.now h.directory.now h.host.now h.groups.now c.state aim.state))
+
+abbrev pub found_by : Aim → Candidate → Found
+found_by aim c = record { state = c.state; level = aim.level; next = Some aim.index }
+
+-- the state is not at the goal, and no step leads from it
+abbrev pub IsIdle : Steps State → State → Type 0
+IsIdle g s = (g.goal s ≡ false) × ((t : State) → g.level s t ≡ level.None)
+
+-- what the search begins with, among the first states: those at the goal, and those that are left
+pub record IsStartOf (h : HostSteps) (q : Sought) (states : List State) (found : List Found) (left : List Candidate) : Type 0 where
+  pub goals : All (λ f. (f.level ≡ level.All) × ((f.next ≡ None) × ((steps_of h q).goal f.state ≡ true))) found
+  pub found_inside : All (λ f. Contains states f.state) found
+  pub candidates : All (IsCandidate h) left
+  pub inside : All (λ c. Contains states c.state) left
+  pub away : All (λ c. (steps_of h q).goal c.state ≡ false) left
+  pub covered : All (λ s. Contains (found_states found) s ⊎ (Contains (states_of left) s ⊎ IsIdle (steps_of h q) s)) states

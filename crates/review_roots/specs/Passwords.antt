@@ -1,0 +1,37 @@
+-- When every command is allowed without a password: NOPASSWD ALL stands, and no row behind it is denied or lacks NOPASSWD.
+-- sudoers(5), "Tag_Spec", NOPASSWD and PASSWD.
+use Rattle.std.specs.Prelude.{◌≡◌, ℕ, Bool, true, false, ◌||◌, if◌then◌else◌, List, Option, Some, None, fold, get_or}
+use Rattle.sudo_grammar.specs.declared.policy.Policy.{Policy}
+use Rattle.sudo_match.specs.declared.request.Tags.{Tags}
+use Rattle.sudo_match.specs.declared.request.Verdict.{Verdict}
+use Rattle.sudo_match.specs.declared.request.Verdict.TheVariants.{Allow}
+use Rattle.sudo_verdict.specs.Values.{is_all}
+use Rattle.sudo_verdict.specs.Questions.{Question}
+use Rattle.sudo_verdict.specs.Grants.{Grant}
+use Rattle.sudo_verdict.specs.Verdicts.{verdict_on}
+use Rattle.review_roots.specs.Levels.{target_rows, with_command}
+
+abbrev pub is_off : Option Bool → Bool
+is_off (Some false) = true
+is_off _ = false
+
+-- the tag NOPASSWD: the pair PASSWD has place 6 among the pairs
+abbrev pub nopasswd : Tags → Bool
+nopasswd t = is_off (get_or t.choices 6 None)
+
+-- after a row: whether every command is allowed without a password
+abbrev pub after_free : Bool → Grant → Bool
+after_free free g = if g.negated then false else (if nopasswd g.tags then is_all g.atom || free else false)
+
+abbrev pub is_free : List Grant → Bool
+is_free gs = fold after_free false gs
+
+-- the verdict allows without a password, as far as tags say
+abbrev pub freely_allowed : Verdict → Bool
+freely_allowed (Allow place tags) = nopasswd tags
+freely_allowed _ = false
+
+abbrev pub FreeNeedsNoPassword : Type 0
+FreeNeedsNoPassword =
+    (p : Policy) (q : Question) → is_free (target_rows p q) ≡ true →
+    (command arguments : List ℕ) → freely_allowed (verdict_on p (with_command q command arguments)) ≡ true

@@ -1,0 +1,67 @@
+-- A chain of steps to a target: its level, the row that allows its first step, and whose passwords it asks for.
+-- sudo(8), sudoers(5), "Tag_Spec": a password is asked unless NOPASSWD is in force.
+use Rattle.std.specs.Prelude.{◌≡◌, ◌⊎◌, ℕ, Bool, true, ◌==◌, if◌then◌else◌, List, [], ◌∷◌, All, Option, None, codes}
+use Rattle.std.specs.List.{Contains}
+use Rattle.review_roots.specs.declared.given.AllowingRow.{AllowingRow}
+use Rattle.review_roots.specs.declared.given.Given.{Given}
+use Rattle.review_roots.specs.declared.host.HostSteps.{HostSteps}
+use Rattle.review_roots.specs.declared.level.Level.{Level}
+use Rattle.review_roots.specs.declared.search.Sought.{Sought}
+use Rattle.review_roots.specs.declared.state.State.{State}
+use Rattle.review_roots.specs.declared.way.Password.{Password}
+use Rattle.review_roots.specs.declared.way.Password.TheVariants as password
+use Rattle.review_roots.specs.declared.way.Way.{Way}
+use Rattle.review_roots.specs.Candidates.{any_steps, free_steps, steps_of}
+use Rattle.review_roots.specs.Chains.{HasNoPath, HasPath, LeadsAlong}
+use Rattle.review_roots.specs.Ranks.{is_at_least}
+use Rattle.review_roots.specs.States.{step_given}
+
+abbrev pub password_name : Password → List ℕ
+password_name password.None = codes "none"
+password_name password.Own = codes "own"
+password_name password.Other = codes "other"
+
+-- the worse of the two: another user's password, then one's own
+abbrev pub worse : Password → Password → Password
+worse password.None q = q
+worse password.Own password.Other = password.Other
+worse password.Own _ = password.Own
+worse password.Other q = password.Other
+
+-- whose password a step from a state asks for, in a chain that begins with the user
+abbrev pub step_password : Bool → ℕ → State → Password
+step_password free user from = if free then password.None else (if from.user == user then password.Own else password.Other)
+
+-- what a step on the host gives
+abbrev pub step_on : HostSteps → State → State → Given
+step_on h s t = step_given h.checked.now h.directory.now h.host.now h.groups.now s t
+
+-- whose passwords the steps of a chain from a state ask for: the worst that one of them does
+abbrev pub password_along : HostSteps → ℕ → State → List State → Password
+password_along h user s [] = password.None
+password_along h user s (t ∷ ts) = worse (step_password (step_on h s t).free user s) (password_along h user t ts)
+
+-- the last row that allows the first step of a chain
+abbrev pub first_row : HostSteps → State → List State → Option AllowingRow
+first_row h s [] = None
+first_row h s (t ∷ ts) = (step_on h s t).by
+
+-- of the steps that are sought, the chain leads from the state to the target through states, with its level, which no chain
+-- betters and which is the least asked for or a better one; the row allows the first step, and the password is the chain's
+pub record IsChain (h : HostSteps) (q : Sought) (least : Level) (s : State) (w : Way) : Type 0 where
+  pub inside : All (Contains (steps_of h q).states) w.chain.items
+  pub leads : LeadsAlong (steps_of h q) w.level s w.chain.items
+  pub best : (l : Level) → HasPath (steps_of h q) l s → is_at_least l w.level ≡ true
+  pub enough : is_at_least least w.level ≡ true
+  pub by : w.by ≡ first_row h s w.chain.items
+  pub password : w.password ≡ password_along h s.user s w.chain.items
+
+-- the same of all steps; and where the chain asks for a password, no chain of its level, however long, asks for none
+pub record IsWay (h : HostSteps) (target : ℕ) (least : Level) (s : State) (w : Way) : Type 0 where
+  pub inside : All (Contains (any_steps h target).states) w.chain.items
+  pub leads : LeadsAlong (any_steps h target) w.level s w.chain.items
+  pub best : (l : Level) → HasPath (any_steps h target) l s → is_at_least l w.level ≡ true
+  pub enough : is_at_least least w.level ≡ true
+  pub by : w.by ≡ first_row h s w.chain.items
+  pub free : (w.password ≡ password.None) ⊎ HasNoPath (free_steps h target) w.level s
+  pub password : w.password ≡ password_along h s.user s w.chain.items

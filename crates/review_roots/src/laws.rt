@@ -1,0 +1,34 @@
+//! The laws of levels, of chains, and of groups that may be added. The functions have no effect: each contract is a law.
+ghost use Rattle.std.specs.Prelude.{◌≡◌, Some, slice_get};
+ghost use Rattle.sudo_grammar.specs.Tags.{pairs};
+ghost use Rattle.sudo_grammar.specs.declared.tag.TagPair.TheVariants.{Passwd};
+ghost use Rattle.review_roots.specs.Levels.{AllAllowsAll, NoneAllowsNone};
+ghost use Rattle.review_roots.specs.Passwords.{FreeNeedsNoPassword};
+ghost use Rattle.review_roots.specs.Chains.{ChainsArePaths};
+ghost use Rattle.review_roots.specs.KnownGroups.{OtherGroupsChangeNoList};
+
+/// Where the level of the rows for a target is `All`, every command is allowed, with any arguments.
+pub fn all_allows_all()
+    ensures { AllAllowsAll }
+{}
+
+/// Where the level of the rows for a target is `None`, no command is allowed, with any arguments.
+pub fn none_allows_none()
+    ensures { NoneAllowsNone }
+{}
+
+/// Where the rows for a target are free of passwords, every command is allowed with the tag NOPASSWD.
+pub fn free_needs_no_password()
+    ensures place { slice_get pairs 6 ≡ Some Passwd }
+    ensures free { FreeNeedsNoPassword }
+{}
+
+/// A user with a further group that the user list of no rule names is allowed by those lists that allow it without.
+pub fn other_groups_change_no_list()
+    ensures { OtherGroupsChangeNoList }
+{}
+
+/// A chain of steps from a state through states to the goal is a path of as many steps.
+pub fn chains_are_paths<S>()
+    ensures { ChainsArePaths S }
+{}

@@ -1,0 +1,29 @@
+//! Who can become root on a host, and by which chain of steps: what each user may run as another, with which level and
+//! with whose password.
+//!
+//! sudoers(5), "User Specification", "Runas_Spec", "Tag_Spec"; sudo(8), options -u and -g.
+#![tactic(auto)]
+
+mod block;
+mod candidate;
+mod given;
+mod groups;
+mod host;
+mod laws;
+mod level;
+mod roots;
+mod search;
+mod state;
+mod way;
+
+pub use given::{AllowingRow, Given};
+pub use groups::{known_groups, named_groups};
+pub use host::HostSteps;
+pub use laws::{
+    all_allows_all, chains_are_paths, free_needs_no_password, none_allows_none,
+    other_groups_change_no_list,
+};
+pub use level::Level;
+pub use roots::{Root, roots_on};
+pub use state::State;
+pub use way::{Password, Way};

@@ -1,0 +1,136 @@
+//! Who can become a target on a host.
+ghost use Rattle.std.specs.Prelude.{◌≡◌, ◌<◌, IfOk, IsTrue, MatchOption, Some, None, length};
+ghost use Rattle.review_roots.specs.States.{state_with};
+ghost use Rattle.review_roots.specs.Ways.{IsWay};
+ghost use Rattle.review_roots.specs.Found.{AreChains, ChainsLead, IsFoundAt, IsFreeAt, is_start};
+ghost use Rattle.review_roots.specs.Ranks.{is_at_least};
+ghost use Rattle.review_roots.specs.Roots.{AreRoots, IsRootAt, IsNoRoot, has_zero};
+ghost use Rattle.review_roots.specs.declared.level.Level.{Level as TheLevel};
+ghost use Rattle.review_roots.specs.declared.level.Level.TheVariants as level;
+
+use crate::Level;
+use crate::host::HostSteps;
+use crate::search::{Chains, Found, search};
+use crate::state::State;
+use crate::way::{Way, way_of};
+use std::alloc::{AllocError, Global};
+
+/// A user that can become the target: by a chain of steps; or, without one, since it is the target, or has ID 0.
+#[derive(Debug, Drop)]
+pub struct Root {
+    /// The index of the user among the known ones.
+    pub user: usize,
+    pub way: Option<Way>,
+}
+
+// Whether the state is the user without an added group.
+fn is_start(state: State, user: usize) -> bool
+    ensures { result ≡ is_start user state }
+{
+    state.user == user && state.added.is_none()
+}
+
+// Returns the index of the user without an added group among the found states, or `None` if it is not found.
+fn found_index(found: &[Found], user: usize) -> Option<usize>
+    ensures { IsFoundAt found.now user result }
+{
+    for index in 0..found.len() {
+        if is_start(found[index].state, user) {
+            return Some(index);
+        }
+    }
+    None
+}
+
+// Whether the user has ID 0.
+fn has_zero(steps: &HostSteps<'_>, user: usize) -> bool
+    ensures { result ≡ has_zero steps.now user }
+{
+    match steps.directory.people().get(user) {
+        Some(person) => person.uid == 0,
+        None => false,
+    }
+}
+
+// Returns the index of the user among the states that chains without passwords lead from, if one of them has the level or a
+// better one.
+fn free_index(chains: &Chains, user: usize, level: Level) -> Option<usize>
+    ensures { IsFreeAt chains.now.free.items user level result }
+{
+    let index = found_index(&chains.free, user)?;
+    if chains.free[index].level.is_at_least(level) {
+        Some(index)
+    } else {
+        None
+    }
+}
+
+// Returns the chain of a found state that is the user without an added group: one without passwords, if one has its level.
+fn best_way(
+    alloc: Global,
+    steps: &HostSteps<'_>,
+    target: usize,
+    chains: &Chains,
+    user: usize,
+    index: usize,
+) -> Result<Way, AllocError>
+    requires chains { AreChains chains.now }
+    requires start { IsFoundAt chains.now.any.items user (Some index) }
+    ensures { IfOk result (λ way. (least : TheLevel) → ChainsLead steps.now target least chains.now
+        → IsWay steps.now target least (state_with None user) way) }
+{
+    match free_index(chains, user, chains.any[index].level) {
+        Some(index) => way_of(alloc, steps, &chains.free, index),
+        None => way_of(alloc, steps, &chains.any, index),
+    }
+}
+
+// Returns the user if it can become the target, and `None` if it cannot.
+fn root_of(
+    alloc: Global,
+    steps: &HostSteps<'_>,
+    target: usize,
+    chains: &Chains,
+    user: usize,
+) -> Result<Option<Root>, AllocError>
+    requires { AreChains chains.now }
+    ensures { IfOk result (λ root. (least : TheLevel)
+        → ChainsLead steps.now target least chains.now
+        → user < length steps.now.directory.now.people
+        → MatchOption root (IsNoRoot steps.now target least user)
+        (IsRootAt steps.now target least user)) }
+{
+    if user == target || has_zero(steps, user) {
+        return Ok(Some(Root { user, way: None }));
+    }
+    match found_index(&chains.any, user) {
+        None => Ok(None),
+        Some(index) => Ok(Some(Root {
+            user,
+            way: Some(best_way(alloc, steps, target, chains, user, index)?),
+        })),
+    }
+}
+
+/// Returns the users that can become the target on the host, in the order of the directory: those for whom a chain of steps
+/// of the least level, or a better one, leads to it, the target itself, and all with ID 0.
+///
+/// Returns `AllocError` if allocation fails.
+pub fn roots_on(
+    alloc: Global,
+    steps: &HostSteps<'_>,
+    target: usize,
+    least: Level,
+) -> Result<Vec<Root>, AllocError>
+    requires { IsTrue (is_at_least level.Listed least) }
+    ensures { IfOk result (λ roots. AreRoots steps.now target least roots.items) }
+{
+    let chains = search(alloc, steps, target, least)?;
+    let mut roots = Vec::new(alloc);
+    for user in 0..steps.directory.people().len() {
+        if let Some(root) = root_of(alloc, steps, target, &chains, user)? {
+            roots.push(root)?;
+        }
+    }
+    Ok(roots)
+}
