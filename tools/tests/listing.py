@@ -298,9 +298,13 @@ class Draw:
                 of[f"A{number}"] = self.members(kind)
         self.policy = Policy(self.aliases, self.lines())
 
+    def words(self, kind: str) -> list[str]:
+        """Returns the words that lists are drawn from, apart from aliases."""
+        return [*FITS[kind]]
+
     def members(self, kind: str, most: int = 3) -> Members:
         """Draws a list."""
-        words = [*FITS[kind], "ALL", *self.aliases[kind], *self.aliases[kind]]
+        words = [*self.words(kind), "ALL", *self.aliases[kind], *self.aliases[kind]]
         count = self.random.randint(1, most)
         return [Member(self.random.choices((0, 1, 2), (14, 5, 1))[0], self.random.choice(words)) for _ in range(count)]
 

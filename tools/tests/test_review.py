@@ -10,6 +10,7 @@ import tempfile
 import unittest
 from collections.abc import Iterator
 
+from drawn import NOTICE
 from support import EXAMPLES, PROGRAM, REQUESTS_HEADER, REVIEW, needs_program, needs_review
 from tables import REPORT, Run, Shown, TableCase, files_of, read_table, runs_of
 from test_documents import CODE, lines_of_manual, rows_of, text_of
@@ -20,7 +21,6 @@ CLASSES: dict[str, str] = read_table("cautions")["classes"]
 MARK = re.compile(r"\(`([a-z-]+)`\)$")
 INCLUDED = re.compile(r"^the file `/([^`]+)`")
 INCLUDES = re.compile(r"^( *[@#]include \"?)/")
-NOTICE = re.compile(r"(?:sudo_review: [1-9][0-9]* cautions \(([a-z, -]+)\)\n)?")
 
 
 @needs_review

@@ -1,14 +1,14 @@
 """Verdicts of the program on policies drawn at random, beside those of a second body."""
 
 import os
-import subprocess
 import tomllib
 import unittest
 from collections import Counter
 from unittest import mock
 
 import listing
-from support import PROGRAM, REQUESTS_HEADER, TESTS, Case, needs_program
+from drawn import Drawn
+from support import PROGRAM, TESTS, needs_program
 
 # What the words of the worked rows are for, beside those of policies drawn at random.
 KILLS = {"/bin/kill,", "/usr/bin/lprm,"}
@@ -33,22 +33,10 @@ WORDS = {
 
 
 @needs_program
-class Verdicts(Case):
+class Verdicts(Drawn):
     """Verdicts on policies drawn at random."""
 
-    def report(self, policy: listing.Policy, requests: list[listing.Request]) -> list[str]:
-        """Returns the lines of the program's report."""
-        rows = "".join(f"{number},{','.join(asked)}\n" for number, asked in enumerate(requests, 1))
-        self.write("p", str(policy))
-        self.write("requests", f"{REQUESTS_HEADER}{rows}close,{len(requests)},,,,,\n")
-        words = [PROGRAM, "audit", "p", "--users", "users", "--hosts", "hosts", "s=requests"]
-        done = subprocess.run(words, cwd=self.folder, capture_output=True, text=True, check=False, timeout=60)
-        self.assertEqual((done.returncode, done.stderr), (0, ""))
-        return done.stdout.splitlines()
-
     def test_policies_drawn_at_random(self) -> None:
-        self.write("users", listing.USERS)
-        self.write("hosts", listing.HOSTS)
         seen: Counter[str] = Counter()
         for seed in range(300):
             draw = listing.Draw(seed)
@@ -56,7 +44,7 @@ class Verdicts(Case):
             verdicts = [listing.verdict(draw.policy, asked) for asked in requests]
             wanted = ["sender,number,verdict,line,tags", *(f"s,{number},{it}" for number, it in enumerate(verdicts, 1))]
             with self.subTest(seed=seed, policy=str(draw.policy)):
-                self.assertEqual(self.report(draw.policy, requests), wanted)
+                self.assertEqual(self.report(PROGRAM, "audit", str(draw.policy), requests), wanted)
             seen.update(it.partition(",")[0] for it in verdicts)
         words = {"allow", "deny", "nomatch", "unknown-user", "unknown-host", "unknown-target", "unknown-group"}
         self.assertEqual(set(seen), words)
@@ -65,8 +53,6 @@ class Verdicts(Case):
     def test_worked_rows(self) -> None:
         with open(os.path.join(TESTS, "runs", "worked.toml"), "rb") as file:
             cases = tomllib.load(file)["cases"]
-        self.write("users", listing.USERS)
-        self.write("hosts", listing.HOSTS)
         patches = [mock.patch.dict(listing.FITS[kind], words) for kind, words in WORDS.items()]
         for patch in patches:
             self.enterContext(patch)
@@ -77,7 +63,7 @@ class Verdicts(Case):
                 asked = listing.Request(*row.split(",", 4))
                 with self.subTest(policy_and_row):
                     self.assertEqual(listing.verdict(policy, asked), answer)
-                    self.assertEqual(self.report(policy, [asked])[1:], [f"s,1,{answer}"])
+                    self.assertEqual(self.report(PROGRAM, "audit", str(policy), [asked])[1:], [f"s,1,{answer}"])
 
 
 if __name__ == "__main__":
