@@ -7,3 +7,4 @@ pub mod ListTests
 pub mod EntryTests
 pub mod Parameters
 pub mod Cautions
+pub mod PasswordDefaults

@@ -15,7 +15,9 @@ mod escapes;
 mod joins;
 mod lines;
 mod lists;
+mod passwords;
 
 pub use caution::Caution;
 pub use class::{CAUTION_CLASSES, CautionClass, class_named};
 pub use collecting::cautions;
+pub use passwords::decides_passwords;

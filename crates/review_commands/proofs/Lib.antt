@@ -6,3 +6,4 @@ pub mod RowSteps
 pub mod ListSteps
 pub mod TextSteps
 pub mod TableSteps
+pub mod RootSteps

@@ -5,7 +5,7 @@ use Rattle.std.proofs.lemmas.Grind.{flat_map-append}
 use Rattle.std.proofs.lemmas.List.{drop_more, map-append}
 use lib.Seq.{take-suc}
 
-take-more : {X : Type 0} (xs : List X) (at : ℕ) (x : X) → at < length xs → x ≡ get_or xs at x
+pub take-more : {X : Type 0} (xs : List X) (at : ℕ) (x : X) → at < length xs → x ≡ get_or xs at x
     → take (at + 1) xs ≡ take at xs ++ x ∷ []
 take-more xs at x within is =
     let on : at + 1 ≡ suc at = omega arith in

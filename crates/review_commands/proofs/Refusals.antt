@@ -6,7 +6,7 @@ use Rattle.clap.specs.Words.{Row, Text, all_of, first_of}
 use Rattle.run_base.specs.Arguments.{HasNoWorkers}
 use Rattle.review_cautions.specs.Classes.{class_name}
 use Rattle.review_cautions.specs.declared.class.CautionClass.{CautionClass}
-use Rattle.review_commands.specs.declared.request.Asked.TheVariants.{Cautions, Grants, Report, Rules, Subjects}
+use Rattle.review_commands.specs.declared.request.Asked.TheVariants.{Cautions, Grants, Report, Roots, Rules, Subjects}
 use Rattle.review_commands.specs.Body.Paths.{LackPaths}
 use Rattle.review_commands.specs.Words.{AsksNothing, HavePaths}
 
@@ -23,6 +23,9 @@ report_is_cautions = differ_at 2 (codes "report") (codes "cautions") 112 117 ref
 grants_is_cautions : codes "grants" ≡ codes "cautions" → ⊥
 grants_is_cautions = differ_at 2 (codes "grants") (codes "cautions") 97 117 refl refl (omega arith)
 
+roots_is_cautions : codes "roots" ≡ codes "cautions" → ⊥
+roots_is_cautions = differ_at 2 (codes "roots") (codes "cautions") 111 117 refl refl (omega arith)
+
 subjects_is_cautions : codes "subjects" ≡ codes "cautions" → ⊥
 subjects_is_cautions = differ_at 2 (codes "subjects") (codes "cautions") 98 117 refl refl (omega arith)
 
@@ -32,17 +35,29 @@ rules_is_cautions = differ_at 2 (codes "rules") (codes "cautions") 108 117 refl 
 grants_is_report : codes "grants" ≡ codes "report" → ⊥
 grants_is_report = differ_at 2 (codes "grants") (codes "report") 97 112 refl refl (omega arith)
 
+roots_is_report : codes "roots" ≡ codes "report" → ⊥
+roots_is_report = differ_at 2 (codes "roots") (codes "report") 111 112 refl refl (omega arith)
+
 subjects_is_report : codes "subjects" ≡ codes "report" → ⊥
 subjects_is_report = differ_at 2 (codes "subjects") (codes "report") 98 112 refl refl (omega arith)
 
 rules_is_report : codes "rules" ≡ codes "report" → ⊥
 rules_is_report = differ_at 2 (codes "rules") (codes "report") 108 112 refl refl (omega arith)
 
+grants_is_roots : codes "grants" ≡ codes "roots" → ⊥
+grants_is_roots = differ_at 2 (codes "grants") (codes "roots") 97 111 refl refl (omega arith)
+
 grants_is_subjects : codes "grants" ≡ codes "subjects" → ⊥
 grants_is_subjects = differ_at 2 (codes "grants") (codes "subjects") 97 98 refl refl (omega arith)
 
 grants_is_rules : codes "grants" ≡ codes "rules" → ⊥
 grants_is_rules = differ_at 2 (codes "grants") (codes "rules") 97 108 refl refl (omega arith)
+
+subjects_is_roots : codes "subjects" ≡ codes "roots" → ⊥
+subjects_is_roots = differ_at 2 (codes "subjects") (codes "roots") 98 111 refl refl (omega arith)
+
+rules_is_roots : codes "rules" ≡ codes "roots" → ⊥
+rules_is_roots = differ_at 2 (codes "rules") (codes "roots") 108 111 refl refl (omega arith)
 
 subjects_is_rules : codes "subjects" ≡ codes "rules" → ⊥
 subjects_is_rules = differ_at 2 (codes "subjects") (codes "rules") 98 108 refl refl (omega arith)
@@ -51,17 +66,19 @@ none_there : (o : Option Text) (text : Text) → o ≡ None → o ≡ Some text 
 none_there o text none there = cc
 
 pub no_name : (name : Text) (rows : List Row) → name ≢ codes "cautions" → name ≢ codes "report" → name ≢ codes "grants"
-    → name ≢ codes "subjects" → name ≢ codes "rules" → AsksNothing (name, rows)
-no_name name rows cautions report grants subjects rules (Cautions file without) stated fit = cautions stated.0
-no_name name rows cautions report grants subjects rules (Report file users hosts workers senders) stated fit = report stated.0
-no_name name rows cautions report grants subjects rules (Grants file users hosts user host) stated fit = grants stated.0
-no_name name rows cautions report grants subjects rules (Subjects file users hosts) stated fit = subjects stated.0
-no_name name rows cautions report grants subjects rules (Rules file users hosts workers senders) stated fit = rules stated.0
+    → name ≢ codes "roots" → name ≢ codes "subjects" → name ≢ codes "rules" → AsksNothing (name, rows)
+no_name name rows cautions report grants roots subjects rules (Cautions file without) stated fit = cautions stated.0
+no_name name rows cautions report grants roots subjects rules (Report file users hosts workers senders) stated fit = report stated.0
+no_name name rows cautions report grants roots subjects rules (Grants file users hosts user host) stated fit = grants stated.0
+no_name name rows cautions report grants roots subjects rules (Roots file users hosts all) stated fit = roots stated.0
+no_name name rows cautions report grants roots subjects rules (Subjects file users hosts) stated fit = subjects stated.0
+no_name name rows cautions report grants roots subjects rules (Rules file users hosts workers senders) stated fit = rules stated.0
 
 pub cautions_without_file : (rows : List Row) → first_of (codes "file") rows ≡ None → AsksNothing (codes "cautions", rows)
 cautions_without_file rows none (Cautions file without) stated fit = none_there _ _ none stated.1
 cautions_without_file rows none (Report file users hosts workers senders) stated fit = report_is_cautions (sym stated.0)
 cautions_without_file rows none (Grants file users hosts user host) stated fit = grants_is_cautions (sym stated.0)
+cautions_without_file rows none (Roots file users hosts all) stated fit = roots_is_cautions (sym stated.0)
 cautions_without_file rows none (Subjects file users hosts) stated fit = subjects_is_cautions (sym stated.0)
 cautions_without_file rows none (Rules file users hosts workers senders) stated fit = rules_is_cautions (sym stated.0)
 
@@ -78,6 +95,7 @@ pub report_without_paths : (rows : List Row) → LackPaths rows → AsksNothing 
 report_without_paths rows lack (Cautions file without) stated fit = report_is_cautions stated.0
 report_without_paths rows lack (Report file users hosts workers senders) stated fit = have_or_lack _ _ _ _ lack stated.1
 report_without_paths rows lack (Grants file users hosts user host) stated fit = grants_is_report (sym stated.0)
+report_without_paths rows lack (Roots file users hosts all) stated fit = roots_is_report (sym stated.0)
 report_without_paths rows lack (Subjects file users hosts) stated fit = subjects_is_report (sym stated.0)
 report_without_paths rows lack (Rules file users hosts workers senders) stated fit = rules_is_report (sym stated.0)
 
@@ -85,13 +103,23 @@ pub grants_without_paths : (rows : List Row) → LackPaths rows → AsksNothing 
 grants_without_paths rows lack (Cautions file without) stated fit = grants_is_cautions stated.0
 grants_without_paths rows lack (Report file users hosts workers senders) stated fit = grants_is_report stated.0
 grants_without_paths rows lack (Grants file users hosts user host) stated fit = have_or_lack _ _ _ _ lack stated.1
+grants_without_paths rows lack (Roots file users hosts all) stated fit = grants_is_roots stated.0
 grants_without_paths rows lack (Subjects file users hosts) stated fit = grants_is_subjects stated.0
 grants_without_paths rows lack (Rules file users hosts workers senders) stated fit = grants_is_rules stated.0
+
+pub roots_without_paths : (rows : List Row) → LackPaths rows → AsksNothing (codes "roots", rows)
+roots_without_paths rows lack (Cautions file without) stated fit = roots_is_cautions stated.0
+roots_without_paths rows lack (Report file users hosts workers senders) stated fit = roots_is_report stated.0
+roots_without_paths rows lack (Grants file users hosts user host) stated fit = grants_is_roots (sym stated.0)
+roots_without_paths rows lack (Roots file users hosts all) stated fit = have_or_lack _ _ _ _ lack stated.1
+roots_without_paths rows lack (Subjects file users hosts) stated fit = subjects_is_roots (sym stated.0)
+roots_without_paths rows lack (Rules file users hosts workers senders) stated fit = rules_is_roots (sym stated.0)
 
 pub subjects_without_paths : (rows : List Row) → LackPaths rows → AsksNothing (codes "subjects", rows)
 subjects_without_paths rows lack (Cautions file without) stated fit = subjects_is_cautions stated.0
 subjects_without_paths rows lack (Report file users hosts workers senders) stated fit = subjects_is_report stated.0
 subjects_without_paths rows lack (Grants file users hosts user host) stated fit = grants_is_subjects (sym stated.0)
+subjects_without_paths rows lack (Roots file users hosts all) stated fit = subjects_is_roots stated.0
 subjects_without_paths rows lack (Subjects file users hosts) stated fit = have_or_lack _ _ _ _ lack stated.1
 subjects_without_paths rows lack (Rules file users hosts workers senders) stated fit = subjects_is_rules stated.0
 
@@ -99,6 +127,7 @@ pub rules_without_paths : (rows : List Row) → LackPaths rows → AsksNothing (
 rules_without_paths rows lack (Cautions file without) stated fit = rules_is_cautions stated.0
 rules_without_paths rows lack (Report file users hosts workers senders) stated fit = rules_is_report stated.0
 rules_without_paths rows lack (Grants file users hosts user host) stated fit = grants_is_rules (sym stated.0)
+rules_without_paths rows lack (Roots file users hosts all) stated fit = rules_is_roots stated.0
 rules_without_paths rows lack (Subjects file users hosts) stated fit = subjects_is_rules (sym stated.0)
 rules_without_paths rows lack (Rules file users hosts workers senders) stated fit = have_or_lack _ _ _ _ lack stated.1
 
@@ -106,6 +135,7 @@ pub rules_without_workers : (rows : List Row) → HasNoWorkers rows → AsksNoth
 rules_without_workers rows none (Cautions file without) stated fit = rules_is_cautions stated.0
 rules_without_workers rows none (Report file users hosts workers senders) stated fit = rules_is_report stated.0
 rules_without_workers rows none (Grants file users hosts user host) stated fit = grants_is_rules (sym stated.0)
+rules_without_workers rows none (Roots file users hosts all) stated fit = rules_is_roots stated.0
 rules_without_workers rows none (Subjects file users hosts) stated fit = subjects_is_rules (sym stated.0)
 rules_without_workers rows none (Rules file users hosts workers senders) stated fit = none workers stated.2 fit.0 fit.1
 
@@ -113,6 +143,7 @@ pub report_without_workers : (rows : List Row) → HasNoWorkers rows → AsksNot
 report_without_workers rows none (Cautions file without) stated fit = report_is_cautions stated.0
 report_without_workers rows none (Report file users hosts workers senders) stated fit = none workers stated.2 fit.0 fit.1
 report_without_workers rows none (Grants file users hosts user host) stated fit = grants_is_report (sym stated.0)
+report_without_workers rows none (Roots file users hosts all) stated fit = roots_is_report (sym stated.0)
 report_without_workers rows none (Subjects file users hosts) stated fit = subjects_is_report (sym stated.0)
 report_without_workers rows none (Rules file users hosts workers senders) stated fit = rules_is_report (sym stated.0)
 
@@ -122,6 +153,7 @@ pub cautions_of_bad_class : (rows : List Row) (words : List Text) → unwrap_or 
 cautions_of_bad_class rows words are bad (Cautions file without) stated fit = bad without.items (sym stated.2 ∙ are)
 cautions_of_bad_class rows words are bad (Report file users hosts workers senders) stated fit = report_is_cautions (sym stated.0)
 cautions_of_bad_class rows words are bad (Grants file users hosts user host) stated fit = grants_is_cautions (sym stated.0)
+cautions_of_bad_class rows words are bad (Roots file users hosts all) stated fit = roots_is_cautions (sym stated.0)
 cautions_of_bad_class rows words are bad (Subjects file users hosts) stated fit = subjects_is_cautions (sym stated.0)
 cautions_of_bad_class rows words are bad (Rules file users hosts workers senders) stated fit = rules_is_cautions (sym stated.0)
 

@@ -1,5 +1,5 @@
 -- What the subcommand of the words asks for.
-use Rattle.std.proofs.Common.{◌≡◌, ◌∙◌, sym, List, Option, Some, None, Result, Ok, Err, inl, inr, option_map, refl, subst}
+use Rattle.std.proofs.Common.{◌≡◌, ◌∙◌, ap, Bool, codes, false, sym, true, List, Option, Some, None, Result, Ok, Err, inl, inr, option_map, refl, subst}
 use Rattle.std.specs.Prelude.{◌≢◌, Box, IfErr, IfOk}
 use Rattle.std.specs.Box.{box_value}
 use Rattle.clap.specs.Words.{Row, Text, kind_of, subcommand_of, subcommand_rows}
@@ -8,7 +8,7 @@ use Rattle.clap.specs.declared.error.ErrorKind.TheVariants.{OutOfMemory}
 use Rattle.clap.specs.declared.parser.matches.ArgMatches.TheViews.{out-SubCommand}
 use Rattle.clap.specs.declared.parser.matches.SubCommand.{SubCommand}
 use Rattle.sudo_base.proofs.Options.{none_some}
-use Rattle.review_commands.specs.Words.{AsksNothing, HoldsCommand, IsErrorOfWords, program_app}
+use Rattle.review_commands.specs.Words.{AsksNothing, HoldsCommand, IsErrorOfWords, IsFlag, program_app}
 use Rattle.run_base.specs.Arguments.{IsUnaskedKind}
 use Rattle.review_commands.specs.declared.request.Asked.{Asked}
 use Rattle.review_commands.specs.declared.words.Unasked.{Unasked}
@@ -54,3 +54,9 @@ refused_by words e Missing o read memory kinds nothing =
 refused_by words e BadClass o read memory kinds nothing =
     let other : BadClass ≢ Memory = λ same. cc in
     inr (inr (kinds other, λ p is. nothing other p (sym read ∙ is)))
+
+-- what is said of each text of a flag
+pub flag-of : (on : Bool) (o : Option Text) → (o ≡ None → on ≡ false) → (o ≡ Some (codes "true") → on ≡ true)
+    → (o ≡ Some (codes "false") → on ≡ false) → IsFlag on o
+flag-of on None none yes no = none refl
+flag-of on (Some text) none yes no = (λ is. yes (ap Some is), λ is. no (ap Some is))

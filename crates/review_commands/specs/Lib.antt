@@ -3,6 +3,7 @@ pub mod CautionLines
 pub mod Endings
 pub mod Rows
 pub mod SubjectRows
+pub mod RootRows
 pub mod Reviewing
 pub mod Surveying
 pub mod Words

@@ -1,13 +1,13 @@
 -- The commands that the words of the command line ask for, by `clap`'s meaning of a simple command.
-use Rattle.std.specs.Prelude.{◌≡◌, ◌≤◌, true, List, [], map, codes, ⊤, Some, option_map, unwrap_or}
-use Rattle.clap.specs.Words.{App, Row, Rule, Text, all_of, first_of, new_app, new_rule, with_rule, with_subcommand}
+use Rattle.std.specs.Prelude.{◌≡◌, ◌≤◌, Bool, true, false, List, [], map, codes, ⊤, Option, None, Some, option_map, unwrap_or}
+use Rattle.clap.specs.Words.{App, Row, Rule, Text, all_of, first_of, one_of, new_app, new_rule, with_rule, with_subcommand}
 use Rattle.clap.specs.Simple.{on_top}
 use Rattle.clap.specs.declared.error.Error.{Error}
-use Rattle.clap.specs.declared.builder.action.ArgAction.TheVariants.{Append}
+use Rattle.clap.specs.declared.builder.action.ArgAction.TheVariants.{Append, SetTrue}
 use Rattle.review_cautions.specs.Classes.{class_name}
 use Rattle.run_base.specs.Arguments.{IsErrorFor, IsNumberIn, required_option, required_word, senders_rule, workers_rule}
 use Rattle.review_commands.specs.declared.request.Asked.{Asked}
-use Rattle.review_commands.specs.declared.request.Asked.TheVariants.{Cautions, Grants, Report, Rules, Subjects}
+use Rattle.review_commands.specs.declared.request.Asked.TheVariants.{Cautions, Grants, Report, Roots, Rules, Subjects}
 
 -- --without CLASS, any number of times
 abbrev pub without_rule : Rule
@@ -30,6 +30,14 @@ paths_app name = with_rule (with_rule (with_rule (new_app name) (required_word (
 abbrev pub grants_app : App
 grants_app = with_rule (with_rule (paths_app (codes "grants")) (name_rule (codes "user"))) (name_rule (codes "host"))
 
+-- --all
+abbrev pub all_rule : Rule
+all_rule = record (new_rule (codes "all")) { long = Some (codes "all"); action = Some SetTrue }
+
+-- roots FILE --users F --hosts F [--all]
+abbrev pub roots_app : App
+roots_app = with_rule (paths_app (codes "roots")) all_rule
+
 -- NAME FILE --users F --hosts F [--workers N] [NAME=PATH]...
 abbrev pub judging_app : Text → App
 judging_app name = with_rule (with_rule (paths_app name) workers_rule) senders_rule
@@ -40,14 +48,20 @@ named_app = on_top (λ s. record s { has_version = true; subcommand_required = t
 
 -- the program's command, with its subcommands
 abbrev pub program_app : App
-program_app = with_subcommand (with_subcommand (with_subcommand (with_subcommand (with_subcommand named_app cautions_app.top)
-    (judging_app (codes "report")).top) grants_app.top) (paths_app (codes "subjects")).top) (judging_app (codes "rules")).top
+program_app = with_subcommand (with_subcommand (with_subcommand (with_subcommand (with_subcommand (with_subcommand named_app
+    cautions_app.top) (judging_app (codes "report")).top) grants_app.top) roots_app.top) (paths_app (codes "subjects")).top)
+    (judging_app (codes "rules")).top
 
 -- the rows hold the paths of a policy, of the known users and of the known hosts
 pub record HavePaths (rows : List Row) (file users hosts : Text) : Type 0 where
   pub file_is : first_of (codes "file") rows ≡ Some file
   pub users_is : first_of (codes "users") rows ≡ Some users
   pub hosts_is : first_of (codes "hosts") rows ≡ Some hosts
+
+-- the text of a flag says whether it is on; without one it is off
+abbrev pub IsFlag : Bool → Option Text → Type 0
+IsFlag on None = on ≡ false
+IsFlag on (Some text) = (text ≡ codes "true" → on ≡ true) × (text ≡ codes "false" → on ≡ false)
 
 -- the rows of the subcommand hold this command
 abbrev pub HoldsCommand : Asked → Text × List Row → Type 0
@@ -57,6 +71,8 @@ HoldsCommand (Cautions file without) p =
 HoldsCommand (Grants file users hosts user host) p =
     (p.0 ≡ codes "grants") × HavePaths p.1 file.now users.now hosts.now
     × (first_of (codes "user") p.1 ≡ option_map (λ s. s.now) user) × (first_of (codes "host") p.1 ≡ option_map (λ s. s.now) host)
+HoldsCommand (Roots file users hosts all) p =
+    (p.0 ≡ codes "roots") × HavePaths p.1 file.now users.now hosts.now × IsFlag all (one_of (codes "all") p.1)
 HoldsCommand (Subjects file users hosts) p = (p.0 ≡ codes "subjects") × HavePaths p.1 file.now users.now hosts.now
 HoldsCommand (Rules file users hosts workers senders) p =
     (p.0 ≡ codes "rules") × HavePaths p.1 file.now users.now hosts.now × IsNumberIn workers p.1
@@ -69,6 +85,7 @@ HoldsCommand (Report file users hosts workers senders) p =
 abbrev pub WorkersFit : Asked → Type 0
 WorkersFit (Cautions file without) = ⊤
 WorkersFit (Grants file users hosts user host) = ⊤
+WorkersFit (Roots file users hosts all) = ⊤
 WorkersFit (Subjects file users hosts) = ⊤
 WorkersFit (Rules file users hosts workers senders) = (1 ≤ workers) × (workers ≤ 16)
 WorkersFit (Report file users hosts workers senders) = (1 ≤ workers) × (workers ≤ 16)

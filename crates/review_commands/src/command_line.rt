@@ -2,8 +2,8 @@
 ghost use Rattle.std.specs.Prelude.{◌≡◌, IfOk, codes, false};
 ghost use Rattle.clap.specs.Words.{app_of, rule_of};
 ghost use Rattle.clap.specs.declared.builder.command.Command.TheViews.{out-Command as fields_of};
-ghost use Rattle.review_commands.specs.Words.{cautions_app, grants_app, judging_app, name_rule, named_app};
-ghost use Rattle.review_commands.specs.Words.{paths_app, program_app, without_rule};
+ghost use Rattle.review_commands.specs.Words.{all_rule, cautions_app, grants_app, judging_app, name_rule};
+ghost use Rattle.review_commands.specs.Words.{named_app, paths_app, program_app, roots_app, without_rule};
 
 use clap::{Arg, ArgAction, Command};
 use run_base::{file, path_option, senders_words, with_subcommand, workers_option};
@@ -62,6 +62,26 @@ fn grants<'a>(alloc: Global) -> Result<Command<'a>, AllocError>
         .arg(name_option(alloc, "host", "Only the grants on this host"))
 }
 
+// Returns `--all`.
+fn all<'a>(alloc: Global) -> Arg<'a>
+    ensures rule { rule_of result ≡ all_rule }
+    ensures local { result.global ≡ false }
+{
+    Arg::new(alloc, "all")
+        .long("all")
+        .action(ArgAction::SetTrue)
+        .help("Also who can by listed commands alone")
+}
+
+// Returns `roots FILE --users F --hosts F [--all]`.
+fn roots<'a>(alloc: Global) -> Result<Command<'a>, AllocError>
+    ensures app { IfOk result (λ c. app_of c ≡ roots_app) }
+    ensures local { IfOk result (λ c. (fields_of c).has_globals ≡ false) }
+{
+    let about = "Lists who can become root, on which host, and by which chain";
+    with_paths(alloc, "roots", about)?.arg(all(alloc))
+}
+
 // Returns `subjects FILE --users F --hosts F`.
 fn subjects<'a>(alloc: Global) -> Result<Command<'a>, AllocError>
     ensures app { IfOk result (λ c. app_of c ≡ paths_app (codes "subjects")) }
@@ -110,6 +130,7 @@ pub(crate) fn program<'a>(alloc: Global) -> Result<Command<'a>, AllocError>
     let with_cautions = with_subcommand(named(alloc), cautions(alloc))?;
     let with_report = with_subcommand(with_cautions, report(alloc))?;
     let with_grants = with_subcommand(with_report, grants(alloc))?;
-    let with_subjects = with_subcommand(with_grants, subjects(alloc))?;
+    let with_roots = with_subcommand(with_grants, roots(alloc))?;
+    let with_subjects = with_subcommand(with_roots, subjects(alloc))?;
     with_subcommand(with_subjects, rules(alloc))
 }

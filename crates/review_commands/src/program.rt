@@ -7,6 +7,7 @@ use crate::grants::{ScopeNames, grants_run};
 use crate::program_name::PROGRAM;
 use crate::report::{Form, report_into};
 use crate::request::Asked;
+use crate::roots::roots_run;
 use crate::subjects::subjects_run;
 use crate::words::{asked, unread};
 use audit_commands::{OpenedFiles, Work, open_all};
@@ -87,6 +88,33 @@ fn run_grants(rt: &HostRuntime, file: &str, users: &str, hosts: &str, names: Sco
     }
 }
 
+// Lists who can become root under the policy of a file, and returns the exit status.
+fn run_roots(rt: &HostRuntime, file: &str, users: &str, hosts: &str, all: bool) -> u8 {
+    let alloc = rt.alloc();
+    let mut out = Device::new(rt.stdout());
+    let mut err = Device::new(rt.stderr());
+    match open_all(alloc, &SystemOpener::new(rt), users, hosts, &[]) {
+        Ok(files) => {
+            let OpenedFiles {
+                mut users,
+                mut hosts,
+                ..
+            } = files;
+            roots_run(
+                alloc,
+                file.as_bytes(),
+                &mut Disk::new(rt),
+                &mut users,
+                &mut hosts,
+                all,
+                &mut out,
+                &mut err,
+            )
+        }
+        Err(fault) => report_fault(alloc, PROGRAM, fault, &mut err),
+    }
+}
+
 // Lists what of the policy of a file reaches nobody, and returns the exit status.
 fn run_subjects(rt: &HostRuntime, file: &str, users: &str, hosts: &str) -> u8 {
     let alloc = rt.alloc();
@@ -151,6 +179,12 @@ fn run<T: Threads + Wait + Sync>(rt: &HostRuntime, threads: &T, asked: Asked<'_>
             };
             run_grants(rt, file, users, hosts, names)
         }
+        Asked::Roots {
+            file,
+            users,
+            hosts,
+            all,
+        } => run_roots(rt, file, users, hosts, all),
         Asked::Subjects { file, users, hosts } => run_subjects(rt, file, users, hosts),
         Asked::Rules {
             file,

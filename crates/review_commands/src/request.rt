@@ -19,6 +19,13 @@ pub enum Asked<'a> {
         user: Option<&'a str>,
         host: Option<&'a str>,
     },
+    /// `roots FILE --users F --hosts F [--all]`: lists who can become root, also by listed commands alone if `all`.
+    Roots {
+        file: &'a str,
+        users: &'a str,
+        hosts: &'a str,
+        all: bool,
+    },
     /// `subjects FILE --users F --hosts F`: lists what of a policy reaches nobody.
     Subjects {
         file: &'a str,

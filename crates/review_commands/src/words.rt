@@ -1,13 +1,13 @@
 //! The words of the command line.
 ghost use Rattle.std.specs.Prelude.{◌≡◌, ◌≢◌, None, Some, IfErr, IfOk, IfSome, List, codes, map};
-ghost use Rattle.clap.specs.Words.{Row, Text, app_of, found_of, kind_of as error_kind, rows_of};
+ghost use Rattle.clap.specs.Words.{Row, Text, app_of, found_of, kind_of as error_kind, one_of, rows_of};
 ghost use Rattle.clap.specs.Words.{subcommand_of, subcommand_rows_of};
 ghost use Rattle.run_base.specs.Arguments.{IsUnaskedKind, IsUnreadableWord};
 ghost use Rattle.review_cautions.specs.Classes.{class_name};
 ghost use Rattle.review_cautions.specs.declared.class.CautionClass.{CautionClass};
 ghost use Rattle.review_commands.specs.Words.{AsksNothing, IsErrorOfWords};
 ghost use Rattle.review_commands.specs.Body.Paths.{LackPaths};
-ghost use Rattle.review_commands.specs.Words.{HavePaths, HoldsCommand};
+ghost use Rattle.review_commands.specs.Words.{HavePaths, HoldsCommand, IsFlag};
 ghost use Rattle.review_commands.specs.Words.{WorkersFit, program_app};
 
 use crate::command_line::program;
@@ -125,6 +125,32 @@ fn asked_grants<'a>(given: &ArgMatches<'a>) -> Result<Asked<'a>, Unasked>
     })
 }
 
+// Whether a flag is given.
+fn flag(given: &ArgMatches<'_>, id: &str) -> bool
+    ensures { IsFlag result (one_of id.now (rows_of (found_of given.now))) }
+{
+    given.get_flag(id)
+}
+
+// Returns the command of the values of `roots`.
+fn asked_roots<'a>(given: &ArgMatches<'a>) -> Result<Asked<'a>, Unasked>
+    ensures stated { IfOk result
+        (λ a. HoldsCommand a (codes "roots", rows_of (found_of given.now))) }
+    ensures workers { IfOk result WorkersFit }
+    ensures nothing { IfErr result (λ e. e ≢ Unasked.Memory
+        → AsksNothing (codes "roots", rows_of (found_of given.now))) }
+{
+    let Some(Paths { file, users, hosts }) = paths_of(given) else {
+        return Err(Unasked::Missing);
+    };
+    Ok(Asked::Roots {
+        file,
+        users,
+        hosts,
+        all: flag(given, "all"),
+    })
+}
+
 // Returns the command of the values of `subjects`.
 fn asked_subjects<'a>(given: &ArgMatches<'a>) -> Result<Asked<'a>, Unasked>
     ensures stated { IfOk result
@@ -203,6 +229,9 @@ fn asked_by<'a>(alloc: Global, name: &str, given: &ArgMatches<'a>) -> Result<Ask
     if name == "report" {
         return asked_report(alloc, given);
     }
+    if name == "roots" {
+        return asked_roots(given);
+    }
     if name == "rules" {
         return asked_rules(alloc, given);
     }
@@ -267,7 +296,8 @@ fn asked_of<'a, S: AsStr>(
 
 /// Returns the command that the words ask for, the program's own name first, as `clap` reads them:
 /// `cautions FILE [--without CLASS]...`, `report FILE --users F --hosts F [--workers N] [NAME=PATH]...`,
-/// `grants FILE --users F --hosts F [--user NAME] [--host NAME]`, `subjects FILE --users F --hosts F`, or
+/// `grants FILE --users F --hosts F [--user NAME] [--host NAME]`, `roots FILE --users F --hosts F [--all]`,
+/// `subjects FILE --users F --hosts F`, or
 /// `rules FILE --users F --hosts F [--workers N] [NAME=PATH]...`, where N is 1 to 16, by default 2.
 ///
 /// Returns `clap`'s error, apart from allocation failure, exactly if `clap` does not accept the
