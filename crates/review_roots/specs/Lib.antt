@@ -7,6 +7,7 @@ pub mod Heads
 pub mod Chains
 pub mod States
 pub mod Candidates
+pub mod Towards
 pub mod Found
 pub mod KnownGroups
 pub mod Ways

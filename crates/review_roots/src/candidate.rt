@@ -23,8 +23,8 @@ pub(crate) struct Candidate {
     pub(crate) listed: Vec<bool>,
 }
 
-// Whether two users have one name.
-fn is_same_user(one: &Person, other: &Person) -> bool
+/// Whether two users have one name.
+pub(crate) fn is_same_user(one: &Person, other: &Person) -> bool
     ensures { result ≡ form.is_same_user one.now other.now }
 {
     one.name.as_slice() == other.name.as_slice()
@@ -106,8 +106,13 @@ impl HostSteps<'_> {
         }
     }
 
-    // Returns what the user is given on the way to a target with a group, if any.
-    fn towards(&self, candidate: &Candidate, target: &Person, group: Option<&Group>) -> Given
+    /// Returns what the user is given on the way to a target with a group, if any.
+    pub(crate) fn towards(
+        &self,
+        candidate: &Candidate,
+        target: &Person,
+        group: Option<&Group>,
+    ) -> Given
         requires { KnowsLists self.now candidate.now }
         ensures { result ≡ given_towards self.now.checked.now self.now.directory.now
             self.now.host.now candidate.now.person target.now

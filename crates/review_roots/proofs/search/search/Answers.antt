@@ -1,5 +1,4 @@
-use Rattle.std.proofs.Common.{◌∙◌, Global, List, Vec, ap, false, subst, sym, true}
-use Rattle.review_roots.specs.declared.candidate.Candidate.{Candidate}
+use Rattle.std.proofs.Common.{◌∙◌, List, false, subst, sym, true}
 use Rattle.review_roots.specs.declared.search.Found.{Found}
 use Rattle.review_roots.specs.Candidates.{any_steps}
 use Rattle.review_roots.specs.Found.{IsStartOf}
