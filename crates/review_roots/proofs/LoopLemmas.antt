@@ -28,8 +28,8 @@ use Rattle.review_roots.specs.declared.search.Sought.{Sought}
 use Rattle.review_roots.specs.declared.state.State.{State}
 use Rattle.review_roots.specs.Asked.{given_asked, nothing}
 use Rattle.review_roots.specs.Blocks.{AreBlocks, sign_of, standing_rows, with_rows}
-use Rattle.review_roots.specs.Found.{PointBack, AreFound, IsFound, found_states}
-use Rattle.review_roots.specs.Candidates.{steps_of}
+use Rattle.review_roots.specs.Body.Found.{PointBack, AreFound, IsFound, found_states}
+use Rattle.review_roots.specs.Sought.{steps_of}
 use Rattle.review_roots.specs.Chains.{Steps}
 use Rattle.review_roots.specs.Ranks.{is_at_least}
 use Rattle.review_roots.specs.Ways.{IsChain, first_row, password_along}

@@ -19,7 +19,7 @@ use Rattle.review_roots.specs.declared.state.State.{State}
 use Rattle.review_roots.specs.declared.way.Way.{Way}
 use Rattle.review_roots.specs.Asked.{better, given_alone, given_asked, given_by, is_better, nothing}
 use Rattle.review_roots.specs.Blocks.{Row, row_of, with_row, with_rows}
-use Rattle.review_roots.specs.Candidates.{any_steps}
+use Rattle.review_roots.specs.Sought.{any_steps}
 use Rattle.review_roots.specs.Chains.{LeadsAlong}
 use Rattle.review_roots.specs.Levels.{after_signed, target_rows}
 use Rattle.review_roots.specs.Ranks.{is_at_least}

@@ -24,10 +24,10 @@ use Rattle.review_roots.specs.declared.state.State.{State}
 use Rattle.review_roots.specs.declared.toward.Toward.{Toward}
 use Rattle.review_roots.specs.Asked.{better, given_asked, given_towards, nothing}
 use Rattle.review_roots.specs.Blocks.{Row, AreBlocks, block_rows, lists, standing_rows, with_row, with_rows}
-use Rattle.review_roots.specs.Candidates.{IsCandidate, KnowsLists}
+use Rattle.review_roots.specs.Body.Candidates.{IsCandidate, KnowsLists}
 use Rattle.review_roots.specs.Ranks.{rank}
 use Rattle.review_roots.specs.States.{given_between, group_at, step_given}
-use Rattle.review_roots.specs.Towards.{AreAllowed, IsToward, block_allows, chosen_rows}
+use Rattle.review_roots.specs.Body.Towards.{AreAllowed, IsToward, block_allows, chosen_rows}
 use Rattle.review_roots.proofs.GivenLemmas.{blocks_give}
 use Rattle.review_roots.proofs.ListSteps.{map-same}
 

@@ -4,7 +4,7 @@ ghost use Rattle.std.specs.List.{list_any};
 ghost use Rattle.sudo_verdict.specs.RunasForms as form;
 ghost use Rattle.review_roots.specs.Asked.{given_alone, given_asked, given_towards};
 ghost use Rattle.review_roots.specs.Blocks.{lists};
-ghost use Rattle.review_roots.specs.Candidates.{IsCandidate, KnowsLists};
+ghost use Rattle.review_roots.specs.Body.Candidates.{IsCandidate, KnowsLists};
 ghost use Rattle.review_roots.specs.States.{step_given, person_of};
 ghost use Rattle.review_roots.specs.declared.candidate.Candidate.{Candidate as TheCandidate};
 
@@ -50,8 +50,8 @@ impl HostSteps<'_> {
         alloc: Global,
         state: State,
     ) -> Result<Option<Candidate>, AllocError>
-        ensures known { IfOk result (λ found. (c : TheCandidate) → found ≡ Some c → (c.state ≡ state)
-            × IsCandidate self.now c) }
+        ensures known { IfOk result (λ found. (c : TheCandidate) → found ≡ Some c
+            → (c.state ≡ state) × IsCandidate self.now c) }
         ensures unknown { IfOk result (λ found. found ≡ None
             → person_of self.now.directory.now self.now.groups.now state ≡ None) }
     {

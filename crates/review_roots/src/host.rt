@@ -8,7 +8,8 @@ use std::alloc::{AllocError, Global};
 use sudo_match::{Directory, Group, Machine};
 use sudo_policy::Checked;
 
-/// What the steps of users on a host depend on: the policy, the known users, the host, and the groups that may be added.
+/// What the steps of users on a host depend on: the policy, the known users, the host, and the groups that may be added
+/// (all known ones, or, for less work, those that user lists name: [`crate::known_groups`], [`crate::named_groups`]).
 #[derive(Drop)]
 pub struct HostSteps<'a> {
     pub checked: &'a Checked,

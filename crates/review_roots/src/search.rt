@@ -1,10 +1,11 @@
 //! The search for the states that lead to a target: back from the target, level by level.
 ghost use Rattle.std.specs.Prelude.{◌≡◌, ◌++◌, ◌∷◌, [], Bool, List, IfOk, OnOk, IsTrue, All, filter, map, not};
-ghost use Rattle.review_roots.specs.Candidates.{IsCandidate, any_steps, free_steps, steps_of};
-ghost use Rattle.review_roots.specs.Found.{AreFound, IsSearch, HaveNoPath, IsStartOf, found_by, reaches, states_of};
+ghost use Rattle.review_roots.specs.Body.Candidates.{IsCandidate};
+ghost use Rattle.review_roots.specs.Sought.{any_steps, free_steps, steps_of};
+ghost use Rattle.review_roots.specs.Body.Found.{AreFound, IsSearch, HaveNoPath, IsStartOf, found_by, reaches, states_of};
 ghost use Rattle.review_roots.specs.declared.state.State.{State as TheState};
 ghost use Rattle.review_roots.specs.Ranks.{is_at_least};
-ghost use Rattle.review_roots.specs.Towards.{IsToward};
+ghost use Rattle.review_roots.specs.Body.Towards.{IsToward};
 ghost use Rattle.review_roots.specs.declared.level.Level.TheVariants as level;
 
 use crate::Level;

@@ -3,9 +3,9 @@ ghost use Rattle.std.specs.Prelude.{◌≡◌, ◌<◌, ◌&&◌, false, IfOk, l
 ghost use Rattle.sudo_verdict.specs.RunasForms.{is_same_user};
 ghost use Rattle.review_roots.specs.Asked.{nothing};
 ghost use Rattle.review_roots.specs.Blocks.{block_rows, with_rows};
-ghost use Rattle.review_roots.specs.Candidates.{IsCandidate, KnowsLists};
+ghost use Rattle.review_roots.specs.Body.Candidates.{IsCandidate, KnowsLists};
 ghost use Rattle.review_roots.specs.States.{step_given};
-ghost use Rattle.review_roots.specs.Towards.{AreAllowed, IsToward, block_allows, chosen_rows};
+ghost use Rattle.review_roots.specs.Body.Towards.{AreAllowed, IsToward, block_allows, chosen_rows};
 
 use crate::block::Block;
 use crate::candidate::{Candidate, is_same_user};

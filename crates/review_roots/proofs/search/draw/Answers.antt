@@ -1,4 +1,4 @@
-use Rattle.review_roots.specs.Candidates.{IsCandidate}
+use Rattle.review_roots.specs.Body.Candidates.{IsCandidate}
 use Rattle.review_roots.proofs.LoopLemmas.{all-mapped}
 use Rattle.review_roots.proofs.search.draw.Goals as goal
 

@@ -1,5 +1,5 @@
 use Rattle.std.proofs.Common.{◌≡◌, map, option_copied, take}
-use Rattle.review_roots.specs.Towards.{block_allows}
+use Rattle.review_roots.specs.Body.Towards.{block_allows}
 use Rattle.review_roots.proofs.host.HostSteps.allowed_to.Given as goal
 
 abbrev pub invariant-loop-block : goal.invariant-loop-block

@@ -1,7 +1,7 @@
 use Rattle.std.proofs.Common.{◌≡◌, drop}
 use Rattle.review_roots.specs.Asked.{nothing}
 use Rattle.review_roots.specs.Blocks.{with_rows}
-use Rattle.review_roots.specs.Towards.{chosen_rows}
+use Rattle.review_roots.specs.Body.Towards.{chosen_rows}
 use Rattle.review_roots.proofs.host.HostSteps.chosen.Given as goal
 
 -- the blocks that are left lead from what is given so far to what all give

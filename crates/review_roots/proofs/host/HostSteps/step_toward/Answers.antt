@@ -1,7 +1,7 @@
 use Rattle.std.proofs.Common.{◌∙◌, List, Bool, ap, option_copied, sym}
 use Rattle.review_roots.specs.Asked.{nothing}
 use Rattle.review_roots.specs.Blocks.{with_rows}
-use Rattle.review_roots.specs.Towards.{chosen_rows}
+use Rattle.review_roots.specs.Body.Towards.{chosen_rows}
 use Rattle.review_roots.proofs.TowardLemmas.{foreign-given, step-from}
 use Rattle.review_roots.proofs.host.HostSteps.step_toward.Goals as goal
 
