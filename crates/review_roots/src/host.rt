@@ -12,9 +12,12 @@ use sudo_policy::Checked;
 /// (all known ones, or, for less work, those that user lists name: [`crate::known_groups`], [`crate::named_groups`]).
 #[derive(Drop)]
 pub struct HostSteps<'a> {
+    /// The policy.
     pub checked: &'a Checked,
+    /// The known users.
     pub directory: &'a Directory,
     pub host: &'a Machine,
+    /// The groups that may be added.
     pub groups: &'a [Group],
     pub(crate) blocks: Vec<Block<'a>>,
     ghost tied: { AreBlocks checked.now host.now blocks.items },
