@@ -82,14 +82,16 @@ free_needs_none p q e c x =
 -- ---- Rows without passwords have the level All
 
 level_step :
-    (n w a free : Bool) (l : Level) → (free ≡ true → l ≡ level.All) → cond n false (cond w (a || free) false) ≡ true → after_signed l n a ≡ level.All
+    (n w a free : Bool) (l : Level) → (free ≡ true → l ≡ level.All) → cond n false (cond w (a || free) false) ≡ true → after_signed l n a
+    ≡ level.All
 level_step true w a free l so_far e = cc
 level_step false false a free l so_far e = cc
 level_step false true true free l so_far e = refl
 level_step false true false free l so_far e = ap raised (so_far e)
 
 all_along :
-    (gs : List Grant) (l : Level) (free : Bool) → (free ≡ true → l ≡ level.All) → fold after_free free gs ≡ true → fold after_one l gs ≡ level.All
+    (gs : List Grant) (l : Level) (free : Bool) → (free ≡ true → l ≡ level.All) → fold after_free free gs ≡ true → fold after_one l gs
+    ≡ level.All
 all_along [] l free so_far e = so_far e
 all_along (g ∷ gs) l free so_far e =
     all_along gs (after_one l g) (after_free free g) (level_step g.negated (nopasswd g.tags) (is_all g.atom) free l so_far) e
