@@ -28,7 +28,7 @@ use Rattle.review_roots.specs.declared.block.Head.{Head}
 use Rattle.review_roots.specs.declared.block.InForce.{InForce}
 use Rattle.review_roots.specs.declared.block.Sign.{Sign}
 use Rattle.review_roots.specs.Blocks.{Row, row_of, sign_of, block_row, block_rows, block_resolves, AreBlocks}
-use Rattle.review_roots.specs.Heads.{IsInForce, signed_row, head_resolves}
+use Rattle.review_roots.specs.Body.Heads.{IsInForce, signed_row, head_resolves}
 use Rattle.review_roots.proofs.ListSteps.{take-more, take-enumerated, flat-one, all-push, all-taken, all-there, filter-constant}
 use Rattle.review_roots.proofs.ListSteps.{filter-flat-constant, map-same, map-twice}
 

@@ -1,5 +1,5 @@
 -- Chains are paths.
-use Rattle.std.proofs.Common.{List, [], ◌∷◌}
+use Rattle.std.proofs.Common.{[], ◌∷◌}
 use Rattle.std.specs.List.{Contains}
 use Rattle.std.proofs.lemmas.List.Elements.{All-head, All-tail}
 use Rattle.review_roots.specs.Chains.{ChainsArePaths, here, more}

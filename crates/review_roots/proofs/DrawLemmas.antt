@@ -11,9 +11,10 @@ use Rattle.review_roots.specs.declared.level.Level.{Level}
 use Rattle.review_roots.specs.declared.search.Aim.{Aim}
 use Rattle.review_roots.specs.declared.search.Found.{Found}
 use Rattle.review_roots.specs.declared.search.Sought.{Sought}
-use Rattle.review_roots.specs.Candidates.{IsCandidate, steps_of}
+use Rattle.review_roots.specs.Body.Candidates.{IsCandidate}
+use Rattle.review_roots.specs.Sought.{steps_of}
 use Rattle.review_roots.specs.States.{steps_to}
-use Rattle.review_roots.specs.Found.{IsSearch, IsDrawn, found_by, reaches, states_of}
+use Rattle.review_roots.specs.Body.Found.{IsSearch, IsDrawn, found_by, reaches, states_of}
 use Rattle.review_roots.proofs.ListSteps.{take-more, filter-mapped, map-twice}
 use Rattle.review_roots.proofs.SearchLemmas.{drawn_to, new_found, drawn-search, drawn-more, parted-length}
 

@@ -1,7 +1,7 @@
 -- Chains whose steps ask for no password.
-use Rattle.std.proofs.Common.{◌≡◌, ◌∙◌, ℕ, Bool, true, false, List, [], ◌∷◌, ap, refl, get_or, length, subst, sym}
-use Rattle.std.proofs.Common.{Option, Some, None, inl, inr, ◌⊎◌, ◌<◌}
-use Rattle.std.specs.Prelude.{All, slice_get}
+use Rattle.std.proofs.Common.{◌≡◌, ◌∙◌, ℕ, Bool, true, false, List, [], ◌∷◌, ap, refl, get_or, subst, sym}
+use Rattle.std.proofs.Common.{Some, None, inl, inr}
+use Rattle.std.specs.Prelude.{slice_get}
 use Rattle.std.specs.List.{Contains}
 use Rattle.std.proofs.lemmas.List.Elements.{All-contains}
 use Rattle.std.proofs.lemmas.Option.{slice_get_within}
@@ -15,9 +15,9 @@ use Rattle.review_roots.specs.declared.state.State.{State}
 use Rattle.review_roots.specs.declared.way.Password.TheVariants as password
 use Rattle.review_roots.specs.declared.way.Way.{Way}
 use Rattle.review_roots.specs.declared.search.Sought.{Sought}
-use Rattle.review_roots.specs.Candidates.{any_steps, free_steps, steps_of}
-use Rattle.review_roots.specs.Chains.{HasNoPath, HasPath, LeadsAlong, Path, Steps}
-use Rattle.review_roots.specs.Found.{AreFound, ChainsLead, IsFound, IsFoundAt, IsFreeAt, is_start}
+use Rattle.review_roots.specs.Sought.{any_steps, free_steps, steps_of}
+use Rattle.review_roots.specs.Chains.{HasNoPath, HasPath, LeadsAlong}
+use Rattle.review_roots.specs.Body.Found.{AreFound, ChainsLead, IsFound, IsFoundAt, IsFreeAt}
 use Rattle.review_roots.specs.Ranks.{is_at_least}
 use Rattle.review_roots.specs.States.{level_for, state_with}
 use Rattle.review_roots.specs.Ways.{IsChain, IsWay, password_along, step_on, step_password, worse}

@@ -1,25 +1,23 @@
 -- Groups that no list names change no list.
-use Rattle.std.proofs.Common.{◌≡◌, ◌∙◌, ℕ, zero, suc, Bool, true, false, not, cond, ◌||◌, ◌==◌, List, [], ◌∷◌, ◌++◌, ap, append-nil, flat_map, refl, sym, subst}
-use Rattle.std.proofs.Common.{Option, Some, None}
-use Rattle.std.specs.Prelude.{bytes_eq, option_map, filter, slice_get}
+use Rattle.std.proofs.Common.{◌≡◌, ◌∙◌, ℕ, zero, suc, Bool, true, false, not, cond, ◌||◌, ◌==◌, List, [], ◌∷◌, ◌++◌, ap, flat_map, refl}
+use Rattle.std.proofs.Common.{sym}
+use Rattle.std.proofs.Common.{Some, None}
+use Rattle.std.specs.Prelude.{bytes_eq, option_map, slice_get}
 use Rattle.std.specs.Option.{option_or}
-use Rattle.std.specs.List.{list_any, Contains}
+use Rattle.std.specs.List.{list_any}
 use Rattle.std.proofs.lemmas.List.Folds.{list_any-append}
 use Rattle.sudo_grammar.specs.declared.kind.Atom.{Atom}
 use Rattle.sudo_grammar.specs.declared.kind.Atom.TheVariants as atom
 use Rattle.sudo_grammar.specs.declared.kind.Kind.TheVariants as kind
 use Rattle.sudo_grammar.specs.declared.kind.Signed.{Signed}
 use Rattle.sudo_grammar.specs.declared.policy.Entry.{Entry}
-use Rattle.sudo_grammar.specs.declared.policy.EntryBody.{EntryBody}
-use Rattle.sudo_grammar.specs.declared.policy.EntryBody.TheVariants.{Rule}
-use Rattle.sudo_grammar.specs.declared.policy.Policy.{Policy}
 use Rattle.sudo_match.specs.declared.people.Group.{Group}
 use Rattle.sudo_match.specs.declared.people.Person.{Person}
 use Rattle.sudo_match.specs.Matching.{user_fits}
 use Rattle.sudo_policy.specs.Written.{written_form}
 use Rattle.sudo_verdict.specs.Last.{last_that}
 use Rattle.sudo_verdict.specs.Values.{allows, value}
-use Rattle.review_roots.specs.KnownGroups.{names_group, list_names, body_users, rule_users, OtherGroupsChangeNoList}
+use Rattle.review_roots.specs.KnownGroups.{names_group, list_names, body_users, OtherGroupsChangeNoList}
 use Rattle.review_roots.specs.States.{with_added}
 use Rattle.review_roots.proofs.SearchLemmas.{contains-at}
 

@@ -16,3 +16,4 @@ pub mod FreeLemmas
 pub mod GroupLemmas
 pub mod RowLemmas
 pub mod ChainLemmas
+pub mod TowardLemmas

@@ -28,8 +28,8 @@ use Rattle.review_roots.specs.declared.search.Sought.{Sought}
 use Rattle.review_roots.specs.declared.state.State.{State}
 use Rattle.review_roots.specs.Asked.{given_asked, nothing}
 use Rattle.review_roots.specs.Blocks.{AreBlocks, sign_of, standing_rows, with_rows}
-use Rattle.review_roots.specs.Found.{PointBack, AreFound, IsFound, found_states}
-use Rattle.review_roots.specs.Candidates.{steps_of}
+use Rattle.review_roots.specs.Body.Found.{PointBack, AreFound, IsFound, found_states}
+use Rattle.review_roots.specs.Sought.{steps_of}
 use Rattle.review_roots.specs.Chains.{Steps}
 use Rattle.review_roots.specs.Ranks.{is_at_least}
 use Rattle.review_roots.specs.Ways.{IsChain, first_row, password_along}
@@ -90,7 +90,8 @@ pub chain-all :
 chain-all found index at chain d inside is so_far = leads-all found index at chain (get_or found at d) (there found at d inside) is so_far
 
 pub chain-within :
-    (found : List Found) (next : ℕ) (chain new : List State) (e : Found) → next < length found → new ≡ chain ++ (get_or found next e).state ∷ [] →
+    (found : List Found) (next : ℕ) (chain new : List State) (e : Found) → next < length found → new ≡ chain
+    ++ (get_or found next e).state ∷ [] →
     All (Contains (found_states found)) chain → All (Contains (found_states found)) new
 chain-within found next chain new e also more within =
     subst (All (Contains (found_states found))) (sym more)
@@ -98,7 +99,8 @@ chain-within found next chain new e also more within =
     (to-map (λ (f : Found). f.state) found (get_or found next e) (Contains-get_or found next e also)))
 
 -- the found states are states
-states-inside : (g : Steps State) (found : List Found) → All (IsFound g) found → (s : State) → Contains (found_states found) s → Contains g.states s
+states-inside : (g : Steps State) (found : List Found) → All (IsFound g) found → (s : State) → Contains (found_states found) s
+    → Contains g.states s
 states-inside g found right s c =
     let f = from-map (λ (f : Found). f.state) found s c in
     subst (Contains g.states) f.2 (All-contains (IsFound g) found f.0 right f.1).inside
@@ -107,7 +109,8 @@ pub way-is :
     (h : HostSteps) (q : Sought) (least : Level) (found : List Found) (index : ℕ) (d f : Found) (chain : Vec State Global)
     (by : Option AllowingRow) (password : Password)
     (states same : List State) → AreFound (steps_of h q) least found → index < length found → slice_get found index ≡ Some f →
-    LeadsWhole found index chain.items → All (Contains (found_states found)) chain.items → states ≡ chain.items → by ≡ first_row h (get_or found index d).state states → same ≡ chain.items →
+    LeadsWhole found index chain.items → All (Contains (found_states found)) chain.items → states ≡ chain.items → by
+    ≡ first_row h (get_or found index d).state states → same ≡ chain.items →
     password ≡ password_along h (get_or found index d).state.user (get_or found index d).state same →
     IsChain h q least f.state (record { level = (get_or found index d).level; chain = chain; by = by; password = password })
 way-is h q least found index d f chain by password states same are inside at leads within first is also asks =

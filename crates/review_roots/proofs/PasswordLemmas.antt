@@ -10,8 +10,10 @@ use Rattle.sudo_verdict.specs.Values.{is_all}
 use Rattle.sudo_verdict.specs.Tagged.{tags_given, tags_named, or_tags, setenv}
 use Rattle.sudo_verdict.specs.Grants.{Grant}
 use Rattle.sudo_verdict.specs.Verdicts.{decided_by, verdict_if_any}
-use Rattle.review_roots.specs.Levels.{target_rows}
-use Rattle.review_roots.specs.Passwords.{is_off, nopasswd, after_free, freely_allowed, FreeNeedsNoPassword}
+use Rattle.review_roots.specs.declared.level.Level.{Level}
+use Rattle.review_roots.specs.declared.level.Level.TheVariants as level
+use Rattle.review_roots.specs.Levels.{after_one, after_signed, raised, target_rows}
+use Rattle.review_roots.specs.Passwords.{is_off, nopasswd, after_free, freely_allowed, FreeNeedsNoPassword, FreeIsAll}
 use Rattle.review_roots.proofs.LevelLemmas.{fitting, target_decides, all_matches}
 
 -- SETENV, which ALL adds, is no tag of that pair
@@ -76,3 +78,23 @@ pub free_needs_none : FreeNeedsNoPassword
 free_needs_none p q e c x =
     ap freely_allowed (target_decides p q c x) ∙ verdict_freely (last_that (fitting c x) (target_rows p q))
     ∙ says (fitting c x) (λ g. all_matches c x g.atom) (target_rows p q) false false (λ h. h) e
+
+-- ---- Rows without passwords have the level All
+
+level_step :
+    (n w a free : Bool) (l : Level) → (free ≡ true → l ≡ level.All) → cond n false (cond w (a || free) false) ≡ true → after_signed l n a
+    ≡ level.All
+level_step true w a free l so_far e = cc
+level_step false false a free l so_far e = cc
+level_step false true true free l so_far e = refl
+level_step false true false free l so_far e = ap raised (so_far e)
+
+all_along :
+    (gs : List Grant) (l : Level) (free : Bool) → (free ≡ true → l ≡ level.All) → fold after_free free gs ≡ true → fold after_one l gs
+    ≡ level.All
+all_along [] l free so_far e = so_far e
+all_along (g ∷ gs) l free so_far e =
+    all_along gs (after_one l g) (after_free free g) (level_step g.negated (nopasswd g.tags) (is_all g.atom) free l so_far) e
+
+pub free_is_all : FreeIsAll
+free_is_all gs e = all_along gs level.None false (λ f. cc) e

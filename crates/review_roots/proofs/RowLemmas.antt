@@ -1,5 +1,5 @@
 -- Whatever has a level other than none has a row that allows.
-use Rattle.std.proofs.Common.{◌≡◌, ◌∙◌, ℕ, Bool, true, false, cond, ◌&&◌, ◌||◌, ◌==◌, List, [], ◌∷◌, ap, map, refl, subst, sym}
+use Rattle.std.proofs.Common.{◌≡◌, ◌∙◌, ℕ, Bool, true, false, cond, ◌&&◌, ◌||◌, List, [], ◌∷◌, ap, map, refl, subst, sym}
 use Rattle.std.proofs.Common.{Option, Some, None}
 use Rattle.std.specs.Prelude.{is_some, slice_get}
 use Rattle.sudo_grammar.specs.declared.policy.Policy.{Policy}
@@ -17,9 +17,9 @@ use Rattle.review_roots.specs.declared.level.Level.{Level}
 use Rattle.review_roots.specs.declared.level.Level.TheVariants as level
 use Rattle.review_roots.specs.declared.state.State.{State}
 use Rattle.review_roots.specs.declared.way.Way.{Way}
-use Rattle.review_roots.specs.Asked.{better, given_alone, given_asked, given_by, given_towards, is_better, nothing}
+use Rattle.review_roots.specs.Asked.{better, given_alone, given_asked, given_by, is_better, nothing}
 use Rattle.review_roots.specs.Blocks.{Row, row_of, with_row, with_rows}
-use Rattle.review_roots.specs.Candidates.{any_steps}
+use Rattle.review_roots.specs.Sought.{any_steps}
 use Rattle.review_roots.specs.Chains.{LeadsAlong}
 use Rattle.review_roots.specs.Levels.{after_signed, target_rows}
 use Rattle.review_roots.specs.Ranks.{is_at_least}
@@ -86,10 +86,12 @@ pub way-allows :
 way-allows h target user least w listed away way =
     ap is_some way.by ∙ go w.chain.items way.leads
   where
-    go : (ts : List State) → LeadsAlong (any_steps h target) w.level (state_with None user) ts → is_some (first_row h (state_with None user) ts) ≡ true
+    go : (ts : List State) → LeadsAlong (any_steps h target) w.level (state_with None user) ts
+        → is_some (first_row h (state_with None user) ts) ≡ true
     go [] at = let bad : true ≡ false = sym (ap (λ b. b || has_zero h user) at) ∙ away in cc
     go (t ∷ ts) leads =
         listed-some (step_on h (state_with None user) t).level (step_on h (state_with None user) t).by
         (between_has h.checked.now h.directory.now h.host.now (person_of h.directory.now h.groups.now (state_with None user))
         (slice_get h.directory.now.people t.user) (group_at h.groups.now t.added))
-        (at-least-trans level.Listed w.level (step_on h (state_with None user) t).level (at-least-trans level.Listed least w.level listed way.enough) leads.0)
+        (at-least-trans level.Listed w.level (step_on h (state_with None user) t).level
+        (at-least-trans level.Listed least w.level listed way.enough) leads.0)

@@ -16,8 +16,8 @@ use Rattle.review_roots.specs.declared.search.Found.{Found}
 use Rattle.review_roots.specs.declared.state.State.{State}
 use Rattle.review_roots.specs.Chains.{Steps, Path, here, more, HasPath, HasNoPath}
 use Rattle.review_roots.specs.Ranks.{rank, is_at_least}
-use Rattle.review_roots.specs.Found.{IsFound, IsLinked, AreLinked, PointBack, found_states, AreFound, IsStuck, HaveNoPath, IsSearch}
-use Rattle.review_roots.specs.Found.{IsDrawn}
+use Rattle.review_roots.specs.Body.Found.{IsFound, IsLinked, AreLinked, PointBack, found_states, AreFound, IsStuck, HaveNoPath, IsSearch}
+use Rattle.review_roots.specs.Body.Found.{IsDrawn}
 
 -- ---- Levels
 

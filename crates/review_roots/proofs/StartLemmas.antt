@@ -14,7 +14,6 @@ use Rattle.sudo_match.specs.KnownRows.{KnownRows}
 use Rattle.sudo_verdict.specs.RunasForms.{is_same_user, runas_allows}
 use Rattle.sudo_verdict.specs.Questions.{Question, question_as}
 use Rattle.review_roots.specs.declared.block.Block.{Block}
-use Rattle.review_roots.specs.declared.given.Given.{Given}
 use Rattle.review_roots.specs.declared.candidate.Candidate.{Candidate}
 use Rattle.review_roots.specs.declared.host.HostSteps.{HostSteps}
 use Rattle.review_roots.specs.declared.level.Level.{Level}
@@ -24,9 +23,10 @@ use Rattle.review_roots.specs.declared.search.Sought.{Sought}
 use Rattle.review_roots.specs.declared.state.State.{State}
 use Rattle.review_roots.specs.Asked.{better, given_alone, given_asked, given_towards, nothing}
 use Rattle.review_roots.specs.Blocks.{AreBlocks, lists, block_rows, standing_rows, with_rows}
-use Rattle.review_roots.specs.Candidates.{IsCandidate, steps_of}
+use Rattle.review_roots.specs.Body.Candidates.{IsCandidate}
+use Rattle.review_roots.specs.Sought.{steps_of}
 use Rattle.review_roots.specs.Chains.{Steps, Path, here, more}
-use Rattle.review_roots.specs.Found.{IsFound, IsLinked, found_states, states_of, IsIdle, IsStuck, IsSearch, IsStartOf}
+use Rattle.review_roots.specs.Body.Found.{IsFound, IsLinked, found_states, states_of, IsIdle, IsStuck, IsSearch, IsStartOf}
 use Rattle.review_roots.specs.Ranks.{rank, is_at_least}
 use Rattle.review_roots.specs.States.{given_between, step_given, person_of, group_at, level_for}
 use Rattle.review_roots.proofs.GivenLemmas.{blocks_give}

@@ -28,7 +28,7 @@ use Rattle.review_roots.specs.declared.level.Level.{Level}
 use Rattle.review_roots.specs.declared.level.Level.TheVariants as level
 use Rattle.review_roots.specs.declared.state.State.{State}
 use Rattle.review_roots.specs.declared.way.Password.TheVariants as password
-use Rattle.review_roots.specs.KnownGroups.{known_groups}
+use Rattle.review_roots.specs.KnownGroups.{known_groups, named_groups}
 use Rattle.review_roots.specs.States.{all_states, state_with, step_given}
 use Rattle.review_roots.specs.Ways.{worse, step_password}
 
@@ -138,6 +138,11 @@ steps_between :
 unfolding reading_within written_form user_named user_fits group_fits host_fits tags_named
     tags_before tags_at runas_before runas_at value form_allows runas_allows place_grants section_grants grants
 steps_between = (refl, refl, refl, refl, refl, refl)
+
+-- of the known groups the rules name adm alone
+groups_named : named_groups policy known ≡ adm ∷ []
+unfolding reading_within written_form
+groups_named = refl
 
 -- ---- Passwords: the worst of a chain's steps, which begin with user 1
 

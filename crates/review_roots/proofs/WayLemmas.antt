@@ -10,7 +10,7 @@ use Rattle.review_roots.specs.declared.state.State.{State}
 use Rattle.review_roots.specs.declared.way.Password.{Password}
 use Rattle.review_roots.specs.declared.way.Password.TheVariants as password
 use Rattle.review_roots.specs.Chains.{Steps, LeadsAlong}
-use Rattle.review_roots.specs.Found.{IsLinked, AreLinked}
+use Rattle.review_roots.specs.Body.Found.{IsLinked, AreLinked}
 use Rattle.review_roots.specs.Ranks.{is_at_least}
 use Rattle.review_roots.specs.Ways.{worse, step_password, step_on, password_along}
 use Rattle.review_roots.proofs.SearchLemmas.{at-least-trans, at-least-itself}

@@ -3,11 +3,10 @@ pub mod Ranks
 pub mod Passwords
 pub mod Asked
 pub mod Blocks
-pub mod Heads
 pub mod Chains
 pub mod States
-pub mod Candidates
-pub mod Found
+pub mod Sought
 pub mod KnownGroups
 pub mod Ways
 pub mod Roots
+pub mod Body

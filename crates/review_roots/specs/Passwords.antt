@@ -9,7 +9,8 @@ use Rattle.sudo_verdict.specs.Values.{is_all}
 use Rattle.sudo_verdict.specs.Questions.{Question}
 use Rattle.sudo_verdict.specs.Grants.{Grant}
 use Rattle.sudo_verdict.specs.Verdicts.{verdict_on}
-use Rattle.review_roots.specs.Levels.{target_rows, with_command}
+use Rattle.review_roots.specs.declared.level.Level.TheVariants as level
+use Rattle.review_roots.specs.Levels.{level_of, target_rows, with_command}
 
 abbrev pub is_off : Option Bool → Bool
 is_off (Some false) = true
@@ -35,3 +36,7 @@ abbrev pub FreeNeedsNoPassword : Type 0
 FreeNeedsNoPassword =
     (p : Policy) (q : Question) → is_free (target_rows p q) ≡ true →
     (command arguments : List ℕ) → freely_allowed (verdict_on p (with_command q command arguments)) ≡ true
+
+-- rows that are free of passwords have the level All
+abbrev pub FreeIsAll : Type 0
+FreeIsAll = (gs : List Grant) → is_free gs ≡ true → level_of gs ≡ level.All

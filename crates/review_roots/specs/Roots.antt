@@ -7,7 +7,7 @@ use Rattle.review_roots.specs.declared.host.HostSteps.{HostSteps}
 use Rattle.review_roots.specs.declared.level.Level.{Level}
 use Rattle.review_roots.specs.declared.roots.Root.{Root}
 use Rattle.review_roots.specs.declared.way.Way.{Way}
-use Rattle.review_roots.specs.Candidates.{any_steps}
+use Rattle.review_roots.specs.Sought.{any_steps}
 use Rattle.review_roots.specs.Chains.{HasNoPath}
 use Rattle.review_roots.specs.States.{state_with}
 use Rattle.review_roots.specs.Ways.{IsWay}

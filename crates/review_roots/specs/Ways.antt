@@ -11,7 +11,7 @@ use Rattle.review_roots.specs.declared.state.State.{State}
 use Rattle.review_roots.specs.declared.way.Password.{Password}
 use Rattle.review_roots.specs.declared.way.Password.TheVariants as password
 use Rattle.review_roots.specs.declared.way.Way.{Way}
-use Rattle.review_roots.specs.Candidates.{any_steps, free_steps, steps_of}
+use Rattle.review_roots.specs.Sought.{any_steps, free_steps, steps_of}
 use Rattle.review_roots.specs.Chains.{HasNoPath, HasPath, LeadsAlong}
 use Rattle.review_roots.specs.Ranks.{is_at_least}
 use Rattle.review_roots.specs.States.{step_given}

@@ -12,7 +12,7 @@ ghost use Rattle.sudo_verdict.specs.Body.Resolved.{body_resolves};
 ghost use Rattle.sudo_grammar.specs.declared.policy.CommandSpec.{CommandSpec as TheSpec};
 ghost use Rattle.sudo_grammar.specs.declared.tag.Tag.{Tag as TheTag};
 ghost use Rattle.review_roots.specs.Blocks.{AreBlocks, block_resolves, block_rows, row_of, sign_of};
-ghost use Rattle.review_roots.specs.Heads.{IsInForce, head_resolves, signed_row};
+ghost use Rattle.review_roots.specs.Body.Heads.{IsInForce, head_resolves, signed_row};
 
 use std::alloc::{AllocError, Global};
 use std::slice;

@@ -4,7 +4,7 @@ ghost use Rattle.std.specs.List.{list_any};
 ghost use Rattle.sudo_verdict.specs.RunasForms as form;
 ghost use Rattle.review_roots.specs.Asked.{given_alone, given_asked, given_towards};
 ghost use Rattle.review_roots.specs.Blocks.{lists};
-ghost use Rattle.review_roots.specs.Candidates.{IsCandidate, KnowsLists};
+ghost use Rattle.review_roots.specs.Body.Candidates.{IsCandidate, KnowsLists};
 ghost use Rattle.review_roots.specs.States.{step_given, person_of};
 ghost use Rattle.review_roots.specs.declared.candidate.Candidate.{Candidate as TheCandidate};
 
@@ -23,8 +23,8 @@ pub(crate) struct Candidate {
     pub(crate) listed: Vec<bool>,
 }
 
-// Whether two users have one name.
-fn is_same_user(one: &Person, other: &Person) -> bool
+/// Whether two users have one name.
+pub(crate) fn is_same_user(one: &Person, other: &Person) -> bool
     ensures { result ≡ form.is_same_user one.now other.now }
 {
     one.name.as_slice() == other.name.as_slice()
@@ -50,8 +50,8 @@ impl HostSteps<'_> {
         alloc: Global,
         state: State,
     ) -> Result<Option<Candidate>, AllocError>
-        ensures known { IfOk result (λ found. (c : TheCandidate) → found ≡ Some c → (c.state ≡ state)
-            × IsCandidate self.now c) }
+        ensures known { IfOk result (λ found. (c : TheCandidate) → found ≡ Some c
+            → (c.state ≡ state) × IsCandidate self.now c) }
         ensures unknown { IfOk result (λ found. found ≡ None
             → person_of self.now.directory.now self.now.groups.now state ≡ None) }
     {
@@ -106,8 +106,13 @@ impl HostSteps<'_> {
         }
     }
 
-    // Returns what the user is given on the way to a target with a group, if any.
-    fn towards(&self, candidate: &Candidate, target: &Person, group: Option<&Group>) -> Given
+    /// Returns what the user is given on the way to a target with a group, if any.
+    pub(crate) fn towards(
+        &self,
+        candidate: &Candidate,
+        target: &Person,
+        group: Option<&Group>,
+    ) -> Given
         requires { KnowsLists self.now candidate.now }
         ensures { result ≡ given_towards self.now.checked.now self.now.directory.now
             self.now.host.now candidate.now.person target.now

@@ -13,15 +13,20 @@ use sudo_text::Place;
 /// A row that allows: the place of its rule, and its tags.
 #[derive(Clone, Copy, Debug, PartialEq, Eq)]
 pub struct AllowingRow {
+    /// The place of its rule.
     pub place: Place,
+    /// The tags in force at its command.
     pub tags: Tags,
 }
 
-/// What rows give: the level of what they allow, whether no password is asked, and the last of them that allows, if any.
+/// What rows give, whatever the command.
 #[derive(Clone, Copy, Debug, PartialEq, Eq)]
 pub struct Given {
+    /// The level of what they allow.
     pub level: Level,
+    /// Whether every command is allowed with NOPASSWD: the level is then `All`.
     pub free: bool,
+    /// The last of them that allows, if any.
     pub by: Option<AllowingRow>,
 }
 

@@ -8,12 +8,16 @@ use std::alloc::{AllocError, Global};
 use sudo_match::{Directory, Group, Machine};
 use sudo_policy::Checked;
 
-/// What the steps of users on a host depend on: the policy, the known users, the host, and the groups that may be added.
+/// What the steps of users on a host depend on: the policy, the known users, the host, and the groups that may be added
+/// (all known ones, or, for less work, those that user lists name: [`crate::known_groups`], [`crate::named_groups`]).
 #[derive(Drop)]
 pub struct HostSteps<'a> {
+    /// The policy.
     pub checked: &'a Checked,
+    /// The known users.
     pub directory: &'a Directory,
     pub host: &'a Machine,
+    /// The groups that may be added.
     pub groups: &'a [Group],
     pub(crate) blocks: Vec<Block<'a>>,
     ghost tied: { AreBlocks checked.now host.now blocks.items },

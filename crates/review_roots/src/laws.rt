@@ -3,7 +3,7 @@ ghost use Rattle.std.specs.Prelude.{◌≡◌, Some, slice_get};
 ghost use Rattle.sudo_grammar.specs.Tags.{pairs};
 ghost use Rattle.sudo_grammar.specs.declared.tag.TagPair.TheVariants.{Passwd};
 ghost use Rattle.review_roots.specs.Levels.{AllAllowsAll, NoneAllowsNone};
-ghost use Rattle.review_roots.specs.Passwords.{FreeNeedsNoPassword};
+ghost use Rattle.review_roots.specs.Passwords.{FreeNeedsNoPassword, FreeIsAll};
 ghost use Rattle.review_roots.specs.Chains.{ChainsArePaths};
 ghost use Rattle.review_roots.specs.KnownGroups.{OtherGroupsChangeNoList};
 
@@ -17,10 +17,12 @@ pub fn none_allows_none()
     ensures { NoneAllowsNone }
 {}
 
-/// Where the rows for a target are free of passwords, every command is allowed with the tag NOPASSWD.
+/// Where the rows for a target are free of passwords, every command is allowed with the tag NOPASSWD; and their level is
+/// `All`.
 pub fn free_needs_no_password()
     ensures place { slice_get pairs 6 ≡ Some Passwd }
     ensures free { FreeNeedsNoPassword }
+    ensures all { FreeIsAll }
 {}
 
 /// A user with a further group that the user list of no rule names is allowed by those lists that allow it without.

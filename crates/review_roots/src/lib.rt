@@ -14,6 +14,7 @@ mod level;
 mod roots;
 mod search;
 mod state;
+mod toward;
 mod way;
 
 pub use given::{AllowingRow, Given};

@@ -2,7 +2,7 @@
 ghost use Rattle.std.specs.Prelude.{◌≡◌, ◌<◌, IfOk, IsTrue, MatchOption, Some, None, length};
 ghost use Rattle.review_roots.specs.States.{state_with};
 ghost use Rattle.review_roots.specs.Ways.{IsWay};
-ghost use Rattle.review_roots.specs.Found.{AreChains, ChainsLead, IsFoundAt, IsFreeAt, is_start};
+ghost use Rattle.review_roots.specs.Body.Found.{AreChains, ChainsLead, IsFoundAt, IsFreeAt, is_start};
 ghost use Rattle.review_roots.specs.Ranks.{is_at_least};
 ghost use Rattle.review_roots.specs.Roots.{AreRoots, IsRootAt, IsNoRoot, has_zero};
 ghost use Rattle.review_roots.specs.declared.level.Level.{Level as TheLevel};
@@ -20,6 +20,7 @@ use std::alloc::{AllocError, Global};
 pub struct Root {
     /// The index of the user among the known ones.
     pub user: usize,
+    /// The chain, or `None` if the user is the target, or has ID 0.
     pub way: Option<Way>,
 }
 
@@ -112,8 +113,11 @@ fn root_of(
     }
 }
 
-/// Returns the users that can become the target on the host, in the order of the directory: those for whom a chain of steps
-/// of the least level, or a better one, leads to it, the target itself, and all with ID 0.
+/// Returns the users that can become the target on the host, in the order of the directory: the target itself, all with ID 0,
+/// and those from whom a chain of steps of the least level, or a better one, leads to it.
+///
+/// The chain that is given has the best level of all from the user, however long; and it asks for no password, if one of that
+/// level does not. From a user that is not among them no chain of the least level leads to the target, however long.
 ///
 /// Returns `AllocError` if allocation fails.
 pub fn roots_on(

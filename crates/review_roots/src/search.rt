@@ -1,15 +1,18 @@
 //! The search for the states that lead to a target: back from the target, level by level.
 ghost use Rattle.std.specs.Prelude.{◌≡◌, ◌++◌, ◌∷◌, [], Bool, List, IfOk, OnOk, IsTrue, All, filter, map, not};
-ghost use Rattle.review_roots.specs.Candidates.{IsCandidate, any_steps, free_steps, steps_of};
-ghost use Rattle.review_roots.specs.Found.{AreFound, IsSearch, HaveNoPath, IsStartOf, found_by, reaches, states_of};
+ghost use Rattle.review_roots.specs.Body.Candidates.{IsCandidate};
+ghost use Rattle.review_roots.specs.Sought.{any_steps, free_steps, steps_of};
+ghost use Rattle.review_roots.specs.Body.Found.{AreFound, IsSearch, HaveNoPath, IsStartOf, found_by, reaches, states_of};
 ghost use Rattle.review_roots.specs.declared.state.State.{State as TheState};
 ghost use Rattle.review_roots.specs.Ranks.{is_at_least};
+ghost use Rattle.review_roots.specs.Body.Towards.{IsToward};
 ghost use Rattle.review_roots.specs.declared.level.Level.TheVariants as level;
 
 use crate::Level;
 use crate::candidate::Candidate;
 use crate::host::HostSteps;
 use crate::state::{State, all_states};
+use crate::toward::Toward;
 use std::alloc::{AllocError, Global};
 
 /// A state from which a chain of steps leads to the target: the level of the chain, and the index of the found state to
@@ -53,11 +56,12 @@ struct Start {
 }
 
 // Whether the step of the candidate to the state has the level or a better one.
-fn reaches(steps: &HostSteps<'_>, aim: Aim, candidate: &Candidate) -> bool
-    requires { IsCandidate steps.now candidate.now }
+fn reaches(steps: &HostSteps<'_>, aim: Aim, toward: &Toward<'_>, candidate: &Candidate) -> bool
+    requires candidate { IsCandidate steps.now candidate.now }
+    requires toward { IsToward steps.now aim.state toward.now }
     ensures { result ≡ reaches steps.now aim candidate.now }
 {
-    let given = steps.step(candidate, aim.state);
+    let given = steps.step_toward(candidate, toward);
     given.level_for(aim.free).is_at_least(aim.level)
 }
 
@@ -75,9 +79,10 @@ fn draw<'c>(
     ensures found { OnOk result (found.new.items ≡ found.old.items
         ++ map (found_by aim) (filter (reaches steps.now aim) (map (λ c. c.now) left.now))) }
 {
+    let toward = steps.toward(alloc, aim.state)?;
     let mut kept = Vec::new(alloc);
     for candidate in left {
-        if reaches(steps, aim, candidate) {
+        if reaches(steps, aim, &toward, candidate) {
             found.push(Found {
                 state: candidate.state,
                 level: aim.level,

@@ -6,10 +6,12 @@ use std::alloc::{AllocError, Global};
 use sudo_match::{Group, Person};
 use sudo_text::Seq;
 
-/// A user, by the index of its row, with at most one added group, by its index among the groups that may be added.
+/// A user with at most one added group: who one can be on the way to a target, since `sudo -g` adds a group.
 #[derive(Clone, Copy, Debug, PartialEq, Eq)]
 pub struct State {
+    /// The index of the user among the known ones.
     pub user: usize,
+    /// The index of the added group, if any, among the groups that may be added.
     pub added: Option<usize>,
 }
 

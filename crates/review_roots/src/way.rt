@@ -1,9 +1,9 @@
 //! A chain of steps to a target, with the row that allows its first step, and whose passwords it asks for.
 ghost use Rattle.std.specs.Prelude.{◌≡◌, ◌<◌, All, IfOk, Some, length, slice_get};
 ghost use Rattle.std.specs.List.{Contains};
-ghost use Rattle.review_roots.specs.Candidates.{steps_of};
+ghost use Rattle.review_roots.specs.Sought.{steps_of};
 ghost use Rattle.review_roots.specs.Chains.{LeadsAlong, Steps as TheSteps};
-ghost use Rattle.review_roots.specs.Found.{AreFound, AreLinked, PointBack, found_states};
+ghost use Rattle.review_roots.specs.Body.Found.{AreFound, AreLinked, PointBack, found_states};
 ghost use Rattle.review_roots.specs.Ways.{IsChain, first_row, password_along, password_name, step_password, worse};
 ghost use Rattle.review_roots.specs.declared.level.Level.{Level as TheLevel};
 ghost use Rattle.review_roots.specs.declared.search.Found.{Found as TheFound};

@@ -2,7 +2,7 @@ use Rattle.std.proofs.Common.{◌≡◌, ◌++◌, IsTrue, flat_map, map, take}
 use Rattle.std.specs.List.{enumerate_from, list_all}
 use Rattle.sudo_verdict.specs.Grants.{place_grants}
 use Rattle.review_roots.specs.Blocks.{block_resolves, block_rows, row_of}
-use Rattle.review_roots.specs.Heads.{IsInForce}
+use Rattle.review_roots.specs.Body.Heads.{IsInForce}
 use Rattle.review_roots.proofs.block.push_section.Given as goal
 
 abbrev pub invariant-loop-spec : goal.invariant-loop-spec

@@ -38,4 +38,5 @@ returns c =
     c.as_slice-entry-items.ensures ∙ ap (λ (q : Policy). q.entries) c.policy.ensures.value in
     let long = ap length same in
     c.loop-entry.invariant
-    ∙ ap (flat_map (λ (e : Entry). body_users p e.body)) (take_all c.loop-entry.entry-index p.entries (omega (arith, long, c.loop-entry-test.false)))
+    ∙ ap (flat_map (λ (e : Entry). body_users p e.body))
+    (take_all c.loop-entry.entry-index p.entries (omega (arith, long, c.loop-entry-test.false)))

@@ -1,6 +1,6 @@
 use Rattle.std.proofs.Common.{◌≡◌, false, take}
 use Rattle.std.specs.Prelude.{All}
-use Rattle.review_roots.specs.Found.{is_start}
+use Rattle.review_roots.specs.Body.Found.{is_start}
 use Rattle.review_roots.proofs.roots.found_index.Given as goal
 
 abbrev pub invariant-loop-index : goal.invariant-loop-index

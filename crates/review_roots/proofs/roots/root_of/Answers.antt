@@ -1,7 +1,7 @@
 use Rattle.std.proofs.Common.{◌≡◌, List, false, refl, subst}
 use Rattle.std.specs.Prelude.{All}
 use Rattle.review_roots.specs.declared.search.Found.{Found}
-use Rattle.review_roots.specs.Found.{is_start}
+use Rattle.review_roots.specs.Body.Found.{is_start}
 use Rattle.review_roots.proofs.RootLemmas.{no-root, not-itself}
 use Rattle.review_roots.proofs.RowLemmas.{way-allows}
 use Rattle.review_roots.proofs.roots.root_of.Goals as goal

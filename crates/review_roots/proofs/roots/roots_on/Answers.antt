@@ -2,7 +2,7 @@ use Rattle.std.proofs.Common.{◌<◌, ◌∙◌, ◌+◌, List, Vec, Global, ap
 use Rattle.std.specs.Prelude.{MatchOption}
 use Rattle.sudo_match.specs.declared.people.Person.{Person}
 use Rattle.review_roots.specs.declared.roots.Root.{Root}
-use Rattle.review_roots.specs.Found.{ChainsLead}
+use Rattle.review_roots.specs.Body.Found.{ChainsLead}
 use Rattle.review_roots.specs.Roots.{IsNoRoot, IsRootAt}
 use Rattle.review_roots.proofs.RootLemmas.{AreRootsBefore, roots-more, roots-same}
 use Rattle.review_roots.proofs.roots.roots_on.Goals as goal

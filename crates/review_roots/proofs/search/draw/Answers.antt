@@ -1,8 +1,11 @@
-use Rattle.review_roots.specs.Candidates.{IsCandidate}
+use Rattle.review_roots.specs.Body.Candidates.{IsCandidate}
 use Rattle.review_roots.proofs.LoopLemmas.{all-mapped}
 use Rattle.review_roots.proofs.search.draw.Goals as goal
 
 pub reaches-requires : goal.reaches-requires
-reaches-requires c =
-    all-mapped (IsCandidate c.args.steps.now) (λ k. k.now) c.args.left.now c.loop-candidate.candidate-index c.candidate-item.result
-    c.loop-candidate-test.true c.candidate-item.is c.requires
+reaches-requires c = record {
+  candidate = all-mapped (IsCandidate c.args.steps.now) (λ k. k.now) c.args.left.now c.loop-candidate.candidate-index
+      c.candidate-item.result
+      c.loop-candidate-test.true c.candidate-item.is c.requires;
+  toward = c.in_ok-toward.ensures;
+}

@@ -1,6 +1,6 @@
 use Rattle.std.proofs.Common.{◌≡◌, ◌++◌, map, not, take}
 use Rattle.std.specs.Prelude.{filter}
-use Rattle.review_roots.specs.Found.{found_by, reaches}
+use Rattle.review_roots.specs.Body.Found.{found_by, reaches}
 use Rattle.review_roots.proofs.search.draw.Given as goal
 
 abbrev pub invariant-loop-candidate : goal.invariant-loop-candidate

@@ -1,7 +1,7 @@
 use Rattle.std.proofs.Common.{◌∙◌, List, ap, arith, length, subst, sym, take}
 use Rattle.std.proofs.lemmas.List.{take_all, take_more}
 use Rattle.sudo_match.specs.declared.people.Person.{Person}
-use Rattle.review_roots.specs.Found.{IsStartOf}
+use Rattle.review_roots.specs.Body.Found.{IsStartOf}
 use Rattle.review_roots.specs.States.{all_states}
 use Rattle.review_roots.proofs.search.first_found.Goals as goal
 

@@ -1,5 +1,5 @@
 use Rattle.std.proofs.Common.{Bool, take}
-use Rattle.review_roots.specs.Found.{IsStartOf}
+use Rattle.review_roots.specs.Body.Found.{IsStartOf}
 use Rattle.review_roots.proofs.search.first_found.Given as goal
 
 abbrev pub invariant-loop-state : goal.invariant-loop-state

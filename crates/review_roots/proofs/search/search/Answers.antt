@@ -1,8 +1,7 @@
-use Rattle.std.proofs.Common.{◌∙◌, Global, List, Vec, ap, false, subst, sym, true}
-use Rattle.review_roots.specs.declared.candidate.Candidate.{Candidate}
+use Rattle.std.proofs.Common.{◌∙◌, List, false, subst, sym, true}
 use Rattle.review_roots.specs.declared.search.Found.{Found}
-use Rattle.review_roots.specs.Candidates.{any_steps}
-use Rattle.review_roots.specs.Found.{IsStartOf}
+use Rattle.review_roots.specs.Sought.{any_steps}
+use Rattle.review_roots.specs.Body.Found.{IsStartOf}
 use Rattle.review_roots.proofs.search.search.Goals as goal
 
 pub search_levels-requires-clause-start : goal.search_levels-requires-clause-start

@@ -1,8 +1,8 @@
 use Rattle.std.proofs.Common.{List, map, subst, sym}
 use Rattle.review_roots.specs.declared.candidate.Candidate.{Candidate}
 use Rattle.review_roots.specs.declared.level.Level.TheVariants as level
-use Rattle.review_roots.specs.Candidates.{steps_of}
-use Rattle.review_roots.specs.Found.{AreFound, IsSearch, states_of}
+use Rattle.review_roots.specs.Sought.{steps_of}
+use Rattle.review_roots.specs.Body.Found.{AreFound, IsSearch, states_of}
 use Rattle.review_roots.proofs.SearchLemmas.{all-found, listed-alone}
 use Rattle.review_roots.proofs.StartLemmas.{start-search}
 use Rattle.review_roots.proofs.search.search_levels.Goals as goal

@@ -1,7 +1,7 @@
 use Rattle.std.proofs.Common.{◌≡◌, ◌∙◌, ◌==◌, ◌++◌, ◌∷◌, [], ap, false, subst, sym}
 use Rattle.std.proofs.lemmas.Bool.{eq-eqb, ne_eqb}
-use Rattle.review_roots.specs.Candidates.{steps_of}
-use Rattle.review_roots.specs.Found.{IsIdle, IsStartOf}
+use Rattle.review_roots.specs.Sought.{steps_of}
+use Rattle.review_roots.specs.Body.Found.{IsIdle, IsStartOf}
 use Rattle.review_roots.proofs.StartLemmas.{sorted-goal, sorted-listed, sorted-idle, unlisted-idle, unknown-idle}
 use Rattle.review_roots.proofs.search.sort_state.Goals as goal
 

@@ -2,8 +2,9 @@ use Rattle.std.proofs.Common.{◌≡◌, ◌<◌, ◌∙◌, Bor, List, Some, ap
 use Rattle.std.specs.Prelude.{All, slice_get}
 use Rattle.std.proofs.lemmas.List.{length-map}
 use Rattle.review_roots.specs.declared.candidate.Candidate.{Candidate}
-use Rattle.review_roots.specs.Candidates.{IsCandidate, steps_of}
-use Rattle.review_roots.specs.Found.{IsDrawn, IsSearch, states_of}
+use Rattle.review_roots.specs.Body.Candidates.{IsCandidate}
+use Rattle.review_roots.specs.Sought.{steps_of}
+use Rattle.review_roots.specs.Body.Found.{IsDrawn, IsSearch, states_of}
 use Rattle.review_roots.proofs.DrawLemmas.{spread-search, spread-drawn, spread-candidates, spread-length}
 use Rattle.review_roots.proofs.LoopLemmas.{there}
 use Rattle.review_roots.proofs.SearchLemmas.{none-left}

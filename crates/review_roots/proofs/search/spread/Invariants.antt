@@ -1,7 +1,8 @@
 use Rattle.std.proofs.Common.{◌+◌, ◌-◌, map, length}
 use Rattle.std.specs.Prelude.{All}
-use Rattle.review_roots.specs.Candidates.{IsCandidate, steps_of}
-use Rattle.review_roots.specs.Found.{IsSearch, IsDrawn, states_of}
+use Rattle.review_roots.specs.Body.Candidates.{IsCandidate}
+use Rattle.review_roots.specs.Sought.{steps_of}
+use Rattle.review_roots.specs.Body.Found.{IsSearch, IsDrawn, states_of}
 use Rattle.review_roots.proofs.search.spread.Given as goal
 
 abbrev pub invariant-loop-index : goal.invariant-loop-index

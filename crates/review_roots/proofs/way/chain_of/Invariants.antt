@@ -1,7 +1,7 @@
 use Rattle.std.proofs.Common.{◌<◌, length}
 use Rattle.std.specs.Prelude.{All}
 use Rattle.std.specs.List.{Contains}
-use Rattle.review_roots.specs.Found.{found_states}
+use Rattle.review_roots.specs.Body.Found.{found_states}
 use Rattle.review_roots.proofs.WayLemmas.{LeadsSoFar}
 use Rattle.review_roots.proofs.way.chain_of.Given as goal
 

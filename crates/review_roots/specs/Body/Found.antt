@@ -10,7 +10,8 @@ use Rattle.review_roots.specs.declared.search.Chains.{Chains}
 use Rattle.review_roots.specs.declared.search.Found.{Found}
 use Rattle.review_roots.specs.declared.search.Sought.{Sought}
 use Rattle.review_roots.specs.declared.state.State.{State}
-use Rattle.review_roots.specs.Candidates.{IsCandidate, any_steps, free_steps, steps_of}
+use Rattle.review_roots.specs.Body.Candidates.{IsCandidate}
+use Rattle.review_roots.specs.Sought.{any_steps, free_steps, steps_of}
 use Rattle.review_roots.specs.Chains.{Steps, HasPath, HasNoPath}
 use Rattle.review_roots.specs.Ranks.{rank, is_at_least}
 use Rattle.review_roots.specs.States.{level_for, step_given}

@@ -1,0 +1,5 @@
+-- Definitions that only the proofs of bodies use: no contract of a public function cites them.
+pub mod Heads
+pub mod Candidates
+pub mod Towards
+pub mod Found
