@@ -1,6 +1,6 @@
 -- The table of who can become root, from its parts.
 use Rattle.std.proofs.Common.{◌≡◌, ◌+◌, ◌<◌, ◌∙◌, arith, ℕ, Bool, true, false, cond, List, [], ◌∷◌, ◌++◌, ap, append-nil, append_assoc}
-use Rattle.std.proofs.Common.{drop, filter, flat_map, get_or, is_some, length, map, map-id, refl, subst, sym, take, zip}
+use Rattle.std.proofs.Common.{drop, filter, flat_map, get_or, is_some, length, map-id, refl, subst, sym, take}
 use Rattle.std.proofs.Common.{Result, Ok, Err, IfOk, ◌≤◌, suc, zero}
 use Rattle.std.specs.List.{range_with_len}
 use Rattle.std.proofs.lemmas.Grind.{flat_map-append}

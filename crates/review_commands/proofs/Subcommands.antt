@@ -58,5 +58,5 @@ refused_by words e BadClass o read memory kinds nothing =
 -- what is said of each text of a flag
 pub flag-of : (on : Bool) (o : Option Text) → (o ≡ None → on ≡ false) → (o ≡ Some (codes "true") → on ≡ true)
     → (o ≡ Some (codes "false") → on ≡ false) → IsFlag on o
-flag-of on None none yes no = none refl
-flag-of on (Some text) none yes no = (λ is. yes (ap Some is), λ is. no (ap Some is))
+flag-of on None none given not_given = none refl
+flag-of on (Some text) none given not_given = (λ is. given (ap Some is), λ is. not_given (ap Some is))

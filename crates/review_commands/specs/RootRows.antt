@@ -1,5 +1,5 @@
 -- The table of who can become root. sudo(8), options -u and -g; sudoers(5), "Tag_Spec".
-use Rattle.std.specs.Prelude.{◌≡◌, ℕ, Bool, true, false, ◌&&◌, ◌==◌, cond, List, [], ◌∷◌, ◌++◌, codes, drop, filter, flat_map, map, zip}
+use Rattle.std.specs.Prelude.{◌≡◌, ℕ, Bool, false, ◌&&◌, ◌==◌, cond, List, [], ◌∷◌, ◌++◌, codes, drop, filter, flat_map, map, zip}
 use Rattle.std.specs.Prelude.{length, slice_get, Option, Some, None, is_some}
 use Rattle.std.specs.List.{range_with_len}
 use Rattle.audit_files.specs.Places.{place_text}
@@ -10,10 +10,9 @@ use Rattle.sudo_match.specs.declared.people.Group.{Group}
 use Rattle.sudo_match.specs.declared.people.Machine.{Machine}
 use Rattle.sudo_match.specs.declared.people.Person.{Person}
 use Rattle.review_cautions.specs.PasswordDefaults.{decides_passwords}
-use Rattle.review_roots.specs.KnownGroups.{named_groups}
+use Rattle.review_roots.specs.AddableGroups.{addable_groups}
 use Rattle.review_roots.specs.Ranks.{level_name}
 use Rattle.review_roots.specs.Roots.{AreRoots}
-use Rattle.review_roots.specs.Ways.{password_name}
 use Rattle.review_roots.specs.declared.given.AllowingRow.{AllowingRow}
 use Rattle.review_roots.specs.declared.host.HostSteps.{HostSteps}
 use Rattle.review_roots.specs.declared.level.Level.{Level}
@@ -113,10 +112,10 @@ pub record AreTargetRows (p : Policy) (d : KnownRows) (all : Bool) (m : Machine)
   pub policy_is : steps.checked.now ≡ p
   pub directory_is : steps.directory.now ≡ d
   pub host_is : steps.host.now ≡ m
-  pub groups_are : steps.groups.now ≡ named_groups p d
+  pub groups_are : steps.groups.now ≡ addable_groups p d
   pub roots : List Root
   pub are : AreRoots steps target (least_listed all) roots
-  pub text_is : text ≡ flat_map (λ r. line (root_fields p d (named_groups p d) m target r)) roots
+  pub text_is : text ≡ flat_map (λ r. line (root_fields p d (addable_groups p d) m target r)) roots
 
 -- each item has its text, in order
 abbrev pub Each : {X : Type 0} → (X → List ℕ → Type 0) → List X → List (List ℕ) → Type 0

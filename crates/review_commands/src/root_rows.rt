@@ -3,7 +3,7 @@ ghost use Rattle.std.specs.Prelude.{◌≡◌, ◌++◌, ◌∷◌, [], IfOk, On
 ghost use Rattle.csv.specs.Writing.{default_writer, fields_text};
 ghost use Rattle.audit_files.specs.Report.{line};
 ghost use Rattle.review_cautions.specs.PasswordDefaults.{decides_passwords};
-ghost use Rattle.review_roots.specs.KnownGroups.{named_groups};
+ghost use Rattle.review_roots.specs.AddableGroups.{addable_groups};
 ghost use Rattle.review_commands.specs.RootRows as spec;
 
 use audit_files::{push_field, push_next_field, push_place, put_tags};
@@ -22,7 +22,7 @@ pub(crate) struct RootTable<'a> {
     pub(crate) groups: &'a [Group],
     pub(crate) unsure: bool,
     pub(crate) all: bool,
-    ghost grouped: { groups.now ≡ named_groups checked.now directory.now },
+    ghost grouped: { groups.now ≡ addable_groups checked.now directory.now },
     ghost decided: { unsure ≡ decides_passwords checked.now },
 }
 
@@ -229,12 +229,7 @@ fn way_texts(
 
 // Appends three further fields of a record.
 #[tactic(auto, unfolding(csv::specs::Writing::fields_text))]
-fn push_three(
-    text: &mut Vec<u8>,
-    one: &[u8],
-    two: &[u8],
-    three: &[u8],
-) -> Result<(), AllocError>
+fn push_three(text: &mut Vec<u8>, one: &[u8], two: &[u8], three: &[u8]) -> Result<(), AllocError>
     ensures { OnOk result (text.new.items ≡ text.old.items
         ++ fields_text default_writer (one.now ∷ two.now ∷ three.now ∷ [])) }
 {
@@ -269,7 +264,12 @@ fn push_record(
 {
     push_field(text, user)?;
     push_three(text, host, target, way.level)?;
-    push_three(text, way.password, way.place.as_slice(), way.tags.as_slice())?;
+    push_three(
+        text,
+        way.password,
+        way.place.as_slice(),
+        way.tags.as_slice(),
+    )?;
     push_end(text, way.via.as_slice())
 }
 
@@ -365,11 +365,7 @@ fn is_zero(directory: &Directory, user: usize) -> bool
 }
 
 // Appends the known user of an index, if it has ID 0.
-fn push_zero(
-    targets: &mut Vec<usize>,
-    directory: &Directory,
-    user: usize,
-) -> Result<(), AllocError>
+fn push_zero(targets: &mut Vec<usize>, directory: &Directory, user: usize) -> Result<(), AllocError>
     ensures { OnOk result (targets.new.items ≡ targets.old.items
         ++ (cond (spec.is_zero (slice_get directory.now.people user)) (user ∷ []) [])) }
 {

@@ -12,7 +12,7 @@ use crate::root_rows::{RootTable, roots_text};
 use crate::survey::{noted, or_memory, read_survey};
 use audit_files::{Feed, Sink};
 use review_cautions::decides_passwords;
-use review_roots::named_groups;
+use review_roots::addable_groups;
 use run_base::{Files, RunOutput};
 use std::alloc::{AllocError, Global};
 use sudo_match::Directory;
@@ -28,7 +28,7 @@ fn roots_table(
     ensures { IfOk result (λ o. AreRootRows all policy.now directory.now o.text.items o.status) }
 {
     let unsure = decides_passwords(alloc, policy.policy())?;
-    let groups = named_groups(alloc, policy, directory)?;
+    let groups = addable_groups(alloc, policy, directory)?;
     let table = RootTable {
         checked: policy,
         directory,

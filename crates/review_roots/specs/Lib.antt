@@ -7,6 +7,7 @@ pub mod Chains
 pub mod States
 pub mod Sought
 pub mod KnownGroups
+pub mod AddableGroups
 pub mod Ways
 pub mod Roots
 pub mod Body

@@ -4,6 +4,7 @@
 //! sudoers(5), "User Specification", "Runas_Spec", "Tag_Spec"; sudo(8), options -u and -g.
 #![tactic(auto)]
 
+mod addable;
 mod block;
 mod candidate;
 mod given;
@@ -17,6 +18,7 @@ mod state;
 mod toward;
 mod way;
 
+pub use addable::addable_groups;
 pub use given::{AllowingRow, Given};
 pub use groups::{known_groups, named_groups};
 pub use host::HostSteps;

@@ -7,11 +7,12 @@ use Rattle.review_commands.proofs.root_rows.roots_text.Goals as goal
 pub loop-host-preserved : goal.loop-host-preserved
 loop-host-preserved c =
     let parts = c.loop-host.invariant.0 in
-    let more = c.in_ok-push_host.ensures in
-    (parts ++ more.0 ∷ [],
-    each-next (AreHostRows c.args.table.checked.now c.args.table.directory.now c.args.table.all) c.machines-host-items.result.now
-    c.loop-host.host-index c.host-item.result more.0 parts c.loop-host-test.true c.host-item.is c.loop-host.invariant.1 more.1,
-    whole-next (line roots_header) c.loop-host.text.items c.push_host.new.text.items more.0 parts c.loop-host.invariant.2 more.2)
+    let more = c.in_ok-push_host.ensures in (
+      parts ++ more.0 ∷ [],
+      each-next (AreHostRows c.args.table.checked.now c.args.table.directory.now c.args.table.all) c.machines-host-items.result.now
+          c.loop-host.host-index c.host-item.result more.0 parts c.loop-host-test.true c.host-item.is c.loop-host.invariant.1 more.1,
+      whole-next (line roots_header) c.loop-host.text.items c.push_host.new.text.items more.0 parts c.loop-host.invariant.2 more.2,
+    )
 
 pub returns : goal.returns
 returns c =
