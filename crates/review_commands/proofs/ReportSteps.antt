@@ -23,7 +23,8 @@ pub checked_of : (held : Option Holdings) (path main : List ℕ) (handed : List 
 checked_of held path main handed policy loaded passes = record { loaded = (main, handed, loaded); passes = passes }
 
 -- the text of a report and its notice are the output
-pub reviewed_of : (given : Given) (form : Form) (main : List ℕ) (handed : List Supply) (policy : Policy) (answered : Result Report ReportFault)
+pub reviewed_of : (given : Given) (form : Form) (main : List ℕ) (handed : List Supply) (policy : Policy) (answered : Result Report
+    ReportFault)
     (notice : List ℕ) (r : Result NotedOutput ReportFault)
     → IsLoadedFrom given.held given.path main handed policy
     → notice ≡ notice_text (policy_cautions (texts_of main handed policy.files) policy)

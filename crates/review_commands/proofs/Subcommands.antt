@@ -1,5 +1,6 @@
 -- What the subcommand of the words asks for.
-use Rattle.std.proofs.Common.{◌≡◌, ◌∙◌, ap, Bool, codes, false, sym, true, List, Option, Some, None, Result, Ok, Err, inl, inr, option_map, refl, subst}
+use Rattle.std.proofs.Common.{◌≡◌, ◌∙◌, ap, Bool, codes, false, sym, true, List, Option}
+use Rattle.std.proofs.Common.{Some, None, Result, Ok, Err, inl, inr, option_map, refl, subst}
 use Rattle.std.specs.Prelude.{◌≢◌, Box, IfErr, IfOk}
 use Rattle.std.specs.Box.{box_value}
 use Rattle.clap.specs.Words.{Row, Text, kind_of, subcommand_of, subcommand_rows}

@@ -129,7 +129,8 @@ fn report_output<T: Threads + Wait + Sync, F: Files, U: Feed, H: Feed, R: Feed +
 
 /// Prints on `out` the report of the requests of the sources in a form: as `Requests` each request beside its answer, for each
 /// sender, in the order in which their names first appear, and for each of its requests, in the order of their numbers, the
-/// verdict of the policy of a file; as `Rules` how many requests each rule of the policy decided, in the policy's order. Then prints on `err` the line that counts the cautions on the policy, if there is one.
+/// verdict of the policy of a file; as `Rules` how many requests each rule of the policy decided, in the policy's order. Then
+/// prints on `err` the line that counts the cautions on the policy, if there is one.
 ///
 /// Returns the exit status: 0; 1 if the policy is refused or has errors; 3 if the users, the hosts or the requests are
 /// refused; 4 if reading, writing, a thread or memory failed. Checks in this order: the policy, the users, the hosts, both

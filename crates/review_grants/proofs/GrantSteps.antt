@@ -1,5 +1,6 @@
 -- The table of grants, section by section, is the table of all grants.
-use Rattle.std.proofs.Common.{◌≡◌, ◌∙◌, ℕ, Bool, true, false, cond, ◌&&◌, List, [], ◌∷◌, ◌++◌, ap, append_assoc, append-nil, filter, flat_map}
+use Rattle.std.proofs.Common.{◌≡◌, ◌∙◌, ℕ, Bool, true, false, cond, ◌&&◌}
+use Rattle.std.proofs.Common.{List, [], ◌∷◌, ◌++◌, ap, append_assoc, append-nil, filter, flat_map}
 use Rattle.std.proofs.Common.{◌+◌, ◌<◌, ◌≤◌, arith, codes, drop, get_or, length, map, refl, subst, sym, take, zip, Option}
 use Rattle.std.specs.List.{enumerate_from, list_all}
 use Rattle.std.proofs.lemmas.List.Elements.{filter-append}

@@ -16,9 +16,11 @@ last_that-filter h c d both [] = refl
 last_that-filter h c d both (x ∷ xs) =
     ap (λ o. option_or o (cond (h x) (Some x) None)) (last_that-filter h c d both xs) ∙ go (h x) (c x) refl (both x)
   where
-    go : (b e : Bool) → c x ≡ e → b ≡ (e && d x) → option_or (last_that d (filter c xs)) (cond b (Some x) None) ≡ last_that d (cond e (x ∷ filter c xs) (filter c xs))
+    go : (b e : Bool) → c x ≡ e → b ≡ (e && d x) → option_or (last_that d (filter c xs)) (cond b (Some x) None)
+        ≡ last_that d (cond e (x ∷ filter c xs) (filter c xs))
     go b true is same = ap (λ v. option_or (last_that d (filter c xs)) (cond v (Some x) None)) same
-    go b false is same = ap (λ v. option_or (last_that d (filter c xs)) (cond v (Some x) None)) same ∙ option_or-none (last_that d (filter c xs))
+    go b false is same = ap (λ v. option_or (last_that d (filter c xs)) (cond v (Some x) None)) same
+        ∙ option_or-none (last_that d (filter c xs))
 
 and_assoc : (a b c : Bool) → ((a && b) && c) ≡ (a && (b && c))
 and_assoc true b c = refl

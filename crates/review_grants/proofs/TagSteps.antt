@@ -1,6 +1,7 @@
 -- A tag more at the end of a list, and a command more at the end of a section.
 use Rattle.std.proofs.Common.{◌≡◌, ◌∙◌, ℕ, zero, suc, Bool, true, false, not, ◌&&◌, if◌then◌else◌, List, [], ◌∷◌, ◌++◌}
-use Rattle.std.proofs.Common.{length, map, zip, flat_map, Option, Some, None, refl, sym, ap, arith, append-nil, append_assoc, take, ◌<◌, ◌+◌}
+use Rattle.std.proofs.Common.{length, map, zip, flat_map, Option, Some, None, refl}
+use Rattle.std.proofs.Common.{sym, ap, arith, append-nil, append_assoc, take, ◌<◌, ◌+◌}
 use Rattle.std.specs.Prelude.{slice_index_or, slice_set, position, unwrap_or}
 use Rattle.std.specs.List.{list_all}
 use Rattle.std.specs.Option.{option_or}
@@ -69,7 +70,8 @@ pub tags_before-more : (before : List CommandSpec) (c : CommandSpec)
     → tags_named (flat_map (λ c. c.tags) before ++ c.tags) ≡ tags_before (before ++ c ∷ [])
 unfolding tags_before
 tags_before-more before c =
-    sym (ap tags_named (flat_map-append (λ c. c.tags) before (c ∷ []) ∙ ap (λ (t : List Tag). flat_map (λ c. c.tags) before ++ t) (append-nil c.tags)))
+    sym (ap tags_named (flat_map-append (λ c. c.tags) before (c ∷ [])
+        ∙ ap (λ (t : List Tag). flat_map (λ c. c.tags) before ++ t) (append-nil c.tags)))
 
 pub tags_before-named : (before : List CommandSpec) → tags_before before ≡ tags_named (flat_map (λ c. c.tags) before)
 unfolding tags_before
@@ -87,4 +89,5 @@ pub named-next : (before later : List Tag) (at : ℕ) (other : Tag) (t : Tags) �
 named-next before later at other t within is =
     named-more (before ++ take at later) (slice_index_or later at other) t is
     ∙ ap tags_named (append_assoc before (take at later) (slice_index_or later at other ∷ [])
-    ∙ ap (λ (ts : List Tag). before ++ ts) (sym (take-more later at (slice_index_or later at other) within (index-there later at other within))))
+    ∙ ap (λ (ts : List Tag). before ++ ts) (sym (take-more later at (slice_index_or later at other) within (index-there later at other
+        within))))

@@ -14,6 +14,7 @@ returns g c =
     let out = sent g.O.Sink.taken g.O.Sink.stalled_writes c.args.out.now c.end_noted.new.out in
     let err = sent g.E.Sink.taken g.E.Sink.stalled_writes c.args.err.now c.end_noted.new.err in
     record {
-      ends = run_noted report_notices (IsReviewed given c.args.form) (IsNotAudited given) c.report_output-ended.result c.end_noted.result out err
+      ends = run_noted report_notices (IsReviewed given c.args.form) (IsNotAudited given) c.report_output-ended.result c.end_noted.result
+          out err
           c.report_output-ended.ensures.report c.report_output-ended.ensures.fault c.end_noted.ensures;
     }

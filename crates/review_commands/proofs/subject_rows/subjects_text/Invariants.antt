@@ -5,4 +5,5 @@ use Rattle.review_commands.proofs.subject_rows.subjects_text.Given as goal
 
 -- the header and the records so far were written
 abbrev pub invariant-loop-subject : goal.invariant-loop-subject
-invariant-loop-subject l = l.text.items ≡ line subjects_header ++ flat_map (λ s. line (subject_fields l.files s)) (take l.subject-index l.found)
+invariant-loop-subject l = l.text.items ≡ line subjects_header ++ flat_map (λ s. line (subject_fields l.files s)) (take l.subject-index
+    l.found)
