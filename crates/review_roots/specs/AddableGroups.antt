@@ -1,5 +1,5 @@
 -- The groups that may be added on the way to a target. sudo(8), option -g; sudoers(5), "Runas_Spec".
-use Rattle.std.specs.Prelude.{Bool, false, if◌then◌else◌, List, Option, None, Some, is_some}
+use Rattle.std.specs.Prelude.{Bool, false, if◌then◌else◌, List, [], Option, None, Some, is_some}
 use Rattle.std.specs.List.{list_any}
 use Rattle.sudo_grammar.specs.declared.policy.CommandSpec.{CommandSpec}
 use Rattle.sudo_grammar.specs.declared.policy.Entry.{Entry}
@@ -10,7 +10,7 @@ use Rattle.sudo_grammar.specs.declared.policy.Runas.{Runas}
 use Rattle.sudo_grammar.specs.declared.policy.Section.{Section}
 use Rattle.sudo_match.specs.KnownRows.{KnownRows}
 use Rattle.sudo_match.specs.declared.people.Group.{Group}
-use Rattle.review_roots.specs.KnownGroups.{known_groups, named_groups}
+use Rattle.review_roots.specs.KnownGroups.{known_groups}
 
 -- a runas has a list of groups
 abbrev pub has_groups : Option Runas → Bool
@@ -28,7 +28,7 @@ body_has_groups _ = false
 abbrev pub policy_has_groups : Policy → Bool
 policy_has_groups p = list_any (λ (e : Entry). body_has_groups e.body) p.entries
 
--- the groups that may be added: each known one, if a runas has a list of groups; else those that the user list of a rule names.
--- Without such a list a target that is allowed with a group has that group, and is allowed without it by the same rows
+-- the groups that may be added: each known one, if a runas has a list of groups; else none. Without such a list a target that
+-- is allowed with a group has that group already, so it is in no other list with it than without it
 abbrev pub addable_groups : Policy → KnownRows → List Group
-addable_groups p d = if policy_has_groups p then known_groups d else named_groups p d
+addable_groups p d = if policy_has_groups p then known_groups d else []

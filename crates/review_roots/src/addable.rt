@@ -3,7 +3,7 @@ ghost use Rattle.std.specs.Prelude.{◌≡◌, IfOk};
 ghost use Rattle.std.specs.List.{list_any};
 ghost use Rattle.review_roots.specs.AddableGroups as spec;
 
-use crate::groups::{known_groups, named_groups};
+use crate::groups::known_groups;
 use std::alloc::{AllocError, Global};
 use sudo_match::{Directory, Group};
 use sudo_policy::{Checked, CommandSpec, Entry, EntryBody, Runas, Section};
@@ -46,8 +46,7 @@ fn entries_have_groups(entries: &[Entry]) -> bool
 }
 
 /// Returns the groups that may be added on the way to a target: each known one, if a runas of the policy has a list of groups;
-/// otherwise those that the user list of a rule names, since then no other one changes what is allowed. Returns `AllocError` if
-/// allocation fails.
+/// otherwise none, since then a target is allowed with the groups alone that it has. Returns `AllocError` if allocation fails.
 pub fn addable_groups(
     alloc: Global,
     checked: &Checked,
@@ -59,6 +58,6 @@ pub fn addable_groups(
     if entries_have_groups(checked.policy().entries.as_slice()) {
         known_groups(alloc, directory)
     } else {
-        named_groups(alloc, checked, directory)
+        Ok(Vec::new(alloc))
     }
 }
