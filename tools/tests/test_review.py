@@ -39,6 +39,15 @@ class Tables(TableCase):
     def test_table_review(self) -> None:
         self.check_table("review")
 
+    def test_table_roots(self) -> None:
+        self.check_table("roots")
+
+    def test_table_rules(self) -> None:
+        self.check_table("rules")
+
+    def test_table_subjects(self) -> None:
+        self.check_table("subjects")
+
 
 def classes_of_source() -> dict[str, str]:
     """Returns the classes that the definitions of the program list, in their order, with their texts."""
