@@ -143,6 +143,11 @@ class FullDisk(FleetCase):
         self.fill(REVIEW, "sudo_review", "report", *words)
         self.fill(REVIEW, "sudo_review", "cautions", words[0])
         self.fill(REVIEW, "sudo_review", "grants", *words[:-1])
+        self.fill(REVIEW, "sudo_review", "subjects", *words[:-1])
+        self.fill(REVIEW, "sudo_review", "rules", *words)
+        self.write("users", USERS + self.many_users(500))
+        self.write("policy", "ALL ALL = (ALL) ALL\n")
+        self.fill(REVIEW, "sudo_review", "roots", "policy", "--users", "users", *words[3:-1])
 
     def test_standard_output(self) -> None:
         self.write("policy", "root ALL = ALL\n")

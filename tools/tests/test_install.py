@@ -240,8 +240,8 @@ class Completions(unittest.TestCase):
         return run("bash", "-c", script, os.path.join(REPOSITORY, "packaging", "bash-completion"), *words).split("\n")[:-1]
 
     def commands_of(self, program: str) -> list[str]:
-        """Returns the commands of a program, as the source of its command line names them."""
-        return re.findall(r'Command::new\(alloc, "([a-z]+)"\)', command_line_of(program))
+        """Returns the commands of a program, in the order in which the source of its command line adds them."""
+        return re.findall(r"with_subcommand\(.*, ([a-z]+)\(alloc\)\)", command_line_of(program))
 
     def test_commands(self) -> None:
         for program in PROGRAMS:
@@ -250,11 +250,11 @@ class Completions(unittest.TestCase):
                 self.assertGreater(len(commands), 1)
                 self.assertEqual(self.proposed(program, ""), [*commands, "help", "--help", "--version"])
                 self.assertEqual(self.proposed(program, "help", ""), commands)
-                self.assertEqual(self.proposed(program, "help", commands[-1][:1]), commands[-1:])
+                self.assertEqual(self.proposed(program, "help", commands[0][:1]), commands[:1])
 
     def test_words_of_commands(self) -> None:
-        for program, command in (("sudo_audit", "audit"), ("sudo_review", "report")):
-            with self.subTest(program):
+        for program, command in (("sudo_audit", "audit"), ("sudo_review", "report"), ("sudo_review", "rules")):
+            with self.subTest(program=program, command=command):
                 options = ["--users", "--hosts", "--workers", "--help"]
                 self.assertEqual(self.proposed(program, command, "p", "-"), options)
                 self.assertEqual(self.proposed(program, command, "p", "--workers", "16"), ["16"])
@@ -262,6 +262,9 @@ class Completions(unittest.TestCase):
         self.assertEqual(self.proposed("sudo_review", "cautions", "-"), ["--without", "--help"])
         self.assertEqual(self.proposed("sudo_review", "cautions", "--without", ""), list(read_table("cautions")["classes"]))
         self.assertEqual(self.proposed("sudo_review", "grants", "p", "-"), ["--users", "--hosts", "--user", "--host", "--help"])
+        self.assertEqual(self.proposed("sudo_review", "roots", "p", "-"), ["--users", "--hosts", "--all", "--help"])
+        self.assertEqual(self.proposed("sudo_review", "subjects", "p", "-"), ["--users", "--hosts", "--help"])
+        self.assertEqual(self.proposed("sudo_review", "subjects", "p", "--users", "d"), ["a file for d"])
         self.assertEqual(self.proposed("sudo_audit", "expand", "p", "h"), ["host"])
 
 

@@ -55,7 +55,11 @@ RUNS = {
     "no root": (TAGS, AUDIT.replace("users users", "users rootless"), 3),
 }
 REPORT = AUDIT.replace("audit", "report")
+RULES = AUDIT.replace("audit", "rules")
 GRANTS = "grants p --users users --hosts hosts"
+SUBJECTS = GRANTS.replace("grants", "subjects")
+ROOTS = GRANTS.replace("grants", "roots")
+STEPS = "%adm ALL = (ALL) ALL\noperator ALL = (: adm) ALL\nbob ALL = (operator) /opt/sh\n"
 MANY = "Defaults targetpw\nAlice ALL = /bin/ls [^-]*\\\n-l, /bin/cat a\\ \n #include \\i\n"
 MANY += '"al\\ice" web\\*, "web?", 0.0.0.0/0 = (:adm) SETENV: /opt/sudoedit, /opt/x [[.a.]], ALL\n'
 OF_REVIEW = {
@@ -70,6 +74,18 @@ OF_REVIEW = {
     "grants with cautions": (MANY + TAGS, f"{GRANTS} --user alice --host web1.example.org", 0),
     "grants of errors": (CYCLES, GRANTS, 1),
     "grants of a user that is not known": (TAGS, f"{GRANTS} --user carol", 3),
+    "roots": (STEPS, f"{ROOTS} --all", 0),
+    "roots with cautions": (MANY + STEPS, ROOTS, 0),
+    "roots of errors": (CYCLES, ROOTS, 1),
+    "roots without a user root": (STEPS, ROOTS.replace("users users", "users rootless"), 3),
+    "no subject": (TAGS.replace("bin", "opt"), SUBJECTS, 0),
+    "subjects with cautions": (MANY + "User_Alias NONE = carol, !%adm\nNONE 10.9.0.0/16 = (dan : #9) ALL\n", SUBJECTS, 5),
+    "subjects of errors": (CYCLES, SUBJECTS, 1),
+    "subjects of a user twice": (TAGS, SUBJECTS.replace("users users", "users twice"), 3),
+    "rules": (SIGNS + TAGS.replace("bin", "opt"), RULES, 0),
+    "rules with cautions": (MANY + TAGS, RULES, 0),
+    "rules of errors": (CYCLES, RULES, 1),
+    "rules on a sender without a close row": (TAGS, RULES.replace("=requests", "=open"), 3),
 }
 FILES = {
     "users": USERS,

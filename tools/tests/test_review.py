@@ -8,6 +8,7 @@ import shlex
 import subprocess
 import tempfile
 import unittest
+from collections import Counter
 from collections.abc import Iterator
 
 from drawn import NOTICE
@@ -16,6 +17,7 @@ from tables import REPORT, Run, Shown, TableCase, files_of, read_table, runs_of
 from test_documents import CODE, lines_of_manual, rows_of, text_of
 
 HEADER = [*"sender,number,user,host,runas_user,runas_group,command,arguments,verdict,place,tags,depends".split(",")]
+COUNTS = "place,commands,allowed,denied".split(",")
 AUDITED = REPORT.removeprefix("0 ").rstrip(";").split(",")
 CLASSES: dict[str, str] = read_table("cautions")["classes"]
 MARK = re.compile(r"\(`([a-z-]+)`\)$")
@@ -38,6 +40,15 @@ class Tables(TableCase):
 
     def test_table_review(self) -> None:
         self.check_table("review")
+
+    def test_table_roots(self) -> None:
+        self.check_table("roots")
+
+    def test_table_rules(self) -> None:
+        self.check_table("rules")
+
+    def test_table_subjects(self) -> None:
+        self.check_table("subjects")
 
 
 def classes_of_source() -> dict[str, str]:
@@ -151,14 +162,27 @@ class Reports(Shown):
             writer.writerow([sender, number, verdict, place, tags])
         return out.getvalue()
 
+    def counts(self, report: str, words: list[str]) -> None:
+        """Fails where the counts of the rules are not those of a report."""
+        done = subprocess.run([REVIEW, "rules", *words[1:]], cwd=self.folder, capture_output=True, check=True, timeout=60)
+        header, *rows = rows_of_csv(os.fsdecode(done.stdout))
+        self.assertEqual(header, COUNTS)
+        counted: Counter[tuple[str, str]] = Counter()
+        for place, _, allowed, denied in rows:
+            counted[place, "allow"] += int(allowed)
+            counted[place, "deny"] += int(denied)
+        answers = (row[HEADER.index("verdict") :] for row in rows_of_csv(report)[1:])
+        self.assertEqual(+counted, Counter((place, verdict) for verdict, place, *_ in answers if place))
+
     def agrees(self, run: Run) -> None:
-        """Fails where a report is not the audit that a run shows."""
+        """Fails where a report is not the audit that a run shows, or the counts of the rules are not the report's."""
         words = ["report", *shlex.split(run.words)[1:]]
         done = subprocess.run([REVIEW, *words], cwd=self.folder, capture_output=True, check=False, timeout=60)
         out, err = os.fsdecode(done.stdout), os.fsdecode(done.stderr)
         if done.returncode == 0:
             self.assertRegex(err, rf"\A{NOTICE.pattern}\Z")
             shown = f"0 {self.as_audit(out, words)}"
+            self.counts(out, words)
         else:
             shown = f"{done.returncode} {out}! {err}".replace("sudo_review: ", "sudo_audit: ")
         self.assertEqual(shown.replace("\n", ";"), run.shows.replace("\n", ";"))
@@ -218,8 +242,9 @@ class Streams(Shown):
         self.write("users", "user,uid,groups\nroot,0,root:0\nalice,1,alice:1\n")
         self.write("hosts", "host,interfaces\nweb1,\n")
         self.write("requests", f"{REQUESTS_HEADER}1,alice,web1,,,/bin/ls,\nclose,1,,,,,\n")
-        report = ("report", "p", "--users", "users", "--hosts", "hosts", "s=requests")
-        self.runs = {("cautions", "p"): 5, report: 0}
+        words = ("p", "--users", "users", "--hosts", "hosts")
+        self.runs = {("cautions", "p"): 5, ("grants", *words): 0, ("roots", *words): 0, ("subjects", *words): 5}
+        self.runs |= {(command, *words, "s=requests"): 0 for command in ("report", "rules")}
 
     def ended(self, redirected: str, *words: str) -> tuple[int, str, str]:
         """Returns how a run ends, some of whose streams the shell directs elsewhere."""

@@ -140,18 +140,24 @@ class Reviewed(Unreadable):
         self.write("d/a", "alice ALL = !ALL\n")
         os.chmod(self.path("d"), 0o744)
         self.assert_cannot_read("d/a", "cautions", "p")
-        self.assert_cannot_read("d/a", "report", "p", *self.write_directory())
+        words = self.write_directory()
+        for command in ("report", "rules"):
+            self.assert_cannot_read("d/a", command, "p", *words)
+        for command in ("grants", "roots", "subjects"):
+            self.assert_cannot_read("d/a", command, "p", *words[:4])
 
     def test_files_without_leave(self) -> None:
         words = self.write_directory()
         self.write("p", "alice ALL = ALL\n")
         for path in ("requests", "hosts", "users", "p"):
             os.chmod(self.path(path), 0o000)
-            self.assert_cannot_read(path, "report", "p", *words)
+            for command in ("report", "rules"):
+                self.assert_cannot_read(path, command, "p", *words)
+            for command in ("grants", "roots", "subjects") if path != "requests" else ():
+                self.assert_cannot_read(path, command, "p", *words[:4])
             os.chmod(self.path(path), 0o644)
         os.chmod(self.path("p"), 0o000)
         self.assert_cannot_read("p", "cautions", "p")
-        self.assert_cannot_read("p", "grants", "p", *words[:4])
 
 
 class Files(Unreadable):

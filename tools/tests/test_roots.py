@@ -1,0 +1,255 @@
+"""Tables of who can become root on policies drawn at random, beside those of a second body.
+
+The body tries each step between all states: each known user, without an added group and with each known group. The variable
+POLICIES says how many policies there are.
+"""
+
+import csv
+import io
+import os
+import unittest
+from collections import Counter
+from collections.abc import Iterator
+from typing import NamedTuple
+
+import listing
+from drawn import Drawn
+from listing import FITS, FITS_GROUP, GROUPS, KNOWN_GROUPS, written_out
+from support import REVIEW, needs_review
+
+POLICIES = int(os.environ.get("POLICIES", "100"))
+HEADER = "user,host,target,level,password,place,tags,via,depends"
+LEVELS = ("none", "listed", "all-but", "all")
+PASSWORDS = ("none", "own", "other")
+# The group that each word of a list of users is for.
+GROUP_OF = {"%adm": "adm", "%operator": "operator", "%#37": "operator"}
+
+
+class State(NamedTuple):
+    """A known user, with an added group or without one."""
+
+    user: str
+    added: str = ""
+
+    @property
+    def groups(self) -> set[str]:
+        """Returns the groups that the user has there."""
+        return GROUPS[self.user] | ({self.added} if self.added else set())
+
+    def fits(self, kind: str, word: str) -> bool:
+        """Returns whether a word of a list of users, or of users to run as, is for the user."""
+        return self.user in FITS[kind][word] or GROUP_OF.get(word) in self.groups
+
+    def last(self, policy: listing.Policy, kind: str, members: listing.Members) -> bool | None:
+        """Returns whether the last word that is for the user allows, or `None` where no word is."""
+        fitting = [not negated for negated, word in written_out(policy, kind, members) if self.fits(kind, word)]
+        return fitting[-1] if fitting else None
+
+
+STATES = [State(user, added) for added in ("", *sorted(KNOWN_GROUPS)) for user in GROUPS]
+
+
+class Grant(NamedTuple):
+    """A command of a rule, with its aliases written out."""
+
+    runas: listing.Runas | None
+    tags: str
+    place: str
+    is_free: bool
+    negated: bool
+    is_all: bool
+
+
+class Given(NamedTuple):
+    """What grants give: a level, whether no password is asked for, and the place and the tags of the last that allows."""
+
+    level: int = 0
+    is_free: bool = False
+    place: str = ""
+    tags: str = ""
+
+
+class Row(NamedTuple):
+    """A row of the table."""
+
+    user: str
+    host: str
+    target: str
+    level: str
+    password: str
+    place: str
+    tags: str
+    via: str
+    depends: str
+
+
+def given_by(grants: list[Grant]) -> Given:
+    """Returns what grants give, from the first on."""
+    level, is_free, place, tags = 0, False, "", ""
+    for grant in grants:
+        if grant.negated:
+            level = 0 if grant.is_all else min(level, 2)
+            is_free = False
+        else:
+            level = 3 if grant.is_all else max(level, 1)
+            is_free = grant.is_free and (grant.is_all or is_free)
+            place, tags = grant.place, grant.tags
+    return Given(level, is_free, place, tags)
+
+
+class Host:
+    """A policy on a host."""
+
+    def __init__(self, policy: listing.Policy, host: str) -> None:
+        self.policy, self.host = policy, host
+        self.grants = {state: list(self.grants_of(state)) for state in STATES}
+        self.steps = {(one, other): self.step(one, other) for one in STATES for other in STATES}
+
+    def grants_of(self, state: State) -> Iterator[Grant]:
+        """Yields the grants whose lists allow a user on the host."""
+        for number, rule in enumerate(self.policy.lines, 1):
+            if isinstance(rule, listing.Rule) and state.last(self.policy, "User", rule.users):
+                for section in rule.sections:
+                    if listing.allows(self.policy, "Host", section.hosts, self.host):
+                        yield from self.grants_in(section, f"p:{number}")
+
+    def grants_in(self, section: listing.Section, place: str) -> Iterator[Grant]:
+        """Yields the grants of a section."""
+        runas = None
+        tags: dict[str, bool] = {}
+        for command in section.commands:
+            runas = runas if command.runas is None else command.runas
+            tags |= {tag.removeprefix("NO"): not tag.startswith("NO") for tag in command.tags}
+            for negated, word in written_out(self.policy, "Cmnd", [command.member]):
+                yield Grant(runas, listing.tags_shown(tags), place, tags.get("PASSWD") is False, negated, word == "ALL")
+
+    def groups_allow(self, members: listing.Members, state: State, group: str) -> bool:
+        """Returns whether a list of groups, or else the groups of a user, allow the group that is asked for, if any is."""
+        found = [not negated for negated, word in written_out(self.policy, "Runas", members) if group in FITS_GROUP[word]]
+        return not group or (found[-1] if found else group in state.groups)
+
+    def allowed(self, runas: listing.Runas | None, state: State, asked: State | None, group: str) -> bool:
+        """Returns whether a user may run as the user that is asked for, or, without one, as itself, with a group, if any."""
+        target = asked or state
+        is_own = target.user == state.user
+        if runas is None:
+            return target.user == "root" and self.groups_allow([], target, group)
+        if runas.users is None:
+            return is_own and self.groups_allow(runas.groups or [], state, group)
+        listed = target.last(self.policy, "Runas", runas.users)
+        if runas.groups is None:
+            return listed is True and self.groups_allow([], target, group)
+        return (is_own and bool(group) if listed is None else listed) and self.groups_allow(runas.groups, target, group)
+
+    def step(self, one: State, other: State) -> Given:
+        """Returns what a step gives: that of asking for the user by name, or that of asking for the group alone."""
+        asked = [given_by([it for it in self.grants[one] if self.allowed(it.runas, one, State(other.user), other.added)])]
+        if one.user == other.user and other.added:
+            asked.append(given_by([it for it in self.grants[one] if self.allowed(it.runas, one, None, other.added)]))
+        return max(asked, key=lambda given: given[:2])
+
+    def reaching(self, target: str, level: int, is_free: bool = False) -> set[State]:
+        """Returns the states that lead to a target by steps of a level or a better one, without a password if asked for."""
+        found = {state for state in STATES if state.user == target}
+        good = {pair for pair, it in self.steps.items() if it.level >= level and (it.is_free or not is_free)}
+        while more := {one for one, other in good if other in found and one not in found}:
+            found |= more
+        return found
+
+    def levels(self) -> dict[str, tuple[str, bool]]:
+        """Returns the best level of each user that leads to root, and whether a chain of that level asks for no password."""
+        best: dict[str, tuple[str, bool]] = {}
+        for level in (1, 2, 3):
+            found, free = self.reaching("root", level), self.reaching("root", level, is_free=True)
+            best |= {user: (LEVELS[level], State(user) in free) for user in GROUPS if State(user) in found and user != "root"}
+        return best
+
+    def shown(self, row: Row) -> tuple[str, str, str, str]:
+        """Returns the level, the password, the place and the tags of the chain that a row shows."""
+        states = [State(row.user)]
+        for name in row.via.split(" > ") if row.via else []:
+            user, _, added = name.partition("+")
+            states.append(State(user or states[-1].user, added))
+        if states[-1].user != "root":
+            states.append(State("root"))
+        steps = [self.steps[pair] for pair in zip(states, states[1:])]
+        asking = [it.user for it, step in zip(states, steps) if not step.is_free]
+        password = max((1 + (user != row.user) for user in asking), default=0)
+        return LEVELS[min(step.level for step in steps)], PASSWORDS[password], steps[0].place, steps[0].tags
+
+
+class Draw(listing.Draw):
+    """A policy drawn at random whose rules are steps: most are for one user or group, as another user or with a group."""
+
+    def one(self, *words: str) -> listing.Members:
+        """Draws a list of one word; it may be negated behind `ALL`."""
+        word = self.random.choice(words)
+        return [listing.Member(0, "ALL"), listing.Member(1, word)] if self.random.random() < 0.1 else [listing.Member(0, word)]
+
+    def runas(self) -> listing.Runas:
+        """Draws whom to run as: a user, a group or both."""
+        users = self.one("alice", "operator", "#11", "%#37", "root") if self.random.random() < 0.7 else None
+        return listing.Runas(users, self.one("adm", "operator", "#37") if users is None or self.random.random() < 0.2 else None)
+
+    def commands(self) -> list[listing.Command]:
+        """Draws the commands of a rule: most are `ALL`, some of them but for others."""
+        tags = self.random.choice(("", "", "NOPASSWD", "NOPASSWD", "PASSWD")).split()
+        every, other = listing.Member(0, "ALL"), self.members("Cmnd", 1)[0]
+        members = self.random.choice(([every], [every], [every, other._replace(bangs=1)], [every, other], [other]))
+        commands = [listing.Command(None, [], member) for member in members]
+        return [commands[0]._replace(runas=self.runas() if self.random.random() < 0.9 else None, tags=tags), *commands[1:]]
+
+    def lines(self) -> list[listing.Rule | str]:
+        """Draws up to eight rules, behind the lines of the aliases of commands."""
+        lines: list[listing.Rule | str] = []
+        lines += [f"Cmnd_Alias {name} = {listing.joined(it)}" for name, it in self.aliases["Cmnd"].items()]
+        for _ in range(self.random.randint(3, 9)):
+            users = self.one("alice", "bob", "bob", "%adm", "%operator", "%#37")
+            hosts = self.one("ALL", "ALL", "web1", "10.2.0.9")
+            lines.append(listing.Rule(users, [listing.Section(hosts, self.commands())]))
+        return lines
+
+
+@needs_review
+class Roots(Drawn):
+    """Tables of who can become root."""
+
+    def table(self, *words: str) -> list[Row]:
+        """Returns the rows of the table on the policy `p`."""
+        header, *rows = csv.reader(io.StringIO(self.printed(REVIEW, "roots", *words), newline=""))
+        self.assertEqual(",".join(header), HEADER)
+        return [Row(*row) for row in rows]
+
+    def check(self, host: Host, rows: list[Row], is_sure: bool) -> None:
+        """Fails where the rows of a host are not those of the second body."""
+        best = host.levels()
+        self.assertEqual(rows[0], Row("root", host.host, "root", "root", "none", "", "", "", ""))
+        self.assertEqual([row.user for row in rows], [user for user in GROUPS if user in best or user == "root"])
+        for row in rows[1:]:
+            level, password, place, tags = host.shown(row)
+            wanted = password if is_sure or password == "none" else "?"
+            self.assertEqual(row[2:7], ("root", level, wanted, place, tags))
+            self.assertEqual((row.level, row.password == "none"), best[row.user])
+
+    def seen(self, policy: listing.Policy, is_sure: bool) -> Iterator[str]:
+        """Yields what there is in the table of a policy. Fails where it is not that of the second body."""
+        self.write("p", str(policy))
+        every, most = self.table("--all"), self.table()
+        self.assertEqual([row for row in every if row.level != "listed"], most)
+        for name in ("web1", "web2"):
+            self.check(Host(policy, name), [row for row in every if row.host == name], is_sure)
+        for row in every:
+            yield from (row.level, row.password, "a group" if "+" in row.via else "", "two" if " > " in row.via else "")
+
+    def test_the_rows_are_those_of_the_second_body(self) -> None:
+        seen: Counter[str] = Counter()
+        for seed in range(POLICIES):
+            policies = {True: Draw(seed).policy, False: listing.Draw(seed).policy}
+            for is_sure, policy in policies.items():
+                with self.subTest(seed=seed, policy=str(policy)):
+                    seen.update(self.seen(policy, is_sure))
+        self.assertGreater(min(seen[word] for word in (*LEVELS[1:], *PASSWORDS, "?", "a group", "two")), 0, seen)
+
+
+if __name__ == "__main__":
+    unittest.main()
