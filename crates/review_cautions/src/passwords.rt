@@ -25,7 +25,9 @@ pub fn decides_passwords(alloc: Global, policy: &Policy) -> Result<bool, AllocEr
 {
     let mut found: Vec<Caution> = Vec::new(alloc);
     push_defaults(alloc, policy.entries.as_slice(), &mut found)?;
-    Ok(found
-        .iter()
-        .any(|caution| asks_password(caution.subject.as_slice())))
+    Ok(
+        found
+            .iter()
+            .any(|caution| asks_password(caution.subject.as_slice())),
+    )
 }

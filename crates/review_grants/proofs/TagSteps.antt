@@ -71,7 +71,7 @@ pub tags_before-more : (before : List CommandSpec) (c : CommandSpec)
 unfolding tags_before
 tags_before-more before c =
     sym (ap tags_named (flat_map-append (λ c. c.tags) before (c ∷ [])
-        ∙ ap (λ (t : List Tag). flat_map (λ c. c.tags) before ++ t) (append-nil c.tags)))
+    ∙ ap (λ (t : List Tag). flat_map (λ c. c.tags) before ++ t) (append-nil c.tags)))
 
 pub tags_before-named : (before : List CommandSpec) → tags_before before ≡ tags_named (flat_map (λ c. c.tags) before)
 unfolding tags_before
@@ -90,4 +90,4 @@ named-next before later at other t within is =
     named-more (before ++ take at later) (slice_index_or later at other) t is
     ∙ ap tags_named (append_assoc before (take at later) (slice_index_or later at other ∷ [])
     ∙ ap (λ (ts : List Tag). before ++ ts) (sym (take-more later at (slice_index_or later at other) within (index-there later at other
-        within))))
+    within))))

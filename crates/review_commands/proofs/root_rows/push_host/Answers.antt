@@ -12,7 +12,7 @@ loop-target-preserved c =
     let parts = c.loop-target.invariant.0 in
     let part = c.in_ok-rows.rows.items in
     let own = subst (λ h. AreTargetRows t.checked.now t.directory.now t.all h target part) c.in_ok-steps.ensures.host
-        c.in_ok-rows.ensures in (
+    c.in_ok-rows.ensures in (
       parts ++ part ∷ [],
       each-next (AreTargetRows t.checked.now t.directory.now t.all m) c.args.targets.now at target part parts c.loop-target-test.true
           (item-there c.args.targets.now at 0 c.loop-target-test.true) c.loop-target.invariant.1 own,

@@ -19,7 +19,7 @@ returns c =
       are = subst (λ l. AreRoots h c.args.target l c.in_ok-roots.roots.items) c.least_listed.ensures c.in_ok-roots.ensures;
       text_is = is
           ∙ ap (λ (rs : List _). flat_map (λ r. line (root_fields t.checked.now t.directory.now t.groups.now h.host.now c.args.target r))
-              rs)
+          rs)
           c.deref.ensures.value
           ∙ ap (λ (gs : List _). flat_map (λ r. line (root_fields t.checked.now t.directory.now gs h.host.now c.args.target r))
           c.in_ok-roots.roots.items) t.grouped;

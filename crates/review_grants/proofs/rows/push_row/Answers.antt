@@ -8,6 +8,6 @@ pub returns : goal.returns
 returns c = on_ok c.push_end.result
     (λ h. row-of-parts c.args.text.now.items _ _ _ _ c.args.head.now _ _ c.args.tags.now c.in_ok-extend_from_slice.ensures.items
     (c.in_ok-push_one.ensures ∙ ap (λ (s : List ℕ). c.extend_from_slice.new.self.items ++ fields_text default_writer (s ∷ []))
-        c.sign.ensures)
+    c.sign.ensures)
     c.in_ok-push_atom.ensures h)
     c.push_end.ensures

@@ -8,7 +8,7 @@ use Rattle.review_grants.proofs.rows.push_rule.Goals as goal
 pub returns-then-not-is_for : goal.returns-then-not-is_for
 returns-then-not-is_for c =
     let other : is_for_user c.args.table.checked.now (option_copied c.args.table.scope.user) c.args.users.now
-        ≡ false = sym c.if-not-is_for.ensures in
+    ≡ false = sym c.if-not-is_for.ensures in
     no-rows c.args.table.checked.now c.args.table.directory.now (option_copied c.args.table.scope.user)
     (option_copied c.args.table.scope.host) c.args.place c.args.users.now c.args.sections.now c.args.text.now.items other
 
