@@ -29,16 +29,16 @@ shown-last (x ∷ y ∷ rest) last =
     ap (λ (t : List State). x ∷ t) (shown-last (y ∷ rest) last)
     ∙ cond-more (is_some last.added) x (y ∷ (rest ++ last ∷ [])) (y ∷ rest)
 
--- the last state is not shown, or is
-pub shown-without : (chain rest : List State) (last : State) → chain ≡ rest ++ last ∷ [] → is_some last.added ≡ false
+-- a last state without an added group is hidden; with one it is visible
+pub last-hidden : (chain rest : List State) (last : State) → chain ≡ rest ++ last ∷ [] → is_some last.added ≡ false
     → rest ≡ shown chain
-shown-without chain rest last is none =
-    sym (ap shown is ∙ shown-last rest last ∙ ap (λ b. cond b (rest ++ last ∷ []) rest) none)
+last-hidden chain rest last parts unadded =
+    sym (ap shown parts ∙ shown-last rest last ∙ ap (λ b. cond b (rest ++ last ∷ []) rest) unadded)
 
-pub shown-with : (chain rest : List State) (last : State) → chain ≡ rest ++ last ∷ [] → is_some last.added ≡ true
+pub last-visible : (chain rest : List State) (last : State) → chain ≡ rest ++ last ∷ [] → is_some last.added ≡ true
     → chain ≡ shown chain
-shown-with chain rest last is some =
-    is ∙ sym (ap shown is ∙ shown-last rest last ∙ ap (λ b. cond b (rest ++ last ∷ []) rest) some)
+last-visible chain rest last parts added =
+    parts ∙ sym (ap shown parts ∙ shown-last rest last ∙ ap (λ b. cond b (rest ++ last ∷ []) rest) added)
 
 -- one state more of a chain
 pub behind-next : (f : ℕ × State → List ℕ) (states : List State) (at before : ℕ) (s : State) (old text new : List ℕ)

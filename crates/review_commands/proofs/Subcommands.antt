@@ -56,7 +56,7 @@ refused_by words e BadClass o read memory kinds nothing =
     let other : BadClass ≢ Memory = λ same. cc in
     inr (inr (kinds other, λ p is. nothing other p (sym read ∙ is)))
 
--- what is said of each text of a flag
+-- the value of a flag by the text of its row
 pub flag-of : (on : Bool) (o : Option Text) → (o ≡ None → on ≡ false) → (o ≡ Some (codes "true") → on ≡ true)
     → (o ≡ Some (codes "false") → on ≡ false) → IsFlag on o
 flag-of on None none given not_given = none refl

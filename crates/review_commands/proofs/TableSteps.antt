@@ -54,11 +54,12 @@ module _ (given : Inputs) (policy : Policy) (directory : KnownRows) (user host :
     asked = asked;
     lacks = lacks;
   }
-  fault-of notice (tables.NoSuchHost name) surveyed (asked, lacks) = record {
+  fault-of notice (tables.NoSuchHost name) surveyed (asked, lacks, known) = record {
     directory = directory;
     passes = (policy, checked_of _ _ _ _ _ surveyed.are.loaded surveyed.passes);
     is_directory = surveyed.is_directory;
     asked = asked;
+    user_known = known;
     lacks = lacks;
   }
   fault-of notice tables.Memory surveyed not = tt

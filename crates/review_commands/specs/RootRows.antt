@@ -106,7 +106,7 @@ targets d = filter (λ i. is_zero (slice_get d.people i)) (range_with_len 0 (len
 abbrev pub least_listed : Bool → Level
 least_listed all = cond all level.Listed level.AllBut
 
--- the records of those that can become a target on a host, and of nobody else
+-- the records of exactly those users that can become a target on a host
 pub record AreTargetRows (p : Policy) (d : KnownRows) (all : Bool) (m : Machine) (target : ℕ) (text : List ℕ) : Type 0 where
   pub steps : HostSteps
   pub policy_is : steps.checked.now ≡ p

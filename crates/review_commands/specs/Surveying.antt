@@ -1,5 +1,5 @@
--- What the tables of a policy are made of, and why there is none.
-use Rattle.std.specs.Prelude.{◌≡◌, ◌≢◌, ⊤, ℕ, List, ◌++◌, codes, Option, None, Some}
+-- The common input of the tables of a policy, their outputs, and their faults.
+use Rattle.std.specs.Prelude.{◌≡◌, ◌≢◌, ⊤, ℕ, List, ◌++◌, codes, IsSome, Option, None, Some}
 use Rattle.audit_commands.specs.Auditing.{IsDirectory, IsNoDirectory}
 use Rattle.audit_commands.specs.FaultLines.{directory_printed}
 use Rattle.audit_commands.specs.Faults.{directory_status}
@@ -87,12 +87,13 @@ pub record LacksUser (given : Inputs) (user : Option (List ℕ)) (name : List �
   pub asked : user ≡ Some name
   pub lacks : user_named directory name ≡ None
 
--- it has no host of that name
-pub record LacksHost (given : Inputs) (host : Option (List ℕ)) (name : List ℕ) : Type 0 where
+-- it has no host of that name; a user that is asked about is known
+pub record LacksHost (given : Inputs) (user host : Option (List ℕ)) (name : List ℕ) : Type 0 where
   pub directory : KnownRows
   pub passes : PassesCheck given.held given.path
   pub is_directory : IsDirectory given.users given.hosts directory
   pub asked : host ≡ Some name
+  pub user_known : IsSome (looked_up (user_named directory) user)
   pub lacks : host_named directory name ≡ None
 
 -- why there is no table of grants: as for every table; or no known user or host has the name that is given
@@ -100,7 +101,7 @@ abbrev pub IsNotGranted : Inputs → Option (List ℕ) → Option (List ℕ) →
 IsNotGranted given user host (tables.Policy fault) = IsNotSurveyed given (tables.Policy fault)
 IsNotGranted given user host (tables.Directory fault) = IsNotSurveyed given (tables.Directory fault)
 IsNotGranted given user host (tables.NoSuchUser name) = LacksUser given user name
-IsNotGranted given user host (tables.NoSuchHost name) = LacksHost given host name
+IsNotGranted given user host (tables.NoSuchHost name) = LacksHost given user host name
 IsNotGranted given user host tables.Memory = ⊤
 
 -- 1: the policy is refused or has errors. 3: the users or the hosts are refused, or no known one has a name that is given.

@@ -401,8 +401,8 @@ fn push_header(text: &mut Vec<u8>) -> Result<(), AllocError>
 /// for each known host, in order, and for each user with ID 0, in order, a record for each known user that can become it
 /// there, in order.
 ///
-/// `level` is `root` for a user with ID 0, and else the best level of a chain of steps: `all`, `all-but` or, if these are asked
-/// for, `listed`. `password` says whose its steps ask for. `place` and `tags` are those of a row that allows its first step;
+/// `level` is `root` for a user with ID 0, otherwise the best level of a chain of steps: `all`, `all-but` or, with `all` of the
+/// table, `listed`. `password` says whose its steps ask for. `place` and `tags` are those of a row that allows its first step;
 /// `via` has the states between. `depends` is empty. Returns `AllocError` if allocation failed.
 pub(crate) fn roots_text(alloc: Global, table: RootTable<'_>) -> Result<Vec<u8>, AllocError>
     ensures { IfOk result (λ text. spec.AreRootRows table.entry.all table.entry.checked.now

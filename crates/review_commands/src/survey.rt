@@ -1,4 +1,4 @@
-//! What the tables of a policy are made of.
+//! The common input of the tables of a policy: the policy, the known users and hosts, and the cautions.
 ghost use Rattle.std.specs.Prelude.{◌≡◌, Ok, Err, IfErr, IfOk};
 ghost use Rattle.review_commands.specs.Body.Surveying.{IsMemory, IsNotedTable};
 ghost use Rattle.review_commands.specs.Surveying.{Inputs, inputs_by, IsNotSurveyed, IsSurveyed};

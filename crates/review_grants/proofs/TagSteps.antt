@@ -17,7 +17,7 @@ use Rattle.sudo_verdict.proofs.Lasts.{last_set-map-push}
 use Rattle.sudo_verdict.proofs.TagLists.{tags_named-append}
 use Rattle.review_grants.proofs.ListSteps.{index-there, take-more}
 
--- for each pair, the first choice, or else the second
+-- for each pair the first choice, otherwise the second
 abbrev or_each : List (Option Bool) → List (Option Bool) → List (Option Bool)
 or_each xs ys = map (λ c. option_or c.0 c.1) (zip xs ys)
 

@@ -49,7 +49,7 @@ abbrev pub groups_part : Policy → Option (List Member) → List ℕ
 groups_part p None = []
 groups_part p (Some members) = 32 ∷ 58 ∷ 32 ∷ members_text p members
 
--- a runas in parentheses; nothing where there is none
+-- the text of a runas, in parentheses; empty without a runas
 abbrev pub runas_text : Policy → Option Runas → List ℕ
 runas_text p None = []
 runas_text p (Some r) = 40 ∷ (users_part p r.users ++ (groups_part p r.groups ++ 41 ∷ []))

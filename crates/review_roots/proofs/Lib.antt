@@ -3,7 +3,6 @@ pub mod PasswordLemmas
 pub mod LevelVectors
 pub mod StepVectors
 pub mod ListSteps
-pub mod TagSteps
 pub mod BlockLemmas
 pub mod GivenLemmas
 pub mod SearchLemmas

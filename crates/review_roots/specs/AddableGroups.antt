@@ -28,7 +28,7 @@ body_has_groups _ = false
 abbrev pub policy_has_groups : Policy → Bool
 policy_has_groups p = list_any (λ (e : Entry). body_has_groups e.body) p.entries
 
--- the groups that may be added: each known one, if a runas has a list of groups; else none. Without such a list a target that
+-- the groups that may be added: each known one, if a runas has a list of groups; otherwise none. Without such a list a target that
 -- is allowed with a group has that group already, so it is in no other list with it than without it
 abbrev pub addable_groups : Policy → KnownRows → List Group
 addable_groups p d = if policy_has_groups p then known_groups d else []

@@ -1,6 +1,7 @@
 -- The names that a table is about. Only proofs of bodies use these.
-use Rattle.std.specs.Prelude.{◌≡◌, ⊤, ℕ, List, Option, None, Some, Result, Ok}
+use Rattle.std.specs.Prelude.{◌≡◌, ⊤, ℕ, IsSome, List, Option, None, Some, Result, Ok}
 use Rattle.sudo_match.specs.KnownRows.{KnownRows, host_named, user_named}
+use Rattle.sudo_verdict.specs.Questions.{looked_up}
 use Rattle.run_base.specs.declared.run_output.RunOutput.{RunOutput}
 use Rattle.review_commands.specs.declared.ending.NotedOutput.{NotedOutput}
 use Rattle.review_commands.specs.declared.fault.TableFault.{TableFault}
@@ -9,7 +10,8 @@ use Rattle.review_commands.specs.declared.fault.TableFault.TheVariants as tables
 -- why names are not in scope: no known user or host has one, or memory failed
 abbrev pub IsNotInScope : KnownRows → Option (List ℕ) → Option (List ℕ) → TableFault → Type 0
 IsNotInScope d user host (tables.NoSuchUser name) = (user ≡ Some name) × (user_named d name ≡ None)
-IsNotInScope d user host (tables.NoSuchHost name) = (host ≡ Some name) × (host_named d name ≡ None)
+IsNotInScope d user host (tables.NoSuchHost name) =
+    (host ≡ Some name) × (host_named d name ≡ None) × IsSome (looked_up (user_named d) user)
 IsNotInScope d user host tables.Memory = ⊤
 IsNotInScope d user host (tables.Policy fault) = ⊥
 IsNotInScope d user host (tables.Directory fault) = ⊥

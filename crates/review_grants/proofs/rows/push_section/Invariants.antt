@@ -3,7 +3,7 @@ use Rattle.std.specs.List.{enumerate_from}
 use Rattle.review_grants.specs.Body.Heads.{HoldsBehind, place_rows}
 use Rattle.review_grants.proofs.rows.push_section.Given as goal
 
--- the commands so far were written, and what is in force behind them is known
+-- the text has the records of the commands so far, and the state their runas and tags
 abbrev pub invariant-loop-spec : goal.invariant-loop-spec
 invariant-loop-spec l = HoldsBehind l.checked (take l.spec-index l.commands) l.in_force
     × (l.text.items ≡ l.fn.text.items

@@ -1,5 +1,5 @@
 use Rattle.std.proofs.Common.{◌∙◌}
-use Rattle.review_roots.proofs.TagSteps.{named-next}
+use Rattle.review_grants.proofs.TagSteps.{named-next}
 use Rattle.review_roots.proofs.block.with_all_later.Goals as goal
 
 pub loop-tag-preserved : goal.loop-tag-preserved

@@ -1,6 +1,6 @@
 use Rattle.std.proofs.Common.{◌≡◌, length, rules}
 use Rattle.sudo_grammar.specs.Tags.{pairs}
-use Rattle.review_roots.proofs.TagSteps.{later-at}
+use Rattle.review_grants.proofs.TagSteps.{later-at}
 use Rattle.review_roots.proofs.block.with_later.Goals as goal
 
 pub returns : goal.returns
