@@ -8,7 +8,7 @@ use Rattle.review_cautions.specs.declared.class.CautionClass.{CautionClass}
 use Rattle.review_cautions.specs.declared.class.CautionClass.TheVariants.{Return, BlankAfterBackslash, Join, TornMark}
 use Rattle.review_cautions.specs.declared.class.CautionClass.TheVariants.{IncludeEscape, IncludeIndent}
 use Rattle.review_cautions.specs.declared.class.CautionClass.TheVariants.{Caret, Escape, Case, QuotedHost, QuotedEscape, Linked, Defaults}
-use Rattle.review_cautions.specs.declared.class.CautionClass.TheVariants.{Sudoedit, Network, Bracket, Setenv, GroupForm}
+use Rattle.review_cautions.specs.declared.class.CautionClass.TheVariants.{UnknownParameter, Sudoedit, Network, Bracket, Setenv, GroupForm}
 use Rattle.review_cautions.specs.Classes.{classes, class_name}
 
 -- the class is the first of its own name
@@ -26,6 +26,7 @@ own_name QuotedHost = refl
 own_name QuotedEscape = refl
 own_name Linked = refl
 own_name Defaults = refl
+own_name UnknownParameter = refl
 own_name Sudoedit = refl
 own_name Network = refl
 own_name Bracket = refl

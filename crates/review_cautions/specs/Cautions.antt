@@ -15,10 +15,11 @@ use Rattle.review_cautions.specs.declared.class.CautionClass.{CautionClass}
 use Rattle.review_cautions.specs.declared.class.CautionClass.TheVariants.{Return, BlankAfterBackslash, Join, TornMark}
 use Rattle.review_cautions.specs.declared.class.CautionClass.TheVariants.{IncludeEscape, IncludeIndent}
 use Rattle.review_cautions.specs.declared.class.CautionClass.TheVariants.{Caret, Escape, Case, QuotedHost, QuotedEscape, Linked, Defaults}
-use Rattle.review_cautions.specs.declared.class.CautionClass.TheVariants.{Sudoedit, Network, Bracket, Setenv, GroupForm}
+use Rattle.review_cautions.specs.declared.class.CautionClass.TheVariants.{UnknownParameter, Sudoedit, Network, Bracket, Setenv, GroupForm}
 use Rattle.review_cautions.specs.PhysicalLines.{numbers_of}
 use Rattle.review_cautions.specs.ListTests.{list_holds}
 use Rattle.review_cautions.specs.Parameters.{decides, name_of}
+use Rattle.review_cautions.specs.KnownParameters.{is_unknown, shown_name}
 use Rattle.review_cautions.specs.EntryTests.{body_holds}
 
 -- a caution on a line
@@ -79,6 +80,23 @@ body_cautions at _ = []
 abbrev pub defaults_cautions : List Entry → List Caution
 defaults_cautions es = flat_map (λ (e : Entry). body_cautions e.place e.body) es
 
+-- the caution on an unknown parameter of a line; its subject shows the parameter's name
+abbrev pub unknown_caution : Place → Parameter → Caution
+unknown_caution at parameter = record { class = UnknownParameter; place = at; subject = shown_name (name_of parameter) }
+
+-- the parameters of a line that sudo does not know, one caution for each
+abbrev pub unknown_parameters : Place → List Parameter → List Caution
+unknown_parameters at parameters = map (unknown_caution at) (filter is_unknown parameters)
+
+-- the same of an entry: a `Defaults` line, bound or not, has those of its parameters
+abbrev pub unknown_in : Place → EntryBody → List Caution
+unknown_in at (entries.Defaults binding parameters) = unknown_parameters at parameters
+unknown_in at _ = []
+
+-- the cautions on the unknown parameters of a policy, in order
+abbrev pub unknown_cautions : List Entry → List Caution
+unknown_cautions es = flat_map (λ (e : Entry). unknown_in e.place e.body) es
+
 -- the entries that have the construct of the class, one caution for each
 abbrev pub entry_cautions : CautionClass → List Entry → List Caution
 entry_cautions class es = map (λ (e : Entry). caution_at class e.place) (filter (λ (e : Entry). body_holds class e.body) es)
@@ -90,6 +108,6 @@ policy_cautions texts policy =
     ++ text_cautions TornMark texts ++ text_cautions IncludeEscape texts ++ text_cautions IncludeIndent texts
     ++ list_cautions Caret (lists policy) ++ list_cautions Escape (lists policy) ++ list_cautions Case (lists policy)
     ++ list_cautions QuotedHost (lists policy) ++ list_cautions QuotedEscape (lists policy) ++ linked_cautions (lists policy)
-    ++ defaults_cautions policy.entries
+    ++ defaults_cautions policy.entries ++ unknown_cautions policy.entries
     ++ list_cautions Sudoedit (lists policy) ++ list_cautions Network (lists policy) ++ list_cautions Bracket (lists policy)
     ++ entry_cautions Setenv policy.entries ++ entry_cautions GroupForm policy.entries

@@ -4,12 +4,12 @@ use Rattle.review_cautions.specs.declared.class.CautionClass.{CautionClass}
 use Rattle.review_cautions.specs.declared.class.CautionClass.TheVariants.{Return, BlankAfterBackslash, Join, TornMark}
 use Rattle.review_cautions.specs.declared.class.CautionClass.TheVariants.{IncludeEscape, IncludeIndent}
 use Rattle.review_cautions.specs.declared.class.CautionClass.TheVariants.{Caret, Escape, Case, QuotedHost, QuotedEscape, Linked, Defaults}
-use Rattle.review_cautions.specs.declared.class.CautionClass.TheVariants.{Sudoedit, Network, Bracket, Setenv, GroupForm}
+use Rattle.review_cautions.specs.declared.class.CautionClass.TheVariants.{UnknownParameter, Sudoedit, Network, Bracket, Setenv, GroupForm}
 
 -- the classes, in the order in which they are listed
 abbrev pub classes : List CautionClass
 classes = Return ∷ BlankAfterBackslash ∷ Join ∷ TornMark ∷ IncludeEscape ∷ IncludeIndent ∷ Caret ∷ Escape ∷ Case ∷ QuotedHost
-    ∷ QuotedEscape ∷ Linked ∷ Defaults ∷ Sudoedit ∷ Network ∷ Bracket ∷ Setenv ∷ GroupForm ∷ []
+    ∷ QuotedEscape ∷ Linked ∷ Defaults ∷ UnknownParameter ∷ Sudoedit ∷ Network ∷ Bracket ∷ Setenv ∷ GroupForm ∷ []
 
 -- the name of a class
 abbrev pub class_name : CautionClass → List ℕ
@@ -26,6 +26,7 @@ class_name QuotedHost = codes "quoted-host"
 class_name QuotedEscape = codes "quoted-escape"
 class_name Linked = codes "linked"
 class_name Defaults = codes "defaults"
+class_name UnknownParameter = codes "unknown-parameter"
 class_name Sudoedit = codes "sudoedit"
 class_name Network = codes "network"
 class_name Bracket = codes "bracket"
@@ -51,6 +52,8 @@ class_text QuotedEscape =
 class_text Linked =
     codes "a command is below a folder that is a link on most machines: two paths here, for sudo one file"
 class_text Defaults = codes "decides for sudo, has no effect here"
+class_text UnknownParameter =
+    codes "sudo 1.9 has no such parameter: passed over here in silence, by sudo with a warning"
 class_text Sudoedit = codes "a path ends in sudoedit: a program here, for sudo the editing of files"
 class_text Network =
     codes "an address is read otherwise by sudo: a mask of 0, a zero in front of a number, or an address of the loopback"

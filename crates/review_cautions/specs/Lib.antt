@@ -6,5 +6,6 @@ pub mod Addresses
 pub mod ListTests
 pub mod EntryTests
 pub mod Parameters
+pub mod KnownParameters
 pub mod Cautions
 pub mod PasswordDefaults

@@ -31,6 +31,8 @@ pub enum CautionClass {
     Linked,
     /// A parameter of a `Defaults` line that decides.
     Defaults,
+    /// A parameter of a `Defaults` line that sudo does not know.
+    UnknownParameter,
     /// A path that ends in `/sudoedit`.
     Sudoedit,
     /// An address or a network that sudo reads otherwise.
@@ -62,6 +64,7 @@ impl CautionClass {
             CautionClass::QuotedEscape => b"quoted-escape",
             CautionClass::Linked => b"linked",
             CautionClass::Defaults => b"defaults",
+            CautionClass::UnknownParameter => b"unknown-parameter",
             CautionClass::Sudoedit => b"sudoedit",
             CautionClass::Network => b"network",
             CautionClass::Bracket => b"bracket",
@@ -112,6 +115,9 @@ impl CautionClass {
                 b"a command is below a folder that is a link on most machines: two paths here, for sudo one file"
             }
             CautionClass::Defaults => b"decides for sudo, has no effect here",
+            CautionClass::UnknownParameter => {
+                b"sudo 1.9 has no such parameter: passed over here in silence, by sudo with a warning"
+            }
             CautionClass::Sudoedit => {
                 b"a path ends in sudoedit: a program here, for sudo the editing of files"
             }
@@ -132,7 +138,7 @@ impl CautionClass {
 }
 
 /// The classes, in the order in which they are listed.
-pub const CAUTION_CLASSES: [CautionClass; 18] = [
+pub const CAUTION_CLASSES: [CautionClass; 19] = [
     CautionClass::Return,
     CautionClass::BlankAfterBackslash,
     CautionClass::Join,
@@ -146,6 +152,7 @@ pub const CAUTION_CLASSES: [CautionClass; 18] = [
     CautionClass::QuotedEscape,
     CautionClass::Linked,
     CautionClass::Defaults,
+    CautionClass::UnknownParameter,
     CautionClass::Sudoedit,
     CautionClass::Network,
     CautionClass::Bracket,

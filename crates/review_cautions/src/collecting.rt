@@ -6,6 +6,7 @@ use crate::defaults::push_defaults;
 use crate::entries::push_entries;
 use crate::lines::push_texts;
 use crate::lists::{push_linked, push_lists};
+use crate::unknown::push_unknown;
 use crate::{Caution, CautionClass};
 use std::alloc::{AllocError, Global};
 use sudo_policy::{Policy, lists};
@@ -36,6 +37,7 @@ pub fn cautions(alloc: Global, texts: &[&[u8]], policy: &Policy) -> Result<Vec<C
     push_lists(alloc, CautionClass::QuotedEscape, lists, &mut found)?;
     push_linked(alloc, lists, &mut found)?;
     push_defaults(alloc, entries, &mut found)?;
+    push_unknown(alloc, entries, &mut found)?;
     push_lists(alloc, CautionClass::Sudoedit, lists, &mut found)?;
     push_lists(alloc, CautionClass::Network, lists, &mut found)?;
     push_lists(alloc, CautionClass::Bracket, lists, &mut found)?;

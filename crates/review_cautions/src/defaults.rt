@@ -93,8 +93,8 @@ fn word_bytes(alloc: Global, token: &TokenKind) -> Result<Seq<u8>, AllocError>
     }
 }
 
-// Copies the name of a parameter.
-fn name_of(alloc: Global, parameter: &Parameter) -> Result<Seq<u8>, AllocError>
+/// Copies the name of a parameter.
+pub(crate) fn name_of(alloc: Global, parameter: &Parameter) -> Result<Seq<u8>, AllocError>
     ensures { IfOk result (λ name. name ≡ spec.name_of parameter.now) }
 {
     match parameter {

@@ -16,6 +16,7 @@ mod joins;
 mod lines;
 mod lists;
 mod passwords;
+mod unknown;
 
 pub use caution::Caution;
 pub use class::{CAUTION_CLASSES, CautionClass, class_named};
