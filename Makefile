@@ -26,9 +26,10 @@ tools-test:
 	/usr/bin/python3 -m unittest discover -s tools/tests -p '$(FILE)' $(if $(TEST),-k '$(TEST)')
 
 # Builds the programs, checks the example policy, writes two of its aliases out, audits the example's requests, and shows what
-# sudo reads or judges otherwise there (status 5 says that there is such) and the requests beside their answers.
-AUDITED := ../../examples/sudoers --users ../../examples/users.csv --hosts ../../examples/hosts.csv \
-	web=../../examples/web.csv ops=../../examples/ops-odd.csv ops=../../examples/ops-even.csv
+# sudo reads or judges otherwise there, the requests beside their answers, who can become root, the grants of a user on a host,
+# what reaches nobody, and how many requests each rule decides. Status 5 says that something was found.
+KNOWN := ../../examples/sudoers --users ../../examples/users.csv --hosts ../../examples/hosts.csv
+AUDITED := $(KNOWN) web=../../examples/web.csv ops=../../examples/ops-odd.csv ops=../../examples/ops-even.csv
 run:
 	cd crates/sudo_audit && rt run -- check ../../examples/sudoers
 	cd crates/sudo_audit && rt run -- expand ../../examples/sudoers cmnd SAFE
@@ -36,5 +37,9 @@ run:
 	cd crates/sudo_audit && rt run -- audit $(AUDITED)
 	cd crates/sudo_review && rt run -- cautions ../../examples/sudoers || [ $$? -eq 5 ]
 	cd crates/sudo_review && rt run -- report $(AUDITED)
+	cd crates/sudo_review && rt run -- roots $(KNOWN) --all
+	cd crates/sudo_review && rt run -- grants $(KNOWN) --user wim --host web1.example.org
+	cd crates/sudo_review && rt run -- subjects $(KNOWN) || [ $$? -eq 5 ]
+	cd crates/sudo_review && rt run -- rules $(AUDITED)
 
 include packaging/install.mk

@@ -1,11 +1,12 @@
 //! Runs in which each read and each write fails in turn.
 
 use crate::runs::{
-    FILES, HOSTS, Item, REQUESTS, Readers, Shelf, USERS, audit_shown, cautions_shown, check_shown,
-    report_shown, shown, wrong_runs,
+    FILES, HOSTS, Item, REQUESTS, Readers, Shelf, TABLES, USERS, audit_shown, cautions_shown,
+    check_shown, report_shown, shown, table_shown, table_text, wrong_runs,
 };
 use audit_commands::expand_run;
 use audit_files::{ReadFault, Script, read_whole};
+use review_commands::Form;
 use run_base::{Files, FilesFault};
 use std::alloc::{AllocError, Global};
 use std::sync::Wait;
@@ -121,7 +122,8 @@ fn report_failing<T: Threads + Wait + Sync>(
         call: call_of(word, "policy", call),
     };
     let out = Script::of(alloc, b"", 1000)?;
-    report_shown(alloc, rt, &mut files, readers(alloc, word, call)?, out)
+    let readers = readers(alloc, word, call)?;
+    report_shown(alloc, rt, &mut files, readers, Form::Requests, out)
 }
 
 const REPORTS: &str = "users 1 13 => 4 ! sudo_review: users: read failed;
@@ -136,6 +138,33 @@ fn each_read_of_a_report_may_fail(rt: HostRuntime) -> Result<(), Fail> {
         Ok(report_failing(alloc, &rt, word, call)?)
     })?;
     assert_eq!(rt; wrong.as_str(), "");
+    Ok(())
+}
+
+// Shows a table in which this read of the file that the word names fails.
+fn table_failing(alloc: Global, table: &str, word: &str, call: u64) -> Result<String, AllocError> {
+    let mut files = Failing {
+        items: &FILES,
+        path: b"p",
+        call: call_of(word, "policy", call),
+    };
+    let out = Script::of(alloc, b"", 1000)?;
+    table_shown(alloc, table, &mut files, readers(alloc, word, call)?, out)
+}
+
+const UNREAD_TABLES: &str = "users 1 13 => 4 ! sudo_review: users: read failed;
+hosts 1 10 => 4 ! sudo_review: hosts: read failed;
+policy 1 10 => 4 ! sudo_review: cannot read p;";
+
+#[test]
+fn each_read_of_a_table_may_fail(rt: HostRuntime) -> Result<(), Fail> {
+    let alloc = rt.alloc();
+    for table in TABLES {
+        let wrong = wrong_runs(alloc, UNREAD_TABLES, |word, call| {
+            Ok(table_failing(alloc, table, word, call)?)
+        })?;
+        assert_eq!(rt; wrong.as_str(), "");
+    }
     Ok(())
 }
 
@@ -198,9 +227,18 @@ fn written<T: Threads + Wait + Sync>(
             audit_shown(alloc, rt, &mut Shelf { items: &FILES }, readers, out)
         }
         "check" => check_shown(alloc, &mut Shelf { items: &ALIASES }, out),
-        "report" => {
+        "report" | "rules" => {
             let readers = readers(alloc, "none", 0)?;
-            report_shown(alloc, rt, &mut Shelf { items: &FILES }, readers, out)
+            let form = if word == "rules" {
+                Form::Rules
+            } else {
+                Form::Requests
+            };
+            report_shown(alloc, rt, &mut Shelf { items: &FILES }, readers, form, out)
+        }
+        "grants" | "roots" | "subjects" => {
+            let readers = readers(alloc, "none", 0)?;
+            table_shown(alloc, word, &mut Shelf { items: &FILES }, readers, out)
         }
         "cautions" => cautions_shown(alloc, &mut Shelf { items: &CAPITALS }, out),
         _ => expansion(alloc, &mut Shelf { items: &ALIASES }, out),
@@ -222,8 +260,8 @@ const CAPITALS: [Item<'static>; 1] = [Item {
 // Returns the program that has the command which the word names.
 fn program(word: &str) -> &'static str {
     match word {
-        "report" | "cautions" => "sudo_review",
-        _ => "sudo_audit",
+        "audit" | "check" | "expand" => "sudo_audit",
+        _ => "sudo_review",
     }
 }
 
@@ -241,17 +279,20 @@ fn whole(word: &str) -> &'static str {
             "p:1: caution: case: a name has a capital letter: letter case counts here, not for sudo;\
             cautions: 1;"
         }
-        _ => "/bin/ls;/bin/cat;!/bin/su;",
+        "rules" => "place,commands,allowed,denied;p:1,4,1,0;",
+        "expand" => "/bin/ls;/bin/cat;!/bin/su;",
+        _ => table_text(word),
     }
 }
 
-// Returns the expected text of a run whose output is whole: its status, what it prints, and for a report the line of cautions.
+// Returns the expected text of a run whose output is whole: its status, what it prints, and for one that judges the line of
+// cautions.
 fn whole_shown(alloc: Global, word: &str) -> Result<String, AllocError> {
     let text = whole(word);
     match word {
-        "report" => format!(in alloc; "0 {text}! sudo_review: 1 cautions (linked);"),
+        "audit" | "check" | "expand" => format!(in alloc; "0 {text}"),
         "cautions" => format!(in alloc; "5 {text}"),
-        _ => format!(in alloc; "0 {text}"),
+        _ => format!(in alloc; "0 {text}! sudo_review: 1 cautions (linked);"),
     }
 }
 
@@ -277,6 +318,10 @@ fn each_write_may_fail(rt: HostRuntime) -> Result<(), Fail> {
         ("expand", 4),
         ("report", 23),
         ("cautions", 11),
+        ("rules", 6),
+        ("grants", 26),
+        ("roots", 26),
+        ("subjects", 4),
     ] {
         for call in 1..calls.saturating_add(1) {
             let out = Script::of(alloc, b"", 10)?.failing_at(call);

@@ -1,6 +1,8 @@
-//! Words that are read with little memory.
+//! Words that are read, and tables that are made, with little memory.
 
+use crate::runs::{FILES, HOSTS, Readers, Shelf, TABLES, USERS, table_shown, table_text};
 use audit_commands::{Asked, asked};
+use audit_files::Script;
 use clap::error::ErrorKind;
 use limited_memory::{End, Memory, ROOM, Trial, swept};
 use std::alloc::Global;
@@ -50,4 +52,54 @@ fn memory_for_the_words(rt: HostRuntime) -> Result<(), Fail> {
         words: &words,
     };
     swept(alloc, &rt, ROOM, &[reading])
+}
+
+/// The table that a word names.
+#[derive(Drop)]
+struct Tabling<'a> {
+    alloc: Global,
+    word: &'a str,
+}
+
+impl Trial for Tabling<'_> {
+    fn once<R: Threads + Wait + Sync>(&self, _rt: &R, memory: &mut Memory) -> Result<End, Fail> {
+        let readers = Readers {
+            users: Script::of(self.alloc, USERS, 1000)?,
+            hosts: Script::of(self.alloc, HOSTS, 1000)?,
+            requests: Script::of(self.alloc, b"", 1000)?,
+        };
+        let out = Script::of(self.alloc, b"", 1000)?;
+        let wanted = format!(
+            in self.alloc; "0 {}! sudo_review: 1 cautions (linked);", table_text(self.word)
+        )?;
+        memory.take();
+        let shown = table_shown(
+            self.alloc,
+            self.word,
+            &mut Shelf { items: &FILES },
+            readers,
+            out,
+        );
+        memory.give_back();
+        Ok(match shown {
+            Ok(line) if line == wanted => End::Answered,
+            Ok(line) => {
+                if line.starts_with("4 ") {
+                    End::Refused
+                } else {
+                    End::Wrong
+                }
+            }
+            Err(_) => End::Refused,
+        })
+    }
+}
+
+#[test]
+fn memory_for_the_tables(rt: HostRuntime) -> Result<(), Fail> {
+    let alloc = rt.alloc();
+    for word in TABLES {
+        swept(alloc, &rt, ROOM, &[Tabling { alloc, word }])?;
+    }
+    Ok(())
 }

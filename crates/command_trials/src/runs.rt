@@ -7,7 +7,9 @@
 use audit_commands::{Work, audit_into, check_run};
 use audit_files::Script;
 use audit_run::Source;
-use review_commands::{Form, cautions_run, report_into};
+use review_commands::{
+    Form, ScopeNames, cautions_run, grants_run, report_into, roots_run, subjects_run,
+};
 use run_base::{Files, FilesFault};
 use std::alloc::{AllocError, Global};
 use std::sync::Wait;
@@ -135,12 +137,13 @@ pub(crate) fn check_shown<F: Files>(
     shown(alloc, status, &out, &err)
 }
 
-/// Shows a report by two workers of these files and readers, with this writer.
+/// Shows a report of this form by two workers of these files and readers, with this writer.
 pub(crate) fn report_shown<T: Threads + Wait + Sync, F: Files>(
     alloc: Global,
     rt: &T,
     files: &mut F,
     readers: Readers,
+    form: Form,
     mut out: Script,
 ) -> Result<String, AllocError> {
     let Readers {
@@ -166,11 +169,68 @@ pub(crate) fn report_shown<T: Threads + Wait + Sync, F: Files>(
         &mut users,
         &mut hosts,
         work,
-        Form::Requests,
+        form,
         &mut out,
         &mut err,
     );
     shown(alloc, status, &out, &err)
+}
+
+/// The tables of known users and hosts alone, without requests.
+pub(crate) const TABLES: [&str; 3] = ["grants", "roots", "subjects"];
+
+/// Shows the one of these tables that the word names, of these files and readers, with this writer.
+pub(crate) fn table_shown<F: Files>(
+    alloc: Global,
+    word: &str,
+    files: &mut F,
+    readers: Readers,
+    mut out: Script,
+) -> Result<String, AllocError> {
+    let Readers {
+        mut users,
+        mut hosts,
+        requests,
+    } = readers;
+    drop(requests);
+    let mut err = Script::of(alloc, b"", 1000)?;
+    let names = ScopeNames {
+        user: None,
+        host: None,
+    };
+    let status = match word {
+        "grants" => grants_run(
+            alloc, b"p", files, &mut users, &mut hosts, names, &mut out, &mut err,
+        ),
+        "roots" => roots_run(
+            alloc, b"p", files, &mut users, &mut hosts, true, &mut out, &mut err,
+        ),
+        _ => subjects_run(
+            alloc, b"p", files, &mut users, &mut hosts, &mut out, &mut err,
+        ),
+    };
+    shown(alloc, status, &out, &err)
+}
+
+/// Returns the text of the table that the word names, of the files of these tests, on one line.
+pub(crate) fn table_text(word: &str) -> &'static str {
+    match word {
+        "grants" => {
+            "place,users,hosts,runas,sign,command,tags,depends;\
+            p:1,alice,web1.example.org,,,/bin/kill,NOPASSWD,;\
+            p:1,alice,web1.example.org,,,/usr/bin/lprm,NOPASSWD,;\
+            p:1,alice,web1.example.org,,,/bin/ls,PASSWD,;\
+            p:1,alice,web2.example.org,,,/bin/kill,,;"
+        }
+        "roots" => {
+            "user,host,target,level,password,place,tags,via,depends;\
+            root,web1.example.org,root,root,none,,,,;\
+            alice,web1.example.org,root,listed,own,p:1,PASSWD,,;\
+            root,web2.example.org,root,root,none,,,,;\
+            alice,web2.example.org,root,listed,own,p:1,,,;"
+        }
+        _ => "place,kind,name,what;",
+    }
 }
 
 /// Shows the cautions on the policy `p`, with this writer.

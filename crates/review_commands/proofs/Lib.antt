@@ -6,4 +6,5 @@ pub mod RowSteps
 pub mod ListSteps
 pub mod TextSteps
 pub mod TableSteps
+pub mod WrittenSteps
 pub mod RootSteps

@@ -45,7 +45,8 @@ memory-of given table (Err fault) memory is =
     subst (IsNotSurveyed given) (sym (subst (λ t. IfErr t IsMemory) is memory)) tt
 
 module _ (given : Inputs) (policy : Policy) (directory : KnownRows) (user host : Option (List ℕ)) where
-  fault-of : (notice : List ℕ) (fault : TableFault) → IsSurveyed given policy directory notice
+  -- no known one has a name that is given
+  pub fault-of : (notice : List ℕ) (fault : TableFault) → IsSurveyed given policy directory notice
       → IsNotInScope directory user host fault → IsNotGranted given user host fault
   fault-of notice (tables.NoSuchUser name) surveyed (asked, lacks) = record {
     directory = directory;
@@ -66,9 +67,11 @@ module _ (given : Inputs) (policy : Policy) (directory : KnownRows) (user host :
   fault-of notice (tables.Policy fault) surveyed not = absurd not
   fault-of notice (tables.Directory fault) surveyed not = absurd not
 
-  pub not-granted-of : (notice : List ℕ) (table : Result RunOutput TableFault) (r : Result NotedOutput TableFault)
-      → IsSurveyed given policy directory notice → IfErr table (IsNotInScope directory user host)
-      → IfErr r (λ fault. table ≡ Err fault) → IfErr r (IsNotGranted given user host)
-  not-granted-of notice table (Ok p) surveyed not is = tt
-  not-granted-of notice table (Err fault) surveyed not is =
-      fault-of notice fault surveyed (subst (λ t. IfErr t (IsNotInScope directory user host)) is not)
+-- nor is there a table of grants where there is no other
+pub not-granted : (given : Inputs) (user host : Option (List ℕ)) (fault : TableFault) → IsNotSurveyed given fault
+    → IsNotGranted given user host fault
+not-granted given user host (tables.Policy fault) not = not
+not-granted given user host (tables.Directory fault) not = not
+not-granted given user host (tables.NoSuchUser name) not = absurd not
+not-granted given user host (tables.NoSuchHost name) not = absurd not
+not-granted given user host tables.Memory not = tt

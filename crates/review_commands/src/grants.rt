@@ -1,23 +1,23 @@
 //! `grants`: lists the grants of a policy, with the known users and hosts of each.
 ghost use Rattle.std.specs.Prelude.{◌≡◌, Some, IfErr, IfOk, option_copied};
-ghost use Rattle.run_base.specs.Endings.{writer_states as sent};
+ghost use Rattle.run_base.specs.Endings.{PrintsOrNoMemory, writer_states as sent};
 ghost use Rattle.sudo_match.specs.KnownRows.{host_named, user_named};
 ghost use Rattle.sudo_verdict.specs.Questions.{looked_up};
-ghost use Rattle.review_commands.specs.Endings.{EndsNoted};
-ghost use Rattle.review_commands.specs.Body.Surveying.{IsNotInScope};
+ghost use Rattle.review_commands.specs.CautionLines.{program_name};
+ghost use Rattle.review_commands.specs.Endings.{EndsAsWritten, stop_line};
+ghost use Rattle.review_commands.specs.Body.Surveying.{AreNamedGrants, AreScopedGrants, IsNotInScope, IsNothing};
 ghost use Rattle.review_commands.specs.Surveying.{AreGrants, Inputs, inputs_by, IsNotGranted, IsTabled};
 ghost use Rattle.review_commands.specs.Surveying.{table_notices};
 
-use crate::ending::{NotedOutput, end_noted};
 use crate::fault::TableFault;
 use crate::program_name::PROGRAM;
-use crate::survey::{noted, read_survey};
+use crate::survey::{Survey, read_survey};
 use audit_files::{Feed, Sink};
-use review_grants::{Scope, grants_text};
-use run_base::{Files, RunOutput};
-use std::alloc::Global;
+use review_grants::{Scope, Stopped, write_grants};
+use run_base::{Files, report_fault, write_text};
+use std::alloc::{AllocError, Global};
+use std::mem;
 use sudo_match::Directory;
-use sudo_policy::Checked;
 use sudo_text::Seq;
 
 /// The names of the user and of the host that a table is about, where one is given.
@@ -58,56 +58,65 @@ fn scope_of<'a>(
     Ok(Scope { user, host })
 }
 
-// Returns the table of the grants of a policy, all or those of the user and the host of these names.
-fn grants_table(
-    alloc: Global,
-    policy: &Checked,
-    directory: &Directory,
-    names: ScopeNames<'_>,
-) -> Result<RunOutput, TableFault>
-    ensures made { IfOk result (λ o. AreGrants (option_copied names.entry.user)
-        (option_copied names.entry.host) policy.now directory.now o.text.items o.status) }
-    ensures fault { IfErr result (IsNotInScope directory.now (option_copied names.entry.user)
-        (option_copied names.entry.host)) }
+// Prints the line that says why a table stopped part way, and returns 4.
+fn report_stop<E: Sink>(alloc: Global, stopped: Stopped, err: &mut E) -> u8
+    ensures { PrintsOrNoMemory program_name 4 (stop_line program_name stopped) result
+        (sent E.taken E.stalled_writes err.old err.new) }
 {
-    let scope = scope_of(alloc, directory, names)?;
-    match grants_text(alloc, policy, directory, scope) {
-        Ok(text) => Ok(RunOutput { text, status: 0 }),
-        Err(_) => Err(TableFault::Memory),
+    match stopped {
+        Stopped::Write(lost) => report_fault(alloc, PROGRAM, lost, err),
+        Stopped::Memory => report_fault(alloc, PROGRAM, AllocError, err),
     }
 }
 
-// Returns the text and the notice of the grants of the policy of a file.
-fn grants_output<F: Files, U: Feed, H: Feed>(
+// Prints the table of grants in a scope as it is made, and then the notice of the survey. Returns the status.
+fn write_scope<O: Sink, E: Sink>(
     alloc: Global,
-    path: &[u8],
-    files: &mut F,
-    users: &mut U,
-    hosts: &mut H,
-    names: ScopeNames<'_>,
-) -> Result<NotedOutput, TableFault>
-    ensures printed { let given : Inputs = inputs_by (F.held files.old) path.now
-        (U.ahead users.old) (H.ahead hosts.old) in
-        IfOk result (λ p. IsTabled (AreGrants (option_copied names.entry.user)
-        (option_copied names.entry.host)) given p.text.items p.notice.items p.status) }
-    ensures fault { let given : Inputs = inputs_by (F.held files.old) path.now
-        (U.ahead users.old) (H.ahead hosts.old) in
-        IfErr result (IsNotGranted given (option_copied names.entry.user)
-        (option_copied names.entry.host)) }
+    survey: &Survey,
+    scope: Scope<'_>,
+    out: &mut O,
+    err: &mut E,
+) -> u8
+    ensures { EndsAsWritten table_notices (AreScopedGrants survey.now (option_copied scope.entry.user)
+        (option_copied scope.entry.host)) IsNothing result
+        (sent O.taken O.stalled_writes out.old out.new)
+        (sent E.taken E.stalled_writes err.old err.new) }
 {
-    let survey = read_survey(alloc, path, files, users, hosts)?;
-    let table = grants_table(alloc, &survey.checked.policy, &survey.directory, names);
-    noted(survey, table)
+    match write_grants(alloc, &survey.checked.policy, &survey.directory, scope, out) {
+        Ok(()) => write_text(&survey.notice, 0, err),
+        Err(stopped) => report_stop(alloc, stopped, err),
+    }
+}
+
+// Prints the table of grants for these names as it is made, and then the notice of the survey; or the fault, if no known one
+// has a name. Returns the status.
+fn write_named<O: Sink, E: Sink>(
+    alloc: Global,
+    survey: &Survey,
+    names: ScopeNames<'_>,
+    out: &mut O,
+    err: &mut E,
+) -> u8
+    ensures { EndsAsWritten table_notices (AreNamedGrants survey.now (option_copied names.entry.user)
+        (option_copied names.entry.host)) (IsNotInScope survey.now.directory
+        (option_copied names.entry.user) (option_copied names.entry.host)) result
+        (sent O.taken O.stalled_writes out.old out.new)
+        (sent E.taken E.stalled_writes err.old err.new) }
+{
+    match scope_of(alloc, &survey.directory, names) {
+        Ok(scope) => write_scope(alloc, survey, scope, out, err),
+        Err(fault) => report_fault(alloc, PROGRAM, fault, err),
+    }
 }
 
 /// Prints on `out` the table of the grants of the policy of a file, each with the known users and hosts that its lists allow:
-/// all, or those of the user and the host of these names. Then prints on `err` the line that counts the cautions on the policy,
-/// if there is one.
+/// all, or those of the user and the host of these names, as it is made. Then prints on `err` the line that counts the
+/// cautions on the policy, if there is one.
 ///
 /// Returns the exit status: 0; 1 if the policy is refused or has errors; 3 if the users or the hosts are refused, or no known
 /// one has a name that is given; 4 if reading, writing or memory failed. Checks in this order: the policy, the users, the
 /// hosts, both together, the names. If the check of the policy finds errors, prints them on `err`; prints any other fault as
-/// one line on `err`. Then nothing was printed on `out`, except by a write that failed part way.
+/// one line on `err`. Then nothing was printed on `out`, except where a write or memory failed part way.
 pub fn grants_run<F: Files, U: Feed, H: Feed, O: Sink, E: Sink>(
     alloc: Global,
     path: &[u8],
@@ -120,12 +129,19 @@ pub fn grants_run<F: Files, U: Feed, H: Feed, O: Sink, E: Sink>(
 ) -> u8
     ensures ends { let given : Inputs = inputs_by (F.held files.old) path.now
         (U.ahead users.old) (H.ahead hosts.old) in
-        EndsNoted table_notices
+        EndsAsWritten table_notices
         (IsTabled (AreGrants (option_copied names.entry.user) (option_copied names.entry.host)) given)
         (IsNotGranted given (option_copied names.entry.user) (option_copied names.entry.host)) result
         (sent O.taken O.stalled_writes out.old out.new)
         (sent E.taken E.stalled_writes err.old err.new) }
 {
-    let ended = grants_output(alloc, path, files, users, hosts, names);
-    end_noted(alloc, PROGRAM, ended, out, err)
+    match read_survey(alloc, path, files, users, hosts) {
+        Ok(survey) => {
+            let status = write_named(alloc, &survey, names, out, err);
+            // The run ends here, and freeing a large policy item by item takes long.
+            mem::forget(survey);
+            status
+        }
+        Err(fault) => report_fault(alloc, PROGRAM, fault, err),
+    }
 }

@@ -3,6 +3,7 @@ use Rattle.std.proofs.Common.{◌≡◌, ◌∙◌, ℕ, Bool, true, false, cond
 use Rattle.std.proofs.Common.{List, [], ◌∷◌, ◌++◌, ap, append_assoc, append-nil, filter, flat_map}
 use Rattle.std.proofs.Common.{◌+◌, ◌<◌, ◌≤◌, arith, codes, drop, get_or, length, map, refl, subst, sym, take, zip, Option}
 use Rattle.std.specs.List.{enumerate_from, list_all}
+use Rattle.std.proofs.lemmas.List.{take-append-drop}
 use Rattle.std.proofs.lemmas.List.Elements.{filter-append}
 use Rattle.std.proofs.lemmas.List.Concat.{flat_map-append}
 use Rattle.std.proofs.lemmas.List.FromFn.{get_or-enumerate_from, length-enumerate_from}
@@ -297,3 +298,30 @@ table-whole p d u m es n text are past is =
     is ∙ ap (λ (xs : List Entry). line grants_header ++ flat_map (λ e. lines_of p d u m (entry_grants p e)) xs)
     (take-whole es n past ∙ are)
     ∙ ap (λ (t : List ℕ). line grants_header ++ t) (all_entries p d u m)
+
+-- the header and the records of the first entries
+abbrev pub table-part : Policy → KnownRows → Option Person → Option Machine → List Entry → ℕ → List ℕ
+table-part p d u m es n =
+    line grants_header ++ flat_map (λ e. lines_of p d u m (entry_grants p e)) (take n es)
+
+-- with one entry more
+pub table-next : (p : Policy) (d : KnownRows) (u : Option Person) (m : Option Machine) (es : List Entry) (n : ℕ) (e : Entry)
+    → n < length es → e ≡ get_or es n e
+    → table-part p d u m es n ++ lines_of p d u m (entry_grants p e) ≡ table-part p d u m es (n + 1)
+table-next p d u m es n e within is =
+    flat_map-next (λ x. lines_of p d u m (entry_grants p x)) es n e (line grants_header) (table-part p d u m es n)
+    (table-part p d u m es n ++ lines_of p d u m (entry_grants p e)) within is refl refl
+
+-- the table begins with the records of the first entries
+pub table-begins : (p : Policy) (d : KnownRows) (u : Option Person) (m : Option Machine) (es : List Entry) (n : ℕ)
+    → es ≡ p.entries → (more : List ℕ) × (table-part p d u m es n ++ more ≡ grants_text p d u m)
+table-begins p d u m es n are =
+    let own : Entry → List ℕ = λ e. lines_of p d u m (entry_grants p e) in
+    let more : List ℕ = flat_map own (drop n es) in
+    let all : line grants_header ++ flat_map own es ≡ grants_text p d u m =
+    ap (λ (xs : List Entry). line grants_header ++ flat_map own xs) are
+    ∙ ap (λ (t : List ℕ). line grants_header ++ t) (all_entries p d u m) in
+    let split : flat_map own (take n es) ++ more ≡ flat_map own es =
+    sym (flat_map-append own (take n es) (drop n es)) ∙ ap (flat_map own) (take-append-drop n es) in
+    (more, append_assoc (line grants_header) (flat_map own (take n es)) more
+    ∙ ap (λ (t : List ℕ). line grants_header ++ t) split ∙ all)

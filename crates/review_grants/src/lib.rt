@@ -7,6 +7,8 @@ mod laws;
 mod names;
 mod rows;
 mod runas_text;
+mod writing;
 
 pub use laws::last_row_decides;
-pub use rows::{Scope, grants_text};
+pub use rows::Scope;
+pub use writing::{Stopped, write_grants};

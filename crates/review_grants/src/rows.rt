@@ -1,4 +1,4 @@
-//! The table of the grants of a policy, record by record.
+//! The records of the table of grants.
 ghost use Rattle.std.specs.Prelude.{◌≡◌, ◌++◌, ◌∷◌, [], flat_map, true, IfOk, IsTrue, OnOk, option_copied};
 ghost use Rattle.csv.specs.Writing.{default_writer, field_text, fields_text};
 ghost use Rattle.std.specs.List.{list_all};
@@ -10,7 +10,7 @@ ghost use Rattle.sudo_policy.specs.Resolving.{resolves};
 ghost use Rattle.sudo_verdict.specs.Body.Resolved.{body_resolves};
 ghost use Rattle.sudo_verdict.specs.Grants.{entry_grants, section_grants};
 ghost use Rattle.review_grants.specs.Body.Heads as heads;
-ghost use Rattle.review_grants.specs.GrantRows.{grants_header, grants_text as text_of, is_for_host, is_for_user};
+ghost use Rattle.review_grants.specs.GrantRows.{grants_header, is_for_host, is_for_user};
 ghost use Rattle.review_grants.specs.GrantRows.{sign_text};
 
 use crate::fields::push_one;
@@ -165,13 +165,13 @@ fn push_section(
     Ok(())
 }
 
-// A policy, the known users and hosts with their names, and whom a table is about.
+/// A policy, the known users and hosts with their names, and whom a table is about.
 #[derive(Clone, Copy)]
-struct Table<'a> {
-    checked: &'a Checked,
-    directory: &'a Directory,
-    names: &'a Names,
-    scope: Scope<'a>,
+pub(crate) struct Table<'a> {
+    pub(crate) checked: &'a Checked,
+    pub(crate) directory: &'a Directory,
+    pub(crate) names: &'a Names,
+    pub(crate) scope: Scope<'a>,
     ghost named: { heads.AreNames directory.now names.now },
 }
 
@@ -271,8 +271,8 @@ fn push_rule(
     push_sections(alloc, text, table, &head, sections)
 }
 
-// Appends the records of an entry: those of a rule.
-fn push_entry(
+/// Appends the records of an entry: those of a rule.
+pub(crate) fn push_entry(
     alloc: Global,
     text: &mut Vec<u8>,
     table: Table<'_>,
@@ -295,52 +295,10 @@ fn push_entry(
 // The names of the columns, as a record.
 const HEADER: &[u8] = b"place,users,hosts,runas,sign,command,tags,depends\n";
 
-// Appends the record of the names of the columns.
+/// Appends the record of the names of the columns.
 #[tactic(auto, unfolding(csv::specs::Writing::fields_text, csv::specs::Writing::is_blank))]
-fn push_header(text: &mut Vec<u8>) -> Result<(), AllocError>
+pub(crate) fn push_header(text: &mut Vec<u8>) -> Result<(), AllocError>
     ensures { OnOk result (text.new.items ≡ text.old.items ++ line grants_header) }
 {
     text.extend_from_slice(HEADER)
-}
-
-// Returns the header and the records of all entries.
-fn table_text(alloc: Global, table: Table<'_>) -> Result<Vec<u8>, AllocError>
-    ensures { IfOk result (λ text. text.items ≡ text_of table.entry.checked.now table.entry.directory.now
-        (option_copied table.entry.scope.user) (option_copied table.entry.scope.host)) }
-{
-    let mut text = Vec::new(alloc);
-    push_header(&mut text)?;
-    for entry in table.checked.policy().entries.as_slice() {
-        push_entry(alloc, &mut text, table, entry)?;
-    }
-    Ok(text)
-}
-
-/// Returns the table of the grants of a checked policy as CSV: the header
-/// `place,users,hosts,runas,sign,command,tags,depends`, then a record for each command of the written-out policy, in its
-/// order, whose lists allow the user and the host of the scope.
-///
-/// `place` is `PATH:LINE` of its rule; `users` and `hosts` are the known ones that the lists of the rule and of its section
-/// allow, each as it would stand in a policy, and `ALL` where they allow each; `runas` is the runas in force, its aliases
-/// written out, and empty without one; `sign` is `!` for a command that is denied; `tags` are those in force; `depends` is
-/// empty. Returns `AllocError` if allocation failed.
-pub fn grants_text(
-    alloc: Global,
-    checked: &Checked,
-    directory: &Directory,
-    scope: Scope<'_>,
-) -> Result<Vec<u8>, AllocError>
-    ensures { IfOk result (λ text. text.items ≡ text_of checked.now directory.now
-        (option_copied scope.entry.user) (option_copied scope.entry.host)) }
-{
-    let names = Names::of(alloc, directory)?;
-    let table = Table {
-        checked,
-        directory,
-        names: &names,
-        scope,
-    };
-    let text = table_text(alloc, table);
-    drop(names);
-    text
 }

@@ -1,7 +1,13 @@
 -- The names that a table is about. Only proofs of bodies use these.
 use Rattle.std.specs.Prelude.{◌≡◌, ⊤, ℕ, IsSome, List, Option, None, Some, Result, Ok}
 use Rattle.sudo_match.specs.KnownRows.{KnownRows, host_named, user_named}
+use Rattle.sudo_match.specs.declared.people.Machine.{Machine}
+use Rattle.sudo_match.specs.declared.people.Person.{Person}
 use Rattle.sudo_verdict.specs.Questions.{looked_up}
+use Rattle.review_grants.specs.GrantRows.{grants_text}
+use Rattle.review_commands.specs.Endings.{Printing}
+use Rattle.review_commands.specs.Surveying.{AreGrants}
+use Rattle.review_commands.specs.declared.survey.Survey.{Survey}
 use Rattle.run_base.specs.declared.run_output.RunOutput.{RunOutput}
 use Rattle.review_commands.specs.declared.ending.NotedOutput.{NotedOutput}
 use Rattle.review_commands.specs.declared.fault.TableFault.{TableFault}
@@ -15,6 +21,19 @@ IsNotInScope d user host (tables.NoSuchHost name) =
 IsNotInScope d user host tables.Memory = ⊤
 IsNotInScope d user host (tables.Policy fault) = ⊥
 IsNotInScope d user host (tables.Directory fault) = ⊥
+
+abbrev pub IsNothing : TableFault → Type 0
+IsNothing fault = ⊥
+
+-- the table of grants of a survey in a scope, with its notice
+abbrev pub AreScopedGrants : Survey → Option Person → Option Machine → Printing
+AreScopedGrants s person machine text notice status =
+    (text ≡ grants_text s.checked.policy s.directory person machine) × (notice ≡ s.notice.items) × (status ≡ 0)
+
+-- the table of grants of a survey for these names, with its notice
+abbrev pub AreNamedGrants : Survey → Option (List ℕ) → Option (List ℕ) → Printing
+AreNamedGrants s user host text notice status =
+    AreGrants user host s.checked.policy s.directory text status × (notice ≡ s.notice.items)
 
 abbrev pub IsMemory : TableFault → Type 0
 IsMemory fault = fault ≡ tables.Memory

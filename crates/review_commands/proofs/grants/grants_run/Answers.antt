@@ -1,18 +1,43 @@
-use Rattle.std.proofs.Common.{option_copied}
+use Rattle.std.proofs.Common.{option_copied, refl, subst, sym}
 use Rattle.run_base.specs.Endings.{writer_states as sent}
-use Rattle.review_commands.specs.Surveying.{AreGrants, Inputs, inputs_by, IsNotGranted, IsTabled, table_notices}
-use Rattle.review_commands.proofs.EndingSteps.{run_noted}
+use Rattle.review_commands.specs.Body.Surveying.{AreNamedGrants, IsNotInScope}
+use Rattle.review_commands.specs.Surveying.{AreGrants, Inputs, inputs_by, IsNotGranted, IsSurveyed, IsTabled, table_notices}
+use Rattle.review_commands.proofs.TableSteps.{fault-of, not-granted}
+use Rattle.review_commands.proofs.WrittenSteps.{ends-mapped, ends-refused}
 use Rattle.review_commands.proofs.grants.grants_run.Goals as goal
 
-pub returns : goal.returns
-returns g c =
+pub returns-in-Ok : goal.returns-in-Ok
+returns-in-Ok g c =
     let given : Inputs = inputs_by (g.F.Files.held c.args.files.now) c.args.path.now (g.U.Feed.ahead c.args.users.now)
     (g.H.Feed.ahead c.args.hosts.now) in
     let user = option_copied c.args.names.user in
     let host = option_copied c.args.names.host in
-    let out = sent g.O.Sink.taken g.O.Sink.stalled_writes c.args.out.now c.end_noted.new.out in
-    let err = sent g.E.Sink.taken g.E.Sink.stalled_writes c.args.err.now c.end_noted.new.err in
+    let s = c.in-Ok.survey in
+    let out = sent g.O.Sink.taken g.O.Sink.stalled_writes c.args.out.now c.write_named-status.new.out in
+    let err = sent g.E.Sink.taken g.E.Sink.stalled_writes c.args.err.now c.write_named-status.new.err in
     record {
-      ends = run_noted table_notices (IsTabled (AreGrants user host) given) (IsNotGranted given user host) c.grants_output-ended.result
-          c.end_noted.result out err c.grants_output-ended.ensures.printed c.grants_output-ended.ensures.fault c.end_noted.ensures;
+      ends = ends-mapped table_notices (AreNamedGrants s user host) (IsTabled (AreGrants user host) given)
+          (IsNotInScope s.directory user host) (IsNotGranted given user host) c.write_named-status.result out err
+          (λ text notice own good. record {
+            policy = s.checked.policy;
+            directory = s.directory;
+            surveyed = subst (IsSurveyed given s.checked.policy s.directory) (sym good.1) c.in-Ok.ensures.surveyed;
+            made = good.0;
+          })
+          (λ fault not. fault-of given s.checked.policy s.directory user host s.notice.items fault c.in-Ok.ensures.surveyed not)
+          c.write_named-status.ensures;
+    }
+
+pub returns-in-Err : goal.returns-in-Err
+returns-in-Err g c =
+    let given : Inputs = inputs_by (g.F.Files.held c.args.files.now) c.args.path.now (g.U.Feed.ahead c.args.users.now)
+    (g.H.Feed.ahead c.args.hosts.now) in
+    let user = option_copied c.args.names.user in
+    let host = option_copied c.args.names.host in
+    let out = sent g.O.Sink.taken g.O.Sink.stalled_writes c.args.out.now c.args.out.now in
+    let err = sent g.E.Sink.taken g.E.Sink.stalled_writes c.args.err.now c.report_fault.new.err in
+    record {
+      ends = ends-refused table_notices (IsTabled (AreGrants user host) given) (IsNotGranted given user host)
+          c.report_fault.result out err c.in-Err.fault (not-granted given user host c.in-Err.fault c.in-Err.ensures.fault)
+          refl refl c.report_fault.ensures;
     }
