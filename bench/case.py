@@ -2,9 +2,12 @@
 """Writes a large made-up case into a folder: a policy, users, hosts, and requests of several senders.
 
 usage: case.py FOLDER [--rules N] [--aliases N] [--users N] [--hosts N] [--requests N] [--senders N] [--seed N]
+               [--full N] [--chained N] [--grouped 0]
 
-FOLDER gets sudoers, users.csv, hosts.csv, and requests-0.csv and so on, one for each sender. The same numbers
-always give the same bytes.
+FOLDER gets sudoers, users.csv, hosts.csv, and requests-0.csv and so on, one for each sender. Behind the other rules stand as
+many as --full says that let a user run any command as anybody, and as many as --chained says that let a user run any command
+as the next one, in chains of five steps to root. With --grouped 0 no rule has a list of groups in its parentheses. The same
+numbers always give the same bytes.
 """
 
 import argparse
@@ -24,6 +27,9 @@ class Sizes(NamedTuple):
     requests: int = 200_000
     senders: int = 4
     seed: int = 1
+    full: int = 0
+    chained: int = 0
+    grouped: int = 1
 
 
 def options() -> tuple[str, Sizes]:
@@ -108,10 +114,24 @@ class Case:
         """Draws a rule."""
         users = self.alias_or("USER", self.user_member)
         hosts = self.pick("ALL", self.alias_or("HOST", self.host_member))
-        runas = self.pick("", "(root) ", "(ALL) ", "(ALL:ALL) ")
+        runas = self.pick("", "(root) ", "(ALL) ", self.anybody())
         tag = self.pick("", "NOPASSWD: ", "NOEXEC: ")
         commands = [self.alias_or("CMND", self.command_member) for _ in range(2)]
         return "%s %s = %s%s%s" % (users, hosts, runas, tag, ", ".join(commands))
+
+    def anybody(self) -> str:
+        """Returns the parentheses for every user and, if rules may have lists of groups, every group."""
+        return "(ALL:ALL) " if self.given.grouped else "(ALL) "
+
+    def full_rule(self) -> str:
+        """Draws a rule that lets a user run any command as anybody."""
+        hosts = self.pick("ALL", self.alias_or("HOST", self.host_member))
+        runas = self.pick("(ALL) ", self.anybody())
+        return "%s %s = %s%sALL" % (self.user(), hosts, runas, self.pick("", "NOPASSWD: "))
+
+    def chained_rule(self, i: int) -> str:
+        """Returns the rule that lets a user run any command as the next one, or, at the end of a chain, as root."""
+        return "user%d ALL = (%s) ALL" % (i, "root" if i % 5 == 4 else "user%d" % (i + 1))
 
     def policy(self) -> Iterator[str]:
         """Yields the lines of the policy."""
@@ -120,6 +140,10 @@ class Case:
         yield from self.alias_lines("Cmnd", self.command_member)
         for _ in range(self.given.rules):
             yield self.rule()
+        for _ in range(self.given.full):
+            yield self.full_rule()
+        for i in range(self.given.chained):
+            yield self.chained_rule(i)
 
     def user_rows(self) -> Iterator[str]:
         """Yields the rows of the users."""

@@ -7,7 +7,7 @@ ghost use Rattle.review_roots.specs.AddableGroups.{addable_groups};
 ghost use Rattle.review_commands.specs.RootRows as spec;
 
 use audit_files::{push_field, push_next_field, push_place, put_tags};
-use review_roots::{AllowingRow, HostSteps, Level, Password, Root, State, Way, roots_on};
+use review_roots::{AllowingRow, HostSteps, Level, Password, Root, Rules, State, Way, roots_on};
 use std::alloc::{AllocError, Global};
 use sudo_match::{Directory, Group, Machine};
 use sudo_policy::Checked;
@@ -321,16 +321,17 @@ fn least_listed(all: bool) -> Level
 fn target_rows(
     alloc: Global,
     table: RootTable<'_>,
-    steps: &HostSteps<'_>,
+    steps: &HostSteps<'_, '_>,
     target: usize,
 ) -> Result<Vec<u8>, AllocError>
     requires policy { steps.now.checked.now ≡ table.checked.now }
     requires directory { steps.now.directory.now ≡ table.directory.now }
     requires groups { steps.now.groups.now ≡ table.groups.now }
+    requires least { steps.now.least ≡ spec.least_listed table.all }
     ensures { IfOk result (λ text. spec.AreTargetRows table.entry.checked.now
         table.entry.directory.now table.entry.all steps.now.host.now target text.items) }
 {
-    let roots = roots_on(alloc, steps, target, least_listed(table.all))?;
+    let roots = roots_on(alloc, steps, target)?;
     rows_text(alloc, table, steps.host, target, &roots)
 }
 
@@ -339,14 +340,19 @@ fn push_host(
     alloc: Global,
     text: &mut Vec<u8>,
     table: RootTable<'_>,
+    rules: &Rules<'_>,
     host: &Machine,
     targets: &[usize],
 ) -> Result<(), AllocError>
-    requires { targets.now ≡ spec.targets table.directory.now }
+    requires policy { rules.now.checked.now ≡ table.checked.now }
+    requires directory { rules.now.directory.now ≡ table.directory.now }
+    requires groups { rules.now.groups.now ≡ table.groups.now }
+    requires least { rules.now.least ≡ spec.least_listed table.all }
+    requires targets { targets.now ≡ spec.targets table.directory.now }
     ensures { OnOk result (spec.Appends (spec.AreHostRows table.entry.checked.now
         table.entry.directory.now table.entry.all host.now) text.old.items text.new.items) }
 {
-    let steps = HostSteps::new(alloc, table.checked, table.directory, host, table.groups)?;
+    let steps = HostSteps::new(alloc, rules, host)?;
     for target in targets {
         let rows = target_rows(alloc, table, &steps, *target)?;
         text.extend_from_slice(rows.as_slice())?;
@@ -409,10 +415,12 @@ pub(crate) fn roots_text(alloc: Global, table: RootTable<'_>) -> Result<Vec<u8>,
         table.entry.directory.now text.items 0) }
 {
     let targets = targets(alloc, table.directory)?;
+    let least = least_listed(table.all);
+    let rules = Rules::new(alloc, table.checked, table.directory, table.groups, least)?;
     let mut text = Vec::new(alloc);
     push_header(&mut text)?;
     for host in table.directory.machines() {
-        push_host(alloc, &mut text, table, host, &targets)?;
+        push_host(alloc, &mut text, table, &rules, host, &targets)?;
     }
     Ok(text)
 }

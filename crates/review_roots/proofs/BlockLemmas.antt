@@ -1,11 +1,9 @@
--- The blocks of a host are its rows.
+-- The blocks of a policy are its rows.
 use Rattle.std.proofs.Common.{◌≡◌, ◌<◌, ◌≤◌, ◌+◌, ◌∙◌, ℕ, Bool, true, false, cond, ◌&&◌, List, [], ◌∷◌, ◌++◌, ap, append-nil, append_assoc}
-use Rattle.std.proofs.Common.{arith, refl, take, flat_map, get_or, length, map, sym, subst, Vec, Global, option_copied}
-use Rattle.std.specs.Prelude.{filter}
+use Rattle.std.proofs.Common.{arith, refl, take, flat_map, get_or, length, map, sym, subst, Vec, Global, Option, option_copied}
 use Rattle.std.specs.List.{enumerate_from, list_all}
 use Rattle.std.proofs.lemmas.List.{map-append, take_all}
 use Rattle.std.proofs.lemmas.List.FromFn.{length-enumerate_from}
-use Rattle.std.proofs.lemmas.List.Elements.{filter-append}
 use Rattle.std.proofs.lemmas.Bool.{and_parts}
 use Rattle.sudo_text.specs.declared.line.Place.{Place}
 use Rattle.sudo_grammar.specs.declared.kind.Kind.TheVariants as kind
@@ -14,12 +12,13 @@ use Rattle.sudo_grammar.specs.declared.kind.Signed.{Signed}
 use Rattle.sudo_grammar.specs.declared.policy.CommandSpec.{CommandSpec}
 use Rattle.sudo_grammar.specs.declared.policy.Entry.{Entry}
 use Rattle.sudo_grammar.specs.declared.policy.Policy.{Policy}
+use Rattle.sudo_grammar.specs.declared.policy.Runas.{Runas}
 use Rattle.sudo_grammar.specs.declared.policy.Section.{Section}
-use Rattle.sudo_match.specs.declared.people.Machine.{Machine}
+use Rattle.sudo_match.specs.declared.request.Tags.{Tags}
 use Rattle.sudo_policy.specs.Written.{written_form}
 use Rattle.sudo_policy.specs.Resolving.{resolves, runas_resolves}
 use Rattle.sudo_policy.specs.Body.Resolving.{command_resolves}
-use Rattle.sudo_verdict.specs.Values.{is_all, host_allowed}
+use Rattle.sudo_verdict.specs.Values.{is_all}
 use Rattle.sudo_verdict.specs.Tagged.{runas_at, tags_at, runas_before}
 use Rattle.sudo_verdict.specs.Grants.{Grant, grants, grant_of, place_grants, section_grants, entry_grants}
 use Rattle.sudo_verdict.proofs.SearchLaw.{runas_before-resolves}
@@ -29,65 +28,69 @@ use Rattle.review_roots.specs.declared.block.InForce.{InForce}
 use Rattle.review_roots.specs.declared.block.Sign.{Sign}
 use Rattle.review_roots.specs.Blocks.{Row, row_of, sign_of, block_row, block_rows, block_resolves, AreBlocks}
 use Rattle.review_roots.specs.Body.Heads.{IsInForce, signed_row, head_resolves}
-use Rattle.review_roots.proofs.ListSteps.{take-more, take-enumerated, flat-one, all-push, all-taken, all-there, filter-constant}
-use Rattle.review_roots.proofs.ListSteps.{filter-flat-constant, map-same, map-twice}
+use Rattle.review_roots.proofs.ListSteps.{take-more, take-enumerated, flat-one, all-push, all-taken, all-there, map-same, map-twice}
 
 -- ---- The block of a command
 
 -- one block more, with the signs of a command
 pub block-pushed :
     (h : Head) (f : InForce) (signs : Vec Sign Global) (ws : List Signed) (old new : List Block) →
-    new ≡ old ++ record { place = h.place; users = h.users; runas = f.runas; tags = f.tags; signs = signs } ∷ [] →
+    new ≡ old ++ record { place = h.place; users = h.users; hosts = h.hosts; runas = f.runas; tags = f.tags; signs = signs } ∷ [] →
     signs.items ≡ map sign_of ws → flat_map block_rows new ≡ flat_map block_rows old ++ map (signed_row h f) ws
 block-pushed h f signs ws old new is written =
-    let b : Block = record { place = h.place; users = h.users; runas = f.runas; tags = f.tags; signs = signs } in
+    let b : Block = record { place = h.place; users = h.users; hosts = h.hosts; runas = f.runas; tags = f.tags; signs = signs } in
     ap (flat_map block_rows) is ∙ flat-one block_rows old b
     ∙ ap (λ (rs : List Row). flat_map block_rows old ++ rs) (ap (map (block_row b)) written ∙ map-twice (block_row b) sign_of ws)
 
 pub block-resolved :
     (p : Policy) (h : Head) (f : InForce) (signs : Vec Sign Global) (old new : List Block) →
-    new ≡ old ++ record { place = h.place; users = h.users; runas = f.runas; tags = f.tags; signs = signs } ∷ [] →
+    new ≡ old ++ record { place = h.place; users = h.users; hosts = h.hosts; runas = f.runas; tags = f.tags; signs = signs } ∷ [] →
     head_resolves p h f ≡ true → list_all (block_resolves p) old ≡ true → list_all (block_resolves p) new ≡ true
 block-resolved p h f signs old new is head all =
     ap (list_all (block_resolves p)) is
-    ∙ all-push (block_resolves p) old (record { place = h.place; users = h.users; runas = f.runas; tags = f.tags; signs = signs }) all head
+    ∙ all-push (block_resolves p) old (record { place = h.place; users = h.users; hosts = h.hosts; runas = f.runas; tags = f.tags; signs = signs }) all head
 
 -- ---- The blocks of a section
 
 -- the rows of a command in force are those of its grants
 pub command-rows :
-    (p : Policy) (h : Head) (f : InForce) (s : Section) (i : ℕ) (c : CommandSpec) → IsInForce (take (i + 1) s.commands) f →
+    (p : Policy) (h : Head) (f : InForce) (s : Section) (i : ℕ) (c : CommandSpec) → h.hosts.now ≡ s.hosts
+    → IsInForce (take (i + 1) s.commands) f →
     map (signed_row h f) (written_form kind.Cmnd p (c.command ∷ [])) ≡ map row_of (place_grants p h.place h.users.now s (i, c))
 unfolding place_grants runas_at tags_at
-command-rows p h f s i c at =
+command-rows p h f s i c hosts at =
     map-same (signed_row h f) (λ w. row_of (grant_of h.place h.users.now s i w)) same (written_form kind.Cmnd p (c.command ∷ []))
     ∙ sym (map-twice row_of (grant_of h.place h.users.now s i) (written_form kind.Cmnd p (c.command ∷ [])))
   where
+    row : List Member → Option Runas → Tags → Signed → Row
+    row hs r t w = record {
+      place = h.place;
+      users = h.users.now;
+      hosts = hs;
+      runas = r;
+      tags = t;
+      negated = w.negated;
+      all = is_all w.atom;
+    }
+
     same : (w : Signed) → signed_row h f w ≡ row_of (grant_of h.place h.users.now s i w)
     same w =
-        ap (λ r. record { place = h.place; users = h.users.now; runas = r; tags = f.tags; negated = w.negated; all = is_all w.atom }) at.0
-        ∙ ap (λ t. record {
-          place = h.place;
-          users = h.users.now;
-          runas = runas_before (take (i + 1) s.commands);
-          tags = t;
-          negated =
-              w.negated;
-          all = is_all w.atom;
-        }) at.1
+        ap (λ hs. row hs (option_copied f.runas) f.tags w) hosts
+        ∙ ap (λ r. row s.hosts r f.tags w) at.0
+        ∙ ap (λ t. row s.hosts (runas_before (take (i + 1) s.commands)) t w) at.1
 
 -- one command more
 pub section-more :
-    (p : Policy) (h : Head) (f : InForce) (s : Section) (i : ℕ) (c : CommandSpec) (first old new : List Row) → i < length s.commands →
-    c ≡ get_or s.commands i c → IsInForce (take (i + 1) s.commands) f →
+    (p : Policy) (h : Head) (f : InForce) (s : Section) (i : ℕ) (c : CommandSpec) (first old new : List Row) → h.hosts.now ≡ s.hosts
+    → i < length s.commands → c ≡ get_or s.commands i c → IsInForce (take (i + 1) s.commands) f →
     old ≡ first ++ map row_of (flat_map (place_grants p h.place h.users.now s) (take i (enumerate_from 0 s.commands))) →
     new ≡ old ++ map (signed_row h f) (written_form kind.Cmnd p (c.command ∷ [])) →
     new ≡ first ++ map row_of (flat_map (place_grants p h.place h.users.now s) (take (i + 1) (enumerate_from 0 s.commands)))
-section-more p h f s i c first old new within is at so_far more =
+section-more p h f s i c first old new hosts within is at so_far more =
     let F : ℕ × CommandSpec → List Grant = place_grants p h.place h.users.now s in
     let E : List (ℕ × CommandSpec) = enumerate_from 0 s.commands in
     more ∙ ap (λ (rs : List Row). rs ++ map (signed_row h f) (written_form kind.Cmnd p (c.command ∷ []))) so_far
-    ∙ ap (λ (rs : List Row). (first ++ map row_of (flat_map F (take i E))) ++ rs) (command-rows p h f s i c at)
+    ∙ ap (λ (rs : List Row). (first ++ map row_of (flat_map F (take i E))) ++ rs) (command-rows p h f s i c hosts at)
     ∙ append_assoc first (map row_of (flat_map F (take i E))) (map row_of (F (i, c)))
     ∙ ap (λ (rs : List Row). first ++ rs) (sym (map-append row_of (flat_map F (take i E)) (F (i, c))))
     ∙ ap (λ (gs : List Grant). first ++ map row_of gs) (sym (flat-one F (take i E) (i, c)))
@@ -113,9 +116,10 @@ in-force-more cs i c f g within is old more = subst (λ xs. IsInForce xs g) (sym
 pub in-force-resolves :
     (p : Policy) (h : Head) (f : InForce) (cs : List CommandSpec) (i : ℕ) → IsInForce (take (i + 1) cs) f
     → list_all (command_resolves p) cs ≡ true →
-    resolves kind.User p h.users.now ≡ true → head_resolves p h f ≡ true
-in-force-resolves p h f cs i at all users =
-    ap (λ b. b && runas_resolves p (option_copied f.runas)) users
+    resolves kind.User p h.users.now ≡ true → resolves kind.Host p h.hosts.now ≡ true → head_resolves p h f ≡ true
+in-force-resolves p h f cs i at all users hosts =
+    ap (λ b. (b && resolves kind.Host p h.hosts.now) && runas_resolves p (option_copied f.runas)) users
+    ∙ ap (λ b. b && runas_resolves p (option_copied f.runas)) hosts
     ∙ ap (runas_resolves p) at.0 ∙ runas_before-resolves p (take (i + 1) cs) (all-taken (command_resolves p) (i + 1) cs all)
 
 pub command-resolved :
@@ -125,59 +129,25 @@ pub command-resolved :
 command-resolved p cs i c within is all =
     (and_parts (resolves kind.Cmnd p (c.command ∷ [])) (runas_resolves p c.runas) (all-there (command_resolves p) cs i c within is all)).0
 
--- ---- The sections for the host
+-- ---- Sections and entries
 
--- the grants of a section are all for its hosts
-pub section-for-host :
-    (p : Policy) (m : Machine) (place : Place) (users : List Member) (s : Section) →
-    filter (λ (g : Grant). host_allowed p g.hosts m) (section_grants p place users s)
-    ≡ cond (host_allowed p s.hosts m) (section_grants p place users s) []
-unfolding section_grants place_grants
-section-for-host p m place users s =
-    filter-flat-constant (λ (g : Grant). host_allowed p g.hosts m) (place_grants p place users s) (host_allowed p s.hosts m)
-    (λ c. filter-constant (λ (g : Grant). host_allowed p g.hosts m) (grant_of place users s c.0) (host_allowed p s.hosts m) (λ w. refl)
-    (written_form kind.Cmnd p (c.1.command ∷ [])))
-    (enumerate_from 0 s.commands)
-
-pub section-of-host :
-    (p : Policy) (m : Machine) (place : Place) (users : List Member) (s : Section) (first new : List Row) → host_allowed p s.hosts m
-    ≡ true →
-    new ≡ first ++ map row_of (section_grants p place users s) →
-    new ≡ first ++ map row_of (filter (λ (g : Grant). host_allowed p g.hosts m) (section_grants p place users s))
-section-of-host p m place users s first new allowed more =
-    more ∙ ap (λ (gs : List Grant). first ++ map row_of gs)
-    (sym (section-for-host p m place users s ∙ ap (λ b. cond b (section_grants p place users s) []) allowed))
-
-pub section-of-none :
-    (p : Policy) (m : Machine) (place : Place) (users : List Member) (s : Section) (first : List Row) → host_allowed p s.hosts m ≡ false →
-    first ≡ first ++ map row_of (filter (λ (g : Grant). host_allowed p g.hosts m) (section_grants p place users s))
-section-of-none p m place users s first refused =
-    sym (ap (λ (gs : List Grant). first ++ map row_of gs)
-    (section-for-host p m place users s ∙ ap (λ b. cond b (section_grants p place users s) []) refused)
-    ∙ append-nil first)
-
--- one item more of a list of which each one's grants are filtered
-pub filtered-more :
-    {X : Type 0} (t : Grant → Bool) (f : X → List Grant) (xs : List X) (i : ℕ) (x : X) (first old new : List Row) → i < length xs → x
-    ≡ get_or xs i x →
-    old ≡ first ++ map row_of (filter t (flat_map f (take i xs))) → new ≡ old ++ map row_of (filter t (f x)) →
-    new ≡ first ++ map row_of (filter t (flat_map f (take (i + 1) xs)))
-filtered-more t f xs i x first old new within is so_far more =
+-- one item more of a list of which each one has grants
+pub grants-more :
+    {X : Type 0} (f : X → List Grant) (xs : List X) (i : ℕ) (x : X) (first old new : List Row) → i < length xs → x ≡ get_or xs i x →
+    old ≡ first ++ map row_of (flat_map f (take i xs)) → new ≡ old ++ map row_of (f x) →
+    new ≡ first ++ map row_of (flat_map f (take (i + 1) xs))
+grants-more f xs i x first old new within is so_far more =
     let A : List Grant = flat_map f (take i xs) in
-    more ∙ ap (λ (rs : List Row). rs ++ map row_of (filter t (f x))) so_far
-    ∙ append_assoc first (map row_of (filter t A)) (map row_of (filter t (f x)))
-    ∙ ap (λ (rs : List Row). first ++ rs) (sym (map-append row_of (filter t A) (filter t (f x))))
-    ∙ ap (λ (gs : List Grant). first ++ map row_of gs) (sym (filter-append t A (f x)))
-    ∙ ap (λ (gs : List Grant). first ++ map row_of (filter t gs)) (sym (flat-one f (take i xs) x))
-    ∙ ap (λ (ys : List _). first ++ map row_of (filter t (flat_map f ys))) (sym (take-more xs i x within is))
+    more ∙ ap (λ (rs : List Row). rs ++ map row_of (f x)) so_far
+    ∙ append_assoc first (map row_of A) (map row_of (f x))
+    ∙ ap (λ (rs : List Row). first ++ rs) (sym (map-append row_of A (f x)))
+    ∙ ap (λ (gs : List Grant). first ++ map row_of gs) (sym (flat-one f (take i xs) x))
+    ∙ ap (λ (ys : List _). first ++ map row_of (flat_map f ys)) (sym (take-more xs i x within is))
 
 -- all entries
 pub entries-all :
-    (p : Policy) (m : Machine) (blocks : List Block) (i : ℕ) → length p.entries ≤ i →
-    flat_map block_rows blocks
-    ≡ map row_of (filter (λ (g : Grant). host_allowed p g.hosts m) (flat_map (entry_grants p) (take i p.entries)))
-    → AreBlocks p m blocks
+    (p : Policy) (blocks : List Block) (i : ℕ) → length p.entries ≤ i →
+    flat_map block_rows blocks ≡ map row_of (flat_map (entry_grants p) (take i p.entries)) → AreBlocks p blocks
 unfolding grants
-entries-all p m blocks i all so_far =
-    so_far ∙ ap (λ (es : List Entry). map row_of (filter (λ (g : Grant). host_allowed p g.hosts m) (flat_map (entry_grants p) es)))
-    (take_all i p.entries all)
+entries-all p blocks i all so_far =
+    so_far ∙ ap (λ (es : List Entry). map row_of (flat_map (entry_grants p) es)) (take_all i p.entries all)

@@ -11,10 +11,10 @@ use Rattle.review_roots.specs.declared.level.Level.{Level}
 use Rattle.review_roots.specs.declared.search.Aim.{Aim}
 use Rattle.review_roots.specs.declared.search.Found.{Found}
 use Rattle.review_roots.specs.declared.search.Sought.{Sought}
-use Rattle.review_roots.specs.Body.Candidates.{IsCandidate}
+use Rattle.review_roots.specs.Body.Candidates.{states_of}
 use Rattle.review_roots.specs.Sought.{steps_of}
 use Rattle.review_roots.specs.States.{steps_to}
-use Rattle.review_roots.specs.Body.Found.{IsSearch, IsDrawn, found_by, reaches, states_of}
+use Rattle.review_roots.specs.Body.Found.{IsCandidate, IsSearch, IsDrawn, found_by, reaches}
 use Rattle.review_roots.proofs.ListSteps.{take-more, filter-mapped, map-twice}
 use Rattle.review_roots.proofs.SearchLemmas.{drawn_to, new_found, drawn-search, drawn-more, parted-length}
 
@@ -96,20 +96,20 @@ module _
     keeps_states : states_of kept ≡ filter (λ s. not (drawn_to (steps_of h q) l t.state s)) (states_of cs)
     keeps_states = ap states_of keeps ∙ draw-kept h q.target aim cs
 
-    pub spread-search : IsSearch (steps_of h q) l found (states_of cs) → IsSearch (steps_of h q) l new (states_of kept)
+    pub spread-search : IsSearch (steps_of h q) h.least l found (states_of cs) → IsSearch (steps_of h q) h.least l new (states_of kept)
     spread-search search =
-        subst (λ xs. IsSearch (steps_of h q) l xs (states_of kept)) (sym finds_states)
-        (subst (IsSearch (steps_of h q) l (found ++ map (new_found l n) (filter (drawn_to (steps_of h q) l t.state) (states_of cs))))
+        subst (λ xs. IsSearch (steps_of h q) h.least l xs (states_of kept)) (sym finds_states)
+        (subst (IsSearch (steps_of h q) h.least l (found ++ map (new_found l n) (filter (drawn_to (steps_of h q) l t.state) (states_of cs))))
         (sym keeps_states)
-        (drawn-search (steps_of h q) l n t found (states_of cs) search there))
+        (drawn-search (steps_of h q) h.least l n t found (states_of cs) search there))
 
-    pub spread-drawn : IsSearch (steps_of h q) l found (states_of cs) → IsDrawn (steps_of h q) l n found (states_of cs)
+    pub spread-drawn : IsSearch (steps_of h q) h.least l found (states_of cs) → IsDrawn (steps_of h q) l n found (states_of cs)
         → IsDrawn (steps_of h q) l (n + 1) new (states_of kept)
     spread-drawn search drawn =
         subst (λ xs. IsDrawn (steps_of h q) l (n + 1) xs (states_of kept)) (sym finds_states)
         (subst (IsDrawn (steps_of h q) l (n + 1)
         (found ++ map (new_found l n) (filter (drawn_to (steps_of h q) l t.state) (states_of cs)))) (sym keeps_states)
-        (drawn-more (steps_of h q) l n t found (states_of cs) search there drawn))
+        (drawn-more (steps_of h q) h.least l n t found (states_of cs) search there drawn))
 
     pub spread-candidates : All (IsCandidate h) cs → All (IsCandidate h) kept
     spread-candidates all = subst (All (IsCandidate h)) (sym keeps) (All-filter (λ c. not (reaches h aim c)) (IsCandidate h) cs all)
@@ -123,3 +123,33 @@ module _
         let m : length (map (found_by aim) (filter (reaches h aim) cs))
         ≡ length (filter (reaches h aim) cs) = length-map (filter (reaches h aim) cs) (found_by aim) in
         omega (arith, parted, k, f, m)
+
+-- ---- Lists that are filtered as they are gone through
+
+-- an item that passes is appended
+pub passes-more :
+    {X Y : Type 0} (f : X → Bool) (by : X → Y) (xs : List X) (i : ℕ) (x : X) (old new : List Y) → i < length xs → x ≡ get_or xs i x →
+    f x ≡ true → old ≡ map by (filter f (take i xs)) → new ≡ old ++ by x ∷ [] → new ≡ map by (filter f (take (i + 1) xs))
+passes-more f by xs i x old new within is passes so_far more =
+    more ∙ ap (λ (ys : List _). ys ++ by x ∷ []) so_far ∙ sym (map-append by (filter f (take i xs)) (x ∷ []))
+    ∙ ap (map by)
+    (sym (ap (filter f) (take-more xs i x within is) ∙ filter-append f (take i xs) (x ∷ [])
+    ∙ ap (λ b. filter f (take i xs) ++ cond b (x ∷ []) []) passes))
+
+-- another one is not
+pub fails-more :
+    {X : Type 0} (f : X → Bool) (xs : List X) (i : ℕ) (x : X) → i < length xs → x ≡ get_or xs i x → f x ≡ false →
+    filter f (take i xs) ≡ filter f (take (i + 1) xs)
+fails-more f xs i x within is fails =
+    sym (ap (filter f) (take-more xs i x within is) ∙ filter-append f (take i xs) (x ∷ [])
+    ∙ ap (λ b. filter f (take i xs) ++ cond b (x ∷ []) []) fails ∙ append-nil (filter f (take i xs)))
+
+-- a reference to an item that passes is appended
+pub reference-more :
+    {R X : Type 0} (f : X → Bool) (now : R → X) (xs : List X) (i : ℕ) (x : X) (r : R) (old new : List R) → i < length xs → x ≡ get_or xs i x
+    → now r ≡ x → f x ≡ true → map now old ≡ filter f (take i xs) → new ≡ old ++ r ∷ [] → map now new ≡ filter f (take (i + 1) xs)
+reference-more f now xs i x r old new within is at passes so_far more =
+    ap (map now) more ∙ map-append now old (r ∷ []) ∙ ap (λ (ys : List _). ys ++ now r ∷ []) so_far
+    ∙ ap (λ y. filter f (take i xs) ++ y ∷ []) at
+    ∙ sym (ap (filter f) (take-more xs i x within is) ∙ filter-append f (take i xs) (x ∷ [])
+    ∙ ap (λ b. filter f (take i xs) ++ cond b (x ∷ []) []) passes)

@@ -17,7 +17,7 @@ use Rattle.review_roots.specs.declared.given.Given.{Given}
 use Rattle.review_roots.specs.Levels.{after_one, target_rows}
 use Rattle.review_roots.specs.Passwords.{after_free}
 use Rattle.review_roots.specs.Asked.{is_allowing, allowing_row, given_by, nothing}
-use Rattle.review_roots.specs.Blocks.{Row, row_of, host_grants, block_row, block_rows, AreBlocks, with_row, with_rows, stands}
+use Rattle.review_roots.specs.Blocks.{Row, row_of, block_row, block_rows, AreBlocks, with_row, with_rows, stands}
 use Rattle.review_roots.specs.Blocks.{standing_rows}
 use Rattle.review_roots.proofs.ListSteps.{filter-constant, filter-mapped, filter-twice}
 
@@ -59,12 +59,12 @@ rows_give_all gs =
 
 -- ---- The blocks that stand have the rows for the target
 
--- the row's user list allows the user, and its runas the question
+-- the row's user list allows the user, its host list the host, and its runas the question
 abbrev row_stands : Policy → Question → Row → Bool
-row_stands p q r = user_allowed p r.users q.user && runas_allows p q r.runas
+row_stands p q r = user_allowed p r.users q.user && (host_allowed p r.hosts q.host && runas_allows p q r.runas)
 
 abbrev grant_stands : Policy → Question → Grant → Bool
-grant_stands p q g = user_allowed p g.users q.user && runas_allows p q g.runas
+grant_stands p q g = user_allowed p g.users q.user && (host_allowed p g.hosts q.host && runas_allows p q g.runas)
 
 standing_are : (p : Policy) (q : Question) (bs : List Block) → flat_map (standing_rows p q) bs
     ≡ filter (row_stands p q) (flat_map block_rows bs)
@@ -75,27 +75,22 @@ standing_are p q (b ∷ bs) =
     (sym (filter-constant (row_stands p q) (block_row b) (stands p q b) (λ s. refl) b.signs.items))
     ∙ sym (filter-append (row_stands p q) (block_rows b) (flat_map block_rows bs))
 
-both_ways : (a h r : Bool) → ((a && h) && r) ≡ (h && (a && r))
-both_ways true true r = refl
-both_ways true false r = refl
-both_ways false true r = refl
-both_ways false false r = refl
+both_ways : (a h r : Bool) → (a && (h && r)) ≡ ((a && h) && r)
+both_ways true h r = refl
+both_ways false h r = refl
 
-rows_for_target :
-    (p : Policy) (q : Question) → filter (grant_stands p q) (host_grants p q.host) ≡ target_rows p q
+rows_for_target : (p : Policy) (q : Question) → filter (grant_stands p q) (grants p) ≡ target_rows p q
 rows_for_target p q =
-    let all : Grant → Bool = λ g. host_allowed p g.hosts q.host && grant_stands p q g in
-    filter-twice (grant_stands p q) (λ g. host_allowed p g.hosts q.host) all (λ g. refl) (grants p)
-    ∙ sym (filter-twice (λ g. runas_allows p q g.runas) (is_row p q.user q.host) all
-    (λ g. sym (both_ways (user_allowed p g.users q.user) (host_allowed p g.hosts q.host) (runas_allows p q g.runas))) (grants p))
+    sym (filter-twice (λ g. runas_allows p q g.runas) (is_row p q.user q.host) (grant_stands p q)
+    (λ g. both_ways (user_allowed p g.users q.user) (host_allowed p g.hosts q.host) (runas_allows p q g.runas)) (grants p))
 
 -- what the blocks that stand give
 pub blocks_give :
-    (p : Policy) (q : Question) (bs : List Block) → AreBlocks p q.host bs → with_rows nothing (flat_map (standing_rows p q) bs)
+    (p : Policy) (q : Question) (bs : List Block) → AreBlocks p bs → with_rows nothing (flat_map (standing_rows p q) bs)
     ≡ given_by (target_rows p q)
 blocks_give p q bs tied =
     ap (with_rows nothing)
     (standing_are p q bs ∙ ap (filter (row_stands p q)) tied
-    ∙ filter-mapped (row_stands p q) row_of (host_grants p q.host)
+    ∙ filter-mapped (row_stands p q) row_of (grants p)
     ∙ ap (map row_of) (rows_for_target p q))
     ∙ rows_give_all (target_rows p q)

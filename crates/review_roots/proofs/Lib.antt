@@ -16,3 +16,6 @@ pub mod GroupLemmas
 pub mod RowLemmas
 pub mod ChainLemmas
 pub mod TowardLemmas
+pub mod IndexLemmas
+pub mod WeakLemmas
+pub mod CandidateLemmas

@@ -56,17 +56,6 @@ filter-constant t f true same (x ∷ xs) =
 filter-constant t f false same (x ∷ xs) =
     ap (λ b. cond b (f x ∷ filter t (map f xs)) (filter t (map f xs))) (same x) ∙ filter-constant t f false same xs
 
-pub filter-flat-constant : {X Y : Type 0} (t : Y → Bool) (f : X → List Y) (b : Bool) → ((x : X) → filter t (f x) ≡ cond b (f x) [])
-    → (xs : List X) → filter t (flat_map f xs) ≡ cond b (flat_map f xs) []
-filter-flat-constant t f true same [] = refl
-filter-flat-constant t f false same [] = refl
-filter-flat-constant t f true same (x ∷ xs) =
-    filter-append t (f x) (flat_map f xs) ∙ ap (λ (ys : List _). ys ++ filter t (flat_map f xs)) (same x)
-    ∙ ap (λ (ys : List _). f x ++ ys) (filter-flat-constant t f true same xs)
-filter-flat-constant t f false same (x ∷ xs) =
-    filter-append t (f x) (flat_map f xs) ∙ ap (λ (ys : List _). ys ++ filter t (flat_map f xs)) (same x)
-    ∙ filter-flat-constant t f false same xs
-
 pub filter-mapped : {X Y : Type 0} (t : Y → Bool) (f : X → Y) (xs : List X) → filter t (map f xs) ≡ map f (filter (λ x. t (f x)) xs)
 filter-mapped t f [] = refl
 filter-mapped {X} {Y} t f (x ∷ xs) = go (t (f x)) (filter-mapped t f xs)

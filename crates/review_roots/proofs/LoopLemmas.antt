@@ -1,22 +1,21 @@
 -- What loops and calls leave, in the words of the definitions.
-use Rattle.std.proofs.Common.{◌≡◌, ◌<◌, ◌≤◌, ◌∙◌, ℕ, zero, suc, true, false, List, [], ◌∷◌, ◌++◌, ap, arith, drop, flat_map, get_or, length}
+use Rattle.std.proofs.Common.{◌≡◌, ◌<◌, ◌≤◌, ◌∙◌, ℕ, zero, suc, true, false, List, [], ◌∷◌, ◌++◌, ◌&&◌, ap, arith, drop, false, flat_map, get_or, length}
 use Rattle.std.proofs.Common.{map, refl, subst, sym, take}
 use Rattle.std.proofs.Common.{Option, Some, None, Bor, Global, Vec, option_copied}
 use Rattle.std.specs.Prelude.{All, slice_get}
-use Rattle.std.specs.List.{Contains}
+use Rattle.std.specs.List.{Contains, slice_index_or}
 use Rattle.std.specs.Option.{option_or}
 use Rattle.std.proofs.lemmas.List.{drop_all, take_all}
 use Rattle.std.proofs.lemmas.List.Elements.{All-contains, All-push, All-weaker, Contains-get_or}
 use Rattle.sudo_grammar.specs.declared.kind.Signed.{Signed}
 use Rattle.sudo_grammar.specs.declared.policy.Policy.{Policy}
 use Rattle.sudo_match.specs.declared.people.Group.{Group}
-use Rattle.sudo_match.specs.declared.people.Machine.{Machine}
 use Rattle.sudo_match.specs.declared.people.Person.{Person}
-use Rattle.sudo_match.specs.KnownRows.{KnownRows}
 use Rattle.sudo_policy.specs.Written.{negated_if}
 use Rattle.sudo_policy.proofs.Laws.{negated_never}
-use Rattle.sudo_verdict.specs.Questions.{question_as}
-use Rattle.review_roots.specs.declared.block.Block.{Block}
+use Rattle.sudo_verdict.specs.Questions.{Question, question_as}
+use Rattle.sudo_verdict.specs.RunasForms.{runas_allows}
+use Rattle.review_roots.specs.declared.candidate.Candidate.{Candidate}
 use Rattle.review_roots.specs.declared.block.Sign.{Sign}
 use Rattle.review_roots.specs.declared.given.Given.{Given}
 use Rattle.review_roots.specs.declared.given.AllowingRow.{AllowingRow}
@@ -27,13 +26,15 @@ use Rattle.review_roots.specs.declared.search.Found.{Found}
 use Rattle.review_roots.specs.declared.search.Sought.{Sought}
 use Rattle.review_roots.specs.declared.state.State.{State}
 use Rattle.review_roots.specs.Asked.{given_asked, nothing}
-use Rattle.review_roots.specs.Blocks.{AreBlocks, sign_of, standing_rows, with_rows}
-use Rattle.review_roots.specs.Body.Found.{PointBack, AreFound, IsFound, found_states}
+use Rattle.review_roots.specs.Blocks.{Row, is_for, lists, sign_of, with_rows}
+use Rattle.review_roots.specs.Body.Candidates.{part_at}
+use Rattle.review_roots.specs.Body.Found.{PointBack, AreFound, IsCandidate, IsFound, found_states}
 use Rattle.review_roots.specs.Sought.{steps_of}
 use Rattle.review_roots.specs.Chains.{Steps}
 use Rattle.review_roots.specs.Ranks.{is_at_least}
 use Rattle.review_roots.specs.Ways.{IsChain, first_row, password_along}
 use Rattle.review_roots.proofs.GivenLemmas.{blocks_give}
+use Rattle.review_roots.proofs.IndexLemmas.{answer-at, parts-are}
 use Rattle.review_roots.proofs.SearchLemmas.{from-map, to-map}
 use Rattle.review_roots.proofs.WayLemmas.{LeadsSoFar, LeadsWhole, leads-more, leads-all}
 
@@ -57,16 +58,33 @@ pub signs-all :
 signs-all ws items signs i is all so_far =
     so_far ∙ ap (map sign_of) (take_all i items all ∙ is ∙ negated_never ws)
 
+-- the rows of the block at an index, if it is for the host and its runas allows the question
+abbrev pub asked_part : HostSteps → Candidate → Option Person → Option Group → ℕ → List Row
+asked_part h c t g =
+    part_at (λ i b. slice_index_or h.on.items i false
+    && runas_allows h.checked.now (question_as h.directory.now c.person h.host.now t g) (option_copied b.runas)) h.blocks.now
+
 pub asked-all :
-    (p : Policy) (d : KnownRows) (u : Person) (m : Machine) (t : Option Person) (g : Option Group) (bs : List Block) (given : Given)
-    (i : ℕ) →
-    AreBlocks p m bs → length bs ≤ i →
-    with_rows given (flat_map (standing_rows p (question_as d u m t g)) (drop i bs))
-    ≡ with_rows nothing (flat_map (standing_rows p (question_as d u m t g)) bs) →
-    given ≡ given_asked p d u m t g
-asked-all p d u m t g bs given i tied all so_far =
-    sym (ap (λ xs. with_rows given (flat_map (standing_rows p (question_as d u m t g)) xs)) (drop_all i bs all))
-    ∙ so_far ∙ blocks_give p (question_as d u m t g) bs tied
+    (h : HostSteps) (c : Candidate) (t : Option Person) (g : Option Group) (given : Given) (i : ℕ) (is : List ℕ) →
+    IsCandidate h c → is ≡ c.listed.items → length is ≤ i →
+    with_rows given (flat_map (asked_part h c t g) (drop i is)) ≡ with_rows nothing (flat_map (asked_part h c t g) is) →
+    given ≡ given_asked h.checked.now h.directory.now c.person h.host.now t g
+asked-all h c t g given i is known same all so_far =
+    sym (ap (λ xs. with_rows given (flat_map (asked_part h c t g) xs)) (drop_all i is all))
+    ∙ so_far
+    ∙ ap (λ xs. with_rows nothing (flat_map (asked_part h c t g) xs)) (same ∙ known.listed)
+    ∙ ap (with_rows nothing)
+    (parts-are (lists p c.person) (λ b. is_for p h.host.now b && runas_allows p q (option_copied b.runas))
+    (λ i b. slice_index_or h.on.items i false && runas_allows p q (option_copied b.runas)) h.blocks.now
+    (λ i b at. ap (λ xs. slice_index_or xs i false && runas_allows p q (option_copied b.runas)) h.here
+    ∙ ap (λ a. a && runas_allows p q (option_copied b.runas)) (answer-at (is_for p h.host.now) h.blocks.now i b at)))
+    ∙ blocks_give p q h.blocks.now h.tied
+  where
+    p : Policy
+    p = h.checked.now
+
+    q : Question
+    q = question_as h.directory.now c.person h.host.now t g
 
 -- ---- Chains
 

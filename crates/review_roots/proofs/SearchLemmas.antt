@@ -113,14 +113,14 @@ get-append xs ys i x e = slice_get-append-left xs ys i (slice_get_within xs i x 
 
 -- ---- The end of a search at a level
 
-module _ (g : Steps State) (l : Level) (found : List Found) (left : List State) (search : IsSearch g l found left) where
+module _ (g : Steps State) (least l : Level) (found : List Found) (left : List State) (search : IsSearch g least l found left) where
   -- no chain leads from a state that is left, if each step to what is found was sought
   nowhere : (k : ℕ) → length found ≤ k → IsDrawn g l k found left → {n : ℕ} {s : State} → Path g l n s → Contains left s → ⊥
   nowhere k all drawn (here {s} c at) inside =
       let away : g.goal s ≡ false = All-contains (λ s. g.goal s ≡ false) left s search.away inside in cc
   nowhere k all drawn (more {n} {s} {t} c step p) inside = go (search.covered t (path-state g l p)) (nowhere k all drawn p)
     where
-      go : Contains (found_states found) t ⊎ (Contains left t ⊎ IsStuck g t) → (Contains left t → ⊥) → ⊥
+      go : Contains (found_states found) t ⊎ (Contains left t ⊎ IsStuck g least t) → (Contains left t → ⊥) → ⊥
       go (inl in_found) rest =
           let f = from-map (λ (f : Found). f.state) found t in_found in
           let i = contains-at found f.0 f.1 in
@@ -144,17 +144,17 @@ module _ (g : Steps State) (l : Level) (found : List Found) (left : List State) 
     complete = λ s c. go s (search.covered s c);
   }
     where
-      go : (s : State) → Contains (found_states found) s ⊎ (Contains left s ⊎ IsStuck g s) → Contains (found_states found) s
+      go : (s : State) → Contains (found_states found) s ⊎ (Contains left s ⊎ IsStuck g least s) → Contains (found_states found) s
           ⊎ HasNoPath g l s
       go s (inl in_found) = inl in_found
       go s (inr (inl in_left)) = inr (All-contains (HasNoPath g l) left s none in_left)
       go s (inr (inr stuck)) = inr (stuck l search.level)
 
   -- the search at the next lower level begins with what this one left
-  pub next-level : HaveNoPath g l left → (k : Level) → is_at_least level.Listed k ≡ true → rank k < rank l
-      → ((m : Level) → rank k < rank m → rank l ≤ rank m) → IsSearch g k found left
-  next-level none k listed lower next = record {
-    level = listed;
+  pub next-level : HaveNoPath g l left → (k : Level) → is_at_least least k ≡ true → rank k < rank l
+      → ((m : Level) → rank k < rank m → rank l ≤ rank m) → IsSearch g least k found left
+  next-level none k enough lower next = record {
+    level = enough;
     right = search.right;
     linked = search.linked;
     levels = All-weaker (λ f. is_at_least l f.level ≡ true) (λ f. is_at_least k f.level ≡ true)
@@ -167,15 +167,16 @@ module _ (g : Steps State) (l : Level) (found : List Found) (left : List State) 
   }
 
 pub below-all :
-    (g : Steps State) (found : List Found) (left : List State) → IsSearch g level.All found left → HaveNoPath g level.All left
-    → IsSearch g level.AllBut found left
-below-all g found left search none = next-level g level.All found left search none level.AllBut refl (omega arith) (λ m h. omega (arith, h))
+    (g : Steps State) (least : Level) (found : List Found) (left : List State) → is_at_least least level.AllBut ≡ true
+    → IsSearch g least level.All found left → HaveNoPath g level.All left → IsSearch g least level.AllBut found left
+below-all g least found left enough search none =
+    next-level g least level.All found left search none level.AllBut enough (omega arith) (λ m h. omega (arith, h))
 
 pub below-all-but :
-    (g : Steps State) (found : List Found) (left : List State) → IsSearch g level.AllBut found left → HaveNoPath g level.AllBut left
-    → IsSearch g level.Listed found left
-below-all-but g found left search none =
-    next-level g level.AllBut found left search none level.Listed refl (omega arith) (λ m h. omega (arith, h))
+    (g : Steps State) (least : Level) (found : List Found) (left : List State) → is_at_least least level.Listed ≡ true
+    → IsSearch g least level.AllBut found left → HaveNoPath g level.AllBut left → IsSearch g least level.Listed found left
+below-all-but g least found left enough search none =
+    next-level g least level.AllBut found left search none level.Listed enough (omega arith) (λ m h. omega (arith, h))
 
 pub listed-alone : (l : Level) → is_at_least level.Listed l ≡ true → (l ≡ level.All → ⊥) → (l ≡ level.AllBut → ⊥) → l ≡ level.Listed
 listed-alone level.None e f h = cc
@@ -207,8 +208,8 @@ not-false : (b : Bool) → b ≡ false → not b ≡ true
 not-false true e = cc
 not-false false e = refl
 
-module _ (g : Steps State) (l : Level) (n : ℕ) (t : Found) (found : List Found) (left : List State) (search : IsSearch g l found left)
-    (there : slice_get found n ≡ Some t) where
+module _ (g : Steps State) (least l : Level) (n : ℕ) (t : Found) (found : List Found) (left : List State)
+    (search : IsSearch g least l found left) (there : slice_get found n ≡ Some t) where
   abbrev r : State → Bool
   r = drawn_to g l t.state
 
@@ -282,22 +283,22 @@ module _ (g : Steps State) (l : Level) (n : ℕ) (t : Found) (found : List Found
             },
           )
 
-  grown_covered : (s : State) → Contains (found_states found) s ⊎ (Contains left s ⊎ IsStuck g s) → Contains (found_states grown) s
-      ⊎ (Contains kept s ⊎ IsStuck g s)
+  grown_covered : (s : State) → Contains (found_states found) s ⊎ (Contains left s ⊎ IsStuck g least s) → Contains (found_states grown) s
+      ⊎ (Contains kept s ⊎ IsStuck g least s)
   grown_covered s (inl in_found) =
       inl (subst (λ xs. Contains xs s) (sym (map-append (λ (f : Found). f.state) found (map (new_found l n) taken)))
       (Contains-append_left (found_states found) (found_states (map (new_found l n) taken)) s in_found))
   grown_covered s (inr (inr stuck)) = inr (inr stuck)
   grown_covered s (inr (inl in_left)) = go (r s) refl
     where
-      go : (b : Bool) → r s ≡ b → Contains (found_states grown) s ⊎ (Contains kept s ⊎ IsStuck g s)
+      go : (b : Bool) → r s ≡ b → Contains (found_states grown) s ⊎ (Contains kept s ⊎ IsStuck g least s)
       go true e =
           inl (subst (λ xs. Contains xs s) (sym (map-append (λ (f : Found). f.state) found (map (new_found l n) taken)))
           (Contains-append_right (found_states found) (found_states (map (new_found l n) taken)) s
           (subst (λ xs. Contains xs s) (sym (new-states l n taken)) (in-filter r left s in_left e))))
       go false e = inr (inl (in-filter (λ s. not (r s)) left s in_left (not-false (r s) e)))
 
-  pub drawn-search : IsSearch g l grown kept
+  pub drawn-search : IsSearch g least l grown kept
   drawn-search = record {
     level = search.level;
     right = All-append (IsFound g) found (map (new_found l n) taken) search.right

@@ -1,18 +1,11 @@
--- What a search begins with: the states at the goal, and those that a user list allows; from no other does a step lead.
-use Rattle.std.proofs.Common.{◌≡◌, ◌<◌, ◌≤◌, ◌∙◌, ℕ, zero, Bool, true, false, cond, ◌&&◌, ◌||◌, List, [], ◌∷◌, ◌++◌, ap, arith, refl}
-use Rattle.std.proofs.Common.{flat_map}
-use Rattle.std.proofs.Common.{map, sym, subst, Option, Some, None, inl, inr, ◌⊎◌, option_copied}
-use Rattle.std.specs.Prelude.{slice_get, is_some}
-use Rattle.std.specs.List.{Contains, list_any}
-use Rattle.std.proofs.lemmas.List.{map-append}
-use Rattle.std.proofs.lemmas.List.Elements.{All-contains, All-map, All-push, All-weaker, Contains-append_left, Contains-push}
-use Rattle.sudo_grammar.specs.declared.policy.Policy.{Policy}
+-- What a search begins with: the states at the goal, and the candidates that are heard; from no other does a step lead.
+use Rattle.std.proofs.Common.{◌≡◌, ◌<◌, ◌≤◌, ◌∙◌, ℕ, zero, Bool, true, false, not, cond, ◌&&◌, ◌==◌, List, [], ◌∷◌, ap, arith, refl}
+use Rattle.std.proofs.Common.{map, sym, subst, Option, Some, None, inl, inr, ◌⊎◌}
+use Rattle.std.specs.Prelude.{All, filter, slice_get}
+use Rattle.std.specs.List.{Contains, list_any, slice_index_or}
+use Rattle.std.proofs.lemmas.Bool.{and_parts, not-true}
+use Rattle.std.proofs.lemmas.List.Elements.{All-contains, All-contains_itself, All-filter, All-map, All-weaker, filter_passes}
 use Rattle.sudo_match.specs.declared.people.Person.{Person}
-use Rattle.sudo_match.specs.declared.people.Group.{Group}
-use Rattle.sudo_match.specs.declared.people.Machine.{Machine}
-use Rattle.sudo_match.specs.KnownRows.{KnownRows}
-use Rattle.sudo_verdict.specs.RunasForms.{is_same_user, runas_allows}
-use Rattle.sudo_verdict.specs.Questions.{Question, question_as}
 use Rattle.review_roots.specs.declared.block.Block.{Block}
 use Rattle.review_roots.specs.declared.candidate.Candidate.{Candidate}
 use Rattle.review_roots.specs.declared.host.HostSteps.{HostSteps}
@@ -21,170 +14,154 @@ use Rattle.review_roots.specs.declared.level.Level.TheVariants as level
 use Rattle.review_roots.specs.declared.search.Found.{Found}
 use Rattle.review_roots.specs.declared.search.Sought.{Sought}
 use Rattle.review_roots.specs.declared.state.State.{State}
-use Rattle.review_roots.specs.Asked.{better, given_alone, given_asked, given_towards, nothing}
-use Rattle.review_roots.specs.Blocks.{AreBlocks, lists, block_rows, standing_rows, with_rows}
-use Rattle.review_roots.specs.Body.Candidates.{IsCandidate}
+use Rattle.review_roots.specs.Blocks.{is_for}
+use Rattle.review_roots.specs.Body.Candidates.{IsSilent, has_state, is_heard, raises_for, states_of}
+use Rattle.review_roots.specs.Body.Found.{IsCandidate, IsFound, IsLinked, found_states, found_there, IsMute, IsStuck, IsSearch, IsStartOf}
 use Rattle.review_roots.specs.Sought.{steps_of}
 use Rattle.review_roots.specs.Chains.{Steps, Path, here, more}
-use Rattle.review_roots.specs.Body.Found.{IsFound, IsLinked, found_states, states_of, IsIdle, IsStuck, IsSearch, IsStartOf}
 use Rattle.review_roots.specs.Ranks.{rank, is_at_least}
-use Rattle.review_roots.specs.States.{given_between, step_given, person_of, group_at, level_for}
-use Rattle.review_roots.proofs.GivenLemmas.{blocks_give}
-use Rattle.review_roots.proofs.SearchLemmas.{at-least-below, at-least-trans, at-contains, both-all}
+use Rattle.review_roots.specs.States.{given_between, person_of, group_at, level_for}
+use Rattle.review_roots.proofs.CandidateLemmas.{has-in}
+use Rattle.review_roots.proofs.IndexLemmas.{any-are, answer-at}
+use Rattle.review_roots.proofs.SearchLemmas.{at-least-below, at-contains, both-all, from-map, in-filter, to-map}
+use Rattle.review_roots.proofs.WeakLemmas.{any-weaker, quiet-between, weak-level, weak-nothing}
 
--- ---- No step leads from a user that no user list allows
+-- the states at the target are those that are found
+there-states : (xs : List State) → found_states (map found_there xs) ≡ xs
+there-states [] = refl
+there-states (x ∷ xs) = ap (λ ys. x ∷ ys) (there-states xs)
 
-neither : (a b : Bool) → (a || b) ≡ false → (a ≡ false) × (b ≡ false)
-neither true b e = cc
-neither false b e = (refl, e)
-
-none_stand : (p : Policy) (q : Question) (bs : List Block) → list_any (λ b. b) (map (lists p q.user) bs) ≡ false
-    → flat_map (standing_rows p q) bs ≡ []
-none_stand p q [] e = refl
-none_stand p q (b ∷ bs) e =
-    let both = neither (lists p q.user b) (list_any (λ b. b) (map (lists p q.user) bs)) e in
-    ap (λ v. cond (v && runas_allows p q (option_copied b.runas)) (block_rows b) [] ++ flat_map (standing_rows p q) bs) both.0
-    ∙ none_stand p q bs both.1
-
-module _ (p : Policy) (d : KnownRows) (m : Machine) (u : Person) (bs : List Block) (tied : AreBlocks p m bs)
-    (none : list_any (λ b. b) (map (lists p u) bs) ≡ false) where
-  asked_nothing : (t : Option Person) (g : Option Group) → given_asked p d u m t g ≡ nothing
-  asked_nothing t g =
-      sym (blocks_give p (question_as d u m t g) bs tied) ∙ ap (with_rows nothing) (none_stand p (question_as d u m t g) bs none)
-
-  alone_nothing : (v : Person) (g : Option Group) → given_alone p d m u v g ≡ nothing
-  alone_nothing v g = go (is_same_user v u && is_some g)
-    where
-      go : (b : Bool) → cond b (given_asked p d u m None g) nothing ≡ nothing
-      go true = asked_nothing None g
-      go false = refl
-
-  towards_nothing : (v : Person) (g : Option Group) → given_towards p d m u v g ≡ nothing
-  towards_nothing v g =
-      ap (λ a. better a (given_alone p d m u v g)) (asked_nothing (Some v) g) ∙ ap (better nothing) (alone_nothing v g)
-
-  between_nothing : (v : Option Person) (g : Option Group) → given_between p d m (Some u) v g ≡ nothing
-  between_nothing None g = refl
-  between_nothing (Some v) g = towards_nothing v g
-
-none_for : (free : Bool) → level_for free nothing ≡ level.None
-none_for true = refl
-none_for false = refl
+and-false : (r f : Bool) → r ≡ false → (r && f) ≡ false
+and-false r f e = ap (λ b. b && f) e
 
 module _ (h : HostSteps) (q : Sought) where
   abbrev g : Steps State
   g = steps_of h q
 
-  pub unlisted-idle :
-      AreBlocks h.checked.now h.host.now h.blocks.items → (c : Candidate) → IsCandidate h c → list_any (λ b. b) c.listed.items ≡ false →
-      g.goal c.state ≡ false → IsIdle g c.state
-  unlisted-idle tied c is none away = (away, λ t. ap (level_for q.free) (step t) ∙ none_for q.free)
-    where
-      step : (t : State) → step_given h.checked.now h.directory.now h.host.now h.groups.now c.state t ≡ nothing
-      step t =
-          ap (λ o. given_between h.checked.now h.directory.now h.host.now o (slice_get h.directory.now.people t.user)
-          (group_at h.groups.now t.added)) is.person
-          ∙ between_nothing h.checked.now h.directory.now h.host.now c.person h.blocks.items tied
-          (ap (list_any (λ b. b)) (sym is.lists) ∙ none) (slice_get h.directory.now.people t.user) (group_at h.groups.now t.added)
+  -- ---- No step leads from a user that no block on the host lists which raises
 
-  pub unknown-idle : (s : State) → person_of h.directory.now h.groups.now s ≡ None → g.goal s ≡ false → IsIdle g s
-  unknown-idle s none away = (
+  quiet-mute :
+      (s : State) (u : Person) → person_of h.directory.now h.groups.now s ≡ Some u →
+      list_any (λ b. raises_for h.checked.now h.least u b && is_for h.checked.now h.host.now b) h.blocks.now ≡ false →
+      g.goal s ≡ false → IsMute g h.least s
+  quiet-mute s u is none away = (
     away,
-    λ t. ap (level_for q.free)
-        (ap (λ o. given_between h.checked.now h.directory.now h.host.now o (slice_get h.directory.now.people t.user)
-        (group_at h.groups.now t.added)) none)
-        ∙ none_for q.free,
+    λ t l above. ap (λ o. is_at_least l (level_for q.free
+        (given_between h.checked.now h.directory.now h.host.now o (slice_get h.directory.now.people t.user)
+        (group_at h.groups.now t.added)))) is
+        ∙ weak-level h.least
+        (given_between h.checked.now h.directory.now h.host.now (Some u) (slice_get h.directory.now.people t.user)
+        (group_at h.groups.now t.added)) h.listed
+        (quiet-between h.checked.now h.directory.now h.host.now h.least u h.blocks.now h.tied h.listed none
+        (slice_get h.directory.now.people t.user) (group_at h.groups.now t.added)) q.free l above,
   )
 
-  idle-stuck : (s : State) → IsIdle g s → IsStuck g s
-  idle-stuck s idle l listed n p = go p idle
+  unknown-mute : (s : State) → person_of h.directory.now h.groups.now s ≡ None → g.goal s ≡ false → IsMute g h.least s
+  unknown-mute s none away = (
+    away,
+    λ t l above. ap (λ o. is_at_least l (level_for q.free
+        (given_between h.checked.now h.directory.now h.host.now o (slice_get h.directory.now.people t.user)
+        (group_at h.groups.now t.added)))) none
+        ∙ weak-level h.least
+        (given_between h.checked.now h.directory.now h.host.now None (slice_get h.directory.now.people t.user)
+        (group_at h.groups.now t.added)) h.listed (weak-nothing h.least h.listed) q.free l above,
+  )
+
+  silent-mute :
+      (s : State) → IsSilent h.checked.now h.directory.now h.groups.now h.least h.blocks.now s → g.goal s ≡ false → IsMute g h.least s
+  silent-mute s silent away = go (person_of h.directory.now h.groups.now s) refl
     where
-      go : {n : ℕ} {s : State} → Path g l n s → IsIdle g s → ⊥
-      go (here {s} c at) idle = let away : g.goal s ≡ false = idle.0 in cc
-      go (more {n} {s} {t} c step rest) idle =
-          let bad : is_at_least level.Listed level.None ≡ true =
-          at-least-trans level.Listed l level.None listed (ap (is_at_least l) (sym (idle.1 t)) ∙ step) in
-          cc
+      go : (o : Option Person) → person_of h.directory.now h.groups.now s ≡ o → IsMute g h.least s
+      go None is = unknown-mute s is away
+      go (Some u) is =
+          quiet-mute s u is
+          (any-weaker (raises_for h.checked.now h.least u)
+          (λ b. raises_for h.checked.now h.least u b && is_for h.checked.now h.host.now b)
+          (λ b. and-false (raises_for h.checked.now h.least u b) (is_for h.checked.now h.host.now b)) h.blocks.now (silent u is)) away
 
-  -- ---- One state more
+  unheard-mute :
+      (c : Candidate) → IsCandidate h c → list_any (λ i. slice_index_or h.on.items i false) c.strong.items ≡ false
+      → g.goal c.state ≡ false → IsMute g h.least c.state
+  unheard-mute c is none away =
+      quiet-mute c.state c.person is.person
+      (sym (any-are (raises_for h.checked.now h.least c.person) (is_for h.checked.now h.host.now)
+      (λ i. slice_index_or h.on.items i false) h.blocks.now
+      (λ i b at. ap (λ xs. slice_index_or xs i false) h.here ∙ answer-at (is_for h.checked.now h.host.now) h.blocks.now i b at))
+      ∙ sym (ap (list_any (λ i. slice_index_or h.on.items i false)) is.strong) ∙ none) away
 
-  module _ (before : List State) (found : List Found) (left : List Candidate) (start : IsStartOf h q before found left) (s : State) where
-    further : (t : State) → Contains before t → Contains (before ++ s ∷ []) t
-    further t c = Contains-append_left before (s ∷ []) t c
-
-    pub sorted-goal :
-        g.goal s ≡ true → IsStartOf h q (before ++ s ∷ []) (found ++ record { state = s; level = level.All; next = None } ∷ []) left
-    sorted-goal at =
-        let f : Found = record { state = s; level = level.All; next = None } in
-        record {
-          goals = All-push (λ f. (f.level ≡ level.All) × ((f.next ≡ None) × (g.goal f.state ≡ true))) found f start.goals
-              (refl, (refl, at));
-          found_inside = All-push (λ f. Contains (before ++ s ∷ []) f.state) found f
-              (All-weaker (λ f. Contains before f.state) (λ f. Contains (before ++ s ∷ []) f.state) (λ f. further f.state) found
-              start.found_inside)
-              (Contains-push before s);
-          candidates = start.candidates;
-          inside = All-weaker (λ c. Contains before c.state) (λ c. Contains (before ++ s ∷ []) c.state) (λ c. further c.state) left
-              start.inside;
-          away = start.away;
-          covered = All-push (λ s. Contains (found_states (found ++ f ∷ [])) s ⊎ (Contains (states_of left) s ⊎ IsIdle g s)) before s
-              (All-weaker (λ s. Contains (found_states found) s ⊎ (Contains (states_of left) s ⊎ IsIdle g s))
-              (λ s. Contains (found_states (found ++ f ∷ [])) s ⊎ (Contains (states_of left) s ⊎ IsIdle g s)) widen before start.covered)
-              (inl (subst (λ xs. Contains xs s) (sym (map-append (λ (f : Found). f.state) found (f ∷ [])))
-              (Contains-push (found_states found) s)));
-        }
-      where
-        widen :
-            (t : State) → Contains (found_states found) t ⊎ (Contains (states_of left) t ⊎ IsIdle g t) →
-            Contains (found_states (found ++ record { state = s; level = level.All; next = None } ∷ [])) t
-            ⊎ (Contains (states_of left) t ⊎ IsIdle g t)
-        widen t (inl c) =
-            inl (subst (λ xs. Contains xs t)
-            (sym (map-append (λ (f : Found). f.state) found (record { state = s; level = level.All; next = None } ∷ [])))
-            (Contains-append_left (found_states found) (s ∷ []) t c))
-        widen t (inr o) = inr o
-
-    pub sorted-listed :
-        (c : Candidate) → IsCandidate h c → c.state ≡ s → g.goal s ≡ false → IsStartOf h q (before ++ s ∷ []) found (left ++ c ∷ [])
-    sorted-listed c is at away = record {
-      goals = start.goals;
-      found_inside = All-weaker (λ f. Contains before f.state) (λ f. Contains (before ++ s ∷ []) f.state) (λ f. further f.state) found
-          start.found_inside;
-      candidates = All-push (IsCandidate h) left c start.candidates is;
-      inside = All-push (λ c. Contains (before ++ s ∷ []) c.state) left c
-          (All-weaker (λ c. Contains before c.state) (λ c. Contains (before ++ s ∷ []) c.state) (λ c. further c.state) left start.inside)
-          (subst (Contains (before ++ s ∷ [])) (sym at) (Contains-push before s));
-      away = All-push (λ c. g.goal c.state ≡ false) left c start.away (ap g.goal at ∙ away);
-      covered = All-push (λ s. Contains (found_states found) s ⊎ (Contains (states_of (left ++ c ∷ [])) s ⊎ IsIdle g s)) before s
-          (All-weaker (λ s. Contains (found_states found) s ⊎ (Contains (states_of left) s ⊎ IsIdle g s))
-          (λ s. Contains (found_states found) s ⊎ (Contains (states_of (left ++ c ∷ [])) s ⊎ IsIdle g s)) widen before start.covered)
-          (inr (inl (subst (λ xs. Contains xs s) (sym (map-append (λ (c : Candidate). c.state) left (c ∷ [])))
-          (subst (Contains (states_of left ++ c.state ∷ [])) at (Contains-push (states_of left) c.state)))));
-    }
-      where
-        widen :
-            (t : State) → Contains (found_states found) t ⊎ (Contains (states_of left) t ⊎ IsIdle g t) →
-            Contains (found_states found) t ⊎ (Contains (states_of (left ++ c ∷ [])) t ⊎ IsIdle g t)
-        widen t (inl f) = inl f
-        widen t (inr (inl k)) =
-            inr (inl (subst (λ xs. Contains xs t) (sym (map-append (λ (c : Candidate). c.state) left (c ∷ [])))
-            (Contains-append_left (states_of left) (c.state ∷ []) t k)))
-        widen t (inr (inr idle)) = inr (inr idle)
-
-    pub sorted-idle : IsIdle g s → IsStartOf h q (before ++ s ∷ []) found left
-    sorted-idle idle = record {
-      goals = start.goals;
-      found_inside = All-weaker (λ f. Contains before f.state) (λ f. Contains (before ++ s ∷ []) f.state) (λ f. further f.state) found
-          start.found_inside;
-      candidates = start.candidates;
-      inside = All-weaker (λ c. Contains before c.state) (λ c. Contains (before ++ s ∷ []) c.state) (λ c. further c.state) left
-          start.inside;
-      away = start.away;
-      covered = All-push (λ s. Contains (found_states found) s ⊎ (Contains (states_of left) s ⊎ IsIdle g s)) before s start.covered
-          (inr (inr idle));
-    }
+  mute-stuck : (s : State) → IsMute g h.least s → IsStuck g h.least s
+  mute-stuck s mute l above n p = go p mute
+    where
+      go : {n : ℕ} {s : State} → Path g l n s → IsMute g h.least s → ⊥
+      go (here {s} c at) mute = let away : g.goal s ≡ false = mute.0 in cc
+      go (more {n} {s} {t} c step rest) mute =
+          let none : is_at_least l (g.level s t) ≡ false = mute.1 t l above in absurd (let bad : true ≡ false = sym step ∙ none in cc)
 
   -- ---- The search begins
+
+  abbrev at_goal : State → Bool
+  at_goal s = s.user == q.target
+
+  pub start-of :
+      (found : List Found) (left : List Candidate) → found ≡ map found_there (filter at_goal g.states) →
+      left ≡ filter (is_heard h.on.items q.target) h.candidates.now → IsStartOf h q found left
+  start-of found left finds leaves = record {
+    goals = subst (All Goal) (sym finds)
+        (All-map Goal found_there (filter at_goal g.states)
+        (All-weaker (λ s. at_goal s ≡ true) (λ s. Goal (found_there s)) (λ s at. (refl, (refl, at))) (filter at_goal g.states)
+        (filter_passes at_goal g.states)));
+    found_inside = subst (All (λ f. Contains g.states f.state)) (sym finds)
+        (All-map (λ f. Contains g.states f.state) found_there (filter at_goal g.states)
+        (All-filter at_goal (Contains g.states) g.states (All-contains_itself g.states)));
+    candidates = subst (All (IsCandidate h)) (sym leaves)
+        (All-filter (is_heard h.on.items q.target) (IsCandidate h) h.candidates.now h.covered.known);
+    inside = subst (All (λ c. Contains g.states c.state)) (sym leaves)
+        (All-filter (is_heard h.on.items q.target) (λ c. Contains g.states c.state) h.candidates.now
+        (All-weaker (λ c. has_state g.states c.state ≡ true) (λ c. Contains g.states c.state) (λ c has. has-in g.states c.state has)
+        h.candidates.now h.covered.inside));
+    away = subst (All (λ c. g.goal c.state ≡ false)) (sym leaves)
+        (All-weaker (λ c. is_heard h.on.items q.target c ≡ true) (λ c. g.goal c.state ≡ false)
+        (λ c is. not-true (c.state.user == q.target)
+        (and_parts (not (c.state.user == q.target)) (list_any (λ i. slice_index_or h.on.items i false) c.strong.items) is).0)
+        (filter (is_heard h.on.items q.target) h.candidates.now) (filter_passes (is_heard h.on.items q.target) h.candidates.now));
+    covered = All-weaker (λ s. Contains g.states s × (has_state (states_of h.candidates.now) s ≡ false → Silent s)) Covered
+        (λ s is. go s is.0 is.1 (at_goal s) refl (has_state (states_of h.candidates.now) s) refl) g.states
+        (both-all (Contains g.states) (λ s. has_state (states_of h.candidates.now) s ≡ false → Silent s) g.states
+        (All-contains_itself g.states) h.covered.covered);
+  }
+    where
+      Goal : Found → Type 0
+      Goal f = (f.level ≡ level.All) × ((f.next ≡ None) × (g.goal f.state ≡ true))
+
+      Silent : State → Type 0
+      Silent s = IsSilent h.checked.now h.directory.now h.groups.now h.least h.blocks.now s
+
+      Covered : State → Type 0
+      Covered s = Contains (found_states found) s ⊎ (Contains (states_of left) s ⊎ IsMute g h.least s)
+
+      by_candidate : (s : State) (c : Candidate) → Contains h.candidates.now c → c.state ≡ s → at_goal s ≡ false → (b : Bool)
+          → list_any (λ i. slice_index_or h.on.items i false) c.strong.items ≡ b → Covered s
+      by_candidate s c inside at away true is =
+          inr (inl (subst (λ cs. Contains (states_of cs) s) (sym leaves)
+          (subst (Contains (states_of (filter (is_heard h.on.items q.target) h.candidates.now))) at
+          (to-map (λ (c : Candidate). c.state) (filter (is_heard h.on.items q.target) h.candidates.now) c
+          (in-filter (is_heard h.on.items q.target) h.candidates.now c inside
+          (ap (λ t. not (t.user == q.target) && list_any (λ i. slice_index_or h.on.items i false) c.strong.items) at
+          ∙ ap (λ a. not a && list_any (λ i. slice_index_or h.on.items i false) c.strong.items) away ∙ is))))))
+      by_candidate s c inside at away false is =
+          inr (inr (subst (IsMute g h.least) at
+          (unheard-mute c (All-contains (IsCandidate h) h.candidates.now c h.covered.known inside) is (ap g.goal at ∙ away))))
+
+      go :
+          (s : State) → Contains g.states s → (has_state (states_of h.candidates.now) s ≡ false → Silent s) → (b : Bool) → at_goal s ≡ b →
+          (c : Bool) → has_state (states_of h.candidates.now) s ≡ c → Covered s
+      go s inside silent true at c has =
+          inl (subst (λ fs. Contains (found_states fs) s) (sym finds)
+          (subst (λ xs. Contains xs s) (sym (there-states (filter at_goal g.states))) (in-filter at_goal g.states s inside at)))
+      go s inside silent false away true has =
+          let c = from-map (λ (c : Candidate). c.state) h.candidates.now s (has-in (states_of h.candidates.now) s has) in
+          by_candidate s c.0 c.1 c.2 away (list_any (λ i. slice_index_or h.on.items i false) c.0.strong.items) refl
+      go s inside silent false away false none = inr (inr (silent-mute s (silent none) away))
 
   rank-most : (l : Level) → rank l ≤ 3
   rank-most level.None = omega arith
@@ -192,10 +169,10 @@ module _ (h : HostSteps) (q : Sought) where
   rank-most level.AllBut = omega arith
   rank-most level.All = omega arith
 
-  pub start-search : (found : List Found) (left : List Candidate) → IsStartOf h q g.states found left
-      → IsSearch g level.All found (states_of left)
+  pub start-search : (found : List Found) (left : List Candidate) → IsStartOf h q found left
+      → IsSearch g h.least level.All found (states_of left)
   start-search found left start = record {
-    level = refl;
+    level = at-least-below h.least level.All (rank-most h.least);
     right = All-weaker (λ f. ((f.level ≡ level.All) × ((f.next ≡ None) × (g.goal f.state ≡ true))) × Contains g.states f.state) (IsFound g)
         (λ f k. record {
           inside = k.1;
@@ -212,7 +189,7 @@ module _ (h : HostSteps) (q : Sought) where
         (λ f. is_at_least level.All f.level ≡ true)
         (λ f k. ap (is_at_least level.All) k.0) found start.goals;
     covered = λ s c. widen s
-        (All-contains (λ s. Contains (found_states found) s ⊎ (Contains (states_of left) s ⊎ IsIdle g s)) g.states s start.covered c);
+        (All-contains (λ s. Contains (found_states found) s ⊎ (Contains (states_of left) s ⊎ IsMute g h.least s)) g.states s start.covered c);
     inside = All-map (Contains g.states) (λ (c : Candidate). c.state) left start.inside;
     away = All-map (λ s. g.goal s ≡ false) (λ (c : Candidate). c.state) left start.away;
     above = All-map (λ s. (m : Level) → rank level.All < rank m → (n : ℕ) → Path g m n s → ⊥) (λ (c : Candidate). c.state) left
@@ -220,8 +197,8 @@ module _ (h : HostSteps) (q : Sought) where
   }
     where
       widen :
-          (s : State) → Contains (found_states found) s ⊎ (Contains (states_of left) s ⊎ IsIdle g s) →
-          Contains (found_states found) s ⊎ (Contains (states_of left) s ⊎ IsStuck g s)
+          (s : State) → Contains (found_states found) s ⊎ (Contains (states_of left) s ⊎ IsMute g h.least s) →
+          Contains (found_states found) s ⊎ (Contains (states_of left) s ⊎ IsStuck g h.least s)
       widen s (inl f) = inl f
       widen s (inr (inl k)) = inr (inl k)
-      widen s (inr (inr idle)) = inr (inr (idle-stuck s idle))
+      widen s (inr (inr mute)) = inr (inr (mute-stuck s mute))

@@ -1,6 +1,6 @@
--- The rows of a host without their commands, in the order of the file, and the blocks in which a program has them.
+-- The rows of a policy without their commands, in the order of the file, and the blocks in which a program has them.
 -- sudoers(5), "User Specification".
-use Rattle.std.specs.Prelude.{◌≡◌, Bool, false, ◌&&◌, ◌||◌, if◌then◌else◌, List, [], filter, fold, map, flat_map}
+use Rattle.std.specs.Prelude.{◌≡◌, Bool, false, ◌&&◌, ◌||◌, if◌then◌else◌, List, [], fold, map, flat_map}
 use Rattle.std.specs.Prelude.{Option, Some, option_copied}
 use Rattle.sudo_text.specs.declared.line.Place.{Place}
 use Rattle.sudo_grammar.specs.declared.kind.Kind.TheVariants as kind
@@ -26,17 +26,22 @@ use Rattle.review_roots.specs.Passwords.{nopasswd}
 pub record Row : Type 0 where
   pub place : Place
   pub users : List Member
+  pub hosts : List Member
   pub runas : Option Runas
   pub tags : Tags
   pub negated : Bool
   pub all : Bool
 
 abbrev pub row_of : Grant → Row
-row_of g = record { place = g.place; users = g.users; runas = g.runas; tags = g.tags; negated = g.negated; all = is_all g.atom }
-
--- the grants of sections for the host, whoever asks
-abbrev pub host_grants : Policy → Machine → List Grant
-host_grants p m = filter (λ g. host_allowed p g.hosts m) (grants p)
+row_of g = record {
+  place = g.place;
+  users = g.users;
+  hosts = g.hosts;
+  runas = g.runas;
+  tags = g.tags;
+  negated = g.negated;
+  all = is_all g.atom;
+}
 
 -- the sign of an atom, and whether it is ALL
 abbrev pub sign_of : Signed → Sign
@@ -46,6 +51,7 @@ abbrev pub block_row : Block → Sign → Row
 block_row b s = record {
   place = b.place;
   users = b.users.now;
+  hosts = b.hosts.now;
   runas = option_copied b.runas;
   tags = b.tags;
   negated = s.negated;
@@ -56,13 +62,14 @@ block_row b s = record {
 abbrev pub block_rows : Block → List Row
 block_rows b = map (block_row b) b.signs.items
 
--- the blocks are the rows of the host
-abbrev pub AreBlocks : Policy → Machine → List Block → Type 0
-AreBlocks p m blocks = flat_map block_rows blocks ≡ map row_of (host_grants p m)
+-- the blocks are the rows of the policy
+abbrev pub AreBlocks : Policy → List Block → Type 0
+AreBlocks p blocks = flat_map block_rows blocks ≡ map row_of (grants p)
 
 -- the lists of a block resolve
 abbrev pub block_resolves : Policy → Block → Bool
-block_resolves p b = resolves kind.User p b.users.now && runas_resolves p (option_copied b.runas)
+block_resolves p b =
+    (resolves kind.User p b.users.now && resolves kind.Host p b.hosts.now) && runas_resolves p (option_copied b.runas)
 
 -- after a row: whether every command is allowed without a password
 abbrev pub free_after : Bool → Bool → Tags → Bool → Bool
@@ -84,9 +91,13 @@ with_rows a rs = fold with_row a rs
 abbrev pub lists : Policy → Person → Block → Bool
 lists p u b = user_allowed p b.users.now u
 
--- the block's user list allows the user, and its runas the question
+-- the host list of the block allows the host
+abbrev pub is_for : Policy → Machine → Block → Bool
+is_for p m b = host_allowed p b.hosts.now m
+
+-- the block's user list allows the user, its host list the host, and its runas the question
 abbrev pub stands : Policy → Question → Block → Bool
-stands p q b = lists p q.user b && runas_allows p q (option_copied b.runas)
+stands p q b = lists p q.user b && (is_for p q.host b && runas_allows p q (option_copied b.runas))
 
 -- the rows of the block, if it stands
 abbrev pub standing_rows : Policy → Question → Block → List Row

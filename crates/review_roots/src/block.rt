@@ -1,11 +1,11 @@
-//! The rows of a policy on a host, in blocks: one for each command of a section.
-ghost use Rattle.std.specs.Prelude.{◌≡◌, ◌++◌, ◌∷◌, [], List, IfOk, OnOk, IsTrue, map, flat_map, filter};
+//! The rows of a policy, in blocks: one for each command of a section.
+ghost use Rattle.std.specs.Prelude.{◌≡◌, ◌++◌, ◌∷◌, [], List, IfOk, OnOk, IsTrue, map, flat_map};
 ghost use Rattle.std.specs.List.{list_all};
 ghost use Rattle.sudo_grammar.specs.declared.kind.Kind.TheVariants as kind;
 ghost use Rattle.sudo_policy.specs.Resolving.{resolves};
 ghost use Rattle.sudo_policy.specs.Written.{written_form};
 ghost use Rattle.sudo_policy.specs.Body.Resolving.{section_resolves};
-ghost use Rattle.sudo_verdict.specs.Values.{is_all, host_allowed};
+ghost use Rattle.sudo_verdict.specs.Values.{is_all};
 ghost use Rattle.sudo_verdict.specs.Tagged.{or_tags, tags_named};
 ghost use Rattle.sudo_verdict.specs.Grants.{entry_grants, section_grants};
 ghost use Rattle.sudo_verdict.specs.Body.Resolved.{body_resolves};
@@ -16,12 +16,12 @@ ghost use Rattle.review_roots.specs.Body.Heads.{IsInForce, head_resolves, signed
 
 use std::alloc::{AllocError, Global};
 use std::slice;
-use sudo_match::{Machine, Tags};
+use sudo_match::Tags;
 use sudo_policy::{
     Atom, Checked, CommandSpec, Entry, EntryBody, Kind, Member, Runas, Section, Tag, write_out,
 };
 use sudo_text::Place;
-use sudo_verdict::{lists_host, tags_before_end};
+use sudo_verdict::tags_before_end;
 
 /// Whether an atom of a command is negated, and whether it is `ALL`.
 #[derive(Clone, Copy, Debug, PartialEq, Eq)]
@@ -30,22 +30,24 @@ pub(crate) struct Sign {
     pub(crate) all: bool,
 }
 
-/// A command of a section, written out: the place and the users of its rule, the runas and the tags in force, and the signs
-/// of its atoms.
+/// A command of a section, written out: the place and the users of its rule, the hosts of its section, the runas and the tags
+/// in force, and the signs of its atoms.
 #[derive(Drop)]
 pub(crate) struct Block<'a> {
     pub(crate) place: Place,
     pub(crate) users: &'a [Member],
+    pub(crate) hosts: &'a [Member],
     pub(crate) runas: Option<&'a Runas>,
     pub(crate) tags: Tags,
     pub(crate) signs: Vec<Sign>,
 }
 
-// The place and the users of a rule.
+// The place and the users of a rule, and the hosts of a section of it.
 #[derive(Clone, Copy)]
 struct Head<'a> {
     place: Place,
     users: &'a [Member],
+    hosts: &'a [Member],
 }
 
 // The runas and the tags in force at a command.
@@ -135,6 +137,7 @@ fn push_command<'a>(
     blocks.push(Block {
         place: head.place,
         users: head.users,
+        hosts: head.hosts,
         runas: in_force.runas,
         tags: in_force.tags,
         signs,
@@ -151,6 +154,7 @@ fn push_section<'a>(
     blocks: &mut Vec<Block<'a>>,
 ) -> Result<(), AllocError>
     requires users { IsTrue (resolves kind.User checked.now head.users.now) }
+    requires hosts { head.hosts.now ≡ section.now.hosts }
     requires section { IsTrue (section_resolves checked.now section.now) }
     ensures rows { OnOk result (flat_map block_rows blocks.new.items ≡ flat_map block_rows
         blocks.old.items ++ map row_of (section_grants checked.now head.entry.place
@@ -169,94 +173,72 @@ fn push_section<'a>(
     Ok(())
 }
 
-// Appends the blocks of a section, if it is for the host.
-fn push_for_host<'a>(
-    alloc: Global,
-    checked: &Checked,
-    host: &Machine,
-    head: Head<'a>,
-    section: &'a Section,
-    blocks: &mut Vec<Block<'a>>,
-) -> Result<(), AllocError>
-    requires users { IsTrue (resolves kind.User checked.now head.users.now) }
-    requires section { IsTrue (section_resolves checked.now section.now) }
-    ensures rows { OnOk result (flat_map block_rows blocks.new.items ≡ flat_map block_rows
-        blocks.old.items ++ map row_of (filter (λ g. host_allowed checked.now g.hosts host.now)
-        (section_grants checked.now head.entry.place head.entry.users.now section.now))) }
-    ensures resolve { OnOk result (IsTrue (list_all (block_resolves checked.now) blocks.old.items)
-        → IsTrue (list_all (block_resolves checked.now) blocks.new.items)) }
-{
-    if lists_host(checked, section.hosts.as_slice(), host) {
-        push_section(alloc, checked, head, section, blocks)
-    } else {
-        Ok(())
-    }
-}
-
-// Appends the blocks of the sections for the host.
+// Appends the blocks of the sections.
 fn push_sections<'a>(
     alloc: Global,
     checked: &Checked,
-    host: &Machine,
-    head: Head<'a>,
+    place: Place,
+    users: &'a [Member],
     sections: &'a [Section],
     blocks: &mut Vec<Block<'a>>,
 ) -> Result<(), AllocError>
-    requires users { IsTrue (resolves kind.User checked.now head.users.now) }
+    requires users { IsTrue (resolves kind.User checked.now users.now) }
     requires sections { IsTrue (list_all (section_resolves checked.now) sections.now) }
     ensures rows { OnOk result (flat_map block_rows blocks.new.items ≡ flat_map block_rows
-        blocks.old.items ++ map row_of (filter (λ g. host_allowed checked.now g.hosts host.now)
-        (flat_map (section_grants checked.now head.entry.place head.entry.users.now)
-        sections.now))) }
+        blocks.old.items ++ map row_of (flat_map (section_grants checked.now place users.now)
+        sections.now)) }
     ensures resolve { OnOk result (IsTrue (list_all (block_resolves checked.now) blocks.old.items)
         → IsTrue (list_all (block_resolves checked.now) blocks.new.items)) }
 {
     for section in sections {
-        push_for_host(alloc, checked, host, head, section, blocks)?;
+        let head = Head {
+            place,
+            users,
+            hosts: section.hosts.as_slice(),
+        };
+        push_section(alloc, checked, head, section, blocks)?;
     }
     Ok(())
 }
 
-// Appends the blocks of an entry for the host: none unless it is a rule.
+// Appends the blocks of an entry: none unless it is a rule.
 fn push_entry<'a>(
     alloc: Global,
     checked: &Checked,
-    host: &Machine,
     entry: &'a Entry,
     blocks: &mut Vec<Block<'a>>,
 ) -> Result<(), AllocError>
     requires { IsTrue (body_resolves checked.now entry.now.body) }
     ensures rows { OnOk result (flat_map block_rows blocks.new.items ≡ flat_map block_rows
-        blocks.old.items ++ map row_of (filter (λ g. host_allowed checked.now g.hosts host.now)
-        (entry_grants checked.now entry.now))) }
+        blocks.old.items ++ map row_of (entry_grants checked.now entry.now)) }
     ensures resolve { OnOk result (IsTrue (list_all (block_resolves checked.now) blocks.old.items)
         → IsTrue (list_all (block_resolves checked.now) blocks.new.items)) }
 {
     match &entry.body {
-        EntryBody::Rule { users, sections } => {
-            let head = Head {
-                place: entry.place,
-                users: users.as_slice(),
-            };
-            push_sections(alloc, checked, host, head, sections.as_slice(), blocks)
-        }
+        EntryBody::Rule { users, sections } => push_sections(
+            alloc,
+            checked,
+            entry.place,
+            users.as_slice(),
+            sections.as_slice(),
+            blocks,
+        ),
         _ => Ok(()),
     }
 }
 
-/// Returns the rows of a policy on a host, in blocks. Returns `AllocError` if allocation fails.
+/// Returns the rows of a policy, in blocks. Returns `AllocError` if allocation fails.
 pub(crate) fn blocks_of<'a>(
     alloc: Global,
     checked: &'a Checked,
-    host: &Machine,
 ) -> Result<Vec<Block<'a>>, AllocError>
-    ensures rows { IfOk result (λ blocks. AreBlocks checked.now host.now blocks.items) }
+    ensures rows { IfOk result (λ blocks. AreBlocks checked.now blocks.items) }
     ensures resolve { IfOk result (λ blocks. IsTrue (list_all (block_resolves checked.now)
         blocks.items)) }
 {
     let mut blocks = Vec::new(alloc);
     for entry in checked.policy().entries.as_slice() {
-        push_entry(alloc, checked, host, entry, &mut blocks)?;
+        push_entry(alloc, checked, entry, &mut blocks)?;
     }
     Ok(blocks)
 }

@@ -1,26 +1,31 @@
-//! The steps of users on one host.
-ghost use Rattle.std.specs.Prelude.{◌≡◌, IfOk, Some, None, map, option_copied};
-ghost use Rattle.std.specs.List.{list_any};
+//! Users that may take steps, with what is known of each on all hosts.
+ghost use Rattle.std.specs.Prelude.{◌≡◌, ◌++◌, ◌∷◌, [], IfOk, IsTrue, OnOk, Some, None, if◌then◌else◌, true};
+ghost use Rattle.sudo_grammar.specs.declared.kind.Kind.TheVariants as kind;
+ghost use Rattle.sudo_policy.specs.Resolving.{resolves};
 ghost use Rattle.sudo_verdict.specs.RunasForms as form;
-ghost use Rattle.review_roots.specs.Asked.{given_alone, given_asked, given_towards};
 ghost use Rattle.review_roots.specs.Blocks.{lists};
-ghost use Rattle.review_roots.specs.Body.Candidates.{IsCandidate, KnowsLists};
-ghost use Rattle.review_roots.specs.States.{step_given, person_of};
+ghost use Rattle.review_roots.specs.Body.Candidates as spec;
+ghost use Rattle.review_roots.specs.States.{person_of};
 ghost use Rattle.review_roots.specs.declared.candidate.Candidate.{Candidate as TheCandidate};
 
-use crate::given::{Given, NOTHING};
-use crate::host::HostSteps;
+use crate::Level;
+use crate::block::{Block, Sign};
+use crate::ground::Ground;
 use crate::state::{State, group_at, with_added};
+use crate::toward::{Toward, toward_at};
 use std::alloc::{AllocError, Global};
-use sudo_match::{Group, Person};
-use sudo_verdict::{Asker, allows_runas, lists_user};
+use sudo_match::Person;
+use sudo_verdict::lists_user;
 
-/// A user with its added group, if any, and for each block of rows whether its user list allows it.
+/// A user with its added group, if any: the indices of the blocks whose user list allows it, and of those of them that raise;
+/// and what steps to it depend on.
 #[derive(Drop)]
 pub(crate) struct Candidate {
     pub(crate) state: State,
     pub(crate) person: Person,
-    pub(crate) listed: Vec<bool>,
+    pub(crate) listed: Vec<usize>,
+    pub(crate) strong: Vec<usize>,
+    pub(crate) toward: Toward,
 }
 
 /// Whether two users have one name.
@@ -30,128 +35,165 @@ pub(crate) fn is_same_user(one: &Person, other: &Person) -> bool
     one.name.as_slice() == other.name.as_slice()
 }
 
-impl HostSteps<'_> {
-    // Returns for each block whether its user list allows the user.
-    fn listed(&self, alloc: Global, person: &Person) -> Result<Vec<bool>, AllocError>
-        ensures { IfOk result (λ listed. listed.items
-            ≡ map (lists self.now.checked.now person.now) self.now.blocks.items) }
-    {
-        let mut listed = Vec::new(alloc);
-        for block in &self.blocks {
-            listed.push(lists_user(self.checked, block.users, person))?;
-        }
-        Ok(listed)
-    }
+// Whether the level is the least one or a better one behind the sign, whatever it was before.
+fn raises(least: Level, sign: Sign) -> bool
+    ensures { result ≡ spec.raises least sign }
+{
+    !sign.negated && (sign.all || Level::Listed.is_at_least(least))
+}
 
-    /// Returns what the steps from a state depend on, or `None` if its user is unknown. Returns `AllocError` if allocation
-    /// fails.
-    pub(crate) fn candidate(
-        &self,
-        alloc: Global,
-        state: State,
-    ) -> Result<Option<Candidate>, AllocError>
-        ensures known { IfOk result (λ found. (c : TheCandidate) → found ≡ Some c
-            → (c.state ≡ state) × IsCandidate self.now c) }
-        ensures unknown { IfOk result (λ found. found ≡ None
-            → person_of self.now.directory.now self.now.groups.now state ≡ None) }
-    {
-        let Some(person) = self.directory.people().get(state.user) else {
-            return Ok(None);
-        };
-        let person = with_added(alloc, person, group_at(self.groups, state.added))?;
-        let listed = self.listed(alloc, &person)?;
-        Ok(Some(Candidate {
-            state,
-            person,
-            listed,
-        }))
-    }
+// Whether a sign of the block raises.
+fn block_raises(least: Level, block: &Block<'_>) -> bool
+    ensures { result ≡ spec.block_raises least block.now }
+{
+    block.signs.iter().any(|sign| raises(least, *sign))
+}
 
-    // Returns what the rows give the user that asks for a target by name, if any, and for a group, if any.
-    fn asked(&self, candidate: &Candidate, target: Option<&Person>, group: Option<&Group>) -> Given
-        requires { KnowsLists self.now candidate.now }
-        ensures { result ≡ given_asked self.now.checked.now self.now.directory.now
-            candidate.now.person self.now.host.now (option_copied target.entry)
-            (option_copied group.entry) }
-    {
-        let asker = Asker {
-            user: &candidate.person,
-            host: self.host,
-            target,
-            group,
-        };
-        let mut given = NOTHING;
-        for index in 0..self.blocks.len() {
-            let block = &self.blocks[index];
-            if candidate.listed[index]
-                && allows_runas(self.checked, self.directory, asker, block.runas)
-            {
-                given = given.with_block(block);
-            }
-        }
-        given
-    }
+// Whether the block raises, and its user list allows the user.
+fn raises_for(ground: Ground<'_, '_>, block: &Block<'_>, person: &Person) -> bool
+    requires { IsTrue (resolves kind.User ground.checked.now block.now.users.now) }
+    ensures { result ≡ spec.raises_for ground.entry.checked.now ground.entry.least person.now
+        block.now }
+{
+    block_raises(ground.least, block) && lists_user(ground.checked, block.users, person)
+}
 
-    // Returns what the user is given who asks for a group alone, if the target is the user itself.
-    fn alone(&self, candidate: &Candidate, target: &Person, group: Option<&Group>) -> Given
-        requires { KnowsLists self.now candidate.now }
-        ensures { result ≡ given_alone self.now.checked.now self.now.directory.now
-            self.now.host.now candidate.now.person target.now
-            (option_copied group.entry) }
-    {
-        if is_same_user(target, &candidate.person) && group.is_some() {
-            self.asked(candidate, None, group)
-        } else {
-            NOTHING
-        }
+// Appends the index, if its block passes.
+fn push_if(found: &mut Vec<usize>, index: usize, passes: bool) -> Result<(), AllocError>
+    ensures { OnOk result (found.new.items
+        ≡ found.old.items ++ (if passes then index ∷ [] else [])) }
+{
+    if passes {
+        found.push(index)?;
     }
+    Ok(())
+}
 
-    /// Returns what the user is given on the way to a target with a group, if any.
-    pub(crate) fn towards(
-        &self,
-        candidate: &Candidate,
-        target: &Person,
-        group: Option<&Group>,
-    ) -> Given
-        requires { KnowsLists self.now candidate.now }
-        ensures { result ≡ given_towards self.now.checked.now self.now.directory.now
-            self.now.host.now candidate.now.person target.now
-            (option_copied group.entry) }
-    {
-        let by_name = self.asked(candidate, Some(target), group);
-        by_name.better(self.alone(candidate, target, group))
-    }
-
-    /// Returns what the step from a state to another one gives: the level of what may be run as the user of the second,
-    /// with its added group, whatever the command. Returns `AllocError` if allocation fails.
-    pub fn between(&self, alloc: Global, from: State, to: State) -> Result<Given, AllocError>
-        ensures { IfOk result (λ given. given ≡ step_given self.now.checked.now
-            self.now.directory.now self.now.host.now self.now.groups.now from to) }
-    {
-        match self.candidate(alloc, from)? {
-            Some(candidate) => Ok(self.step(&candidate, to)),
-            None => Ok(NOTHING),
-        }
-    }
-
-    /// Returns what the step of a candidate to a state gives.
-    pub(crate) fn step(&self, candidate: &Candidate, to: State) -> Given
-        requires { IsCandidate self.now candidate.now }
-        ensures { result ≡ step_given self.now.checked.now self.now.directory.now
-            self.now.host.now self.now.groups.now candidate.now.state to }
-    {
-        match self.directory.people().get(to.user) {
-            Some(target) => self.towards(candidate, target, group_at(self.groups, to.added)),
-            None => NOTHING,
-        }
+// Whether no index is listed.
+fn is_none(indices: &[usize]) -> bool
+    ensures { result ≡ true → indices.now ≡ [] }
+{
+    match indices {
+        [] => true,
+        _ => false,
     }
 }
 
-impl Candidate {
-    /// Whether the user list of some block allows the candidate.
-    pub(crate) fn is_listed(&self) -> bool
-        ensures { result ≡ list_any (λ b. b) self.now.listed.items }
-    {
-        self.listed.iter().any(|listed| *listed)
+// Returns the indices of the blocks whose user list allows the user.
+fn listed_of(
+    alloc: Global,
+    ground: Ground<'_, '_>,
+    person: &Person,
+) -> Result<Vec<usize>, AllocError>
+    ensures { IfOk result (λ listed. listed.items
+        ≡ spec.indices (lists ground.entry.checked.now person.now) ground.entry.blocks.now) }
+{
+    let mut listed = Vec::new(alloc);
+    for index in 0..ground.blocks.len() {
+        let passes = lists_user(ground.checked, ground.blocks[index].users, person);
+        push_if(&mut listed, index, passes)?;
     }
+    Ok(listed)
+}
+
+// Returns the indices of the blocks that raise, and whose user list allows the user.
+fn strong_of(
+    alloc: Global,
+    ground: Ground<'_, '_>,
+    person: &Person,
+) -> Result<Vec<usize>, AllocError>
+    ensures { IfOk result (λ strong. strong.items ≡ spec.indices (spec.raises_for
+        ground.entry.checked.now ground.entry.least person.now) ground.entry.blocks.now) }
+{
+    let mut strong = Vec::new(alloc);
+    for index in 0..ground.blocks.len() {
+        let passes = raises_for(ground, &ground.blocks[index], person);
+        push_if(&mut strong, index, passes)?;
+    }
+    Ok(strong)
+}
+
+// Returns the user of a state, with its added group, or `None` if it is unknown.
+fn person_at(
+    alloc: Global,
+    ground: Ground<'_, '_>,
+    state: State,
+) -> Result<Option<Person>, AllocError>
+    ensures { IfOk result (λ person. person
+        ≡ person_of ground.entry.directory.now ground.entry.groups.now state) }
+{
+    let Some(person) = ground.directory.people().get(state.user) else {
+        return Ok(None);
+    };
+    let group = group_at(ground.groups, state.added);
+    Ok(Some(with_added(alloc, person, group)?))
+}
+
+// Returns the candidate of a state, from its user and from the blocks that raise and list it.
+fn candidate_of(
+    alloc: Global,
+    ground: Ground<'_, '_>,
+    state: State,
+    person: Person,
+    strong: Vec<usize>,
+) -> Result<Candidate, AllocError>
+    requires person { person_of ground.directory.now ground.groups.now state ≡ Some person }
+    requires strong { strong.items ≡ spec.indices (spec.raises_for ground.checked.now
+        ground.least person) ground.blocks.now }
+    ensures { IfOk result (λ c. (c.state ≡ state) × spec.Qualifies ground.entry.checked.now
+        ground.entry.directory.now ground.entry.groups.now ground.entry.least
+        ground.entry.blocks.now c) }
+{
+    let listed = listed_of(alloc, ground, &person)?;
+    let toward = toward_at(alloc, ground, state)?;
+    Ok(Candidate {
+        state,
+        person,
+        listed,
+        strong,
+        toward,
+    })
+}
+
+/// Returns what the steps from a state depend on, or `None` if its user is unknown. Returns `AllocError` if allocation fails.
+pub(crate) fn candidate_at(
+    alloc: Global,
+    ground: Ground<'_, '_>,
+    state: State,
+) -> Result<Option<Candidate>, AllocError>
+    ensures known { IfOk result (λ found. (c : TheCandidate) → found ≡ Some c
+        → (c.state ≡ state) × spec.Qualifies ground.entry.checked.now ground.entry.directory.now
+        ground.entry.groups.now ground.entry.least ground.entry.blocks.now c) }
+    ensures unknown { IfOk result (λ found. found ≡ None
+        → person_of ground.entry.directory.now ground.entry.groups.now state ≡ None) }
+{
+    let Some(person) = person_at(alloc, ground, state)? else {
+        return Ok(None);
+    };
+    let strong = strong_of(alloc, ground, &person)?;
+    Ok(Some(candidate_of(alloc, ground, state, person, strong)?))
+}
+
+/// Returns the same for a state that a block which raises lists, or whose user has ID 0, and `None` for any other. Returns
+/// `AllocError` if allocation fails.
+pub(crate) fn hopeful(
+    alloc: Global,
+    ground: Ground<'_, '_>,
+    state: State,
+) -> Result<Option<Candidate>, AllocError>
+    ensures known { IfOk result (λ found. (c : TheCandidate) → found ≡ Some c
+        → (c.state ≡ state) × spec.Qualifies ground.entry.checked.now ground.entry.directory.now
+        ground.entry.groups.now ground.entry.least ground.entry.blocks.now c) }
+    ensures unknown { IfOk result (λ found. found ≡ None
+        → spec.IsSilent ground.entry.checked.now ground.entry.directory.now
+        ground.entry.groups.now ground.entry.least ground.entry.blocks.now state) }
+{
+    let Some(person) = person_at(alloc, ground, state)? else {
+        return Ok(None);
+    };
+    let strong = strong_of(alloc, ground, &person)?;
+    if is_none(&strong) && person.uid != 0 {
+        return Ok(None);
+    }
+    Ok(Some(candidate_of(alloc, ground, state, person, strong)?))
 }

@@ -1,50 +1,88 @@
 //! A policy on one host.
-ghost use Rattle.std.specs.Prelude.{◌≡◌, IfOk, IsTrue};
+ghost use Rattle.std.specs.Prelude.{◌≡◌, IfOk, IsTrue, length, map};
 ghost use Rattle.std.specs.List.{list_all};
-ghost use Rattle.review_roots.specs.Blocks.{AreBlocks, block_resolves};
+ghost use Rattle.review_roots.specs.Blocks.{AreBlocks, block_resolves, is_for};
+ghost use Rattle.review_roots.specs.Body.Candidates.{AreCandidates};
+ghost use Rattle.review_roots.specs.Ranks.{is_at_least};
+ghost use Rattle.review_roots.specs.States.{all_states};
+ghost use Rattle.review_roots.specs.declared.level.Level.TheVariants as level;
 
-use crate::block::{Block, blocks_of};
+use crate::Level;
+use crate::block::Block;
+use crate::candidate::Candidate;
+use crate::rules::Rules;
 use std::alloc::{AllocError, Global};
 use sudo_match::{Directory, Group, Machine};
 use sudo_policy::Checked;
+use sudo_verdict::lists_host;
 
-/// What the steps of users on a host depend on: the policy, the known users, the host, and the groups that may be added
-/// (all known ones, or, for less work, those that user lists name: [`crate::known_groups`], [`crate::named_groups`]).
+/// What the steps of users on a host depend on.
 #[derive(Drop)]
-pub struct HostSteps<'a> {
+pub struct HostSteps<'r, 'a> {
     /// The policy.
     pub checked: &'a Checked,
     /// The known users.
     pub directory: &'a Directory,
-    pub host: &'a Machine,
+    pub host: &'r Machine,
     /// The groups that may be added.
     pub groups: &'a [Group],
-    pub(crate) blocks: Vec<Block<'a>>,
-    ghost tied: { AreBlocks checked.now host.now blocks.items },
-    ghost resolve: { IsTrue (list_all (block_resolves checked.now) blocks.items) },
+    /// The least level of a chain.
+    pub least: Level,
+    pub(crate) blocks: &'r [Block<'a>],
+    pub(crate) candidates: &'r [Candidate],
+    pub(crate) places: &'r [Option<usize>],
+    // For each block, whether it is for the host.
+    pub(crate) on: Vec<bool>,
+    ghost listed: { IsTrue (is_at_least level.Listed least) },
+    ghost tied: { AreBlocks checked.now blocks.now },
+    ghost resolve: { IsTrue (list_all (block_resolves checked.now) blocks.now) },
+    ghost here: { on.items ≡ map (is_for checked.now host.now) blocks.now },
+    ghost covered: { AreCandidates checked.now directory.now groups.now least blocks.now
+        (all_states (length directory.now.people) (length groups.now)) candidates.now },
 }
 
-impl<'a> HostSteps<'a> {
-    /// Returns the steps on a host, with the groups that may be added. Returns `AllocError` if allocation fails.
+// Returns for each block whether it is for the host.
+fn on_host(
+    alloc: Global,
+    checked: &Checked,
+    blocks: &[Block<'_>],
+    host: &Machine,
+) -> Result<Vec<bool>, AllocError>
+    requires { IsTrue (list_all (block_resolves checked.now) blocks.now) }
+    ensures { IfOk result (λ on. on.items ≡ map (is_for checked.now host.now) blocks.now) }
+{
+    let mut on = Vec::new(alloc);
+    for block in blocks {
+        on.push(lists_host(checked, block.hosts, host))?;
+    }
+    Ok(on)
+}
+
+impl<'r, 'a> HostSteps<'r, 'a> {
+    /// Returns the steps on a host. Returns `AllocError` if allocation fails.
     pub fn new(
         alloc: Global,
-        checked: &'a Checked,
-        directory: &'a Directory,
-        host: &'a Machine,
-        groups: &'a [Group],
-    ) -> Result<HostSteps<'a>, AllocError>
-        ensures checked { IfOk result (λ steps. steps.checked.now ≡ checked.now) }
-        ensures directory { IfOk result (λ steps. steps.directory.now ≡ directory.now) }
+        rules: &'r Rules<'a>,
+        host: &'r Machine,
+    ) -> Result<HostSteps<'r, 'a>, AllocError>
+        ensures checked { IfOk result (λ steps. steps.checked.now ≡ rules.now.checked.now) }
+        ensures directory { IfOk result (λ steps. steps.directory.now ≡ rules.now.directory.now) }
         ensures host { IfOk result (λ steps. steps.host.now ≡ host.now) }
-        ensures groups { IfOk result (λ steps. steps.groups.now ≡ groups.now) }
+        ensures groups { IfOk result (λ steps. steps.groups.now ≡ rules.now.groups.now) }
+        ensures least { IfOk result (λ steps. steps.least ≡ rules.now.least) }
     {
-        let blocks = blocks_of(alloc, checked, host)?;
+        let blocks = rules.blocks.as_slice();
+        let on = on_host(alloc, rules.checked, blocks, host)?;
         Ok(HostSteps {
-            checked,
-            directory,
+            checked: rules.checked,
+            directory: rules.directory,
             host,
-            groups,
+            groups: rules.groups,
+            least: rules.least,
             blocks,
+            candidates: rules.candidates.as_slice(),
+            places: rules.places.as_slice(),
+            on,
         })
     }
 }

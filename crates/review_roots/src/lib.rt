@@ -8,13 +8,16 @@ mod addable;
 mod block;
 mod candidate;
 mod given;
+mod ground;
 mod groups;
 mod host;
 mod laws;
 mod level;
 mod roots;
+mod rules;
 mod search;
 mod state;
+mod steps;
 mod toward;
 mod way;
 
@@ -28,5 +31,6 @@ pub use laws::{
 };
 pub use level::Level;
 pub use roots::{Root, roots_on};
+pub use rules::Rules;
 pub use state::State;
 pub use way::{Password, Way};

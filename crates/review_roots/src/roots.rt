@@ -1,12 +1,10 @@
 //! Who can become a target on a host.
-ghost use Rattle.std.specs.Prelude.{◌≡◌, ◌<◌, IfOk, IsTrue, MatchOption, Some, None, length};
+ghost use Rattle.std.specs.Prelude.{◌≡◌, ◌<◌, IfOk, MatchOption, Some, None, length};
 ghost use Rattle.review_roots.specs.States.{state_with};
 ghost use Rattle.review_roots.specs.Ways.{IsWay};
 ghost use Rattle.review_roots.specs.Body.Found.{AreChains, ChainsLead, IsFoundAt, IsFreeAt, is_start};
-ghost use Rattle.review_roots.specs.Ranks.{is_at_least};
 ghost use Rattle.review_roots.specs.Roots.{AreRoots, IsRootAt, IsNoRoot, has_zero};
 ghost use Rattle.review_roots.specs.declared.level.Level.{Level as TheLevel};
-ghost use Rattle.review_roots.specs.declared.level.Level.TheVariants as level;
 
 use crate::Level;
 use crate::host::HostSteps;
@@ -44,7 +42,7 @@ fn found_index(found: &[Found], user: usize) -> Option<usize>
 }
 
 // Whether the user has ID 0.
-fn has_zero(steps: &HostSteps<'_>, user: usize) -> bool
+fn has_zero(steps: &HostSteps<'_, '_>, user: usize) -> bool
     ensures { result ≡ has_zero steps.now user }
 {
     match steps.directory.people().get(user) {
@@ -69,7 +67,7 @@ fn free_index(chains: &Chains, user: usize, level: Level) -> Option<usize>
 // Returns the chain of a found state that is the user without an added group: one without passwords, if one has its level.
 fn best_way(
     alloc: Global,
-    steps: &HostSteps<'_>,
+    steps: &HostSteps<'_, '_>,
     target: usize,
     chains: &Chains,
     user: usize,
@@ -89,7 +87,7 @@ fn best_way(
 // Returns the user if it can become the target, and `None` if it cannot.
 fn root_of(
     alloc: Global,
-    steps: &HostSteps<'_>,
+    steps: &HostSteps<'_, '_>,
     target: usize,
     chains: &Chains,
     user: usize,
@@ -114,7 +112,7 @@ fn root_of(
 }
 
 /// Returns the users that can become the target on the host, in the order of the directory: the target itself, all with ID 0,
-/// and those from whom a chain of steps of the least level, or a better one, leads to it.
+/// and those from whom a chain of steps of the least level of the steps, or a better one, leads to it.
 ///
 /// The chain that is given has the best level of all from the user, however long; and it asks for no password, if one of that
 /// level does not. From a user that is not among them no chain of the least level leads to the target, however long.
@@ -122,14 +120,12 @@ fn root_of(
 /// Returns `AllocError` if allocation fails.
 pub fn roots_on(
     alloc: Global,
-    steps: &HostSteps<'_>,
+    steps: &HostSteps<'_, '_>,
     target: usize,
-    least: Level,
 ) -> Result<Vec<Root>, AllocError>
-    requires { IsTrue (is_at_least level.Listed least) }
-    ensures { IfOk result (λ roots. AreRoots steps.now target least roots.items) }
+    ensures { IfOk result (λ roots. AreRoots steps.now target steps.now.least roots.items) }
 {
-    let chains = search(alloc, steps, target, least)?;
+    let chains = search(alloc, steps, target)?;
     let mut roots = Vec::new(alloc);
     for user in 0..steps.directory.people().len() {
         if let Some(root) = root_of(alloc, steps, target, &chains, user)? {

@@ -99,7 +99,7 @@ fn step_password(free: bool, user: usize, from: State) -> Password
 // Returns whose passwords the steps of a chain ask for.
 fn password_along(
     alloc: Global,
-    steps: &HostSteps<'_>,
+    steps: &HostSteps<'_, '_>,
     start: State,
     chain: &[State],
 ) -> Result<Password, AllocError>
@@ -119,7 +119,7 @@ fn password_along(
 // Returns the last row that allows the first step of a chain.
 fn first_row(
     alloc: Global,
-    steps: &HostSteps<'_>,
+    steps: &HostSteps<'_, '_>,
     start: State,
     chain: &[State],
 ) -> Result<Option<AllowingRow>, AllocError>
@@ -134,7 +134,7 @@ fn first_row(
 /// Returns the chain of a found state. Returns `AllocError` if allocation fails.
 pub(crate) fn way_of(
     alloc: Global,
-    steps: &HostSteps<'_>,
+    steps: &HostSteps<'_, '_>,
     found: &[Found],
     index: usize,
 ) -> Result<Way, AllocError>

@@ -10,7 +10,7 @@ use Rattle.review_roots.specs.declared.search.Chains.{Chains}
 use Rattle.review_roots.specs.declared.search.Found.{Found}
 use Rattle.review_roots.specs.declared.search.Sought.{Sought}
 use Rattle.review_roots.specs.declared.state.State.{State}
-use Rattle.review_roots.specs.Body.Candidates.{IsCandidate}
+use Rattle.review_roots.specs.Body.Candidates.{Qualifies, states_of}
 use Rattle.review_roots.specs.Sought.{any_steps, free_steps, steps_of}
 use Rattle.review_roots.specs.Chains.{Steps, HasPath, HasNoPath}
 use Rattle.review_roots.specs.Ranks.{rank, is_at_least}
@@ -85,19 +85,19 @@ IsFreeAt found user l (Some i) =
 
 -- ---- While a search goes on: what is found, and the states that are left
 
--- no chain of a level other than none leads from the state to the goal
-abbrev pub IsStuck : Steps State → State → Type 0
-IsStuck g s = (l : Level) → is_at_least level.Listed l ≡ true → HasNoPath g l s
+-- no chain of the least level, or of a better one, leads from the state to the goal
+abbrev pub IsStuck : Steps State → Level → State → Type 0
+IsStuck g least s = (l : Level) → is_at_least least l ≡ true → HasNoPath g l s
 
 abbrev pub HaveNoPath : Steps State → Level → List State → Type 0
 HaveNoPath g l left = All (HasNoPath g l) left
 
-pub record IsSearch (g : Steps State) (l : Level) (found : List Found) (left : List State) : Type 0 where
-  pub level : is_at_least level.Listed l ≡ true
+pub record IsSearch (g : Steps State) (least l : Level) (found : List Found) (left : List State) : Type 0 where
+  pub level : is_at_least least l ≡ true
   pub right : All (IsFound g) found
   pub linked : AreLinked g found
   pub levels : All (λ f. is_at_least l f.level ≡ true) found
-  pub covered : (s : State) → Contains g.states s → Contains (found_states found) s ⊎ (Contains left s ⊎ IsStuck g s)
+  pub covered : (s : State) → Contains g.states s → Contains (found_states found) s ⊎ (Contains left s ⊎ IsStuck g least s)
   pub inside : All (Contains g.states) left
   pub away : All (λ s. g.goal s ≡ false) left
   pub above : All (λ s. (m : Level) → rank l < rank m → HasNoPath g m s) left
@@ -107,8 +107,9 @@ abbrev pub IsDrawn : Steps State → Level → ℕ → List Found → List State
 IsDrawn g l n found left =
     All (λ s. (k : ℕ) (f : Found) → k < n → slice_get found k ≡ Some f → is_at_least l (g.level s f.state) ≡ false) left
 
-abbrev pub states_of : List Candidate → List State
-states_of cs = map (λ c. c.state) cs
+-- what is known of the candidate holds on the host
+abbrev pub IsCandidate : HostSteps → Candidate → Type 0
+IsCandidate h c = Qualifies h.checked.now h.directory.now h.groups.now h.least h.blocks.now c
 
 -- the step of the candidate to the aim has its level or a better one
 abbrev pub reaches : HostSteps → Aim → Candidate → Bool
@@ -118,15 +119,21 @@ reaches h aim c =
 abbrev pub found_by : Aim → Candidate → Found
 found_by aim c = record { state = c.state; level = aim.level; next = Some aim.index }
 
--- the state is not at the goal, and no step leads from it
-abbrev pub IsIdle : Steps State → State → Type 0
-IsIdle g s = (g.goal s ≡ false) × ((t : State) → g.level s t ≡ level.None)
+-- the state is not at the goal, and no step of the least level, or of a better one, leads from it
+abbrev pub IsMute : Steps State → Level → State → Type 0
+IsMute g least s =
+    (g.goal s ≡ false) × ((t : State) (l : Level) → is_at_least least l ≡ true → is_at_least l (g.level s t) ≡ false)
 
--- what the search begins with, among the first states: those at the goal, and those that are left
-pub record IsStartOf (h : HostSteps) (q : Sought) (states : List State) (found : List Found) (left : List Candidate) : Type 0 where
+-- a state at the goal
+abbrev pub found_there : State → Found
+found_there s = record { state = s; level = level.All; next = None }
+
+-- what the search begins with, among all states: those at the goal, and those that are left
+pub record IsStartOf (h : HostSteps) (q : Sought) (found : List Found) (left : List Candidate) : Type 0 where
   pub goals : All (λ f. (f.level ≡ level.All) × ((f.next ≡ None) × ((steps_of h q).goal f.state ≡ true))) found
-  pub found_inside : All (λ f. Contains states f.state) found
+  pub found_inside : All (λ f. Contains (steps_of h q).states f.state) found
   pub candidates : All (IsCandidate h) left
-  pub inside : All (λ c. Contains states c.state) left
+  pub inside : All (λ c. Contains (steps_of h q).states c.state) left
   pub away : All (λ c. (steps_of h q).goal c.state ≡ false) left
-  pub covered : All (λ s. Contains (found_states found) s ⊎ (Contains (states_of left) s ⊎ IsIdle (steps_of h q) s)) states
+  pub covered : All (λ s. Contains (found_states found) s ⊎ (Contains (states_of left) s ⊎ IsMute (steps_of h q) h.least s))
+      (steps_of h q).states

@@ -20,6 +20,7 @@ abbrev pub signed_row : Head → InForce → Signed → Row
 signed_row h f w = record {
   place = h.place;
   users = h.users.now;
+  hosts = h.hosts.now;
   runas = option_copied f.runas;
   tags = f.tags;
   negated = w.negated;
@@ -27,4 +28,5 @@ signed_row h f w = record {
 }
 
 abbrev pub head_resolves : Policy → Head → InForce → Bool
-head_resolves p h f = resolves kind.User p h.users.now && runas_resolves p (option_copied f.runas)
+head_resolves p h f =
+    (resolves kind.User p h.users.now && resolves kind.Host p h.hosts.now) && runas_resolves p (option_copied f.runas)

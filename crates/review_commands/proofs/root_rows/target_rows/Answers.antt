@@ -16,7 +16,7 @@ returns c =
       host_is = refl;
       groups_are = c.requires.groups ∙ t.grouped;
       roots = c.in_ok-roots.roots.items;
-      are = subst (λ l. AreRoots h c.args.target l c.in_ok-roots.roots.items) c.least_listed.ensures c.in_ok-roots.ensures;
+      are = subst (λ l. AreRoots h c.args.target l c.in_ok-roots.roots.items) c.requires.least c.in_ok-roots.ensures;
       text_is = is
           ∙ ap (λ (rs : List _). flat_map (λ r. line (root_fields t.checked.now t.directory.now t.groups.now h.host.now c.args.target r))
           rs)

@@ -1,12 +1,11 @@
 use Rattle.std.proofs.Common.{◌≡◌, ◌<◌, ◌∙◌, [], List, ap, arith, flat_map, get_or, length, subst}
 use Rattle.sudo_grammar.specs.declared.policy.Entry.{Entry}
 use Rattle.sudo_grammar.specs.declared.policy.Policy.{Policy}
-use Rattle.sudo_verdict.specs.Values.{host_allowed}
-use Rattle.sudo_verdict.specs.Grants.{Grant, entry_grants}
+use Rattle.sudo_verdict.specs.Grants.{entry_grants}
 use Rattle.sudo_verdict.specs.Body.Resolved.{body_resolves}
 use Rattle.sudo_verdict.proofs.RuleLists.{bodies_resolve}
 use Rattle.review_roots.specs.Blocks.{block_rows}
-use Rattle.review_roots.proofs.BlockLemmas.{entries-all, filtered-more}
+use Rattle.review_roots.proofs.BlockLemmas.{entries-all, grants-more}
 use Rattle.review_roots.proofs.ListSteps.{all-there}
 use Rattle.review_roots.proofs.block.blocks_of.Goals as goal
 
@@ -31,7 +30,7 @@ loop-entry-preserved c =
     let less : at < length p.entries = subst (λ (es : List Entry). at < length es) same c.loop-entry-test.true in
     let is : entry ≡ get_or p.entries at entry = c.entry-item.is ∙ ap (λ (es : List Entry). get_or es at entry) same in
     record {
-      rows = filtered-more (λ (g : Grant). host_allowed p g.hosts c.args.host.now) (entry_grants p) p.entries at entry []
+      rows = grants-more (entry_grants p) p.entries at entry []
           (flat_map block_rows c.loop-entry.blocks.items)
           (flat_map block_rows c.push_entry.new.blocks.items) less is c.loop-entry.invariant.rows c.in_ok-push_entry.ensures.rows;
       resolve = c.in_ok-push_entry.ensures.resolve c.loop-entry.invariant.resolve;
@@ -43,5 +42,5 @@ returns-clause-rows c =
     let same : c.as_slice-entry-items.result.now ≡ p.entries = c.as_slice-entry-items.ensures
     ∙ ap (λ (q : Policy). q.entries) c.policy.ensures.value in
     let long = ap length same in
-    entries-all p c.args.host.now c.loop-entry.blocks.items c.loop-entry.entry-index (omega (arith, long, c.loop-entry-test.false))
+    entries-all p c.loop-entry.blocks.items c.loop-entry.entry-index (omega (arith, long, c.loop-entry-test.false))
     c.loop-entry.invariant.rows

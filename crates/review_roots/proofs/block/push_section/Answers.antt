@@ -1,4 +1,4 @@
-use Rattle.std.proofs.Common.{◌≡◌, ◌<◌, ◌∙◌, List, ap, append-nil, get_or, length, refl, subst, sym, flat_map, arith}
+use Rattle.std.proofs.Common.{◌≡◌, ◌<◌, ◌∙◌, List, ap, append-nil, get_or, length, refl, subst, sym, true, flat_map, arith}
 use Rattle.std.specs.List.{list_all}
 use Rattle.std.proofs.lemmas.Bool.{and_parts}
 use Rattle.sudo_grammar.specs.declared.kind.Kind.TheVariants as kind
@@ -43,15 +43,17 @@ loop-spec-preserved c =
     let f = c.in_force_at-in_force.result in
     let less : at < length s.commands = subst (λ (cs : List CommandSpec). at < length cs) same c.loop-spec-test.true in
     let is : spec ≡ get_or s.commands at spec = c.spec-item.is ∙ ap (λ (cs : List CommandSpec). get_or cs at spec) same in
+    let hosts : resolves kind.Host p h.hosts.now ≡ true = ap (resolves kind.Host p) c.requires.hosts
+    ∙ (and_parts (resolves kind.Host p s.hosts) (list_all (command_resolves p) s.commands) c.requires.section).0 in
     let all = (and_parts (resolves kind.Host p s.hosts) (list_all (command_resolves p) s.commands) c.requires.section).1 in
     let in_force = in-force-more s.commands at spec c.loop-spec.in_force f less is c.loop-spec.invariant.in_force
     c.in_force_at-in_force.ensures in
     record {
       in_force = in_force;
       rows = section-more p h f s at spec (flat_map block_rows c.args.blocks.now.items) (flat_map block_rows c.loop-spec.blocks.items)
-          (flat_map block_rows c.push_command.new.blocks.items) less is in_force c.loop-spec.invariant.rows
+          (flat_map block_rows c.push_command.new.blocks.items) c.requires.hosts less is in_force c.loop-spec.invariant.rows
           c.in_ok-push_command.ensures.rows;
-      resolve = λ old. c.in_ok-push_command.ensures.resolve (in-force-resolves p h f s.commands at in_force all c.requires.users)
+      resolve = λ old. c.in_ok-push_command.ensures.resolve (in-force-resolves p h f s.commands at in_force all c.requires.users hosts)
           (c.loop-spec.invariant.resolve old);
     }
 

@@ -12,12 +12,12 @@ pub loop-user-preserved : goal.loop-user-preserved
 loop-user-preserved c =
     let h = c.args.steps.now in
     let target = c.args.target in
-    let least = c.args.least in
+    let least = c.args.steps.now.least in
     let n = c.loop-user.user in
     let less : n < length h.directory.now.people =
     subst (λ (xs : List Person). n < length xs) c.people-user-end.ensures c.loop-user-test.true in
     let lead : ChainsLead h target least c.in_ok-chains.chains = record {
-      level = c.requires;
+      level = h.listed;
       any = c.in_ok-chains.ensures.any;
       free = c.in_ok-chains.ensures.free;
     } in

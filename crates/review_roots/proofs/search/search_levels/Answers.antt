@@ -1,36 +1,34 @@
-use Rattle.std.proofs.Common.{List, map, subst, sym}
-use Rattle.review_roots.specs.declared.candidate.Candidate.{Candidate}
+use Rattle.std.proofs.Common.{map, subst, sym}
 use Rattle.review_roots.specs.declared.level.Level.TheVariants as level
 use Rattle.review_roots.specs.Sought.{steps_of}
-use Rattle.review_roots.specs.Body.Found.{AreFound, IsSearch, states_of}
+use Rattle.review_roots.specs.Body.Candidates.{states_of}
+use Rattle.review_roots.specs.Body.Found.{AreFound}
 use Rattle.review_roots.proofs.SearchLemmas.{all-found, listed-alone}
 use Rattle.review_roots.proofs.StartLemmas.{start-search}
 use Rattle.review_roots.proofs.search.search_levels.Goals as goal
 
 pub spread-requires-clause-search : goal.spread-requires-clause-search
 spread-requires-clause-search c =
-    subst (λ (cs : List Candidate). IsSearch (steps_of c.args.steps.now c.args.sought) level.All c.args.found.now.items (states_of cs))
-    (sym c.in_ok-left.ensures)
-    (start-search c.args.steps.now c.args.sought c.args.found.now.items c.args.candidates.now c.requires.start)
+    start-search c.args.steps.now c.args.sought c.args.found.now.items (map (λ k. k.now) c.args.left.items) c.requires
 
 pub returns-in-All : goal.returns-in-All
 returns-in-All c =
     subst (λ l. AreFound (steps_of c.args.steps.now c.args.sought) l c.spread.new.found.items) (sym c.in-All.is)
-    (all-found (steps_of c.args.steps.now c.args.sought) level.All c.spread.new.found.items
-    (states_of (map (λ k. k.now) c.in_ok-left-2.left.items))
-    c.in_ok-left-2.ensures.search c.in_ok-left-2.ensures.done)
+    (all-found (steps_of c.args.steps.now c.args.sought) c.args.steps.now.least level.All c.spread.new.found.items
+    (states_of (map (λ k. k.now) c.in_ok-left.left.items))
+    c.in_ok-left.ensures.search c.in_ok-left.ensures.done)
 
 pub returns-in_ok-spread-in-AllBut : goal.returns-in_ok-spread-in-AllBut
 returns-in_ok-spread-in-AllBut c =
     subst (λ l. AreFound (steps_of c.args.steps.now c.args.sought) l c.spread-in-AllBut.new.found.items) (sym c.in-AllBut.is)
-    (all-found (steps_of c.args.steps.now c.args.sought) level.AllBut c.spread-in-AllBut.new.found.items
+    (all-found (steps_of c.args.steps.now c.args.sought) c.args.steps.now.least level.AllBut c.spread-in-AllBut.new.found.items
     (states_of (map (λ k. k.now) c.in_ok-spread-in-AllBut.field-0.items))
     c.in_ok-spread-in-AllBut.ensures.search c.in_ok-spread-in-AllBut.ensures.done)
 
 pub returns-in_ok-spread-in_default : goal.returns-in_ok-spread-in_default
 returns-in_ok-spread-in_default c =
     subst (λ l. AreFound (steps_of c.args.steps.now c.args.sought) l c.spread-in_default-2.new.found.items)
-    (sym (listed-alone c.args.least c.requires.least c.in_default.not-All c.in_default.not-AllBut))
-    (all-found (steps_of c.args.steps.now c.args.sought) level.Listed c.spread-in_default-2.new.found.items
+    (sym (listed-alone c.args.steps.now.least c.args.steps.now.listed c.in_default.not-All c.in_default.not-AllBut))
+    (all-found (steps_of c.args.steps.now c.args.sought) c.args.steps.now.least level.Listed c.spread-in_default-2.new.found.items
     (states_of (map (λ k. k.now) c.in_ok-spread-in_default.field-0.items))
     c.in_ok-spread-in_default.ensures.search c.in_ok-spread-in_default.ensures.done)

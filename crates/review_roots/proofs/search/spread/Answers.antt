@@ -2,9 +2,9 @@ use Rattle.std.proofs.Common.{◌≡◌, ◌<◌, ◌∙◌, Bor, List, Some, ap
 use Rattle.std.specs.Prelude.{All, slice_get}
 use Rattle.std.proofs.lemmas.List.{length-map}
 use Rattle.review_roots.specs.declared.candidate.Candidate.{Candidate}
-use Rattle.review_roots.specs.Body.Candidates.{IsCandidate}
+use Rattle.review_roots.specs.Body.Candidates.{states_of}
 use Rattle.review_roots.specs.Sought.{steps_of}
-use Rattle.review_roots.specs.Body.Found.{IsDrawn, IsSearch, states_of}
+use Rattle.review_roots.specs.Body.Found.{IsCandidate, IsDrawn, IsSearch}
 use Rattle.review_roots.proofs.DrawLemmas.{spread-search, spread-drawn, spread-candidates, spread-length}
 use Rattle.review_roots.proofs.LoopLemmas.{there}
 use Rattle.review_roots.proofs.SearchLemmas.{none-left}
@@ -17,13 +17,13 @@ loop-index-preserved c =
     let n = c.loop-index.index in
     let t = c.index.result.now in
     let found = c.loop-index.found.items in
-    let new = c.draw.new.found.items in
+    let new = c.draw_to.new.found.items in
     let cs : List Candidate = map (λ c. c.now) c.deref.result.now in
     let kept : List Candidate = map (λ c. c.now) c.in_ok-left.left.items in
     let less : n < length found = omega (arith, c.loop-index-test.true, c.len.ensures) in
     let at : slice_get found n ≡ Some t = there found n t less ∙ ap Some (sym c.index.ensures) in
     let same = sym c.deref.ensures.value in
-    let search = subst (λ (xs : List (Bor Candidate)). IsSearch g c.args.level found (states_of (map (λ c. c.now) xs))) same
+    let search = subst (λ (xs : List (Bor Candidate)). IsSearch g h.least c.args.level found (states_of (map (λ c. c.now) xs))) same
     c.loop-index.invariant.search in
     let drawn = subst (λ (xs : List (Bor Candidate)). IsDrawn g c.args.level n found (states_of (map (λ c. c.now) xs))) same
     c.loop-index.invariant.drawn in
@@ -48,7 +48,7 @@ loop-index-smaller c =
     let kept : List Candidate = map (λ c. c.now) c.in_ok-left.left.items in
     let less : n < length found = omega (arith, c.loop-index-test.true, c.len.ensures) in
     let at : slice_get found n ≡ Some t = there found n t less ∙ ap Some (sym c.index.ensures) in
-    let sum = spread-length h c.args.sought c.args.level n t found c.draw.new.found.items cs kept at c.in_ok-left.ensures.found
+    let sum = spread-length h c.args.sought c.args.level n t found c.draw_to.new.found.items cs kept at c.in_ok-left.ensures.found
     c.in_ok-left.ensures.kept in
     let k : length kept ≡ length c.in_ok-left.left.items = length-map c.in_ok-left.left.items (λ c. c.now) in
     let l : length cs ≡ length c.deref.result.now = length-map c.deref.result.now (λ c. c.now) in
@@ -57,6 +57,6 @@ loop-index-smaller c =
 
 pub returns-clause-done : goal.returns-clause-done
 returns-clause-done c =
-    none-left (steps_of c.args.steps.now c.args.sought) c.args.level c.loop-index.found.items
+    none-left (steps_of c.args.steps.now c.args.sought) c.args.steps.now.least c.args.level c.loop-index.found.items
     (states_of (map (λ c. c.now) c.loop-index.left.items))
     c.loop-index.invariant.search c.loop-index.index (omega (arith, c.loop-index-test.false, c.len.ensures)) c.loop-index.invariant.drawn

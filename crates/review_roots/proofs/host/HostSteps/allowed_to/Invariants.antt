@@ -1,7 +1,0 @@
-use Rattle.std.proofs.Common.{◌≡◌, map, option_copied, take}
-use Rattle.review_roots.specs.Body.Towards.{block_allows}
-use Rattle.review_roots.proofs.host.HostSteps.allowed_to.Given as goal
-
-abbrev pub invariant-loop-block : goal.invariant-loop-block
-invariant-loop-block l = l.allowed.items
-    ≡ map (block_allows l.self l.user l.target (option_copied l.group)) (take l.block-index l.self.blocks.items)

@@ -1,0 +1,20 @@
+//! What is known on all hosts.
+ghost use Rattle.std.specs.Prelude.{IsTrue};
+ghost use Rattle.std.specs.List.{list_all};
+ghost use Rattle.review_roots.specs.Blocks.{block_resolves};
+
+use crate::Level;
+use crate::block::Block;
+use sudo_match::{Directory, Group};
+use sudo_policy::Checked;
+
+/// The policy, the known users, the groups that may be added, the least level of a chain, and the rows in blocks.
+#[derive(Clone, Copy)]
+pub(crate) struct Ground<'g, 'a> {
+    pub(crate) checked: &'a Checked,
+    pub(crate) directory: &'a Directory,
+    pub(crate) groups: &'a [Group],
+    pub(crate) least: Level,
+    pub(crate) blocks: &'g [Block<'a>],
+    ghost resolve: { IsTrue (list_all (block_resolves checked.now) blocks.now) },
+}

@@ -1,0 +1,128 @@
+//! The rows of a policy, with the users that may take steps, on all hosts.
+ghost use Rattle.std.specs.Prelude.{◌≡◌, ◌++◌, ◌∷◌, [], List, IfOk, IsTrue, OnOk, length};
+ghost use Rattle.std.specs.List.{list_all};
+ghost use Rattle.review_roots.specs.Blocks.{AreBlocks, block_resolves};
+ghost use Rattle.review_roots.specs.Body.Candidates.{AreCandidates};
+ghost use Rattle.review_roots.specs.Ranks.{is_at_least};
+ghost use Rattle.review_roots.specs.States.{all_states};
+ghost use Rattle.review_roots.specs.declared.level.Level.TheVariants as level;
+ghost use Rattle.review_roots.specs.declared.state.State.{State as TheState};
+
+use crate::Level;
+use crate::block::{Block, blocks_of};
+use crate::candidate::{Candidate, hopeful};
+use crate::ground::Ground;
+use crate::state::{State, all_states};
+use std::alloc::{AllocError, Global};
+use sudo_match::{Directory, Group};
+use sudo_policy::Checked;
+
+/// What the steps of users depend on, on all hosts: the policy, the known users, and the groups that may be added (all known
+/// ones, or, for less work, those that user lists name: [`crate::known_groups`], [`crate::named_groups`]); and the least level
+/// of the chains that are sought.
+#[derive(Drop)]
+pub struct Rules<'a> {
+    /// The policy.
+    pub checked: &'a Checked,
+    /// The known users.
+    pub directory: &'a Directory,
+    /// The groups that may be added.
+    pub groups: &'a [Group],
+    /// The least level of a chain.
+    pub least: Level,
+    pub(crate) blocks: Vec<Block<'a>>,
+    pub(crate) candidates: Vec<Candidate>,
+    // For each user, the index of its candidate without an added group, if any.
+    pub(crate) places: Vec<Option<usize>>,
+    ghost listed: { IsTrue (is_at_least level.Listed least) },
+    ghost tied: { AreBlocks checked.now blocks.items },
+    ghost resolve: { IsTrue (list_all (block_resolves checked.now) blocks.items) },
+    ghost covered: { AreCandidates checked.now directory.now groups.now least blocks.items
+        (all_states (length directory.now.people) (length groups.now)) candidates.items },
+}
+
+// The candidates of the states so far, and for each user the index of its candidate without an added group, if any.
+#[derive(Drop)]
+struct Gathered {
+    candidates: Vec<Candidate>,
+    places: Vec<Option<usize>>,
+}
+
+// Appends the candidate of a state, if it may take a step.
+fn gather_state(
+    alloc: Global,
+    ground: Ground<'_, '_>,
+    state: State,
+    gathered: &mut Gathered,
+) -> Result<(), AllocError>
+    ensures { OnOk result ((before : List TheState) → AreCandidates ground.entry.checked.now
+        ground.entry.directory.now ground.entry.groups.now ground.entry.least
+        ground.entry.blocks.now before gathered.old.candidates.items
+        → AreCandidates ground.entry.checked.now ground.entry.directory.now
+        ground.entry.groups.now ground.entry.least ground.entry.blocks.now
+        (before ++ state ∷ []) gathered.new.candidates.items) }
+{
+    match hopeful(alloc, ground, state)? {
+        Some(candidate) => {
+            gathered.places.push(Some(gathered.candidates.len()))?;
+            gathered.candidates.push(candidate)?;
+        }
+        None => gathered.places.push(None)?,
+    }
+    Ok(())
+}
+
+// Returns the candidates of all states.
+fn gather(alloc: Global, ground: Ground<'_, '_>) -> Result<Gathered, AllocError>
+    ensures { IfOk result (λ gathered. AreCandidates ground.entry.checked.now
+        ground.entry.directory.now ground.entry.groups.now ground.entry.least
+        ground.entry.blocks.now (all_states (length ground.entry.directory.now.people)
+        (length ground.entry.groups.now)) gathered.candidates.items) }
+{
+    let users = ground.directory.people().len();
+    let mut gathered = Gathered {
+        candidates: Vec::new(alloc),
+        places: Vec::new(alloc),
+    };
+    for state in &all_states(alloc, users, ground.groups.len())? {
+        gather_state(alloc, ground, *state, &mut gathered)?;
+    }
+    Ok(gathered)
+}
+
+impl<'a> Rules<'a> {
+    /// Returns what the steps depend on, for chains of the least level or a better one. Returns `AllocError` if allocation
+    /// fails.
+    pub fn new(
+        alloc: Global,
+        checked: &'a Checked,
+        directory: &'a Directory,
+        groups: &'a [Group],
+        least: Level,
+    ) -> Result<Rules<'a>, AllocError>
+        requires { IsTrue (is_at_least level.Listed least) }
+        ensures checked { IfOk result (λ rules. rules.checked.now ≡ checked.now) }
+        ensures directory { IfOk result (λ rules. rules.directory.now ≡ directory.now) }
+        ensures groups { IfOk result (λ rules. rules.groups.now ≡ groups.now) }
+        ensures least { IfOk result (λ rules. rules.least ≡ least) }
+    {
+        let blocks = blocks_of(alloc, checked)?;
+        let ground = Ground {
+            checked,
+            directory,
+            groups,
+            least,
+            blocks: blocks.as_slice(),
+        };
+        let Gathered { candidates, places } = gather(alloc, ground)?;
+        Ok(Rules {
+            checked,
+            directory,
+            groups,
+            least,
+            blocks,
+            candidates,
+            places,
+        })
+    }
+}

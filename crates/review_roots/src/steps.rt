@@ -1,0 +1,317 @@
+//! What the steps of users on one host give.
+ghost use Rattle.std.specs.Prelude.{◌≡◌, ◌&&◌, Bool, IfOk, None, Some, false, true, flat_map, option_copied, slice_get};
+ghost use Rattle.std.specs.Borrow.{Bor};
+ghost use Rattle.std.specs.List.{list_any, slice_index_or};
+ghost use Rattle.sudo_verdict.specs.Questions.{question_as};
+ghost use Rattle.sudo_verdict.specs.RunasForms.{runas_allows};
+ghost use Rattle.review_roots.specs.Asked.{given_alone, given_asked, given_towards, nothing};
+ghost use Rattle.review_roots.specs.Blocks.{with_rows};
+ghost use Rattle.review_roots.specs.Body.Candidates as spec;
+ghost use Rattle.review_roots.specs.Body.Found.{IsCandidate};
+ghost use Rattle.review_roots.specs.Body.Towards.{IsToward};
+ghost use Rattle.review_roots.specs.Ranks.{is_at_least};
+ghost use Rattle.review_roots.specs.States.{level_for, person_of, step_given};
+ghost use Rattle.review_roots.specs.declared.candidate.Candidate.{Candidate as TheCandidate};
+ghost use Rattle.review_roots.specs.declared.level.Level.{Level as TheLevel};
+
+use crate::candidate::{Candidate, candidate_at, is_same_user};
+use crate::given::{Given, NOTHING};
+use crate::ground::Ground;
+use crate::host::HostSteps;
+use crate::state::{State, group_at};
+use crate::toward::{Toward, toward_at};
+use std::alloc::{AllocError, Global};
+use sudo_match::{Group, Person};
+use sudo_verdict::{Asker, allows_runas};
+
+// Whether the list has true at the index.
+fn is_at(list: &[bool], index: usize) -> bool
+    ensures { result ≡ slice_index_or list.now index false }
+{
+    match list.get(index) {
+        Some(stands) => *stands,
+        None => false,
+    }
+}
+
+// Whether both lists have true at the index.
+fn both_at(one: &[bool], other: &[bool], index: usize) -> bool
+    ensures { result ≡ spec.both_at one.now other.now index }
+{
+    is_at(one, index) && is_at(other, index)
+}
+
+impl<'r, 'a> HostSteps<'r, 'a> {
+    /// Returns the candidate of a state, if it is known and has no added group.
+    pub(crate) fn known(&self, state: State) -> Option<&'r Candidate>
+        ensures { (c : Bor TheCandidate) → result ≡ Some c
+            → (c.now.state ≡ state) × IsCandidate self.now c.now }
+    {
+        if state.added.is_some() {
+            return None;
+        }
+        let place = (*self.places.get(state.user)?)?;
+        let candidate = self.candidates.get(place)?;
+        if candidate.state.user == state.user && candidate.state.added.is_none() {
+            Some(candidate)
+        } else {
+            None
+        }
+    }
+
+    /// Returns what the steps to a state depend on. Returns `AllocError` if allocation fails.
+    pub(crate) fn toward(&self, alloc: Global, state: State) -> Result<Toward, AllocError>
+        ensures { IfOk result (λ toward. IsToward self.now.checked.now self.now.directory.now
+            self.now.groups.now self.now.blocks.now state toward) }
+    {
+        let ground = Ground {
+            checked: self.checked,
+            directory: self.directory,
+            groups: self.groups,
+            least: self.least,
+            blocks: self.blocks,
+        };
+        toward_at(alloc, ground, state)
+    }
+
+    // Returns the candidate of a state, or `None` if its user is unknown.
+    fn candidate(&self, alloc: Global, state: State) -> Result<Option<Candidate>, AllocError>
+        ensures known { IfOk result (λ found. (c : TheCandidate) → found ≡ Some c
+            → (c.state ≡ state) × IsCandidate self.now c) }
+        ensures unknown { IfOk result (λ found. found ≡ None
+            → person_of self.now.directory.now self.now.groups.now state ≡ None) }
+    {
+        let ground = Ground {
+            checked: self.checked,
+            directory: self.directory,
+            groups: self.groups,
+            least: self.least,
+            blocks: self.blocks,
+        };
+        candidate_at(alloc, ground, state)
+    }
+
+    // Returns the known user of a state, without its added group.
+    fn user_at(&self, state: State) -> Option<&'a Person>
+        ensures { option_copied result ≡ slice_get self.now.directory.now.people state.user }
+    {
+        self.directory.people().get(state.user)
+    }
+
+    // Whether a block on the host that raises lists the candidate.
+    fn is_raised(&self, candidate: &Candidate) -> bool
+        ensures { result ≡ list_any (λ i. slice_index_or self.now.on.items i false)
+            candidate.now.strong.items }
+    {
+        candidate.strong.iter().any(|index| is_at(&self.on, *index))
+    }
+
+    /// Whether a block on the host that raises lists the candidate, which is not the target.
+    pub(crate) fn is_heard(&self, target: usize, candidate: &Candidate) -> bool
+        ensures { result ≡ spec.is_heard self.now.on.items target candidate.now }
+    {
+        if candidate.state.user == target {
+            false
+        } else {
+            self.is_raised(candidate)
+        }
+    }
+
+    // Returns what is given with the rows of the block at an index, if it is for the host and its runas allows the question.
+    fn with_asked(&self, given: Given, asker: Asker<'_>, index: usize) -> Given
+        ensures { result ≡ with_rows given (spec.part_at (λ i b. slice_index_or
+            self.now.on.items i false && runas_allows self.now.checked.now (question_as
+            self.now.directory.now asker.entry.user.now asker.entry.host.now
+            (option_copied asker.entry.target) (option_copied asker.entry.group))
+            (option_copied b.runas)) self.now.blocks.now index) }
+    {
+        match self.blocks.get(index) {
+            Some(block) => {
+                if is_at(&self.on, index)
+                    && allows_runas(self.checked, self.directory, asker, block.runas)
+                {
+                    given.with_block(block)
+                } else {
+                    given
+                }
+            }
+            None => given,
+        }
+    }
+
+    // Returns what the rows give the user that asks for a target by name, if any, and for a group, if any.
+    fn asked(
+        &self,
+        candidate: &Candidate,
+        target: Option<&Person>,
+        group: Option<&Group>,
+    ) -> Given
+        requires { IsCandidate self.now candidate.now }
+        ensures { result ≡ given_asked self.now.checked.now self.now.directory.now
+            candidate.now.person self.now.host.now (option_copied target.entry)
+            (option_copied group.entry) }
+    {
+        let asker = Asker {
+            user: &candidate.person,
+            host: self.host,
+            target,
+            group,
+        };
+        let mut given = NOTHING;
+        for index in &candidate.listed {
+            given = self.with_asked(given, asker, *index);
+        }
+        given
+    }
+
+    // Returns what the user is given who asks for a group alone, if the target is the user itself.
+    fn alone(&self, candidate: &Candidate, target: &Person, group: Option<&Group>) -> Given
+        requires { IsCandidate self.now candidate.now }
+        ensures { result ≡ given_alone self.now.checked.now self.now.directory.now
+            self.now.host.now candidate.now.person target.now
+            (option_copied group.entry) }
+    {
+        if is_same_user(target, &candidate.person) && group.is_some() {
+            self.asked(candidate, None, group)
+        } else {
+            NOTHING
+        }
+    }
+
+    // Returns what the user is given on the way to a target with a group, if any.
+    fn towards(&self, candidate: &Candidate, target: &Person, group: Option<&Group>) -> Given
+        requires { IsCandidate self.now candidate.now }
+        ensures { result ≡ given_towards self.now.checked.now self.now.directory.now
+            self.now.host.now candidate.now.person target.now
+            (option_copied group.entry) }
+    {
+        let by_name = self.asked(candidate, Some(target), group);
+        by_name.better(self.alone(candidate, target, group))
+    }
+
+    // Returns what is given with the rows of the block at an index, if it stands.
+    fn with_block_if(&self, given: Given, index: usize, stands: bool) -> Given
+        ensures { result ≡ with_rows given (spec.part_at (λ i b. stands) self.now.blocks.now
+            index) }
+    {
+        match self.blocks.get(index) {
+            Some(block) => {
+                if stands {
+                    given.with_block(block)
+                } else {
+                    given
+                }
+            }
+            None => given,
+        }
+    }
+
+    // Returns what the rows of the blocks for the host give that list the user and allow the target.
+    fn chosen(&self, candidate: &Candidate, toward: &Toward) -> Given
+        ensures { result ≡ with_rows nothing (flat_map (spec.part_at (λ i b. spec.both_at
+            self.now.on.items toward.now.allowed.items i) self.now.blocks.now)
+            candidate.now.listed.items) }
+    {
+        let mut given = NOTHING;
+        for index in &candidate.listed {
+            let stands = both_at(&self.on, &toward.allowed, *index);
+            given = self.with_block_if(given, *index, stands);
+        }
+        given
+    }
+
+    // Whether a block for the host that raises lists the user and allows the target.
+    fn may_reach(&self, candidate: &Candidate, toward: &Toward) -> bool
+        ensures { result ≡ list_any (spec.both_at self.now.on.items toward.now.allowed.items)
+            candidate.now.strong.items }
+    {
+        candidate
+            .strong
+            .iter()
+            .any(|index| both_at(&self.on, &toward.allowed, *index))
+    }
+
+    /// Returns what the step of a candidate to the state gives.
+    pub(crate) fn step_toward(&self, candidate: &Candidate, toward: &Toward) -> Given
+        requires candidate { IsCandidate self.now candidate.now }
+        requires toward { IsToward self.now.checked.now self.now.directory.now self.now.groups.now
+            self.now.blocks.now toward.now.state toward.now }
+        ensures { result ≡ step_given self.now.checked.now self.now.directory.now
+            self.now.host.now self.now.groups.now candidate.now.state toward.now.state }
+    {
+        match self.user_at(toward.state) {
+            Some(target) => {
+                if is_same_user(target, &candidate.person) {
+                    let group = group_at(self.groups, toward.state.added);
+                    self.towards(candidate, target, group)
+                } else {
+                    self.chosen(candidate, toward)
+                }
+            }
+            None => NOTHING,
+        }
+    }
+
+    /// Whether no block that raises stands for the step of a candidate to the state, where they are two users. Then the step
+    /// has not the least level.
+    pub(crate) fn is_barred(&self, candidate: &Candidate, toward: &Toward) -> bool
+        requires candidate { IsCandidate self.now candidate.now }
+        requires toward { IsToward self.now.checked.now self.now.directory.now self.now.groups.now
+            self.now.blocks.now toward.now.state toward.now }
+        ensures { result ≡ true → (free : Bool) (l : TheLevel)
+            → is_at_least self.now.least l ≡ true → is_at_least l (level_for free (step_given
+            self.now.checked.now self.now.directory.now self.now.host.now self.now.groups.now
+            candidate.now.state toward.now.state)) ≡ false }
+    {
+        match self.user_at(toward.state) {
+            Some(target) => {
+                if is_same_user(target, &candidate.person) {
+                    false
+                } else {
+                    !self.may_reach(candidate, toward)
+                }
+            }
+            None => false,
+        }
+    }
+
+    // Returns what the step of a candidate to a state gives, found by its runas.
+    fn step_asked(&self, candidate: &Candidate, to: State) -> Given
+        requires { IsCandidate self.now candidate.now }
+        ensures { result ≡ step_given self.now.checked.now self.now.directory.now
+            self.now.host.now self.now.groups.now candidate.now.state to }
+    {
+        match self.directory.people().get(to.user) {
+            Some(target) => self.towards(candidate, target, group_at(self.groups, to.added)),
+            None => NOTHING,
+        }
+    }
+
+    // Returns what the step of a candidate to a state gives.
+    fn step(&self, candidate: &Candidate, to: State) -> Given
+        requires { IsCandidate self.now candidate.now }
+        ensures { result ≡ step_given self.now.checked.now self.now.directory.now
+            self.now.host.now self.now.groups.now candidate.now.state to }
+    {
+        match self.known(to) {
+            Some(other) => self.step_toward(candidate, &other.toward),
+            None => self.step_asked(candidate, to),
+        }
+    }
+
+    /// Returns what the step from a state to another one gives: the level of what may be run as the user of the second,
+    /// with its added group, whatever the command. Returns `AllocError` if allocation fails.
+    pub fn between(&self, alloc: Global, from: State, to: State) -> Result<Given, AllocError>
+        ensures { IfOk result (λ given. given ≡ step_given self.now.checked.now
+            self.now.directory.now self.now.host.now self.now.groups.now from to) }
+    {
+        if let Some(known) = self.known(from) {
+            return Ok(self.step(known, to));
+        }
+        let found = self.candidate(alloc, from)?;
+        match found {
+            Some(candidate) => Ok(self.step(&candidate, to)),
+            None => Ok(NOTHING),
+        }
+    }
+}
