@@ -23,6 +23,9 @@ TRIED = re.compile(rb"^\tcmnd  (allowed|denied)\n\tgrant (.*):(\d+) ([-\d ]+)$",
 UNKNOWN = re.compile(rb"unknown (user|group) ")
 VERDICTS = {b"allowed": "allow", b"denied": "deny"}
 NO_MATCH = "nomatch"
+CONTINUED = re.compile(r"(?<!\\)(\\\\)*\\[ \t]*\r?$")
+# A comment that is alone on its line is never continued.
+COMMENT = re.compile(r"[ \t]*#(?!\d|include(dir)?[ \t])")
 
 
 class Answer(NamedTuple):
@@ -36,6 +39,13 @@ class Answer(NamedTuple):
         return " ".join(filter(None, self))
 
 
+class Said(NamedTuple):
+    """What the peer answers, and whether it reads the whole policy."""
+
+    answer: Answer
+    is_whole: bool
+
+
 class Case(NamedTuple):
     """A policy, the files that it may include, and a request. Without a request the policy itself is what is asked."""
 
@@ -47,12 +57,12 @@ class Case(NamedTuple):
 class Asker:
     """Asks of cases in a folder."""
 
-    def __init__(self, program: str, peer: Peer, folder: str) -> None:
+    def __init__(self, program: str, peer: Peer, folder: str, is_lower: bool = False) -> None:
         self.program = program
         self.peer = peer
         self.folder = folder
         self.written: tuple[str, ...] = ()
-        world.write(folder)
+        world.write(folder, is_lower)
 
     def _run(
         self, words: Sequence[str], given: bytes, environment: dict[str, str]
@@ -117,6 +127,11 @@ class Asker:
 
     def peer_verdict(self, case: Case, asked: Request) -> Answer | None:
         """Returns the peer's answer to a request, `None` if it does not read the whole policy."""
+        said = self.peer_answer(case, asked)
+        return said.answer if said.is_whole else None
+
+    def peer_answer(self, case: Case, asked: Request) -> "Said":
+        """Returns what the peer says to a request under the lines that it reads; those with faults it passes over."""
         words = [
             self.peer.testsudoers,
             "-U",
@@ -137,12 +152,14 @@ class Asker:
         if done.returncode < 0:
             raise _wrong(self.peer.testsudoers, done, self._text())
         unknown = UNKNOWN.search(done.stdout)
-        if PARSES not in done.stdout:
-            return Answer("unknown-" + ("target" if unknown[1] == b"user" else "group")) if unknown else None
+        is_whole = PARSES in done.stdout
+        if unknown and not is_whole:
+            return Said(Answer("unknown-" + ("target" if unknown[1] == b"user" else "group")), True)
         found = TRIED.search(done.stdout)
         if found is None:
-            return Answer(NO_MATCH)
-        return _answer(VERDICTS[found[1]], found[2].decode(ENCODING), int(found[3]), found[4].split(), case)
+            return Said(Answer(NO_MATCH), is_whole)
+        path, line, numbers = found[2].decode(ENCODING), int(found[3]), found[4].split()
+        return Said(_answer(VERDICTS[found[1]], path, line, numbers, case), is_whole)
 
 
 def _wrong(program: str, done: subprocess.CompletedProcess[bytes], text: bytes) -> Fault:
@@ -169,6 +186,6 @@ def _answer(verdict: str, path: str, line: int, numbers: list[bytes], case: Case
 def first_line(text: str, line: int) -> int:
     """Returns the first of the lines that backslashes join up to a line."""
     lines = text.split("\n")
-    while line > 1 and re.search(r"(?<!\\)(\\\\)*\\[ \t]*\r?$", lines[line - 2]):
+    while line > 1 and CONTINUED.search(lines[line - 2]) and not COMMENT.match(lines[line - 2]):
         line -= 1
     return line

@@ -1,7 +1,7 @@
 """How the construct of a row of docs/PROFILE.md is taken out of a policy: changes of one kind of piece alone."""
 
 import re
-from collections.abc import Callable, Iterator
+from collections.abc import Callable, Iterator, Sequence
 from typing import NamedTuple
 
 from differ.ask import Answer, Case
@@ -89,5 +89,26 @@ def in_turn(*changes: Change) -> Change:
     def changed(case: Case) -> Iterator[Case]:
         for change in changes:
             yield from change(case)
+
+    return changed
+
+
+def after(first: Change, change: Change) -> Change:
+    """Returns a change that is made of what another makes of a case."""
+
+    def changed(case: Case) -> Iterator[Case]:
+        for one in first(case):
+            yield from change(one)
+
+    return changed
+
+
+def together(changes: Sequence[Change]) -> Change:
+    """Returns the changes made one after the other, each in its last way."""
+
+    def changed(case: Case) -> Iterator[Case]:
+        for change in changes:
+            *_, case = case, *change(case)
+        yield case
 
     return changed

@@ -61,7 +61,7 @@ def _complements(piece: Piece) -> str:
     return re.sub(rf"{EVEN}\[\^", r"\1[\\!" if piece.role == "host" else r"\1[!", piece.text)
 
 
-def _with_runas(change: Callable[[str | None, str | None], str | None]) -> Callable[[str], str]:
+def with_runas(change: Callable[[str | None, str | None], str | None]) -> Callable[[str], str]:
     """Returns a change of what says whom to run as: of the users and the groups, both `None` where nothing is said."""
 
     def of_text(text: str) -> str:
@@ -91,24 +91,24 @@ def _group_beside_root(case: Case) -> Iterator[Case]:
     """Yields a case in which commands without a runas may have any group, if a user and a group are asked for."""
     asked = case.request
     if asked and asked.runas_user and asked.runas_group:
-        yield mapped(case, _with_runas(lambda users, groups: "root:ALL" if users is None else None))
+        yield mapped(case, with_runas(lambda users, groups: "root:ALL" if users is None else None))
 
 
 def _group_alone(case: Case) -> Iterator[Case]:
     """Yields a case in which any user is allowed where no groups are said, if the request is for a group alone."""
     asked = case.request
     if asked and asked.runas_group and not asked.runas_user:
-        yield mapped(case, _with_runas(lambda users, groups: "ALL" if groups is None and users != "" else None))
+        yield mapped(case, with_runas(lambda users, groups: "ALL" if groups is None and users != "" else None))
     elif asked and asked.runas_group and asked.runas_user == asked.user:
         own = spelled(asked.user)
-        yield mapped(case, _with_runas(lambda users, groups: f"{own}, {users}" if users and groups is None else None))
+        yield mapped(case, with_runas(lambda users, groups: f"{own}, {users}" if users and groups is None else None))
 
 
 def _denied_oneself(case: Case) -> Iterator[Case]:
     """Yields a case in which any user may be run as where groups are said, if a group alone is asked for."""
     asked = case.request
     if asked and asked.runas_group and not asked.runas_user:
-        yield mapped(case, _with_runas(lambda users, groups: f"ALL:{groups}" if users and groups is not None else None))
+        yield mapped(case, with_runas(lambda users, groups: f"ALL:{groups}" if users and groups is not None else None))
 
 
 def _groups_without_group(case: Case) -> Iterator[Case]:
@@ -116,7 +116,7 @@ def _groups_without_group(case: Case) -> Iterator[Case]:
     asked = case.request
     if asked and not asked.runas_group:
         yield mapped(
-            case, _with_runas(lambda users, groups: "!ALL" if users == "" and groups and groups.strip() else None)
+            case, with_runas(lambda users, groups: "!ALL" if users == "" and groups and groups.strip() else None)
         )
 
 
@@ -227,7 +227,7 @@ def _blank_before_parameters(case: Case) -> Iterator[Case]:
     yield mapped(case, of_text)
 
 
-def _parameters(name: str) -> Callable[[Case], Iterator[Case]]:
+def parameters(name: str) -> Callable[[Case], Iterator[Case]]:
     """Returns a change of each parameter of Defaults lines whose name a pattern fits to a known one without a value."""
     fits = re.compile(name, re.DOTALL)
 
@@ -262,7 +262,7 @@ def _users_of_groups(case: Case) -> Iterator[Case]:
     def without(users: str | None, groups: str | None) -> str | None:
         return f"{users}:" + re.sub(r'(?<![^\s,!"])%#?', "z", groups) if groups and "%" in groups else None
 
-    yield mapped(case, _with_runas(without))
+    yield mapped(case, with_runas(without))
 
 
 def _is_address(text: str) -> bool:
@@ -452,9 +452,9 @@ GRANTS = (
         ),
     ),
     Row("alice ALL = /opt/*", where(_asks_for(world.GONE), swapped("cmnd", "path", r".*[*?\[].*|.*/$", "/nowhere"))),
-    Row("Defaults runas_default=postgres", _parameters("runas_default")),
+    Row("Defaults runas_default=postgres", parameters("runas_default")),
     Row("Defaults fast_glob", replaced(r"fast_glob", "insults")),
-    Row("Defaults sudoers_locale=C.UTF-8", _parameters("sudoers_locale")),
+    Row("Defaults sudoers_locale=C.UTF-8", parameters("sudoers_locale")),
     Row("alice ALL = /bin/id", _group_beside_root),
     Row("(operator) /bin/id", _group_alone),
     Row("alice ALL = (!alice:adm) /bin/id", _denied_oneself),
@@ -531,7 +531,7 @@ FILES = (
     # Read here, refused by sudo.
     Row("alice ALL = /bin/ls", replaced(r"\r$", "")),
     Row("Defaults badpass_message=!x", swapped("parameter", "value", "[=!]", "z")),
-    Row("Defaults nonsense", _parameters("[a-z_]+")),
+    Row("Defaults nonsense", parameters("[a-z_]+")),
     Row("alice ALL = /bin/ls ^-l", replaced(r"(?<=[ \t])\^", "z")),
     Row("alice ALL = /", swapped("cmnd", "path", r"^/$", "/z/")),
     Row("alice ALL = ALL, ! ! /bin/ls", replaced(r"!(?:[ \t]+!)+", "!")),
@@ -555,7 +555,7 @@ FILES = (
     Row('Defaults:"bob"env_reset', _blank_before_parameters),
     Row('Defaults badpass_message=""', swapped("parameter", "quoted", '^""$', '"z"')),
     Row('"a\\\\" ALL = ALL', swapped("*", "quoted", r'(?:\\\\)+"$', 'z"')),
-    Row("Defaults web1", _parameters(".*[^a-z_].*")),
+    Row("Defaults web1", parameters(".*[^a-z_].*")),
     Row("alice ALL = (bob:) /bin/ls", replaced(r":[ \t]*\)", ")")),
     Row("alice ALL = (root : %adm) /bin/ls", _users_of_groups),
     Row("Cmnd_Alias CWD = /bin/ls", replaced(rf"\b({OPTIONS})\b", r"Z\1")),

@@ -107,7 +107,7 @@ class Search:
         """Counts a difference under the row that explains it, or keeps it."""
         if not both.differ():
             return
-        row, left = self._row(case), case
+        row, left = self.row(case), case
         if row is None:
             row, left = self._peeled(case, both)
         if row is None:
@@ -119,7 +119,7 @@ class Search:
             case = self.small(case, both, row)
             self.examples[row.cell] = Difference(seed, case, self.asked(case))
 
-    def _row(self, case: Case) -> Row | None:
+    def row(self, case: Case) -> Row | None:
         """Returns the row that explains the difference of a case."""
         return self._single(case) or self._after_others(case)
 
@@ -131,7 +131,7 @@ class Search:
         out: list[Row] = []
         for _ in range(MOST_PEELED):
             small = self.small(case, both)
-            row = self._row(small)
+            row = self.row(small)
             if row is None:
                 return None, small
             out.append(row)
@@ -217,11 +217,15 @@ def alike(answer: Answer) -> Answer:
     return Answer("unknown") if answer.verdict.startswith("unknown-") else answer
 
 
+def memory() -> str | None:
+    """Returns a folder in memory for the folders of cases, if there is one."""
+    # Each case writes files anew; on a disk that is most of the time.
+    return MEMORY if os.access(MEMORY, os.W_OK) and "TMPDIR" not in os.environ else None
+
+
 def task(program: str, peer: Peer, show: bool, seed: str, policies: bool) -> Found:
     """Compares a number of verdicts or of files. What one of both refuses counts as a file."""
-    # Each case writes files anew; on a disk that is most of the time.
-    memory = MEMORY if os.access(MEMORY, os.W_OK) and "TMPDIR" not in os.environ else None
-    with tempfile.TemporaryDirectory(prefix="differential-", dir=memory) as folder:
+    with tempfile.TemporaryDirectory(prefix="differential-", dir=memory()) as folder:
         search = Search(Asker(program, peer, folder), show)
         numbers = itertools.count()
         while policies and search.verdicts < VERDICTS_A_TASK:

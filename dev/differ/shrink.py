@@ -7,13 +7,25 @@ from differ.ask import Case
 
 MOST_TRIES = 1500
 CUTS = (r".*\n|.+", r"\\?\s+|\w+|.", r".|\n")
+# Entries, members with the comma behind or before them, the runas and the tags of commands, and entries that no other uses now.
+ENTRY = r"(?:[^\n]*\\[ \t]*\r?\n)*[^\n]*\n|.+"
+ENTRIES_AND_MEMBERS = (
+    ENTRY,
+    r"[^,]*,\s*|[^,]+",
+    r"[^,\s:=()!]+,\s*|[^,\s:=()!]+|[,\s:=()!]+",
+    r",\s*[^,\s:=()]+|,|[^,]+",
+    r",[^,\n:=()]*|[^,]+",
+    r"\([^()\n]*\)[ \t]*|[A-Z_]+[ \t]*:[ \t]*|[^(A-Z]+|.",
+    ENTRY,
+)
 
 
 class Shrinker:
     """Makes a case smaller as long as it still differs, in a bounded number of tries."""
 
-    def __init__(self, differs: Callable[[Case], bool]) -> None:
+    def __init__(self, differs: Callable[[Case], bool], cuts: Sequence[str] = CUTS) -> None:
         self.differs = differs
+        self.cuts = cuts
         self.left = MOST_TRIES
 
     def _still(self, case: Case) -> bool:
@@ -25,9 +37,9 @@ class Shrinker:
         for number in reversed(range(len(case.files))):
             fewer = case._replace(files=case.files[:number] + case.files[number + 1 :])
             case = fewer if self._still(fewer) else case
-        for cut in CUTS:
+        for cut in self.cuts:
             case = self._shorter(case, cut)
-        return self._asking_less(self._shorter(case, CUTS[-1]))
+        return self._asking_less(self._shorter(case, self.cuts[-1]))
 
     def _asking_less(self, case: Case) -> Case:
         """Returns a case with less in its request."""

@@ -97,25 +97,37 @@ COMMANDS = tuple(f"{TOP}/{name}" for name in FILES)
 GONE = f"{TOP}/b/gone"
 
 
-def write(folder: str) -> None:
-    """Writes all but the policy and the requests into a folder."""
+def lower(name: str) -> str:
+    """Returns a name with its ASCII letters in lower case."""
+    return name.encode(ENCODING).lower().decode(ENCODING)
+
+
+def users(is_lower: bool) -> list[User]:
+    """Returns the users, with all names in lower case if that is wanted."""
+    if not is_lower:
+        return list(USERS_KNOWN)
+    return [User(lower(name), number, tuple(map(lower, groups))) for name, number, groups in USERS_KNOWN]
+
+
+def write(folder: str, is_lower: bool = False) -> None:
+    """Writes all but the policy and the requests into a folder, with all names of users in lower case if that is wanted."""
+    known = users(is_lower)
+    numbers = {lower(group) if is_lower else group: number for group, number in GROUP_NUMBERS.items()}
     for name in FILES:
         path = os.path.join(folder, name).encode(ENCODING)
         os.makedirs(os.path.dirname(path), exist_ok=True)
         with open(path, "wb"):
             pass
-    members: dict[str, list[str]] = {group: [] for group in GROUP_NUMBERS}
-    for user in USERS_KNOWN:
+    members: dict[str, list[str]] = {group: [] for group in numbers}
+    for user in known:
         for group in user.groups[1:]:
             members[group].append(user.name)
-    rows = [
-        (user.name, str(user.number), str(GROUP_NUMBERS[group]), group) for user in USERS_KNOWN for group in user.groups
-    ]
+    rows = [(user.name, str(user.number), str(numbers[group]), group) for user in known for group in user.groups]
     _write(folder, USERS, [row(fields) for fields in [("user", "uid", "gid", "group"), *rows]])
     _write(folder, HOSTS, [row(fields) for fields in [("host", "interfaces"), *(host[:2] for host in HOSTS_KNOWN)]])
-    passwd = [f"{user.name}:x:{user.number}:{GROUP_NUMBERS[user.groups[0]]}::/:/bin/sh\n" for user in USERS_KNOWN]
+    passwd = [f"{user.name}:x:{user.number}:{numbers[user.groups[0]]}::/:/bin/sh\n" for user in known]
     _write(folder, PASSWD, passwd)
-    _write(folder, GROUP, [f"{group}:x:{GROUP_NUMBERS[group]}:{','.join(names)}\n" for group, names in members.items()])
+    _write(folder, GROUP, [f"{group}:x:{numbers[group]}:{','.join(names)}\n" for group, names in members.items()])
 
 
 def write_requests(folder: str, requests: list[Request]) -> None:
@@ -132,3 +144,8 @@ def _write(folder: str, name: str, lines: list[str]) -> None:
 def addresses_of(name: str) -> str:
     """Returns the addresses of a host, as the peer reads them."""
     return next(host.addresses for host in HOSTS_KNOWN if host.name == name)
+
+
+def interfaces_of(name: str) -> str:
+    """Returns the interfaces of a host, as the hosts file has them."""
+    return next(host.interfaces for host in HOSTS_KNOWN if host.name == name)
