@@ -42,12 +42,12 @@ class Foreigners:
 
     def of(self, host: str, job: Job) -> Iterator[Foreign]:
         """Yields what a shard of a host has, by sender and named host."""
-        own = _listed(job.files[HOSTS]) if HOSTS in job.files else self._called(folded(host))
+        own = _listed(job.files[HOSTS]) if HOSTS in job.files else self.called(folded(host))
         for (sender, named), (count, first) in _named(job, own).items():
             if folded(named) not in own:
                 yield Foreign(host, sender, named, count, first)
 
-    def _called(self, short: bytes) -> frozenset[bytes]:
+    def called(self, short: bytes) -> frozenset[bytes]:
         """Returns the shared names that are a short one, with or without a domain."""
         # What follows `web1.` in any name sorts before `web1/`.
         ends = (short, short + b"\0", short + b".", short + b"/")

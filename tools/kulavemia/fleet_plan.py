@@ -13,7 +13,7 @@ from kulavemia.command import Fault, line_of
 from kulavemia.fleet_handed import CODE, PACKAGE, PROGRAM_FILE, Handed, packed
 from kulavemia.fleet_work import HOSTS, REQUESTS, ROOT, TREE, USERS, Job
 from kulavemia.sums import digest_of
-from kulavemia.tree import POLICY, files_of_tree, main_of
+from kulavemia.tree import POLICY, Tree, files_of_tree, main_of, read_tree
 
 MAIN = "/etc/sudoers"
 SIZE_LIMIT = 64 << 20
@@ -44,6 +44,18 @@ class Host(NamedTuple):
     name: str
     shards: Sequence[Sequence[str]]
     fault: str = ""
+
+
+class ToReview(NamedTuple):
+    """What a review of a host reads: the main file of its policy, the policy, and the users and hosts files.
+
+    It has no hosts file where that is the fleet's own.
+    """
+
+    main: str
+    policy: Tree
+    users: bytes
+    hosts: bytes | None
 
 
 def shard_name(host: str, number: int) -> str:
@@ -123,12 +135,34 @@ class Fleet:
             own = {**policy, **{file.file: self._read(folder, file.file) for file in files}}
             yield self._job(shard_name(name, number), main, own, shared, [(file.sender, file.file) for file in files])
 
+    def to_review(self, name: str, root: str) -> ToReview:
+        """Returns what a review of a host reads, its policy's files as they read below a root folder.
+
+        Raises `Fault` or `OSError` where it has none.
+        """
+        _want_name(name)
+        folder = os.path.join(self.folder, name)
+        place, main = (folder, self._main_of(folder)) if self._exists(folder, TREE) else (self.folder, self.shared_main)
+        if not self._exists(place, TREE):
+            raise Fault(f"there is no {TREE}")
+        policy = read_tree(os.path.join(place, TREE), main, os.fsencode(root), self.folder)
+        tables = [self._read(folder, table) if self._exists(folder, table) else None for table in (USERS, HOSTS)]
+        users = tables[0] if tables[0] is not None else self.shared.get(USERS)
+        if users is None:
+            raise Fault(f"there is no {USERS}")
+        return ToReview(main, policy, users, tables[1])
+
+    def gathered(self, name: str) -> int:
+        """Returns when the users of a host were gathered, in nanoseconds: by its passwd, or by its users file; 0 if by none."""
+        folder = os.path.join(self.folder, name)
+        for path in (os.path.join(folder, file) for file in ("passwd", USERS)):
+            if foreign.exists(path, self.folder):
+                return foreign.changed(path, self.folder)
+        return 0
+
     def _requests(self, name: str) -> list[Requests]:
         """Returns the requests files of a host, by sender and part."""
-        if len(os.fsencode(name)) > NAME_LIMIT:
-            raise Fault(f"a folder's name is at most {NAME_LIMIT} bytes long")
-        if not name.isprintable():
-            raise Fault("the folder's name has characters that are not printable")
+        _want_name(name)
         found = []
         for entry in foreign.entries(os.path.join(self.folder, name, REQUESTS), self.folder):
             match = _REQUESTS_FILE.fullmatch(entry.name)
@@ -196,6 +230,14 @@ class Fleet:
             threads=self.asked.threads,
             limit=self.asked.limit,
         )
+
+
+def _want_name(name: str) -> None:
+    """Raises `Fault` if a folder's name is too long, or cannot be shown."""
+    if len(os.fsencode(name)) > NAME_LIMIT:
+        raise Fault(f"a folder's name is at most {NAME_LIMIT} bytes long")
+    if not name.isprintable():
+        raise Fault("the folder's name has characters that are not printable")
 
 
 def travelling(job: Job) -> Job:

@@ -150,6 +150,12 @@ def kind_of(path: str | bytes, below: str | bytes | None = None) -> str | None:
         raise
 
 
+def changed(path: str | bytes, below: str | bytes | None = None) -> int:
+    """Returns when what has a name was changed last, in nanoseconds."""
+    with _at(os.fsdecode(path), below) as (folder, name):
+        return os.stat(name, dir_fd=folder, follow_symlinks=folder is None).st_mtime_ns
+
+
 def exists(path: str | bytes, below: str | bytes | None = None) -> bool:
     """Returns whether something has a name."""
     return kind_of(path, below) is not None

@@ -17,6 +17,10 @@ OTHER = "other"
 UNREAD = "unread"
 FORGED = "forged"
 
+SUDOEDIT = "sudoedit"
+# The notes of a request that may have been one to edit files, and of the one to edit that follows it.
+MAY_BE_EDIT = "may be sudoedit"
+AS_EDIT = "the request before as sudoedit"
 ASKED_TO_LIST = ("list", "validate", "kill")
 EDITORS = frozenset(
     "ed editor emacs emacsclient joe jed mcedit mg micro nano ne nvim pico rnano rvim sensible-editor vi vim vim.basic "
@@ -33,6 +37,8 @@ _BARE = r"(?:[^ '\\]|\\['\\])*"
 _ARGUMENT = re.compile(f"{_QUOTED}|{_BARE}")
 _ARGUMENTS = re.compile(f"(?:{_QUOTED}|{_BARE})(?: (?:{_QUOTED}|{_BARE}))*")
 _ESCAPE = re.compile(r"\\(['\\])")
+# What stands between an editor with its options and the files to edit.
+_FILES = re.compile(r"(?:^| )-- (?=.)", re.DOTALL)
 
 
 class Event(NamedTuple):
@@ -166,8 +172,18 @@ def with_editor(event: Event, editors: frozenset[str]) -> Event:
     request = event.request
     if not request.arguments.startswith("-- ") or request.command.rpartition("/")[2] not in editors:
         return event
-    edit = request._replace(command="sudoedit", arguments=request.arguments[3:])
+    edit = request._replace(command=SUDOEDIT, arguments=request.arguments[3:])
     return noted(event._replace(request=edit), f"logged as {request.command} --")
+
+
+def may_be_edit(event: Event) -> Event | None:
+    """Returns an accepted request as the `sudoedit` that sudo 1.9 would log so, by any editor; `None` if it cannot be one."""
+    request = event.request
+    found = _FILES.search(request.arguments) if request.command != SUDOEDIT else None
+    if found is None or event.outcome != ACCEPTED:
+        return None
+    edit = request._replace(command=SUDOEDIT, arguments=request.arguments[found.end() :])
+    return noted(event._replace(request=edit), AS_EDIT)
 
 
 _KINDS = {"accept": ACCEPTED, "reject": REFUSED, "alert": FAILED}
@@ -212,10 +228,21 @@ def event_of_json(kind: str, body: Pairs, host: str) -> tuple[str, Event | Skipp
     notes = []
     if _text(fields, "runchroot"):
         notes.append("root folder changed")
-    if command.partition(" ")[0] in ("sudoedit", *ASKED_TO_LIST):
+    if command.partition(" ")[0] in (SUDOEDIT, *ASKED_TO_LIST):
         path, _, rest = command.partition(" ")
         request = request._replace(command=path, arguments=rest or request.arguments)
+    elif "--" in words[1:-1] and _is_edit(fields):
+        request = request._replace(command=SUDOEDIT, arguments=" ".join(words[words.index("--", 1) + 1 :]))
+        notes.append(f"logged as {command} --")
     return time, Event(request, outcome, reason, ", ".join(notes))
+
+
+def _is_edit(fields: Mapping[str, Any]) -> bool:
+    """Returns whether an editor got the environment of the user, and not that of a command of sudo."""
+    environment = fields.get("runenv")
+    if not isinstance(environment, list) or not environment:
+        return False
+    return not any(isinstance(word, str) and word.startswith("SUDO_COMMAND=") for word in environment)
 
 
 def _text(fields: Mapping[str, Any], name: str) -> str:

@@ -5,16 +5,25 @@ import hashlib
 import importlib.util
 import json
 import os
+import time
+from collections import Counter
 from collections.abc import Sequence
 from dataclasses import dataclass, field
 from typing import Any, NamedTuple
 
-from kulavemia import outputs
-from kulavemia.answers import answers
+from kulavemia import foreign, outputs, review, sentences
+from kulavemia.answers import ALLOW, DENY, answers
 from kulavemia.command import FAILED, Fault
 from kulavemia.compare import CHANGE_HEADER, CHANGES
+from kulavemia.directory import hosts_in, users_in
+from kulavemia.effects import Effect, effect_of, is_doubtful
+from kulavemia.evidence import Evidence, age, at, made_now
+from kulavemia.fleet_table import table_of
+from kulavemia.grants import Grant, Grants
+from kulavemia.numbering import Numbering
+from kulavemia.probes import Probes
 from kulavemia.requests import LOG_KEY, PROBE_KEY, sources_of
-from kulavemia.roots import LEVELS, Numbering, Roots
+from kulavemia.roots import LEVELS, NONE, UNSURE, Answer, Cell, Roots, Table
 from kulavemia.rules import Rule, Rules
 from kulavemia.shown import shown_records
 from kulavemia.text import visible
@@ -22,6 +31,17 @@ from kulavemia.uses import TEXT_LIMIT, Uses, texts_of
 
 TEMPLATES = os.path.join(os.path.dirname(__file__), "templates")
 REPORT = "report.csv"
+UNKNOWN = "unknown"
+# The verdicts in plain words.
+VERDICTS = {
+    "allow": "allowed",
+    "deny": "denied by a rule",
+    "nomatch": "allowed by no rule",
+    "unknown-user": "unknown user",
+    "unknown-host": "unknown host",
+    "unknown-target": "unknown target",
+    "unknown-group": "unknown group",
+}
 
 
 class Inputs(NamedTuple):
@@ -32,9 +52,13 @@ class Inputs(NamedTuple):
     root: str = ""
     old_policy: str = ""
     old_root: str = ""
+    review: str = ""
+    users: str = ""
+    hosts: str = ""
     probe: str = ""
     requests: str = ""
     changes: str = ""
+    fleet: str = ""
     rows: int = 1000
     facts: Sequence[tuple[str, str]] = ()
     collected: str = ""
@@ -70,27 +94,77 @@ class Changes:
         commands[f"{fields['command']} {fields['arguments']}".rstrip(" ")] = None
 
 
+class Caution(NamedTuple):
+    """A caution of the policy: its place, its class, the program's text, the line, and what it means here."""
+
+    place: str
+    kind: str
+    text: str
+    line: str
+    effect: Effect
+
+
+class Subject(NamedTuple):
+    """What the directory lacks, or what reaches nobody: a row of the program's table, with the line at its place."""
+
+    place: str
+    kind: str
+    name: str
+    what: str
+    line: str
+
+
+class Reached(NamedTuple):
+    """What users reach on some hosts: the answer, the cell, and the grants that it rests on."""
+
+    users: Sequence[str]
+    hosts: Sequence[str]
+    answer: Answer
+    cell: Cell
+    grants: Sequence[Grant]
+
+
 class Page:
     """The data that the template shows."""
 
-    def __init__(self, inputs: Inputs) -> None:
+    def __init__(self, inputs: Inputs, evidence: Evidence | None = None) -> None:
         self.inputs = inputs
+        self.evidence = evidence or Evidence(made_now())
         self.places: Numbering[str] = Numbering()
         self.rules = Rules(inputs.policy, inputs.root) if inputs.policy else None
         self.old_rules = Rules(inputs.old_policy, inputs.old_root) if inputs.old_policy else None
         if self.rules:
             for rule in self.rules.all():
                 self.places.of(rule.place)
-        self.roots = self._roots() if inputs.probe else None
+        self.cautions = self._cautions() if inputs.review else []
+        self.subjects = self._subjects() if inputs.review else []
+        self.fleet = table_of(inputs.fleet) if inputs.fleet else None
+        self.roots: Table | None = self.fleet.table if self.fleet else self._roots() if inputs.review else None
+        self.probes = self._probes() if inputs.probe else None
         self.uses = self._uses() if inputs.requests else None
         self.changes = self._changes() if inputs.changes else None
         self.log_texts = self._log_texts()
 
-    def _roots(self) -> Roots:
-        roots = Roots(self.places)
-        folder = self.inputs.probe
-        roots.take_all(answers(os.path.join(folder, REPORT), sources_of(folder), PROBE_KEY))
+    def _cautions(self) -> list[Caution]:
+        found = [review.Caution(*fields) for fields in review.rows_of(self.inputs.review, review.CAUTIONS)]
+        return [Caution(*caution, effect_of(caution)) for caution in found]
+
+    def _subjects(self) -> list[Subject]:
+        rows = review.rows_of(self.inputs.review, review.SUBJECTS)
+        return [Subject(place, kind, name, what, self.rule_text(place)) for place, kind, name, what in rows]
+
+    def _roots(self) -> Table:
+        users, hosts = list(users_in(self.inputs.users)), hosts_in(self.inputs.hosts)
+        grants = Grants(review.rows_of(self.inputs.review, review.GRANTS), users, hosts)
+        roots = Roots(users, hosts, grants, is_doubtful(caution.effect for caution in self.cautions))
+        roots.take_all(review.rows_of(self.inputs.review, review.ROOTS))
         return roots
+
+    def _probes(self) -> Probes:
+        probes = Probes(self.places)
+        folder = self.inputs.probe
+        probes.take_all(answers(os.path.join(folder, REPORT), sources_of(folder), PROBE_KEY))
+        return probes
 
     def _uses(self) -> Uses:
         uses = Uses()
@@ -137,16 +211,68 @@ class Page:
             return []
         return [rule for rule in self.rules.all() if rule.place not in self.uses.places]
 
+    def sentences(self) -> list[str]:
+        """Returns what the page says first."""
+        found: list[str] = []
+        if self.roots is not None:
+            unknown = [subject.name for subject in self.subjects if subject.what == UNKNOWN]
+            found += sentences.of_roots(self.roots)
+            found += sentences.of_fleet(self.fleet) if self.fleet is not None else ()
+            found += sentences.of_subjects(unknown)
+            found += sentences.of_cautions(len(self.cautions), self.roots.is_doubtful())
+        if self.changes is not None:
+            found += sentences.of_changes({changed.kind: changed.count for changed in self.changes})
+        if self.uses is not None:
+            found += sentences.of_logs(self.uses)
+            if self.rules is not None:
+                found += sentences.of_unused(len(self.unused()), len(self.rules.all()))
+        return found
+
+    def reached(self) -> list[Reached]:
+        """Returns what users reach on which hosts, those who reach the same together, and those who reach most first."""
+        if self.roots is None:
+            return []
+        cells, answers, found = self.roots.cells.list(), self.roots.answers(), []
+        for group in self.roots.groups():
+            hosts: dict[int, list[str]] = {}
+            for host, cell in zip(self.roots.hosts, group.row):
+                hosts.setdefault(cell, []).append(host)
+            for cell, names in sorted(hosts.items(), key=lambda item: -answers[item[0]].level):
+                if answers[cell].level not in (NONE, UNSURE):
+                    grants = [self.roots.grants[number] for number in cells[cell].grants]
+                    found.append(Reached(group.users, names, answers[cell], cells[cell], grants))
+        return found
+
+    def unreached(self) -> list[str]:
+        """Returns the users who have no way to root on any host."""
+        return self.roots.unreached() if self.roots is not None else []
+
+    def rule_counts(self) -> dict[str, tuple[int, int]]:
+        """Returns how many requests of the logs each rule allowed and denied, by the program's table, where there is one."""
+        if not self.inputs.requests or not foreign.exists(review.table_of(self.inputs.requests, review.RULES)):
+            return {}
+        dropped = self.uses.dropped if self.uses is not None else Counter[tuple[str, str]]()
+        return {
+            place: (int(allowed) - dropped[ALLOW, place], int(denied) - dropped[DENY, place])
+            for place, _, allowed, denied in review.rows_of(self.inputs.requests, review.RULES)
+        }
+
+    def time_of(self, nanoseconds: int) -> str:
+        """Returns a time, with how long before the page it was."""
+        return f"{at(nanoseconds)} ({age(nanoseconds, time.time())})" if nanoseconds else "time not known"
+
     def anchor(self, place: str) -> str:
         """Returns the anchor of a place."""
         return f"rule-{self.places.of(place)}"
 
     def data(self) -> dict[str, Any]:
         """Returns what the page's script reads."""
+        roots = self.roots.data(self.places) if self.roots else None
         return {
             "levels": LEVELS,
+            "roots": roots,
+            "probes": self.probes.data() if self.probes else None,
             "places": [[visible(place), visible(self.rule_text(place))] for place in self.places.list()],
-            "roots": self.roots.data() if self.roots else None,
         }
 
 
@@ -193,6 +319,7 @@ def rendered(page: Page) -> str:
         page=page,
         inputs=page.inputs,
         levels=LEVELS,
+        words=VERDICTS,
         script=markupsafe.Markup(script),
         style=markupsafe.Markup(style),
         script_sum=_sum(script),

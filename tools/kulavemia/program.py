@@ -1,4 +1,4 @@
-"""The proved program: where it is, and how it is asked."""
+"""The proved programs: where they are, and how the first one is asked."""
 
 import csv
 import hashlib
@@ -22,8 +22,8 @@ from kulavemia.rows import row
 from kulavemia.shown import Form
 
 NAME = "sudo_audit"
-# The second program; the tests and commands of developers alone ask it.
 REVIEW = "sudo_review"
+_OPTIONS = {NAME: "--program", REVIEW: "--review"}
 REPOSITORY = os.path.dirname(os.path.dirname(os.path.dirname(os.path.realpath(__file__))))
 _WRITE_FAILED = b"write failed"
 _PIECE = 1 << 20
@@ -54,6 +54,13 @@ def add_options(words: ArgumentParser) -> None:
     )
 
 
+def add_review_option(words: ArgumentParser) -> None:
+    """Adds the option that says which second program is asked."""
+    words.add_argument(
+        "--review", metavar="PATH", help="the program sudo_review (default: $SUDO_REVIEW, else as for sudo_audit)"
+    )
+
+
 def find(given: str | None, name: str = NAME) -> str:
     """Returns the path of the program of this name. Raises `Fault` if it is not there."""
     variable = name.upper()
@@ -65,7 +72,7 @@ def find(given: str | None, name: str = NAME) -> str:
         return found
     if named:
         raise Fault(f"{named}: no program", PROGRAM)
-    raise Fault(f"no program {name}: build it, or name it by --program or ${variable}", PROGRAM)
+    raise Fault(f"no program {name}: build it, or name it by {_OPTIONS[name]} or ${variable}", PROGRAM)
 
 
 def sum_of(program: str) -> str:
@@ -74,28 +81,35 @@ def sum_of(program: str) -> str:
         return hashlib.file_digest(file, "sha256").hexdigest()
 
 
-def _said(program: str, done: subprocess.CompletedProcess[bytes], out: bytes, root: str) -> Fault:
+def version_of(program: str) -> str:
+    """Returns what the program says of its version, or nothing if it does not say."""
+    done = subprocess.run([program, "--version"], stdin=subprocess.DEVNULL, stdout=subprocess.PIPE, check=False)
+    first = os.fsdecode(done.stdout).partition("\n")[0]
+    return first.strip() if done.returncode == 0 else ""
+
+
+def said_by(program: str, done: subprocess.CompletedProcess[bytes], out: bytes, root: str) -> Fault:
     """Returns what the program said where it refused."""
     said = os.fsdecode(done.stderr or out).strip()
     first, *further = (said.replace(root, "") if root else said).split("\n")
     return Fault(first or f"{program} ended with status {done.returncode}", PROGRAM, further)
 
 
-def _which(said: Fault, policy: Policy) -> Fault:
-    """Returns the program's refusal behind the path of the users or the hosts, of which it says only that they are these."""
+def named_by(said: Fault, policy: Policy) -> Fault:
+    """Returns a program's refusal behind the path of the users or the hosts, of which it says only that they are these."""
     for kind, path in (("users", policy.users), ("hosts", policy.hosts)):
-        if str(said).startswith(f"{NAME}: {kind}: "):
+        if str(said).startswith((f"{NAME}: {kind}: ", f"{REVIEW}: {kind}: ")):
             return Fault(f"{path}: {said}", PROGRAM)
     return said
 
 
 def check(program: str, policy: str, root: str = "") -> str:
     """Returns the program's findings on a policy. Raises `Fault` if it refuses the policy."""
-    _want_plain(policy, foreign.POLICY_CAP)
+    want_plain(policy, foreign.POLICY_CAP)
     words = [program, "check", "--", policy]
     done = subprocess.run(words, stdout=subprocess.PIPE, stderr=subprocess.PIPE, check=False)
     if done.returncode != 0:
-        raise _said(program, done, done.stdout, root)
+        raise said_by(program, done, done.stdout, root)
     found = os.fsdecode(done.stdout)
     return found.replace(root, "") if root else found
 
@@ -104,9 +118,9 @@ def audit(
     program: str, policy: Policy, sources: Sequence[Source], out: str, workers: int = 2, form: Form = Form()
 ) -> None:
     """Writes the report of all sources, in runs that the program takes. Raises `Fault` if it refuses."""
-    _want_plain(policy.file, foreign.POLICY_CAP)
+    want_plain(policy.file, foreign.POLICY_CAP)
     for path in (policy.users, policy.hosts, *(source.file for source in sources)):
-        _want_plain(path, foreign.REQUESTS_CAP)
+        want_plain(path, foreign.REQUESTS_CAP)
     total = len(sources)
     done = 0
     with outputs.written(out) as report, Progress("judging", total) as progress:
@@ -124,10 +138,16 @@ def audit_words(program: str, policy: Policy, sources: Iterable[Source], workers
     return [program, "audit", *directory, "--workers", str(workers), "--", policy.file, *named]
 
 
-def _want_plain(path: str, cap: int) -> None:
-    """Raises `Fault` if the program would wait for a file, or read without end. It names a missing one itself."""
+def want_plain(path: str, cap: int) -> None:
+    """Raises `Fault` if a program would wait for a file, or read without end. It names a missing one itself."""
     if "\0" in path or foreign.exists(path):
         foreign.want_plain(path, cap)
+
+
+def want_written(done: subprocess.CompletedProcess[bytes]) -> None:
+    """Raises `Fault` with the folder of a program's output if it could not be written there."""
+    if done.returncode == FAILED and _WRITE_FAILED in done.stderr:
+        raise Fault(f"{tempfile.gettempdir()}: {os.fsdecode(done.stderr).strip()}", FAILED)
 
 
 def _audit_batch(program: str, policy: Policy, batch: Iterable[Source], rows: "Rows", workers: int) -> None:
@@ -135,44 +155,50 @@ def _audit_batch(program: str, policy: Policy, batch: Iterable[Source], rows: "R
     with outputs.scratch() as part:
         done = subprocess.run(words, stdout=part, stderr=subprocess.PIPE, check=False)
         part.seek(0)
-        if done.returncode == FAILED and _WRITE_FAILED in done.stderr:
-            raise Fault(f"{tempfile.gettempdir()}: {os.fsdecode(done.stderr).strip()}", FAILED)
+        want_written(done)
         if done.returncode != 0:
-            raise _which(_said(program, done, part.read(), policy.root), policy)
+            raise named_by(said_by(program, done, part.read(), policy.root), policy)
         rows.copy(part, program)
 
 
 class Rows:
-    """Copies rows of the program's reports, with foreign text as it is shown.
+    """Copies rows of a program's tables, with foreign text as it is shown.
 
     Places are without a root folder, and senders stand behind a text.
     """
 
-    def __init__(self, out: IO[bytes], form: Form, root: str = "", before: str = "") -> None:
+    def __init__(
+        self, out: IO[bytes], form: Form, root: str = "", before: str = "", header: Sequence[str] = REPORT_HEADER
+    ) -> None:
         self.out = out
         self.form = form
         self.root = root
         self.before = before
+        self.header = header
+        self.count = 0
 
     def copy(self, part: IO[bytes], program: str) -> None:
-        """Copies the rows of a report. Raises `Fault` at another header."""
+        """Copies the rows of a table. Raises `Fault` at another header."""
         header = part.readline()
-        if header != os.fsencode(row(REPORT_HEADER)):
+        if header != os.fsencode(row(self.header)):
             raise Fault(f"{program}: its report has the header {os.fsdecode(header).strip()}", PROGRAM)
         left = b"" if self.root or self.before or self.form.spreadsheet else self._copy_plain(part)
         self._copy_shown(itertools.chain(io.BytesIO(left), part))
 
     def _copy_plain(self, part: IO[bytes]) -> bytes:
-        """Copies pieces of a report in which all is shown as it is, and returns the first other one."""
+        """Copies pieces of a table in which all is shown as it is, and returns the first other one."""
         while piece := part.read(_PIECE) + part.readline():
             if piece.translate(None, _PLAIN):
                 return piece
             self.out.write(piece)
+            self.count += piece.count(b"\n")
         return b""
 
     def _copy_shown(self, lines: Iterable[bytes]) -> None:
-        sender, place = map(REPORT_HEADER.index, ("sender", "line"))
+        place = next(at for at, name in enumerate(self.header) if name in ("line", "place"))
         for fields in csv.reader(line.decode("utf-8", "surrogateescape") for line in lines):
-            fields[sender] = self.before + fields[sender]
+            if self.before:
+                fields[0] = self.before + fields[0]
             fields[place] = fields[place].removeprefix(self.root)
             self.out.write(self.form.row(fields).encode())
+            self.count += 1

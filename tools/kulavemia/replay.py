@@ -6,7 +6,8 @@ from collections import Counter
 from collections.abc import Callable, Iterator, Mapping, Sequence
 from typing import NamedTuple
 
-from kulavemia import compare, directory, foreign, logs, missing, probe, program, sorting, unknown, unread
+from kulavemia import compare, directory, evidence, foreign, logs, missing, probe, program, record, review, signing, sorting
+from kulavemia import unknown, unread
 from kulavemia.command import WORDS, Fault, warn
 from kulavemia.page import REPORT, Inputs, Page, want_jinja
 from kulavemia.page import write as write_page
@@ -15,13 +16,18 @@ from kulavemia.requests import Source, sources_of
 from kulavemia.rows import open_write
 from kulavemia.shown import Form
 from kulavemia.steps import Steps, unlike_any
-from kulavemia.sums import digest_of, sum_of_file, sum_of_files
-from kulavemia.tree import Prepared, files_of_tree, main_of, of_this_machine, write_copies
+from kulavemia.sums import File, digest_of, file_of, file_of_text
+from kulavemia.tree import Prepared, main_of, of_this_machine, read_tree, write_copies
 
 DIRECTORY = "directory"
+REVIEW = "review"
 CHANGES = "changes.csv"
-# Options that change where and how fast a page is made, and not the page.
-_NO_INPUTS = ("out", "mode", "workers", "at_most", "program")
+PAGE = "page.html"
+# The files of a collected host that its directory is made of.
+COLLECTED = ("passwd", "group", "addr.json", "hostname")
+RECORD = "review.json"
+# Options that change where and how fast a page is made, or by whom it is signed, and not what it says.
+_NO_INPUTS = ("out", "mode", "workers", "at_most", "program", "review", "sign")
 
 Say = Callable[[str], None]
 
@@ -45,15 +51,18 @@ class Options(NamedTuple):
     title: str
     rows: int
     program: str | None
+    review: str | None
+    sign: str | None
     workers: int
     sorting: sorting.Sorting
 
 
 class Policy(NamedTuple):
-    """A policy of a replay: how it is audited, and the texts of its files, those of another machine's to be copied."""
+    """A policy of a replay: how it is audited, the texts of its files to be copied, if any, and what its files are like."""
 
     prepared: Prepared
-    files: Mapping[bytes, bytes]
+    copies: Mapping[bytes, bytes]
+    files: Sequence[File]
 
 
 class Directory(NamedTuple):
@@ -75,6 +84,14 @@ class Given(NamedTuple):
     below: str | None
 
 
+class Described(NamedTuple):
+    """What the files of a replay are like; of a directory that is made of collected files, what these are like."""
+
+    directory: Sequence[File]
+    programs: File
+    logs: Sequence[File]
+
+
 def want(given: Options) -> None:
     """Raises `Fault` if what every run needs is lacking, before anything is written."""
     if given.rows < 0:
@@ -82,7 +99,10 @@ def want(given: Options) -> None:
     if given.directory is None and not given.collected:
         raise Fault("--directory or --collected is wanted", WORDS)
     program.find(given.program)
+    program.find(given.review, program.REVIEW)
     want_jinja()
+    if given.sign is not None:
+        signing.want_keygen()
 
 
 def prepared(given: Options) -> Given:
@@ -101,17 +121,18 @@ def prepared(given: Options) -> Given:
 def _policy(given: Options, main: str, tree: str | None, name: str, below: str | None) -> Policy:
     """Returns a policy of this machine, or that of a tree, which is copied to a folder of this name."""
     if not tree:
-        return Policy(of_this_machine(main, given.this_machine), _own_files(main))
+        return Policy(of_this_machine(main, given.this_machine), {}, _own_files(main))
     root = os.path.abspath(os.path.join(given.out, name))
-    return Policy(Prepared(main, root), files_of_tree(tree, main, os.fsencode(root), below))
+    found = read_tree(tree, main, os.fsencode(root), below)
+    return Policy(Prepared(main, root), found.files, found.originals)
 
 
-def _own_files(main: str) -> dict[bytes, bytes]:
-    """Returns the texts of the files of a policy of this machine, none if the program will say what is wrong."""
+def _own_files(main: str) -> list[File]:
+    """Returns what the files of a policy of this machine are like, none if the program will say what is wrong."""
     try:
-        return {path: read(path) for path in map(os.fsencode, files_of(main))}
+        return [file_of_text(path, read(os.fsencode(path)), os.stat(path).st_mtime_ns) for path in files_of(main)]
     except (Fault, OSError):
-        return {}
+        return []
 
 
 def _directory(given: Options) -> Directory:
@@ -136,35 +157,52 @@ def _collected_logs(collected: str) -> list[str]:
     return paths
 
 
-def sums(given: Options, found: Given) -> dict[str, str]:
+def described(given: Options, found: Given) -> Described:
+    """Returns what the files of a replay are like."""
+    return Described(
+        _directory_files(given, found.directory),
+        file_of(given.programs, foreign.TABLE_CAP),
+        [_log(path, found.below) for path in found.logs],
+    )
+
+
+def _directory_files(given: Options, found: Directory) -> list[File]:
+    """Returns what the users and hosts files are like, or the collected files of which they are made."""
+    if given.directory:
+        return [file_of(path, foreign.REQUESTS_CAP) for path in (found.users, found.hosts)]
+    below = given.collected or ""
+    paths = [os.path.join(below, name) for name in COLLECTED]
+    return [file_of(path, foreign.ACCOUNTS_CAP, below) for path in paths if foreign.exists(path, below)]
+
+
+def _log(path: str, below: str | None) -> File:
+    """Returns what a log is like; one that comes by a descriptor can be read once, and has no sum."""
+    return File(path) if logs.is_handed(path) else file_of(path, foreign.LOG_CAP, below)
+
+
+def sums(given: Options, found: Given, files: Described) -> dict[str, str]:
     """Returns a sum of each input that a page is made of."""
     options = {name: value for name, value in given._asdict().items() if name not in _NO_INPUTS}
+    people = (found.directory.people, found.directory.machines)
     made = {
         "the command line": digest_of([repr(sorted(options.items())).encode("utf-8", "surrogateescape")]),
         "the program": program.sum_of(program.find(given.program)),
-        "the policy": sum_of_files(found.policy.files),
-        "the policy before": sum_of_files(found.old_policy.files) if found.old_policy else "",
-        "the directory": _sum_of_directory(given, found.directory),
-        "the list of programs": sum_of_file(given.programs, foreign.TABLE_CAP),
+        "the second program": program.sum_of(program.find(given.review, program.REVIEW)),
+        "the policy": _sum_of_files(found.policy.files),
+        "the policy before": _sum_of_files(found.old_policy.files) if found.old_policy else "",
+        "the directory": _sum_of_files(files.directory) + digest_of([repr(people).encode("utf-8", "surrogateescape")]),
+        "the list of programs": files.programs.sum,
     }
     for path in [path for path in (given.sorting.host_map, given.sorting.users) if path]:
-        made[path] = sum_of_file(path, foreign.TABLE_CAP)
-    for path in found.logs:
-        made[f"the log {path}"] = _sum_of_log(path, found.below)
+        made[path] = file_of(path, foreign.TABLE_CAP).sum
+    for log in files.logs:
+        # The time of a log gives its lines their year.
+        made[f"the log {log.path}"] = f"{log.sum} {log.changed}" if log.sum else unlike_any()
     return made
 
 
-def _sum_of_directory(given: Options, found: Directory) -> str:
-    if not given.directory:
-        return digest_of([repr((found.people, found.machines)).encode("utf-8", "surrogateescape")])
-    return " ".join(sum_of_file(path, foreign.REQUESTS_CAP) for path in (found.users, found.hosts))
-
-
-def _sum_of_log(path: str, below: str | None) -> str:
-    """Returns a sum of a log and of its time, which gives its lines their year."""
-    if logs.is_handed(path):
-        return unlike_any()
-    return f"{sum_of_file(path, foreign.LOG_CAP, below)} {os.stat(path).st_mtime_ns}"
+def _sum_of_files(files: Sequence[File]) -> str:
+    return digest_of([os.fsencode(part) for file in files for part in (file.path, file.sum)])
 
 
 class Replay:
@@ -173,9 +211,11 @@ class Replay:
     def __init__(self, given: Options, say: Say) -> None:
         self.given = given
         self.found = prepared(given)
-        self.steps = Steps(given.out, sums(given, self.found))
+        self.files = described(given, self.found)
+        self.steps = Steps(given.out, sums(given, self.found, self.files))
         self.say = say
         self.program = program.find(given.program)
+        self.second = program.find(given.review, program.REVIEW)
         self.requests = ""
         self.probe = ""
         self.changes = ""
@@ -201,6 +241,7 @@ class Replay:
             self._read_logs()
         else:
             warn(f"there is no log: {'nothing is' if self.given.no_probe else 'probes alone are'} audited")
+        self._review()
         if not self.given.no_probe:
             self._probe()
         if old:
@@ -211,7 +252,7 @@ class Replay:
         """Writes the policies of other machines, and the directory that was collected."""
         for policy in filter(None, (self.found.policy, self.found.old_policy)):
             if policy.prepared.root:
-                write_copies(self.steps.begin(os.path.basename(policy.prepared.root)), policy.files)
+                write_copies(self.steps.begin(os.path.basename(policy.prepared.root)), policy.copies)
         if not self.given.directory:
             directory.write(self.steps.begin(DIRECTORY), self.found.directory.people, self.found.directory.machines)
 
@@ -224,6 +265,9 @@ class Replay:
         for warning in filter(None, [*unread.warnings(found.counts), unjudged]):
             warn(warning)
         self._audit(self.requests, self.found.policy.prepared, REPORT)
+        path = review.table_of(self.requests, review.RULES)
+        if not foreign.exists(path, self.given.out):
+            self._asked().rules(sources_of(self.requests), path, self.given.workers)
 
     def _sorted(self) -> sorting.Sorted:
         """Returns what the logs have; they are read where that is still to do."""
@@ -232,8 +276,22 @@ class Replay:
             how = self.given.sorting._replace(users=users, hosts=self.found.directory.hosts)
             found = sorting.sort(self.found.logs, self.steps.begin("requests"), how, self.found.below)
             self.steps.end("requests", found)
-        counts, hosts = self.steps.result("requests")
-        return sorting.Sorted(Counter(counts), Counter(hosts))
+        counts, hosts, tallies, times = self.steps.result("requests")
+        of_logs, of_hosts = (
+            {name: sorting.Tally(*tally) for name, tally in found.items()} for found in (tallies, times)
+        )
+        return sorting.Sorted(Counter(counts), Counter(hosts), of_logs, of_hosts)
+
+    def _asked(self) -> review.Asked:
+        return review.Asked(self.second, self._judged_by(self.found.policy.prepared), Form(self.given.sorting.spreadsheet))
+
+    def _review(self) -> None:
+        """Has the second program say, for every command, who can become root, and what it rests on."""
+        if self.steps.result(REVIEW) is None:
+            self.steps.end(REVIEW, self._asked().write(self.steps.begin(REVIEW)))
+        counts = self.steps.result(REVIEW)
+        told = ", ".join(f"{counts[name]} {name}" for name in (review.GRANTS, review.ROOTS, review.SUBJECTS, review.CAUTIONS))
+        self.say(f"review: {told}")
 
     def _probe(self) -> None:
         self.probe = self._folder("probe")
@@ -289,20 +347,63 @@ class Replay:
     def _write_page(self) -> None:
         policy = self.found.policy.prepared
         old = self.found.old_policy.prepared if self.found.old_policy else None
-        path = self._folder("page.html")
-        facts = [("Program", f"{self.program}, sum {program.sum_of(self.program)[:16]}")]
+        path = self._folder(PAGE)
         inputs = Inputs(
-            self.given.title,
-            policy.main,
-            policy.root,
-            old.main if old else "",
-            old.root if old else "",
-            self.probe,
-            self.requests,
-            self.changes,
-            self.given.rows,
-            facts,
-            self.found.below or "",
+            title=self.given.title,
+            policy=policy.main,
+            root=policy.root,
+            old_policy=old.main if old else "",
+            old_root=old.root if old else "",
+            review=self._folder(REVIEW),
+            users=self.found.directory.users,
+            hosts=self.found.directory.hosts,
+            probe=self.probe,
+            requests=self.requests,
+            changes=self.changes,
+            rows=self.given.rows,
+            collected=self.found.below or "",
         )
-        write_page(Page(inputs), path)
+        page = Page(inputs, self._evidence())
+        write_page(page, path)
+        record.write(page, self._folder(RECORD))
+        self._write_sums()
         self.say(f"page: {path}")
+
+    def _write_sums(self) -> None:
+        """Writes the sums of the page and of the tables behind it, and a signature on them where that is asked for."""
+        tables = [review.table_of(REVIEW, name) for name in (review.CAUTIONS, review.GRANTS, review.ROOTS, review.SUBJECTS)]
+        reports = [os.path.join(folder, REPORT) for folder in ("requests", "probe")]
+        names = [PAGE, RECORD, CHANGES, *tables, *reports, review.table_of("requests", review.RULES)]
+        there = [name for name in names if foreign.exists(self._folder(name), self.given.out)]
+        sums = signing.write_sums(self.given.out, there)
+        signing.write_signature(self.given.out, sums, self.given.sign)
+
+    def _evidence(self) -> evidence.Evidence:
+        """Returns what the page was made of."""
+        sorted_ = self._sorted() if self.requests else sorting.Sorted(Counter(), Counter())
+        hosts = directory.hosts_in(self.found.directory.hosts)
+        return evidence.Evidence(
+            evidence.made_now(),
+            [
+                evidence.Program(name, program.version_of(path), program.sum_of(path))
+                for name, path in ((program.NAME, self.program), (program.REVIEW, self.second))
+            ],
+            self.found.policy.files,
+            self.found.old_policy.files if self.found.old_policy else (),
+            [*self.files.directory, *self._made_directory()],
+            [self.files.programs] if self.probe else (),
+            [evidence.Log(file, sorted_.logs.get(file.path, sorting.Tally())) for file in self.files.logs],
+            evidence.hosts_of(hosts, dict.fromkeys(hosts, self._gathered()), sorted_.times),
+            missing.warnings([self.given.collected], self.given.collected) if self.given.collected else (),
+        )
+
+    def _made_directory(self) -> list[File]:
+        """Returns what the users and hosts files are like that were made of collected ones, if they were."""
+        tables = (self.found.directory.users, self.found.directory.hosts) if not self.given.directory else ()
+        return [file_of(path, foreign.REQUESTS_CAP, self.given.out) for path in tables]
+
+    def _gathered(self) -> int:
+        """Returns when the users and hosts were gathered: by the collected file of users, or by the hosts file."""
+        if self.given.collected and not self.given.directory:
+            return next((file.changed for file in self.files.directory if file.path.endswith("/passwd")), 0)
+        return self.files.directory[1].changed

@@ -1,176 +1,227 @@
-"""Who can become root where: the answers to probes, as a table of users by hosts."""
+"""Who can become root where, as the program `sudo_review` says for every command: a table of users by hosts."""
 
+from array import array
 from collections.abc import Iterable, Sequence
-from typing import Any, Generic, Hashable, NamedTuple, TypeVar
+from typing import Any, NamedTuple
 
-from kulavemia.answers import ALLOW, NO_MATCH, Answer
 from kulavemia.command import Fault
+from kulavemia.grants import Grant, Grants
+from kulavemia.numbering import Numbering, runs
 from kulavemia.text import visible
 
-ANY_COMMAND = "any command"
+NONE, UNSURE, LISTED, ALL_BUT, ALL, ALL_FREE, ROOT = range(7)
+
+
+class Level(NamedTuple):
+    """How far a user comes on a host: the name of its colour, its mark, and what it means."""
+
+    name: str
+    mark: str
+    meaning: str
+
+
 LEVELS = (
-    ("none", "·", "nothing that is probed"),
-    ("some", "s", "some programs that give root"),
-    ("some-free", "s!", "some programs, without a password"),
-    ("any", "A", "any command"),
-    ("any-free", "A!", "any command, without a password"),
-    ("unknown", "?", "not judged"),
+    Level("none", "·", "no way to root"),
+    Level("unsure", "?", "no way to root as this page reads the policy; sudo may read it otherwise"),
+    Level("listed", "L", "listed commands as root"),
+    Level("all-but", "B", "any command as root but listed ones"),
+    Level("all", "A", "any command as root"),
+    Level("all-free", "A!", "any command as root, without a password"),
+    Level("root", "R", "is root: the user has the ID 0"),
 )
-_NONE, _SOME, _SOME_FREE, _ANY, _ANY_FREE, _UNKNOWN = range(len(LEVELS))
-
-Key = TypeVar("Key", bound=Hashable)
-
-
-class Numbering(Generic[Key]):
-    """Gives each new thing the next number."""
-
-    def __init__(self) -> None:
-        self.numbers: dict[Key, int] = {}
-
-    def of(self, thing: Key) -> int:
-        """Returns the number of a thing."""
-        return self.numbers.setdefault(thing, len(self.numbers))
-
-    def list(self) -> list[Key]:
-        """Returns the things in the order of their numbers."""
-        return list(self.numbers)
+ABSENT = "no user of this name there"
+DOUBT = "sudo may read the policy otherwise"
+UNASKED = "some of the commands may need no password"
+_OF_PROGRAM = {"listed": LISTED, "all-but": ALL_BUT, "all": ALL, "root": ROOT}
+_ASKED = ("own", "other")
+_FREE = "none"
 
 
-class Said(NamedTuple):
-    """One answer of a cell, all by number but the verdict and the tags."""
+class Way(NamedTuple):
+    """A row of the program's table: how a user becomes a target."""
 
-    program: int
-    verdict: str
-    place: int
+    target: str
+    level: str
+    password: str
+    place: str
     tags: str
+    via: str
+    depends: str
+
+
+class Cell(NamedTuple):
+    """How a user becomes root on a host: the ways, and the numbers of the grants there.
+
+    Beside these whether one of the grants needs no password, whether sudo may read the policy otherwise, and whether the
+    host has no such user.
+    """
+
+    ways: tuple[Way, ...] = ()
+    grants: tuple[int, ...] = ()
+    is_free: bool = False
+    is_doubtful: bool = False
+    is_absent: bool = False
+
+    def best(self) -> tuple[int, Way] | None:
+        """Returns the level of the best way, and that way."""
+        if not self.ways:
+            return None
+        return max(((_level_of(way), way) for way in self.ways), key=lambda found: found[0])
+
+    def is_unasked(self) -> bool:
+        """Returns whether some of the commands may need no password, where the level does not say so."""
+        best = self.best()
+        return best is not None and best[0] < ALL_FREE and (best[1].password not in _ASKED or self.is_free)
+
+
+class Answer(NamedTuple):
+    """What a page shows of a cell: the level, the mark and the meaning."""
+
+    level: int
+    mark: str
+    meaning: str
+    is_unasked: bool
+    is_doubtful: bool
 
 
 class Group(NamedTuple):
-    """Users who reach the same, and on how many hosts they reach each level."""
+    """Users who reach the same on the same hosts."""
 
     users: list[str]
-    counts: list[int]
+    row: "array[int]"
 
 
-class Roots:
-    """Gathers answers. Those of a user must stand together."""
+def _level_of(way: Way) -> int:
+    if way.level not in _OF_PROGRAM:
+        raise Fault(f"the table of roots has the level {way.level}")
+    level = _OF_PROGRAM[way.level]
+    return ALL_FREE if level == ALL and way.password == _FREE else level
 
-    def __init__(self, places: Numbering[str]) -> None:
-        self.places = places
-        self.users: Numbering[str] = Numbering()
-        self.hosts: Numbering[str] = Numbering()
-        self.programs: Numbering[tuple[str, str, str]] = Numbering()
-        self.cells: Numbering[tuple[Said, ...]] = Numbering()
-        self.rows: Numbering[tuple[int, ...]] = Numbering()
-        self.row_of: list[int] = []
-        self.user = ""
-        self.host = ""
-        self.cell: list[Said] = []
-        self.row: dict[int, int] = {}
-        self.count = 0
 
-    def take_all(self, answers: Iterable[Answer]) -> None:
-        """Takes all answers."""
-        for answer in answers:
-            self.take(answer)
-        self._end_user()
+def answer_of(cell: Cell) -> Answer:
+    """Returns what is shown of a cell. Where sudo may read the policy otherwise, no cell but root's own is sure."""
+    best = cell.best()
+    if cell.is_absent:
+        return Answer(NONE, "", ABSENT, False, False)
+    if best is None:
+        level = UNSURE if cell.is_doubtful else NONE
+        return Answer(level, LEVELS[level].mark, LEVELS[level].meaning, False, cell.is_doubtful)
+    level, _ = best
+    doubtful = level != ROOT and (cell.is_doubtful or any(way.depends for way in cell.ways))
+    mark = ("?" if doubtful else "") + LEVELS[level].mark + ("?" if cell.is_unasked() else "")
+    parts = [LEVELS[level].meaning]
+    if cell.is_unasked():
+        parts.append(UNASKED)
+    if doubtful:
+        parts.append(DOUBT)
+    return Answer(level, mark, "; ".join(parts), cell.is_unasked(), doubtful)
 
-    def take(self, answer: Answer) -> None:
-        """Takes an answer."""
-        request, verdict = answer.request, answer.verdict
-        if request.user != self.user:
-            self._end_user()
-            self.user = request.user
-        if request.host != self.host:
-            self._end_cell()
-            self.host = request.host
-        self.count += 1
-        kind = answer.key[0] if answer.key else ""
-        program = self.programs.of((kind, request.command, request.arguments))
-        if verdict.verdict != NO_MATCH:
-            place = self.places.of(verdict.place) if verdict.place else -1
-            self.cell.append(Said(program, verdict.verdict, place, verdict.tags))
 
-    def _end_cell(self) -> None:
-        if self.host:
-            host = self.hosts.of(self.host)
-            before = self.row.get(host)
-            if before is not None and self.cell:
-                raise Fault(f"the probes of {self.user} on {self.host} do not stand together")
-            self.row.setdefault(host, self.cells.of(tuple(self.cell)))
-        self.host = ""
-        self.cell = []
+class Table:
+    """Users by hosts, with a cell for each."""
 
-    def _end_user(self) -> None:
-        self._end_cell()
-        if self.user:
-            if self.users.of(self.user) != len(self.row_of):
-                raise Fault(f"the probes of {self.user} do not stand together")
-            empty = self.cells.of(())
-            last = max(self.row) if self.row else -1
-            self.row_of.append(self.rows.of(tuple(self.row.get(host, empty) for host in range(last + 1))))
-        self.user = ""
-        self.row = {}
+    def __init__(self, users: Sequence[str], hosts: Sequence[str]) -> None:
+        self.users = users
+        self.hosts = hosts
+        self.cells: Numbering[Cell] = Numbering()
+        self.rows: list[array[int]] = []
+        self.grants: Sequence[Grant] = ()
+        self.fill(Cell())
 
-    def level(self, cell: Sequence[Said]) -> int:
-        """Returns which level the answers of a cell reach."""
-        programs = self.programs.list()
-        allowed = [said for said in cell if said.verdict == ALLOW]
-        if not allowed:
-            return _UNKNOWN if any(said.verdict.startswith("unknown") for said in cell) else _NONE
-        every = [said for said in allowed if programs[said.program][0] == ANY_COMMAND]
-        free = any("NOPASSWD" in said.tags.split() for said in every or allowed)
-        if every:
-            return _ANY_FREE if free else _ANY
-        return _SOME_FREE if free else _SOME
+    def fill(self, cell: Cell) -> int:
+        """Puts a cell into each place, and returns its number."""
+        number = self.cells.of(cell)
+        self.rows = [array("I", [number]) * len(self.hosts) for _ in self.users]
+        return number
 
-    def levels(self) -> list[int]:
-        """Returns the level of each cell by its number."""
-        return [self.level(cell) for cell in self.cells.list()]
+    def is_doubtful(self) -> bool:
+        """Returns whether sudo may read a policy otherwise."""
+        return any(cell.is_doubtful for cell in self.cells.list())
+
+    def answers(self) -> list[Answer]:
+        """Returns what is shown of each cell, by its number."""
+        return list(map(answer_of, self.cells.list()))
+
+    def unreached(self) -> list[str]:
+        """Returns the users who have no way to root on any host."""
+        levels = [answer.level for answer in self.answers()]
+        return [user for user, row in zip(self.users, self.rows) if all(levels[cell] <= UNSURE for cell in set(row))]
 
     def groups(self) -> list[Group]:
         """Returns the users who reach the same together, those who reach most first."""
-        levels = self.levels()
-        users: dict[int, list[str]] = {}
-        for user, at in zip(self.users.list(), self.row_of):
-            users.setdefault(at, []).append(user)
-        found = []
-        for number, row in enumerate(self.rows.list()):
-            counts = [0] * len(LEVELS)
-            for cell in row:
-                counts[levels[cell]] += 1
-            counts[_NONE] += len(self.hosts.numbers) - len(row)
-            found.append(Group(users[number], counts))
-        return sorted(found, key=lambda group: [-group.counts[level] for level in (_ANY_FREE, _ANY, _SOME_FREE, _SOME)])
+        answers = self.answers()
+        found: dict[bytes, Group] = {}
+        for user, row in zip(self.users, self.rows):
+            found.setdefault(row.tobytes(), Group([], row)).users.append(user)
 
-    def data(self) -> dict[str, Any]:
+        def reach(group: Group) -> list[int]:
+            levels = [answers[cell].level for cell in group.row]
+            return [-levels.count(level) for level in range(ROOT, NONE, -1)]
+
+        return sorted(found.values(), key=reach)
+
+    def data(self, places: Numbering[str]) -> dict[str, Any]:
         """Returns the table as the page's script reads it."""
+        different: Numbering[bytes] = Numbering()
+        grants: Numbering[int] = Numbering()
+        row_of = [different.of(row.tobytes()) for row in self.rows]
+        cells = [
+            [answer.level, answer.mark, answer.meaning, _ways(cell, places), [grants.of(number) for number in cell.grants]]
+            for cell, answer in zip(self.cells.list(), self.answers())
+        ]
         return {
-            "users": [visible(user) for user in self.users.list()],
-            "hosts": [visible(host) for host in self.hosts.list()],
-            "programs": [[visible(part) for part in program] for program in self.programs.list()],
-            "cells": [_grouped(cell) for cell in self.cells.list()],
-            "levels": self.levels(),
-            "rows": [_runs(row) for row in self.rows.list()],
-            "rowOf": self.row_of,
-            "empty": self.cells.of(()),
+            "users": [visible(user) for user in self.users],
+            "hosts": [visible(host) for host in self.hosts],
+            "cells": cells,
+            "rows": [runs(array("I", row)) for row in different.list()],
+            "rowOf": row_of,
+            "grants": [_grant(self.grants[number], places) for number in grants.list()],
         }
 
 
-def _grouped(cell: Sequence[Said]) -> list[list[Any]]:
-    """Returns a cell's answers with the programs of one verdict, place and tags together."""
-    found: dict[tuple[str, int, str], list[int]] = {}
-    for program, verdict, place, tags in cell:
-        found.setdefault((verdict, place, tags), []).append(program)
-    return [[*said, programs] for said, programs in found.items()]
+class Roots(Table):
+    """Takes the program's rows on one policy, those of a host together, for known users and hosts."""
+
+    def __init__(self, users: Sequence[str], hosts: Sequence[str], grants: Grants, is_doubtful: bool) -> None:
+        super().__init__(users, hosts)
+        self.nobody = self.fill(Cell(is_doubtful=is_doubtful))
+        self.grants = grants.list
+        self.grants_of = grants.of
+        self.doubtful = is_doubtful
+        self.user_numbers = {user: number for number, user in enumerate(users)}
+        self.host_numbers = {host: number for number, host in enumerate(hosts)}
+        self.free = [grant.is_free() for grant in grants.list]
+
+    def take_all(self, rows: Iterable[Sequence[str]]) -> None:
+        """Takes all rows. Raises `Fault` at a name that is not known, and at a host whose rows stand apart."""
+        host, here = "", dict[int, list[Way]]()
+        for user, on, *rest in rows:
+            if on != host:
+                self._end(host, here)
+                host, here = on, {}
+            if user not in self.user_numbers or on not in self.host_numbers:
+                raise Fault(f"the table of roots has {user} on {on}, and the directory has not")
+            here.setdefault(self.user_numbers[user], []).append(Way(*rest))
+        self._end(host, here)
+
+    def _end(self, host: str, here: dict[int, list[Way]]) -> None:
+        at = self.host_numbers.get(host, 0)
+        for user, ways in here.items():
+            if self.rows[user][at] != self.nobody:
+                raise Fault(f"the rows of {host} in the table of roots do not stand together")
+            grants = self.grants_of(user, at)
+            # The first step of each way is by one of these, so that without a free one a password is asked.
+            is_free = any(self.free[number] for number in grants)
+            self.rows[user][at] = self.cells.of(Cell(tuple(ways), grants, is_free, self.doubtful))
 
 
-def _runs(row: Sequence[int]) -> list[int]:
-    """Returns a row as cells and how often each stands there in turn."""
-    runs: list[int] = []
-    for cell in row:
-        if runs and runs[-2] == cell:
-            runs[-1] += 1
-        else:
-            runs += [cell, 1]
-    return runs
+def _ways(cell: Cell, places: Numbering[str]) -> list[list[Any]]:
+    found = []
+    for way in cell.ways:
+        place = places.of(way.place) if way.place else -1
+        found.append([*map(visible, (way.target, way.level, way.password)), place, way.tags, visible(way.via)])
+    return found
+
+
+def _grant(grant: Grant, places: Numbering[str]) -> list[Any]:
+    return [places.of(grant.place), visible(grant.runas), grant.sign, visible(grant.command), grant.tags]

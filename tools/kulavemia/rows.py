@@ -102,15 +102,28 @@ def read_rows(text: bytes) -> Iterator[list[str]]:
 def records(path: str, header: Sequence[str]) -> Iterator[tuple[int, list[str]]]:
     """Yields each record after the header with its line. Raises `Fault` at another header or number of fields."""
     with open_read(path) as file:
-        reader = csv.reader(file, strict=True)
-        try:
-            if _first(reader) != list(header):
-                raise Fault(f"{path}:1: bad header, expected {','.join(header)}")
-            for fields in reader:
-                if not fields:
-                    continue
-                if len(fields) != len(header):
-                    raise Fault(f"{path}:{reader.line_num}: {len(fields)} fields, expected {len(header)}")
-                yield reader.line_num, fields
-        except csv.Error as error:
-            raise Fault(f"{path}:{reader.line_num}: {error}") from None
+        yield from _records(file, path, header)
+
+
+def read_open(file: BinaryIO, place: str, header: Sequence[str]) -> Iterator[tuple[int, list[str]]]:
+    """Yields what `records` does of a file that is open, and leaves it so. A fault names the place."""
+    text = as_text(file)
+    try:
+        yield from _records(text, place, header)
+    finally:
+        text.detach()
+
+
+def _records(file: io.TextIOWrapper, path: str, header: Sequence[str]) -> Iterator[tuple[int, list[str]]]:
+    reader = csv.reader(file, strict=True)
+    try:
+        if _first(reader) != list(header):
+            raise Fault(f"{path}:1: bad header, expected {','.join(header)}")
+        for fields in reader:
+            if not fields:
+                continue
+            if len(fields) != len(header):
+                raise Fault(f"{path}:{reader.line_num}: {len(fields)} fields, expected {len(header)}")
+            yield reader.line_num, fields
+    except csv.Error as error:
+        raise Fault(f"{path}:{reader.line_num}: {error}") from None

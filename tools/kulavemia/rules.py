@@ -30,15 +30,16 @@ class Rules:
     def text(self, place: str) -> str:
         """Returns the text of the line at a place, empty if there is none."""
         line = self.lines.get(place)
-        return _text(line) if line else ""
+        return shown_line(line) if line else ""
 
     def all(self) -> list[Rule]:
         """Returns the rules in the order of the files and their lines."""
-        return [Rule(place, _text(line)) for place, line in self.lines.items() if line.is_rule()]
+        return [Rule(place, shown_line(line)) for place, line in self.lines.items() if line.is_rule()]
 
 
-def _text(line: Line) -> str:
-    return os.fsdecode(line.text.rstrip(b" \t"))
+def shown_line(line: Line) -> str:
+    """Returns a line as it is shown: a tab is a blank there."""
+    return os.fsdecode(line.text.rstrip(b" \t")).replace("\t", " ")
 
 
 def _sum_of(paths: list[str]) -> str:

@@ -11,7 +11,19 @@ from kulavemia.command import Fault
 from kulavemia.directory import hosts_in, users_in
 from kulavemia.journal import SUDO_PATHS
 from kulavemia.logs import SYSLOG_LENGTHS, Found, Log, Options, size_of
-from kulavemia.messages import ASKED_TO_LIST, EDITORS, FORGED, OTHER, UNREAD, Event, Skipped, noted, with_editor
+from kulavemia.messages import (
+    ASKED_TO_LIST,
+    EDITORS,
+    FORGED,
+    MAY_BE_EDIT,
+    OTHER,
+    UNREAD,
+    Event,
+    Skipped,
+    may_be_edit,
+    noted,
+    with_editor,
+)
 from kulavemia.progress import Progress
 from kulavemia.requests import LOG_KEY, Request, Writer, fault_of
 from kulavemia.rows import open_write, records
@@ -174,11 +186,30 @@ class Names:
         )
 
 
+class Tally(NamedTuple):
+    """How many lines of a log, or of a host in logs, were taken, passed over and forged, and their first and last time."""
+
+    taken: int = 0
+    passed_over: int = 0
+    forged: int = 0
+    first: str = ""
+    last: str = ""
+
+    def with_line(self, kind: str, time: str) -> "Tally":
+        """Returns the tally with a further line."""
+        is_taken = kind not in (OTHER, UNREAD, FORGED)
+        taken, passed_over, forged, first, last = self
+        first, last = min(first or time, time or first), max(last, time)
+        return Tally(taken + is_taken, passed_over + (kind in (OTHER, UNREAD)), forged + (kind == FORGED), first, last)
+
+
 class Sorted(NamedTuple):
-    """How much of each kind there was, and how many requests name each host."""
+    """How much of each kind there was, how many requests name each host, and the tallies of logs and of hosts."""
 
     counts: Counter[str]
     hosts: Counter[str]
+    logs: dict[str, Tally] = {}
+    times: dict[str, Tally] = {}
 
 
 class Sorter:
@@ -194,6 +225,8 @@ class Sorter:
         self.skipped = skipped
         self.counts: Counter[str] = Counter()
         self.hosts: Counter[str] = Counter()
+        self.logs: dict[str, Tally] = {}
+        self.times: dict[str, Tally] = {}
         self.hosts_file = given.hosts
         self.known_hosts = hosts_in(given.hosts) if given.hosts else []
 
@@ -206,7 +239,7 @@ class Sorter:
         event = self._placed(log, line, with_editor(event, self.editors))
         request = event.request
         if request.command in ASKED_TO_LIST:
-            self.counts["lists"] += 1
+            self._count("lists", log, time)
             self.lists.write(self.form.row((log, str(line), time, *request, event.outcome, event.reason)))
             return
         reason = fault_of(request)
@@ -215,8 +248,16 @@ class Sorter:
             kind = OTHER if request.user and request.host else UNREAD
             self._skip(log, line, time, Skipped(f"{reason} ({request.command[:80]}){said}", kind))
             return
-        self.counts[event.outcome] += 1
+        self._count(event.outcome, log, time)
         self.hosts[request.host] += 1
+        self.times[request.host] = self.times.get(request.host, Tally()).with_line(event.outcome, time)
+        edit = may_be_edit(event) if self.editors else None
+        self._add(log, line, time, noted(event, MAY_BE_EDIT) if edit else event)
+        if edit:
+            self._add(log, line, time, edit)
+
+    def _add(self, log: str, line: int, time: str, event: Event) -> None:
+        request = event.request
         name = request.host if self.by == "host" else request.user if self.by == "user" else "log"
         self.writer.add(name, request, (log, str(line), time, event.outcome, event.reason, event.note))
 
@@ -232,8 +273,12 @@ class Sorter:
             )
         return noted(event._replace(request=event.request._replace(host=self.known_hosts[0])), "no host logged")
 
+    def _count(self, kind: str, log: str, time: str) -> None:
+        self.counts[kind] += 1
+        self.logs[log] = self.logs.get(log, Tally()).with_line(kind, time)
+
     def _skip(self, log: str, line: int, time: str, skipped: Skipped) -> None:
-        self.counts[skipped.kind] += 1
+        self._count(skipped.kind, log, time)
         self.skipped.write(self.form.row((log, str(line), time, skipped.reason)))
 
 
@@ -261,7 +306,7 @@ def sort(logs: Sequence[str], folder: str, given: Sorting, below: str | None = N
             before += size_of(path, below)
         sorter.writer.finish()
         sorter.counts["senders"] = len(sorter.writer.senders)
-    return Sorted(sorter.counts, sorter.hosts)
+    return Sorted(sorter.counts, sorter.hosts, sorter.logs, sorter.times)
 
 
 def _show(progress: Progress, before: int, done: int) -> None:

@@ -1,9 +1,20 @@
 """Sums of what is read, to tell whether it is the same again."""
 
 import hashlib
-from collections.abc import Mapping, Sequence
+import os
+from collections.abc import Sequence
+from typing import NamedTuple
 
 from kulavemia import foreign
+
+
+class File(NamedTuple):
+    """A file that was read: its size, its SHA-256, and when it was changed last, in nanoseconds; none of one that is gone."""
+
+    path: str
+    size: int = 0
+    sum: str = ""
+    changed: int = 0
 
 
 def digest_of(parts: Sequence[bytes]) -> str:
@@ -15,12 +26,14 @@ def digest_of(parts: Sequence[bytes]) -> str:
     return found.hexdigest()
 
 
-def sum_of_files(files: Mapping[bytes, bytes]) -> str:
-    """Returns a sum of files by their paths."""
-    return digest_of([part for path in sorted(files) for part in (path, files[path])])
-
-
-def sum_of_file(path: str, cap: int, below: str | None = None) -> str:
-    """Returns a sum of a file's bytes. Raises `Fault` as `foreign.opened` does."""
+def file_of(path: str, cap: int, below: str | None = None) -> File:
+    """Returns what a file is like. Raises `Fault` as `foreign.opened` does."""
     with foreign.opened(path, cap, below) as file:
-        return hashlib.file_digest(file, "sha256").hexdigest()
+        found = hashlib.file_digest(file, "sha256").hexdigest()
+        status = os.fstat(file.fileno())
+    return File(path, status.st_size, found, status.st_mtime_ns)
+
+
+def file_of_text(path: str, text: bytes, changed: int = 0) -> File:
+    """Returns what a file is like whose text was read."""
+    return File(path, len(text), hashlib.sha256(text).hexdigest(), changed)

@@ -1,12 +1,13 @@
 """The policy of a replay: this machine's own, or a copy of another machine's files."""
 
 import os
-from collections.abc import Mapping
+from collections.abc import Mapping, Sequence
 from typing import NamedTuple
 
 from kulavemia import foreign, outputs
 from kulavemia.command import Fault, called
 from kulavemia.policy import Include, Line, beside, include_of, is_kept, kept_files, lines_of, read, rewritten
+from kulavemia.sums import File, file_of_text
 
 POLICY = "policy"
 # The program follows includes 128 deep, and refuses a policy that goes deeper.
@@ -62,6 +63,7 @@ class _Copy:
         self.root = root
         self.seen: set[bytes] = set()
         self.files: dict[bytes, bytes] = {}
+        self.originals: list[File] = []
         self.size = 0
 
     def take(self, path: bytes, depth: int = 0) -> None:
@@ -73,6 +75,7 @@ class _Copy:
         self.size += len(text)
         if self.size > foreign.TREE_CAP:
             raise Fault(f"{os.fsdecode(self.tree)}: the policy's files have more than {foreign.TREE_CAP} bytes")
+        self.originals.append(file_of_text(os.fsdecode(path), text))
         for include in _includes(text):
             named = beside(path, include.path)
             if b".." in include.path.split(b"/"):
@@ -97,8 +100,15 @@ class _Copy:
         return self.root + include.path if include.path.startswith(b"/") else None
 
 
-def files_of_tree(tree: str, main: str, root: bytes, below: str | None = None) -> dict[bytes, bytes]:
-    """Returns the files, by their own paths, of a policy that lies below a tree; its includes are below a root folder.
+class Tree(NamedTuple):
+    """The files of a policy by their own paths, as they read where includes stay below a root folder, and as they were."""
+
+    files: Mapping[bytes, bytes]
+    originals: Sequence[File]
+
+
+def read_tree(tree: str, main: str, root: bytes, below: str | None = None) -> Tree:
+    """Returns a policy that lies below a tree; its includes are below a root folder.
 
     No link is followed below a folder, by default the tree.
     """
@@ -108,7 +118,12 @@ def files_of_tree(tree: str, main: str, root: bytes, below: str | None = None) -
     copy.take(os.fsencode(main))
     if not copy.files:
         raise Fault(f"{tree}{main} is not there")
-    return copy.files
+    return Tree(copy.files, copy.originals)
+
+
+def files_of_tree(tree: str, main: str, root: bytes, below: str | None = None) -> Mapping[bytes, bytes]:
+    """Returns the files of a policy as `read_tree` does."""
+    return read_tree(tree, main, root, below).files
 
 
 def of_tree(tree: str, main: str, root: str, below: str | None = None) -> Prepared:

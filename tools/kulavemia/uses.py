@@ -9,7 +9,7 @@ from typing import IO, NamedTuple
 from kulavemia.answers import ALLOW, Answer, Verdict
 from kulavemia.command import Fault
 from kulavemia.logs import FOLD, LINE_LIMIT, UNREADABLE, opened
-from kulavemia.messages import ACCEPTED, FAILED, REFUSED
+from kulavemia.messages import ACCEPTED, AS_EDIT, FAILED, MAY_BE_EDIT, REFUSED
 from kulavemia.requests import Request
 
 GROUPS_LIMIT = 100_000
@@ -80,20 +80,46 @@ class Uses:
         self.failed = 0
         self.count = 0
         self.places: Counter[str] = Counter()
+        # The verdicts, with their places, on the other way in which a request may have been made.
+        self.dropped: Counter[tuple[str, str]] = Counter()
 
     def take_all(self, answers: Iterable[Answer]) -> None:
-        """Takes all answers, with the keys that tools/requests wrote."""
+        """Takes all answers, with the keys that tools/requests wrote.
+
+        A request that may have been one to edit files stands there both ways, and is answered as then if either way is.
+        """
+        waiting: Answer | None = None
         for answer in answers:
-            log, line, time, outcome, reason, note = answer.key
-            self.count += 1
-            self.places[answer.verdict.place] += 1
-            kind = self._kind(answer.verdict.verdict, outcome)
-            if kind is not None:
-                kind.add(answer, reason, LogLine(log, int(line), time), note)
-            elif outcome == FAILED:
-                self.failed += 1
-            else:
-                self.same += 1
+            if waiting is not None and answer.key[-1].endswith(AS_EDIT):
+                self._take_either(waiting, answer)
+                waiting = None
+                continue
+            if waiting is not None:
+                self._take(waiting)
+            waiting = answer if answer.key[-1].endswith(MAY_BE_EDIT) else None
+            if waiting is None:
+                self._take(answer)
+        if waiting is not None:
+            self._take(waiting)
+
+    def _take_either(self, plain: Answer, edit: Answer) -> None:
+        """Takes of the same request, in two ways, the one that is allowed, or else the first."""
+        is_edit = plain.verdict.verdict != ALLOW and edit.verdict.verdict == ALLOW
+        taken, dropped = (edit, plain) if is_edit else (plain, edit)
+        self._take(taken)
+        self.dropped[dropped.verdict.verdict, dropped.verdict.place] += 1
+
+    def _take(self, answer: Answer) -> None:
+        log, line, time, outcome, reason, note = answer.key
+        self.count += 1
+        self.places[answer.verdict.place] += 1
+        kind = self._kind(answer.verdict.verdict, outcome)
+        if kind is not None:
+            kind.add(answer, reason, LogLine(log, int(line), time), note)
+        elif outcome == FAILED:
+            self.failed += 1
+        else:
+            self.same += 1
 
     def _kind(self, verdict: str, outcome: str) -> Kind | None:
         if verdict.startswith("unknown"):

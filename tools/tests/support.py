@@ -39,17 +39,32 @@ def has_dask() -> bool:
     return subprocess.run(["/usr/bin/python3", "-c", found], check=False).returncode == 0
 
 
+def has_module(name: str) -> bool:
+    """Returns whether a Python package is installed that tests alone need."""
+    found = f"import importlib.util as u, sys; sys.exit(u.find_spec('{name}') is None)"
+    return subprocess.run(["/usr/bin/python3", "-c", found], check=False).returncode == 0
+
+
 # Empty where there is none: the tests that need it are skipped.
 PROGRAM = program("sudo_audit")
 REVIEW = program("sudo_review")
 BROWSER = shutil.which("chromium") or shutil.which("chromium-browser")
+POPPLER = shutil.which("pdftotext")
+DRIVER = shutil.which("chromedriver")
+KEYGEN = shutil.which("ssh-keygen")
 JINJA = has_jinja()
+SCHEMA = has_module("jsonschema")
+DRIVEN = BROWSER and DRIVER and has_module("selenium")
 DASK = has_dask()
 needs_program = unittest.skipUnless(PROGRAM, "the program sudo_audit is not built")
 needs_review = unittest.skipUnless(REVIEW, "the program sudo_review is not built")
 needs_jinja = unittest.skipUnless(JINJA, "python3-jinja2 is not installed")
 needs_dask = unittest.skipUnless(DASK, "python3-distributed or python3-cryptography is not installed")
 needs_browser = unittest.skipUnless(BROWSER, "chromium is not installed")
+needs_driver = unittest.skipUnless(DRIVEN, "chromium, chromium-driver or python3-selenium is not installed")
+needs_poppler = unittest.skipUnless(POPPLER, "poppler-utils is not installed")
+needs_keygen = unittest.skipUnless(KEYGEN, "openssh-client is not installed")
+needs_schema = unittest.skipUnless(SCHEMA, "python3-jsonschema is not installed")
 
 for there, missing in (
     (PROGRAM, "the program sudo_audit is not built"),
@@ -57,6 +72,10 @@ for there, missing in (
     (JINJA, "python3-jinja2 is not installed"),
     (DASK, "python3-distributed or python3-cryptography is not installed"),
     (BROWSER, "chromium is not installed"),
+    (DRIVEN, "chromium, chromium-driver or python3-selenium is not installed"),
+    (POPPLER, "poppler-utils is not installed"),
+    (KEYGEN, "openssh-client is not installed"),
+    (SCHEMA, "python3-jsonschema is not installed"),
 ):
     if not there:
         print(f"tests of the tools: {missing}; what needs it is skipped", file=sys.stderr)

@@ -310,8 +310,8 @@ class ForeignRows(unittest.TestCase):
 
     def test_a_host_is_called_as_its_folder(self) -> None:
         listed = b"host,interfaces\nweb1,\nWEB1.b,\nweb1-x,\nweb10,\nweb1/x,\nweb,\nweb1.,\n"
-        self.assertEqual(Foreigners(listed)._called(b"web1"), {b"web1", b"web1.b", b"web1."})
-        self.assertEqual(Foreigners(b"")._called(b"web1"), set())
+        self.assertEqual(Foreigners(listed).called(b"web1"), {b"web1", b"web1.b", b"web1."})
+        self.assertEqual(Foreigners(b"").called(b"web1"), set())
 
 
 class Joins(FleetCase):

@@ -103,11 +103,12 @@ class FullDisk(FleetCase):
         self.want_named(self.failing("page", "--policy", "policy", "--out", "disk/page.html"), "page", ["disk/page.html"])
 
     @needs_program
+    @needs_review
     @needs_jinja
     def test_replay(self) -> None:
         self.write("policy", "root ALL = ALL\n")
         said = self.failing("replay", "--policy", "policy", "--directory", EXAMPLES, "--out", "disk/out")
-        self.assertRegex(said, rf"replay: disk/out/probe/\S+: {FULL}")
+        self.assertRegex(said, rf"replay: disk/out/(?:review|probe)/\S+: {FULL}")
 
     def test_fleet(self) -> None:
         self.host("web1")

@@ -16,7 +16,7 @@ from collections.abc import Callable, Iterator, Sequence
 from concurrent.futures import ThreadPoolExecutor
 from typing import NamedTuple
 
-from support import PROGRAM, TOOLS, Case, needs_jinja, needs_program
+from support import PROGRAM, TOOLS, Case, needs_jinja, needs_program, needs_review
 
 # The most seconds of a processor, and the most of a clock, since other tests run beside this one.
 SECONDS = 10
@@ -63,7 +63,7 @@ FILES = {
     "old/etc/sudoers": POLICY + "@include more\n",
     "old/etc/more": "root ALL = /usr/bin/id\n",
     "fleet/users.csv": USERS,
-    "fleet/hosts.csv": HOSTS,
+    "fleet/hosts.csv": HOSTS + "web2,10.0.0.2/8\n",
     "fleet/policy": "/etc/sudoers\n",
     "fleet/tree/etc/sudoers": POLICY,
     "fleet/web1/policy": "/etc/sudoers\n",
@@ -77,6 +77,10 @@ FILES = {
     "asked/requests/web1.csv": REQUESTS,
     "asked/keys/web1.csv": "number,log,line,time,outcome,reason,note\n1,auth.log,1,2026-11-20T10:01:02,accepted,,\n",
     "asked/report.csv": REPORT,
+    "reviewed/cautions.csv": "place,class,text,line\npolicy:2,case,a name,jen\n",
+    "reviewed/grants.csv": "place,users,hosts,runas,sign,command,tags,depends\npolicy:2,jen,ALL,,,/usr/bin/id,,\n",
+    "reviewed/roots.csv": "user,host,target,level,password,place,tags,via,depends\njen,web1,root,listed,own,policy:2,,,\n",
+    "reviewed/subjects.csv": "place,kind,name,what\npolicy:2,user,gus,unknown\n",
     "probed/senders.csv": SENDERS,
     "probed/requests/web1.csv": REQUESTS,
     "probed/keys/web1.csv": "number,kind\n1,shell\n",
@@ -109,6 +113,7 @@ COLLECTED = ("passwd", "group", "hostname", "addr.json")
 TREE = ("policy", "tree", "tree/etc", "tree/etc/sudoers", "tree/etc/sudoers.d/10-more", "logs", "logs/auth.log")
 OF_HOST = ["hosts/web1", *(f"hosts/web1/{name}" for name in COLLECTED)]
 REPLAY = ["replay", "--policy", "policy", "--directory", ".", "--programs", "programs.csv", "--out", "out", "auth.log"]
+PAGE = ["page", "--review", "reviewed", *DIRECTORY, "--out", "page.html"]
 JOIN = ["fleet", "fleet", "--out", "out", "--join"]
 PART = ["fleet", "fleet", "--out", "out", "--part", "1/1"]
 COMMANDS = {
@@ -141,8 +146,11 @@ COMMANDS = {
         named=["policy", "changes.csv", *(f"asked/{name}" for name in ("senders.csv", "report.csv", "keys/web1.csv"))],
     ),
     "page of probes": Command(
-        ["page", "--policy", "policy", "--old-policy", "new", "--probe", "probed", "--out", "page.html"],
+        [*PAGE, "--policy", "policy", "--old-policy", "new", "--probe", "probed"],
         named=["policy", "new", *(f"probed/{name}" for name in ("senders.csv", "report.csv", "keys/web1.csv"))],
+    ),
+    "page of a review": Command(
+        PAGE, named=["users.csv", "hosts.csv", *(f"reviewed/{name}.csv" for name in ("cautions", "grants", "roots", "subjects"))]
     ),
     "replay": Command(
         [*REPLAY, "--old-policy", "new", "--host-map", "map.csv", "--users", "new-users.csv"],
@@ -159,7 +167,8 @@ COMMANDS = {
     ),
     "replay that continues": Command(
         [*REPLAY, "--old-policy", "new"],
-        found=[f"out/{name}" for name in (".steps.json", "requests/senders.csv", "requests/report.csv", "probe/report.csv")],
+        found=[f"out/{name}" for name in (".steps.json", "requests/senders.csv", "requests/report.csv", "probe/report.csv")]
+        + ["out/review/roots.csv", "out/requests/rules.csv"],
         first=[*REPLAY, "--old-policy", "new"],
     ),
     "fleet": Command(
@@ -169,6 +178,12 @@ COMMANDS = {
         + [f"fleet/web1/{name}" for name in ("requests", "requests/web1.csv")],
         then=JOIN,
         web2=("out/status.csv", "web2,1,done,1,\n"),
+    ),
+    "fleet of roots": Command(
+        ["fleet", "fleet", "--out", "out", "--roots"],
+        found=[f"fleet/{name}" for name in ("users.csv", "hosts.csv", "policy", "tree", "tree/etc/sudoers", "web1")]
+        + [f"fleet/web1/{name}" for name in ("policy", "tree", "tree/etc/sudoers", "users.csv", "hosts.csv")],
+        web2=("out/reviewed.csv", "web2,done,2,"),
     ),
     "fleet that is joined": Command(JOIN, found=["out/shards/web1.1.shard"], first=PART),
     "gather": Command(
@@ -245,6 +260,7 @@ class Ended(NamedTuple):
 
 
 @needs_program
+@needs_review
 @needs_jinja
 class Sweep(Case):
     def setUp(self) -> None:

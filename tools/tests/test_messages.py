@@ -1,5 +1,6 @@
 """What sudo writes of a command."""
 
+import json
 import unittest
 
 import support  # noqa: F401
@@ -9,9 +10,13 @@ from kulavemia.messages import (
     FAILED,
     REFUSED,
     Event,
+    Pairs,
     Skipped,
     arguments_of,
     event_of,
+    event_of_json,
+    json_events,
+    may_be_edit,
     outcome_of,
     with_editor,
 )
@@ -99,6 +104,28 @@ class Messages(unittest.TestCase):
         self.assertIn("logged as /usr/bin/vim --", found.note)
         kept = event("USER=root ; COMMAND=/usr/bin/true -- /etc/motd")
         self.assertEqual(with_editor(kept, EDITORS), kept)
+
+    def test_any_command_with_files_may_be_an_editor(self) -> None:
+        texts = {"-- /etc/motd": "/etc/motd", "-x -- /a -- /b": "/a -- /b", "--": None, "-- ": None, "x--": None}
+        for text, files in texts.items():
+            found = may_be_edit(event(f"USER=root ; COMMAND=/usr/bin/true {text}"))
+            self.assertEqual(found and found.request[4:], files and ("sudoedit", files), text)
+        for text in ("command not allowed ; USER=root ; COMMAND=/bin/true -- /a", "USER=root ; COMMAND=sudoedit -- /a"):
+            self.assertIsNone(may_be_edit(event(text)))
+
+    def test_an_editor_in_json_has_the_environment_of_its_user(self) -> None:
+        argv = '["/bin/true","-x","--","/etc/motd"]'
+        for environment, command in (
+            ('["EDITOR=/bin/true -x"]', "sudoedit"),
+            ('["SUDO_COMMAND=/bin/true -x -- /etc/motd"]', "/bin/true"),
+            ("[]", "/bin/true"),
+        ):
+            text = f'{{"accept":{{"submituser":"a","command":"/bin/true","runargv":{argv},"runenv":{environment}}}}}'
+            ((kind, body),) = json_events(json.loads(text, object_pairs_hook=Pairs))
+            _, found = event_of_json(kind, body, "web1")
+            assert isinstance(found, Event)
+            arguments = "/etc/motd" if command == "sudoedit" else "-x -- /etc/motd"
+            self.assertEqual(found.request[4:], (command, arguments))
 
 
 if __name__ == "__main__":

@@ -26,6 +26,7 @@ ALLOWED = {
     ("fleet_handed.py", "write_below"): WORKER,
     ("fleet_handed.py", "Handed.folder"): WORKER,
     ("fleet_plan.py", "Fleet.__init__"): "the program, which the user names",
+    ("fleet_review.py", "Reviewing.one"): "a folder for copies of a host's policy",
     ("fleet_work.py", "judged"): WORKER,
     ("fleet_work.py", "_report_of"): WORKER,
     ("fleet_cluster.py", "local"): "a folder for the workers of this machine",

@@ -2,18 +2,23 @@
 
 import json
 import re
-import subprocess
 import unittest
 from unittest import mock
 
-from support import BROWSER, EXAMPLES, Case, needs_browser, needs_jinja, needs_program
-from kulavemia import page as page_module
+from browsing import browsed
+from support import EXAMPLES, Case, needs_browser, needs_jinja, needs_program
+from kulavemia import evidence
 from kulavemia.answers import Answer, Verdict
 from kulavemia.command import Fault
-from kulavemia.page import Inputs, Page, as_json, rendered
+from kulavemia.effects import Effect
+from kulavemia.grants import Grants
+from kulavemia.messages import AS_EDIT, MAY_BE_EDIT
+from kulavemia.page import Caution, Inputs, Page, Subject, as_json, rendered
 from kulavemia.page import write as write_page
 from kulavemia.requests import LOG_KEY, Request, Writer
-from kulavemia.roots import Numbering, Roots, Said
+from kulavemia.roots import Roots
+from kulavemia.sorting import Tally
+from kulavemia.sums import File
 from kulavemia.text import visible
 from kulavemia.uses import Uses
 
@@ -22,17 +27,6 @@ HOSTILE = (
     "/bin/echo </script><script>document.title='owned'</script><img src=x onerror=\"document.title='owned'\"> '\""
     " \x1b[31m \u202egnp.exe \u2028 {{ 7*7 }} &lt; \udcff"
 )
-
-
-def probe(user: str, host: str, verdict: str, tags: str = "", kind: str = "shell", place: str = "p:1") -> Answer:
-    """Returns an answer to a probe."""
-    return Answer(
-        "p",
-        1,
-        Request(user, host, "root", "", f"/bin/{kind}", ""),
-        Verdict(verdict, place if verdict in ("allow", "deny") else "", tags),
-        (kind,),
-    )
 
 
 def asked(
@@ -54,22 +48,13 @@ def asked(
     )
 
 
-def browsed(path: str, *options: str) -> str:
-    """Returns the page as the browser has it when its scripts have run."""
-    assert BROWSER
-    words = [
-        BROWSER,
-        "--headless",
-        "--no-sandbox",
-        "--disable-gpu",
-        "--disable-dev-shm-usage",
-        "--virtual-time-budget=20000",
-        *options,
-        "--dump-dom",
-        f"file://{path}",
-    ]
-    done = subprocess.run(words, stdout=subprocess.PIPE, stderr=subprocess.DEVNULL, timeout=60, check=True)
-    return done.stdout.decode("utf-8", "replace")
+def hostile_evidence() -> evidence.Evidence:
+    """Returns evidence of hostile text in every part."""
+    file, tally = File(HOSTILE, 1, HOSTILE, 1), Tally(1, 2, 3, HOSTILE, HOSTILE)
+    host = evidence.Host(HOSTILE, True, HOSTILE, HOSTILE, 1, HOSTILE, HOSTILE)
+    made = evidence.Made(HOSTILE, HOSTILE, HOSTILE, HOSTILE, HOSTILE)
+    programs = [evidence.Program(HOSTILE, HOSTILE, HOSTILE)]
+    return evidence.Evidence(made, programs, [file], [file], [file], [file], [evidence.Log(file, tally)], [host], [HOSTILE])
 
 
 class Text(unittest.TestCase):
@@ -82,47 +67,7 @@ class Text(unittest.TestCase):
         self.assertEqual(json.loads(text), ["</script><!--", "\u2028&", "\udcff"])
 
 
-class Table(unittest.TestCase):
-    def gathered(self, answers: list[Answer]) -> Roots:
-        roots = Roots(Numbering())
-        roots.take_all(answers)
-        return roots
-
-    def test_levels(self) -> None:
-        for answers, wanted in (
-            ([("nomatch", "", "shell")], 0),
-            ([("deny", "", "shell")], 0),
-            ([("allow", "", "shell")], 1),
-            ([("allow", "NOPASSWD", "shell")], 2),
-            ([("allow", "", "any command"), ("allow", "NOPASSWD", "shell")], 3),
-            ([("allow", "SETENV NOPASSWD", "any command")], 4),
-            ([("unknown-user", "", "shell")], 5),
-        ):
-            roots = self.gathered([probe("a", "h", verdict, tags, kind) for verdict, tags, kind in answers])
-            self.assertEqual([roots.levels()[cell] for cell in roots.rows.list()[0]], [wanted], answers)
-
-    def test_rows_and_groups(self) -> None:
-        roots = self.gathered(
-            [
-                probe(user, host, "allow" if user != "c" and host == "i" else "nomatch")
-                for user in "abc"
-                for host in "hij"
-            ]
-        )
-        data = roots.data()
-        self.assertEqual((data["users"], data["hosts"]), (["a", "b", "c"], ["h", "i", "j"]))
-        self.assertEqual([data["rows"][row] for row in data["rowOf"]], [[0, 1, 1, 1, 0, 1]] * 2 + [[0, 3]])
-        self.assertEqual(
-            [(group.users, group.counts) for group in roots.groups()],
-            [(["a", "b"], [2, 1, 0, 0, 0, 0]), (["c"], [3, 0, 0, 0, 0, 0])],
-        )
-
-    def test_probes_that_do_not_stand_together(self) -> None:
-        with self.assertRaisesRegex(Fault, "the probes of a do not stand together"):
-            self.gathered([probe(user, "h", "allow") for user in "aba"])
-        with self.assertRaisesRegex(Fault, "the probes of a on h do not stand together"):
-            self.gathered([probe("a", host, "allow") for host in "hih"])
-
+class Requests(unittest.TestCase):
     def test_uses(self) -> None:
         uses = Uses()
         uses.take_all(
@@ -147,6 +92,27 @@ class Table(unittest.TestCase):
         )
         self.assertEqual((uses.places["p:1"], uses.places["p:2"]), (1, 1))
 
+    def test_a_request_that_may_be_one_to_edit_is_as_then_if_either_way_is(self) -> None:
+        for plain, edit, same, denied in (
+            ("nomatch", "allow", 1, 0),
+            ("allow", "nomatch", 1, 0),
+            ("allow", "allow", 1, 0),
+            ("nomatch", "deny", 0, 1),
+        ):
+            uses = Uses()
+            first, second = asked("accepted", plain, place="p:1"), asked("accepted", edit, "sudoedit", place="p:2")
+            uses.take_all([with_note(first, MAY_BE_EDIT), with_note(second, f"octal read, {AS_EDIT}")] * 2)
+            self.assertEqual((uses.count, uses.same, uses.denied.count), (2, 2 * same, 2 * denied))
+            self.assertEqual(sum(uses.places.values()), 2)
+        uses = Uses()
+        uses.take_all([with_note(asked("accepted", "nomatch"), MAY_BE_EDIT), asked("accepted", "allow")])
+        self.assertEqual((uses.count, uses.same, uses.denied.count), (2, 1, 1))
+
+
+def with_note(answer: Answer, note: str) -> Answer:
+    """Returns an answer whose key has a note."""
+    return answer._replace(key=(*answer.key[:-1], note))
+
 
 @needs_jinja
 class Made(Case):
@@ -163,8 +129,12 @@ class Made(Case):
             answer = asked(outcome, verdict, HOSTILE, HOSTILE, HOSTILE, place=f"{HOSTILE}:1")
             page.uses.take_all([answer._replace(key=(log, "1", HOSTILE, outcome, HOSTILE, HOSTILE))])
         page.log_texts = page._log_texts()
-        page.roots = Roots(page.places)
-        page.roots.take_all([probe(HOSTILE, HOSTILE, "allow", HOSTILE, HOSTILE, place=f"{HOSTILE}:1")])
+        name = HOSTILE.replace("/", "-")
+        page.evidence = hostile_evidence()
+        page.roots = Roots([name], [name], Grants([[f"{name}:1", "ALL", "ALL", name, "!", name, name, ""]], [name], [name]), True)
+        page.roots.take_all([[name, name, name, "all", name, f"{name}:1", name, name, name]])
+        page.cautions = [Caution(f"{name}:1", "case", name, name, Effect("who", name))]
+        page.subjects = [Subject(f"{name}:1", "user", name, "unknown", name)]
         path = self.path("page.html")
         write_page(page, path)
         return path
@@ -196,6 +166,12 @@ class Made(Case):
         targets = set(re.findall('id="([^"]+)"', text))
         self.assertFalse({link for link in re.findall('href="#([^"]+)"', text)} - targets)
 
+    def test_a_tab_in_a_rule_is_a_blank(self) -> None:
+        policy = self.write("policy", "root\tALL=(ALL:ALL)\tALL\n")
+        text = rendered(Page(Inputs("t", policy=policy)))
+        self.has(text, "root ALL=(ALL:ALL) ALL")
+        self.assertFalse("U+0009" in text)
+
     def test_rows_that_are_left_out_are_told(self) -> None:
         page = Page(Inputs("t", rows=2))
         page.uses = Uses()
@@ -222,91 +198,6 @@ class Made(Case):
         self.has(found, "&lt;/script&gt;&lt;script&gt;")
         self.assertFalse("<title>owned" in found or "<img" in found)
 
-    @needs_browser
-    def test_what_a_reader_does_with_the_map(self) -> None:
-        page = Page(Inputs("t", policy=POLICY))
-        page.roots = Roots(page.places)
-        page.roots.take_all(
-            probe(
-                user,
-                host,
-                "allow" if user in reach else "nomatch",
-                "NOPASSWD",
-                place=f"{POLICY}:{45 + (user == 'carol')}",
-            )
-            for reach in (("alice", "bob", "carol"),)
-            for user in ("alice", "bob", "carol", "dave")
-            for host in ("db1", "web1", "web2")
-        )
-        steps = """
-            const say = (name, text) => { document.documentElement.dataset[name] = text; };
-            const rows = () => [...document.querySelectorAll('#heat tbody tr')].map((row) => row.textContent).join('|');
-            const click = (selector) => document.querySelector(selector).click();
-            say('first', rows());
-            click('#heat td.some-free button');
-            say('answers', document.getElementById('answers').textContent);
-            say('link', document.querySelector('#answers a').getAttribute('href'));
-            click('#heat tbody th button');
-            say('opened', rows());
-            click('#fold');
-            say('unfolded', rows());
-            click('#reaching');
-            say('all', rows());
-            click('#rule-3 a.who');
-            say('who', rows());
-            document.querySelector('input[data-table="rules-table"]').value = 'FULLTIMERS';
-            document.querySelector('input[data-table="rules-table"]').dispatchEvent(new Event('input'));
-            say('found', document.querySelector('.found[data-table="rules-table"]').textContent);
-        """
-        part = page_module._part
-        with mock.patch.object(
-            page_module, "_part", lambda name: part(name) + steps if name == "page.js" else part(name)
-        ):
-            write_page(page, self.path("page.html"))
-        found = dict(
-            re.findall('data-([a-z]+)="([^"]*)"', browsed(self.path("page.html")).partition(">")[2].partition(">")[0])
-        )
-        self.assertEqual(found["first"], "alice +1s!|carols!")
-        self.assertIn("FULLTIMERS ALL = NOPASSWD: ALL", found["answers"])
-        self.assertEqual((found["link"], found["opened"]), ("#rule-2", "alices!|bobs!|carols!"))
-        self.assertEqual(found["unfolded"], "alices!s!s!|bobs!s!s!|carols!s!s!")
-        self.assertEqual((found["all"], found["who"]), (found["unfolded"] + "|dave···", "carols!s!s!"))
-        self.assertEqual(found["found"], "1 found")
-
-    @needs_browser
-    def test_a_large_page_opens(self) -> None:
-        page = Page(Inputs("Large", policy=POLICY))
-        page.roots = large_roots(page.places, 5000, 1000)
-        path = self.path("large.html")
-        write_page(page, path)
-        found = browsed(path)
-        self.has(found, "4,999 users in")
-        # After how many milliseconds the page stood; docs/PERFORMANCE.md has a figure.
-        self.assertRegex(found, 'data-ready="[0-9]+"')
-
-
-def large_roots(places: Numbering[str], users: int, hosts: int) -> Roots:
-    """Returns a table in which hundreds of kinds of users reach different hosts by hundreds of rules."""
-    roots = Roots(places)
-    roots.take_all(probe("first", f"host{host}.example.org", "nomatch") for host in range(hosts))
-    cells = [roots.cells.of(said(roots, at)) for at in range(300)]
-    for user in range(users - 1):
-        roots.users.of(f"user{user}")
-        if user < 700:
-            roots.row_of.append(
-                roots.rows.of(tuple(cells[(user * 31 + host * (1 + user % 13) // 5) % 300] for host in range(hosts)))
-            )
-        else:
-            roots.row_of.append(roots.row_of[1 + user % 700])
-    return roots
-
-
-def said(roots: Roots, at: int) -> tuple[Said, ...]:
-    """Returns the answers of one of hundreds of kinds, or none."""
-    if at % 3 == 0:
-        return ()
-    return (Said(0, "allow", roots.places.of(f"policy:{at}"), "NOPASSWD" if at % 2 else ""),)
-
 
 @needs_jinja
 @needs_program
@@ -320,6 +211,8 @@ class Command(Case):
         self.write("r/report.csv", "sender,number,verdict,line,tags\nweb,1,nomatch,,\n")
         self.run_tool("page", "--requests", "r", "--policy", POLICY, "--out", "page.html")
         self.assertTrue("Would be denied now: 1" in self.read("page.html"))
+        err = self.run_tool("page", "--probe", "r", "--policy", POLICY, "--out", "x.html", status=2)[1]
+        self.assertIn("--review, --users and --hosts are wanted together", err)
         self.assertIn("nothing to show", self.run_tool("page", "--out", "x.html", status=2)[1])
         said = self.run_tool("page", "--requests", "r", "--rows", "-1", "--out", "x.html", status=2)[1]
         self.assertIn("--rows is not below 0", said)

@@ -50,7 +50,7 @@ class Find(Case):
 
     def test_the_second_program(self) -> None:
         self.program("path/sudo_audit")
-        with self.assertRaisesRegex(Fault, r"no program sudo_review: build it, or name it by --program or \$SUDO_REVIEW"):
+        with self.assertRaisesRegex(Fault, r"no program sudo_review: build it, or name it by --review or \$SUDO_REVIEW"):
             program.find(None, "sudo_review")
         os.environ["SUDO_AUDIT"] = self.program("other")
         for name in ("crates/sudo_review/out/sudo_review", "bin/sudo_review", "path/sudo_review"):

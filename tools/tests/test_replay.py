@@ -1,23 +1,31 @@
 """From logs to the page."""
 
+import hashlib
+import html
+import json
 import os
+import re
 import shlex
 import shutil
 import subprocess
 import time
 import unittest
+from collections.abc import Iterable
 
-from support import EXAMPLES, PROGRAM, TOOLS, Case, needs_jinja, needs_program
+from recorded import faults_of
+from support import EXAMPLES, PROGRAM, TOOLS, Case, needs_jinja, needs_keygen, needs_program, needs_review, needs_schema
 
 LOG = """Nov 20 10:01:02 web1 sudo[1]:    steve : TTY=pts/0 ; PWD=/ ; USER=operator ; COMMAND=/usr/local/op_commands/rotate
 Nov 20 10:02:02 web1 sudo[2]:    jen : TTY=pts/0 ; PWD=/ ; USER=root ; COMMAND=/usr/bin/id <script>alert(1)</script>
 Nov 20 10:03:02 web1 sudo[3]:    millert : command not allowed ; TTY=pts/0 ; PWD=/ ; USER=root ; COMMAND=/usr/bin/bash
 Nov 20 10:04:02 web1 sudo[4]:    guest : 3 incorrect password attempts ; TTY=pts/0 ; PWD=/ ; USER=root ; COMMAND=/usr/bin/id
 """
+USERS = ((1, "ann"), (2, "ben"), (3, "dan"), (4, "eve"), (5, "kim"))
 PROGRAMS = "kind,command,arguments\nany command,/none/such,\nshell,/usr/bin/bash,\n"
 
 
 @needs_program
+@needs_review
 @needs_jinja
 class Replay(Case):
     def setUp(self) -> None:
@@ -94,10 +102,15 @@ class Replay(Case):
         self.assertIn(
             "web1_example_org,2,allow,/etc/sudoers.d/10-jen:1,SETENV", self.rows("out", "requests", "report.csv")
         )
-        self.assertNotIn(
-            self.folder, self.read("out", "page.html").partition("<dt>Program</dt>")[2].partition("</dd>")[2]
-        )
-        self.assertIn("jen ALL = ALL", self.read("out", "page.html"))
+        page = self.read("out", "page.html")
+        self.assertFalse(self.folder in page)
+        for part in ("jen ALL = ALL", "nsswitch.conf: sudoers: files sss", 'class="path">/etc/sudoers.d/10-jen<'):
+            self.assertTrue(part in page, part)
+        # The sums are those of the files as they were collected, and not of the copies.
+        files = {file["path"]: file["sha256"] for file in json.loads(self.read("out", "review.json"))["files"]}
+        with open(self.path("web1", "tree", "etc", "sudoers"), "rb") as file:
+            self.assertEqual(files["/etc/sudoers"], hashlib.sha256(file.read()).hexdigest())
+        self.assertIn("web1/passwd", files)
 
     def test_lines_without_a_host_are_of_the_only_host(self) -> None:
         self.write("directory/users.csv", "user,uid,groups\nroot,0,root:0\nguest,1,guest:1\n")
@@ -140,12 +153,89 @@ class Replay(Case):
         err = self.replay("--tree", "tree", "--directory", EXAMPLES, status=5)[1]
         self.assertIn("replay: sudo_audit: /etc/more:1:5: syntax error", err)
 
+    @needs_schema
+    def test_what_the_page_rests_on(self) -> None:
+        self.replay("--policy", f"{EXAMPLES}/sudoers", "--directory", EXAMPLES)
+        record = json.loads(self.read("out", "review.json"))
+        self.assertEqual(faults_of(record), [])
+        self.assertEqual([program["name"] for program in record["programs"]], ["sudo_audit", "sudo_review"])
+        self.assertTrue(all(program["version"] for program in record["programs"]))
+        self.assertEqual([(log["path"], log["taken"], log["passed_over"]) for log in record["logs"]], [("auth.log", 4, 0)])
+        hosts = {host["name"]: (host["requests"], host["first"][5:], host["last"][5:]) for host in record["hosts"]}
+        self.assertEqual(hosts["web1.example.org"], (4, "11-20T10:01:02", "11-20T10:04:02"))
+        self.assertEqual(hosts["db1.example.org"], (0, "", ""))
+        page = self.read("out", "page.html")
+        for sentence in record["sentences"]:
+            self.assertTrue(html.escape(sentence, quote=False) in page, sentence)
+        self.assertEqual(len(record["rules"]), 20)
+        self.assertEqual(sum(rule["allowed"] for rule in record["rules"]), 2)
+        done = subprocess.run(["sha256sum", "-c", "review.sha256"], cwd=self.path("out"), stdout=subprocess.PIPE, check=True)
+        names = ["page.html", "review.json", *(f"review/{name}.csv" for name in ("cautions", "grants", "roots", "subjects"))]
+        names += ["requests/report.csv", "probe/report.csv", "requests/rules.csv"]
+        self.assertEqual(done.stdout.decode().splitlines(), [f"{name}: OK" for name in names])
+
+    def test_who_can_become_root(self) -> None:
+        self.write("d/users.csv", "user,uid,groups\nroot,0,root:0\n" + "".join(f"{user},{at},staff:50\n" for at, user in USERS))
+        self.write("d/hosts.csv", "host,interfaces\nweb1,\n")
+        rules = (
+            "eve ALL = (ALL) NOPASSWD: ALL",
+            "ben ALL = (eve) NOPASSWD: ALL",
+            "ann ALL = (root) ALL, !/opt/su",
+            "dan ALL = NOPASSWD: /usr/local/bin/*",
+            "gus ALL = ALL",
+            "#1234 ALL = NOPASSWD: ALL",
+        )
+        self.assertEqual(self.marks(rules), {"ann": "B", "ben": "A!", "dan": "L?", "eve": "A!", "kim": "·", "root": "R"})
+        record = json.loads(self.read("out", "review.json"))
+        named = [subject["name"] for subject in record["subjects"] if subject["what"] == "unknown"]
+        self.assertEqual(named, ["gus", "#1234"])
+        (reached,) = [row for row in record["roots"]["reached"] if row["users"] == ["dan"]]
+        self.assertEqual([grant["command"] for grant in reached["grants"]], ["/usr/local/bin/*"])
+        self.assertIn("Of these, one gets there through another user or group: ben.", record["sentences"])
+
+    def test_a_caution_that_is_about_cells(self) -> None:
+        self.write("d/users.csv", "user,uid,groups\nroot,0,root:0\nann,1,ann:1\nkim,2,kim:2\n")
+        self.write("d/hosts.csv", "host,interfaces\nweb1,\n")
+        for line, wanted in (
+            ("", "A ·"),
+            ("Defaults !authenticate", "A? ·"),
+            ("Defaults:kim targetpw", "A? ·"),
+            ("Defaults runas_default=kim", "?A ?"),
+            ("Kim ALL = /opt/x", "?A ?"),
+            ("Defaults noexec", "A ·"),
+            ("kim ALL = (kim) /bin/ls [^a]", "A ·"),
+        ):
+            shutil.rmtree(self.path("out"), ignore_errors=True)
+            marks = self.marks(["ann ALL = ALL", line])
+            self.assertEqual(f"{marks['ann']} {marks['kim']}", wanted, line)
+        page = self.read("out", "page.html")
+        self.assertTrue("What sudo reads otherwise: 2" in page)
+
+    def marks(self, rules: Iterable[str]) -> dict[str, str]:
+        """Returns the mark of each user on the only host, under rules and that for root."""
+        self.write("policy", "root ALL = (ALL) ALL\n" + "".join(f"{rule}\n" for rule in rules))
+        self.run_tool("replay", "--out", "out", "--policy", "policy", "--directory", "d", "--no-probe")
+        data = json.loads(re.findall('id="data">(.*?)</script>', self.read("out", "page.html"))[0])["roots"]
+        marks = [data["cells"][data["rows"][row][0]][1] for row in data["rowOf"]]
+        return dict(zip(data["users"], marks))
+
+    @needs_keygen
+    def test_a_signature(self) -> None:
+        subprocess.run(["ssh-keygen", "-q", "-t", "ed25519", "-N", "", "-f", self.path("-key")], check=True)
+        given = ("--policy", f"{EXAMPLES}/sudoers", "--directory", EXAMPLES, "--no-probe")
+        self.replay(*given, "--sign=-key")
+        self.assertTrue(self.read("out", "review.sha256.sig").startswith("-----BEGIN SSH SIGNATURE-----"))
+        self.replay(*given)
+        self.assertFalse(os.path.exists(self.path("out", "review.sha256.sig")))
+        self.assertIn("ssh-keygen: ", self.replay(*given, "--sign", "gone", status=4)[1])
+
     def test_words(self) -> None:
         self.assertIn(
             "--directory or --collected is wanted", self.replay("--policy", f"{EXAMPLES}/sudoers", status=2)[1]
         )
         given = ("--policy", f"{EXAMPLES}/sudoers", "--directory", EXAMPLES)
         self.replay(*given, "--program", "/gone", status=5)
+        self.replay(*given, "--review", "/gone", status=5)
         self.assertIn("--rows is not below 0", self.replay(*given, "--rows", "-1", status=2)[1])
         self.assertFalse(os.path.exists(self.path("out")))
         os.makedirs(self.path("out"))
@@ -164,6 +254,7 @@ exec {program} "$@"
 
 
 @needs_program
+@needs_review
 @needs_jinja
 class Continued(Case):
     """A replay that is cut off, and started again."""

@@ -12,7 +12,7 @@ import unittest
 from collections.abc import Sequence
 from unittest import mock
 
-from support import EXAMPLES, REQUESTS_HEADER, Case, needs_jinja, needs_program
+from support import EXAMPLES, REQUESTS_HEADER, Case, needs_jinja, needs_program, needs_review
 from kulavemia import program
 from kulavemia.answers import verdicts
 from kulavemia.requests import sources_of
@@ -28,6 +28,8 @@ LINE = "Nov 20 10:01:02 {host} sudo[1]: {user} : PWD=/ ; USER=root ; COMMAND=/bi
 REPORT = "sender,number,verdict,line,tags\n"
 FORMULAS = ("=cmd|' /C calc'!A0", "+1", "-1", "@SUM(1)", "\t=1", "\r=1", "'=1")
 PROGRAMS = "kind,command,arguments\nany command,/none/such,\n"
+# When a page was made, and how long before its files were.
+TIMES = re.compile(r"\d{4}-\d\d-\d\dT[0-9:+-]+|\d+ \w+ before|in the minute before")
 
 
 def event(kind: str, **fields: str | list[str]) -> str:
@@ -173,6 +175,7 @@ class Spreadsheets(Case):
 
 
 @needs_program
+@needs_review
 @needs_jinja
 class Replay(Case):
     """The program and the page over hostile logs."""
@@ -206,7 +209,7 @@ class Replay(Case):
         pages = []
         for words in ((), ("--spreadsheet",)):
             self.replay(log, *words)
-            pages.append(self.read("out", "page.html"))
+            pages.append(TIMES.sub("", self.read("out", "page.html")))
         self.assertEqual(*pages)
 
     def test_files_of_a_policy_whose_names_are_shown_alike(self) -> None:

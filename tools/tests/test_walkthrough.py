@@ -11,7 +11,7 @@ import subprocess
 import unittest
 
 from machine import MachineCase
-from support import EXAMPLES, PROGRAM, TOOLS, needs_jinja, needs_program
+from support import EXAMPLES, PROGRAM, REVIEW, TOOLS, needs_jinja, needs_keygen, needs_program, needs_review
 
 REPOSITORY = os.path.dirname(TOOLS)
 
@@ -44,12 +44,15 @@ class Walkthrough(MachineCase):
         os.symlink(TOOLS, self.path("tools"))
         shutil.copytree(EXAMPLES, self.path("examples"))
         os.symlink(os.path.abspath(PROGRAM or ""), self.path("bin", "sudo_audit"))
+        os.symlink(os.path.abspath(REVIEW or ""), self.path("bin", "sudo_review"))
         environment = {"PATH": f"{self.path('bin')}:/usr/local/bin:/usr/bin:/bin:/usr/sbin", "LC_ALL": "C.UTF-8"}
         words = ["bash", "-c", script_of(commands)]
         done = subprocess.run(words, cwd=self.folder, env=environment, stdout=subprocess.PIPE, check=False)
         return done.stdout.decode("utf-8").split("\0")[:-1]
 
     @needs_program
+    @needs_review
+    @needs_keygen
     @needs_jinja
     def test_each_command_prints_what_the_page_shows(self) -> None:
         with open(os.path.join(REPOSITORY, "docs", "WALKTHROUGH.md"), encoding="utf-8") as file:

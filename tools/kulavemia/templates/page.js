@@ -25,9 +25,6 @@
   for (const input of document.querySelectorAll("input[data-table]")) {
     input.addEventListener("input", () => searchTable(input));
   }
-  window.addEventListener("beforeprint", () => {
-    for (const details of document.querySelectorAll("details")) details.open = true;
-  });
   // Says for tests that the page stands, and after how many milliseconds.
   const ready = () => {
     document.documentElement.dataset.ready = Math.round(performance.now());
@@ -38,17 +35,22 @@
   }
 
   const USERS_SHOWN = 40;
-  const HOSTS_SHOWN = 24;
+  const MOST_HOSTS = 24;
+  const FEW_HOSTS = 3;
+  const CELL_WIDTH = 40;
   const LABEL_LIMIT = 24;
-  const { users, hosts, programs, cells, levels, rows, rowOf, empty } = data.roots;
-  const rank = [0, 2, 3, 4, 5, 1];
+  const GRANTS_SHOWN = 200;
+  const { users, hosts, cells, grants, rows, rowOf } = data.roots;
+  const counted = (count, one) => `${number(count)} ${one}${count === 1 ? "" : "s"}`;
+  // A cell is its level, its mark, its meaning, the ways to root and the numbers of the grants that they rest on.
+  const levels = cells.map(([level]) => level);
 
   // The cells of a row, one for each host.
   const expanded = new Map();
   const cellsOf = (row) => {
     let found = expanded.get(row);
     if (!found) {
-      found = new Uint32Array(hosts.length).fill(empty);
+      found = new Uint32Array(hosts.length);
       let at = 0;
       const runs = rows[row];
       for (let i = 0; i < runs.length; i += 2) {
@@ -93,12 +95,13 @@
     return groupBy(chosen, (host) => classes[host]);
   };
 
-  const cellText = cells.map((cell) => {
-    const parts = [];
-    for (const [verdict, place, tags, which] of cell) {
-      parts.push(verdict, tags);
-      if (place >= 0) parts.push(data.places[place].join(" "));
-      for (const program of which) parts.push(programs[program].join(" "));
+  const placeText = (place) => (place < 0 ? "" : data.places[place].join(" "));
+  const cellText = cells.map(([, mark, meaning, ways, rests]) => {
+    const parts = [mark, meaning];
+    for (const [target, level, password, place, tags, via] of ways) parts.push(target, level, password, placeText(place), tags, via);
+    for (const at of rests) {
+      const [place, ...rest] = grants[at];
+      parts.push(placeText(place), ...rest);
     }
     return parts.join("\n").toLowerCase();
   });
@@ -144,8 +147,8 @@
     view.hosts = view.hosts.flatMap((group) => (group.some((host) => view.opened.has("h" + host)) ? group.map(one) : [group]));
     view.userAt = Math.min(view.userAt, Math.max(0, view.users.length - 1));
     view.hostAt = Math.min(view.hostAt, Math.max(0, view.hosts.length - 1));
-    find("map-found").textContent = `${number(userList.length)} users in ${number(view.users.length)} rows, ` +
-      `${number(hostList.length)} hosts in ${number(view.hosts.length)} columns`;
+    find("map-found").textContent = `${counted(userList.length, "user")} in ${counted(view.users.length, "row")}, ` +
+      `${counted(hostList.length, "host")} in ${counted(view.hosts.length, "column")}`;
     drawOverview();
     drawTable();
   };
@@ -153,7 +156,7 @@
   const worst = (userGroup, hostGroup) => cellsOf(rowOf[userGroup[0]])[hostGroup[0]];
 
   // The colours of the levels, as the style has them.
-  const colours = data.levels.map(([name]) => {
+  const coloursNow = () => data.levels.map(([name]) => {
     const probe = make("span", "", name);
     find("map").append(probe);
     const parts = getComputedStyle(probe).backgroundColor.match(/\d+/g).map(Number);
@@ -161,13 +164,20 @@
     return parts;
   });
 
+  // How many columns fit, so that the table is never wider than the page.
+  const hostsShown = () => {
+    const width = find("map").clientWidth - (window.innerWidth > 1000 ? 700 : 200);
+    return Math.max(1, Math.min(MOST_HOSTS, Math.floor(width / CELL_WIDTH)));
+  };
+
   // Draws all rows and columns, a point each; where there are too many for it, the most that any of them reaches.
   const drawOverview = () => {
     const canvas = find("overview");
     const width = Math.min(view.hosts.length, 1200);
     const height = Math.min(view.users.length, 600);
-    canvas.hidden = !(width * height) || (view.users.length <= USERS_SHOWN && view.hosts.length <= HOSTS_SHOWN);
+    canvas.hidden = !(width * height) || (view.users.length <= USERS_SHOWN && view.hosts.length <= hostsShown());
     if (canvas.hidden) return;
+    const colours = coloursNow();
     canvas.width = width;
     canvas.height = height;
     const worstAt = new Uint8Array(width * height);
@@ -178,7 +188,7 @@
       const start = Math.floor((r * height) / view.users.length) * width;
       for (let c = 0; c < first.length; c += 1) {
         const level = levels[cellsHere[first[c]]];
-        if (rank[level] > rank[worstAt[start + column[c]]]) worstAt[start + column[c]] = level;
+        if (level > worstAt[start + column[c]]) worstAt[start + column[c]] = level;
       }
     }
     const image = new ImageData(width, height);
@@ -222,8 +232,9 @@
 
   const drawTable = () => {
     const table = find("heat");
+    const width = hostsShown();
     const shownUsers = view.users.slice(view.userAt, view.userAt + USERS_SHOWN);
-    const shownHosts = view.hosts.slice(view.hostAt, view.hostAt + HOSTS_SHOWN);
+    const shownHosts = view.hosts.slice(view.hostAt, view.hostAt + width);
     const head = make("tr");
     head.append(make("th", "User"));
     for (const group of shownHosts) {
@@ -232,17 +243,20 @@
       cell.className = "host";
       head.append(cell);
     }
+    table.className = shownHosts.length > FEW_HOSTS || window.innerWidth < 800 ? "many" : "few";
     table.tHead.replaceChildren(head);
     table.tBodies[0].replaceChildren(...shownUsers.map((group) => tableRow(group, shownHosts)));
-    find("users-at").textContent = range(view.userAt, shownUsers.length, view.users.length, "rows");
-    find("hosts-at").textContent = range(view.hostAt, shownHosts.length, view.hosts.length, "columns");
+    find("users-at").textContent = range(view.userAt, shownUsers.length, view.users.length, "row");
+    find("hosts-at").textContent = range(view.hostAt, shownHosts.length, view.hosts.length, "column");
     find("users-before").disabled = view.userAt === 0;
     find("hosts-before").disabled = view.hostAt === 0;
     find("users-after").disabled = view.userAt + USERS_SHOWN >= view.users.length;
-    find("hosts-after").disabled = view.hostAt + HOSTS_SHOWN >= view.hosts.length;
+    find("hosts-after").disabled = view.hostAt + width >= view.hosts.length;
+    find("users-steps").hidden = view.users.length <= USERS_SHOWN;
+    find("hosts-steps").hidden = view.hosts.length <= width;
   };
 
-  const range = (at, count, total, what) => `${number(total ? at + 1 : 0)}–${number(at + count)} of ${number(total)} ${what}`;
+  const range = (at, count, total, what) => `${number(total ? at + 1 : 0)}–${number(at + count)} of ${counted(total, what)}`;
 
   const tableRow = (group, shownHosts) => {
     const row = make("tr");
@@ -251,78 +265,160 @@
     row.append(first);
     for (const hostGroup of shownHosts) {
       const cell = worst(group, hostGroup);
-      const [name, mark, meaning] = data.levels[levels[cell]];
-      const place = make("td", undefined, name);
+      const [level, mark, meaning] = cells[cell];
+      const place = make("td", undefined, data.levels[level][0]);
       const button = make("button", mark);
       button.type = "button";
       button.setAttribute("aria-label", `${users[group[0]]} on ${hosts[hostGroup[0]]}: ${meaning}`);
-      button.addEventListener("click", () => showAnswers(group, hostGroup, cell, place));
+      button.addEventListener("click", () => showAnswer(group, hostGroup, cell, place));
       place.append(button);
       row.append(place);
     }
     return row;
   };
 
+  // Arrow keys go from cell to cell.
+  const ARROWS = { ArrowUp: [-1, 0], ArrowDown: [1, 0], ArrowLeft: [0, -1], ArrowRight: [0, 1] };
+  find("heat").addEventListener("keydown", (event) => {
+    const place = event.target.closest("#heat td");
+    const by = ARROWS[event.key];
+    if (!place || !by) return;
+    const row = place.parentElement.parentElement.rows[place.parentElement.sectionRowIndex + by[0]];
+    const next = row && row.cells[place.cellIndex + by[1]];
+    const button = next && next.tagName === "TD" && next.querySelector("button");
+    if (!button) return;
+    event.preventDefault();
+    button.focus();
+  });
+
   const names = (group, all) => {
     const shown = group.slice(0, 12).map((item) => all[item]).join(", ");
     return group.length > 12 ? `${shown} and ${number(group.length - 12)} more` : shown;
   };
 
-  // Shows what is answered to the probes of a cell.
-  const showAnswers = (group, hostGroup, cell, place) => {
-    for (const chosen of document.querySelectorAll("#heat td.chosen")) chosen.classList.remove("chosen");
-    place.classList.add("chosen");
-    const box = find("answers");
-    const title = make("h3");
-    title.append(make("bdi", names(group, users)), " on ", make("bdi", names(hostGroup, hosts)));
-    const table = make("table");
-    const head = make("tr");
-    for (const text of ["Answer", "Tags", "Rule", "Commands, as root"]) head.append(make("th", text));
-    table.createTHead().append(head);
-    const body = table.createTBody();
-    const named = new Set();
-    for (const [verdict, at, tags, which] of cells[cell]) {
-      for (const program of which) named.add(program);
-      body.append(answerRow(verdict, at, tags, which));
-    }
-    const rest = programs.map((program, index) => index).filter((index) => !named.has(index));
-    if (rest.length) body.append(answerRow("nomatch", -1, "", rest));
-    box.replaceChildren(title, table);
-    box.focus({ preventScroll: true });
+  const PASSWORDS = {
+    none: "no password is asked",
+    own: "a password is asked, the user's own",
+    other: "a password is asked, that of another user on the way too",
+    "?": "whether a password is asked depends",
   };
 
-  const answerRow = (verdict, at, tags, which) => {
-    const row = make("tr");
-    row.append(make("td", verdict), make("td", tags));
-    const rule = make("td");
-    if (at >= 0) {
-      const link = make("a", data.places[at][0]);
-      link.href = `#rule-${at}`;
-      rule.append(link, make("br"), make("code", data.places[at][1]));
+  // Shows the answer of a cell, beside it or at the foot of the window.
+  const showAnswer = (group, hostGroup, cell, place) => {
+    for (const chosen of document.querySelectorAll("#heat td.chosen")) chosen.classList.remove("chosen");
+    place.classList.add("chosen");
+    const [, mark, meaning, ways, rests] = cells[cell];
+    const title = make("h3");
+    title.append(make("bdi", names(group, users)), " on ", make("bdi", names(hostGroup, hosts)));
+    const said = make("p");
+    said.append(make("strong", `${meaning[0].toUpperCase()}${meaning.slice(1)}.`));
+    const parts = [title, said, ...ways.map((way) => wayText(way, mark.endsWith("?")))];
+    if (!ways.length && mark) parts.push(make("p", "No chain of runs of sudo, of any length, leads to a user with the ID 0: so the program has found, for every command."));
+    if (rests.length) parts.push(...grantParts(rests));
+    parts.push(...probeParts(group[0], hostGroup[0]));
+    const box = find("answers");
+    box.replaceChildren(...parts);
+    box.scrollTop = 0;
+    box.classList.remove("waiting");
+    keepInView(place, box);
+  };
+
+  // At the foot of a narrow window the answer would stand before the lowest cells.
+  const keepInView = (place, box) => {
+    const [cell, answer] = [place.getBoundingClientRect(), box.getBoundingClientRect()];
+    const covered = cell.right > answer.left && cell.left < answer.right && cell.bottom > answer.top;
+    if (covered && answer.top > 0) window.scrollBy(0, cell.bottom - answer.top + 8);
+  };
+
+  // A page of a fleet has the places of rules, and not the rules.
+  const linkOf = (place) => {
+    const link = make(find(`rule-${place}`) ? "a" : "span", data.places[place][0]);
+    if (link.tagName === "A") link.href = `#rule-${place}`;
+    return link;
+  };
+
+  const ruleOf = (place) => {
+    const rule = make("span");
+    rule.append(linkOf(place));
+    if (data.places[place][1]) rule.append(" ", make("code", data.places[place][1]));
+    return rule;
+  };
+
+  const wayText = ([target, level, password, place, tags, via], isUnasked) => {
+    const line = make("p");
+    if (level === "root") {
+      line.append(make("bdi", target), " has the ID 0.");
+      return line;
     }
-    const commands = make("td");
+    line.append("As ", make("bdi", target), `: ${PASSWORDS[isUnasked ? "?" : password] || password}`);
+    if (via) line.append("; through ", make("bdi", via));
+    if (place >= 0) line.append(via ? ". The first step is by " : ". By ", ruleOf(place));
+    return line;
+  };
+
+  // The grants of the users of a cell on its hosts.
+  const grantParts = (rests) => {
+    const table = make("table", undefined, "rows");
+    const head = make("tr");
+    for (const text of ["Command", "As", "Tags", "Rule"]) head.append(make("th", text));
+    table.createTHead().append(head);
+    const body = table.createTBody();
+    for (const at of rests.slice(0, GRANTS_SHOWN)) {
+      const [place, runas, sign, command, tags] = grants[at];
+      const row = make("tr");
+      const cell = (label, ...content) => {
+        const made = make("td");
+        made.dataset.label = label;
+        made.append(...content);
+        return made;
+      };
+      const what = [make("code", command)];
+      if (sign) what.unshift(make("strong", "not "));
+      row.append(cell("Command", ...what), cell("As", runas || "(root)"), cell("Tags", tags), cell("Rule", linkOf(place)));
+      body.append(row);
+    }
+    const parts = [make("p", "The commands there, in the policy's order; the last that fits the target and the command decides:"), table];
+    if (rests.length > GRANTS_SHOWN) parts.push(make("p", `${number(rests.length - GRANTS_SHOWN)} more are in review/grants.csv.`));
+    return parts;
+  };
+
+  // Which programs of the list were allowed: an illustration, where it was made.
+  const probeParts = (user, host) => {
+    if (!data.probes) return [];
+    const { users: probed, hosts: probedHosts, rows: probeRows, rowOf: probeRowOf, cells: probeCells, programs } = data.probes;
+    const at = probed.indexOf(users[user]);
+    let left = probedHosts.indexOf(hosts[host]);
+    if (at < 0 || left < 0) return [];
+    const runs = probeRows[probeRowOf[at]];
+    let found = [];
+    for (let i = 0; i < runs.length; i += 2) {
+      if (left < runs[i + 1]) {
+        found = probeCells[runs[i]];
+        break;
+      }
+      left -= runs[i + 1];
+    }
+    const allowed = found.flatMap(([, , which]) => which);
+    if (!allowed.length) return [];
     const details = make("details");
-    details.open = which.length <= 8;
-    details.append(make("summary", `${which.length} program${which.length > 1 ? "s" : ""}`));
-    for (const program of which) {
+    details.append(make("summary", `For illustration: of a list of programs that give a shell or as much, ${number(allowed.length)} of ${number(programs.length)} are allowed as root`));
+    for (const program of allowed) {
       const [kind, command, rest] = programs[program];
       const line = make("div");
       line.append(make("code", rest ? `${command} ${rest}` : command), ` (${kind})`);
       details.append(line);
     }
-    commands.append(details);
-    row.append(rule, commands);
-    return row;
+    return [details];
   };
 
   const step = (id, name, by) => find(id).addEventListener("click", () => {
-    view[name] = Math.max(0, view[name] + by);
+    view[name] = Math.max(0, view[name] + by());
     drawTable();
   });
-  step("users-before", "userAt", -USERS_SHOWN);
-  step("users-after", "userAt", USERS_SHOWN);
-  step("hosts-before", "hostAt", -HOSTS_SHOWN);
-  step("hosts-after", "hostAt", HOSTS_SHOWN);
+  step("users-before", "userAt", () => -USERS_SHOWN);
+  step("users-after", "userAt", () => USERS_SHOWN);
+  step("hosts-before", "hostAt", () => -hostsShown());
+  step("hosts-after", "hostAt", hostsShown);
   find("overview").addEventListener("click", (event) => {
     const box = find("overview").getBoundingClientRect();
     const part = (offset, size, total) => Math.floor((offset / size) * total);
@@ -349,6 +445,12 @@
       choose();
     });
   }
+  let resizing = 0;
+  window.addEventListener("resize", () => {
+    clearTimeout(resizing);
+    resizing = setTimeout(choose, 150);
+  });
+  window.matchMedia("(prefers-color-scheme: dark)").addEventListener("change", drawOverview);
   find("map").hidden = false;
   choose();
   ready();

@@ -1,0 +1,86 @@
+"""What each caution of a policy means for a page: which of its answers sudo may give otherwise."""
+
+import re
+from collections.abc import Iterable
+from typing import NamedTuple
+
+from kulavemia.review import Caution
+
+# Who can become root may be otherwise for sudo; whether a password is asked; which commands a rule has; none of these.
+WHO = "who"
+PASSWORD = "password"
+COMMANDS = "commands"
+OTHER = "other"
+
+_BRACKETS = ("caret", "bracket")
+# Users and hosts stand before the first equals sign, and the hosts of a further section behind a colon that no path follows.
+_HOST_BRACKET = re.compile(r"(?:^|:(?![ \t]*/))(?:\\.|[^=\\])*\[(?:\\.|[^=\\])*=", re.DOTALL)
+
+
+class Effect(NamedTuple):
+    """Which answers of a page a caution is about, and what it means for them."""
+
+    answers: str
+    meaning: str
+
+
+_LINE = "For sudo this line may be another rule, or none: each answer on this page may differ."
+_NAMES = "For sudo the line may name further users, groups or hosts, or others: each answer on this page may differ."
+_LISTED = "Which commands the rule lists may differ for sudo; who can become root by any command does not."
+_CLASSES = {
+    "return": Effect(WHO, _LINE),
+    "blank-after-backslash": Effect(WHO, _LINE),
+    "join": Effect(WHO, _LINE),
+    "torn-mark": Effect(WHO, _LINE),
+    "include-escape": Effect(WHO, "sudo may read another file here, or none: each answer on this page may differ."),
+    "include-indent": Effect(WHO, "sudo does not read this file: each answer on this page may differ."),
+    "caret": Effect(WHO, _NAMES),
+    "escape": Effect(WHO, _NAMES),
+    "case": Effect(WHO, "For sudo the name is also that of a user or group with small letters: each answer may differ."),
+    "quoted-host": Effect(WHO, _NAMES),
+    "quoted-escape": Effect(WHO, _NAMES),
+    "linked": Effect(COMMANDS, _LISTED),
+    "unknown-parameter": Effect(OTHER, "sudo passes over it too, with a warning. If another parameter was meant, it has no effect."),
+    "sudoedit": Effect(COMMANDS, _LISTED),
+    "network": Effect(WHO, _NAMES),
+    "bracket": Effect(WHO, _NAMES),
+    "setenv": Effect(OTHER, "Whether a user may set environment variables may differ for sudo; who can become root does not."),
+    "group-form": Effect(OTHER, "Answers to requests of logs that ask for no group may differ; who can become root does not."),
+}
+_PASSWORDS = Effect(PASSWORD, "Whether a password is asked, and whose, is not told on this page: it shows a question mark there.")
+_TARGET = "A rule that names no target is not for root, but for the user that this line names: each answer may differ."
+_DEFAULTS = {
+    **dict.fromkeys(("authenticate", "targetpw", "rootpw", "runaspw", "exempt_group"), _PASSWORDS),
+    "runas_default": Effect(WHO, _TARGET),
+    **dict.fromkeys(
+        ("root_sudo", "requiretty", "runas_allow_unknown_id", "runas_check_shell", "noexec", "intercept"),
+        Effect(OTHER, "sudo may refuse, or hold back, what this page shows as allowed; it allows no further user."),
+    ),
+    **dict.fromkeys(
+        ("setenv", "runchroot"),
+        Effect(OTHER, "Under which environment or folder a command runs may differ for sudo; who can become root does not."),
+    ),
+    **dict.fromkeys(("fast_glob", "sudoers_locale"), Effect(COMMANDS, _LISTED)),
+}
+_UNKNOWN = Effect(WHO, "Each answer on this page may differ for sudo.")
+
+
+def effect_of(caution: Caution) -> Effect:
+    """Returns what a caution means."""
+    if caution.kind == "defaults":
+        return _DEFAULTS.get(caution.text.partition(":")[0], _UNKNOWN)
+    if caution.kind in _BRACKETS and not _has_host_bracket(caution.line):
+        return Effect(COMMANDS, _LISTED)
+    return _CLASSES.get(caution.kind, _UNKNOWN)
+
+
+def _has_host_bracket(text: str) -> bool:
+    """Returns whether a bracket may stand among the hosts of a line; so it is taken where the line is not known."""
+    if text.startswith(("Cmnd_Alias", "Cmd_Alias")):
+        return False
+    return not text or text.startswith(("Host_Alias", "Defaults")) or _HOST_BRACKET.search(text) is not None
+
+
+def is_doubtful(effects: Iterable[Effect]) -> bool:
+    """Returns whether sudo may tell otherwise who can become root."""
+    return any(effect.answers == WHO for effect in effects)

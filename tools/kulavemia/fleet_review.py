@@ -1,0 +1,148 @@
+"""What the second program says of each host of a fleet by its own policy, and all of it as one table of users by hosts.
+
+OUT/roots/HOST has the tables of a host, with the users and hosts that they are about, and OUT/reviewed.csv a row for each
+host.
+"""
+
+import os
+import shutil
+import tempfile
+from collections.abc import Iterable, Iterator, Mapping
+from concurrent.futures import ThreadPoolExecutor
+from typing import NamedTuple
+
+from kulavemia import foreign, outputs, program
+from kulavemia.command import FAILED as FAILED_HERE
+from kulavemia.command import Fault, line_of
+from kulavemia.directory import users_in
+from kulavemia.fleet_foreign import Foreigners
+from kulavemia.fleet_plan import Fleet
+from kulavemia.fleet_work import DONE, FAILED, HOSTS, REFUSED, TREE, USERS
+from kulavemia.program import Policy
+from kulavemia.requests import number_of
+from kulavemia.review import Asked
+from kulavemia.rows import open_write, read_rows, row
+from kulavemia.shown import Form, shown_records
+from kulavemia.sums import digest_of
+from kulavemia.tree import write_copies
+from kulavemia.unknown import folded
+
+ROOTS = "roots"
+REVIEWED = "reviewed.csv"
+REVIEWED_HEADER = ("host", "status", "users", "gathered", "digest", "fault")
+_DIGEST = "digest"
+_DIGEST_CAP = 100
+
+
+class Reviewed(NamedTuple):
+    """A host of a fleet: whether its tables were made, how many users it has, when it was gathered, and of which inputs.
+
+    The fault says why there are no tables.
+    """
+
+    host: str
+    status: str
+    users: int = 0
+    gathered: int = 0
+    digest: str = ""
+    fault: str = ""
+
+    def fields(self) -> tuple[str, ...]:
+        """Returns the fields of a row."""
+        return self.host, self.status, str(self.users), str(self.gathered), self.digest, self.fault
+
+
+class Reviewing:
+    """Has the second program say who can become root on the hosts of a fleet, each by its own policy."""
+
+    def __init__(self, fleet: Fleet, second: str, out: str, form: Form) -> None:
+        self.fleet = fleet
+        self.second = second
+        self.second_sum = program.sum_of(second)
+        self.out = out
+        self.form = form
+        self.foreigners = Foreigners(fleet.shared.get(HOSTS, b""))
+        outputs.folder(os.path.join(out, ROOTS))
+
+    def all(self, workers: int) -> Iterator[Reviewed]:
+        """Yields the hosts in the order of their names' bytes, several of them at a time."""
+        with ThreadPoolExecutor(workers) as pool:
+            yield from pool.map(self.one, self.fleet.names())
+
+    def one(self, name: str) -> Reviewed:
+        """Returns a host, whose tables are made where that is still to do, or why it has none."""
+        try:
+            with tempfile.TemporaryDirectory(prefix="fleet-") as scratch:
+                return self._reviewed(name, scratch)
+        except (Fault, OSError) as fault:
+            shutil.rmtree(self._place(name), ignore_errors=True)
+            is_refused = isinstance(fault, Fault) and fault.status != FAILED_HERE
+            return Reviewed(name, REFUSED if is_refused else FAILED, fault=line_of(fault))
+
+    def _reviewed(self, name: str, scratch: str) -> Reviewed:
+        """Returns a host whose tables are made. Raises `Fault` or `OSError` if there are none."""
+        root = os.path.join(scratch, TREE)
+        found = self.fleet.to_review(name, root)
+        hosts = found.hosts if found.hosts is not None else self._own_hosts(name)
+        originals = [part for file in found.policy.originals for part in (file.path, file.sum)]
+        parts = [b"roots 1", found.users, hosts, *map(os.fsencode, (self.second_sum, str(self.form), found.main, *originals))]
+        digest = digest_of(parts)
+        place = self._place(name)
+        if not self._stands(place, digest):
+            shutil.rmtree(place, ignore_errors=True)
+            write_copies(root, found.policy.files)
+            with outputs.new_folder(place) as part:
+                files = {USERS: found.users, HOSTS: hosts, _DIGEST: digest.encode()}
+                self._write(part, Policy(root + found.main, "", "", root), files)
+        users = len(users_in(os.path.join(place, USERS)))
+        return Reviewed(name, DONE, users, self.fleet.gathered(name), digest)
+
+    def _stands(self, place: str, digest: str) -> bool:
+        """Returns whether the tables of a host were made of the same inputs."""
+        path = os.path.join(place, _DIGEST)
+        return foreign.exists(path, self.out) and foreign.read(path, _DIGEST_CAP, self.out) == digest.encode()
+
+    def _write(self, part: str, policy: Policy, files: Mapping[str, bytes]) -> None:
+        """Writes the tables of a host, and what they are about, into a folder."""
+        for name, text in files.items():
+            with outputs.new(os.path.join(part, name)) as file:
+                file.write(text)
+        users, hosts = (os.path.join(part, name) for name in (USERS, HOSTS))
+        try:
+            Asked(self.second, policy._replace(users=users, hosts=hosts), self.form).write(part)
+        except Fault as fault:
+            # Which folder by chance a file stood in says nothing.
+            raise Fault(str(fault).replace(os.path.join(part, ""), ""), fault.status) from None
+
+    def _own_hosts(self, name: str) -> bytes:
+        """Returns the rows of the fleet's hosts file that are a host's own. Raises `Fault` if there are none."""
+        if HOSTS not in self.fleet.shared:
+            raise Fault(f"there is no {HOSTS}")
+        named = self.foreigners.called(folded(name))
+        header, *rows = read_rows(self.fleet.shared[HOSTS])
+        own = [fields for fields in rows if fields and folded(fields[0]) in named]
+        if not own:
+            raise Fault(f"{HOSTS} has no host of this name")
+        return "".join(map(row, [header, *own])).encode("utf-8", "surrogateescape")
+
+    def _place(self, name: str) -> str:
+        return os.path.join(self.out, ROOTS, name)
+
+
+def write_reviewed(out: str, found: Iterable[Reviewed], form: Form) -> list[Reviewed]:
+    """Writes the table of hosts, and returns them."""
+    hosts = list(found)
+    with open_write(os.path.join(out, REVIEWED)) as file:
+        file.write(form.head(REVIEWED_HEADER))
+        file.writelines(form.row(host.fields()) for host in hosts)
+    return hosts
+
+
+def reviewed_in(out: str) -> list[Reviewed]:
+    """Returns the hosts of a table that `write_reviewed` wrote."""
+    path = os.path.join(out, REVIEWED)
+    found = []
+    for line, (host, status, users, gathered, digest, fault) in shown_records(path, REVIEWED_HEADER):
+        counts = number_of(path, line, users), int(gathered) if gathered.isdecimal() else 0
+        found.append(Reviewed(host, status, *counts, digest, fault))
+    return found

@@ -1,0 +1,158 @@
+"""A page's content as JSON, for other programs. data/review.schema.json has its form."""
+
+import json
+from collections.abc import Iterable, Mapping, Sequence
+from typing import Any
+
+from kulavemia import outputs
+from kulavemia.evidence import Evidence
+from kulavemia.grants import Grant
+from kulavemia.page import Caution, Page, Reached, Subject
+from kulavemia.roots import LEVELS
+from kulavemia.sums import File
+from kulavemia.text import visible
+from kulavemia.uses import Asked, Kind, Uses
+
+FORMAT = "kulavemia-review/1"
+
+
+def record_of(page: Page) -> dict[str, Any]:
+    """Returns what a page says. Text is as the page shows it."""
+    found = {
+        "format": FORMAT,
+        "title": page.inputs.title,
+        **_evidence(page.evidence),
+        "sentences": page.sentences(),
+        "cautions": list(map(_caution, page.cautions)),
+        "roots": _roots(page),
+        "subjects": list(map(_subject, page.subjects)),
+        "changes": {changed.kind: changed.count for changed in page.changes} if page.changes is not None else None,
+        "requests": _uses(page.uses) if page.uses is not None else None,
+        "rules": list(_rules(page)),
+    }
+    shown: dict[str, Any] = _shown(found)
+    return shown
+
+
+def write(page: Page, path: str) -> None:
+    """Writes what a page says."""
+    with outputs.written(path) as file:
+        file.write(json.dumps(record_of(page), indent=1).encode() + b"\n")
+
+
+def _shown(value: Any) -> Any:
+    """Returns a value with each text in it as it is shown."""
+    if isinstance(value, str):
+        return visible(value)
+    if isinstance(value, Mapping):
+        return {visible(name): _shown(inner) for name, inner in value.items()}
+    if isinstance(value, (list, tuple)):
+        return [_shown(inner) for inner in value]
+    return value
+
+
+def _evidence(evidence: Evidence) -> dict[str, Any]:
+    roles: Iterable[tuple[str, Sequence[File]]] = (
+        ("policy", evidence.policy),
+        ("policy before", evidence.old_policy),
+        ("directory", evidence.directory),
+        ("programs to probe", evidence.probed),
+        ("log", [log.file for log in evidence.logs]),
+    )
+    return {
+        "made": evidence.made._asdict(),
+        "programs": [
+            {"name": program.name, "version": program.version, "sha256": program.sum} for program in evidence.programs
+        ],
+        "files": [
+            {"role": role, "path": file.path, "bytes": file.size, "sha256": file.sum or None}
+            for role, files in roles
+            for file in files
+        ],
+        "logs": [{"path": log.file.path, **log.tally._asdict()} for log in evidence.logs],
+        "hosts": [host._asdict() for host in evidence.hosts],
+        "missing": list(evidence.missing),
+    }
+
+
+def _caution(caution: Caution) -> dict[str, Any]:
+    return {
+        "place": caution.place,
+        "class": caution.kind,
+        "text": caution.text,
+        "line": caution.line,
+        "answers": caution.effect.answers,
+        "meaning": caution.effect.meaning,
+    }
+
+
+def _subject(subject: Subject) -> dict[str, Any]:
+    return subject._asdict()
+
+
+def _roots(page: Page) -> dict[str, Any] | None:
+    if page.roots is None:
+        return None
+    return {
+        "users": len(page.roots.users),
+        "hosts": len(page.roots.hosts),
+        "doubtful": page.roots.is_doubtful(),
+        "reached": list(map(_reached, page.reached())),
+        "unreached": page.unreached(),
+    }
+
+
+def _reached(found: Reached) -> dict[str, Any]:
+    return {
+        "users": list(found.users),
+        "hosts": list(found.hosts),
+        "level": LEVELS[found.answer.level].name,
+        "meaning": found.answer.meaning,
+        "may_need_no_password": found.answer.is_unasked,
+        "doubtful": found.answer.is_doubtful,
+        "ways": [way._asdict() for way in found.cell.ways],
+        "grants": list(map(_grant, found.grants)),
+    }
+
+
+def _grant(grant: Grant) -> dict[str, Any]:
+    return {
+        "place": grant.place,
+        "runas": grant.runas,
+        "denied": bool(grant.sign),
+        "command": grant.command,
+        "tags": grant.tags,
+    }
+
+
+def _uses(uses: Uses) -> dict[str, Any]:
+    return {
+        "count": uses.count,
+        "same": uses.same,
+        "failed": uses.failed,
+        "denied": _kind(uses.denied),
+        "allowed": _kind(uses.allowed),
+        "unknown": _kind(uses.unknown),
+    }
+
+
+def _kind(kind: Kind) -> dict[str, Any]:
+    return {"count": kind.count, "different": list(map(_asked, kind.list())), "left_out": kind.left_out}
+
+
+def _asked(asked: Asked) -> dict[str, Any]:
+    return {
+        **asked.request._asdict(),
+        "times": asked.count,
+        "reason": asked.reason,
+        **asked.verdict._asdict(),
+        "lines": [line._asdict() for line in asked.lines],
+        "notes": sorted(asked.notes),
+    }
+
+
+def _rules(page: Page) -> Iterable[dict[str, Any]]:
+    counts = page.rule_counts()
+    for rule in page.rules.all() if page.rules is not None else ():
+        allowed, denied = counts.get(rule.place, (None, None))
+        yield {"place": rule.place, "text": rule.text, "allowed": allowed, "denied": denied}

@@ -1,0 +1,163 @@
+"""Who can become root on the hosts of a fleet, each by its own policy, and the page of it."""
+
+import json
+import os
+import re
+import unittest
+
+from browsing import Browser
+from support import Case, needs_driver, needs_jinja, needs_review
+from kulavemia.evidence import Evidence, Made
+from kulavemia.fleet_review import REVIEWED_HEADER, reviewed_in
+from kulavemia.fleet_table import table_of
+from kulavemia.page import Inputs, Page, rendered
+from kulavemia.page import write as write_page
+from kulavemia.review import HEADERS
+
+POLICY = "root ALL = (ALL) ALL\n@includedir /etc/sudoers.d\n"
+USERS = "user,uid,groups\nroot,0,root:0\nann,{},ann:1\nbob,1002,bob:1002\n"
+MADE = Evidence(Made("2026-01-01T00:00:00+00:00", "UTC", "ann", "vm", "0"))
+
+
+class FleetRoots(Case):
+    def host(self, name: str, rules: str, uid: int = 1001) -> None:
+        """Makes a host with a rule of its own."""
+        self.write(f"fleet/{name}/tree/etc/sudoers", POLICY)
+        self.write(f"fleet/{name}/tree/etc/sudoers.d/10-own", rules)
+        self.write(f"fleet/{name}/users.csv", USERS.format(uid))
+        self.write(f"fleet/{name}/hosts.csv", f"host,interfaces\n{name}.example.org,10.0.0.1/8\n")
+
+    def fleet(self, *words: str, status: int = 0) -> tuple[str, str]:
+        """Runs the command."""
+        return self.run_tool("fleet", "fleet", "--out", "out", "--roots", *words, status=status)
+
+    def marks(self) -> dict[str, str]:
+        """Returns the marks of each user, host by host."""
+        table = table_of(self.path("out")).table
+        answers = table.answers()
+        return {user: " ".join(answers[cell].mark for cell in row) for user, row in zip(table.users, table.rows)}
+
+
+@needs_review
+class Command(FleetRoots):
+    def test_each_host_by_its_own_policy(self) -> None:
+        self.host("a", "ann ALL = NOPASSWD: ALL\n")
+        self.host("b", "bob ALL = (ann) ALL\nann ALL = /opt/x\ngus ALL = ALL\n", 2001)
+        self.host("c", "Ann ALL = ALL\n")
+        self.write("fleet/c/users.csv", "user,uid,groups\nroot,0,root:0\nzoe,1,zoe:1\n")
+        out, err = self.fleet()
+        self.assertEqual((out, err), ("3 hosts reviewed; 0 refused, 0 failed\n", ""))
+        self.assertEqual(self.marks(), {"ann": "A! L ", "bob": "· L ", "root": "R R R", "zoe": "  ?"})
+        found = table_of(self.path("out"))
+        self.assertEqual(found.ids, {"ann": ["1001", "2001"]})
+        self.assertIn(("user", "gus", ["b"]), [(note.kind, note.text, note.hosts) for note in found.subjects])
+        self.assertEqual([(note.kind, note.hosts) for note in found.cautions], [("case", ["c"])])
+
+    def test_a_host_that_is_refused_stops_no_other(self) -> None:
+        self.host("a", "ann ALL = ALL\n")
+        self.host("b", "what\n")
+        self.host("c", "bob ALL = ALL\n")
+        os.remove(self.path("fleet", "c", "hosts.csv"))
+        os.symlink("/etc/passwd", self.path("fleet", "c", "hosts.csv"))
+        os.makedirs(self.path("fleet", "d"))
+        out, _ = self.fleet(status=1)
+        self.assertEqual(out, "1 hosts reviewed; 3 refused, 0 failed\n")
+        faults = {host.host: host.fault for host in reviewed_in(self.path("out"))}
+        self.assertEqual(faults["a"], "")
+        self.assertRegex(faults["b"], r"^sudo_review: /etc/sudoers\.d/10-own:1:")
+        self.assertRegex(faults["c"], "expected a plain file, found a link")
+        self.assertEqual(faults["d"], "there is no tree")
+        self.assertEqual(sorted(os.listdir(self.path("out", "roots"))), ["a"])
+        self.host("b", "bob ALL = ALL\n")
+        self.fleet(status=1)
+        self.assertEqual(sorted(os.listdir(self.path("out", "roots"))), ["a", "b"])
+
+    def test_what_stands_is_left_until_its_inputs_change(self) -> None:
+        self.host("a", "ann ALL = ALL\n")
+        self.fleet()
+        before = os.stat(self.path("out", "roots", "a", "roots.csv")).st_ino
+        self.fleet()
+        self.assertEqual(os.stat(self.path("out", "roots", "a", "roots.csv")).st_ino, before)
+        self.host("a", "ann ALL = NOPASSWD: ALL\n")
+        self.fleet()
+        self.assertEqual(self.marks()["ann"], "A!")
+
+    def test_the_fleets_own_files(self) -> None:
+        self.write("fleet/tree/etc/sudoers", "root ALL = ALL\nann web1 = ALL\n")
+        self.write("fleet/users.csv", USERS.format(1001))
+        self.write("fleet/hosts.csv", "host,interfaces\nweb1.example.org,\nWEB2.example.org,\nother,\n")
+        for name in ("web1", "web2", "web3"):
+            os.makedirs(self.path("fleet", name))
+        self.fleet(status=1)
+        self.assertEqual(self.marks()["ann"], "A ·")
+        self.assertEqual(self.rows("out", "roots", "web2", "hosts.csv")[1:], ["WEB2.example.org,"])
+        self.assertEqual(reviewed_in(self.path("out"))[2].fault, "hosts.csv has no host of this name")
+
+    def test_words(self) -> None:
+        self.host("a", "ann ALL = ALL\n")
+        self.assertIn("--roots runs on this machine", self.fleet("--join", status=2)[1])
+        self.fleet("--review", "/gone", status=5)
+
+
+@needs_jinja
+class OfTables(FleetRoots):
+    """Pages of tables that are written by hand."""
+
+    def tables(self, hosts: int, users: int) -> None:
+        """Writes the tables of many hosts with many users, some of whom reach something."""
+        names = [f"user{user:04}" for user in range(users)]
+        people = "user,uid,groups\nroot,0,root:0\n" + "".join(f"{name},{1000 + at},\n" for at, name in enumerate(names))
+        reviewed = [",".join(REVIEWED_HEADER) + "\n"]
+        for number in range(hosts):
+            host = f"host{number:03}.example.org"
+            rows = [f"root,{host},root,root,none,,,,\n"]
+            for at, name in enumerate(names):
+                if at < 20 or (at * 7 + number) % 40 == 0 and at < 1200:
+                    rows.append(f"{name},{host},root,{'all' if at < 20 else 'listed'},own,/etc/sudoers:{at % 30 + 1},,,\n")
+            for name, header in HEADERS.items():
+                self.write(f"out/roots/{host}/{name}.csv", ",".join(header) + "\n" + ("".join(rows) if name == "roots" else ""))
+            self.write(f"out/roots/{host}/users.csv", people)
+            self.write(f"out/roots/{host}/hosts.csv", f"host,interfaces\n{host},\n")
+            reviewed.append(f"{host},done,{users + 1},1,{'0' * 64},\n")
+        self.write("out/reviewed.csv", "".join(reviewed) + "bad,refused,0,0,,there is no tree\n")
+
+    def page(self) -> Page:
+        """Returns the page of the tables."""
+        return Page(Inputs("Fleet", fleet=self.path("out")), MADE)
+
+    def test_what_the_page_says(self) -> None:
+        self.tables(3, 30)
+        text = rendered(self.page())
+        for part in (
+            "20 users can run any command as root on all 3 hosts: user0000",
+            "One host of 4 is not on this page: bad.",
+            "refused: there is no tree",
+        ):
+            self.assertTrue(part in text, part)
+        self.assertFalse('id="rules"' in text)
+        data = json.loads(re.findall('id="data">(.*?)</script>', text)[0])
+        self.assertEqual((len(data["roots"]["users"]), len(data["roots"]["hosts"])), (31, 3))
+        targets = set(re.findall('id="([^"]+)"', text))
+        self.assertFalse({link for link in re.findall('href="#([^"]+)"', text)} - targets)
+
+    def test_words(self) -> None:
+        self.tables(1, 1)
+        self.run_tool("page", "--fleet", "out", "--out", "page.html")
+        err = self.run_tool("page", "--fleet", "out", "--policy", "x", "--out", "page.html", status=2)[1]
+        self.assertIn("--fleet is a page by itself", err)
+
+    @needs_driver
+    def test_a_large_fleet(self) -> None:
+        self.tables(500, 5000)
+        path = self.path("page.html")
+        write_page(self.page(), path)
+        self.assertLess(os.path.getsize(path), 5_000_000)
+        with Browser(1280) as browser:
+            browser.open(path)
+            self.assertIn("500 hosts in", browser.text("#map-found"))
+            # After how many milliseconds the page stood; docs/PERFORMANCE.md has a figure.
+            self.assertRegex(str(browser.run("return document.documentElement.dataset.ready")), "^[0-9]+$")
+
+
+if __name__ == "__main__":
+    unittest.main()

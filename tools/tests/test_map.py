@@ -1,0 +1,329 @@
+"""The page's answer to who can become root: its cells, its sentences, and what a reader sees who chooses one."""
+
+import unittest
+from collections.abc import Iterable, Sequence
+
+from browsing import Browser, clipped
+from rooted import HOSTS, USERS, example_page, full_page, grant, large_page, on_all, page_of, roots_of, way
+from support import Case, needs_driver, needs_jinja, needs_poppler
+from kulavemia import effects, sentences
+from kulavemia.command import Fault
+from kulavemia.grants import Grants, names_of
+from kulavemia.page import Page
+from kulavemia.page import write as write_page
+from kulavemia.review import Caution
+from kulavemia.roots import Roots
+
+
+class Names(unittest.TestCase):
+    def test_lists_are_read_as_a_policy_has_them(self) -> None:
+        self.assertEqual(names_of(""), [])
+        for text, names in (
+            ("alice, bob", ["alice", "bob"]),
+            (r"domain\ user, do\,main, a\"b, \%x", ["domain user", "do,main", 'a"b', "%x"]),
+            (r'"WEB", "ALL", a\x0ab, é', ["WEB", "ALL", "a\nb", "é"]),
+        ):
+            self.assertEqual(names_of(text), names)
+        with self.assertRaisesRegex(Fault, "no list of names"):
+            names_of('a"b')
+
+    def test_the_grants_of_a_user_on_a_host(self) -> None:
+        rows = [grant("ann, bob", "/a"), grant("ALL", "/b", hosts="h2"), grant("", "/c"), grant("bob", "/d")]
+        grants = Grants(rows, USERS, HOSTS)
+        self.assertEqual([grants.of(1, 0), grants.of(1, 1), grants.of(2, 1), grants.of(0, 0)], [(0,), (0, 1), (0, 1, 3), ()])
+        with self.assertRaisesRegex(Fault, "has the name zoe, and the directory has not"):
+            Grants([grant("zoe", "/a")], USERS, HOSTS)
+
+
+class Cells(unittest.TestCase):
+    def marks(self, rows: Iterable[Sequence[str]], grants: Iterable[Sequence[str]] = (), is_doubtful: bool = False) -> str:
+        """Returns the marks of the users on the first host."""
+        roots = roots_of(rows, grants, is_doubtful)
+        answers = roots.answers()
+        return " ".join(answers[row[0]].mark for row in roots.rows)
+
+    def test_marks(self) -> None:
+        rows = [
+            *on_all("root", "root", "none"),
+            *on_all("ann", "all", "none"),
+            *on_all("bob", "all"),
+            *on_all("cid", "all-but", "other"),
+            *on_all("dora", "listed"),
+        ]
+        self.assertEqual(self.marks(rows), "R A! A B L ·")
+        # Nobody but root is sure where sudo may read the policy otherwise.
+        self.assertEqual(self.marks(rows, is_doubtful=True), "R ?A! ?A ?B ?L ?")
+
+    def test_no_cell_says_less_of_passwords_than_the_policy_gives(self) -> None:
+        rows = [*on_all("ann", "all", "?"), *on_all("bob", "all"), *on_all("cid", "all-but"), *on_all("dora", "listed")]
+        free = [grant("bob, cid, dora", "/a", "NOPASSWD")]
+        self.assertEqual(self.marks(rows, free), "· A? A? B? L? ·")
+        self.assertEqual(self.marks(rows, [grant("bob, cid, dora", "/a", "NOPASSWD", "!")]), "· A? A B L ·")
+        self.assertEqual(self.marks(rows, [grant("bob, cid, dora", "/a", "NOPASSWD", hosts="h2")]), "· A? A B L ·")
+
+    def test_a_row_that_depends_is_doubtful(self) -> None:
+        self.assertEqual(self.marks(on_all("ann", "all", depends="a digest")), "· ?A · · · ·")
+
+    def test_the_best_of_several_targets(self) -> None:
+        rows = [*on_all("ann", "listed"), *on_all("ann", "all", "none", target="toor")]
+        self.assertEqual(self.marks(rows), "· A! · · · ·")
+
+    def test_what_does_not_fit_is_refused(self) -> None:
+        for rows, said in (
+            ([way("zoe", "h1", "all")], "has zoe on h1, and the directory has not"),
+            ([way("ann", "h1", "some")], "has the level some"),
+        ):
+            with self.assertRaisesRegex(Fault, said):
+                roots_of(rows).answers()
+        roots = Roots(USERS, HOSTS, Grants([], USERS, HOSTS), False)
+        with self.assertRaisesRegex(Fault, "the rows of h1 in the table of roots do not stand together"):
+            roots.take_all([way("ann", host, "all") for host in ("h1", "h2", "h1")])
+
+    def test_groups_and_data(self) -> None:
+        roots = roots_of([way("ann", "h2", "all"), way("bob", "h2", "all"), *on_all("cid", "listed")])
+        groups = [(group.users, list(group.row)) for group in roots.groups()]
+        self.assertEqual(groups, [(["ann", "bob"], [0, 2]), (["cid"], [1, 1]), (["root", "dora", "eve"], [0, 0])])
+
+
+class Sentences(unittest.TestCase):
+    def said(self, rows: Iterable[Sequence[str]], is_doubtful: bool = False) -> list[str]:
+        """Returns what is said of who can become root."""
+        return list(sentences.of_roots(roots_of(rows, (), is_doubtful)))
+
+    def test_who_can_become_root(self) -> None:
+        rows = [
+            *on_all("root", "root", "none"),
+            *on_all("ann", "all", "none"),
+            *on_all("bob", "all", via="ann"),
+            way("cid", "h1", "all"),
+            *on_all("dora", "listed"),
+        ]
+        wanted = [
+            "One user is root by the ID 0: root.",
+            "Two users can run any command as root on both hosts, one of them without a password: ann and bob.",
+            "One further user can run any command as root on one or more of the 2 hosts: cid.",
+            "One user can run listed commands as root on one or more of the 2 hosts: dora. Whether one of these gives more, a"
+            " reader has to judge.",
+            "Of these, one gets there through another user or group: bob.",
+            "The other known user has no way to root by sudo, whatever command is asked for: that is proved.",
+        ]
+        self.assertEqual(self.said(rows), wanted)
+        self.assertTrue(self.said(rows, is_doubtful=True)[-1].endswith("; but sudo may read the policy otherwise."))
+
+    def test_changes(self) -> None:
+        start = "Against the policy before, of the requests of the logs and the probes "
+        for counts, said in (
+            ({"gained": 1, "gained and lost": 1, "lost": 0}, "two gain something and none loses something."),
+            ({"gained": 1, "lost": 13}, "one gains something and 13 lose something."),
+        ):
+            self.assertEqual(list(sentences.of_changes(counts)), [start + said])
+        self.assertIn("no request", next(sentences.of_changes({"gained": 0, "lost": 0, "other": 3})))
+
+    def test_numbers_and_lists(self) -> None:
+        self.assertEqual(sentences.counted(1, "host"), "one host")
+        self.assertEqual(sentences.counted(1234, "host"), "1,234 hosts")
+        self.assertEqual(sentences.listed(["a", "b", "c"]), "a, b and c")
+        self.assertEqual(sentences.listed(list("abcdefghijk")), "a, b, c, d, e, f, g, h and 3 more")
+
+
+class Effects(unittest.TestCase):
+    def effect(self, kind: str, line: str = "", text: str = "") -> str:
+        """Returns which answers a caution is about."""
+        return effects.effect_of(Caution("p:1", kind, text, line)).answers
+
+    def test_each_class_of_the_program_is_known(self) -> None:
+        from test_review import CLASSES
+
+        known = {*effects._CLASSES, "defaults"}
+        self.assertEqual(known, set(CLASSES))
+
+    def test_each_parameter_of_the_program_is_known(self) -> None:
+        for name in ("authenticate", "targetpw", "rootpw", "runaspw", "exempt_group"):
+            self.assertEqual(self.effect("defaults", text=f"{name}: decides"), effects.PASSWORD)
+        for name in ("runas_default", "fqdn", "case_insensitive_user", "group_plugin", "one of tomorrow"):
+            self.assertEqual(self.effect("defaults", text=f"{name}: decides"), effects.WHO)
+        self.assertEqual(self.effect("defaults", text="noexec: decides"), effects.OTHER)
+
+    def test_brackets(self) -> None:
+        for line, answers in (
+            ("alice ALL = /usr/bin/passwd [^-]*", effects.COMMANDS),
+            ("alice ALL = NOPASSWD: /opt/x [^a], /opt/b c=d", effects.COMMANDS),
+            ("Cmnd_Alias X = /opt/x [^a]", effects.COMMANDS),
+            ("alice web[^1] = ALL", effects.WHO),
+            (r"ali\=ce 10.0.0.0/8, web[^1] = ALL", effects.WHO),
+            ("alice ALL = X : web[^1] = Y", effects.WHO),
+            ("Host_Alias X = web[^1]", effects.WHO),
+            ("", effects.WHO),
+        ):
+            self.assertEqual(self.effect("caret", line), answers, line)
+
+
+# Returns the elements that are wider than their boxes: what a reader would have to scroll to, or does not see at all.
+OVERFLOWS = """
+    const wide = [];
+    for (const element of document.querySelectorAll('body, body *')) {
+      const style = getComputedStyle(element);
+      if (style.display === 'inline' || element.closest('[hidden]') || !element.getClientRects().length) continue;
+      if (element.scrollWidth > element.clientWidth + 1 && element.clientWidth) wide.push(element.tagName + '#' + element.id);
+      if (element.getBoundingClientRect().right > document.documentElement.clientWidth + 1) wide.push('right ' + element.tagName);
+    }
+    return wide;
+"""
+# Returns the names of users and hosts that stand in more than one line.
+BROKEN = "return [...document.querySelectorAll('.name')].filter((name) => name.getClientRects().length > 1).length"
+# Returns the texts with less contrast to their ground than WCAG 2 wants (4.5 to 1), by the colours that the browser computes.
+FAINT = """
+    const channel = (value) => (value <= 10.31 ? value / 255 / 12.92 : ((value / 255 + 0.055) / 1.055) ** 2.4);
+    const parts = (colour) => colour.match(/[0-9.]+/g).map(Number);
+    const light = (colour) => {
+      const [r, g, b] = parts(colour).map(channel);
+      return 0.2126 * r + 0.7152 * g + 0.0722 * b;
+    };
+    const ground = (element) => {
+      for (let at = element; at; at = at.parentElement) {
+        const colour = getComputedStyle(at).backgroundColor;
+        const [, , , alpha] = parts(colour);
+        if (alpha === undefined || alpha === 1) return colour;
+      }
+      return getComputedStyle(document.documentElement).colorScheme.includes('dark') ? 'rgb(0,0,0)' : 'rgb(255,255,255)';
+    };
+    const faint = new Set();
+    let count = 0;
+    for (const element of document.querySelectorAll('body *')) {
+      const own = [...element.childNodes].some((node) => node.nodeType === 3 && node.textContent.trim());
+      if (!own || !element.getClientRects().length || element.disabled) continue;
+      count += 1;
+      const [a, b] = [light(getComputedStyle(element).color), light(ground(element))].sort();
+      const contrast = (Math.max(a, b) + 0.05) / (Math.min(a, b) + 0.05);
+      if (contrast < 4.5) faint.add(`${element.tagName}.${element.className} ${contrast.toFixed(2)}`);
+    }
+    return [count, ...faint];
+"""
+
+
+@needs_jinja
+@needs_driver
+class InABrowser(Case):
+    """What a reader sees, in a browser without a window."""
+
+    def open(self, browser: Browser, page: Page) -> Browser:
+        """Writes a page, and opens it."""
+        path = self.path("page.html")
+        write_page(page, path)
+        browser.open(path)
+        return browser
+
+    def shown(self, browser: Browser) -> str:
+        """Returns the rows of the map."""
+        script = "return [...document.querySelectorAll('#heat tbody tr')].map((row) => row.textContent).join('|')"
+        return str(browser.run(script))
+
+    def choose(self, browser: Browser, selector: str) -> None:
+        """Clicks a cell in the middle of the window."""
+        cell = browser.element(selector)
+        browser.run("arguments[0].scrollIntoView({block: 'center'})", cell)
+        cell.click()
+
+    def test_a_cell_that_is_chosen_shows_its_answer_in_view(self) -> None:
+        for width, height in ((390, 800), (1280, 900), (1920, 1000)):
+            with self.subTest(width), Browser(width, height) as browser:
+                self.open(browser, example_page())
+                self.assertEqual(self.shown(browser), "rootR|annA!|bobA|cidB|doraL")
+                self.choose(browser, "#heat td.listed button")
+                self.assertTrue(browser.is_in_view("#answers h3") and browser.is_in_view("#heat td.chosen"))
+                shown = browser.text("#answers")
+                for part in ("dora on h1, h2", "Listed commands as root.", "/opt/only <b>", "not /opt/never", "sudoers:47"):
+                    self.assertIn(part, shown)
+
+    def test_the_last_of_many_rows_shows_its_answer_in_view(self) -> None:
+        users = [f"u{number}" for number in range(60)]
+        roots = Roots(users, HOSTS, Grants([], users, HOSTS), False)
+        rows = [way(user, host, "all", place=f"p:{at}") for host in HOSTS for at, user in enumerate(users)]
+        roots.take_all(rows)
+        for width, height in ((390, 800), (1280, 900)):
+            with self.subTest(width), Browser(width, height) as browser:
+                self.open(browser, page_of(roots))
+                self.choose(browser, "#heat tbody tr:last-child td button")
+                self.assertTrue(browser.is_in_view("#answers h3") and browser.is_in_view("#heat td.chosen"))
+                self.assertIn("u39 on h1, h2", browser.text("#answers"))
+
+    def test_keys_choose_cells(self) -> None:
+        with Browser(1280) as browser:
+            self.open(browser, example_page())
+            browser.run("document.querySelector('#heat td button').focus()")
+            browser.press("ArrowDown", "ArrowDown", "Enter")
+            self.assertIn("bob on h1, h2", browser.text("#answers"))
+            self.assertIn("through ann", browser.text("#answers"))
+            self.assertTrue(browser.is_in_view("#answers h3"))
+            browser.press("ArrowUp", "Enter")
+            self.assertIn("Any command as root, without a password.", browser.text("#answers"))
+
+    def test_what_a_reader_does_with_the_map(self) -> None:
+        with Browser(1280) as browser:
+            self.open(browser, example_page())
+            browser.element("#fold").click()
+            self.assertEqual(self.shown(browser), "rootRR|annA!A!|bobAA|cidBB|doraLL")
+            browser.element("#reaching").click()
+            self.assertTrue(self.shown(browser).endswith("|eve··"))
+            browser.element("#heat tbody tr:last-child td button").click()
+            self.assertIn("No chain of runs of sudo, of any length", browser.text("#answers"))
+            self.assertIn("users in 6 rows, 2 hosts in 2 columns", browser.text("#map-found"))
+            browser.element("#user-search").send_keys("dor")
+            browser.wait("return document.querySelectorAll('#heat tbody tr').length === 1")
+            self.assertEqual(self.shown(browser), "doraLL")
+            self.assertIn("1 user in 1 row", browser.text("#map-found"))
+
+    def test_nothing_is_wider_than_the_window(self) -> None:
+        for width in (390, 600, 1100, 1101, 1280, 1920):
+            with self.subTest(width), Browser(width) as browser:
+                self.open(browser, full_page())
+                browser.run("for (const details of document.querySelectorAll('details')) details.open = true")
+                self.choose(browser, "#heat td.all-but button")
+                self.assertEqual(browser.run("return innerWidth"), width)
+                self.assertEqual((browser.run(OVERFLOWS), browser.run(BROKEN)), ([], 0))
+                self.open(browser, large_page(300, 60))
+                self.choose(browser, "#heat td button")
+                self.assertEqual((browser.run(OVERFLOWS), browser.run(BROKEN)), ([], 0))
+
+    def test_every_text_stands_out_from_its_ground(self) -> None:
+        for scheme in ("light", "dark"):
+            with self.subTest(scheme), Browser(1280, scheme=scheme) as browser:
+                self.open(browser, full_page())
+                browser.run("for (const details of document.querySelectorAll('details')) details.open = true")
+                browser.element("#reaching").click()
+                browser.element("#heat td.listed button").click()
+                count, *faint = browser.run(FAINT)
+                self.assertGreater(count, 50)
+                self.assertEqual(faint, [])
+                is_white = browser.run("return getComputedStyle(document.body).backgroundColor === 'rgb(255, 255, 255)'")
+                self.assertEqual(is_white, scheme == "light")
+
+    def test_nothing_is_asked_of_the_network(self) -> None:
+        with Browser(1280) as browser:
+            self.open(browser, example_page())
+            browser.element("#heat td button").click()
+            self.assertEqual(browser.requested(), [f"file://{self.path('page.html')}"])
+
+    @needs_poppler
+    def test_print(self) -> None:
+        with Browser(1280) as browser:
+            self.open(browser, example_page())
+            self.assertLessEqual(len(browser.printed(self.path("page.pdf"))), 4)
+            self.assertEqual(clipped(self.path("page.pdf")), [])
+            self.open(browser, full_page())
+            browser.run("for (const details of document.querySelectorAll('details')) details.open = true")
+            text = "\n".join(browser.printed(self.path("page.pdf")))
+            self.assertEqual(clipped(self.path("page.pdf")), [])
+        for part in ("In short", "dora", "/opt/only <b>", "not /opt/never", "Signature", "FULLTIMERS ALL = NOPASSWD: ALL"):
+            self.assertIn(part, text)
+
+    def test_a_large_page_opens(self) -> None:
+        with Browser(1280) as browser:
+            self.open(browser, large_page(5000, 1000))
+            self.assertIn("700 users in", browser.text("#map-found"))
+            # After how many milliseconds the page stood; docs/PERFORMANCE.md has a figure.
+            self.assertRegex(str(browser.run("return document.documentElement.dataset.ready")), "^[0-9]+$")
+
+
+if __name__ == "__main__":
+    unittest.main()
