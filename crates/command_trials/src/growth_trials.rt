@@ -69,8 +69,9 @@ impl Trial for Tabling<'_> {
             requests: Script::of(self.alloc, b"", 1000)?,
         };
         let out = Script::of(self.alloc, b"", 1000)?;
-        let wanted = format!(
-            in self.alloc; "0 {}! sudo_review: 1 cautions (linked);", table_text(self.word)
+        let wanted = format!(in self.alloc;
+            "0 {}! sudo_review: 1 cautions (linked);",
+            table_text(self.word)
         )?;
         memory.take();
         let shown = table_shown(

@@ -162,16 +162,7 @@ pub(crate) fn report_shown<T: Threads + Wait + Sync, F: Files>(
         workers: 2,
     };
     let status = report_into(
-        alloc,
-        rt,
-        b"p",
-        files,
-        &mut users,
-        &mut hosts,
-        work,
-        form,
-        &mut out,
-        &mut err,
+        alloc, rt, b"p", files, &mut users, &mut hosts, work, form, &mut out, &mut err,
     );
     shown(alloc, status, &out, &err)
 }

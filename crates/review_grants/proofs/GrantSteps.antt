@@ -322,6 +322,8 @@ table-begins p d u m es n are =
     ap (λ (xs : List Entry). line grants_header ++ flat_map own xs) are
     ∙ ap (λ (t : List ℕ). line grants_header ++ t) (all_entries p d u m) in
     let split : flat_map own (take n es) ++ more ≡ flat_map own es =
-    sym (flat_map-append own (take n es) (drop n es)) ∙ ap (flat_map own) (take-append-drop n es) in
-    (more, append_assoc (line grants_header) (flat_map own (take n es)) more
-    ∙ ap (λ (t : List ℕ). line grants_header ++ t) split ∙ all)
+    sym (flat_map-append own (take n es) (drop n es)) ∙ ap (flat_map own) (take-append-drop n es) in (
+      more,
+      append_assoc (line grants_header) (flat_map own (take n es)) more
+          ∙ ap (λ (t : List ℕ). line grants_header ++ t) split ∙ all,
+    )

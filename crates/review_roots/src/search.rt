@@ -156,7 +156,11 @@ fn spread<'c>(
 }
 
 // Returns the states at the target.
-fn found_at(alloc: Global, steps: &HostSteps<'_, '_>, target: usize) -> Result<Vec<Found>, AllocError>
+fn found_at(
+    alloc: Global,
+    steps: &HostSteps<'_, '_>,
+    target: usize,
+) -> Result<Vec<Found>, AllocError>
     ensures { IfOk result (λ found. found.items ≡ map found_there
         (filter (λ s. s.user == target) (any_steps steps.now target).states)) }
 {

@@ -140,12 +140,7 @@ impl<'r, 'a> HostSteps<'r, 'a> {
     }
 
     // Returns what the rows give the user that asks for a target by name, if any, and for a group, if any.
-    fn asked(
-        &self,
-        candidate: &Candidate,
-        target: Option<&Person>,
-        group: Option<&Group>,
-    ) -> Given
+    fn asked(&self, candidate: &Candidate, target: Option<&Person>, group: Option<&Group>) -> Given
         requires { IsCandidate self.now candidate.now }
         ensures { result ≡ given_asked self.now.checked.now self.now.directory.now
             candidate.now.person self.now.host.now (option_copied target.entry)

@@ -16,14 +16,17 @@ returns-in-Ok g c =
     let err = sent g.E.Sink.taken g.E.Sink.stalled_writes c.args.err.now c.write_scope.new.err in
     ends-mapped table_notices (AreScopedGrants s person machine) (AreNamedGrants s user host) IsNothing
     (IsNotInScope s.directory user host) c.write_scope.result out err
-    (λ text notice own good. (record {
-      person = person;
-      machine = machine;
-      is_person = c.in-Ok.ensures.user;
-      is_machine = c.in-Ok.ensures.host;
-      text_is = good.0;
-      status_is = good.2;
-    }, good.1)) (λ fault none. absurd none) c.write_scope.ensures
+    (λ text notice own good. (
+      record {
+        person = person;
+        machine = machine;
+        is_person = c.in-Ok.ensures.user;
+        is_machine = c.in-Ok.ensures.host;
+        text_is = good.0;
+        status_is = good.2;
+      },
+      good.1,
+    )) (λ fault none. absurd none) c.write_scope.ensures
 
 pub returns-in-Err : goal.returns-in-Err
 returns-in-Err g c =

@@ -1,6 +1,5 @@
 use Rattle.std.proofs.Common.{◌+◌, ◌-◌, map, length}
 use Rattle.std.specs.Prelude.{All}
-
 use Rattle.review_roots.specs.Sought.{steps_of}
 use Rattle.review_roots.specs.Body.Found.{IsCandidate, IsSearch, IsDrawn}
 use Rattle.review_roots.specs.Body.Candidates.{states_of}
