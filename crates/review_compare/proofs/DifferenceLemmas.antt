@@ -1,0 +1,368 @@
+-- The cells that are done.
+use Rattle.std.proofs.Common.{◌≡◌, ◌<◌, ◌≤◌, ◌+◌, ◌∙◌, ◌⊎◌, inl, inr, ℕ, zero, suc, Bool, true, false, ◌&&◌, List, [], ◌∷◌, ◌++◌, map}
+use Rattle.std.proofs.Common.{flat_map, ap, arith, refl, sym, subst, Option, None, Some, length, take, get_or}
+use Rattle.std.specs.Prelude.{◌==◌, slice_get}
+use Rattle.std.specs.List.{range_with_len, Contains}
+use Rattle.std.proofs.lemmas.Bool.{and_parts, eqb-true}
+use Rattle.std.proofs.lemmas.List.Elements.{Contains-push_cases}
+use Rattle.sudo_grammar.specs.declared.policy.Policy.{Policy}
+use Rattle.sudo_match.specs.declared.people.Machine.{Machine}
+use Rattle.sudo_match.specs.declared.people.Person.{Person}
+use Rattle.review_roots.proofs.ListSteps.{flat-range, take-more}
+use Rattle.review_compare.specs.declared.cell.Ask.{Ask}
+use Rattle.review_compare.specs.declared.cell.Cell.{Cell}
+use Rattle.review_compare.specs.declared.compared.Compared.{Compared}
+use Rattle.review_compare.specs.declared.compared.Compared.TheVariants as compared
+use Rattle.review_compare.specs.declared.differences.Pair.{Pair}
+use Rattle.review_compare.specs.declared.differences.Spot.{Spot}
+use Rattle.review_compare.specs.declared.row.Row.{Row}
+use Rattle.review_compare.specs.Differences.{Finds, IsFound, IsDone, SameIf, question_at, question_if, has_cell, same_number, is_this_host}
+use Rattle.review_compare.specs.Differences.{is_this_user, is_host_if, is_user_if, all_asks, AreDifferences}
+use Rattle.sudo_verdict.specs.Questions.{Question}
+use Rattle.review_compare.specs.declared.block.Block.{Block}
+use Rattle.review_compare.specs.declared.differences.Listed.{Listed}
+use Rattle.review_compare.specs.Blocks.{AreBlocks}
+use Rattle.review_compare.specs.Compared.{said}
+use Rattle.review_compare.specs.Body.Chosen.{AreListed, standing_among}
+use Rattle.review_compare.proofs.ChosenLemmas.{all-stand, blocks-decide}
+use Rattle.review_compare.specs.Cells.{Decider, SaySame, deciders, verdict_among}
+use Rattle.review_compare.specs.Witnesses.{IsCompared}
+use Rattle.review_compare.proofs.CellLemmas.{rows_say_same}
+use Rattle.review_compare.specs.Body.Merged.{same_cell, same_numbers, Absorbs, AbsorbsAll}
+use Rattle.review_compare.specs.Body.Progress.{Progress, AddsFound, IsSpot, IsOn, AreListedIn, IsOnAsked, IsBefore, IsForAsked, IsForUser}
+use Rattle.review_compare.specs.Body.Progress.{IsUserBefore}
+use Rattle.review_compare.specs.Body.Progress.{IsAsked, cell_at, question_of}
+
+-- ---- Numbers
+
+flat-singles : (xs : List ℕ) → flat_map (λ (i : ℕ). Some i ∷ []) xs ≡ map (λ i. Some i) xs
+flat-singles [] = refl
+flat-singles (x ∷ xs) = ap (λ ys. Some x ∷ ys) (flat-singles xs)
+
+pub numbers-more : (n : ℕ) → map (λ (i : ℕ). Some i) (range_with_len 0 (n + 1)) ≡ map (λ i. Some i) (range_with_len 0 n) ++ Some n ∷ []
+numbers-more n =
+    sym (flat-singles (range_with_len 0 (n + 1))) ∙ flat-range (λ (i : ℕ). Some i ∷ []) n
+    ∙ ap (λ (xs : List (Option ℕ)). xs ++ Some n ∷ []) (flat-singles (range_with_len 0 n))
+
+-- ---- Cells that are the same
+
+numbers-same : (a b : Option ℕ) → same_number a b ≡ true → a ≡ b
+numbers-same None None e = refl
+numbers-same None (Some j) e = cc
+numbers-same (Some i) None e = cc
+numbers-same (Some i) (Some j) e = ap (λ n. Some n) (eqb-true i j e)
+
+pub lists-same : (xs ys : List (Option ℕ)) → same_numbers xs ys ≡ true → xs ≡ ys
+lists-same [] [] e = refl
+lists-same [] (y ∷ ys) e = cc
+lists-same (x ∷ xs) [] e = cc
+lists-same (x ∷ xs) (y ∷ ys) e =
+    let both = and_parts (same_number x y) (same_numbers xs ys) e in
+    ap (λ (v : Option ℕ). v ∷ xs) (numbers-same x y both.0) ∙ ap (λ (vs : List (Option ℕ)). y ∷ vs) (lists-same xs ys both.1)
+
+pub cells-same : (c d : Cell) → same_cell c d ≡ true → d ≡ c
+cells-same c d e =
+    let both = and_parts ((c.user == d.user) && (c.host == d.host))
+        (same_number d.ask.target c.ask.target && same_number d.ask.group c.ask.group) e in
+    let first = and_parts (c.user == d.user) (c.host == d.host) both.0 in
+    let second = and_parts (same_number d.ask.target c.ask.target) (same_number d.ask.group c.ask.group) both.1 in
+    let u : d.user ≡ c.user = sym (eqb-true c.user d.user first.0) in
+    let m : d.host ≡ c.host = sym (eqb-true c.host d.host first.1) in
+    let t = numbers-same d.ask.target c.ask.target second.0 in
+    let g = numbers-same d.ask.group c.ask.group second.1 in
+    rw (u, m, t, g) refl
+
+same-refl : (c : Cell) → same_cell c c ≡ true
+same-refl c = go c.user c.host c.ask.target c.ask.group
+  where
+    number : (n : ℕ) → (n == n) ≡ true
+    number n = grind arith
+
+    option : (o : Option ℕ) → same_number o o ≡ true
+    option None = refl
+    option (Some n) = number n
+
+    go : (u m : ℕ) (t g : Option ℕ) → (((u == u) && (m == m)) && (same_number t t && same_number g g)) ≡ true
+    go u m t g = rw (number u, number m, option t, option g) refl
+
+-- one row, of the cell, is absorbed
+pub adds-row : (old new : List Row) (cell : Cell) (row : Row) (found : Compared) → row.found ≡ found → ((c : Cell) →
+    has_cell row c ≡ same_cell cell c) →
+    Absorbs old row new → AddsFound old cell found new
+adds-row old new cell row found is has absorbs = record {
+  kept = absorbs.kept;
+  added = rw (sym is) (absorbs.added cell (has cell ∙ same-refl cell));
+  only = λ c f e. go c f (absorbs.only c f e);
+}
+  where
+    go : (c : Cell) (f : Compared) → Finds old c f ⊎ ((has_cell row c ≡ true) × (row.found ≡ f)) →
+        Finds old c f ⊎ ((same_cell cell c ≡ true) × (found ≡ f))
+    go c f (inl e) = inl e
+    go c f (inr e) = inr (sym (has c) ∙ e.0, sym is ∙ e.1)
+
+-- ---- Progress
+
+done-kept : (p : Pair) (before after : List Row) (c : Cell) → ((f : Compared) → Finds before c f → Finds after c f) →
+    IsDone p.old.checked.now p.new.checked.now p.directory.now p.groups.now before c →
+    IsDone p.old.checked.now p.new.checked.now p.directory.now p.groups.now after c
+done-kept p before after c kept (inl same) = inl same
+done-kept p before after c kept (inr found) = inr (found.0, kept found.0 found.1)
+
+pub started : (p : Pair) (rows : List Row) (P : Cell → Type 0) → ((c : Cell) → P c → ⊥) → Progress p rows rows P
+started p rows P none = record {
+  kept = λ c f e. e;
+  right = λ right. right;
+  done = λ c at. absurd (none c at);
+}
+
+pub went-on : (p : Pair) (a b c : List Row) (P Q R : Cell → Type 0) → ((x : Cell) → R x → P x ⊎ Q x) → Progress p a b P →
+    Progress p b c Q → Progress p a c R
+went-on p a b c P Q R either first second = record {
+  kept = λ x f e. second.kept x f (first.kept x f e);
+  right = λ right. second.right (first.right right);
+  done = λ x at. go x (either x at);
+}
+  where
+    go : (x : Cell) → P x ⊎ Q x → IsDone p.old.checked.now p.new.checked.now p.directory.now p.groups.now c x
+    go x (inl at) = done-kept p b c x (second.kept x) (first.done x at)
+    go x (inr at) = second.done x at
+
+-- nothing has to be added where both say the same
+pub nothing-added : (p : Pair) (rows : List Row) (P : Cell → Type 0) →
+    ((c : Cell) → P c → SameIf p.old.checked.now p.new.checked.now (question_at p.directory.now p.groups.now c)) → Progress p rows rows P
+nothing-added p rows P same = record {
+  kept = λ c f e. e;
+  right = λ right. right;
+  done = λ c at. inl (same c at);
+}
+
+-- what is right of a cell is added
+pub one-added : (p : Pair) (rows new : List Row) (cell : Cell) (found : Compared) → AddsFound rows cell found new →
+    IsFound p.old.checked.now p.new.checked.now p.directory.now p.groups.now cell found → Progress p rows new (λ c. c ≡ cell)
+one-added p rows new cell found adds is = record {
+  kept = adds.kept;
+  right = λ right c f e. go right c f (adds.only c f e);
+  done = λ c at. rw at (inr (found, adds.added));
+}
+  where
+    go : ((c : Cell) (f : Compared) → Finds rows c f → IsFound p.old.checked.now p.new.checked.now p.directory.now p.groups.now c f) →
+        (c : Cell) (f : Compared) → Finds rows c f ⊎ ((same_cell cell c ≡ true) × (found ≡ f)) →
+            IsFound p.old.checked.now p.new.checked.now p.directory.now p.groups.now c f
+    go right c f (inl e) = right c f e
+    go right c f (inr e) = rw (cells-same cell c e.0, sym e.1) is
+
+-- ---- Spots
+
+pub spot-question : (p : Pair) (s : Spot) (a : Ask) → IsSpot p s →
+    question_at p.directory.now p.groups.now (cell_at s a) ≡ Some (question_of p s a)
+spot-question p s a at =
+    ap (λ (u : Option Person). question_if p.directory.now p.groups.now a u (slice_get p.directory.now.machines s.host)) at.0
+    ∙ ap (λ (m : Option Machine). question_if p.directory.now p.groups.now a (Some s.person.now) m) at.1
+
+-- both policies say the same at the spot
+pub spot-same : (p : Pair) (rows : List Row) (s : Spot) (a : Ask) (f : Compared) → IsSpot p s →
+    IsCompared (deciders p.old.checked.now (question_of p s a)) (deciders p.new.checked.now (question_of p s a)) f → f ≡ compared.Same →
+    Progress p rows rows (λ c. c ≡ cell_at s a)
+spot-same p rows s a f at is same =
+    let q = question_of p s a in
+    let nothing : IsCompared (deciders p.old.checked.now q) (deciders p.new.checked.now q) compared.Same = subst (λ g. IsCompared
+        (deciders p.old.checked.now q) (deciders p.new.checked.now q) g) same is in
+    let says : SaySame p.old.checked.now p.new.checked.now q = rows_say_same p.old.checked.now p.new.checked.now q nothing in
+    nothing-added p rows (λ c. c ≡ cell_at s a)
+    (λ c here. rw (here, spot-question p s a at) says)
+
+-- what is found at the spot is right there
+pub spot-found : (p : Pair) (rows new : List Row) (s : Spot) (a : Ask) (f : Compared) → IsSpot p s →
+    IsCompared (deciders p.old.checked.now (question_of p s a)) (deciders p.new.checked.now (question_of p s a)) f →
+    AddsFound rows (cell_at s a) f new → Progress p rows new (λ c. c ≡ cell_at s a)
+spot-found p rows new s a f at is adds = one-added p rows new (cell_at s a) f adds (rw (spot-question p s a at) is)
+
+-- one ask more
+pub ask-more : (p : Pair) (rows new : List Row) (s : Spot) (asks : List Ask) (k : ℕ) → k < length asks →
+    (a : Ask) → a ≡ get_or asks k a →
+    Progress p [] rows (IsOn s.user s.host (take k asks)) → Progress p rows new (λ c. c ≡ cell_at s a) →
+    Progress p [] new (IsOn s.user s.host (take (k + 1) asks))
+ask-more p rows new s asks k less a is so_far one =
+    went-on p [] rows new (IsOn s.user s.host (take k asks)) (λ c. c ≡ cell_at s a) (IsOn s.user s.host (take
+        (k + 1) asks)) either so_far one
+  where
+    split : (c : Cell) → c.user ≡ s.user → c.host ≡ s.host → Contains (take k asks) c.ask ⊎ (a ≡ c.ask) →
+        IsOn s.user s.host (take k asks) c ⊎ (c ≡ cell_at s a)
+    split c u m (inl there) = inl (u, m, there)
+    split c u m (inr here) = inr (rw (sym u, sym m, here) refl)
+
+    either : (c : Cell) → IsOn s.user s.host (take (k + 1) asks) c → IsOn s.user s.host (take k asks) c ⊎ (c ≡ cell_at s a)
+    either c on = split c on.0 on.1
+        (Contains-push_cases (take k asks) a c.ask (subst (λ (xs : List Ask). Contains xs c.ask) (take-more asks k a less is) on.2))
+
+no-numbers : (xs : List ℕ) → length xs ≡ 0 → xs ≡ []
+no-numbers [] e = refl
+no-numbers (x ∷ xs) e = absurd (omega arith)
+
+-- where no block is for the user on the host, there is no row for any target
+no-deciders :
+    (p : Policy) (bs : List Block) (u : Person) (m : Machine) (indices : List ℕ) → AreBlocks p bs → AreListed p bs u m indices →
+    length indices ≡ 0 → (q : Question) → q.user ≡ u → q.host ≡ m → deciders p q ≡ []
+no-deciders p bs u m indices are listed none q own on =
+    sym (blocks-decide p q bs are) ∙ sym (all-stand p bs q) ∙ sym (listed.all q (λ _. true) own on)
+    ∙ ap (standing_among p bs q (λ _. true)) (no-numbers indices none)
+
+pub none-listed :
+    (p : Pair) (rows : List Row) (s : Spot) (l : Listed) (asks : List Ask) → IsSpot p s → AreListedIn p s l →
+    length l.old.items ≡ 0 → length l.new.items ≡ 0 → Progress p rows rows (IsOn s.user s.host asks)
+none-listed p rows s l asks at listed old new = nothing-added p rows (IsOn s.user s.host asks) (λ c on. same c on.0 on.1)
+  where
+    says : (a : Ask) → SaySame p.old.checked.now p.new.checked.now (question_of p s a)
+    says a = rows_say_same p.old.checked.now p.new.checked.now (question_of p s a)
+        (λ command arguments.
+        ap (λ (ds : List Decider). said (verdict_among ds command arguments))
+        (no-deciders p.old.checked.now p.old.blocks.items s.person.now s.machine.now l.old.items p.old.are_blocks listed.old old
+        (question_of p s a) refl refl
+        ∙ sym (no-deciders p.new.checked.now p.new.blocks.items s.person.now s.machine.now l.new.items p.new.are_blocks listed.new new
+        (question_of p s a) refl refl)))
+
+    same : (c : Cell) → c.user ≡ s.user → c.host ≡ s.host →
+        SameIf p.old.checked.now p.new.checked.now (question_at p.directory.now p.groups.now c)
+    same c own on =
+        let is : c ≡ cell_at s c.ask = rw (sym own, sym on) refl in
+        let asked = ap (question_at p.directory.now p.groups.now) is ∙ spot-question p s c.ask at in
+        subst (λ (o : Option Question). SameIf p.old.checked.now p.new.checked.now o) (sym asked) (says c.ask)
+
+-- rows of their own are absorbed
+pub all-added : (p : Pair) (rows more new : List Row) (P : Cell → Type 0) → Progress p [] more P → AbsorbsAll rows more new →
+    Progress p rows new P
+all-added p rows more new P own absorbs = record {
+  kept = absorbs.kept;
+  right = λ right c f e. go right c f (absorbs.only c f e);
+  done = λ c at. done-kept p more new c (absorbs.added c) (own.done c at);
+}
+  where
+    go : ((c : Cell) (f : Compared) → Finds rows c f → IsFound p.old.checked.now p.new.checked.now p.directory.now p.groups.now c f) →
+        (c : Cell) (f : Compared) → Finds rows c f ⊎ Finds more c f →
+            IsFound p.old.checked.now p.new.checked.now p.directory.now p.groups.now c f
+    go right c f (inl e) = right c f e
+    go right c f (inr e) = own.right (λ d g none. absurd none) c f e
+
+-- ---- Hosts
+
+there-of : {X : Type 0} (t : Option X → Bool) (xs : List X) (i : ℕ) → t None ≡ false → t (slice_get xs i) ≡ true → i < length xs
+there-of t [] i none e = let bad : false ≡ true = sym none ∙ e in cc
+there-of t (x ∷ xs) zero none e = omega arith
+there-of t (x ∷ xs) (suc i) none e = let more = there-of t xs i none e in omega (arith, more)
+
+-- a host that is not asked about has no cells
+pub other-host : (p : Pair) (rows : List Row) (s : Spot) (scope : Option Machine) (asks : List Ask) → IsSpot p s →
+    is_this_host scope s.machine.now ≡ false →
+    Progress p rows rows (IsOnAsked p scope s.user s.host asks)
+other-host p rows s scope asks at other =
+    started p rows (IsOnAsked p scope s.user s.host asks)
+    (λ c on. no c on.0.1 on.1)
+  where
+    no : (c : Cell) → c.host ≡ s.host → is_host_if scope (slice_get p.directory.now.machines c.host) ≡ true → ⊥
+    no c is yes1 =
+        let here : is_host_if scope (slice_get p.directory.now.machines c.host) ≡ false =
+        ap (λ i. is_host_if scope (slice_get p.directory.now.machines i)) is ∙ ap (is_host_if scope) at.1 ∙ other in
+        let bad : true ≡ false = sym yes1 ∙ here in cc
+
+pub on-host : (p : Pair) (rows new : List Row) (s : Spot) (scope : Option Machine) (asks : List Ask) →
+    Progress p rows new (IsOn s.user s.host asks) → Progress p rows new (IsOnAsked p scope s.user s.host asks)
+on-host p rows new s scope asks on = record { kept = on.kept; right = on.right; done = λ c at. on.done c at.0 }
+
+less-or : (i n : ℕ) → i < n + 1 → (i < n) ⊎ (i ≡ n)
+less-or zero zero e = inr refl
+less-or (suc i) zero e = absurd (omega (arith, e))
+less-or zero (suc n) e = inl (omega arith)
+less-or (suc i) (suc n) e = go (less-or i n (omega (arith, e)))
+  where
+    go : (i < n) ⊎ (i ≡ n) → (suc i < suc n) ⊎ (suc i ≡ suc n)
+    go (inl e) = inl (omega (arith, e))
+    go (inr e) = inr (ap suc e)
+
+pub host-more : (p : Pair) (rows new : List Row) (user host : ℕ) (scope : Option Machine) (asks : List Ask) →
+    Progress p [] rows (IsBefore p scope user host asks) → Progress p rows new (IsOnAsked p scope user host asks) →
+    Progress p [] new (IsBefore p scope user (host + 1) asks)
+host-more p rows new user host scope asks so_far one =
+    went-on p [] rows new (IsBefore p scope user host asks) (IsOnAsked p scope user host asks) (IsBefore p scope user (host + 1) asks)
+    (λ c at. go c at (less-or c.host host at.1)) so_far one
+  where
+    go : (c : Cell) → IsBefore p scope user (host + 1) asks c → (c.host < host) ⊎ (c.host ≡ host) →
+        IsBefore p scope user host asks c ⊎ IsOnAsked p scope user host asks c
+    go c at (inl less) = inl (at.0, less, at.2, at.3)
+    go c at (inr is) = inr ((at.0, is, at.2), at.3)
+
+pub hosts-none : (p : Pair) (scope : Option Machine) (user : ℕ) (asks : List Ask) → Progress p [] [] (IsBefore p scope user 0 asks)
+hosts-none p scope user asks = started p [] (IsBefore p scope user 0 asks) (λ c at. omega (arith, at.1))
+
+pub hosts-all : (p : Pair) (rows : List Row) (scope : Option Machine) (user n : ℕ) (asks : List Ask) → length p.directory.now.machines ≤ n →
+    Progress p [] rows (IsBefore p scope user n asks) → Progress p [] rows (IsForAsked p scope user asks)
+hosts-all p rows scope user n asks all so_far = record {
+  kept = so_far.kept;
+  right = so_far.right;
+  done = λ c at. so_far.done c
+      (at.own, (let less = there-of (is_host_if scope) p.directory.now.machines c.host refl at.on in omega
+          (arith, less, all)), at.asked, at.on);
+}
+
+-- ---- Users
+
+pub other-user : (p : Pair) (rows : List Row) (user : ℕ) (u : Person) (about : Option Person) (scope : Option Machine) (asks : List Ask) →
+    slice_get p.directory.now.people user ≡ Some u → is_this_user about u ≡ false → Progress p rows rows (IsForUser p about scope user asks)
+other-user p rows user u about scope asks there other =
+    started p rows (IsForUser p about scope user asks) (λ c at. no c at.own at.is)
+  where
+    no : (c : Cell) → c.user ≡ user → is_user_if about (slice_get p.directory.now.people c.user) ≡ true → ⊥
+    no c is yes1 =
+        let here : is_user_if about (slice_get p.directory.now.people c.user) ≡ false =
+        ap (λ i. is_user_if about (slice_get p.directory.now.people i)) is ∙ ap (is_user_if about) there ∙ other in
+        let bad : true ≡ false = sym yes1 ∙ here in cc
+
+pub for-user : (p : Pair) (rows more new : List Row) (about : Option Person) (scope : Option Machine) (user : ℕ) (asks : List Ask) →
+    Progress p [] more (IsForAsked p scope user asks) → AbsorbsAll rows more new → Progress p rows new (IsForUser p about scope user asks)
+for-user p rows more new about scope user asks own absorbs =
+    let all = all-added p rows more new (IsForAsked p scope user asks) own absorbs in
+    record { kept = all.kept; right = all.right; done = λ c at. all.done c (record { own = at.own; on = at.on; asked = at.asked }) }
+
+pub user-more : (p : Pair) (rows new : List Row) (about : Option Person) (scope : Option Machine) (user : ℕ) (asks : List Ask) →
+    Progress p [] rows (IsUserBefore p about scope user asks) → Progress p rows new (IsForUser p about scope user asks) →
+    Progress p [] new (IsUserBefore p about scope (user + 1) asks)
+user-more p rows new about scope user asks so_far one =
+    went-on p [] rows new (IsUserBefore p about scope user asks) (IsForUser p about scope user asks) (IsUserBefore p about scope
+        (user + 1) asks)
+    (λ c at. go c at (less-or c.user user at.before)) so_far one
+  where
+    go : (c : Cell) → IsUserBefore p about scope (user + 1) asks c → (c.user < user) ⊎ (c.user ≡ user) →
+        IsUserBefore p about scope user asks c ⊎ IsForUser p about scope user asks c
+    go c at (inl less) = inl (record { before = less; is = at.is; on = at.on; asked = at.asked })
+    go c at (inr own) = inr (record { own = own; is = at.is; on = at.on; asked = at.asked })
+
+pub users-none : (p : Pair) (about : Option Person) (scope : Option Machine) (asks : List Ask) →
+    Progress p [] [] (IsUserBefore p about scope 0 asks)
+users-none p about scope asks = started p [] (IsUserBefore p about scope 0 asks) (λ c at. let no = at.before in omega (arith, no))
+
+pub users-all : (p : Pair) (rows : List Row) (about : Option Person) (scope : Option Machine) (n : ℕ) (asks : List Ask) →
+    length p.directory.now.people ≤ n → Progress p [] rows (IsUserBefore p about scope n asks) →
+        Progress p [] rows (IsAsked p about scope asks)
+users-all p rows about scope n asks all so_far = record {
+  kept = so_far.kept;
+  right = so_far.right;
+  done = λ c at. so_far.done c (record {
+    before = let less = there-of (is_user_if about) p.directory.now.people c.user refl at.is in omega (arith, less, all);
+    is = at.is;
+    on = at.on;
+    asked = at.asked;
+  });
+}
+
+-- ---- The table
+
+pub all-differences : (p : Pair) (rows : List Row) (about : Option Person) (scope : Option Machine) (asks : List Ask) →
+    asks ≡ all_asks p.directory.now p.groups.now → Progress p [] rows (IsAsked p about scope asks) →
+    AreDifferences p.old.checked.now p.new.checked.now p.directory.now p.groups.now about scope rows
+all-differences p rows about scope asks are all = record {
+  right = all.right (λ c f none. absurd none);
+  complete = λ c at. all.done c (record {
+    is = at.is_user;
+    on = at.is_host;
+    asked = subst (λ (xs : List Ask). Contains xs c.ask) (sym are) at.is_ask;
+  });
+}

@@ -1,0 +1,13 @@
+pub mod AgreementLemmas
+pub mod CoveringLemmas
+pub mod ComparedLemmas
+pub mod SimplyLemmas
+pub mod CellLemmas
+pub mod RulingLemmas
+pub mod WitnessLemmas
+pub mod BlockLemmas
+pub mod ChosenLemmas
+pub mod MergeLemmas
+pub mod DifferenceLemmas
+pub mod RowLemmas
+pub mod TextLemmas

@@ -1,0 +1,230 @@
+-- Rows that become one, and rows that are added to others.
+use Rattle.std.proofs.Common.{◌≡◌, ◌<◌, ◌∙◌, ◌⊎◌, inl, inr, ℕ, zero, suc, Bool, true, false, ◌&&◌, ◌||◌, List, [], ◌∷◌, ◌++◌, ap, arith}
+use Rattle.std.proofs.Common.{refl, sym, get_or, length}
+use Rattle.std.specs.Prelude.{◌==◌, slice_set}
+use Rattle.std.specs.List.{list_any}
+use Rattle.std.proofs.lemmas.Bool.{or_cases, or_left, or_right}
+use Rattle.std.proofs.lemmas.List.Folds.{list_any-append}
+use Rattle.review_compare.specs.declared.cell.Cell.{Cell}
+use Rattle.review_compare.specs.declared.compared.Compared.{Compared}
+use Rattle.review_compare.specs.declared.row.Row.{Row}
+use Rattle.review_compare.specs.Differences.{Finds, has_cell, same_number}
+use Rattle.review_compare.specs.Body.Merged.{Absorbs, AbsorbsAll, IsJoined}
+
+-- ---- One row of two
+
+first-of : (a b h t g : Bool) → (((a || b) && h) && (t && g)) ≡ (((a && h) && (t && g)) || ((b && h) && (t && g)))
+first-of true true true true true = refl
+first-of true true true true false = refl
+first-of true true true false g = refl
+first-of true true false t g = refl
+first-of true false true true true = refl
+first-of true false true true false = refl
+first-of true false true false g = refl
+first-of true false false t g = refl
+first-of false b h t g = refl
+
+second-of : (u a b t g : Bool) → ((u && (a || b)) && (t && g)) ≡ (((u && a) && (t && g)) || ((u && b) && (t && g)))
+second-of true true true true true = refl
+second-of true true true true false = refl
+second-of true true true false g = refl
+second-of true true false true true = refl
+second-of true true false true false = refl
+second-of true true false false g = refl
+second-of true false b t g = refl
+second-of false a b t g = refl
+
+third-of : (x a b g : Bool) → (x && ((a || b) && g)) ≡ ((x && (a && g)) || (x && (b && g)))
+third-of true true true true = refl
+third-of true true true false = refl
+third-of true true false true = refl
+third-of true true false false = refl
+third-of true false b g = refl
+third-of false a b g = refl
+
+fourth-of : (x t a b : Bool) → (x && (t && (a || b))) ≡ ((x && (t && a)) || (x && (t && b)))
+fourth-of true true a b = refl
+fourth-of true false a b = refl
+fourth-of false t a b = refl
+
+pub joined-users : (r s : Row) → (r.hosts ≡ s.hosts) × (r.targets ≡ s.targets) × (r.groups ≡ s.groups) × (r.found ≡ s.found) →
+    IsJoined r s (record r { users = r.users ++ s.users })
+joined-users r s like = record {
+  cells = λ c.
+      ap (λ v. (v && list_any (λ m. m == c.host) r.hosts) && (list_any (same_number c.ask.target) r.targets && list_any
+          (same_number c.ask.group) r.groups))
+      (list_any-append (λ u. u == c.user) r.users s.users)
+      ∙ first-of (list_any (λ u. u == c.user) r.users) (list_any (λ u. u == c.user) s.users) (list_any (λ m. m == c.host) r.hosts)
+      (list_any (same_number c.ask.target) r.targets) (list_any (same_number c.ask.group) r.groups)
+      ∙ ap (λ hs. has_cell r c || ((list_any (λ u. u == c.user) s.users && list_any (λ m. m == c.host) hs)
+      && (list_any (same_number c.ask.target) r.targets && list_any (same_number c.ask.group) r.groups))) like.0
+      ∙ ap (λ ts. has_cell r c || ((list_any (λ u. u == c.user) s.users && list_any (λ m. m == c.host) s.hosts)
+      && (list_any (same_number c.ask.target) ts && list_any (same_number c.ask.group) r.groups))) like.1
+      ∙ ap (λ gs. has_cell r c || ((list_any (λ u. u == c.user) s.users && list_any (λ m. m == c.host) s.hosts)
+      && (list_any (same_number c.ask.target) s.targets && list_any (same_number c.ask.group) gs))) like.2;
+  first = refl;
+  second = like.3;
+}
+
+pub joined-hosts : (r s : Row) → (r.users ≡ s.users) × (r.targets ≡ s.targets) × (r.groups ≡ s.groups) × (r.found ≡ s.found) →
+    IsJoined r s (record r { hosts = r.hosts ++ s.hosts })
+joined-hosts r s like = record {
+  cells = λ c.
+      ap (λ v. (list_any (λ u. u == c.user) r.users && v) && (list_any (same_number c.ask.target) r.targets && list_any
+          (same_number c.ask.group) r.groups))
+      (list_any-append (λ m. m == c.host) r.hosts s.hosts)
+      ∙ second-of (list_any (λ u. u == c.user) r.users) (list_any (λ m. m == c.host) r.hosts) (list_any (λ m. m == c.host) s.hosts)
+      (list_any (same_number c.ask.target) r.targets) (list_any (same_number c.ask.group) r.groups)
+      ∙ ap (λ us. has_cell r c || ((list_any (λ u. u == c.user) us && list_any (λ m. m == c.host) s.hosts)
+      && (list_any (same_number c.ask.target) r.targets && list_any (same_number c.ask.group) r.groups))) like.0
+      ∙ ap (λ ts. has_cell r c || ((list_any (λ u. u == c.user) s.users && list_any (λ m. m == c.host) s.hosts)
+      && (list_any (same_number c.ask.target) ts && list_any (same_number c.ask.group) r.groups))) like.1
+      ∙ ap (λ gs. has_cell r c || ((list_any (λ u. u == c.user) s.users && list_any (λ m. m == c.host) s.hosts)
+      && (list_any (same_number c.ask.target) s.targets && list_any (same_number c.ask.group) gs))) like.2;
+  first = refl;
+  second = like.3;
+}
+
+pub joined-targets : (r s : Row) → (r.users ≡ s.users) × (r.hosts ≡ s.hosts) × (r.groups ≡ s.groups) × (r.found ≡ s.found) →
+    IsJoined r s (record r { targets = r.targets ++ s.targets })
+joined-targets r s like = record {
+  cells = λ c.
+      ap (λ v. (list_any (λ u. u == c.user) r.users && list_any (λ m. m == c.host) r.hosts) && (v && list_any
+          (same_number c.ask.group) r.groups))
+      (list_any-append (same_number c.ask.target) r.targets s.targets)
+      ∙ third-of (list_any (λ u. u == c.user) r.users && list_any (λ m. m == c.host) r.hosts)
+      (list_any (same_number c.ask.target) r.targets) (list_any (same_number c.ask.target) s.targets) (list_any
+          (same_number c.ask.group) r.groups)
+      ∙ ap (λ us. has_cell r c || ((list_any (λ u. u == c.user) us && list_any (λ m. m == c.host) r.hosts)
+      && (list_any (same_number c.ask.target) s.targets && list_any (same_number c.ask.group) r.groups))) like.0
+      ∙ ap (λ hs. has_cell r c || ((list_any (λ u. u == c.user) s.users && list_any (λ m. m == c.host) hs)
+      && (list_any (same_number c.ask.target) s.targets && list_any (same_number c.ask.group) r.groups))) like.1
+      ∙ ap (λ gs. has_cell r c || ((list_any (λ u. u == c.user) s.users && list_any (λ m. m == c.host) s.hosts)
+      && (list_any (same_number c.ask.target) s.targets && list_any (same_number c.ask.group) gs))) like.2;
+  first = refl;
+  second = like.3;
+}
+
+pub joined-groups : (r s : Row) → (r.users ≡ s.users) × (r.hosts ≡ s.hosts) × (r.targets ≡ s.targets) × (r.found ≡ s.found) →
+    IsJoined r s (record r { groups = r.groups ++ s.groups })
+joined-groups r s like = record {
+  cells = λ c.
+      ap (λ v. (list_any (λ u. u == c.user) r.users && list_any (λ m. m == c.host) r.hosts) && (list_any
+          (same_number c.ask.target) r.targets && v))
+      (list_any-append (same_number c.ask.group) r.groups s.groups)
+      ∙ fourth-of (list_any (λ u. u == c.user) r.users && list_any (λ m. m == c.host) r.hosts)
+      (list_any (same_number c.ask.target) r.targets) (list_any (same_number c.ask.group) r.groups) (list_any
+          (same_number c.ask.group) s.groups)
+      ∙ ap (λ us. has_cell r c || ((list_any (λ u. u == c.user) us && list_any (λ m. m == c.host) r.hosts)
+      && (list_any (same_number c.ask.target) r.targets && list_any (same_number c.ask.group) s.groups))) like.0
+      ∙ ap (λ hs. has_cell r c || ((list_any (λ u. u == c.user) s.users && list_any (λ m. m == c.host) hs)
+      && (list_any (same_number c.ask.target) r.targets && list_any (same_number c.ask.group) s.groups))) like.1
+      ∙ ap (λ ts. has_cell r c || ((list_any (λ u. u == c.user) s.users && list_any (λ m. m == c.host) s.hosts)
+      && (list_any (same_number c.ask.target) ts && list_any (same_number c.ask.group) s.groups))) like.2;
+  first = refl;
+  second = like.3;
+}
+
+-- ---- Rows beside others
+
+pub finds-first : (xs ys : List Row) (c : Cell) (f : Compared) → Finds xs c f → Finds (xs ++ ys) c f
+finds-first [] ys c f e = absurd e
+finds-first (r ∷ xs) ys c f (inl here) = inl here
+finds-first (r ∷ xs) ys c f (inr more) = inr (finds-first xs ys c f more)
+
+pub finds-last : (xs ys : List Row) (c : Cell) (f : Compared) → Finds ys c f → Finds (xs ++ ys) c f
+finds-last [] ys c f e = e
+finds-last (r ∷ xs) ys c f e = inr (finds-last xs ys c f e)
+
+pub finds-either : (xs ys : List Row) (c : Cell) (f : Compared) → Finds (xs ++ ys) c f → Finds xs c f ⊎ Finds ys c f
+finds-either [] ys c f e = inr e
+finds-either (r ∷ xs) ys c f (inl here) = inl (inl here)
+finds-either (r ∷ xs) ys c f (inr more) = go (finds-either xs ys c f more)
+  where
+    go : Finds xs c f ⊎ Finds ys c f → Finds (r ∷ xs) c f ⊎ Finds ys c f
+    go (inl e) = inl (inr e)
+    go (inr e) = inr e
+
+pub absorbs-push : (rows : List Row) (row : Row) → Absorbs rows row (rows ++ row ∷ [])
+absorbs-push rows row = record {
+  kept = λ c f e. finds-first rows (row ∷ []) c f e;
+  added = λ c e. finds-last rows (row ∷ []) c row.found (inl (e, refl));
+  only = λ c f e. go c f (finds-either rows (row ∷ []) c f e);
+}
+  where
+    go : (c : Cell) (f : Compared) → Finds rows c f ⊎ Finds (row ∷ []) c f → Finds rows c f ⊎ ((has_cell row c ≡ true) × (row.found ≡ f))
+    go c f (inl e) = inl e
+    go c f (inr (inl here)) = inr here
+    go c f (inr (inr none)) = absurd none
+
+-- the row at an index in place of which a joined one stands
+module _ (row : Row) where
+  set-kept : (rows : List Row) (i : ℕ) (d t : Row) → i < length rows → IsJoined (get_or rows i d) row t → (c : Cell) (f : Compared) →
+      Finds rows c f → Finds (slice_set rows i t) c f
+  set-kept [] i d t less j c f e = absurd e
+  set-kept (r ∷ rows) zero d t less j c f (inl here) = inl (j.cells c ∙ or_left (has_cell r c) (has_cell row c) here.0, j.first ∙ here.1)
+  set-kept (r ∷ rows) zero d t less j c f (inr more) = inr more
+  set-kept (r ∷ rows) (suc i) d t less j c f (inl here) = inl here
+  set-kept (r ∷ rows) (suc i) d t less j c f (inr more) = inr (set-kept rows i d t (omega (arith, less)) j c f more)
+
+  set-added : (rows : List Row) (i : ℕ) (d t : Row) → i < length rows → IsJoined (get_or rows i d) row t → (c : Cell) →
+      has_cell row c ≡ true → Finds (slice_set rows i t) c row.found
+  set-added [] i d t less j c e = absurd (omega (arith, less))
+  set-added (r ∷ rows) zero d t less j c e = inl (j.cells c ∙ or_right (has_cell r c) (has_cell row c) e, j.second)
+  set-added (r ∷ rows) (suc i) d t less j c e = inr (set-added rows i d t (omega (arith, less)) j c e)
+
+  set-only : (rows : List Row) (i : ℕ) (d t : Row) → i < length rows → IsJoined (get_or rows i d) row t → (c : Cell) (f : Compared) →
+      Finds (slice_set rows i t) c f → Finds rows c f ⊎ ((has_cell row c ≡ true) × (row.found ≡ f))
+  set-only [] i d t less j c f e = absurd (omega (arith, less))
+  set-only (r ∷ rows) zero d t less j c f (inl here) = go (or_cases (has_cell r c) (has_cell row c) (sym (j.cells c) ∙ here.0))
+    where
+      go : (has_cell r c ≡ true) ⊎ (has_cell row c ≡ true) → Finds (r ∷ rows) c f ⊎ ((has_cell row c ≡ true) × (row.found ≡ f))
+      go (inl own) = inl (inl (own, sym j.first ∙ here.1))
+      go (inr its) = inr (its, sym j.second ∙ here.1)
+  set-only (r ∷ rows) zero d t less j c f (inr more) = inl (inr more)
+  set-only (r ∷ rows) (suc i) d t less j c f (inl here) = inl (inl here)
+  set-only (r ∷ rows) (suc i) d t less j c f (inr more) = go (set-only rows i d t (omega (arith, less)) j c f more)
+    where
+      go : Finds rows c f ⊎ ((has_cell row c ≡ true) × (row.found ≡ f)) → Finds (r ∷ rows) c f ⊎ ((has_cell row c ≡ true) × (row.found ≡ f))
+      go (inl e) = inl (inr e)
+      go (inr e) = inr e
+
+pub absorbs-set : (rows : List Row) (row : Row) (i : ℕ) (d t : Row) → i < length rows → IsJoined (get_or rows i d) row t →
+    Absorbs rows row (slice_set rows i t)
+absorbs-set rows row i d t less j = record {
+  kept = set-kept row rows i d t less j;
+  added = set-added row rows i d t less j;
+  only = set-only row rows i d t less j;
+}
+
+pub absorbs-none : (rows : List Row) → AbsorbsAll rows [] rows
+absorbs-none rows = record {
+  kept = λ c f e. e;
+  added = λ c f e. absurd e;
+  only = λ c f e. inl e;
+}
+
+pub absorbs-more : (rows more mid new : List Row) (row : Row) → AbsorbsAll rows more mid → Absorbs mid row new →
+    AbsorbsAll rows (more ++ row ∷ []) new
+absorbs-more rows more mid new row all one = record {
+  kept = λ c f e. one.kept c f (all.kept c f e);
+  added = λ c f e. add c f (finds-either more (row ∷ []) c f e);
+  only = λ c f e. from c f (one.only c f e);
+}
+  where
+    add : (c : Cell) (f : Compared) → Finds more c f ⊎ Finds (row ∷ []) c f → Finds new c f
+    add c f (inl e) = one.kept c f (all.added c f e)
+    add c f (inr (inl here)) = at (one.added c here.0) here.1
+      where
+        at : Finds new c row.found → row.found ≡ f → Finds new c f
+        at e is = rw (sym is) e
+    add c f (inr (inr none)) = absurd none
+
+    from : (c : Cell) (f : Compared) → Finds mid c f ⊎ ((has_cell row c ≡ true) × (row.found ≡ f)) →
+        Finds rows c f ⊎ Finds (more ++ row ∷ []) c f
+    from c f (inl e) = on (all.only c f e)
+      where
+        on : Finds rows c f ⊎ Finds more c f → Finds rows c f ⊎ Finds (more ++ row ∷ []) c f
+        on (inl e) = inl e
+        on (inr e) = inr (finds-first more (row ∷ []) c f e)
+    from c f (inr here) = inr (finds-last more (row ∷ []) c f (inl here))

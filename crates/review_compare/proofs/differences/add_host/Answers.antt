@@ -1,0 +1,15 @@
+use Rattle.std.proofs.Common.{◌∙◌, option_copied, sym}
+use Rattle.sudo_base.proofs.Options.{on_ok}
+use Rattle.review_compare.proofs.DifferenceLemmas.{on-host, other-host}
+use Rattle.review_compare.proofs.differences.add_host.Goals as goal
+
+pub returns-then-not-is_this_host : goal.returns-then-not-is_this_host
+returns-then-not-is_this_host c =
+    other-host c.args.pair.now c.args.rows.now.items c.args.spot (option_copied c.args.scope) c.args.asks.now c.requires.spot
+    (sym c.is_this_host.ensures ∙ c.if-not-is_this_host.true)
+
+pub returns : goal.returns
+returns c =
+    on_ok c.add_spot.result
+    (on-host c.args.pair.now c.args.rows.now.items c.add_spot.new.rows.items c.args.spot (option_copied c.args.scope) c.args.asks.now)
+    c.add_spot.ensures

@@ -1,0 +1,16 @@
+use Rattle.std.proofs.Common.{◌∙◌, option_copied, sym}
+use Rattle.sudo_base.proofs.Options.{on_ok}
+use Rattle.review_compare.proofs.DifferenceLemmas.{for-user, other-user}
+use Rattle.review_compare.proofs.differences.add_user.Goals as goal
+
+pub returns-then-not-is_this_user : goal.returns-then-not-is_this_user
+returns-then-not-is_this_user c =
+    other-user c.args.pair.now c.args.rows.now.items c.args.user c.args.person.now (option_copied c.args.scope.user)
+    (option_copied c.args.scope.host) c.args.asks.now c.requires (sym c.is_this_user.ensures ∙ c.if-not-is_this_user.true)
+
+pub returns : goal.returns
+returns c =
+    on_ok c.absorb_all.result
+    (for-user c.args.pair.now c.args.rows.now.items c.in_ok-more.more.items c.absorb_all.new.rows.items (option_copied c.args.scope.user)
+    (option_copied c.args.scope.host) c.args.user c.args.asks.now c.in_ok-more.ensures)
+    c.absorb_all.ensures

@@ -1,0 +1,7 @@
+use Rattle.std.proofs.Common.{◌∙◌, ap, not, sym}
+use Rattle.review_compare.specs.Body.Shown.{all_shown}
+use Rattle.review_compare.proofs.RulingLemmas.{rows-pairs}
+use Rattle.review_compare.proofs.ruling.first_overlap.Goals as goal
+
+pub returns : goal.returns
+returns c = c.first_unlike.ensures ∙ ap not (sym (rows-pairs (all_shown c.args.old.now) (all_shown c.args.new.now)))

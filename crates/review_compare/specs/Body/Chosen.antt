@@ -1,0 +1,77 @@
+-- The blocks that stand for a question, by their indices; only proofs of bodies need these definitions.
+use Rattle.std.specs.Prelude.{◌≡◌, ℕ, Bool, true, false, ◌&&◌, if◌then◌else◌, List, [], flat_map, length, map, slice_get, Option, Some}
+use Rattle.std.specs.Prelude.{None, option_copied}
+use Rattle.std.specs.List.{list_all, range_with_len}
+use Rattle.sudo_grammar.specs.declared.policy.Policy.{Policy}
+use Rattle.sudo_match.specs.declared.people.Machine.{Machine}
+use Rattle.sudo_match.specs.declared.people.Person.{Person}
+use Rattle.sudo_verdict.specs.Values.{user_allowed, host_allowed}
+use Rattle.sudo_verdict.specs.RunasForms.{runas_allows}
+use Rattle.sudo_verdict.specs.Questions.{Question}
+use Rattle.review_compare.specs.declared.block.Block.{Block}
+use Rattle.review_compare.specs.Cells.{Decider}
+use Rattle.review_compare.specs.Blocks.{block_decider, standing}
+
+-- the user list of the block at an index allows the user
+abbrev pub user_if : Policy → Person → Option Block → Bool
+user_if p u None = false
+user_if p u (Some b) = user_allowed p b.users.now u
+
+abbrev pub host_if : Policy → Machine → Option Block → Bool
+host_if p m None = false
+host_if p m (Some b) = host_allowed p b.hosts.now m
+
+abbrev pub runas_if : Policy → Question → Option Block → Bool
+runas_if p q None = false
+runas_if p q (Some b) = runas_allows p q (option_copied b.runas)
+
+-- what the block answers
+abbrev pub deciders_of : Block → List Decider
+deciders_of b = map (block_decider b) b.rows.items
+
+abbrev pub deciders_if : Option Block → List Decider
+deciders_if None = []
+deciders_if (Some b) = deciders_of b
+
+-- what the block answers, if it stands
+abbrev pub standing_if : Policy → Question → Option Block → List Decider
+standing_if p q None = []
+standing_if p q (Some b) = standing p q b
+
+abbrev pub user_at : Policy → List Block → Person → ℕ → Bool
+user_at p bs u i = user_if p u (slice_get bs i)
+
+abbrev pub host_at : Policy → List Block → Machine → ℕ → Bool
+host_at p bs m i = host_if p m (slice_get bs i)
+
+abbrev pub runas_at : Policy → List Block → Question → ℕ → Bool
+runas_at p bs q i = runas_if p q (slice_get bs i)
+
+-- both lists of the block at an index allow
+abbrev pub listed_at : Policy → List Block → Person → Machine → ℕ → Bool
+listed_at p bs u m i = user_at p bs u i && host_at p bs m i
+
+abbrev pub deciders_at : List Block → ℕ → List Decider
+deciders_at bs i = deciders_if (slice_get bs i)
+
+-- what the blocks at these indices answer
+abbrev pub chosen : List Block → List ℕ → List Decider
+chosen bs indices = flat_map (deciders_at bs) indices
+
+-- what the block at an index answers, if it stands and passes a further test
+abbrev pub standing_at : Policy → List Block → Question → (ℕ → Bool) → ℕ → List Decider
+standing_at p bs q on i = if on i then standing_if p q (slice_get bs i) else []
+
+abbrev pub standing_among : Policy → List Block → Question → (ℕ → Bool) → List ℕ → List Decider
+standing_among p bs q on indices = flat_map (standing_at p bs q on) indices
+
+-- all that stand for the user have these indices, whatever else is asked
+abbrev pub HaveAllOf : Policy → List Block → Person → List ℕ → Type 0
+HaveAllOf p bs u indices = (q : Question) (on : ℕ → Bool) → q.user ≡ u →
+    standing_among p bs q on indices ≡ standing_among p bs q on (range_with_len 0 (length bs))
+
+-- and for the user on the host, all of which allow both
+pub record AreListed (p : Policy) (bs : List Block) (u : Person) (m : Machine) (indices : List ℕ) : Type 0 where
+  pub all : (q : Question) (on : ℕ → Bool) → q.user ≡ u → q.host ≡ m →
+      standing_among p bs q on indices ≡ standing_among p bs q on (range_with_len 0 (length bs))
+  pub each : list_all (listed_at p bs u m) indices ≡ true

@@ -1,0 +1,29 @@
+-- Names and records, part by part; only proofs of bodies need these definitions.
+use Rattle.std.specs.Prelude.{◌≡◌, ℕ, List, [], ◌∷◌, ◌++◌, map}
+use Rattle.csv.specs.Writing.{default_writer, field_text, fields_text}
+use Rattle.sudo_match.specs.declared.people.Group.{Group}
+use Rattle.sudo_match.specs.KnownRows.{KnownRows}
+use Rattle.review_compare.specs.declared.row.Row.{Row}
+use Rattle.review_compare.specs.declared.text.Names.{Names}
+use Rattle.review_compare.specs.Table.{asked_text, found_lines, group_names, host_names, names_text, user_names}
+
+-- a name behind a comma and a space
+abbrev pub separated : List ℕ → List ℕ
+separated name = 44 ∷ 32 ∷ name
+
+-- these are the names
+pub record AreNames (d : KnownRows) (groups : List Group) (names : Names) : Type 0 where
+  pub users : map (λ v. v.items) names.users.items ≡ user_names d
+  pub hosts : map (λ v. v.items) names.hosts.items ≡ host_names d
+  pub groups_too : map (λ v. v.items) names.groups.items ≡ group_names groups
+
+abbrev pub head_of : Names → Row → List ℕ
+head_of names r =
+    field_text default_writer (names_text (map (λ v. v.items) names.users.items) r.users)
+    ++ fields_text default_writer (names_text (map (λ v. v.items) names.hosts.items) r.hosts
+    ∷ asked_text (map (λ v. v.items) names.users.items) r.targets
+    ∷ asked_text (map (λ v. v.items) names.groups.items) r.groups ∷ [])
+
+-- the records of a row
+abbrev pub lines_of : List (List ℕ) → List (List ℕ) → Names → Row → List ℕ
+lines_of old_files new_files names r = found_lines old_files new_files (head_of names r) r.found

@@ -1,0 +1,42 @@
+-- Rows that become one; only proofs of bodies need these definitions.
+use Rattle.std.specs.Prelude.{◌≡◌, ◌⊎◌, ℕ, Bool, true, false, ◌&&◌, ◌||◌, ◌==◌, List, [], ◌∷◌, Option}
+use Rattle.review_compare.specs.declared.cell.Cell.{Cell}
+use Rattle.review_compare.specs.declared.compared.Compared.{Compared}
+use Rattle.review_compare.specs.declared.row.Dimension.{Dimension}
+use Rattle.review_compare.specs.declared.row.Dimension.TheVariants as dimension
+use Rattle.review_compare.specs.declared.row.Row.{Row}
+use Rattle.review_compare.specs.Differences.{Finds, has_cell, same_number}
+
+abbrev pub same_cell : Cell → Cell → Bool
+same_cell c d =
+    ((c.user == d.user) && (c.host == d.host)) && (same_number d.ask.target c.ask.target && same_number d.ask.group c.ask.group)
+
+abbrev pub same_numbers : List (Option ℕ) → List (Option ℕ) → Bool
+same_numbers [] [] = true
+same_numbers (a ∷ xs) (b ∷ ys) = same_number a b && same_numbers xs ys
+same_numbers _ _ = false
+
+-- the rows differ in this alone
+abbrev pub AreLike : Dimension → Row → Row → Type 0
+AreLike dimension.Users r s = (r.hosts ≡ s.hosts) × (r.targets ≡ s.targets) × (r.groups ≡ s.groups) × (r.found ≡ s.found)
+AreLike dimension.Hosts r s = (r.users ≡ s.users) × (r.targets ≡ s.targets) × (r.groups ≡ s.groups) × (r.found ≡ s.found)
+AreLike dimension.Targets r s = (r.users ≡ s.users) × (r.hosts ≡ s.hosts) × (r.groups ≡ s.groups) × (r.found ≡ s.found)
+AreLike dimension.Groups r s = (r.users ≡ s.users) × (r.hosts ≡ s.hosts) × (r.targets ≡ s.targets) × (r.found ≡ s.found)
+
+-- the row has the cells of both, of which the same is found
+pub record IsJoined (r s t : Row) : Type 0 where
+  pub cells : (c : Cell) → has_cell t c ≡ (has_cell r c || has_cell s c)
+  pub first : t.found ≡ r.found
+  pub second : t.found ≡ s.found
+
+-- the rows with a further one: what each found, and no more
+pub record Absorbs (old : List Row) (row : Row) (new : List Row) : Type 0 where
+  pub kept : (c : Cell) (f : Compared) → Finds old c f → Finds new c f
+  pub added : (c : Cell) → has_cell row c ≡ true → Finds new c row.found
+  pub only : (c : Cell) (f : Compared) → Finds new c f → Finds old c f ⊎ ((has_cell row c ≡ true) × (row.found ≡ f))
+
+-- the rows with further ones
+pub record AbsorbsAll (old more new : List Row) : Type 0 where
+  pub kept : (c : Cell) (f : Compared) → Finds old c f → Finds new c f
+  pub added : (c : Cell) (f : Compared) → Finds more c f → Finds new c f
+  pub only : (c : Cell) (f : Compared) → Finds new c f → Finds old c f ⊎ Finds more c f

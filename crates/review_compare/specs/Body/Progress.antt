@@ -1,0 +1,97 @@
+-- The rows so far, and the cells that are done; only proofs of bodies need these definitions.
+use Rattle.std.specs.Prelude.{◌≡◌, ◌⊎◌, ◌<◌, ℕ, true, List, slice_get, Option, Some}
+use Rattle.std.specs.List.{Contains, list_all}
+use Rattle.sudo_match.specs.declared.people.Machine.{Machine}
+use Rattle.sudo_match.specs.declared.people.Person.{Person}
+use Rattle.sudo_verdict.specs.Questions.{Question, question_as}
+use Rattle.review_compare.specs.declared.cell.Ask.{Ask}
+use Rattle.review_compare.specs.declared.cell.Cell.{Cell}
+use Rattle.review_compare.specs.declared.compared.Compared.{Compared}
+use Rattle.review_compare.specs.declared.differences.Pair.{Pair}
+use Rattle.review_compare.specs.declared.differences.Listed.{Listed}
+use Rattle.review_compare.specs.declared.differences.Spot.{Spot}
+use Rattle.review_compare.specs.declared.row.Row.{Row}
+use Rattle.review_compare.specs.Differences.{Finds, IsFound, IsDone, is_host_if, is_user_if, known_at}
+use Rattle.review_compare.specs.Body.Chosen.{AreListed, HaveAllOf, user_at}
+use Rattle.review_compare.specs.Body.Merged.{same_cell}
+
+-- rows that were found before are found after, what is found is right if it was before, and these cells are done
+pub record Progress (p : Pair) (before after : List Row) (done_with : Cell → Type 0) : Type 0 where
+  pub kept : (c : Cell) (f : Compared) → Finds before c f → Finds after c f
+  pub right : ((c : Cell) (f : Compared) → Finds before c f → IsFound p.old.checked.now p.new.checked.now p.directory.now p.groups.now c f)
+      →
+      (c : Cell) (f : Compared) → Finds after c f → IsFound p.old.checked.now p.new.checked.now p.directory.now p.groups.now c f
+  pub done : (c : Cell) → done_with c → IsDone p.old.checked.now p.new.checked.now p.directory.now p.groups.now after c
+
+-- the rows with a further finding of one cell
+pub record AddsFound (old : List Row) (cell : Cell) (found : Compared) (new : List Row) : Type 0 where
+  pub kept : (c : Cell) (f : Compared) → Finds old c f → Finds new c f
+  pub added : Finds new cell found
+  pub only : (c : Cell) (f : Compared) → Finds new c f → Finds old c f ⊎ ((same_cell cell c ≡ true) × (found ≡ f))
+
+-- the blocks of both policies for the user on the host
+pub record AreListedIn (p : Pair) (s : Spot) (l : Listed) : Type 0 where
+  pub old : AreListed p.old.checked.now p.old.blocks.items s.person.now s.machine.now l.old.items
+  pub new : AreListed p.new.checked.now p.new.blocks.items s.person.now s.machine.now l.new.items
+
+-- what is asked at the spot
+abbrev pub question_of : Pair → Spot → Ask → Question
+question_of p s a = question_as p.directory.now s.person.now s.machine.now (known_at p.directory.now.people a.target)
+    (known_at p.groups.now a.group)
+
+-- the user and the host have these indices
+abbrev pub IsSpot : Pair → Spot → Type 0
+IsSpot p s = (slice_get p.directory.now.people s.user ≡ Some s.person.now) ×
+    (slice_get p.directory.now.machines s.host ≡ Some s.machine.now)
+
+abbrev pub IsAt : ℕ → ℕ → Ask → Cell → Type 0
+IsAt user host ask c = (c.user ≡ user) × (c.host ≡ host) × (c.ask ≡ ask)
+
+-- a cell of the user on the host, with one of these asks
+abbrev pub IsOn : ℕ → ℕ → List Ask → Cell → Type 0
+IsOn user host asks c = (c.user ≡ user) × (c.host ≡ host) × Contains asks c.ask
+
+-- and the host is asked about
+abbrev pub IsOnAsked : Pair → Option Machine → ℕ → ℕ → List Ask → Cell → Type 0
+IsOnAsked p scope user host asks c = IsOn user host asks c × (is_host_if scope (slice_get p.directory.now.machines c.host) ≡ true)
+
+-- a cell of the user on a host before this one
+abbrev pub IsBefore : Pair → Option Machine → ℕ → ℕ → List Ask → Cell → Type 0
+IsBefore p scope user host asks c =
+    (c.user ≡ user) × (c.host < host) × Contains asks c.ask × (is_host_if scope (slice_get p.directory.now.machines c.host) ≡ true)
+
+abbrev pub cell_at : Spot → Ask → Cell
+cell_at s a = record { user = s.user; host = s.host; ask = a }
+
+-- the blocks of both policies for the user
+pub record AreListedFor (p : Pair) (u : Person) (l : Listed) : Type 0 where
+  pub old : HaveAllOf p.old.checked.now p.old.blocks.items u l.old.items
+  pub old_each : list_all (user_at p.old.checked.now p.old.blocks.items u) l.old.items ≡ true
+  pub new : HaveAllOf p.new.checked.now p.new.blocks.items u l.new.items
+  pub new_each : list_all (user_at p.new.checked.now p.new.blocks.items u) l.new.items ≡ true
+
+-- a cell of the user on a host that is asked about, with one of these asks
+pub record IsForAsked (p : Pair) (scope : Option Machine) (user : ℕ) (asks : List Ask) (c : Cell) : Type 0 where
+  pub own : c.user ≡ user
+  pub on : is_host_if scope (slice_get p.directory.now.machines c.host) ≡ true
+  pub asked : Contains asks c.ask
+
+-- and the user is asked about
+pub record IsForUser (p : Pair) (about : Option Person) (scope : Option Machine) (user : ℕ) (asks : List Ask) (c : Cell) : Type 0 where
+  pub own : c.user ≡ user
+  pub is : is_user_if about (slice_get p.directory.now.people c.user) ≡ true
+  pub on : is_host_if scope (slice_get p.directory.now.machines c.host) ≡ true
+  pub asked : Contains asks c.ask
+
+-- a cell of a user before this one, who is asked about
+pub record IsUserBefore (p : Pair) (about : Option Person) (scope : Option Machine) (user : ℕ) (asks : List Ask) (c : Cell) : Type 0 where
+  pub before : c.user < user
+  pub is : is_user_if about (slice_get p.directory.now.people c.user) ≡ true
+  pub on : is_host_if scope (slice_get p.directory.now.machines c.host) ≡ true
+  pub asked : Contains asks c.ask
+
+-- a cell that is asked about
+pub record IsAsked (p : Pair) (about : Option Person) (scope : Option Machine) (asks : List Ask) (c : Cell) : Type 0 where
+  pub is : is_user_if about (slice_get p.directory.now.people c.user) ≡ true
+  pub on : is_host_if scope (slice_get p.directory.now.machines c.host) ≡ true
+  pub asked : Contains asks c.ask

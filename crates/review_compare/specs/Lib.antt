@@ -1,0 +1,11 @@
+pub mod Agreement
+pub mod Covering
+pub mod Compared
+pub mod Simply
+pub mod Table
+pub mod Body
+pub mod Cells
+pub mod Names
+pub mod Witnesses
+pub mod Blocks
+pub mod Differences

@@ -1,0 +1,23 @@
+-- What is found of the rows of two policies for a target.
+use Rattle.std.specs.Prelude.{◌≡◌, ◌<◌, ℕ, List, All, length, Some}
+use Rattle.review_compare.specs.declared.compared.Compared.{Compared}
+use Rattle.review_compare.specs.declared.compared.Compared.TheVariants as compared
+use Rattle.review_compare.specs.declared.witness.Witness.{Witness}
+use Rattle.review_compare.specs.Cells.{Decider, answer_between, verdict_among}
+use Rattle.review_compare.specs.Compared.{said}
+
+-- a command, with both verdicts on it, which do not say the same, and what the change does to it
+pub record IsWitness (ds es : List Decider) (w : Witness) : Type 0 where
+  pub old : w.old ≡ verdict_among ds w.command w.arguments
+  pub new : w.new ≡ verdict_among es w.command w.arguments
+  pub answer : answer_between w.old w.new ≡ Some w.answer
+
+-- the last rows that fit say the same to every command, with any arguments
+abbrev pub RowsSaySame : List Decider → List Decider → Type 0
+RowsSaySame ds es = (command arguments : List ℕ) → said (verdict_among ds command arguments) ≡ said (verdict_among es command arguments)
+
+-- same: to every command; or there are witnesses; otherwise nothing is known
+abbrev pub IsCompared : List Decider → List Decider → Compared → Type 0
+IsCompared ds es compared.Same = RowsSaySame ds es
+IsCompared ds es (compared.Differs ws) = (0 < length ws) × All (IsWitness ds es) ws
+IsCompared ds es (compared.May old new) = Unit {0}

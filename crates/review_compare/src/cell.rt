@@ -1,0 +1,21 @@
+//! The cells of two policies: who asks, where, and as whom.
+
+/// What is asked: the indices of a known user and of a group, if any.
+#[derive(Clone, Copy, Debug, PartialEq, Eq)]
+pub struct Ask {
+    /// The user that is asked for.
+    pub target: Option<usize>,
+    /// The group that is asked for.
+    pub group: Option<usize>,
+}
+
+/// A user on a host who asks.
+#[derive(Clone, Copy, Debug, PartialEq, Eq)]
+pub struct Cell {
+    /// The index of the user among the known ones.
+    pub user: usize,
+    /// The index of the host among the known ones.
+    pub host: usize,
+    /// What is asked.
+    pub ask: Ask,
+}

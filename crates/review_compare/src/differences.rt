@@ -1,0 +1,344 @@
+//! The differences of two policies, cell by cell.
+ghost use Rattle.std.specs.Prelude.{◌≡◌, [], IfOk, length, OnOk, Some, option_copied, slice_get, true};
+ghost use Rattle.review_compare.specs.Cells.{deciders};
+ghost use Rattle.review_compare.specs.Differences as differences;
+ghost use Rattle.review_compare.specs.Witnesses.{IsCompared};
+ghost use Rattle.review_compare.specs.Body.Chosen.{chosen};
+ghost use Rattle.review_compare.specs.Body.Progress as body;
+
+use crate::asks::{all_asks, group_at, person_at};
+use crate::cell::{Ask, Cell};
+use crate::compared::{Compared, compared_rows};
+use crate::row::{Dimension, Row, absorb, absorb_all};
+use crate::side::{Side, rows_at};
+use review_grants::Scope;
+use std::alloc::{AllocError, Global};
+use sudo_match::{Directory, Group, Machine, Person};
+use sudo_policy::Checked;
+use sudo_verdict::Asker;
+
+/// Two policies, with the known users, hosts and groups.
+#[derive(Drop)]
+pub(crate) struct Pair<'a> {
+    pub(crate) old: Side<'a>,
+    pub(crate) new: Side<'a>,
+    pub(crate) directory: &'a Directory,
+    pub(crate) groups: &'a [Group],
+}
+
+// The indices of blocks of both policies.
+#[derive(Drop)]
+struct Listed {
+    old: Vec<usize>,
+    new: Vec<usize>,
+}
+
+// A known user on a known host, by their indices.
+#[derive(Clone, Copy)]
+struct Spot<'a> {
+    user: usize,
+    host: usize,
+    person: &'a Person,
+    machine: &'a Machine,
+}
+
+// Compares the rows of the blocks at these indices.
+fn compared_blocks(
+    alloc: Global,
+    pair: &Pair<'_>,
+    old: &[usize],
+    new: &[usize],
+) -> Result<Compared, AllocError>
+    ensures { IfOk result (IsCompared (chosen pair.now.old.blocks.items old.now)
+        (chosen pair.now.new.blocks.items new.now)) }
+{
+    let old_rows = rows_at(alloc, &pair.old.blocks, old)?;
+    let new_rows = rows_at(alloc, &pair.new.blocks, new)?;
+    compared_rows(alloc, &old_rows, &new_rows)
+}
+
+// Compares what the policies answer to the user on the host who asks for a target and a group.
+fn compared_asked(
+    alloc: Global,
+    pair: &Pair<'_>,
+    spot: Spot<'_>,
+    listed: &Listed,
+    ask: Ask,
+) -> Result<Compared, AllocError>
+    requires { body.AreListedIn pair.now spot listed.now }
+    ensures { IfOk result (IsCompared (deciders pair.now.old.checked.now (body.question_of
+        pair.now spot.entry ask)) (deciders pair.now.new.checked.now (body.question_of
+        pair.now spot.entry ask))) }
+{
+    let asker = Asker {
+        user: spot.person,
+        host: spot.machine,
+        target: person_at(pair.directory, ask.target),
+        group: group_at(pair.groups, ask.group),
+    };
+    let old = pair
+        .old
+        .standing(alloc, pair.directory, asker, &listed.old)?;
+    let new = pair
+        .new
+        .standing(alloc, pair.directory, asker, &listed.new)?;
+    compared_blocks(alloc, pair, &old, &new)
+}
+
+// Adds what is found in a cell.
+fn add_found(
+    alloc: Global,
+    cell: Cell,
+    found: Compared,
+    rows: &mut Vec<Row>,
+) -> Result<(), AllocError>
+    ensures { OnOk result (body.AddsFound rows.old.items cell found rows.new.items) }
+{
+    let row = Row::of(alloc, cell, found)?;
+    absorb(rows, row, Dimension::Targets)
+}
+
+// Adds what is found where this is asked at the spot.
+fn add_ask(
+    alloc: Global,
+    pair: &Pair<'_>,
+    spot: Spot<'_>,
+    listed: &Listed,
+    ask: Ask,
+    rows: &mut Vec<Row>,
+) -> Result<(), AllocError>
+    requires spot { body.IsSpot pair.now spot }
+    requires listed { body.AreListedIn pair.now spot listed.now }
+    ensures { OnOk result (body.Progress pair.entry.now rows.old.items rows.new.items
+        (λ c. c ≡ body.cell_at spot.entry ask)) }
+{
+    let cell = Cell {
+        user: spot.user,
+        host: spot.host,
+        ask,
+    };
+    match compared_asked(alloc, pair, spot, listed, ask)? {
+        Compared::Same => Ok(()),
+        found => add_found(alloc, cell, found, rows),
+    }
+}
+
+// Returns what is found at the spot.
+fn rows_on(
+    alloc: Global,
+    pair: &Pair<'_>,
+    spot: Spot<'_>,
+    listed: &Listed,
+    asks: &[Ask],
+) -> Result<Vec<Row>, AllocError>
+    requires spot { body.IsSpot pair.now spot }
+    requires listed { body.AreListedIn pair.now spot listed.now }
+    ensures { IfOk result (λ rows. body.Progress pair.now [] rows.items
+        (body.IsOn spot.entry.user spot.entry.host asks.now)) }
+{
+    let mut rows = Vec::new(alloc);
+    for ask in asks {
+        add_ask(alloc, pair, spot, listed, *ask, &mut rows)?;
+    }
+    Ok(rows)
+}
+
+// Whether no block of either policy is for the user on the host.
+fn are_none(listed: &Listed) -> bool
+    ensures { result ≡ true → (length listed.now.old.items ≡ 0)
+        × (length listed.now.new.items ≡ 0) }
+{
+    if listed.old.as_slice().len() > 0 {
+        return false;
+    }
+    listed.new.as_slice().len() == 0
+}
+
+// Adds what is found at the spot; rows that differ in the host alone become one.
+fn add_spot(
+    alloc: Global,
+    pair: &Pair<'_>,
+    spot: Spot<'_>,
+    listed: &Listed,
+    asks: &[Ask],
+    rows: &mut Vec<Row>,
+) -> Result<(), AllocError>
+    requires spot { body.IsSpot pair.now spot }
+    requires listed { body.AreListedIn pair.now spot listed.now }
+    ensures { OnOk result (body.Progress pair.entry.now rows.old.items rows.new.items
+        (body.IsOn spot.entry.user spot.entry.host asks.entry.now)) }
+{
+    if are_none(listed) {
+        return Ok(());
+    }
+    let more = rows_on(alloc, pair, spot, listed, asks)?;
+    absorb_all(rows, more, Dimension::Hosts)
+}
+
+// Whether the user is the one that is asked about, if any.
+fn is_this_user(scope: Option<&Person>, person: &Person) -> bool
+    ensures { result ≡ differences.is_this_user (option_copied scope.entry) person.now }
+{
+    match scope {
+        None => true,
+        Some(asked) => person.name.as_slice() == asked.name.as_slice(),
+    }
+}
+
+// Whether the host is the one that is asked about, if any.
+fn is_this_host(scope: Option<&Machine>, machine: &Machine) -> bool
+    ensures { result ≡ differences.is_this_host (option_copied scope.entry) machine.now }
+{
+    match scope {
+        None => true,
+        Some(asked) => machine.name.as_slice() == asked.name.as_slice(),
+    }
+}
+
+// Returns the blocks of both policies for the user.
+fn listed_for(alloc: Global, pair: &Pair<'_>, person: &Person) -> Result<Listed, AllocError>
+    ensures { IfOk result (body.AreListedFor pair.now person.now) }
+{
+    let old = pair.old.listed_for(alloc, person)?;
+    let new = pair.new.listed_for(alloc, person)?;
+    Ok(Listed { old, new })
+}
+
+// Returns those of the blocks that are for the host too.
+fn listed_on(
+    alloc: Global,
+    pair: &Pair<'_>,
+    spot: Spot<'_>,
+    listed: &Listed,
+) -> Result<Listed, AllocError>
+    requires { body.AreListedFor pair.now spot.person.now listed.now }
+    ensures { IfOk result (body.AreListedIn pair.now spot.entry) }
+{
+    let old = pair
+        .old
+        .listed_on(alloc, spot.person, spot.machine, &listed.old)?;
+    let new = pair
+        .new
+        .listed_on(alloc, spot.person, spot.machine, &listed.new)?;
+    Ok(Listed { old, new })
+}
+
+// Adds what is found for the user on the host, if it is asked about.
+fn add_host(
+    alloc: Global,
+    pair: &Pair<'_>,
+    spot: Spot<'_>,
+    scope: Option<&Machine>,
+    listed: &Listed,
+    asks: &[Ask],
+    rows: &mut Vec<Row>,
+) -> Result<(), AllocError>
+    requires spot { body.IsSpot pair.now spot }
+    requires listed { body.AreListedFor pair.now spot.person.now listed.now }
+    ensures { OnOk result (body.Progress pair.entry.now rows.old.items rows.new.items
+        (body.IsOnAsked pair.entry.now (option_copied scope.entry) spot.entry.user
+        spot.entry.host asks.entry.now)) }
+{
+    if !is_this_host(scope, spot.machine) {
+        return Ok(());
+    }
+    let on = listed_on(alloc, pair, spot, listed)?;
+    add_spot(alloc, pair, spot, &on, asks, rows)
+}
+
+// Returns what is found for the user on the hosts that are asked about.
+fn rows_for(
+    alloc: Global,
+    pair: &Pair<'_>,
+    user: usize,
+    person: &Person,
+    scope: Option<&Machine>,
+    asks: &[Ask],
+) -> Result<Vec<Row>, AllocError>
+    requires { slice_get pair.now.directory.now.people user ≡ Some person.now }
+    ensures { IfOk result (λ rows. body.Progress pair.now [] rows.items
+        (body.IsForAsked pair.now (option_copied scope.entry) user asks.now)) }
+{
+    let listed = listed_for(alloc, pair, person)?;
+    let mut rows = Vec::new(alloc);
+    let machines = pair.directory.machines();
+    for host in 0..machines.len() {
+        let spot = Spot {
+            user,
+            host,
+            person,
+            machine: &machines[host],
+        };
+        add_host(alloc, pair, spot, scope, &listed, asks, &mut rows)?;
+    }
+    Ok(rows)
+}
+
+// Adds what is found for the user, if it is asked about; rows that differ in the user alone become one.
+fn add_user(
+    alloc: Global,
+    pair: &Pair<'_>,
+    user: usize,
+    person: &Person,
+    scope: Scope<'_>,
+    asks: &[Ask],
+    rows: &mut Vec<Row>,
+) -> Result<(), AllocError>
+    requires { slice_get pair.now.directory.now.people user ≡ Some person.now }
+    ensures { OnOk result (body.Progress pair.entry.now rows.old.items rows.new.items
+        (body.IsForUser pair.entry.now (option_copied scope.entry.user)
+        (option_copied scope.entry.host) user asks.entry.now)) }
+{
+    if !is_this_user(scope.user, person) {
+        return Ok(());
+    }
+    let more = rows_for(alloc, pair, user, person, scope.host, asks)?;
+    absorb_all(rows, more, Dimension::Users)
+}
+
+// Returns what is found for the users on the hosts that are asked about.
+fn all_rows(
+    alloc: Global,
+    pair: &Pair<'_>,
+    scope: Scope<'_>,
+    asks: &[Ask],
+) -> Result<Vec<Row>, AllocError>
+    ensures { IfOk result (λ rows. body.Progress pair.now [] rows.items
+        (body.IsAsked pair.now (option_copied scope.entry.user)
+        (option_copied scope.entry.host) asks.now)) }
+{
+    let mut rows = Vec::new(alloc);
+    let people = pair.directory.people();
+    for user in 0..people.len() {
+        add_user(alloc, pair, user, &people[user], scope, asks, &mut rows)?;
+    }
+    Ok(rows)
+}
+
+/// Compares two policies in the cells of the users and hosts that are asked about: each target (none, and each known user) with
+/// each of the groups (none, and each of them). What a row says is so in each of its cells; in a cell without a row both
+/// policies say the same to every command.
+///
+/// Of cells that differ in the target alone, in the order of the known users, those of which the same is found are one row; and
+/// then rows that differ in the host alone, and in the user alone. Returns `AllocError` if allocation fails.
+pub fn compared_policies(
+    alloc: Global,
+    old: &Checked,
+    new: &Checked,
+    directory: &Directory,
+    groups: &[Group],
+    scope: Scope<'_>,
+) -> Result<Vec<Row>, AllocError>
+    ensures { IfOk result (λ rows. differences.AreDifferences old.now new.now directory.now
+        groups.now (option_copied scope.entry.user) (option_copied scope.entry.host)
+        rows.items) }
+{
+    let asks = all_asks(alloc, directory, groups)?;
+    let pair = Pair {
+        old: Side::of(alloc, old)?,
+        new: Side::of(alloc, new)?,
+        directory,
+        groups,
+    };
+    all_rows(alloc, &pair, scope, &asks)
+}

@@ -1,0 +1,44 @@
+//! The laws of rulings. The functions have no effect: each contract is a law.
+ghost use Rattle.review_compare.specs.Agreement.{Agreement};
+ghost use Rattle.review_compare.specs.Cells.{AgreeingRowsSaySame, RowsDecide};
+ghost use Rattle.review_compare.specs.Compared.{PoliciesAgree};
+ghost use Rattle.review_compare.specs.Covering.{AgreementOnCommands, CoversIsSound, DisjointIsSound};
+ghost use Rattle.review_compare.specs.Simply.{CoversIsSound as SimplyCovers, DisjointIsSound as SimplyDisjoint};
+
+/// Lists of rulings of which each pair of ways to be answered answers alike or is impossible have one answer to every
+/// command.
+pub fn rulings_agree<A, O>()
+    ensures { Agreement A O }
+{}
+
+/// A command that covers another fits whatever the other fits; nothing fits two commands that are disjoint.
+pub fn tests_are_sound()
+    ensures covers { CoversIsSound }
+    ensures disjoint { DisjointIsSound }
+{}
+
+/// The tests that the program makes say no more than is so.
+pub fn simple_tests_are_sound()
+    ensures covers { SimplyCovers }
+    ensures disjoint { SimplyDisjoint }
+{}
+
+/// Rulings on commands that agree by these tests have one answer to every command, with any arguments.
+pub fn commands_agree<O>()
+    ensures { AgreementOnCommands O }
+{}
+
+/// Where the rulings of two policies agree by these tests, both policies say the same to every command, with the same tags.
+pub fn policies_agree()
+    ensures { PoliciesAgree }
+{}
+
+/// The verdict on a command is that of the last row for the target that fits it.
+pub fn rows_decide()
+    ensures { RowsDecide }
+{}
+
+/// Where the rows of two policies for a target agree by the tests that the program makes, both say the same to every command.
+pub fn agreeing_rows_say_same()
+    ensures { AgreeingRowsSaySame }
+{}

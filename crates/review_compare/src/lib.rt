@@ -1,0 +1,33 @@
+//! What a change of a policy does, for every command: who may run what that could not before, and the reverse.
+//!
+//! sudoers(5), "User Specification", "Cmnd_List" and "Wildcards".
+#![tactic(auto)]
+
+mod alike;
+mod answer;
+mod asks;
+mod block;
+mod candidates;
+mod cell;
+mod characters;
+mod compared;
+mod differences;
+mod laws;
+mod row;
+mod ruling;
+mod shape;
+mod side;
+mod text;
+mod witness;
+
+pub use answer::Answer;
+pub use cell::{Ask, Cell};
+pub use compared::{Compared, Decider};
+pub use differences::compared_policies;
+pub use laws::{
+    agreeing_rows_say_same, commands_agree, policies_agree, rows_decide, rulings_agree,
+    simple_tests_are_sound, tests_are_sound,
+};
+pub use row::Row;
+pub use text::differences_text;
+pub use witness::Witness;

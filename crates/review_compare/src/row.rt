@@ -1,0 +1,239 @@
+//! Rows of the table: cells of which one thing is found.
+ghost use Rattle.std.specs.Prelude.{◌≡◌, ◌<◌, IfOk, IfSome, OnOk, get_or, length, true};
+ghost use Rattle.review_compare.specs.declared.cell.Cell.{Cell as TheCell};
+ghost use Rattle.review_compare.specs.declared.row.Row.{Row as TheRow};
+ghost use Rattle.review_compare.specs.Differences as differences;
+ghost use Rattle.review_compare.specs.Differences.{has_cell};
+ghost use Rattle.review_compare.specs.Body.Merged as body;
+
+use crate::alike::is_same_found;
+use crate::cell::Cell;
+use crate::compared::Compared;
+use std::alloc::{AllocError, Global};
+use sudo_text::Seq;
+
+/// Each of these users on each of these hosts, who asks for each of these targets with each of these groups, and what is found
+/// there.
+#[derive(Debug, Drop, PartialEq, Eq)]
+pub struct Row {
+    /// The indices of the users.
+    pub users: Seq<usize>,
+    /// The indices of the hosts.
+    pub hosts: Seq<usize>,
+    /// The indices of the users that are asked for; `None` if no one is.
+    pub targets: Seq<Option<usize>>,
+    /// The indices of the groups that are asked for; `None` if none is.
+    pub groups: Seq<Option<usize>>,
+    /// What is found.
+    pub found: Compared,
+}
+
+/// In what two rows may differ that become one.
+#[derive(Clone, Copy, Debug, PartialEq, Eq)]
+pub(crate) enum Dimension {
+    Users,
+    Hosts,
+    Targets,
+    Groups,
+}
+
+fn are_same(numbers: &Seq<usize>, others: &Seq<usize>) -> bool
+    ensures { result ≡ true → numbers.now ≡ others.now }
+{
+    numbers == others
+}
+
+fn is_same_number(number: Option<usize>, other: Option<usize>) -> bool
+    ensures { result ≡ differences.same_number number other }
+{
+    match (number, other) {
+        (None, None) => true,
+        (Some(own), Some(its)) => own == its,
+        _ => false,
+    }
+}
+
+// Whether the lists have the same numbers.
+fn have_same_numbers(numbers: &[Option<usize>], others: &[Option<usize>]) -> bool
+    ensures { result ≡ body.same_numbers numbers.now others.now }
+{
+    let mut own = numbers;
+    let mut left = others;
+    while let Some((number, rest)) = own.split_first() {
+        let Some((other, more)) = left.split_first() else {
+            return false;
+        };
+        if !is_same_number(*number, *other) {
+            return false;
+        }
+        own = rest;
+        left = more;
+    }
+    left.is_empty()
+}
+
+fn are_same_asked(numbers: &Seq<Option<usize>>, others: &Seq<Option<usize>>) -> bool
+    ensures { result ≡ true → numbers.now ≡ others.now }
+{
+    have_same_numbers(numbers.as_slice(), others.as_slice())
+}
+
+impl Row {
+    /// Returns the row of one cell. Returns `AllocError` if allocation fails.
+    pub(crate) fn of(alloc: Global, cell: Cell, found: Compared) -> Result<Row, AllocError>
+        ensures { IfOk result (λ row. (row.found ≡ found) × ((c : TheCell)
+            → has_cell row c ≡ body.same_cell cell c)) }
+    {
+        let users = Seq::from_slice(alloc, &[cell.user])?;
+        let hosts = Seq::from_slice(alloc, &[cell.host])?;
+        let targets = Seq::from_slice(alloc, &[cell.ask.target])?;
+        let groups = Seq::from_slice(alloc, &[cell.ask.group])?;
+        Ok(Row {
+            users,
+            hosts,
+            targets,
+            groups,
+            found,
+        })
+    }
+
+    // Whether the rows differ in this alone. Rows with a target and without one differ in more.
+    fn is_like(&self, other: &Row, dimension: Dimension) -> bool
+        ensures { result ≡ true → body.AreLike dimension self.now other.now }
+    {
+        match dimension {
+            Dimension::Users => self.is_like_but_users(other),
+            Dimension::Hosts => self.is_like_but_hosts(other),
+            Dimension::Targets => self.is_like_but_targets(other),
+            Dimension::Groups => self.is_like_but_groups(other),
+        }
+    }
+
+    fn is_like_but_users(&self, other: &Row) -> bool
+        ensures { result ≡ true → body.AreLike Dimension.Users self.now other.now }
+    {
+        if !are_same(&self.hosts, &other.hosts) {
+            return false;
+        }
+        if !are_same_asked(&self.targets, &other.targets) {
+            return false;
+        }
+        if !are_same_asked(&self.groups, &other.groups) {
+            return false;
+        }
+        is_same_found(&self.found, &other.found)
+    }
+
+    fn is_like_but_hosts(&self, other: &Row) -> bool
+        ensures { result ≡ true → body.AreLike Dimension.Hosts self.now other.now }
+    {
+        if !are_same(&self.users, &other.users) {
+            return false;
+        }
+        if !are_same_asked(&self.targets, &other.targets) {
+            return false;
+        }
+        if !are_same_asked(&self.groups, &other.groups) {
+            return false;
+        }
+        is_same_found(&self.found, &other.found)
+    }
+
+    fn is_like_but_targets(&self, other: &Row) -> bool
+        ensures { result ≡ true → body.AreLike Dimension.Targets self.now other.now }
+    {
+        if is_asked(&self.targets) != is_asked(&other.targets) {
+            return false;
+        }
+        if !are_same(&self.users, &other.users) {
+            return false;
+        }
+        if !are_same(&self.hosts, &other.hosts) {
+            return false;
+        }
+        if !are_same_asked(&self.groups, &other.groups) {
+            return false;
+        }
+        is_same_found(&self.found, &other.found)
+    }
+
+    fn is_like_but_groups(&self, other: &Row) -> bool
+        ensures { result ≡ true → body.AreLike Dimension.Groups self.now other.now }
+    {
+        if is_asked(&self.groups) != is_asked(&other.groups) {
+            return false;
+        }
+        if !are_same(&self.users, &other.users) {
+            return false;
+        }
+        if !are_same(&self.hosts, &other.hosts) {
+            return false;
+        }
+        if !are_same_asked(&self.targets, &other.targets) {
+            return false;
+        }
+        is_same_found(&self.found, &other.found)
+    }
+
+    // Appends what the other has in this.
+    fn extend(&mut self, other: &Row, dimension: Dimension) -> Result<(), AllocError>
+        requires { body.AreLike dimension self.old other.now }
+        ensures { OnOk result (body.IsJoined self.old other.now self.new) }
+    {
+        match dimension {
+            Dimension::Users => self.users.extend_from_slice(other.users.as_slice()),
+            Dimension::Hosts => self.hosts.extend_from_slice(other.hosts.as_slice()),
+            Dimension::Targets => self.targets.extend_from_slice(other.targets.as_slice()),
+            Dimension::Groups => self.groups.extend_from_slice(other.groups.as_slice()),
+        }
+    }
+}
+
+// Returns the index of the first row that differs from this one in the dimension alone.
+fn like_index(rows: &[Row], row: &Row, dimension: Dimension) -> Option<usize>
+    ensures { IfSome result (λ i. (i < length rows.now) × ((d : TheRow)
+        → body.AreLike dimension (get_or rows.now i d) row.now)) }
+{
+    for index in 0..rows.len() {
+        if rows[index].is_like(row, dimension) {
+            return Some(index);
+        }
+    }
+    None
+}
+
+/// Adds a row: to the first that differs from it in this alone, or else behind the others. Returns `AllocError` if allocation
+/// fails.
+pub(crate) fn absorb(rows: &mut Vec<Row>, row: Row, dimension: Dimension) -> Result<(), AllocError>
+    ensures { OnOk result (body.Absorbs rows.old.items row rows.new.items) }
+{
+    match like_index(rows, &row, dimension) {
+        Some(index) => rows[index].extend(&row, dimension),
+        None => {
+            rows.push(row)?;
+            Ok(())
+        }
+    }
+}
+
+/// Adds rows, one after the other. Returns `AllocError` if allocation fails.
+pub(crate) fn absorb_all(
+    rows: &mut Vec<Row>,
+    more: Vec<Row>,
+    dimension: Dimension,
+) -> Result<(), AllocError>
+    ensures { OnOk result (body.AbsorbsAll rows.old.items more.items rows.new.items) }
+{
+    for row in more {
+        absorb(rows, row, dimension)?;
+    }
+    Ok(())
+}
+
+// Whether the first of them is asked for.
+fn is_asked(numbers: &Seq<Option<usize>>) -> bool {
+    match numbers.as_slice() {
+        [Some(_), ..] => true,
+        _ => false,
+    }
+}

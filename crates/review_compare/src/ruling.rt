@@ -1,0 +1,146 @@
+//! The rows of two policies for a target: whether they agree, by tests on pairs of their commands.
+ghost use Rattle.std.specs.Prelude.{◌≡◌, ◌||◌, not, is_some, option_map, option_copied};
+ghost use Rattle.review_compare.specs.Agreement as agreement;
+ghost use Rattle.review_compare.specs.Cells as cells;
+ghost use Rattle.review_compare.specs.Compared as compared;
+ghost use Rattle.review_compare.specs.Simply as simply;
+ghost use Rattle.review_compare.specs.Body.Shown as body;
+
+use crate::answer::is_same_answer;
+use crate::shape::Shape;
+use sudo_match::{Tags, Verdict, command_matches};
+use sudo_text::Place;
+
+/// A row for a target: what it answers to the commands that its own fits.
+#[derive(Clone, Copy)]
+pub(crate) struct Ruled<'a> {
+    pub(crate) place: Place,
+    /// The tags that it leaves with, or nothing where it refuses.
+    pub(crate) answer: Option<Tags>,
+    pub(crate) shape: &'a Shape,
+}
+
+/// A row of each policy, if any, that may answer one command otherwise.
+#[derive(Clone, Copy)]
+pub(crate) struct Overlap<'a> {
+    pub(crate) old: Option<Ruled<'a>>,
+    pub(crate) new: Option<Ruled<'a>>,
+}
+
+// Whether one of the rows covers the command.
+fn is_covered(rows: &[Ruled<'_>], shape: &Shape) -> bool
+    ensures { result ≡ body.is_covered_by (body.all_shown rows.now) shape.now.atom }
+{
+    for row in rows {
+        if row.shape.covers(shape) {
+            return true;
+        }
+    }
+    false
+}
+
+// Whether one of these or of those rows covers the command.
+fn is_covered_by_either(rows: &[Ruled<'_>], others: &[Ruled<'_>], shape: &Shape) -> bool
+    ensures { result ≡ body.is_covered_by_either (body.all_shown rows.now)
+        (body.all_shown others.now) shape.now.atom }
+{
+    is_covered(rows, shape) || is_covered(others, shape)
+}
+
+// Whether two rows answer alike, or no command is answered by both; with the rows after each.
+fn pair_agrees(own: &Ruled<'_>, later: &[Ruled<'_>], other: &Ruled<'_>, more: &[Ruled<'_>]) -> bool
+    ensures { result ≡ body.pair_agrees (body.shown own.now) (body.all_shown later.now)
+        (body.shown other.now) (body.all_shown more.now) }
+{
+    is_same_answer(&own.answer, &other.answer)
+        || is_covered_by_either(later, more, own.shape)
+        || is_covered_by_either(later, more, other.shape)
+        || own.shape.is_disjoint(other.shape)
+}
+
+// Returns the index of the first of the others that answers where none of the rows does.
+fn unlike_none(rows: &[Ruled<'_>], others: &[Ruled<'_>]) -> Option<usize>
+    ensures { is_some result
+        ≡ not (body.none_agrees (body.all_shown rows.now) (body.all_shown others.now)) }
+{
+    for index in 0..others.len() {
+        if !is_covered_by_either(rows, &others[index + 1..], others[index].shape) {
+            return Some(index);
+        }
+    }
+    None
+}
+
+// Returns the index of the first of the others that does not agree with the row, behind which these stand.
+fn unlike_each(own: &Ruled<'_>, later: &[Ruled<'_>], others: &[Ruled<'_>]) -> Option<usize>
+    ensures { is_some result ≡ not (body.each_agrees (body.shown own.now)
+        (body.all_shown later.now) (body.all_shown others.now)) }
+{
+    for index in 0..others.len() {
+        if !pair_agrees(own, later, &others[index], &others[index + 1..]) {
+            return Some(index);
+        }
+    }
+    None
+}
+
+// Where a row does not agree with the others.
+#[derive(Clone, Copy)]
+enum Unlike {
+    // Where none of them answers.
+    None,
+    // Where the one at this index answers.
+    One(usize),
+}
+
+// Returns where the row, behind which these stand, does not agree with the others.
+fn unlike_one(own: &Ruled<'_>, later: &[Ruled<'_>], others: &[Ruled<'_>]) -> Option<Unlike>
+    ensures { is_some result ≡ not (body.one_agrees (body.shown own.now)
+        (body.all_shown later.now) (body.all_shown others.now)) }
+{
+    if !is_covered_by_either(later, others, own.shape) {
+        return Some(Unlike::None);
+    }
+    match unlike_each(own, later, others) {
+        Some(index) => Some(Unlike::One(index)),
+        None => None,
+    }
+}
+
+// Returns a row of each list, if any, that do not agree, pair by pair.
+fn first_unlike<'a>(old: &[Ruled<'a>], new: &[Ruled<'a>]) -> Option<Overlap<'a>>
+    ensures { is_some result
+        ≡ not (body.pairs_agree (body.all_shown old.now) (body.all_shown new.now)) }
+{
+    if let Some(index) = unlike_none(old, new) {
+        return Some(Overlap {
+            old: None,
+            new: new.get(index).copied(),
+        });
+    }
+    for index in 0..old.len() {
+        if let Some(unlike) = unlike_one(&old[index], &old[index + 1..], new) {
+            return Some(Overlap {
+                old: Some(old[index]),
+                new: other_at(new, unlike),
+            });
+        }
+    }
+    None
+}
+
+// Returns the row that is meant, if any.
+fn other_at<'a>(others: &[Ruled<'a>], unlike: Unlike) -> Option<Ruled<'a>> {
+    match unlike {
+        Unlike::None => None,
+        Unlike::One(index) => others.get(index).copied(),
+    }
+}
+
+/// Returns a row of each policy, if any, that may answer one command otherwise; or `None`, if the rows agree.
+pub(crate) fn first_overlap<'a>(old: &[Ruled<'a>], new: &[Ruled<'a>]) -> Option<Overlap<'a>>
+    ensures { is_some result
+        ≡ not (cells.rows_agree (body.all_shown old.now) (body.all_shown new.now)) }
+{
+    first_unlike(old, new)
+}

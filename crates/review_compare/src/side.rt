@@ -1,0 +1,191 @@
+//! A policy with its grants in blocks, and which of them stand for a question.
+ghost use Rattle.std.specs.Prelude.{◌≡◌, IfOk, IsTrue, OnOk, option_copied, true};
+ghost use Rattle.std.specs.List.{list_all};
+ghost use Rattle.sudo_verdict.specs.Questions.{question_as};
+ghost use Rattle.review_compare.specs.Blocks.{AreBlocks, block_resolves};
+ghost use Rattle.review_compare.specs.Body.Chosen as body;
+ghost use Rattle.review_compare.specs.Body.Shown.{all_shown};
+ghost use Rattle.std.specs.Prelude.{◌++◌, ◌∷◌, [], if◌then◌else◌};
+ghost use Rattle.review_compare.specs.Cells as cells;
+
+use crate::block::{Block, blocks_of};
+use crate::ruling::Ruled;
+use std::alloc::{AllocError, Global};
+use sudo_match::{Directory, Machine, Person};
+use sudo_policy::Checked;
+use sudo_verdict::{Asker, allows_runas, lists_host, lists_user};
+
+/// A policy with its grants in blocks.
+#[derive(Drop)]
+pub(crate) struct Side<'a> {
+    pub(crate) checked: &'a Checked,
+    pub(crate) blocks: Vec<Block<'a>>,
+    ghost are_blocks: { AreBlocks checked.now blocks.items },
+    ghost resolve: { IsTrue (list_all (block_resolves checked.now) blocks.items) },
+}
+
+// Appends the index, if it is kept.
+fn push_if(indices: &mut Vec<usize>, index: usize, keep: bool) -> Result<(), AllocError>
+    ensures { OnOk result (indices.new.items
+        ≡ indices.old.items ++ (if keep then index ∷ [] else [])) }
+{
+    if keep {
+        indices.push(index)?;
+    }
+    Ok(())
+}
+
+impl<'a> Side<'a> {
+    /// Returns the policy with its grants in blocks. Returns `AllocError` if allocation fails.
+    pub(crate) fn of(alloc: Global, checked: &'a Checked) -> Result<Side<'a>, AllocError>
+        ensures { IfOk result (λ side. side.checked.now ≡ checked.now) }
+    {
+        let blocks = blocks_of(alloc, checked)?;
+        Ok(Side { checked, blocks })
+    }
+}
+
+impl Side<'_> {
+    // Whether the user list of the block at an index allows the user.
+    fn lists_user_at(&self, index: usize, user: &Person) -> bool
+        ensures { result
+            ≡ body.user_at self.now.checked.now self.now.blocks.items user.now index }
+    {
+        match self.blocks.get(index) {
+            None => false,
+            Some(block) => lists_user(self.checked, block.users, user),
+        }
+    }
+
+    // Whether the host list of the block at an index allows the host.
+    fn lists_host_at(&self, index: usize, host: &Machine) -> bool
+        ensures { result
+            ≡ body.host_at self.now.checked.now self.now.blocks.items host.now index }
+    {
+        match self.blocks.get(index) {
+            None => false,
+            Some(block) => lists_host(self.checked, block.hosts, host),
+        }
+    }
+
+    // Whether the runas of the block at an index allows the target and the group.
+    fn allows_at(&self, index: usize, directory: &Directory, asker: Asker<'_>) -> bool
+        ensures { result ≡ body.runas_at self.now.checked.now self.now.blocks.items
+            (question_as directory.now asker.entry.user.now asker.entry.host.now
+            (option_copied asker.entry.target) (option_copied asker.entry.group)) index }
+    {
+        match self.blocks.get(index) {
+            None => false,
+            Some(block) => allows_runas(self.checked, directory, asker, block.runas),
+        }
+    }
+
+    /// Returns the indices of the blocks whose user list allows the user. Returns `AllocError` if allocation fails.
+    pub(crate) fn listed_for(&self, alloc: Global, user: &Person) -> Result<Vec<usize>, AllocError>
+        ensures all { IfOk result (λ indices. body.HaveAllOf self.now.checked.now
+            self.now.blocks.items user.now indices.items) }
+        ensures each { IfOk result (λ indices. list_all (body.user_at self.now.checked.now
+            self.now.blocks.items user.now) indices.items ≡ true) }
+    {
+        let mut indices = Vec::new(alloc);
+        for index in 0..self.blocks.len() {
+            push_if(&mut indices, index, self.lists_user_at(index, user))?;
+        }
+        Ok(indices)
+    }
+
+    /// Returns those of the indices whose host list allows the host. Returns `AllocError` if allocation fails.
+    pub(crate) fn listed_on(
+        &self,
+        alloc: Global,
+        user: &Person,
+        host: &Machine,
+        listed: &[usize],
+    ) -> Result<Vec<usize>, AllocError>
+        requires all { body.HaveAllOf self.now.checked.now self.now.blocks.items user.now
+            listed.now }
+        requires each { list_all (body.user_at self.now.checked.now self.now.blocks.items
+            user.now) listed.now ≡ true }
+        ensures { IfOk result (λ indices. body.AreListed self.now.checked.now
+            self.now.blocks.items user.now host.now indices.items) }
+    {
+        let mut indices = Vec::new(alloc);
+        for index in listed {
+            push_if(&mut indices, *index, self.lists_host_at(*index, host))?;
+        }
+        Ok(indices)
+    }
+
+    /// Returns those of the indices whose runas allows the target and the group: the blocks that stand for the question.
+    /// Returns `AllocError` if allocation fails.
+    pub(crate) fn standing(
+        &self,
+        alloc: Global,
+        directory: &Directory,
+        asker: Asker<'_>,
+        listed: &[usize],
+    ) -> Result<Vec<usize>, AllocError>
+        requires { body.AreListed self.now.checked.now self.now.blocks.items
+            asker.user.now asker.host.now listed.now }
+        ensures { IfOk result (λ indices. body.chosen self.now.blocks.items indices.items
+            ≡ cells.deciders self.now.checked.now (question_as directory.now
+            asker.entry.user.now asker.entry.host.now (option_copied asker.entry.target)
+            (option_copied asker.entry.group))) }
+    {
+        let mut indices = Vec::new(alloc);
+        for index in listed {
+            push_if(
+                &mut indices,
+                *index,
+                self.allows_at(*index, directory, asker),
+            )?;
+        }
+        Ok(indices)
+    }
+}
+
+// Appends the rows of the block.
+fn push_rows<'b>(block: &'b Block<'_>, rows: &mut Vec<Ruled<'b>>) -> Result<(), AllocError>
+    ensures { OnOk result (all_shown rows.new.items
+        ≡ all_shown rows.old.items ++ body.deciders_of block.now) }
+{
+    for row in &block.rows {
+        rows.push(Ruled {
+            place: block.place,
+            answer: row.answer,
+            shape: &row.shape,
+        })?;
+    }
+    Ok(())
+}
+
+// Appends the rows of the block at an index.
+fn push_at<'b>(
+    blocks: &'b [Block<'_>],
+    index: usize,
+    rows: &mut Vec<Ruled<'b>>,
+) -> Result<(), AllocError>
+    ensures { OnOk result (all_shown rows.new.items
+        ≡ all_shown rows.old.items ++ body.deciders_at blocks.now index) }
+{
+    if index < blocks.len() {
+        push_rows(&blocks[index], rows)
+    } else {
+        Ok(())
+    }
+}
+
+/// Returns the rows of the blocks at these indices. Returns `AllocError` if allocation fails.
+pub(crate) fn rows_at<'b>(
+    alloc: Global,
+    blocks: &'b [Block<'_>],
+    indices: &[usize],
+) -> Result<Vec<Ruled<'b>>, AllocError>
+    ensures { IfOk result (λ rows. all_shown rows.items ≡ body.chosen blocks.now indices.now) }
+{
+    let mut rows = Vec::new(alloc);
+    for index in indices {
+        push_at(blocks, *index, &mut rows)?;
+    }
+    Ok(rows)
+}

@@ -1,0 +1,467 @@
+//! The text of the table of differences.
+ghost use Rattle.std.specs.Prelude.{◌≡◌, ◌++◌, ◌∷◌, [], codes, drop, flat_map, IfOk, map, OnOk};
+ghost use Rattle.csv.specs.Writing.{default_writer, field_text, fields_text};
+ghost use Rattle.sudo_parser.specs.Texts.{atom_text, user_text};
+ghost use Rattle.review_compare.specs.Table as table;
+ghost use Rattle.review_compare.specs.Body.Lines as body;
+
+use crate::compared::{Compared, Decider};
+use crate::row::Row;
+use crate::witness::Witness;
+use audit_files::{push_field, push_next_field, set_place, set_tags, verdict_word};
+use std::alloc::{AllocError, Global};
+use sudo_grammar::{Atom, Signed};
+use sudo_match::{Directory, Group, Machine, Person, Verdict};
+use sudo_parser::member_text;
+use sudo_policy::Checked;
+use sudo_text::Seq;
+
+// The names of the known users and hosts, and of groups, each as it would stand in a policy.
+#[derive(Drop)]
+struct Names {
+    users: Vec<Vec<u8>>,
+    hosts: Vec<Vec<u8>>,
+    groups: Vec<Vec<u8>>,
+}
+
+// Returns a name as it would stand in a list of users.
+fn name_text(alloc: Global, name: &[u8]) -> Result<Vec<u8>, AllocError>
+    ensures { IfOk result (λ text. text.items ≡ user_text name.now) }
+{
+    let atom = Atom::Name(Seq::from_slice(alloc, name)?);
+    let member = Signed {
+        negated: false,
+        atom,
+    };
+    member_text(alloc, &member)
+}
+
+fn user_names(alloc: Global, people: &[Person]) -> Result<Vec<Vec<u8>>, AllocError>
+    ensures { IfOk result (λ names. map (λ v. v.items) names.items
+        ≡ map (λ u. user_text u.name) people.now) }
+{
+    let mut names = Vec::new(alloc);
+    for person in people {
+        names.push(name_text(alloc, person.name.as_slice())?)?;
+    }
+    Ok(names)
+}
+
+fn host_names(alloc: Global, machines: &[Machine]) -> Result<Vec<Vec<u8>>, AllocError>
+    ensures { IfOk result (λ names. map (λ v. v.items) names.items
+        ≡ map (λ m. user_text m.name) machines.now) }
+{
+    let mut names = Vec::new(alloc);
+    for machine in machines {
+        names.push(name_text(alloc, machine.name.as_slice())?)?;
+    }
+    Ok(names)
+}
+
+fn group_names(alloc: Global, groups: &[Group]) -> Result<Vec<Vec<u8>>, AllocError>
+    ensures { IfOk result (λ names. map (λ v. v.items) names.items
+        ≡ map (λ g. user_text g.name) groups.now) }
+{
+    let mut names = Vec::new(alloc);
+    for group in groups {
+        names.push(name_text(alloc, group.name.as_slice())?)?;
+    }
+    Ok(names)
+}
+
+fn names_of(alloc: Global, directory: &Directory, groups: &[Group]) -> Result<Names, AllocError>
+    ensures { IfOk result (body.AreNames directory.now groups.now) }
+{
+    Ok(Names {
+        users: user_names(alloc, directory.people())?,
+        hosts: host_names(alloc, directory.machines())?,
+        groups: group_names(alloc, groups)?,
+    })
+}
+
+// Appends the name at an index behind a comma and a space.
+fn push_name(text: &mut Vec<u8>, names: &[Vec<u8>], number: usize) -> Result<(), AllocError>
+    ensures { OnOk result (text.new.items ≡ text.old.items
+        ++ body.separated (table.name_at (map (λ v. v.items) names.now) number)) }
+{
+    text.extend_from_slice(b", ")?;
+    if let Some(name) = names.get(number) {
+        text.extend_from_slice(name.as_slice())?;
+    }
+    Ok(())
+}
+
+// Returns the names at these indices, each behind a comma and a space.
+fn separated_names(
+    alloc: Global,
+    names: &[Vec<u8>],
+    numbers: &[usize],
+) -> Result<Vec<u8>, AllocError>
+    ensures { IfOk result (λ text. text.items ≡ flat_map (λ i. body.separated
+        (table.name_at (map (λ v. v.items) names.now) i)) numbers.now) }
+{
+    let mut text = Vec::new(alloc);
+    for number in numbers {
+        push_name(&mut text, names, *number)?;
+    }
+    Ok(text)
+}
+
+// Returns the text without the first comma and space.
+fn joined(alloc: Global, separated: &[u8]) -> Result<Vec<u8>, AllocError>
+    ensures { IfOk result (λ text. text.items ≡ drop 2 separated.now) }
+{
+    match separated {
+        [_, _, rest @ ..] => Vec::from_slice(alloc, rest),
+        _ => Ok(Vec::new(alloc)),
+    }
+}
+
+// Returns the names at these indices with a comma and a space between them, or `ALL` where they are all.
+fn names_text(alloc: Global, names: &[Vec<u8>], numbers: &[usize]) -> Result<Vec<u8>, AllocError>
+    ensures { IfOk result (λ text. text.items
+        ≡ table.names_text (map (λ v. v.items) names.now) numbers.now) }
+{
+    if numbers.len() == names.len() {
+        return Vec::from_slice(alloc, b"ALL");
+    }
+    let separated = separated_names(alloc, names, numbers)?;
+    joined(alloc, &separated)
+}
+
+// Returns the numbers that are there.
+fn numbers_of(alloc: Global, numbers: &[Option<usize>]) -> Result<Vec<usize>, AllocError>
+    ensures { IfOk result (λ there. there.items ≡ table.numbers_of numbers.now) }
+{
+    let mut there = Vec::new(alloc);
+    let mut left = numbers;
+    while let Some((number, rest)) = left.split_first() {
+        push_number(&mut there, *number)?;
+        left = rest;
+    }
+    Ok(there)
+}
+
+// Appends the number, if it is there.
+fn push_number(there: &mut Vec<usize>, number: Option<usize>) -> Result<(), AllocError>
+    ensures { OnOk result (there.new.items
+        ≡ there.old.items ++ table.numbers_of (number ∷ [])) }
+{
+    if let Some(number) = number {
+        there.push(number)?;
+    }
+    Ok(())
+}
+
+// Returns the names of those that are asked for; nothing where none is.
+fn asked_text(
+    alloc: Global,
+    names: &[Vec<u8>],
+    numbers: &[Option<usize>],
+) -> Result<Vec<u8>, AllocError>
+    ensures { IfOk result (λ text. text.items
+        ≡ table.asked_text (map (λ v. v.items) names.now) numbers.now) }
+{
+    let there = numbers_of(alloc, numbers)?;
+    if there.is_empty() {
+        return Ok(Vec::new(alloc));
+    }
+    names_text(alloc, names, &there)
+}
+
+// Appends three further fields of a record.
+#[tactic(auto, unfolding(csv::specs::Writing::fields_text))]
+fn push_three(
+    text: &mut Vec<u8>,
+    first: &[u8],
+    second: &[u8],
+    third: &[u8],
+) -> Result<(), AllocError>
+    ensures { OnOk result (text.new.items ≡ text.old.items
+        ++ fields_text default_writer (first.now ∷ second.now ∷ third.now ∷ [])) }
+{
+    push_next_field(text, first)?;
+    push_next_field(text, second)?;
+    push_next_field(text, third)
+}
+
+// Returns the fields with which the records of a row begin.
+fn row_head(alloc: Global, names: &Names, row: &Row) -> Result<Vec<u8>, AllocError>
+    ensures { IfOk result (λ head. head.items ≡ body.head_of names.now row.now) }
+{
+    let mut head = Vec::new(alloc);
+    let users = names_text(alloc, &names.users, row.users.as_slice())?;
+    push_field(&mut head, &users)?;
+    let hosts = names_text(alloc, &names.hosts, row.hosts.as_slice())?;
+    let targets = asked_text(alloc, &names.users, row.targets.as_slice())?;
+    let groups = asked_text(alloc, &names.groups, row.groups.as_slice())?;
+    push_three(&mut head, &hosts, &targets, &groups)?;
+    Ok(head)
+}
+
+// Appends the fields of a verdict.
+fn push_verdict(
+    alloc: Global,
+    text: &mut Vec<u8>,
+    files: &[Seq<u8>],
+    verdict: &Verdict,
+) -> Result<(), AllocError>
+    ensures { OnOk result (text.new.items ≡ text.old.items
+        ++ fields_text default_writer (table.verdict_fields files.now verdict.now)) }
+{
+    let mut place = Vec::new(alloc);
+    set_place(&mut place, files, verdict)?;
+    let mut tags = Vec::new(alloc);
+    set_tags(&mut tags, verdict)?;
+    push_three(text, verdict_word(verdict), &place, &tags)
+}
+
+// The paths of the files of both policies.
+#[derive(Clone, Copy)]
+struct Files<'a> {
+    old: &'a [Seq<u8>],
+    new: &'a [Seq<u8>],
+}
+
+// Appends the fields of both verdicts, and the end of the record.
+fn push_verdicts(
+    alloc: Global,
+    text: &mut Vec<u8>,
+    files: Files<'_>,
+    old: &Verdict,
+    new: &Verdict,
+) -> Result<(), AllocError>
+    ensures { OnOk result (text.new.items ≡ text.old.items
+        ++ table.verdicts_text files.entry.old.now files.entry.new.now old.now new.now) }
+{
+    push_verdict(alloc, text, files.old, old)?;
+    push_verdict(alloc, text, files.new, new)?;
+    text.push(b'\n')?;
+    Ok(())
+}
+
+// Appends the record of a witness.
+fn push_witness(
+    alloc: Global,
+    text: &mut Vec<u8>,
+    files: Files<'_>,
+    head: &[u8],
+    witness: &Witness,
+) -> Result<(), AllocError>
+    ensures { OnOk result (text.new.items ≡ text.old.items ++ table.witness_line
+        files.entry.old.now files.entry.new.now head.now witness.now) }
+{
+    text.extend_from_slice(head)?;
+    let (command, arguments) = (witness.command.as_slice(), witness.arguments.as_slice());
+    push_three(text, witness.answer.name(), command, arguments)?;
+    push_verdicts(alloc, text, files, &witness.old, &witness.new)
+}
+
+// Returns a copy of an atom.
+fn atom_copied(alloc: Global, atom: &Atom) -> Result<Atom, AllocError>
+    ensures { IfOk result (λ copy. copy ≡ atom.now) }
+{
+    match atom {
+        Atom::All => Ok(Atom::All),
+        Atom::Alias(name) => Ok(Atom::Alias(Seq::from_slice(alloc, name.as_slice())?)),
+        Atom::Name(name) => Ok(Atom::Name(Seq::from_slice(alloc, name.as_slice())?)),
+        Atom::Uid(id) => Ok(Atom::Uid(*id)),
+        Atom::Group(name) => Ok(Atom::Group(Seq::from_slice(alloc, name.as_slice())?)),
+        Atom::Gid(id) => Ok(Atom::Gid(*id)),
+        Atom::Host { chars, quoted } => Ok(Atom::Host {
+            chars: Seq::from_slice(alloc, chars.as_slice())?,
+            quoted: *quoted,
+        }),
+        Atom::Address(addr) => Ok(Atom::Address(*addr)),
+        Atom::Net { addr, mask } => Ok(Atom::Net {
+            addr: *addr,
+            mask: *mask,
+        }),
+        Atom::Command { path, args: None } => Ok(Atom::Command {
+            path: Seq::from_slice(alloc, path.as_slice())?,
+            args: None,
+        }),
+        Atom::Command {
+            path,
+            args: Some(chars),
+        } => Ok(Atom::Command {
+            path: Seq::from_slice(alloc, path.as_slice())?,
+            args: Some(Seq::from_slice(alloc, chars.as_slice())?),
+        }),
+    }
+}
+
+// Returns the text of an atom.
+fn atom_text_of(alloc: Global, atom: &Atom) -> Result<Vec<u8>, AllocError>
+    ensures { IfOk result (λ text. text.items ≡ atom_text atom.now) }
+{
+    let member = Signed {
+        negated: false,
+        atom: atom_copied(alloc, atom)?,
+    };
+    member_text(alloc, &member)
+}
+
+// Appends the command of a row behind a comma and a space, if there is one.
+fn push_atom(alloc: Global, text: &mut Vec<u8>, row: &Option<Decider>) -> Result<(), AllocError>
+    ensures { OnOk result (text.new.items ≡ text.old.items ++ table.row_texts row.now) }
+{
+    if let Some(decider) = row {
+        let own = atom_text_of(alloc, &decider.atom)?;
+        text.extend_from_slice(b", ")?;
+        text.extend_from_slice(own.as_slice())?;
+    }
+    Ok(())
+}
+
+// Returns the commands of the rows with a comma and a space between them.
+fn both_atoms(
+    alloc: Global,
+    old: &Option<Decider>,
+    new: &Option<Decider>,
+) -> Result<Vec<u8>, AllocError>
+    ensures { IfOk result (λ text. text.items
+        ≡ drop 2 (table.row_texts old.now ++ table.row_texts new.now)) }
+{
+    let mut separated = Vec::new(alloc);
+    push_atom(alloc, &mut separated, old)?;
+    push_atom(alloc, &mut separated, new)?;
+    joined(alloc, &separated)
+}
+
+// Returns the verdict of a row, if there is one.
+fn row_verdict(row: &Option<Decider>) -> Verdict
+    ensures { result ≡ table.row_verdict row.now }
+{
+    match row {
+        None => Verdict::NoMatch,
+        Some(decider) => match decider.answer {
+            None => Verdict::Deny {
+                place: decider.place,
+            },
+            Some(tags) => Verdict::Allow {
+                place: decider.place,
+                tags,
+            },
+        },
+    }
+}
+
+// Appends the record of rows that may answer a command otherwise.
+fn push_may(
+    alloc: Global,
+    text: &mut Vec<u8>,
+    files: Files<'_>,
+    head: &[u8],
+    old: &Option<Decider>,
+    new: &Option<Decider>,
+) -> Result<(), AllocError>
+    ensures { OnOk result (text.new.items ≡ text.old.items ++ table.may_line
+        files.entry.old.now files.entry.new.now head.now old.now new.now) }
+{
+    let atoms = both_atoms(alloc, old, new)?;
+    text.extend_from_slice(head)?;
+    push_three(text, b"may", &atoms, b"")?;
+    push_verdicts(alloc, text, files, &row_verdict(old), &row_verdict(new))
+}
+
+// Appends the records of witnesses.
+fn push_witnesses(
+    alloc: Global,
+    text: &mut Vec<u8>,
+    files: Files<'_>,
+    head: &[u8],
+    witnesses: &[Witness],
+) -> Result<(), AllocError>
+    ensures { OnOk result (text.new.items ≡ text.old.items ++ flat_map (table.witness_line
+        files.entry.old.now files.entry.new.now head.now) witnesses.now) }
+{
+    for witness in witnesses {
+        push_witness(alloc, text, files, head, witness)?;
+    }
+    Ok(())
+}
+
+// Appends the records of what is found.
+fn push_found(
+    alloc: Global,
+    text: &mut Vec<u8>,
+    files: Files<'_>,
+    head: &[u8],
+    found: &Compared,
+) -> Result<(), AllocError>
+    ensures { OnOk result (text.new.items ≡ text.old.items ++ table.found_lines
+        files.entry.old.now files.entry.new.now head.now found.now) }
+{
+    match found {
+        Compared::Same => Ok(()),
+        Compared::Differs(witnesses) => {
+            push_witnesses(alloc, text, files, head, witnesses.as_slice())
+        }
+        Compared::May { old, new } => push_may(alloc, text, files, head, old, new),
+    }
+}
+
+// Appends the records of a row.
+fn push_row(
+    alloc: Global,
+    text: &mut Vec<u8>,
+    files: Files<'_>,
+    names: &Names,
+    row: &Row,
+) -> Result<(), AllocError>
+    ensures { OnOk result (text.new.items ≡ text.old.items ++ body.lines_of
+        files.entry.old.now files.entry.new.now names.now row.now) }
+{
+    let head = row_head(alloc, names, row)?;
+    push_found(alloc, text, files, &head, &row.found)
+}
+
+// The names of the columns, as a record.
+const HEADER: &[u8] =
+    b"users,hosts,runas_user,runas_group,answer,command,arguments,old,old_place,old_tags,\
+new,new_place,new_tags\n";
+
+// Returns the header and the records of the rows.
+fn text_with(
+    alloc: Global,
+    files: Files<'_>,
+    names: &Names,
+    rows: &[Row],
+) -> Result<Vec<u8>, AllocError>
+    ensures { IfOk result (λ text. text.items ≡ table.table_header ++ 10 ∷ flat_map
+        (body.lines_of files.entry.old.now files.entry.new.now names.now) rows.now) }
+{
+    let mut text = Vec::new(alloc);
+    text.extend_from_slice(HEADER)?;
+    for row in rows {
+        push_row(alloc, &mut text, files, names, row)?;
+    }
+    Ok(text)
+}
+
+/// Returns the table of the differences of two policies as CSV: the header
+/// `users,hosts,runas_user,runas_group,answer,command,arguments,old,old_place,old_tags,new,new_place,new_tags`, then for each
+/// row a record for each command that both policies answer otherwise; or one with the answer `may` and the commands of the rows
+/// that may.
+///
+/// `users` and `hosts` are known ones, each as it would stand in a policy, and `ALL` where they are all; so are `runas_user` and
+/// `runas_group`, which are empty where none is asked for. Returns `AllocError` if allocation fails.
+pub fn differences_text(
+    alloc: Global,
+    old: &Checked,
+    new: &Checked,
+    directory: &Directory,
+    groups: &[Group],
+    rows: &[Row],
+) -> Result<Vec<u8>, AllocError>
+    ensures { IfOk result (λ text. text.items ≡ table.table_text old.now.files new.now.files
+        directory.now groups.now rows.now) }
+{
+    let names = names_of(alloc, directory, groups)?;
+    let files = Files {
+        old: old.policy().files.as_slice(),
+        new: new.policy().files.as_slice(),
+    };
+    text_with(alloc, files, &names, rows)
+}

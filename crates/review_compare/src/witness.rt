@@ -1,0 +1,81 @@
+//! Commands that two policies answer otherwise.
+ghost use Rattle.std.specs.Prelude.{◌≡◌, All, IfOk, IfSome, OnOk};
+ghost use Rattle.review_compare.specs.Cells as cells;
+ghost use Rattle.review_compare.specs.Body.Shown as body;
+
+use crate::answer::{Answer, answer_between};
+use crate::ruling::Ruled;
+use std::alloc::{AllocError, Global};
+use sudo_match::{Verdict, command_matches};
+use sudo_text::Seq;
+
+/// A command that two policies answer otherwise, with both verdicts.
+#[derive(Debug, Drop, PartialEq, Eq)]
+pub struct Witness {
+    /// The command, by its path.
+    pub command: Seq<u8>,
+    /// Its arguments, joined by spaces.
+    pub arguments: Seq<u8>,
+    /// The verdict of the old policy.
+    pub old: Verdict,
+    /// The verdict of the new policy.
+    pub new: Verdict,
+    /// What the change does.
+    pub answer: Answer,
+}
+
+// Returns the verdict of a row on a command that it fits.
+fn verdict_by(row: &Ruled<'_>) -> Verdict
+    ensures { result ≡ cells.answered_by row.now.place row.now.answer }
+{
+    match row.answer {
+        None => Verdict::Deny { place: row.place },
+        Some(tags) => Verdict::Allow {
+            place: row.place,
+            tags,
+        },
+    }
+}
+
+/// Returns the verdict of the last row that fits the command.
+pub(crate) fn verdict_among(rows: &[Ruled<'_>], command: &[u8], arguments: &[u8]) -> Verdict
+    ensures { result
+        ≡ cells.verdict_among (body.all_shown rows.now) command.now arguments.now }
+{
+    let mut end = rows.len();
+    while end > 0 {
+        end -= 1;
+        let row = &rows[end];
+        if command_matches(&row.shape.atom, command, arguments) {
+            return verdict_by(row);
+        }
+    }
+    Verdict::NoMatch
+}
+
+/// Returns the command as a witness, if both lists of rows do not say the same to it. Returns `AllocError` if allocation
+/// fails.
+pub(crate) fn witness_of(
+    alloc: Global,
+    old: &[Ruled<'_>],
+    new: &[Ruled<'_>],
+    command: &[u8],
+    arguments: &[u8],
+) -> Result<Option<Witness>, AllocError>
+    ensures { IfOk result (λ found. IfSome found (body.IsShownWitness old.now new.now)) }
+{
+    let (before, after) = (
+        verdict_among(old, command, arguments),
+        verdict_among(new, command, arguments),
+    );
+    let Some(answer) = answer_between(&before, &after) else {
+        return Ok(None);
+    };
+    Ok(Some(Witness {
+        command: Seq::from_slice(alloc, command)?,
+        arguments: Seq::from_slice(alloc, arguments)?,
+        old: before,
+        new: after,
+        answer,
+    }))
+}
