@@ -1,0 +1,56 @@
+-- What the fixed parser reads is left alone.
+use Rattle.std.proofs.Common.{◌≡◌, ℕ, suc, List, [], ◌∷◌, ◌++◌, length, drop}
+use Rattle.std.proofs.Common.{take, refl, sym, ◌∙◌, ap, subst, arith}
+use Rattle.std.proofs.Common.{Ok, Option, None, Some, inl, inr, ℕ}
+use Rattle.std.proofs.lemmas.List.{take-append-drop}
+use Rattle.sudo_text.specs.declared.line.Line.{Line}
+use Rattle.sudo_text.specs.Lines.{lines_of}
+use Rattle.sudo_grammar.specs.declared.policy.Entry.{Entry}
+use Rattle.sudo_grammar.specs.declared.policy.EntryBody.{EntryBody}
+use Rattle.sudo_grammar.specs.declared.policy.EntryBody.TheVariants as entries
+use Rattle.sudo_grammar.specs.Faults.{HasRoom}
+use Rattle.sudo_parser.specs.Parsed.{room_after, IsEntryOf, entry_of, AreEntriesAfter, AreEntries}
+use Rattle.review_texts.specs.Places.{whole_room}
+use Rattle.review_texts.specs.Masks.{IsUnmasked}
+use Rattle.review_texts.specs.MaskedTexts.{written, IsBlock, AreBlocks, IsTextBy, IsMaskedText}
+use Rattle.review_texts.proofs.LoneLines.{read_unrefused}
+use Rattle.review_texts.proofs.Blocks.{take_written}
+
+-- An entry within the room that is left is one within the whole room.
+whole_fits : (before : List Entry) (entry : EntryBody) → HasRoom (room_after before) entry → HasRoom whole_room entry
+whole_fits before (entries.Aliases kind definitions) fits = omega arith
+whole_fits before (entries.Defaults binding parameters) fits = fits
+whole_fits before (entries.Rule users sections) fits = fits
+whole_fits before (entries.Include folder hash path) fits = fits
+
+read_alone : (before : List Entry) (line : Line) (entry : Option EntryBody) → IsEntryOf (room_after before) line entry
+    → IsEntryOf whole_room line entry
+read_alone before line None is = is
+read_alone before line (Some entry) (t, ts, spelled, writes) =
+    (t, ts, spelled, (writes.0, whole_fits before entry writes.1))
+
+-- A line that is read has no mask.
+unmasked : (before : List Entry) (line : Line) (entry : Option EntryBody) → IsEntryOf (room_after before) line entry → IsUnmasked line
+unmasked before line entry is mask masks =
+    read_unrefused line (entry_of line entry ++ []) mask.form
+    (entry, [], read_alone before line entry is, refl, refl) masks.refused
+
+block_kept : (line : Line) (bytes block : List ℕ) → IsUnmasked line → IsBlock line bytes block → block ≡ bytes
+block_kept line bytes block none (inl kept) = kept.1
+block_kept line bytes block none (inr (masked, (mask, is, rest), whole)) = absurd (none mask is)
+
+blocks_kept : (before : List Entry) (lines : List Line) (entries : List Entry) (text masked : List ℕ)
+    → AreEntriesAfter before lines entries → AreBlocks lines text masked → masked ≡ text
+blocks_kept before [] entries text masked are blocks = blocks
+blocks_kept before (line ∷ lines) entries text masked (entry, rest, is, are, whole) (block, tail, first, others, joined) =
+    let kept : block ≡ written line text = block_kept line (written line text) block (unmasked before line entry is) first in
+    let after : tail ≡ drop (length (written line text)) text =
+    blocks_kept (before ++ entry_of line entry) lines rest (drop (length (written line text)) text) tail are others in
+    let front : written line text ≡ take (length (written line text)) text = sym (take_written (suc (length line.joins)) text) in
+    joined ∙ (ap (λ (b : List ℕ). b ++ tail) (kept ∙ front) ∙ (ap (λ (r : List ℕ). take (length (written line text)) text ++ r) after
+    ∙ take-append-drop (length (written line text)) text))
+
+pub text_kept : (text masked : List ℕ) (lines : List Line) (entries : List Entry) → lines_of 0 text ≡ Ok lines
+    → AreEntries lines entries → IsMaskedText text masked → masked ≡ text
+text_kept text masked lines entries cut are is =
+    blocks_kept [] lines entries text masked are (subst (λ r. IsTextBy r text masked) cut is)

@@ -1,0 +1,113 @@
+-- What the parser says of a line that stands alone.
+use Rattle.std.proofs.Common.{◌≡◌, ℕ, Bool, true, List, [], ◌∷◌, ◌++◌, refl, sym, ◌∙◌, ap, subst, Option}
+use Rattle.std.proofs.Common.{None, Some, inl, inr}
+use Rattle.std.specs.Prelude.{MatchOption}
+use Rattle.sudo_text.specs.declared.line.Line.{Line}
+use Rattle.sudo_text.specs.declared.line.Place.{Place}
+use Rattle.sudo_grammar.specs.declared.policy.Entry.{Entry}
+use Rattle.sudo_grammar.specs.declared.policy.EntryBody.{EntryBody}
+use Rattle.sudo_grammar.specs.declared.fault.ParseFault.{ParseFault}
+use Rattle.sudo_grammar.specs.declared.fault.ParseFault.TheVariants as faults
+use Rattle.sudo_grammar.specs.declared.fault.Refusal.{Refusal}
+use Rattle.sudo_grammar.specs.declared.fault.Refusal.TheVariants as refusals
+use Rattle.sudo_grammar.specs.declared.fault.Unsupported.{Unsupported}
+use Rattle.sudo_parser.specs.Parsed.{AreEntries, IsFirstFault, IsGrammarFaultOf, fault_at, column}
+use Rattle.sudo_parser.proofs.OneReading.{one_entries, one_first_fault, entries-no-fault}
+use Rattle.review_texts.specs.Places.{whole_room, IsEntryIn, IsRefusedFor}
+
+-- The entries of a line that stands alone.
+pub entries_of : (line : Line) (entry : EntryBody) → IsEntryIn line entry
+    → AreEntries (line ∷ []) (record { place = line.first; body = entry } ∷ [])
+entries_of line entry is = (Some entry, [], is, refl, refl)
+
+one_last : (front : List Entry) (x y : Entry) → front ++ x ∷ [] ≡ y ∷ [] → x ≡ y
+one_last [] x y e = cc
+one_last (z ∷ []) x y e = cc
+one_last (z ∷ w ∷ front) x y e = cc
+
+no_last : (front : List Entry) (x : Entry) → front ++ x ∷ [] ≡ [] → ⊥
+no_last [] x e = cc
+no_last (y ∷ front) x e = cc
+
+pub last_read : (line : Line) (front : List Entry) (x : Entry) → AreEntries (line ∷ []) (front ++ x ∷ []) → IsEntryIn line x.body
+last_read line front x (None, rest, is, none, whole) = absurd (no_last front x (whole ∙ none))
+last_read line front x (Some body, rest, is, none, whole) =
+    let same : x ≡ record { place = line.first; body = body } =
+    one_last front x (record { place = line.first; body = body })
+    (whole ∙ ap (λ r. record { place = line.first; body = body } ∷ r) none) in
+    subst (IsEntryIn line) (sym (ap (λ (e : Entry). e.body) same)) is
+
+pub none_read : (line : Line) (entries : List Entry) (entry : EntryBody) → AreEntries (line ∷ []) entries → entries ≡ []
+    → IsEntryIn line entry → ⊥
+none_read line entries entry are none is =
+    let same : entries ≡ record { place = line.first; body = entry } ∷ [] =
+    one_entries [] (line ∷ []) entries (record { place = line.first; body = entry } ∷ []) are (entries_of line entry is) in
+    absurd cc
+
+-- A line has one entry.
+pub one_entry : (line : Line) (a b : EntryBody) → IsEntryIn line a → IsEntryIn line b → a ≡ b
+one_entry line a b is other =
+    let first : Entry = record { place = line.first; body = a } in
+    let second : Entry = record { place = line.first; body = b } in
+    let same : first ∷ [] ≡ second ∷ [] =
+    one_entries [] (line ∷ []) (first ∷ []) (second ∷ []) (entries_of line a is) (entries_of line b other) in
+    ap (λ (e : Entry). e.body) (one_last [] first second same)
+
+-- The refusal of a line that stands alone.
+pub fault_of : (line : Line) (form : Unsupported) → IsRefusedFor line form
+    → IsFirstFault (line ∷ []) (faults.Unsupported line.first form)
+fault_of line form is = inl (inr is)
+
+placed : (first place : Place) (col : ℕ) (form : Unsupported) (refusal : Refusal)
+    → faults.Unsupported place form ≡ fault_at first col refusal → place ≡ first
+placed first place col form (refusals.Syntax expected) e = cc
+placed first place col form (refusals.Unsupported what) e = cc
+placed first place col form refusals.NotCommand e = cc
+placed first place col form refusals.BadNumber e = cc
+placed first place col form refusals.TooMany e = cc
+
+pub refused : (line : Line) (place : Place) (form : Unsupported) → IsFirstFault (line ∷ []) (faults.Unsupported place form)
+    → IsRefusedFor line form
+refused line place form (inl (inl text)) = let e = text.is in absurd cc
+refused line place form (inl (inr grammar)) =
+    let at : place ≡ line.first = placed line.first place (column line grammar.stop.rest) form grammar.stop.refusal grammar.is in
+    subst (λ p. IsGrammarFaultOf whole_room line (faults.Unsupported p form)) at grammar
+refused line place form (inr (entry, says, never)) = absurd never
+
+pub same_fault : (line : Line) (fault : ParseFault) (form : Unsupported) → IsFirstFault (line ∷ []) fault → IsRefusedFor line form
+    → fault ≡ faults.Unsupported line.first form
+same_fault line fault form is refusal =
+    one_first_fault [] (line ∷ []) fault (faults.Unsupported line.first form) is (fault_of line form refusal)
+
+pub read_unrefused : (line : Line) (entries : List Entry) (form : Unsupported) → AreEntries (line ∷ []) entries
+    → IsRefusedFor line form → ⊥
+read_unrefused line entries form are refusal =
+    entries-no-fault [] (line ∷ []) entries (faults.Unsupported line.first form) are (fault_of line form refusal)
+
+-- A line is refused for one form.
+pub one_form : (line : Line) (a b : Unsupported) → IsRefusedFor line a → IsRefusedFor line b → a ≡ b
+one_form line a b is other = let same = same_fault line (faults.Unsupported line.first a) b (fault_of line a is) other in cc
+
+-- What a call that looks for an entry says, by the entry that it found.
+abbrev pub FoundEntry : Line → Option EntryBody → Type 0
+FoundEntry line found = MatchOption found ((entry : EntryBody) → IsEntryIn line entry → ⊥) (λ entry. IsEntryIn line entry)
+
+pub found_passes : (line : Line) (found : Option EntryBody) (test : EntryBody → Bool) (x entry : EntryBody) → FoundEntry line found
+    → found ≡ Some x → IsEntryIn line entry → test entry ≡ true → test x ≡ true
+found_passes line None test x entry says e is passes = absurd cc
+found_passes line (Some y) test x entry says e is passes =
+    let same : y ≡ x = cc in
+    ap test (sym same ∙ one_entry line y entry says is) ∙ passes
+
+pub found_none : (line : Line) (found : Option EntryBody) (entry : EntryBody) → FoundEntry line found → found ≡ None
+    → IsEntryIn line entry → ⊥
+found_none line None entry says e is = says entry is
+found_none line (Some y) entry says e is = absurd cc
+
+-- What a call that looks for a form says, by the fault of the line.
+pub form_found : (line : Line) (fault : ParseFault) (found : Option Unsupported) → IsFirstFault (line ∷ []) fault
+    → MatchOption found ((place : Place) (form : Unsupported) → fault ≡ faults.Unsupported place form → ⊥)
+    (λ form. (place : Place) × (fault ≡ faults.Unsupported place form))
+    → MatchOption found ((form : Unsupported) → IsRefusedFor line form → ⊥) (λ form. IsRefusedFor line form)
+form_found line fault None is says = λ form refusal. says line.first form (same_fault line fault form is refusal)
+form_found line fault (Some form) is (place, e) = refused line place form (subst (IsFirstFault (line ∷ [])) e is)

@@ -1,0 +1,108 @@
+-- The newlines of masked texts.
+use Rattle.std.proofs.Common.{◌≡◌, ℕ, zero, suc, ◌+◌, ◌-◌, true, not, cond, List, [], ◌∷◌, ◌++◌}
+use Rattle.std.proofs.Common.{length, drop, take, refl, ◌∙◌, ap, subst, arith}
+use Rattle.std.proofs.Common.{Result, Ok, Err, inl, inr}
+use Rattle.std.specs.Prelude.{◌==◌, ◌&&◌, replicate, nat_le}
+use Rattle.std.specs.List.{list_any}
+use Rattle.std.proofs.lemmas.Bool.{and_parts, eqb-true}
+use Rattle.std.proofs.lemmas.List.{take-append-drop}
+use Rattle.std.proofs.lemmas.List.Sums.{sum_by-append}
+use Rattle.sudo_text.specs.declared.line.Line.{Line}
+use Rattle.sudo_text.specs.declared.fault.TextFault.{TextFault}
+use Rattle.sudo_text.specs.Lines.{lines_of, text_limit}
+use Rattle.sudo_grammar.specs.declared.fault.Unsupported.{Unsupported}
+use Rattle.sudo_grammar.specs.declared.fault.Unsupported.TheVariants as forms
+use Rattle.review_texts.specs.declared.mask.Mask.{Mask}
+use Rattle.review_texts.specs.Masks.{is_tight, is_fit, newline_count, replacement, behind, IsBehind, IsMasked, most_masks}
+use Rattle.review_texts.specs.MaskedTexts.{written, IsBlock, AreBlocks, IsTextBy, IsMaskedText}
+use Rattle.review_texts.specs.Laws.{StaysBy}
+use Rattle.review_texts.proofs.Blocks.{take_written}
+
+pub count_append : (xs ys : List ℕ) → newline_count (xs ++ ys) ≡ newline_count xs + newline_count ys
+count_append xs ys = sum_by-append (λ b. cond (b == 10) 1 0) xs ys
+
+count_blanks : (n : ℕ) → newline_count (replicate n 32) ≡ 0
+count_blanks zero = refl
+count_blanks (suc n) = count_blanks n
+
+count_newlines : (n : ℕ) → newline_count (replicate n 10) ≡ n
+count_newlines zero = refl
+count_newlines (suc n) =
+    let joined = count_append (10 ∷ []) (replicate n 10) in
+    let rest = count_newlines n in
+    omega (arith, joined, rest)
+
+count_replaced : (form : Unsupported) (len : ℕ) → newline_count (replacement form len) ≡ 0
+count_replaced forms.CommandOption len = count_blanks len
+count_replaced forms.List len = refl
+count_replaced _ len = refl
+
+-- A line without a newline has none behind a mask.
+behind_count : (line : Line) (mask : Mask) → newline_count line.text ≡ 0 → newline_count (behind line mask).text ≡ 0
+behind_count line mask none =
+    let put : List ℕ = replacement mask.form (mask.end - mask.start) in
+    let front = count_append (take mask.start line.text) (drop mask.start line.text) in
+    let back = count_append (take mask.end line.text) (drop mask.end line.text) in
+    let first = ap (λ (xs : List ℕ). newline_count xs) (take-append-drop mask.start line.text) in
+    let second = ap (λ (xs : List ℕ). newline_count xs) (take-append-drop mask.end line.text) in
+    let outer = count_append (take mask.start line.text) (put ++ drop mask.end line.text) in
+    let inner = count_append put (drop mask.end line.text) in
+    let middle = count_replaced mask.form (mask.end - mask.start) in
+    omega (arith, front, back, first, second, outer, inner, middle)
+
+all_behind : (n : ℕ) (line masked : Line) → newline_count line.text ≡ 0 → IsBehind n line masked → newline_count masked.text ≡ 0
+unfolding IsBehind
+all_behind zero line masked none is = ap (λ (l : Line). newline_count l.text) is ∙ none
+all_behind (suc n) line masked none (inl kept) = ap (λ (l : Line). newline_count l.text) kept.1 ∙ none
+all_behind (suc n) line masked none (inr (mask, is, rest)) =
+    all_behind n (behind line mask) masked (behind_count line mask none) rest
+
+fit_count : (line : Line) → is_fit line ≡ true → newline_count line.text ≡ 0
+fit_count line fit =
+    let parts = and_parts (not (list_any (is_tight line.text) line.joins) && nat_le (length line.text) (text_limit - 4))
+    (newline_count line.text == 0) fit in
+    eqb-true (newline_count line.text) 0 parts.1
+
+masked_count : (line masked : Line) → IsMasked line masked → newline_count masked.text ≡ 0
+masked_count line masked (mask, is, rest) =
+    all_behind most_masks (behind line mask) masked (behind_count line mask (fit_count line is.fit)) rest
+
+block_count : (line : Line) (bytes block : List ℕ) → IsBlock line bytes block → newline_count block ≡ newline_count bytes
+block_count line bytes block (inl kept) = ap (λ (xs : List ℕ). newline_count xs) kept.1
+block_count line bytes block (inr (masked, is, whole)) =
+    let none = masked_count line masked is in
+    let joined = count_append masked.text (replicate (newline_count bytes) 10) in
+    let more = count_newlines (newline_count bytes) in
+    ap (λ (xs : List ℕ). newline_count xs) whole ∙ (omega (arith, joined, none, more))
+
+blocks_stay : (lines : List Line) (text masked : List ℕ) → AreBlocks lines text masked → StaysBy lines text masked
+blocks_stay [] text masked are = are
+blocks_stay (line ∷ lines) text masked (block, rest, is, are, whole) = (
+  block,
+  rest,
+  block_count line (written line text) block is,
+  whole,
+  blocks_stay lines (drop (length (written line text)) text) rest are,
+)
+
+stays_count : (lines : List Line) (text masked : List ℕ) → StaysBy lines text masked → newline_count masked ≡ newline_count text
+stays_count [] text masked stay = ap (λ (xs : List ℕ). newline_count xs) stay
+stays_count (line ∷ lines) text masked (part, rest, same, whole, stay) =
+    let others = stays_count lines (drop (length (written line text)) text) rest stay in
+    let joined = ap (λ (xs : List ℕ). newline_count xs) whole in
+    let first = count_append part rest in
+    let front = ap (λ (xs : List ℕ). newline_count xs) (take_written (suc (length line.joins)) text) in
+    let cut = ap (λ (xs : List ℕ). newline_count xs) (take-append-drop (length (written line text)) text) in
+    let second = count_append (take (length (written line text)) text) (drop (length (written line text)) text) in
+    omega (arith, others, joined, first, front, cut, second, same)
+
+pub text_stays : (text masked : List ℕ) (lines : List Line) → lines_of 0 text ≡ Ok lines → IsMaskedText text masked
+    → StaysBy lines text masked
+text_stays text masked lines cut is = blocks_stay lines text masked (subst (λ r. IsTextBy r text masked) cut is)
+
+pub text_count : (text masked : List ℕ) → IsMaskedText text masked → newline_count masked ≡ newline_count text
+text_count text masked is = go (lines_of 0 text) is
+  where
+    go : (r : Result (List Line) TextFault) → IsTextBy r text masked → newline_count masked ≡ newline_count text
+    go (Ok lines) are = stays_count lines text masked (blocks_stay lines text masked are)
+    go (Err fault) kept = ap (λ (xs : List ℕ). newline_count xs) kept

@@ -1,0 +1,74 @@
+-- A text has one masked text.
+use Rattle.std.proofs.Common.{◌≡◌, ℕ, zero, suc, ◌≤◌, List, [], ◌∷◌, ◌++◌, length, drop, sym, ◌∙◌}
+use Rattle.std.proofs.Common.{ap, subst, arith, Result, Ok, Err, inl, inr}
+use Rattle.std.specs.Prelude.{replicate}
+use Rattle.std.proofs.lemmas.Bool.{cases_lt}
+use Rattle.sudo_text.specs.declared.line.Line.{Line}
+use Rattle.sudo_text.specs.declared.fault.TextFault.{TextFault}
+use Rattle.sudo_text.specs.Lines.{lines_of}
+use Rattle.sudo_grammar.specs.declared.fault.Unsupported.{Unsupported}
+use Rattle.sudo_grammar.specs.declared.fault.Unsupported.TheVariants as forms
+use Rattle.review_texts.specs.declared.mask.Mask.{Mask}
+use Rattle.review_texts.specs.Masks.{Stands, behind, IsMask, IsBehind, IsMasked, most_masks, newline_count}
+use Rattle.review_texts.specs.MaskedTexts.{written, IsBlock, AreBlocks, IsTextBy, IsMaskedText}
+use Rattle.review_texts.proofs.LoneLines.{one_form}
+
+one_end : (line : Line) (form : Unsupported) (start a b : ℕ) → Stands line form start a → Stands line form start b → a ≡ b
+one_end line forms.CommandOption start a b (stands, is) (other, same) = is ∙ sym same
+one_end line forms.List start a b (stands, is) (other, same) = is ∙ sym same
+one_end line _ start a b stands other = absurd stands
+
+not_before : (line : Line) (a b : Mask) → IsMask line a → IsMask line b → a.form ≡ b.form → b.start ≤ a.start
+not_before line a b is other same = elim (cases_lt a.start b.start) [
+  | inl before ↦ absurd (other.stands.first a.start a.end before
+      (subst (λ f. Stands line f a.start a.end) same is.stands.stands))
+  | inr behind ↦ behind
+]
+
+one_mask : (line : Line) (a b : Mask) → IsMask line a → IsMask line b → a ≡ b
+one_mask line a b is other =
+    let form : a.form ≡ b.form = one_form line a.form b.form is.refused other.refused in
+    let low : b.start ≤ a.start = not_before line a b is other form in
+    let high : a.start ≤ b.start = not_before line b a other is (sym form) in
+    let start : a.start ≡ b.start = omega arith in
+    let moved : Stands line b.form b.start a.end =
+    subst (λ (n : ℕ). Stands line b.form n a.end) start (subst (λ f. Stands line f a.start a.end) form is.stands.stands) in
+    let end : a.end ≡ b.end = one_end line b.form b.start a.end b.end moved other.stands.stands in
+    λ i. record { form = form i; start = start i; end = end i }
+
+one_behind : (n : ℕ) (line a b : Line) → IsBehind n line a → IsBehind n line b → a ≡ b
+unfolding IsBehind
+one_behind zero line a b is other = is ∙ sym other
+one_behind (suc n) line a b (inl kept) (inl same) = kept.1 ∙ sym same.1
+one_behind (suc n) line a b (inl kept) (inr (mask, is, rest)) = absurd (kept.0 mask is)
+one_behind (suc n) line a b (inr (mask, is, rest)) (inl kept) = absurd (kept.0 mask is)
+one_behind (suc n) line a b (inr (mask, is, rest)) (inr (other, stands, more)) =
+    let same : other ≡ mask = one_mask line other mask stands is in
+    one_behind n (behind line mask) a b rest (subst (λ (m : Mask). IsBehind n (behind line m) b) same more)
+
+one_masked : (line a b : Line) → IsMasked line a → IsMasked line b → a ≡ b
+one_masked line a b (mask, is, rest) (other, stands, more) =
+    let same : other ≡ mask = one_mask line other mask stands is in
+    one_behind most_masks (behind line mask) a b rest (subst (λ (m : Mask). IsBehind most_masks (behind line m) b) same more)
+
+one_block : (line : Line) (bytes a b : List ℕ) → IsBlock line bytes a → IsBlock line bytes b → a ≡ b
+one_block line bytes a b (inl kept) (inl same) = kept.1 ∙ sym same.1
+one_block line bytes a b (inl kept) (inr (masked, (mask, is, rest), whole)) = absurd (kept.0 mask is)
+one_block line bytes a b (inr (masked, (mask, is, rest), whole)) (inl kept) = absurd (kept.0 mask is)
+one_block line bytes a b (inr (masked, is, whole)) (inr (other, stands, all)) =
+    let same : masked ≡ other = one_masked line masked other is stands in
+    whole ∙ (ap (λ (l : Line). l.text ++ replicate (newline_count bytes) 10) same ∙ sym all)
+
+one_blocks : (lines : List Line) (text a b : List ℕ) → AreBlocks lines text a → AreBlocks lines text b → a ≡ b
+one_blocks [] text a b is other = is ∙ sym other
+one_blocks (line ∷ lines) text a b (block, rest, is, are, whole) (part, tail, stands, others, all) =
+    let first : block ≡ part = one_block line (written line text) block part is stands in
+    let more : rest ≡ tail = one_blocks lines (drop (length (written line text)) text) rest tail are others in
+    whole ∙ (ap (λ (xs : List ℕ). xs ++ rest) first ∙ (ap (λ (xs : List ℕ). part ++ xs) more ∙ sym all))
+
+pub one_text : (text a b : List ℕ) → IsMaskedText text a → IsMaskedText text b → a ≡ b
+one_text text a b is other = go (lines_of 0 text) is other
+  where
+    go : (r : Result (List Line) TextFault) → IsTextBy r text a → IsTextBy r text b → a ≡ b
+    go (Ok lines) is other = one_blocks lines text a b is other
+    go (Err fault) is other = is ∙ sym other

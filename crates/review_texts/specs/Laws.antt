@@ -1,0 +1,41 @@
+-- Statements of laws.
+use Rattle.std.specs.Prelude.{◌≡◌, ℕ, false, List, [], ◌∷◌, ◌++◌, length, drop, map, None, Ok}
+use Rattle.sudo_text.specs.declared.line.Line.{Line}
+use Rattle.sudo_text.specs.Lines.{lines_of}
+use Rattle.sudo_text.specs.Pieces.{plain}
+use Rattle.sudo_grammar.specs.declared.kind.Atom.TheVariants as atoms
+use Rattle.sudo_grammar.specs.declared.policy.Entry.{Entry}
+use Rattle.sudo_parser.specs.Parsed.{AreEntries}
+use Rattle.sudo_match.specs.Matching.{command_fits}
+use Rattle.review_texts.specs.Places.{no_path}
+use Rattle.review_texts.specs.Masks.{newline_count}
+use Rattle.review_texts.specs.MaskedTexts.{written, IsMaskedText}
+
+-- the text of a file that the fixed parser reads is left alone, byte for byte
+abbrev pub ReadIsLeft : Type 0
+ReadIsLeft = (text masked : List ℕ) (lines : List Line) (entries : List Entry) → lines_of 0 text ≡ Ok lines
+    → AreEntries lines entries → IsMaskedText text masked → masked ≡ text
+
+-- `masked` is cut into as many parts as there are lines, and the rest of the text; each part has as many newlines as the
+-- bytes that its line was written as, so that it begins at the same physical line
+abbrev pub StaysBy : List Line → List ℕ → List ℕ → Type 0
+StaysBy [] text masked = masked ≡ text
+StaysBy (line ∷ lines) text masked =
+    (part rest : List ℕ) × (newline_count part ≡ newline_count (written line text)) × (masked ≡ part ++ rest)
+    × StaysBy lines (drop (length (written line text)) text) rest
+
+abbrev pub LinesStay : Type 0
+LinesStay = (text masked : List ℕ) (lines : List Line) → lines_of 0 text ≡ Ok lines → IsMaskedText text masked
+    → StaysBy lines text masked
+
+-- a masked text has as many physical lines as the text
+abbrev pub CountStays : Type 0
+CountStays = (text masked : List ℕ) → IsMaskedText text masked → newline_count masked ≡ newline_count text
+
+-- a text has one masked text
+abbrev pub OneMaskedText : Type 0
+OneMaskedText = (text a b : List ℕ) → IsMaskedText text a → IsMaskedText text b → a ≡ b
+
+-- no command fits what stands in place of `list`, with whichever arguments
+abbrev pub NothingFits : Type 0
+NothingFits = (command arguments : List ℕ) → command_fits (atoms.Command (map plain no_path) None) command arguments ≡ false

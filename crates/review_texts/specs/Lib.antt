@@ -1,0 +1,5 @@
+pub mod Options
+pub mod Places
+pub mod Masks
+pub mod MaskedTexts
+pub mod Laws

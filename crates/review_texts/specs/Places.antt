@@ -1,0 +1,100 @@
+-- Where a form stands that is refused by name and can be masked: for both forms the line up to it, with nothing or with a
+-- command in its place, is itself read, and what is read says that a command has to stand there.
+use Rattle.std.specs.Prelude.{◌≡◌, ℕ, ◌+◌, ◌-◌, Bool, true, false, ◌&&◌, ◌||◌, ◌==◌, nat_eq, nat_le, if◌then◌else◌}
+use Rattle.std.specs.Prelude.{List, [], ◌++◌, length, take, drop, slice_get, slice_index, codes, Option, None, Some}
+use Rattle.std.specs.List.{starts_with}
+use Rattle.std.specs.Option.{option_and_then, option_map}
+use Rattle.sudo_text.specs.declared.line.Line.{Line}
+use Rattle.sudo_text.specs.Bytes.{is_blank}
+use Rattle.sudo_text.specs.Pieces.{skip}
+use Rattle.sudo_text.specs.Rules.{begins_defaults}
+use Rattle.sudo_grammar.specs.declared.kind.Member.{Member}
+use Rattle.sudo_grammar.specs.declared.policy.Binding.TheVariants as bindings
+use Rattle.sudo_grammar.specs.declared.policy.CommandSpec.{CommandSpec}
+use Rattle.sudo_grammar.specs.declared.policy.EntryBody.{EntryBody}
+use Rattle.sudo_grammar.specs.declared.policy.EntryBody.TheVariants as entries
+use Rattle.sudo_grammar.specs.declared.fault.ParseFault.TheVariants as faults
+use Rattle.sudo_grammar.specs.declared.fault.Unsupported.{Unsupported}
+use Rattle.sudo_grammar.specs.States.{Room}
+use Rattle.sudo_parser.specs.Parsed.{room_after, IsEntryOf, IsGrammarFaultOf}
+use Rattle.review_texts.specs.Options.{name_end, spells_option}
+
+-- the room for definitions of a line that stands alone
+abbrev pub whole_room : Room
+whole_room = room_after []
+
+-- the line, by itself, is a written form of the entry
+abbrev pub IsEntryIn : Line → EntryBody → Type 0
+IsEntryIn line entry = IsEntryOf whole_room line (Some entry)
+
+-- the line, by itself, is refused for the form by name, as unsupported
+abbrev pub IsRefusedFor : Line → Unsupported → Type 0
+IsRefusedFor line form = IsGrammarFaultOf whole_room line (faults.Unsupported line.first form)
+
+-- the text, without joins, at the place of the line
+abbrev pub with_text : Line → List ℕ → Line
+with_text line text = record { first = line.first; text = text; joins = [] }
+
+abbrev pub last : {A : Type 0} → List A → Option A
+last xs = slice_get xs (length xs - 1)
+
+-- the last command of a rule, with what stands before it
+abbrev pub last_spec : EntryBody → Option CommandSpec
+last_spec (entries.Rule users sections) = option_and_then (λ s. last s.commands) (last sections)
+last_spec _ = None
+
+-- the command has neither a tag nor `!` before it, and begins at an offset
+abbrev pub is_bare_at : ℕ → Option CommandSpec → Bool
+is_bare_at at None = false
+is_bare_at at (Some spec) =
+    (length spec.tags == 0) && (spec.command.bangs == 0) && (spec.command.token.start == at)
+
+-- An option stands at an offset: it is spelled there, and the line up to its name is a rule in which the name is the
+-- last command, as that of an alias, with neither a tag nor `!` before it. So a command has to stand there, and after a
+-- runas and other options an option may.
+pub record StandsOption (line : Line) (at : ℕ) : Type 0 where
+  pub spelled : spells_option line.text at ≡ true
+  pub entry : EntryBody
+  pub read : IsEntryIn (with_text line (take (name_end line.text at) line.text)) entry
+  pub bare : is_bare_at at (last_spec entry) ≡ true
+
+-- the last member of the list that ends a line, if it is a list of commands, or of the list to which a Defaults line is
+-- bound, if it is one
+abbrev pub last_command : EntryBody → Option Member
+last_command (entries.Rule users sections) = option_map (λ s. s.command) (last_spec (entries.Rule users sections))
+last_command (entries.Aliases kind definitions) = option_and_then (λ d. last d.members) (last definitions)
+last_command (entries.Defaults (Some (bindings.Commands members)) parameters) = last members
+last_command _ = None
+
+abbrev pub begins_at : ℕ → Option Member → Bool
+begins_at at None = false
+begins_at at (Some member) = member.token.start == at
+
+-- what stands in place of `list`: a path that no command has, since its brackets have no character
+abbrev pub no_path : List ℕ
+no_path = codes "/[z-a]"
+
+-- the line up to an offset, with that path there; a Defaults line goes on with a parameter
+abbrev pub with_path : List ℕ → ℕ → List ℕ
+with_path text at = (take at text ++ no_path) ++ (if begins_defaults text then codes " x" else [])
+
+-- the list of commands may go on or end at an offset, after a command without arguments
+abbrev pub may_follow : List ℕ → ℕ → Bool
+may_follow text at =
+    if begins_defaults text then is_blank (slice_index text at) || (slice_index text at == 44)
+    else nat_le (length text) (skip text at)
+    || (slice_index text (skip text at) == 44)
+    || (slice_index text (skip text at) == 58)
+    || (slice_index text (skip text at) == 35)
+
+-- `list` is spelled at an offset, and no argument follows it
+unfoldable pub spells_list : List ℕ → ℕ → Bool
+spells_list text at = starts_with nat_eq (drop at text) (codes "list") && may_follow text (at + 4)
+
+-- `list` stands at an offset as a command: it is spelled there, and the line up to it, with a path in its place, is read
+-- as a line that ends in a list of commands whose last one begins there
+pub record StandsList (line : Line) (at : ℕ) : Type 0 where
+  pub spelled : spells_list line.text at ≡ true
+  pub entry : EntryBody
+  pub read : IsEntryIn (with_text line (with_path line.text at)) entry
+  pub ends : begins_at at (last_command entry) ≡ true

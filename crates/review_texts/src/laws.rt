@@ -1,0 +1,23 @@
+//! Laws of masks.
+ghost use Rattle.review_texts.specs.Laws.{ReadIsLeft, LinesStay, CountStays, OneMaskedText, NothingFits};
+
+/// The text of a file that the fixed parser reads is left alone, byte for byte.
+pub fn read_lines_are_left_alone()
+    ensures { ReadIsLeft }
+{}
+
+/// Each line of a masked text begins at the physical line at which it was written, and no physical line is added or lost.
+pub fn lines_stay()
+    ensures places { LinesStay }
+    ensures count { CountStays }
+{}
+
+/// A text has at most one masked text.
+pub fn texts_have_one_mask()
+    ensures { OneMaskedText }
+{}
+
+/// No command fits what stands in place of `list`.
+pub fn no_command_is_listed()
+    ensures { NothingFits }
+{}

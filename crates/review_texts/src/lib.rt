@@ -1,0 +1,20 @@
+//! Texts that `sudo_audit` refuses by name, made readable.
+#![tactic(auto)]
+
+mod bytes;
+mod files;
+mod laws;
+mod mask;
+mod masks;
+mod options;
+mod places;
+mod reading;
+mod texts;
+#[cfg(test)]
+mod trials;
+
+pub use files::Masked;
+pub use laws::{lines_stay, no_command_is_listed, read_lines_are_left_alone, texts_have_one_mask};
+pub use mask::Mask;
+pub use masks::{mask_line, mask_of};
+pub use texts::mask_text;

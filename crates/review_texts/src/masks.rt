@@ -1,0 +1,144 @@
+//! The masks of a line.
+ghost use Rattle.std.specs.Prelude.{◌≡◌, ℕ, ◌≤◌, ◌<◌, ◌+◌, ◌++◌, length, IfOk, OnOk, MatchOption, IsTrue};
+ghost use Rattle.std.specs.List.{list_any};
+ghost use Rattle.review_texts.specs.Masks as spec;
+ghost use Rattle.review_texts.specs.Masks.{Stands, IsFirstStand, IsMask, IsUnmasked, IsMasked, IsBehind};
+
+use crate::Mask;
+use crate::bytes::{from, is_blank, newline_count, peek};
+use crate::places::{NO_PATH, stands, with_text};
+use crate::reading::refused_form;
+use std::alloc::{AllocError, Global};
+use sudo_grammar::Unsupported;
+use sudo_text::{Line, Seq, TEXT_LIMIT};
+
+// The most masks of a line, after its first.
+const MOST_MASKS: u32 = 256;
+
+// Whether neither a blank nor a comma stands before a join.
+fn is_tight(text: &[u8], join: u32) -> bool
+    ensures { result ≡ spec.is_tight text.now join }
+{
+    let before = peek(text, (join as usize).saturating_sub(1));
+    !(is_blank(before) || before == b',')
+}
+
+// Whether a line has such a join.
+fn has_tight_join(line: &Line) -> bool
+    ensures { result ≡ list_any (spec.is_tight line.now.text) line.now.joins }
+{
+    let text = line.text.as_slice();
+    line.joins
+        .as_slice()
+        .iter()
+        .any(|join| is_tight(text, *join))
+}
+
+// Whether a line has no such join, nor a newline, and there is room for a longer text.
+fn is_fit(line: &Line) -> bool
+    ensures fit { result ≡ spec.is_fit line.now }
+    ensures short { IsTrue result → length line.now.text + 4 ≤ TEXT_LIMIT }
+{
+    !has_tight_join(line)
+        && line.text.len() <= TEXT_LIMIT - 4
+        && newline_count(line.text.as_slice()) == 0
+}
+
+// Returns the first place at which a form stands, if it does. Returns `AllocError` if allocation fails.
+fn first_stand(alloc: Global, line: &Line, form: Unsupported) -> Result<Option<Mask>, AllocError>
+    requires { length line.now.text + 4 ≤ TEXT_LIMIT }
+    ensures { IfOk result (λ found. MatchOption found
+        ((start end : ℕ) → Stands line.now form start end → ⊥)
+        (λ mask. IsFirstStand line.now form mask)) }
+{
+    for at in 0..line.text.len() {
+        if let Some(end) = stands(alloc, line, form, at)? {
+            return Ok(Some(Mask {
+                form,
+                start: at,
+                end,
+            }));
+        }
+    }
+    Ok(None)
+}
+
+/// Returns the mask of a line, if it has one. Returns `AllocError` if allocation fails.
+pub fn mask_of(alloc: Global, line: &Line) -> Result<Option<Mask>, AllocError>
+    ensures { IfOk result (λ found. MatchOption found (IsUnmasked line.now)
+        (λ mask. IsMask line.now mask)) }
+{
+    if !is_fit(line) {
+        return Ok(None);
+    }
+    let Some(form) = refused_form(alloc, line)? else {
+        return Ok(None);
+    };
+    let found = first_stand(alloc, line, form)?;
+    Ok(found)
+}
+
+// Appends what stands in place of a form of a given length.
+fn push_replacement(
+    alloc: Global,
+    form: Unsupported,
+    len: usize,
+    text: &mut Seq<u8>,
+) -> Result<(), AllocError>
+    ensures { OnOk result (text.new ≡ text.old ++ spec.replacement form len) }
+{
+    match form {
+        Unsupported::CommandOption => {
+            let mut blanks = Vec::new(alloc);
+            blanks.resize(len, b' ')?;
+            text.append(Seq::from_vec(blanks))
+        }
+        Unsupported::List => text.extend_from_slice(NO_PATH),
+        _ => Ok(()),
+    }
+}
+
+// Returns a line with what stands in place of a mask. Returns `AllocError` if allocation fails.
+fn behind(alloc: Global, line: &Line, mask: &Mask) -> Result<Line, AllocError>
+    requires { mask.now.start ≤ length line.now.text }
+    ensures { IfOk result (λ masked. masked ≡ spec.behind line.now mask.now) }
+{
+    let bytes = line.text.as_slice();
+    let mut text = Seq::from_slice(alloc, &bytes[..mask.start])?;
+    push_replacement(
+        alloc,
+        mask.form,
+        mask.end.saturating_sub(mask.start),
+        &mut text,
+    )?;
+    text.extend_from_slice(from(bytes, mask.end))?;
+    Ok(with_text(alloc, line, text))
+}
+
+// Returns a line behind its masks, at most so many, one after another. Returns `AllocError` if allocation fails.
+fn behind_masks(alloc: Global, most: u32, line: Line) -> Result<Line, AllocError>
+    ensures { IfOk result (λ masked. IsBehind most line masked) }
+{
+    let mut line = line;
+    let mut left = most;
+    while left > 0 {
+        let Some(mask) = mask_of(alloc, &line)? else {
+            return Ok(line);
+        };
+        line = behind(alloc, &line, &mask)?;
+        left -= 1;
+    }
+    Ok(line)
+}
+
+/// Returns a line behind all its masks, or `None` if it has none. Returns `AllocError` if allocation fails.
+pub fn mask_line(alloc: Global, line: &Line) -> Result<Option<Line>, AllocError>
+    ensures { IfOk result (λ found. MatchOption found (IsUnmasked line.now)
+        (λ masked. IsMasked line.now masked)) }
+{
+    let Some(mask) = mask_of(alloc, line)? else {
+        return Ok(None);
+    };
+    let masked = behind(alloc, line, &mask)?;
+    Ok(Some(behind_masks(alloc, MOST_MASKS, masked)?))
+}

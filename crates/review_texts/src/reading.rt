@@ -1,0 +1,68 @@
+//! What a line by itself is read as.
+ghost use Rattle.std.specs.Prelude.{◌≡◌, ◌≢◌, ◌≤◌, length, IfOk, MatchOption, None};
+ghost use Rattle.sudo_text.specs.declared.line.Place.{Place as APlace};
+ghost use Rattle.sudo_grammar.specs.declared.policy.EntryBody.{EntryBody as AnEntry};
+ghost use Rattle.sudo_grammar.specs.declared.fault.Unsupported.{Unsupported as AForm};
+ghost use Rattle.review_texts.specs.Places.{IsEntryIn, IsRefusedFor};
+
+use std::alloc::{AllocError, Global};
+use std::slice;
+use sudo_grammar::{EntryBody, ParseFault, Unsupported};
+use sudo_parser::parse;
+use sudo_text::{Line, TEXT_LIMIT};
+
+// Returns `AllocError` for the fault of a failed allocation, and nothing for any other.
+fn unless_memory(fault: ParseFault) -> Result<(), AllocError>
+    ensures { IfOk result (λ _. fault ≢ ParseFault.Memory) }
+{
+    match fault {
+        ParseFault::Memory => Err(AllocError),
+        _ => Ok(()),
+    }
+}
+
+// Returns the form that a fault names as unsupported, if it does.
+fn named_form(fault: &ParseFault) -> Option<Unsupported>
+    ensures { MatchOption result
+        ((place : APlace) (form : AForm) → fault.now ≢ ParseFault.Unsupported place form)
+        (λ form. (place : APlace) × (fault.now ≡ ParseFault.Unsupported place form)) }
+{
+    match fault {
+        ParseFault::Unsupported { what, .. } => Some(*what),
+        _ => None,
+    }
+}
+
+/// Returns the entry of which a line by itself is a written form, if there is one. Returns `AllocError` if allocation fails.
+pub(crate) fn entry_in(alloc: Global, line: &Line) -> Result<Option<EntryBody>, AllocError>
+    requires { length line.now.text ≤ TEXT_LIMIT }
+    ensures { IfOk result (λ found. MatchOption found
+        ((entry : AnEntry) → IsEntryIn line.now entry → ⊥)
+        (λ entry. IsEntryIn line.now entry)) }
+{
+    match parse(alloc, slice::from_ref(line)) {
+        Ok(mut entries) => match entries.pop() {
+            Some(entry) => Ok(Some(entry.body)),
+            None => Ok(None),
+        },
+        Err(fault) => {
+            unless_memory(fault)?;
+            Ok(None)
+        }
+    }
+}
+
+/// Returns the form for which a line by itself is refused by name, if it is. Returns `AllocError` if allocation fails.
+pub(crate) fn refused_form(alloc: Global, line: &Line) -> Result<Option<Unsupported>, AllocError>
+    requires { length line.now.text ≤ TEXT_LIMIT }
+    ensures { IfOk result (λ found. MatchOption found
+        ((form : AForm) → IsRefusedFor line.now form → ⊥)
+        (λ form. IsRefusedFor line.now form)) }
+{
+    let fault = match parse(alloc, slice::from_ref(line)) {
+        Ok(_) => return Ok(None),
+        Err(fault) => fault,
+    };
+    unless_memory(fault)?;
+    Ok(named_form(&fault))
+}

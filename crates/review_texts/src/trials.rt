@@ -1,0 +1,143 @@
+//! Texts before and behind their masks. Many lines are those of sudo's own tests.
+
+use crate::mask_text;
+use std::alloc::{AllocError, Global};
+use std::test::Fail;
+
+// Whether the masked text of each text is the other.
+fn are_masked(alloc: Global, rows: &[(&str, &str)]) -> Result<bool, AllocError> {
+    for (text, wanted) in rows {
+        let masked = mask_text(alloc, text.as_bytes())?;
+        if masked.as_slice() != wanted.as_bytes() {
+            return Ok(false);
+        }
+    }
+    Ok(true)
+}
+
+// Whether each text stays as it is.
+fn are_kept(alloc: Global, texts: &[&str]) -> Result<bool, AllocError> {
+    for text in texts {
+        if mask_text(alloc, text.as_bytes())?.as_slice() != text.as_bytes() {
+            return Ok(false);
+        }
+    }
+    Ok(true)
+}
+
+#[test]
+fn options_become_blanks(rt: HostRuntime) -> Result<(), Fail> {
+    let rows = [
+        (
+            "alice ALL = CWD=/srv NOPASSWD: /bin/ls\n",
+            "alice ALL =          NOPASSWD: /bin/ls\n",
+        ),
+        (
+            "a ALL = (bob) ROLE=r_r TYPE = t ALL\n",
+            "a ALL = (bob)                   ALL\n",
+        ),
+        (
+            "user1\tALL = CWD=~root /usr/bin/id, CWD=/tmp /bin/ls",
+            "user1\tALL =           /usr/bin/id,          /bin/ls",
+        ),
+        (
+            "u ALL = TIMEOUT=7D4H10M30S /b, /c, TIMEOUT=0 /d",
+            "u ALL =                    /b, /c,           /d",
+        ),
+        (
+            "u ALL = TIMEOUT=14d /b: web = TIMEOUT=45 ALL",
+            "u ALL =             /b: web =            ALL",
+        ),
+        (
+            "u ALL = CWD=* /bin/ls a CWD=/x b",
+            "u ALL =       /bin/ls a CWD=/x b",
+        ),
+        (
+            "CWD ALL = CWD=/x ALL # CWD=/x ALL",
+            "CWD ALL =        ALL # CWD=/x ALL",
+        ),
+        (
+            "u ALL = PRIVS=p LIMITPRIVS=p APPARMOR_PROFILE=p ALL",
+            "u ALL =                                         ALL",
+        ),
+    ];
+    assert!(rt; are_masked(rt.alloc(), &rows)?);
+    Ok(())
+}
+
+#[test]
+fn a_list_becomes_a_path(rt: HostRuntime) -> Result<(), Fail> {
+    let rows = [
+        ("user1 ALL = list\n", "user1 ALL = /[z-a]\n"),
+        (
+            "list list = (list : list) list",
+            "list list = (list : list) /[z-a]",
+        ),
+        (
+            "a ALL = !list, NOPASSWD: list: web = list # list",
+            "a ALL = !/[z-a], NOPASSWD: /[z-a]: web = /[z-a] # list",
+        ),
+        ("a ALL = /bin/ls list, list", "a ALL = /bin/ls list, /[z-a]"),
+        (
+            "Cmnd_Alias A = list : B = /bin/ls, list",
+            "Cmnd_Alias A = /[z-a] : B = /bin/ls, /[z-a]",
+        ),
+        (
+            "Defaults!list,/bin/ls !env_reset",
+            "Defaults!/[z-a],/bin/ls !env_reset",
+        ),
+        (
+            "a ALL = TIMEOUT=5 list, CWD=/x !list",
+            "a ALL =           /[z-a],        !/[z-a]",
+        ),
+    ];
+    assert!(rt; are_masked(rt.alloc(), &rows)?);
+    Ok(())
+}
+
+#[test]
+fn lines_stay_at_their_places(rt: HostRuntime) -> Result<(), Fail> {
+    let rows = [
+        (
+            "# a\n  u ALL = list, \\\n  TIMEOUT=5 \\\n\t/bin/ls\n\n",
+            "# a\nu ALL = /[z-a],           /bin/ls\n\n\n\n",
+        ),
+        (
+            "u ALL = list\nb ALL = \\\n ALL\r\n",
+            "u ALL = /[z-a]\nb ALL = \\\n ALL\r\n",
+        ),
+        ("u ALL = list, \\\n list", "u ALL = /[z-a], /[z-a]\n"),
+        ("\n\nu ALL = list\r\n\n", "\n\nu ALL = /[z-a]\n\n"),
+    ];
+    assert!(rt; are_masked(rt.alloc(), &rows)?);
+    Ok(())
+}
+
+#[test]
+fn what_sudo_refuses_stays(rt: HostRuntime) -> Result<(), Fail> {
+    let texts = [
+        "u ALL = TIMEOUT=7dd4h10m30s /b",
+        "u ALL = TIMEOUT=7d4h10mm30s /b",
+        "u ALL = TIMEOUT=4hg10m30s /b",
+        "u ALL = TIMEOUT=10m30ss /b",
+        "u ALL = TIMEOUT=14g /b",
+        "u ALL = NOPASSWD: CWD=/x /b",
+        "u ALL = !CWD=/x /b",
+        "u ALL = CWD=x /b",
+        "u ALL = CWD=\"/x\" /b",
+        "u ALL = CWD=/x, /b",
+        "u ALL = CWD=/x",
+        "u ALL = CWD=/x (root) /b",
+        "u ALL = ROLE=R /b",
+        "u ALL = TYPE=sudoedit /b",
+        "Cmnd_Alias X = CWD=/x /b",
+        "u ALL = list x",
+        "u ALL = \"list\"",
+        "u ALL = CHROOT=/x CWD=/y /b",
+        "foo ALL = CWD=~ron /bin/ls \\\n",
+        "u ALL = CWD=/x\\\n/y /b",
+        "Defaults!list",
+    ];
+    assert!(rt; are_kept(rt.alloc(), &texts)?);
+    Ok(())
+}
