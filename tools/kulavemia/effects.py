@@ -40,7 +40,7 @@ _CLASSES = {
     "quoted-host": Effect(WHO, _NAMES),
     "quoted-escape": Effect(WHO, _NAMES),
     "linked": Effect(COMMANDS, _LISTED),
-    "unknown-parameter": Effect(OTHER, "sudo passes over it too, with a warning. If another parameter was meant, it has no effect."),
+    "unknown-parameter": Effect(OTHER, "sudo passes over it too, with a warning. A parameter that was meant has no effect."),
     "sudoedit": Effect(COMMANDS, _LISTED),
     "network": Effect(WHO, _NAMES),
     "bracket": Effect(WHO, _NAMES),
