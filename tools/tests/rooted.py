@@ -99,9 +99,10 @@ def full_page() -> Page:
     return page
 
 
-def large_page(users: int, hosts: int) -> Page:
-    """Returns a page on which hundreds of kinds of users reach different hosts by hundreds of rules."""
-    names, machines = [f"user{user}" for user in range(users)], [f"host{host}.example.org" for host in range(hosts)]
+def large_page(users: int, hosts: int, start: str = "") -> Page:
+    """Returns a page on which hundreds of kinds of users reach different hosts by hundreds of rules; names have a start."""
+    names = [f"{start}user{user}" for user in range(users)]
+    machines = [f"{start}host{host}.example.org" for host in range(hosts)]
     roots = Roots(names, machines, Grants([], names, machines), False)
     rows = (
         way(names[user], machines[host], "all" if (user + host) % 2 else "listed", place=f"policy:{(user * 31 + host) % 300 + 1}")

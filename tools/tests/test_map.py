@@ -281,7 +281,7 @@ class InABrowser(Case):
                 self.choose(browser, "#heat td.all-but button")
                 self.assertEqual(browser.run("return innerWidth"), width)
                 self.assertEqual((browser.run(OVERFLOWS), browser.run(BROKEN)), ([], 0))
-                self.open(browser, large_page(300, 60))
+                self.open(browser, large_page(300, 60, "W" * 40))
                 self.choose(browser, "#heat td button")
                 self.assertEqual((browser.run(OVERFLOWS), browser.run(BROKEN)), ([], 0))
 

@@ -39,6 +39,11 @@
   const FEW_HOSTS = 3;
   const CELL_WIDTH = 40;
   const LABEL_LIMIT = 24;
+  const NARROW_LABEL_LIMIT = 14;
+  const NARROW = 800;
+  const WIDE = 1000;
+  // The least width of the answer beside the map, with the gap between them, as the style has them.
+  const ANSWER_WIDTH = 360;
   const GRANTS_SHOWN = 200;
   const { users, hosts, cells, grants, rows, rowOf } = data.roots;
   const counted = (count, one) => `${number(count)} ${one}${count === 1 ? "" : "s"}`;
@@ -149,8 +154,8 @@
     view.hostAt = Math.min(view.hostAt, Math.max(0, view.hosts.length - 1));
     find("map-found").textContent = `${counted(userList.length, "user")} in ${counted(view.users.length, "row")}, ` +
       `${counted(hostList.length, "host")} in ${counted(view.hosts.length, "column")}`;
-    drawOverview();
     drawTable();
+    drawOverview();
   };
 
   const worst = (userGroup, hostGroup) => cellsOf(rowOf[userGroup[0]])[hostGroup[0]];
@@ -164,11 +169,10 @@
     return parts;
   });
 
-  // How many columns fit, so that the table is never wider than the page.
-  const hostsShown = () => {
-    const width = find("map").clientWidth - (window.innerWidth > 1000 ? 700 : 200);
-    return Math.max(1, Math.min(MOST_HOSTS, Math.floor(width / CELL_WIDTH)));
-  };
+  // How many columns fit, so that the table is never wider than its place; wide names leave less room for them.
+  let columns = MOST_HOSTS;
+  const hostsShown = () => columns;
+  const roomForTable = () => find("map").clientWidth - (window.innerWidth > WIDE ? ANSWER_WIDTH : 0);
 
   // Draws all rows and columns, a point each; where there are too many for it, the most that any of them reaches.
   const drawOverview = () => {
@@ -205,7 +209,8 @@
 
   const label = (group, names) => {
     const first = names[group[0]];
-    const cut = first.length > LABEL_LIMIT ? `${first.slice(0, LABEL_LIMIT)}…` : first;
+    const limit = window.innerWidth < NARROW ? NARROW_LABEL_LIMIT : LABEL_LIMIT;
+    const cut = first.length > limit ? `${first.slice(0, limit)}…` : first;
     return group.length > 1 ? `${cut} +${group.length - 1}` : cut;
   };
 
@@ -231,10 +236,20 @@
   };
 
   const drawTable = () => {
+    columns = Math.max(1, Math.min(MOST_HOSTS, Math.floor(roomForTable() / CELL_WIDTH)));
+    drawCells();
+    const over = find("heat").offsetWidth - roomForTable();
+    if (over > 0 && columns > 1) {
+      columns = Math.max(1, columns - Math.ceil(over / CELL_WIDTH));
+      drawCells();
+    }
+    drawSteps();
+  };
+
+  const drawCells = () => {
     const table = find("heat");
-    const width = hostsShown();
     const shownUsers = view.users.slice(view.userAt, view.userAt + USERS_SHOWN);
-    const shownHosts = view.hosts.slice(view.hostAt, view.hostAt + width);
+    const shownHosts = view.hosts.slice(view.hostAt, view.hostAt + columns);
     const head = make("tr");
     head.append(make("th", "User"));
     for (const group of shownHosts) {
@@ -243,17 +258,22 @@
       cell.className = "host";
       head.append(cell);
     }
-    table.className = shownHosts.length > FEW_HOSTS || window.innerWidth < 800 ? "many" : "few";
+    table.className = shownHosts.length > FEW_HOSTS || window.innerWidth < NARROW ? "many" : "few";
     table.tHead.replaceChildren(head);
     table.tBodies[0].replaceChildren(...shownUsers.map((group) => tableRow(group, shownHosts)));
-    find("users-at").textContent = range(view.userAt, shownUsers.length, view.users.length, "row");
-    find("hosts-at").textContent = range(view.hostAt, shownHosts.length, view.hosts.length, "column");
+  };
+
+  const drawSteps = () => {
+    const shownUsers = Math.min(USERS_SHOWN, view.users.length - view.userAt);
+    const shownHosts = Math.min(columns, view.hosts.length - view.hostAt);
+    find("users-at").textContent = range(view.userAt, shownUsers, view.users.length, "row");
+    find("hosts-at").textContent = range(view.hostAt, shownHosts, view.hosts.length, "column");
     find("users-before").disabled = view.userAt === 0;
     find("hosts-before").disabled = view.hostAt === 0;
     find("users-after").disabled = view.userAt + USERS_SHOWN >= view.users.length;
-    find("hosts-after").disabled = view.hostAt + width >= view.hosts.length;
+    find("hosts-after").disabled = view.hostAt + columns >= view.hosts.length;
     find("users-steps").hidden = view.users.length <= USERS_SHOWN;
-    find("hosts-steps").hidden = view.hosts.length <= width;
+    find("hosts-steps").hidden = view.hosts.length <= columns;
   };
 
   const range = (at, count, total, what) => `${number(total ? at + 1 : 0)}–${number(at + count)} of ${counted(total, what)}`;
