@@ -10,7 +10,8 @@ use sudo_policy::check;
 use sudo_text::Seq;
 
 // The names of the columns.
-const HEADER: &str = "users,hosts,runas_user,runas_group,answer,command,arguments,old,old_place,old_tags,\
+const HEADER: &str =
+    "users,hosts,runas_user,runas_group,answer,command,arguments,old,old_place,old_tags,\
 new,new_place,new_tags\n";
 
 fn group(alloc: Global, name: &[u8], gid: u32) -> Result<Group, AllocError> {
@@ -74,8 +75,13 @@ alice,web1,operator,operator,gained,/bin/su,,deny,sudoers:1,,allow,sudoers:2,\n"
 #[test]
 fn patterns_that_overlap_may_differ(rt: HostRuntime) -> Result<(), Fail> {
     let old = "alice web2 = (operator) /bin/*a*, !/bin/*b*\n";
-    let text = table(rt.alloc(), old, "alice web2 = (operator) !/bin/*b*, /bin/*a*\n")?;
-    let wanted: &[u8] = b"alice,web2,operator,,may,\"/bin/*b*, /bin/*a*\",,deny,sudoers:1,,allow,sudoers:1,\n\
+    let text = table(
+        rt.alloc(),
+        old,
+        "alice web2 = (operator) !/bin/*b*, /bin/*a*\n",
+    )?;
+    let wanted: &[u8] =
+        b"alice,web2,operator,,may,\"/bin/*b*, /bin/*a*\",,deny,sudoers:1,,allow,sudoers:1,\n\
 alice,web2,operator,operator,may,\"/bin/*b*, /bin/*a*\",,deny,sudoers:1,,allow,sudoers:1,\n";
     assert_eq!(rt; text.as_slice(), wanted);
     Ok(())

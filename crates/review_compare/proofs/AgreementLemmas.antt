@@ -110,7 +110,7 @@ module _ {A O : Type 0} (t : Tests A O) (fits : A → Bool) (sound : AreSound t 
 
   possible :
       (v w : Way A O) → Fitting v.by → Fitting w.by → list_any f v.later ≡ false → list_any f w.later ≡ false →
-          is_impossible t v w ≡ true → ⊥
+      is_impossible t v w ≡ true → ⊥
   possible v w h i a b e =
       neither_way v.by w.by (v.later ++ w.later) h i
       (list_any-append f v.later w.later ∙ or_from (list_any f v.later) (list_any f w.later) a b) e

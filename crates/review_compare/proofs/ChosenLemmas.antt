@@ -71,7 +71,7 @@ none-if p q false o e = refl
 none-if p q true None e = refl
 none-if p q true (Some b) e =
     ap (λ v. cond ((v && host_allowed p b.hosts.now q.host) && runas_allows p q (option_copied b.runas)) (map
-        (block_decider b) b.rows.items) []) e
+    (block_decider b) b.rows.items) []) e
 
 pub no-user : (p : Policy) (bs : List Block) (u : Person) (q : Question) (on : ℕ → Bool) (i : ℕ) → q.user ≡ u → user_at p bs u i ≡ false →
     standing_at p bs q on i ≡ []
@@ -82,7 +82,7 @@ none-on p q false o e = refl
 none-on p q true None e = refl
 none-on p q true (Some b) e =
     ap (λ v. cond ((user_allowed p b.users.now q.user && v) && runas_allows p q (option_copied b.runas)) (map
-        (block_decider b) b.rows.items) []) e
+    (block_decider b) b.rows.items) []) e
     ∙ go (user_allowed p b.users.now q.user)
   where
     go : (v : Bool) → cond ((v && false) && runas_allows p q (option_copied b.runas)) (map (block_decider b) b.rows.items) [] ≡ []
@@ -158,7 +158,7 @@ answers w = w.decider
 block-stands : (p : Policy) (q : Question) (b : Block) → map answers (filter (wide_stands p q) (block_wides b)) ≡ standing p q b
 block-stands p q b =
     ap (map answers) (filter-constant (wide_stands p q) (block_wide b) (block_stands p q b) (λ r. refl) b.rows.items)
-        ∙ go (block_stands p q b)
+    ∙ go (block_stands p q b)
   where
     go : (s : Bool) → map answers (cond s (map (block_wide b) b.rows.items) []) ≡ cond s (map (block_decider b) b.rows.items) []
     go true = map-twice answers (block_wide b) b.rows.items
@@ -180,7 +180,7 @@ blocks-decide p q bs are =
     ∙ map-twice answers wide_of (filter (λ g. wide_stands p q (wide_of g)) (grants p))
     ∙ ap (map decider_of)
     (sym (filter-twice (λ (g : Grant). runas_allows p q g.runas) (is_row p q.user q.host) (λ g. wide_stands p q (wide_of g)) (λ g. refl)
-        (grants p)))
+    (grants p)))
 
 -- ---- The block at an index
 

@@ -120,7 +120,7 @@ star_run s p q each (b ∷ t) h = go (or_cases (fits q (b ∷ t) s) (later s q (
 
 star_sound :
     (s : Slash) (p : List Part) (rest : List Part → Bool) → ((q : List Part) (t : List ℕ) → rest q ≡ true → fits q t s ≡ true →
-        fits p t s ≡ true) →
+    fits p t s ≡ true) →
     (q : List Part) (t : List ℕ) → star_covers s rest q ≡ true → fits q t s ≡ true → fits (Star ∷ p) t s ≡ true
 unfolding fits
 star_sound s p rest each [] t e h = star_empty s p t (each [] t e h)
@@ -254,7 +254,7 @@ slash_same Not Any e = cc
 
 arguments_sound :
     (s r : Slash) (a b : Option (List Ch)) (x : List ℕ) → arguments_cover s r a b ≡ true → arguments_fit r b x ≡ true →
-        arguments_fit s a x ≡ true
+    arguments_fit s a x ≡ true
 arguments_sound s r None b x e h = refl
 arguments_sound s r (Some cs) None x e h = cc
 arguments_sound s r (Some cs) (Some ds) x e h = go (no_arguments ds) (no_arguments cs) refl e h
@@ -272,7 +272,7 @@ arguments_sound s r (Some cs) (Some ds) x e h = go (no_arguments ds) (no_argumen
 
 arguments_apart :
     (s r : Slash) (a b : Option (List Ch)) (x : List ℕ) → arguments_disjoint s r a b ≡ true → arguments_fit s a x ≡ true →
-        arguments_fit r b x ≡ false
+    arguments_fit r b x ≡ false
 arguments_apart s r None b x e h = cc
 arguments_apart s r (Some cs) None x e h = cc
 arguments_apart s r (Some cs) (Some ds) x e h = go (no_arguments ds) (no_arguments cs) refl refl e
@@ -280,13 +280,13 @@ arguments_apart s r (Some cs) (Some ds) x e h = go (no_arguments ds) (no_argumen
     clash : (l : List ℕ) → arguments_fit s (Some cs) x ≡ true → x ≡ l → not (arguments_fit s (Some cs) l) ≡ true → ⊥
     clash l h same e =
         let no : arguments_fit s (Some cs) x ≡ false = ap (λ l. arguments_fit s (Some cs) l) same
-            ∙ not-true (arguments_fit s (Some cs) l) e in
+        ∙ not-true (arguments_fit s (Some cs) l) e in
         let bad : true ≡ false = sym h ∙ no in cc
 
     go :
         (n m : Bool) → no_arguments ds ≡ n → no_arguments cs ≡ m →
         cond n (not (arguments_fit s (Some cs) [])) (cond m (not (arguments_fit r (Some ds) [])) (parts_disjoint s r (parts cs)
-            (parts ds))) ≡ true →
+        (parts ds))) ≡ true →
         arguments_fit r (Some ds) x ≡ false
     go true m f g e =
         turned (arguments_fit r (Some ds) x)
@@ -305,7 +305,7 @@ unfolding command_fits
 covers_sound atom.All a c x e h = refl
 covers_sound (atom.Command path args) (atom.Command other more) c x e h =
     let both = and_parts (parts_cover Not (parts (path_chars path)) (parts (path_chars other))) (arguments_cover (arguments_slash path)
-        (arguments_slash other) args more) e in
+    (arguments_slash other) args more) e in
     let held = and_parts (fits (parts (path_chars other)) c Not) (arguments_fit (arguments_slash other) more x) h in
     and_from (fits (parts (path_chars path)) c Not) (arguments_fit (arguments_slash path) args x)
     (parts_sound Not (parts (path_chars path)) (parts (path_chars other)) c both.0 held.0)
@@ -317,12 +317,12 @@ unfolding command_fits
 disjoint_is_sound (atom.Command path args) (atom.Command other more) c x e h =
     let held = and_parts (fits (parts (path_chars path)) c Not) (arguments_fit (arguments_slash path) args x) h in
     go held.0 held.1 (or_cases (parts_disjoint Not Not (parts (path_chars path)) (parts (path_chars other))) (arguments_disjoint
-        (arguments_slash path) (arguments_slash other) args more) e)
+    (arguments_slash path) (arguments_slash other) args more) e)
   where
     go :
         fits (parts (path_chars path)) c Not ≡ true → arguments_fit (arguments_slash path) args x ≡ true →
         (parts_disjoint Not Not (parts (path_chars path)) (parts (path_chars other)) ≡ true) ⊎ (arguments_disjoint (arguments_slash path)
-            (arguments_slash other) args more ≡ true) →
+        (arguments_slash other) args more ≡ true) →
         (fits (parts (path_chars other)) c Not && arguments_fit (arguments_slash other) more x) ≡ false
     go h i (inl a) =
         and_left (fits (parts (path_chars other)) c Not) (arguments_fit (arguments_slash other) more x)

@@ -63,7 +63,7 @@ lists-same (x ∷ xs) (y ∷ ys) e =
 pub cells-same : (c d : Cell) → same_cell c d ≡ true → d ≡ c
 cells-same c d e =
     let both = and_parts ((c.user == d.user) && (c.host == d.host))
-        (same_number d.ask.target c.ask.target && same_number d.ask.group c.ask.group) e in
+    (same_number d.ask.target c.ask.target && same_number d.ask.group c.ask.group) e in
     let first = and_parts (c.user == d.user) (c.host == d.host) both.0 in
     let second = and_parts (same_number d.ask.target c.ask.target) (same_number d.ask.group c.ask.group) both.1 in
     let u : d.user ≡ c.user = sym (eqb-true c.user d.user first.0) in
@@ -147,7 +147,7 @@ one-added p rows new cell found adds is = record {
   where
     go : ((c : Cell) (f : Compared) → Finds rows c f → IsFound p.old.checked.now p.new.checked.now p.directory.now p.groups.now c f) →
         (c : Cell) (f : Compared) → Finds rows c f ⊎ ((same_cell cell c ≡ true) × (found ≡ f)) →
-            IsFound p.old.checked.now p.new.checked.now p.directory.now p.groups.now c f
+        IsFound p.old.checked.now p.new.checked.now p.directory.now p.groups.now c f
     go right c f (inl e) = right c f e
     go right c f (inr e) = rw (cells-same cell c e.0, sym e.1) is
 
@@ -166,7 +166,7 @@ pub spot-same : (p : Pair) (rows : List Row) (s : Spot) (a : Ask) (f : Compared)
 spot-same p rows s a f at is same =
     let q = question_of p s a in
     let nothing : IsCompared (deciders p.old.checked.now q) (deciders p.new.checked.now q) compared.Same = subst (λ g. IsCompared
-        (deciders p.old.checked.now q) (deciders p.new.checked.now q) g) same is in
+    (deciders p.old.checked.now q) (deciders p.new.checked.now q) g) same is in
     let says : SaySame p.old.checked.now p.new.checked.now q = rows_say_same p.old.checked.now p.new.checked.now q nothing in
     nothing-added p rows (λ c. c ≡ cell_at s a)
     (λ c here. rw (here, spot-question p s a at) says)
@@ -184,7 +184,7 @@ pub ask-more : (p : Pair) (rows new : List Row) (s : Spot) (asks : List Ask) (k 
     Progress p [] new (IsOn s.user s.host (take (k + 1) asks))
 ask-more p rows new s asks k less a is so_far one =
     went-on p [] rows new (IsOn s.user s.host (take k asks)) (λ c. c ≡ cell_at s a) (IsOn s.user s.host (take
-        (k + 1) asks)) either so_far one
+    (k + 1) asks)) either so_far one
   where
     split : (c : Cell) → c.user ≡ s.user → c.host ≡ s.host → Contains (take k asks) c.ask ⊎ (a ≡ c.ask) →
         IsOn s.user s.host (take k asks) c ⊎ (c ≡ cell_at s a)
@@ -239,7 +239,7 @@ all-added p rows more new P own absorbs = record {
   where
     go : ((c : Cell) (f : Compared) → Finds rows c f → IsFound p.old.checked.now p.new.checked.now p.directory.now p.groups.now c f) →
         (c : Cell) (f : Compared) → Finds rows c f ⊎ Finds more c f →
-            IsFound p.old.checked.now p.new.checked.now p.directory.now p.groups.now c f
+        IsFound p.old.checked.now p.new.checked.now p.directory.now p.groups.now c f
     go right c f (inl e) = right c f e
     go right c f (inr e) = own.right (λ d g none. absurd none) c f e
 
@@ -298,9 +298,13 @@ pub hosts-all : (p : Pair) (rows : List Row) (scope : Option Machine) (user n : 
 hosts-all p rows scope user n asks all so_far = record {
   kept = so_far.kept;
   right = so_far.right;
-  done = λ c at. so_far.done c
-      (at.own, (let less = there-of (is_host_if scope) p.directory.now.machines c.host refl at.on in omega
-          (arith, less, all)), at.asked, at.on);
+  done = λ c at. so_far.done c (
+    at.own,
+    (let less = there-of (is_host_if scope) p.directory.now.machines c.host refl at.on in omega
+        (arith, less, all)),
+    at.asked,
+    at.on,
+  );
 }
 
 -- ---- Users
@@ -327,7 +331,7 @@ pub user-more : (p : Pair) (rows new : List Row) (about : Option Person) (scope 
     Progress p [] new (IsUserBefore p about scope (user + 1) asks)
 user-more p rows new about scope user asks so_far one =
     went-on p [] rows new (IsUserBefore p about scope user asks) (IsForUser p about scope user asks) (IsUserBefore p about scope
-        (user + 1) asks)
+    (user + 1) asks)
     (λ c at. go c at (less-or c.user user at.before)) so_far one
   where
     go : (c : Cell) → IsUserBefore p about scope (user + 1) asks c → (c.user < user) ⊎ (c.user ≡ user) →
@@ -341,7 +345,7 @@ users-none p about scope asks = started p [] (IsUserBefore p about scope 0 asks)
 
 pub users-all : (p : Pair) (rows : List Row) (about : Option Person) (scope : Option Machine) (n : ℕ) (asks : List Ask) →
     length p.directory.now.people ≤ n → Progress p [] rows (IsUserBefore p about scope n asks) →
-        Progress p [] rows (IsAsked p about scope asks)
+    Progress p [] rows (IsAsked p about scope asks)
 users-all p rows about scope n asks all so_far = record {
   kept = so_far.kept;
   right = so_far.right;

@@ -52,7 +52,7 @@ pub joined-users : (r s : Row) → (r.hosts ≡ s.hosts) × (r.targets ≡ s.tar
 joined-users r s like = record {
   cells = λ c.
       ap (λ v. (v && list_any (λ m. m == c.host) r.hosts) && (list_any (same_number c.ask.target) r.targets && list_any
-          (same_number c.ask.group) r.groups))
+      (same_number c.ask.group) r.groups))
       (list_any-append (λ u. u == c.user) r.users s.users)
       ∙ first-of (list_any (λ u. u == c.user) r.users) (list_any (λ u. u == c.user) s.users) (list_any (λ m. m == c.host) r.hosts)
       (list_any (same_number c.ask.target) r.targets) (list_any (same_number c.ask.group) r.groups)
@@ -71,7 +71,7 @@ pub joined-hosts : (r s : Row) → (r.users ≡ s.users) × (r.targets ≡ s.tar
 joined-hosts r s like = record {
   cells = λ c.
       ap (λ v. (list_any (λ u. u == c.user) r.users && v) && (list_any (same_number c.ask.target) r.targets && list_any
-          (same_number c.ask.group) r.groups))
+      (same_number c.ask.group) r.groups))
       (list_any-append (λ m. m == c.host) r.hosts s.hosts)
       ∙ second-of (list_any (λ u. u == c.user) r.users) (list_any (λ m. m == c.host) r.hosts) (list_any (λ m. m == c.host) s.hosts)
       (list_any (same_number c.ask.target) r.targets) (list_any (same_number c.ask.group) r.groups)
@@ -90,11 +90,11 @@ pub joined-targets : (r s : Row) → (r.users ≡ s.users) × (r.hosts ≡ s.hos
 joined-targets r s like = record {
   cells = λ c.
       ap (λ v. (list_any (λ u. u == c.user) r.users && list_any (λ m. m == c.host) r.hosts) && (v && list_any
-          (same_number c.ask.group) r.groups))
+      (same_number c.ask.group) r.groups))
       (list_any-append (same_number c.ask.target) r.targets s.targets)
       ∙ third-of (list_any (λ u. u == c.user) r.users && list_any (λ m. m == c.host) r.hosts)
       (list_any (same_number c.ask.target) r.targets) (list_any (same_number c.ask.target) s.targets) (list_any
-          (same_number c.ask.group) r.groups)
+      (same_number c.ask.group) r.groups)
       ∙ ap (λ us. has_cell r c || ((list_any (λ u. u == c.user) us && list_any (λ m. m == c.host) r.hosts)
       && (list_any (same_number c.ask.target) s.targets && list_any (same_number c.ask.group) r.groups))) like.0
       ∙ ap (λ hs. has_cell r c || ((list_any (λ u. u == c.user) s.users && list_any (λ m. m == c.host) hs)
@@ -110,11 +110,11 @@ pub joined-groups : (r s : Row) → (r.users ≡ s.users) × (r.hosts ≡ s.host
 joined-groups r s like = record {
   cells = λ c.
       ap (λ v. (list_any (λ u. u == c.user) r.users && list_any (λ m. m == c.host) r.hosts) && (list_any
-          (same_number c.ask.target) r.targets && v))
+      (same_number c.ask.target) r.targets && v))
       (list_any-append (same_number c.ask.group) r.groups s.groups)
       ∙ fourth-of (list_any (λ u. u == c.user) r.users && list_any (λ m. m == c.host) r.hosts)
       (list_any (same_number c.ask.target) r.targets) (list_any (same_number c.ask.group) r.groups) (list_any
-          (same_number c.ask.group) s.groups)
+      (same_number c.ask.group) s.groups)
       ∙ ap (λ us. has_cell r c || ((list_any (λ u. u == c.user) us && list_any (λ m. m == c.host) r.hosts)
       && (list_any (same_number c.ask.target) r.targets && list_any (same_number c.ask.group) s.groups))) like.0
       ∙ ap (λ hs. has_cell r c || ((list_any (λ u. u == c.user) s.users && list_any (λ m. m == c.host) hs)

@@ -73,13 +73,13 @@ all-ways : (ds es : List Decider) →
 all-ways [] es = refl
 all-ways (d ∷ ds) es =
     ap (λ b. b && list_all (λ v. list_all (λ w. answer_alike simple_tests v.by w.by || is_impossible simple_tests v w) (ways
-        (map ruling_by es)))
+    (map ruling_by es)))
     (ways_by_one (map ruling_by ds))) (whole-way d ds es)
     ∙ ap (λ b. one_agrees d ds es && b) (all-ways ds es)
 
 pub rows-pairs : (ds es : List Decider) → rows_agree ds es ≡ pairs_agree ds es
 rows-pairs ds es =
     ap (λ b. b && list_all (λ v. list_all (λ w. answer_alike simple_tests v.by w.by || is_impossible simple_tests v w) (ways
-        (map ruling_by es)))
+    (map ruling_by es)))
     (ways_by_one (map ruling_by ds))) (none-ways ds es)
     ∙ ap (λ b. none_agrees ds es && b) (all-ways ds es)

@@ -23,8 +23,11 @@ use Rattle.review_compare.proofs.CoveringLemmas.{covers_sound, disjoint_is_sound
 part-one : (c : Ch) (cs : List Ch) → is_plain 91 c ≡ false → part_at c cs ≡ (char_part c, 0)
 part-one c cs e = go (is_plain 42 c) (is_plain 63 c) refl refl
   where
-    go : (s q : Bool) → is_plain 42 c ≡ s → is_plain 63 c ≡ q → part_at c cs ≡ (cond (is_plain 42 c) Star (cond (is_plain 63 c)
-        (One AnyByte) (One (Only c.byte))), 0)
+    go : (s q : Bool) → is_plain 42 c ≡ s → is_plain 63 c ≡ q → part_at c cs ≡ (
+      cond (is_plain 42 c) Star (cond (is_plain 63 c)
+          (One AnyByte) (One (Only c.byte))),
+      0,
+    )
     go true q f g = part-star c cs f ∙ ap (λ b. (cond b Star (cond (is_plain 63 c) (One AnyByte) (One (Only c.byte))), 0)) (sym f)
     go false true f g =
         part-any c cs f g
@@ -132,7 +135,7 @@ given-disjoint s r (Some cs) (Some ds) e = go (no_arguments ds) (no_arguments cs
     go : (n m : Bool) → cond n (not (arguments_fit s (Some cs) [])) (cond m (not (arguments_fit r (Some ds) []))
         (chars_disjoint s r cs ds)) ≡ true
         → cond n (not (arguments_fit s (Some cs) [])) (cond m (not (arguments_fit r (Some ds) [])) (parts_disjoint s r (parts cs)
-            (parts ds))) ≡ true
+        (parts ds))) ≡ true
     go true m e = e
     go false true e = e
     go false false e = disjoint-parts s r cs ds e
@@ -147,7 +150,7 @@ covers_simply_sound (atom.Command path args) (atom.Command other more) c x e h =
   where
     go : ((same_chars path other && same_arguments args more) ≡ true)
         ⊎ ((chars_cover Not (path_chars path) (path_chars other) && given_cover (arguments_slash path)
-            (arguments_slash other) args more) ≡ true)
+        (arguments_slash other) args more) ≡ true)
         → command_fits (atom.Command path args) c x ≡ true
     go (inl same) =
         let both = and_parts (same_chars path other) (same_arguments args more) same in
@@ -155,10 +158,10 @@ covers_simply_sound (atom.Command path args) (atom.Command other more) c x e h =
         ∙ ap (λ (a : Option (List Ch)). command_fits (atom.Command other a) c x) (arguments-same args more both.1) ∙ h
     go (inr cover) =
         let both = and_parts (chars_cover Not (path_chars path) (path_chars other)) (given_cover (arguments_slash path)
-            (arguments_slash other) args more) cover in
+        (arguments_slash other) args more) cover in
         covers_sound (atom.Command path args) (atom.Command other more) c x
         (and_from (parts_cover Not (parts (path_chars path)) (parts (path_chars other))) (arguments_cover (arguments_slash path)
-            (arguments_slash other) args more)
+        (arguments_slash other) args more)
         (cover-parts Not (path_chars path) (path_chars other) both.0)
         (given-cover (arguments_slash path) (arguments_slash other) args more both.1)) h
 covers_simply_sound _ _ c x e h = cc
@@ -167,14 +170,14 @@ pub disjoint_simply_sound : DisjointIsSound
 disjoint_simply_sound (atom.Command path args) (atom.Command other more) c x e h =
     disjoint_is_sound (atom.Command path args) (atom.Command other more) c x
     (go (or_cases (chars_disjoint Not Not (path_chars path) (path_chars other)) (given_disjoint (arguments_slash path)
-        (arguments_slash other) args more) e)) h
+    (arguments_slash other) args more) e)) h
   where
     go : (chars_disjoint Not Not (path_chars path) (path_chars other) ≡ true) ⊎ (given_disjoint (arguments_slash path)
         (arguments_slash other) args more ≡ true)
         → disjoint (atom.Command path args) (atom.Command other more) ≡ true
     go (inl p) = or_left (parts_disjoint Not Not (parts (path_chars path)) (parts (path_chars other)))
         (arguments_disjoint (arguments_slash path) (arguments_slash other) args more) (disjoint-parts Not Not (path_chars path)
-            (path_chars other) p)
+        (path_chars other) p)
     go (inr a) = or_right (parts_disjoint Not Not (parts (path_chars path)) (parts (path_chars other)))
         (arguments_disjoint (arguments_slash path) (arguments_slash other) args more)
         (given-disjoint (arguments_slash path) (arguments_slash other) args more a)

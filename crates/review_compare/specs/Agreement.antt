@@ -64,4 +64,4 @@ agree t rs ss = list_all (λ v. list_all (λ w. answer_alike t v.by w.by || is_i
 pub record Agreement (A O : Type 0) : Type 0 where
   pub holds :
       (t : Tests A O) (fits : A → Bool) (rs ss : List (Ruling A O)) → AreSound t fits → agree t rs ss ≡ true →
-          answer_of fits rs ≡ answer_of fits ss
+      answer_of fits rs ≡ answer_of fits ss

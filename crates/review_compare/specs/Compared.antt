@@ -50,4 +50,4 @@ abbrev pub PoliciesAgree : Type 0
 PoliciesAgree =
     (old new : Policy) (q r : Question) → agree (tests_by same_answer) (rulings old q) (rulings new r) ≡ true →
     (command arguments : List ℕ) → said (verdict_on old (with_command q command arguments)) ≡ said (verdict_on new
-        (with_command r command arguments))
+    (with_command r command arguments))

@@ -131,14 +131,14 @@ abbrev pub covers : Atom → Atom → Bool
 covers atom.All a = true
 covers (atom.Command path args) (atom.Command other more) =
     parts_cover Not (parts (path_chars path)) (parts (path_chars other)) && arguments_cover (arguments_slash path)
-        (arguments_slash other) args more
+    (arguments_slash other) args more
 covers _ _ = false
 
 -- nothing fits both
 abbrev pub disjoint : Atom → Atom → Bool
 disjoint (atom.Command path args) (atom.Command other more) =
     parts_disjoint Not Not (parts (path_chars path)) (parts (path_chars other)) || arguments_disjoint (arguments_slash path)
-        (arguments_slash other) args more
+    (arguments_slash other) args more
 disjoint _ _ = false
 
 abbrev pub CoversIsSound : Type 0

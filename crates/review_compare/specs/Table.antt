@@ -77,7 +77,7 @@ verdicts_text old_files new_files old new =
 abbrev pub witness_line : List (List ℕ) → List (List ℕ) → List ℕ → Witness → List ℕ
 witness_line old_files new_files head w =
     head ++ (fields_text default_writer (answer_name w.answer ∷ w.command ∷ w.arguments ∷ []) ++ verdicts_text old_files new_files w.old
-        w.new)
+    w.new)
 
 abbrev pub row_verdict : Option Decider → Verdict
 row_verdict None = NoMatch

@@ -1,11 +1,10 @@
 -- The blocks of a policy are its rows.
-use Rattle.std.proofs.Common.{◌≡◌, ◌<◌, ◌≤◌, ◌+◌, ◌∙◌, ℕ, Bool, true, false, cond, ◌&&◌, List, [], ◌∷◌, ◌++◌, ap, append-nil, append_assoc}
-use Rattle.std.proofs.Common.{arith, refl, take, flat_map, get_or, length, map, sym, subst, Vec, Global, Option, option_copied}
+use Rattle.std.proofs.Common.{◌≡◌, ◌<◌, ◌≤◌, ◌+◌, ◌∙◌, ℕ, true, ◌&&◌, List, [], ◌∷◌, ◌++◌, ap, append_assoc}
+use Rattle.std.proofs.Common.{arith, take, flat_map, get_or, length, map, sym, subst, Vec, Global, Option, option_copied}
 use Rattle.std.specs.List.{enumerate_from, list_all}
 use Rattle.std.proofs.lemmas.List.{map-append, take_all}
 use Rattle.std.proofs.lemmas.List.FromFn.{length-enumerate_from}
 use Rattle.std.proofs.lemmas.Bool.{and_parts}
-use Rattle.sudo_text.specs.declared.line.Place.{Place}
 use Rattle.sudo_grammar.specs.declared.kind.Kind.TheVariants as kind
 use Rattle.sudo_grammar.specs.declared.kind.Member.{Member}
 use Rattle.sudo_grammar.specs.declared.kind.Signed.{Signed}
@@ -48,7 +47,8 @@ pub block-resolved :
     head_resolves p h f ≡ true → list_all (block_resolves p) old ≡ true → list_all (block_resolves p) new ≡ true
 block-resolved p h f signs old new is head all =
     ap (list_all (block_resolves p)) is
-    ∙ all-push (block_resolves p) old (record { place = h.place; users = h.users; hosts = h.hosts; runas = f.runas; tags = f.tags; signs = signs }) all head
+    ∙ all-push (block_resolves p) old
+    (record { place = h.place; users = h.users; hosts = h.hosts; runas = f.runas; tags = f.tags; signs = signs }) all head
 
 -- ---- The blocks of a section
 

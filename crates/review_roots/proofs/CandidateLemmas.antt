@@ -1,8 +1,7 @@
 -- The candidates of states, one state after the other.
-use Rattle.std.proofs.Common.{◌≡◌, ◌<◌, ◌∙◌, ◌==◌, ◌&&◌, ◌||◌, ℕ, zero, suc, Bool, true, false, List, [], ◌∷◌, ◌++◌, ap, arith, map, refl}
+use Rattle.std.proofs.Common.{◌≡◌, ◌<◌, ◌∙◌, ◌==◌, ◌&&◌, ◌||◌, ℕ, zero, suc, Bool, true, false, List, [], ◌∷◌, ◌++◌, ap, arith, refl}
 use Rattle.std.proofs.Common.{length, subst, sym, Option, Some, None}
-use Rattle.std.specs.Prelude.{All}
-use Rattle.std.specs.List.{Contains, list_any, slice_index_or}
+use Rattle.std.specs.List.{Contains, slice_index_or}
 use Rattle.std.proofs.lemmas.Bool.{and_parts, eq-eqb, eqb-true}
 use Rattle.std.proofs.lemmas.List.{map-append}
 use Rattle.std.proofs.lemmas.List.Elements.{All-push, All-weaker, Contains-append_left, Contains-push}
@@ -104,8 +103,8 @@ module _ (p : Policy) (d : KnownRows) (groups : List Group) (least : Level) (bs 
     pub gathered-same : IsSilent p d groups least bs s → AreCandidates p d groups least bs (before ++ s ∷ []) cs
     gathered-same silent = record {
       known = so_far.known;
-      inside = All-weaker (λ c. has_state before c.state ≡ true) (λ c. has_state (before ++ s ∷ []) c.state ≡ true) (λ c. further c.state) cs
-          so_far.inside;
+      inside = All-weaker (λ c. has_state before c.state ≡ true) (λ c. has_state (before ++ s ∷ []) c.state ≡ true)
+          (λ c. further c.state) cs so_far.inside;
       covered = All-push (λ s. has_state (states_of cs) s ≡ false → IsSilent p d groups least bs s) before s so_far.covered
           (λ none. silent);
     }

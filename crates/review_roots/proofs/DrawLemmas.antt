@@ -99,7 +99,8 @@ module _
     pub spread-search : IsSearch (steps_of h q) h.least l found (states_of cs) → IsSearch (steps_of h q) h.least l new (states_of kept)
     spread-search search =
         subst (λ xs. IsSearch (steps_of h q) h.least l xs (states_of kept)) (sym finds_states)
-        (subst (IsSearch (steps_of h q) h.least l (found ++ map (new_found l n) (filter (drawn_to (steps_of h q) l t.state) (states_of cs))))
+        (subst (IsSearch (steps_of h q) h.least l
+        (found ++ map (new_found l n) (filter (drawn_to (steps_of h q) l t.state) (states_of cs))))
         (sym keeps_states)
         (drawn-search (steps_of h q) h.least l n t found (states_of cs) search there))
 

@@ -1,6 +1,7 @@
 -- Blocks by their indices: the rows of those that stand, and which of them pass a test.
-use Rattle.std.proofs.Common.{◌≡◌, ◌∙◌, ◌+◌, ℕ, zero, suc, Bool, true, false, cond, ◌&&◌, ◌||◌, List, [], ◌∷◌, ◌++◌, ap, append_assoc, ◌<◌, get_or, take}
-use Rattle.std.proofs.Common.{arith, flat_map, length, length-append, map, refl, sym, Option, Some, None}
+use Rattle.std.proofs.Common.{◌≡◌, ◌∙◌, ◌+◌, ℕ, zero, suc, Bool, true, false, cond, ◌&&◌, ◌||◌, List, [], ◌∷◌, ◌++◌}
+use Rattle.std.proofs.Common.{◌<◌, ap, append_assoc, get_or, take}
+use Rattle.std.proofs.Common.{arith, flat_map, length, length-append, map, refl, sym, Some}
 use Rattle.std.specs.Prelude.{slice_get}
 use Rattle.std.specs.List.{list_all, list_any, slice_index_or}
 use Rattle.std.proofs.lemmas.Bool.{and_parts}

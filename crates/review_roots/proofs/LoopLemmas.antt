@@ -1,5 +1,6 @@
 -- What loops and calls leave, in the words of the definitions.
-use Rattle.std.proofs.Common.{◌≡◌, ◌<◌, ◌≤◌, ◌∙◌, ℕ, zero, suc, true, false, List, [], ◌∷◌, ◌++◌, ◌&&◌, ap, arith, drop, false, flat_map, get_or, length}
+use Rattle.std.proofs.Common.{◌≡◌, ◌<◌, ◌≤◌, ◌∙◌, ℕ, zero, suc, true, false, List, [], ◌∷◌, ◌++◌, ◌&&◌, ap, arith, drop, false}
+use Rattle.std.proofs.Common.{flat_map, get_or, length}
 use Rattle.std.proofs.Common.{map, refl, subst, sym, take}
 use Rattle.std.proofs.Common.{Option, Some, None, Bor, Global, Vec, option_copied}
 use Rattle.std.specs.Prelude.{All, slice_get}

@@ -1,12 +1,11 @@
 -- What a search begins with: the states at the goal, and the candidates that are heard; from no other does a step lead.
-use Rattle.std.proofs.Common.{◌≡◌, ◌<◌, ◌≤◌, ◌∙◌, ℕ, zero, Bool, true, false, not, cond, ◌&&◌, ◌==◌, List, [], ◌∷◌, ap, arith, refl}
+use Rattle.std.proofs.Common.{◌≡◌, ◌<◌, ◌≤◌, ◌∙◌, ℕ, zero, Bool, true, false, not, ◌&&◌, ◌==◌, List, [], ◌∷◌, ap, arith, refl}
 use Rattle.std.proofs.Common.{map, sym, subst, Option, Some, None, inl, inr, ◌⊎◌}
 use Rattle.std.specs.Prelude.{All, filter, slice_get}
 use Rattle.std.specs.List.{Contains, list_any, slice_index_or}
 use Rattle.std.proofs.lemmas.Bool.{and_parts, not-true}
 use Rattle.std.proofs.lemmas.List.Elements.{All-contains, All-contains_itself, All-filter, All-map, All-weaker, filter_passes}
 use Rattle.sudo_match.specs.declared.people.Person.{Person}
-use Rattle.review_roots.specs.declared.block.Block.{Block}
 use Rattle.review_roots.specs.declared.candidate.Candidate.{Candidate}
 use Rattle.review_roots.specs.declared.host.HostSteps.{HostSteps}
 use Rattle.review_roots.specs.declared.level.Level.{Level}
@@ -189,7 +188,8 @@ module _ (h : HostSteps) (q : Sought) where
         (λ f. is_at_least level.All f.level ≡ true)
         (λ f k. ap (is_at_least level.All) k.0) found start.goals;
     covered = λ s c. widen s
-        (All-contains (λ s. Contains (found_states found) s ⊎ (Contains (states_of left) s ⊎ IsMute g h.least s)) g.states s start.covered c);
+        (All-contains (λ s. Contains (found_states found) s ⊎ (Contains (states_of left) s ⊎ IsMute g h.least s)) g.states s
+        start.covered c);
     inside = All-map (Contains g.states) (λ (c : Candidate). c.state) left start.inside;
     away = All-map (λ s. g.goal s ≡ false) (λ (c : Candidate). c.state) left start.away;
     above = All-map (λ s. (m : Level) → rank level.All < rank m → (n : ℕ) → Path g m n s → ⊥) (λ (c : Candidate). c.state) left

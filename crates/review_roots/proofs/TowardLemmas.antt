@@ -1,5 +1,5 @@
 -- Users of another name than the target's are given the same by the same blocks, on each host.
-use Rattle.std.proofs.Common.{◌≡◌, ◌∙◌, ℕ, Bool, true, false, not, cond, ◌&&◌, ◌||◌, ◌==◌, List, ap, flat_map, map, refl, subst, sym}
+use Rattle.std.proofs.Common.{◌≡◌, ◌∙◌, ℕ, Bool, true, false, cond, ◌&&◌, ◌||◌, ◌==◌, List, ap, flat_map, map, refl, subst, sym}
 use Rattle.std.proofs.Common.{Option, Some, None, option_copied}
 use Rattle.std.specs.Prelude.{is_some, nat_lt, slice_get, unwrap_or}
 use Rattle.std.specs.List.{list_any, slice_index_or}

@@ -1,5 +1,5 @@
 -- Without a block that raises, what is given has not the least level.
-use Rattle.std.proofs.Common.{◌≡◌, ◌<◌, ◌≤◌, ◌∙◌, ℕ, Bool, true, false, not, cond, ◌&&◌, ◌||◌, List, [], ◌∷◌, ◌++◌, ap, arith, flat_map}
+use Rattle.std.proofs.Common.{◌≡◌, ◌<◌, ◌≤◌, ◌∙◌, ℕ, Bool, true, false, not, cond, ◌&&◌, ◌||◌, List, [], ◌∷◌, ap, arith, flat_map}
 use Rattle.std.proofs.Common.{map, refl, subst, sym, inl, inr, ◌⊎◌, Option, Some, None, option_copied}
 use Rattle.std.specs.Prelude.{is_some}
 use Rattle.std.specs.List.{list_any}
@@ -18,7 +18,7 @@ use Rattle.review_roots.specs.declared.block.Sign.{Sign}
 use Rattle.review_roots.specs.declared.given.Given.{Given}
 use Rattle.review_roots.specs.declared.level.Level.{Level}
 use Rattle.review_roots.specs.declared.level.Level.TheVariants as level
-use Rattle.review_roots.specs.Asked.{better, given_alone, given_asked, given_towards, is_better, nothing}
+use Rattle.review_roots.specs.Asked.{better, given_alone, given_asked, is_better, nothing}
 use Rattle.review_roots.specs.Blocks.{AreBlocks, block_row, block_rows, free_after, is_for, lists, standing_rows, with_row, with_rows}
 use Rattle.review_roots.specs.Body.Candidates.{block_raises, raises, raises_for}
 use Rattle.review_roots.specs.Levels.{after_signed, lowered, raised}

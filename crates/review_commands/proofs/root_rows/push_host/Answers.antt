@@ -28,7 +28,8 @@ returns c =
       record {
         parts = parts;
         are = subst (λ ts. Each (AreTargetRows t.checked.now t.directory.now t.all c.args.host.now) ts parts)
-            (take-whole c.args.targets.now c.loop-target.target-index c.loop-target-test.false ∙ c.requires.targets) c.loop-target.invariant.1;
+            (take-whole c.args.targets.now c.loop-target.target-index c.loop-target-test.false ∙ c.requires.targets)
+            c.loop-target.invariant.1;
         text_is = refl;
       },
       c.loop-target.invariant.2,

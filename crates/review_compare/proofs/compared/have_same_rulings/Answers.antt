@@ -8,7 +8,7 @@ use Rattle.review_compare.proofs.compared.have_same_rulings.Goals as goal
 pub loop-index-preserved : goal.loop-index-preserved
 loop-index-preserved c =
     rulings-more c.args.rows.now c.args.others.now c.loop-index.index c.index-rows-index.result c.index-others-index.result
-        c.loop-index-test.true
+    c.loop-index-test.true
     (omega (arith, c.loop-index-test.true, c.if-rows-others.false)) c.index-rows-index.is c.index-others-index.is
     (c.is_same_ruling.ensures c.if-not-is_same_ruling.false) c.loop-index.invariant
 
@@ -17,4 +17,4 @@ returns c = λ e.
     sym (ap (λ (rs : List Ruled). map ruling_of rs) (take_all c.loop-index.index c.args.rows.now (omega (arith, c.loop-index-test.false))))
     ∙ c.loop-index.invariant
     ∙ ap (λ (rs : List Ruled). map ruling_of rs) (take_all c.loop-index.index c.args.others.now (omega
-        (arith, c.loop-index-test.false, c.if-rows-others.false)))
+    (arith, c.loop-index-test.false, c.if-rows-others.false)))

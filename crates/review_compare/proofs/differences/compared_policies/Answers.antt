@@ -17,6 +17,6 @@ returns c =
     (λ (rows : Vec Row Global) made.
     subst (λ (o : Policy). AreDifferences o c.args.new.now c.args.directory.now c.args.groups.now about scope rows.items) c.in_ok-of.ensures
     (subst (λ (n : Policy). AreDifferences p.old.checked.now n c.args.directory.now c.args.groups.now about scope rows.items)
-        c.in_ok-of-2.ensures
+    c.in_ok-of-2.ensures
     (all-differences p rows.items about scope c.deref.result.now (c.deref.ensures.value ∙ c.in_ok-asks.ensures) made)))
     c.all_rows.ensures

@@ -15,5 +15,5 @@ returns-then-index-blocks c =
 pub returns-else-index-blocks : goal.returns-else-index-blocks
 returns-else-index-blocks c =
     sym (ap (λ (ds : List Decider). all_shown c.args.rows.now.items ++ ds) (deciders-past c.args.blocks.now c.args.index (omega
-        (arith, c.if-index-blocks.false)))
+    (arith, c.if-index-blocks.false)))
     ∙ append-nil (all_shown c.args.rows.now.items))

@@ -20,5 +20,5 @@ loop-end-preserved c =
       same = c.loop-end.invariant.same
           ∙ from-end c.args.rows.now (c.loop-end.end - 1) c.loop-end.end c.index-rows-end.result c.args.command.now c.args.arguments.now _
           (omega (arith, some, within)) (omega (arith, some)) c.index-rows-end.is (sym c.command_matches.ensures
-              ∙ c.if-command_matches.false);
+          ∙ c.if-command_matches.false);
     }

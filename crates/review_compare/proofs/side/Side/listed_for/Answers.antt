@@ -14,7 +14,7 @@ loop-index-preserved c =
       all = λ q on is.
           flat-more (standing_at p bs q on) (standing_at p bs q on) c.lists_user_at.result i c.loop-index.indices.items
           c.push_if.new.indices.items c.in_ok-push_if.ensures (λ keep. refl) (λ leave. no-user p bs u q on i is
-              (sym c.lists_user_at.ensures ∙ leave))
+          (sym c.lists_user_at.ensures ∙ leave))
           ∙ ap (λ ds. ds ++ standing_at p bs q on i) (c.loop-index.invariant.all q on is)
           ∙ sym (flat-range (standing_at p bs q on) i);
       each = all-more (user_at p bs u) c.lists_user_at.result i c.loop-index.indices.items c.push_if.new.indices.items

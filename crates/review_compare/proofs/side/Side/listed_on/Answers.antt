@@ -17,7 +17,7 @@ loop-index-preserved c =
       all = λ q on is at.
           flat-more (standing_at p bs q on) (standing_at p bs q on) c.lists_host_at.result i c.loop-index.indices.items
           c.push_if.new.indices.items c.in_ok-push_if.ensures (λ keep. refl) (λ leave. no-host p bs m q on i at
-              (sym c.lists_host_at.ensures ∙ leave))
+          (sym c.lists_host_at.ensures ∙ leave))
           ∙ ap (λ ds. ds ++ standing_at p bs q on i) (c.loop-index.invariant.all q on is at)
           ∙ sym (flat-take (standing_at p bs q on) c.args.listed.now k c.loop-index-test.true);
       each = all-more (listed_at p bs u m) c.lists_host_at.result i c.loop-index.indices.items c.push_if.new.indices.items

@@ -9,4 +9,5 @@ abbrev pub invariant-loop-index : goal.invariant-loop-index
 invariant-loop-index l =
     with_rows l.given (flat_map (part_at (λ i b. both_at l.self.on.items l.toward.allowed.items i) l.self.blocks.now)
     (drop l.index-index l.candidate.listed.items))
-    ≡ with_rows nothing (flat_map (part_at (λ i b. both_at l.self.on.items l.toward.allowed.items i) l.self.blocks.now) l.candidate.listed.items)
+    ≡ with_rows nothing (flat_map (part_at (λ i b. both_at l.self.on.items l.toward.allowed.items i) l.self.blocks.now)
+    l.candidate.listed.items)
