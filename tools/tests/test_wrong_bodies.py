@@ -22,6 +22,7 @@ WITHOUT = {
     ("sudo_base", "Seq::new"),
     ("sudo_policy", "Checked::policy"),
     ("sudo_match", "Directory::has_no_fault"),
+    ("review_texts", "Masked::new"),
     ("sudo_policy", "lists_are_written"),
     ("audit_commands", "run_program"),
 }
