@@ -1,9 +1,6 @@
-//! Tests of policies as text: their tokens, what their includes want; of patterns; what a change does; and calls that
-//! memory is refused to.
+//! Tests of policies as text: their tokens, what their includes want; of patterns; and calls that memory is refused to.
 #![tactic(auto)]
 
-#[cfg(test)]
-mod compare_trials;
 #[cfg(test)]
 mod fixtures;
 #[cfg(test)]
