@@ -19,9 +19,9 @@ use sudo_text::{Place, Seq};
 pub enum Compared {
     /// The same to each.
     Same,
-    /// Something else to these: at most one for each answer.
+    /// Different answers to these commands: at most one command for each kind of change.
     Differs(Seq<Witness>),
-    /// Something else maybe to what a row of each policy fits, if any.
+    /// Not settled: a command that these two rows match may have different answers.
     May {
         /// The row of the old policy.
         old: Option<Decider>,

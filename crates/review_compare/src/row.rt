@@ -12,8 +12,7 @@ use crate::compared::Compared;
 use std::alloc::{AllocError, Global};
 use sudo_text::Seq;
 
-/// Each of these users on each of these hosts, who asks for each of these targets with each of these groups, and what is found
-/// there.
+/// Cells with one finding: those of each user on each host, with each target and each group of the row.
 #[derive(Debug, Drop, PartialEq, Eq)]
 pub struct Row {
     /// The indices of the users.
@@ -202,8 +201,8 @@ fn like_index(rows: &[Row], row: &Row, dimension: Dimension) -> Option<usize>
     None
 }
 
-/// Adds a row: to the first that differs from it in this alone, or else behind the others. Returns `AllocError` if allocation
-/// fails.
+/// Merges a row into the first row that differs from it in this dimension alone; otherwise appends it. Returns `AllocError` if
+/// allocation fails.
 pub(crate) fn absorb(rows: &mut Vec<Row>, row: Row, dimension: Dimension) -> Result<(), AllocError>
     ensures { OnOk result (body.Absorbs rows.old.items row rows.new.items) }
 {

@@ -382,7 +382,7 @@ fn push_witnesses(
     Ok(())
 }
 
-// Appends the records of what is found.
+// Appends a record for each witness of a finding, or one for a finding that may differ.
 fn push_found(
     alloc: Global,
     text: &mut Vec<u8>,
