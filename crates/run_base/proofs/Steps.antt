@@ -14,8 +14,8 @@ pub not_passed : (held : Option Holdings) (path : List ℕ) (policy : Policy) (f
     → IsLoaded held path policy → IsNotCheckedOf policy fault → IsNotChecked held path fault
 not_passed held path policy (faults.Errors lines) loaded h = (policy, loaded, h)
 not_passed held path policy faults.Memory loaded h = tt
-not_passed held path policy (faults.Refused files fault) loaded h = absurd h
-not_passed held path policy (faults.CannotRead unread) loaded h = absurd h
+not_passed held path policy (faults.Refused files fault text) loaded h = absurd h
+not_passed held path policy (faults.CannotRead unread why) loaded h = absurd h
 not_passed held path policy (faults.TooLong long) loaded h = absurd h
 not_passed held path policy faults.TooManyFiles loaded h = absurd h
 
@@ -27,10 +27,9 @@ not_passed_of held path policy (Err fault) loaded h = not_passed held path polic
 -- What is needed is not handed in.
 pub wanted_unread : (held : Option Holdings) (path : List ℕ) (want : Want) (read : List (List ℕ))
     (fault : PolicyFault) → EndsIn held path read (load_faults.Wanted want) → IsNotHanded held want fault → IsNoPolicy held path fault
-wanted_unread held path want read fault ends not = elim not [
-  | inl memory ↦ subst (IsNoPolicy held path) (sym memory) tt
-  | inr rest ↦ elim rest [
-    | inl unread ↦ subst (IsNoPolicy held path) (sym unread.0) (inr (want, refl, unread.1, (read, ends)))
-    | inr long ↦ subst (IsNoPolicy held path) (sym long.0) (long.1, inr (want, refl, (read, ends)))
-  ]
-]
+wanted_unread held path want read (faults.CannotRead unread why) ends not = inr (want, not.0, not.1, (read, ends))
+wanted_unread held path want read (faults.TooLong long) ends not = (not.1, inr (want, not.0, (read, ends)))
+wanted_unread held path want read faults.Memory ends not = tt
+wanted_unread held path want read (faults.Refused files fault text) ends not = absurd not
+wanted_unread held path want read (faults.Errors lines) ends not = absurd not
+wanted_unread held path want read faults.TooManyFiles ends not = absurd not

@@ -1,28 +1,30 @@
 //! Reads a policy from its files.
 ghost use Rattle.std.specs.Prelude.{◌≡◌, ◌<◌, ◌⊎◌, Some, IfErr, IfOk, OnOk, length, true, vec_len};
 ghost use Rattle.sudo_policy.specs.Checking.{Passes};
-ghost use Rattle.run_base.specs.Holding.{AreHeld, HoldsFile, IsHeld, IsTooLong, IsUnreadable};
-ghost use Rattle.run_base.specs.Loading.{IsChecked, IsLoaded, IsLoadedFrom, IsNoPolicy, IsNotChecked, path_of};
+ghost use Rattle.run_base.specs.Holding.{AreHeld, HoldsFile, IsFileFault, IsHeld, file_at};
+ghost use Rattle.run_base.specs.Loading.{IsChecked, IsLoaded, IsLoadedFrom, IsNoPolicy, IsNotChecked, fault_place};
+ghost use Rattle.run_base.specs.Loading.{path_of, text_at_fault};
 ghost use Rattle.run_base.specs.Body.Loading.{IsNotCheckedOf, IsNotHanded};
 
 use crate::fault::PolicyFault;
 use crate::files::{Files, FilesFault};
 use crate::lines::finding_lines;
+use crate::obstacle::Obstacle;
 use std::alloc::{AllocError, Global};
-use sudo_grammar::Policy;
+use sudo_grammar::{ParseFault, Policy};
 use sudo_load::{LoadFault, Supply, Want, folder_files, included, load};
 use sudo_policy::{CheckFault, Checked, check};
-use sudo_text::Seq;
+use sudo_text::{Place, Seq, TextFault};
 
 // The most files and folders that are handed in. `load` needs at most 1,024 of each.
 const MOST_SUPPLIES: usize = 2048;
 
-// Returns the fault of a main file that cannot be read.
-fn unread_main(alloc: Global, path: &[u8]) -> PolicyFault
-    ensures { (result ≡ PolicyFault.Memory) ⊎ (result ≡ PolicyFault.CannotRead path.now) }
+// Returns the fault of a main file that cannot be read, for this reason.
+fn unread_main(alloc: Global, path: &[u8], why: Obstacle) -> PolicyFault
+    ensures { (result ≡ PolicyFault.Memory) ⊎ (result ≡ PolicyFault.CannotRead path.now why) }
 {
     match Seq::from_slice(alloc, path) {
-        Ok(path) => PolicyFault::CannotRead(path),
+        Ok(path) => PolicyFault::CannotRead(path, why),
         Err(_) => PolicyFault::Memory,
     }
 }
@@ -45,7 +47,8 @@ fn main_text<F: Files>(alloc: Global, files: &mut F, path: &[u8]) -> Result<Seq<
 {
     match files.main_file(alloc, path) {
         Ok(Some(text)) => Ok(text),
-        Ok(None) | Err(FilesFault::Failed) => Err(unread_main(alloc, path)),
+        Ok(None) => Err(unread_main(alloc, path, Obstacle::NotFound)),
+        Err(FilesFault::Failed(why)) => Err(unread_main(alloc, path, why)),
         Err(FilesFault::TooLong) => Err(long_main(alloc, path)),
         Err(FilesFault::Memory) => Err(PolicyFault::Memory),
     }
@@ -59,10 +62,7 @@ fn fetch<F: Files>(
 ) -> Result<Supply, (Seq<u8>, FilesFault)>
     ensures held { IfOk result (IsHeld (F.held files.old)) }
     ensures same { F.held files.new ≡ F.held files.old }
-    ensures failed { IfErr result (λ e. e.1 ≡ FilesFault.Failed
-        → IsUnreadable (F.held files.old) e.0) }
-    ensures long { IfErr result (λ e. e.1 ≡ FilesFault.TooLong
-        → IsTooLong (F.held files.old) e.0) }
+    ensures fault { IfErr result (λ e. IsFileFault (F.held files.old) e.0 e.1) }
     ensures path { IfErr result (λ e. e.0 ≡ path_of want) }
 {
     match want {
@@ -140,7 +140,7 @@ fn read_one<F: Files>(
             pending.append(&mut named_by(alloc, &supply)?)?;
             Ok(supplies.push(supply)?)
         }
-        Err((_, FilesFault::Failed | FilesFault::TooLong)) => Ok(()),
+        Err((_, FilesFault::Failed(_) | FilesFault::TooLong)) => Ok(()),
         Err((_, FilesFault::Memory)) => Err(AllocError),
     }
 }
@@ -185,7 +185,7 @@ fn push_wanted<F: Files>(
 {
     match fetch(alloc, files, want) {
         Ok(supply) => Ok(supplies.push(supply)?),
-        Err((unread, FilesFault::Failed)) => Err(PolicyFault::CannotRead(unread)),
+        Err((unread, FilesFault::Failed(why))) => Err(PolicyFault::CannotRead(unread, why)),
         Err((long, FilesFault::TooLong)) => Err(PolicyFault::TooLong(long)),
         Err((_, FilesFault::Memory)) => Err(PolicyFault::Memory),
     }
@@ -223,12 +223,69 @@ pub struct Loaded {
     pub policy: Policy,
 }
 
+// Returns the place of a fault in a line.
+fn place_of(fault: &LoadFault) -> Option<Place>
+    ensures { result ≡ fault_place fault.now }
+{
+    match fault {
+        LoadFault::Parse(fault) => match fault {
+            ParseFault::Syntax { place, .. }
+            | ParseFault::Unsupported { place, .. }
+            | ParseFault::NotCommand { place, .. }
+            | ParseFault::BadNumber { place, .. }
+            | ParseFault::TooMany { place }
+            | ParseFault::Text(
+                TextFault::BadQuote { place, .. }
+                | TextFault::BadHex { place, .. }
+                | TextFault::BadEscape { place, .. }
+                | TextFault::NotPrintable { place, .. },
+            ) => Some(*place),
+            ParseFault::Text(TextFault::TooLong { .. } | TextFault::Memory)
+            | ParseFault::Memory => None,
+        },
+        _ => None,
+    }
+}
+
+// Returns the text of the file at a path, if it was read.
+fn read_text(supplies: Vec<Supply>, path: &[u8]) -> Option<Seq<u8>>
+    ensures { result ≡ file_at supplies.items path.now }
+{
+    for supply in supplies {
+        match supply {
+            Supply::File { path: found, text } if found.as_slice() == path => return text,
+            _ => {}
+        }
+    }
+    None
+}
+
+// Returns the text of the file in which a fault is, given the text of the main file, what was read for it, and the paths of
+// the files in their order.
+fn faulty_text(
+    main: Seq<u8>,
+    supplies: Vec<Supply>,
+    read: &[Seq<u8>],
+    fault: &LoadFault,
+) -> Option<Seq<u8>>
+    ensures { result ≡ text_at_fault main supplies.items read.now fault.now }
+{
+    let place = place_of(fault)?;
+    if place.file == 0 {
+        return Some(main);
+    }
+    match read.get(place.file as usize) {
+        Some(path) => read_text(supplies, path.as_slice()),
+        None => None,
+    }
+}
+
 /// Returns the policy of a file and of all that it includes, with what was read. Reads what `load` needs, and calls `load`
 /// again.
 ///
-/// Returns `CannotRead` with the path of the main file, or of what is needed after what was read, if it cannot be read,
+/// Returns `CannotRead` with the path of the main file, or of what is needed after what was read, and the obstacle, if it cannot be read,
 /// `TooLong` if it is longer than a file of a policy may be; `TooManyFiles` if 2,048 files and folders were read and
-/// more are needed; `Refused` if the content of the files is refused; `Memory` if allocation failed.
+/// more are needed; `Refused` with the text of the faulty file if the content of the files is refused; `Memory` if allocation failed.
 pub fn load_files<F: Files>(
     alloc: Global,
     path: &[u8],
@@ -258,7 +315,10 @@ pub fn load_files<F: Files>(
                     }
                 }
                 LoadFault::Memory => return Err(PolicyFault::Memory),
-                fault => return Err(PolicyFault::Refused(read, fault)),
+                fault => {
+                    let text = faulty_text(text, supplies, read.as_slice(), &fault);
+                    return Err(PolicyFault::Refused { read, fault, text });
+                }
             },
         }
     }
