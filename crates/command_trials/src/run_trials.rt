@@ -90,7 +90,15 @@ fn leaves_what_is_not_reached(rt: HostRuntime) -> Result<(), Fail> {
     let broken = b"alice ALL =\n@include locked\n";
     let reached = b"@include locked\n@include gone\n";
     for refusal in [Refusal::Denied, Refusal::TooLong, Refusal::Memory] {
-        assert!(rt; checks_locked(alloc, missing, refusal, 1, b"sudo_audit: p:1: missing gone\n")?);
+        assert!(rt;
+            checks_locked(
+                alloc,
+                missing,
+                refusal,
+                1,
+                b"sudo_audit: p:1: missing gone\n"
+            )?
+        );
         let line = b"sudo_audit: p:1:12: syntax error, expected command\n";
         assert!(rt; checks_locked(alloc, broken, refusal, 1, line)?);
     }

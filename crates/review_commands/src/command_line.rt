@@ -25,7 +25,11 @@ fn root<'a>(alloc: Global) -> Arg<'a>
     ensures rule { rule_of result ≡ root_rule }
     ensures local { result.global ≡ false }
 {
-    name_option(alloc, "root", "The folder below which all files of the policy are")
+    name_option(
+        alloc,
+        "root",
+        "The folder below which all files of the policy are",
+    )
 }
 
 // Returns `cautions FILE [--root DIR] [--without CLASS]...`.

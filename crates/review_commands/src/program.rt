@@ -71,13 +71,7 @@ fn run_grants(rt: &HostRuntime, paths: Paths<'_>, names: ScopeNames<'_>) -> u8 {
     let alloc = rt.alloc();
     let mut out = Device::new(rt.stdout());
     let mut err = Device::new(rt.stderr());
-    match open_all(
-        alloc,
-        &SystemOpener::new(rt),
-        paths.users,
-        paths.hosts,
-        &[],
-    ) {
+    match open_all(alloc, &SystemOpener::new(rt), paths.users, paths.hosts, &[]) {
         Ok(files) => {
             let OpenedFiles {
                 mut users,
@@ -104,13 +98,7 @@ fn run_roots(rt: &HostRuntime, paths: Paths<'_>, all: bool) -> u8 {
     let alloc = rt.alloc();
     let mut out = Device::new(rt.stdout());
     let mut err = Device::new(rt.stderr());
-    match open_all(
-        alloc,
-        &SystemOpener::new(rt),
-        paths.users,
-        paths.hosts,
-        &[],
-    ) {
+    match open_all(alloc, &SystemOpener::new(rt), paths.users, paths.hosts, &[]) {
         Ok(files) => {
             let OpenedFiles {
                 mut users,
@@ -137,13 +125,7 @@ fn run_subjects(rt: &HostRuntime, paths: Paths<'_>) -> u8 {
     let alloc = rt.alloc();
     let mut out = Device::new(rt.stdout());
     let mut err = Device::new(rt.stderr());
-    match open_all(
-        alloc,
-        &SystemOpener::new(rt),
-        paths.users,
-        paths.hosts,
-        &[],
-    ) {
+    match open_all(alloc, &SystemOpener::new(rt), paths.users, paths.hosts, &[]) {
         Ok(files) => {
             let OpenedFiles {
                 mut users,

@@ -33,9 +33,14 @@ pub enum Asked<'a> {
         host: Option<&'a str>,
     },
     /// `roots FILE [--root DIR] --users F --hosts F [--all]`: lists who can become root, also by listed commands alone if `all`.
-    Roots { paths: Paths<'a>, all: bool },
+    Roots {
+        paths: Paths<'a>,
+        all: bool,
+    },
     /// `subjects FILE [--root DIR] --users F --hosts F`: lists what of a policy reaches nobody.
-    Subjects { paths: Paths<'a> },
+    Subjects {
+        paths: Paths<'a>,
+    },
     /// `rules FILE [--root DIR] --users F --hosts F [--workers N] [NAME=PATH]...`: counts the requests that each rule decides.
     Rules {
         paths: Paths<'a>,

@@ -1,11 +1,14 @@
 -- The contracts of the loading and of the check of a policy from those of their parts.
-use Rattle.std.proofs.Common.{ℕ, List, Option, Result, Ok, Err, inl, inr, refl, sym, subst}
+use Rattle.std.proofs.Common.{◌≡◌, ℕ, List, Option, Some, Result, Ok, Err, inr, refl}
 use Rattle.std.specs.Prelude.{IfErr}
 use Rattle.sudo_grammar.specs.declared.policy.Policy.{Policy}
+use Rattle.sudo_load.specs.Load.{IsLoad}
+use Rattle.sudo_load.specs.declared.fault.LoadFault.{LoadFault}
 use Rattle.sudo_load.specs.declared.fault.LoadFault.TheVariants as load_faults
 use Rattle.sudo_load.specs.declared.fault.Want.{Want}
-use Rattle.run_base.specs.Holding.{Holdings}
-use Rattle.run_base.specs.Loading.{EndsIn, IsLoaded, IsNoPolicy, IsNotChecked}
+use Rattle.sudo_load.specs.declared.supply.Supply.{Supply}
+use Rattle.run_base.specs.Holding.{AreHeld, Holdings, HoldsFile}
+use Rattle.run_base.specs.Loading.{EndsIn, IsLoaded, IsNoPolicy, IsNotChecked, IsOfContent, text_at_fault}
 use Rattle.run_base.specs.Body.Loading.{IsNotCheckedOf, IsNotHanded}
 use Rattle.run_base.specs.declared.fault.PolicyFault.{PolicyFault}
 use Rattle.run_base.specs.declared.fault.PolicyFault.TheVariants as faults
@@ -33,3 +36,20 @@ wanted_unread held path want read faults.Memory ends not = tt
 wanted_unread held path want read (faults.Refused files fault text) ends not = absurd not
 wanted_unread held path want read (faults.Errors lines) ends not = absurd not
 wanted_unread held path want read faults.TooManyFiles ends not = absurd not
+
+of_content : (fault : LoadFault) → ((want : Want) → fault ≡ load_faults.Wanted want → ⊥) → (fault ≡ load_faults.Memory → ⊥)
+    → IsOfContent fault
+of_content (load_faults.Parse fault) wanted memory = tt
+of_content (load_faults.TooNested place) wanted memory = tt
+of_content (load_faults.TooMany place) wanted memory = tt
+of_content (load_faults.Missing place path) wanted memory = tt
+of_content (load_faults.Wanted want) wanted memory = wanted want refl
+of_content load_faults.Memory wanted memory = memory refl
+
+-- The content of what was read is refused.
+pub unloaded : (held : Option Holdings) (path text : List ℕ) (handed : List Supply) (read : List (List ℕ)) (fault : LoadFault)
+    (faulty : Option (List ℕ)) → ((want : Want) → fault ≡ load_faults.Wanted want → ⊥) → (fault ≡ load_faults.Memory → ⊥)
+    → HoldsFile held path (Some text) → AreHeld held handed → IsLoad path text handed (Err (read, fault))
+    → faulty ≡ text_at_fault text handed read fault → IsNoPolicy held path (faults.Refused read fault faulty)
+unloaded held path text handed read fault faulty wanted memory main are load is =
+    (of_content fault wanted memory, (text, handed, main, are, load, is))

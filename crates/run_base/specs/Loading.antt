@@ -1,5 +1,6 @@
 -- The policy of a run.
-use Rattle.std.specs.Prelude.{◌≡◌, ◌≤◌, ◌⊎◌, ⊤, ℕ, zero, suc, length, List, Option, None, Some, Ok, Err, true, option_and_then, slice_get}
+use Rattle.std.specs.Prelude.{◌≡◌, ◌≤◌, ◌⊎◌, ◌==◌, if◌then◌else◌, ⊤, ℕ, length, List, Option, None, Some, Ok, Err, true, option_and_then}
+use Rattle.audit_files.specs.Places as places
 use Rattle.sudo_grammar.specs.declared.fault.ParseFault.{ParseFault}
 use Rattle.sudo_grammar.specs.declared.fault.ParseFault.TheVariants as parses
 use Rattle.sudo_grammar.specs.declared.policy.Policy.{Policy}
@@ -76,8 +77,8 @@ fault_place load_faults.Memory = None
 
 -- the text of the file of this number, given the text of the main file, what was handed in, and the paths of the files
 abbrev pub text_of_file : List ℕ → List Supply → List (List ℕ) → ℕ → Option (List ℕ)
-text_of_file main handed read zero = Some main
-text_of_file main handed read (suc n) = option_and_then (file_at handed) (slice_get read (suc n))
+text_of_file main handed read number =
+    if number == 0 then Some main else file_at handed (places.path_of read number)
 
 -- the text of the file in which a fault is, if it is in a line
 abbrev pub text_at_fault : List ℕ → List Supply → List (List ℕ) → LoadFault → Option (List ℕ)

@@ -1,10 +1,12 @@
 //! Reads a policy from its files.
 ghost use Rattle.std.specs.Prelude.{◌≡◌, ◌<◌, ◌⊎◌, Some, IfErr, IfOk, OnOk, length, true, vec_len};
 ghost use Rattle.sudo_policy.specs.Checking.{Passes};
+ghost use Rattle.audit_files.specs.Places as places;
+ghost use Rattle.sudo_load.specs.Supplies.{file_in};
 ghost use Rattle.run_base.specs.Holding.{AreHeld, HoldsFile, IsFileFault, IsHeld, file_at};
 ghost use Rattle.run_base.specs.Loading.{IsChecked, IsLoaded, IsLoadedFrom, IsNoPolicy, IsNotChecked, fault_place};
-ghost use Rattle.run_base.specs.Loading.{path_of, text_at_fault};
-ghost use Rattle.run_base.specs.Body.Loading.{IsNotCheckedOf, IsNotHanded};
+ghost use Rattle.run_base.specs.Loading.{path_of, text_at_fault, text_of_file as spec_text_of_file};
+ghost use Rattle.run_base.specs.Body.Loading.{IsNotCheckedOf, IsNotHanded, IsUnfetched};
 
 use crate::fault::PolicyFault;
 use crate::files::{Files, FilesFault};
@@ -170,6 +172,17 @@ fn read_ahead<F: Files>(alloc: Global, files: &mut F, path: &[u8], text: &[u8]) 
     supplies
 }
 
+// Returns the fault of a path that is needed and could not be read.
+fn unfetched(path: Seq<u8>, fault: FilesFault) -> PolicyFault
+    ensures { IsUnfetched path fault result }
+{
+    match fault {
+        FilesFault::Failed(why) => PolicyFault::CannotRead(path, why),
+        FilesFault::TooLong => PolicyFault::TooLong(path),
+        FilesFault::Memory => PolicyFault::Memory,
+    }
+}
+
 // Reads a needed file or folder.
 fn push_wanted<F: Files>(
     alloc: Global,
@@ -185,9 +198,7 @@ fn push_wanted<F: Files>(
 {
     match fetch(alloc, files, want) {
         Ok(supply) => Ok(supplies.push(supply)?),
-        Err((unread, FilesFault::Failed(why))) => Err(PolicyFault::CannotRead(unread, why)),
-        Err((long, FilesFault::TooLong)) => Err(PolicyFault::TooLong(long)),
-        Err((_, FilesFault::Memory)) => Err(PolicyFault::Memory),
+        Err((path, fault)) => Err(unfetched(path, fault)),
     }
 }
 
@@ -240,10 +251,26 @@ fn place_of(fault: &LoadFault) -> Option<Place>
                 | TextFault::BadEscape { place, .. }
                 | TextFault::NotPrintable { place, .. },
             ) => Some(*place),
-            ParseFault::Text(TextFault::TooLong { .. } | TextFault::Memory)
-            | ParseFault::Memory => None,
+            ParseFault::Text(TextFault::TooLong { .. } | TextFault::Memory) | ParseFault::Memory =>
+                None,
         },
         _ => None,
+    }
+}
+
+// Returns the text of the file at a path, or that it is missing, if this is its supply.
+fn text_in(supply: Supply, path: &[u8]) -> Option<Option<Seq<u8>>>
+    ensures { result ≡ file_in path.now supply }
+{
+    match supply {
+        Supply::File { path: found, text } => {
+            if found.as_slice() == path {
+                Some(text)
+            } else {
+                None
+            }
+        }
+        Supply::Folder { .. } => None,
     }
 }
 
@@ -252,16 +279,41 @@ fn read_text(supplies: Vec<Supply>, path: &[u8]) -> Option<Seq<u8>>
     ensures { result ≡ file_at supplies.items path.now }
 {
     for supply in supplies {
-        match supply {
-            Supply::File { path: found, text } if found.as_slice() == path => return text,
-            _ => {}
+        if let Some(text) = text_in(supply, path) {
+            return text;
         }
     }
     None
 }
 
-// Returns the text of the file in which a fault is, given the text of the main file, what was read for it, and the paths of
-// the files in their order.
+// Returns the path of the file with a number, empty if there is none.
+fn path_at(read: &[Seq<u8>], file: u32) -> &[u8]
+    ensures { result.now ≡ places.path_of read.now file }
+{
+    match read.get(file as usize) {
+        Some(path) => path.as_slice(),
+        None => &[],
+    }
+}
+
+// Returns the text of the file with a number, given the text of the main file, what was read for it, and the paths of the
+// files in their order.
+fn text_of_file(
+    main: Seq<u8>,
+    supplies: Vec<Supply>,
+    read: &[Seq<u8>],
+    number: u32,
+) -> Option<Seq<u8>>
+    ensures { result ≡ spec_text_of_file main supplies.items read.now number }
+{
+    if number == 0 {
+        return Some(main);
+    }
+    drop(main);
+    read_text(supplies, path_at(read, number))
+}
+
+// Returns the text of the file in which a fault is.
 fn faulty_text(
     main: Seq<u8>,
     supplies: Vec<Supply>,
@@ -270,12 +322,8 @@ fn faulty_text(
 ) -> Option<Seq<u8>>
     ensures { result ≡ text_at_fault main supplies.items read.now fault.now }
 {
-    let place = place_of(fault)?;
-    if place.file == 0 {
-        return Some(main);
-    }
-    match read.get(place.file as usize) {
-        Some(path) => read_text(supplies, path.as_slice()),
+    match place_of(fault) {
+        Some(place) => text_of_file(main, supplies, read, place.file),
         None => None,
     }
 }

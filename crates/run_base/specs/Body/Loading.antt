@@ -1,8 +1,10 @@
 -- The policy of a run. Only proofs of bodies use these.
-use Rattle.std.specs.Prelude.{◌≡◌, ⊤, Option}
+use Rattle.std.specs.Prelude.{◌≡◌, ⊤, ℕ, List, Option}
 use Rattle.sudo_grammar.specs.declared.policy.Policy.{Policy}
 use Rattle.sudo_load.specs.declared.fault.Want.{Want}
 use Rattle.run_base.specs.Holding.{Holdings, IsTooLong, IsUnreadable}
+use Rattle.run_base.specs.declared.files.FilesFault.{FilesFault}
+use Rattle.run_base.specs.declared.files.FilesFault.TheVariants as files
 use Rattle.run_base.specs.declared.fault.PolicyFault.{PolicyFault}
 use Rattle.run_base.specs.declared.fault.PolicyFault.TheVariants as faults
 use Rattle.run_base.specs.Loading.{path_of, AreErrorsOf}
@@ -15,6 +17,12 @@ IsNotCheckedOf policy (faults.Refused files fault text) = ⊥
 IsNotCheckedOf policy (faults.CannotRead unread why) = ⊥
 IsNotCheckedOf policy (faults.TooLong long) = ⊥
 IsNotCheckedOf policy faults.TooManyFiles = ⊥
+
+-- the fault of a path that could not be read
+abbrev pub IsUnfetched : List ℕ → FilesFault → PolicyFault → Type 0
+IsUnfetched path (files.Failed why) fault = fault ≡ faults.CannotRead path why
+IsUnfetched path files.TooLong fault = fault ≡ faults.TooLong path
+IsUnfetched path files.Memory fault = fault ≡ faults.Memory
 
 -- why what is needed is not handed in: memory failed, reading it fails, or it is too long
 abbrev pub IsNotHanded : Option Holdings → Want → PolicyFault → Type 0
