@@ -41,9 +41,9 @@ class Unreadable(Case):
         )
         return done.returncode, os.fsdecode(done.stdout), os.fsdecode(done.stderr)
 
-    def assert_cannot_read(self, path: str, *words: str) -> None:
-        """Checks that a run ends since a path cannot be read."""
-        self.assertEqual(self.ran(*words), (4, "", f"{self.name}: cannot read {path}\n"))
+    def assert_cannot_read(self, path: str, *words: str, reason: str = "") -> None:
+        """Checks that a run ends since a path cannot be read, for this reason."""
+        self.assertEqual(self.ran(*words), (4, "", f"{self.name}: cannot read {path}{reason}\n"))
 
     def write_directory(self) -> tuple[str, ...]:
         """Writes the users, the hosts and a request, and returns the words that name them."""
@@ -131,9 +131,41 @@ class Folders(Unreadable):
 
 @needs_review
 class Reviewed(Unreadable):
-    """The same of the second program."""
+    """The same of the second program, which gives the reason."""
 
     name, built = "sudo_review", REVIEW
+
+    def assert_cannot_read(self, path: str, *words: str, reason: str = ": permission denied") -> None:
+        super().assert_cannot_read(path, *words, reason=reason)
+
+    def test_reasons(self) -> None:
+        self.make_folder("folder")
+        os.mkfifo(self.path("fifo"))
+        os.chmod(self.path("fifo"), 0o666)
+        self.link("loop", "loop")
+        self.write("file", "")
+        self.assert_cannot_read("gone", "cautions", "gone", reason=": no such file")
+        self.assert_cannot_read("folder", "cautions", "folder", reason=": is a folder")
+        self.assert_cannot_read("loop", "cautions", "loop", reason=": too many symbolic links")
+        self.assert_cannot_read("file/x", "cautions", "file/x", reason=": not a folder")
+        for line, path, reason in (
+            ("@include folder", "folder", ": is a folder"),
+            ("@include fifo", "fifo", ": not a regular file"),
+            ("@include loop", "loop", ": too many symbolic links"),
+            ("@includedir file", "file", ": not a folder"),
+            ("@include \xff", "\udcff", ": name is not UTF-8"),
+        ):
+            with self.subTest(line):
+                with open(self.path("p"), "w", encoding="latin-1") as it:
+                    it.write(f"{line}\n")
+                self.assert_cannot_read(path, "cautions", "p", reason=reason)
+
+    def test_reasons_of_other_files(self) -> None:
+        self.write_directory()
+        self.write("p", "alice ALL = ALL\n")
+        words = ["--users", "gone", "--hosts", "hosts"]
+        for command in ("grants", "roots", "subjects", "rules", "report"):
+            self.assert_cannot_read("gone", command, "p", *words, reason=": no such file")
 
     def test_a_folder_that_can_be_listed_and_not_searched(self) -> None:
         self.write("p", "alice ALL = ALL\n@includedir d\n")

@@ -9,6 +9,7 @@ use Rattle.audit_run.specs.declared.source.Source.{Source}
 use Rattle.run_base.specs.Opening.{HasNoReader}
 use Rattle.run_base.specs.declared.fault.OpenFault.{OpenFault}
 use Rattle.run_base.specs.declared.fault.OpenFault.TheVariants as opens
+use Rattle.run_base.specs.declared.obstacle.Obstacle.{Obstacle}
 use Rattle.audit_commands.specs.Opening.{AreOpened, AreSenders, HasReader, IsFirstClosed, IsNamed}
 use Rattle.audit_commands.specs.Body.Opening.{HaveNoReaders}
 use Rattle.audit_commands.specs.Opening.{IsNotOpened, IsUnopened, Pair, paths_of, word_of}
@@ -48,11 +49,11 @@ readers Opens (pair ∷ pairs) (source ∷ sources) are = All-cons (HasReader Op
     (source.reader, are.0.1) (readers Opens pairs sources are.1)
 
 -- The next file has no reader.
-first_closed : {R : Type 0} (Opens : List ℕ → R → Type 0) (Closed : List ℕ → Type 0) (pairs : List Pair)
-    (sources : List (Source R)) (at : ℕ) (pair : Pair)
-    → AreOpened Opens (take at pairs) sources → at < length pairs → get_or pairs at pair ≡ pair → Closed pair.1
-    → IsFirstClosed Opens Closed (map (λ p. p.1) pairs) pair.1
-first_closed Opens Closed pairs sources at pair are within is closed = record {
+first_closed : {R : Type 0} (Opens : List ℕ → R → Type 0) (Closed : List ℕ → Obstacle → Type 0) (pairs : List Pair)
+    (sources : List (Source R)) (at : ℕ) (pair : Pair) (why_not : Obstacle)
+    → AreOpened Opens (take at pairs) sources → at < length pairs → get_or pairs at pair ≡ pair → Closed pair.1 why_not
+    → IsFirstClosed Opens Closed (map (λ p. p.1) pairs) pair.1 why_not
+first_closed Opens Closed pairs sources at pair why_not are within is closed = record {
   earlier = map (λ p. p.1) (take at pairs);
   later = map (λ p. p.1) (drop (at + 1) pairs);
   order =
@@ -63,38 +64,38 @@ first_closed Opens Closed pairs sources at pair are within is closed = record {
   closed = closed;
 }
 
-pub no_source : {R : Type 0} (Opens : List ℕ → R → Type 0) (Closed : List ℕ → Type 0) (pairs : List Pair)
+pub no_source : {R : Type 0} (Opens : List ℕ → R → Type 0) (Closed : List ℕ → Obstacle → Type 0) (pairs : List Pair)
     (sources : List (Source R)) (at : ℕ) (pair : Pair) (fault : OpenFault)
     → AreOpened Opens (take at pairs) sources → at < length pairs → get_or pairs at pair ≡ pair → HasNoReader Closed pair.1 fault
     → HaveNoReaders Opens Closed (map (λ p. p.1) pairs) fault
-no_source Opens Closed pairs sources at pair (opens.CannotRead path) are within is why =
-    subst (λ p. IsFirstClosed Opens Closed (map (λ q. q.1) pairs) p) (sym why.0)
-    (first_closed Opens Closed pairs sources at pair are within is why.1)
+no_source Opens Closed pairs sources at pair (opens.CannotRead path why_not) are within is why =
+    subst (λ p. IsFirstClosed Opens Closed (map (λ q. q.1) pairs) p why_not) (sym why.0)
+    (first_closed Opens Closed pairs sources at pair why_not are within is why.1)
 no_source Opens Closed pairs sources at pair opens.Memory are within is why = tt
 
-unopened : {R : Type 0} (Opens : List ℕ → R → Type 0) (Closed : List ℕ → Type 0) (users hosts : List ℕ)
-    (words : List (List ℕ)) (pairs : List Pair) (path at : List ℕ)
-    → AreSenders words pairs → path ≡ at → IsFirstClosed Opens Closed (paths_of users hosts pairs) at
-    → IsUnopened Opens Closed users hosts words path
-unopened Opens Closed users hosts words pairs path at are is first =
-    subst (λ p. IsUnopened Opens Closed users hosts words p) (sym is) (pairs, are, first)
+unopened : {R : Type 0} (Opens : List ℕ → R → Type 0) (Closed : List ℕ → Obstacle → Type 0) (users hosts : List ℕ)
+    (words : List (List ℕ)) (pairs : List Pair) (path at : List ℕ) (why_not : Obstacle)
+    → AreSenders words pairs → path ≡ at → IsFirstClosed Opens Closed (paths_of users hosts pairs) at why_not
+    → IsUnopened Opens Closed users hosts words path why_not
+unopened Opens Closed users hosts words pairs path at why_not are is first =
+    subst (λ p. IsUnopened Opens Closed users hosts words p why_not) (sym is) (pairs, are, first)
 
 -- The users have no reader.
-pub no_users : {R : Type 0} (Opens : List ℕ → R → Type 0) (Closed : List ℕ → Type 0) (users hosts : List ℕ)
+pub no_users : {R : Type 0} (Opens : List ℕ → R → Type 0) (Closed : List ℕ → Obstacle → Type 0) (users hosts : List ℕ)
     (words : List (List ℕ)) (pairs : List Pair) (fault : OpenFault)
     → AreSenders words pairs → HasNoReader Closed users fault → IsNotOpened Opens Closed users hosts words (faults.Unopened fault)
-no_users Opens Closed users hosts words pairs (opens.CannotRead path) are why =
-    unopened Opens Closed users hosts words pairs path users are why.0
+no_users Opens Closed users hosts words pairs (opens.CannotRead path why_not) are why =
+    unopened Opens Closed users hosts words pairs path users why_not are why.0
     (record { earlier = []; later = hosts ∷ map (λ p. p.1) pairs; order = refl; opened = All-nil (HasReader Opens); closed = why.1 })
 no_users Opens Closed users hosts words pairs opens.Memory are why = tt
 
 -- The users have one, and the hosts have none.
-pub no_hosts : {R : Type 0} (Opens : List ℕ → R → Type 0) (Closed : List ℕ → Type 0) (users hosts : List ℕ)
+pub no_hosts : {R : Type 0} (Opens : List ℕ → R → Type 0) (Closed : List ℕ → Obstacle → Type 0) (users hosts : List ℕ)
     (words : List (List ℕ)) (pairs : List Pair) (reader : R) (fault : OpenFault)
     → AreSenders words pairs → Opens users reader → HasNoReader Closed hosts fault
     → IsNotOpened Opens Closed users hosts words (faults.Unopened fault)
-no_hosts Opens Closed users hosts words pairs reader (opens.CannotRead path) are there why =
-    unopened Opens Closed users hosts words pairs path hosts are why.0
+no_hosts Opens Closed users hosts words pairs reader (opens.CannotRead path why_not) are there why =
+    unopened Opens Closed users hosts words pairs path hosts why_not are why.0
     (record {
       earlier = users ∷ [];
       later = map (λ p. p.1) pairs;
@@ -105,12 +106,12 @@ no_hosts Opens Closed users hosts words pairs reader (opens.CannotRead path) are
 no_hosts Opens Closed users hosts words pairs reader opens.Memory are there why = tt
 
 -- Both have one, and a requests file has none.
-pub no_sources : {R : Type 0} (Opens : List ℕ → R → Type 0) (Closed : List ℕ → Type 0) (users hosts : List ℕ)
+pub no_sources : {R : Type 0} (Opens : List ℕ → R → Type 0) (Closed : List ℕ → Obstacle → Type 0) (users hosts : List ℕ)
     (words : List (List ℕ)) (pairs : List Pair) (first second : R) (fault : OpenFault)
     → AreSenders words pairs → Opens users first → Opens hosts second
     → HaveNoReaders Opens Closed (map (λ p. p.1) pairs) fault → IsNotOpened Opens Closed users hosts words (faults.Unopened fault)
-no_sources Opens Closed users hosts words pairs first second (opens.CannotRead path) are there there_too closed =
-    unopened Opens Closed users hosts words pairs path path are refl (record {
+no_sources Opens Closed users hosts words pairs first second (opens.CannotRead path why_not) are there there_too closed =
+    unopened Opens Closed users hosts words pairs path path why_not are refl (record {
       earlier = users ∷ hosts ∷ closed.earlier;
       later = closed.later;
       order = ap (λ l. users ∷ hosts ∷ l) closed.order;

@@ -55,11 +55,11 @@ requests_range requests.TooManyParts = (lit< tt, lit< tt)
 requests_range requests.NoThread = (lit< tt, lit< tt)
 
 policy_range : (fault : PolicyFault) → IsStatus (policy_status fault)
-policy_range (policies.Refused read fault) = (lit< tt, lit< tt)
+policy_range (policies.Refused read fault text) = (lit< tt, lit< tt)
 policy_range (policies.Errors lines) = (lit< tt, lit< tt)
 policy_range (policies.TooLong path) = (lit< tt, lit< tt)
 policy_range policies.TooManyFiles = (lit< tt, lit< tt)
-policy_range (policies.CannotRead path) = (lit< tt, lit< tt)
+policy_range (policies.CannotRead path why) = (lit< tt, lit< tt)
 policy_range policies.Memory = (lit< tt, lit< tt)
 
 expansion_range : (fault : ExpansionFault) → IsStatus (expansion_status fault)

@@ -1,7 +1,7 @@
 -- The text that the program prints for a fault.
 use Rattle.std.specs.Prelude.{ℕ, List, ◌++◌, codes}
 use Rattle.run_base.specs.Endings.{Notices, notices}
-use Rattle.run_base.specs.FaultLines.{error_line, memory_line, open_printed, policy_printed}
+use Rattle.run_base.specs.FaultLines.{error_line, memory_line, open_explained, open_printed, policy_explained, policy_printed}
 use Rattle.run_base.specs.Faults.{policy_status}
 use Rattle.run_base.specs.declared.fault.PolicyFault.{PolicyFault}
 use Rattle.audit_commands.specs.FaultTexts.{directory_fault_text, file_fault_text, requests_fault_text}
@@ -35,6 +35,23 @@ report_printed program (reports.Policy fault) = policy_printed program fault
 report_printed program (reports.Directory fault) = directory_printed program fault
 report_printed program (reports.Requests fault) = error_line program (requests_fault_text fault)
 report_printed program reports.Memory = memory_line program
+
+-- the same texts as a program prints them that says why a path cannot be read
+
+abbrev pub sources_explained : List ℕ → SourcesFault → List ℕ
+sources_explained program (sources.BadSender word) = sources_printed program (sources.BadSender word)
+sources_explained program (sources.Unopened fault) = open_explained program fault
+
+abbrev pub expansion_explained : List ℕ → ExpansionFault → List ℕ
+expansion_explained program (expansions.Policy fault) = policy_explained program fault
+expansion_explained program (expansions.NoSuchAlias name) = expansion_printed program (expansions.NoSuchAlias name)
+expansion_explained program expansions.Memory = expansion_printed program expansions.Memory
+
+abbrev pub report_explained : List ℕ → ReportFault → List ℕ
+report_explained program (reports.Policy fault) = policy_explained program fault
+report_explained program (reports.Directory fault) = directory_printed program fault
+report_explained program (reports.Requests fault) = report_printed program (reports.Requests fault)
+report_explained program reports.Memory = report_printed program reports.Memory
 
 -- the name of the program
 abbrev pub program_name : List ℕ

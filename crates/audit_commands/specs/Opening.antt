@@ -4,6 +4,7 @@ use Rattle.std.specs.List.{AllZip}
 use Rattle.audit_run.specs.declared.source.Source.{Source}
 use Rattle.audit_commands.specs.Senders.{is_sender_name}
 use Rattle.run_base.specs.declared.fault.OpenFault.TheVariants as opens
+use Rattle.run_base.specs.declared.obstacle.Obstacle.{Obstacle}
 use Rattle.audit_commands.specs.declared.fault.SourcesFault.{SourcesFault}
 use Rattle.audit_commands.specs.declared.fault.SourcesFault.TheVariants as faults
 
@@ -43,27 +44,30 @@ AreSources Opens words sources = (pairs : List Pair) × AreSenders words pairs �
 abbrev pub HasReader : {R : Type 0} → (List ℕ → R → Type 0) → List ℕ → Type 0
 HasReader {R} Opens path = (reader : R) × Opens path reader
 
--- the first path, in this order, that has no reader
-pub record IsFirstClosed {R : Type 0} (Opens : List ℕ → R → Type 0) (Closed : List ℕ → Type 0) (paths : List (List ℕ))
-    (path : List ℕ) : Type 0 where
+-- the first path, in this order, that has no reader, for this reason
+pub record IsFirstClosed {R : Type 0} (Opens : List ℕ → R → Type 0) (Closed : List ℕ → Obstacle → Type 0)
+    (paths : List (List ℕ)) (path : List ℕ) (why : Obstacle) : Type 0 where
   pub earlier : List (List ℕ)
   pub later : List (List ℕ)
   pub order : paths ≡ earlier ++ path ∷ later
   pub opened : All (HasReader Opens) earlier
-  pub closed : Closed path
+  pub closed : Closed path why
 
 -- the paths of an audit, in the order in which they are opened: users, hosts, and the requests in
 -- the order of their words
 abbrev pub paths_of : List ℕ → List ℕ → List Pair → List (List ℕ)
 paths_of users hosts pairs = users ∷ hosts ∷ map (λ p. p.1) pairs
 
--- no word is bad, and this is the first path that has no reader
-abbrev pub IsUnopened : {R : Type 0} → (List ℕ → R → Type 0) → (List ℕ → Type 0) → List ℕ → List ℕ → List (List ℕ) → List ℕ → Type 0
-IsUnopened Opens Closed users hosts words path =
-    (pairs : List Pair) × AreSenders words pairs × IsFirstClosed Opens Closed (paths_of users hosts pairs) path
+-- no word is bad, and this is the first path that has no reader, for this reason
+abbrev pub IsUnopened : {R : Type 0} → (List ℕ → R → Type 0) → (List ℕ → Obstacle → Type 0) → List ℕ → List ℕ → List (List ℕ)
+    → List ℕ → Obstacle → Type 0
+IsUnopened Opens Closed users hosts words path why =
+    (pairs : List Pair) × AreSenders words pairs × IsFirstClosed Opens Closed (paths_of users hosts pairs) path why
 
 -- why the files are not opened: a word is bad; no word is, and a path has no reader; or memory failed
-abbrev pub IsNotOpened : {R : Type 0} → (List ℕ → R → Type 0) → (List ℕ → Type 0) → List ℕ → List ℕ → List (List ℕ) → SourcesFault → Type 0
+abbrev pub IsNotOpened : {R : Type 0} → (List ℕ → R → Type 0) → (List ℕ → Obstacle → Type 0) → List ℕ → List ℕ → List (List ℕ)
+    → SourcesFault → Type 0
 IsNotOpened Opens Closed users hosts words (faults.BadSender word) = IsFirstBad words word
-IsNotOpened Opens Closed users hosts words (faults.Unopened (opens.CannotRead path)) = IsUnopened Opens Closed users hosts words path
+IsNotOpened Opens Closed users hosts words (faults.Unopened (opens.CannotRead path why)) =
+    IsUnopened Opens Closed users hosts words path why
 IsNotOpened Opens Closed users hosts words (faults.Unopened opens.Memory) = ⊤

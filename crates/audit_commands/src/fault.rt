@@ -1,7 +1,8 @@
 //! Faults that end a run of the program, each with its exit status and its line.
 ghost use Rattle.std.specs.Prelude.{◌≡◌, ◌++◌, IfOk, codes};
 ghost use Rattle.run_base.specs.FaultLines.{error_line};
-ghost use Rattle.audit_commands.specs.FaultLines.{directory_printed, expansion_printed, report_printed, sources_printed};
+ghost use Rattle.audit_commands.specs.FaultLines.{directory_printed, expansion_explained, expansion_printed};
+ghost use Rattle.audit_commands.specs.FaultLines.{report_explained, report_printed, sources_explained, sources_printed};
 ghost use Rattle.audit_commands.specs.FaultTexts.{directory_fault_text, file_fault_text, requests_fault_text};
 ghost use Rattle.audit_commands.specs.Faults.{directory_status, expansion_status};
 ghost use Rattle.audit_commands.specs.Faults.{file_status as status_of_file, report_status};
@@ -36,6 +37,8 @@ impl Fails for DirectoryFault {
 
     ghost printed = { directory_printed };
 
+    ghost explained = { directory_printed };
+
     fn status(&self) -> u8 {
         match self {
             DirectoryFault::Users(fault) | DirectoryFault::Hosts(fault) => file_status(*fault),
@@ -51,6 +54,10 @@ impl Fails for DirectoryFault {
             DirectoryFault::Both(fault) => directory_line(alloc, program, &fault),
             DirectoryFault::Memory => AllocError.printed(alloc, program),
         }
+    }
+
+    fn explained(self, alloc: Global, program: &[u8]) -> Result<Vec<u8>, AllocError> {
+        self.printed(alloc, program)
     }
 }
 
@@ -92,6 +99,8 @@ impl Fails for SourcesFault {
 
     ghost printed = { sources_printed };
 
+    ghost explained = { sources_explained };
+
     fn status(&self) -> u8 {
         match self {
             SourcesFault::BadSender(_) => 2,
@@ -103,6 +112,13 @@ impl Fails for SourcesFault {
         match self {
             SourcesFault::BadSender(word) => sender_line(alloc, program, word.as_slice()),
             SourcesFault::Unopened(fault) => fault.printed(alloc, program),
+        }
+    }
+
+    fn explained(self, alloc: Global, program: &[u8]) -> Result<Vec<u8>, AllocError> {
+        match self {
+            SourcesFault::Unopened(fault) => fault.explained(alloc, program),
+            SourcesFault::BadSender(word) => sender_line(alloc, program, word.as_slice()),
         }
     }
 }
@@ -134,6 +150,8 @@ impl Fails for ExpansionFault {
 
     ghost printed = { expansion_printed };
 
+    ghost explained = { expansion_explained };
+
     fn status(&self) -> u8 {
         match self {
             ExpansionFault::Policy(fault) => fault.status(),
@@ -147,6 +165,13 @@ impl Fails for ExpansionFault {
             ExpansionFault::Policy(fault) => fault.printed(alloc, program),
             ExpansionFault::NoSuchAlias(name) => alias_line(alloc, program, name.as_slice()),
             ExpansionFault::Memory => AllocError.printed(alloc, program),
+        }
+    }
+
+    fn explained(self, alloc: Global, program: &[u8]) -> Result<Vec<u8>, AllocError> {
+        match self {
+            ExpansionFault::Policy(fault) => fault.explained(alloc, program),
+            fault => fault.printed(alloc, program),
         }
     }
 }
@@ -180,6 +205,8 @@ impl Fails for ReportFault {
 
     ghost printed = { report_printed };
 
+    ghost explained = { report_explained };
+
     fn status(&self) -> u8 {
         match self {
             ReportFault::Policy(fault) => fault.status(),
@@ -195,6 +222,13 @@ impl Fails for ReportFault {
             ReportFault::Directory(fault) => fault.printed(alloc, program),
             ReportFault::Requests(fault) => requests_line(alloc, program, &fault),
             ReportFault::Memory => AllocError.printed(alloc, program),
+        }
+    }
+
+    fn explained(self, alloc: Global, program: &[u8]) -> Result<Vec<u8>, AllocError> {
+        match self {
+            ReportFault::Policy(fault) => fault.explained(alloc, program),
+            fault => fault.printed(alloc, program),
         }
     }
 }

@@ -21,7 +21,7 @@ pub use fault::{DirectoryFault, ExpansionFault, ReportFault, SourcesFault};
 pub use program::run_program;
 pub use request::Asked;
 pub use requests_fault::RequestsFault;
-pub use run_base::{Disk, Files, FilesFault, Opener};
+pub use run_base::{Disk, Files, FilesFault, Obstacle, Opener};
 pub use sender::sender_of;
 pub use sources::{OpenedFiles, open_all};
 pub use words::{asked, unread};

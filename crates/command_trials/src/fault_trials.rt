@@ -7,7 +7,7 @@ use crate::runs::{
 use audit_commands::expand_run;
 use audit_files::{ReadFault, Script, read_whole};
 use review_commands::Form;
-use run_base::{Files, FilesFault};
+use run_base::{Files, FilesFault, Obstacle};
 use std::alloc::{AllocError, Global};
 use std::sync::Wait;
 use std::test::Fail;
@@ -53,7 +53,7 @@ impl Files for Failing<'_> {
                 return match read_whole(alloc, &mut reader, TEXT_LIMIT) {
                     Ok(text) => Ok(Some(Seq::from_vec(text))),
                     Err(ReadFault::Memory) => Err(FilesFault::Memory),
-                    Err(_) => Err(FilesFault::Failed),
+                    Err(_) => Err(FilesFault::Failed(Obstacle::Other)),
                 };
             }
         }

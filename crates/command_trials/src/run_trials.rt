@@ -4,18 +4,35 @@ use crate::runs::{Item, Shelf};
 use audit_commands::{check_run, unread};
 use audit_files::Script;
 use clap::error::ErrorKind;
-use run_base::{Files, FilesFault};
+use run_base::{Files, FilesFault, Obstacle};
 use std::alloc::{AllocError, Global};
 use std::io::ErrorKind as ReadKind;
 use std::test::Fail;
 use sudo_text::Seq;
+
+// The faults of reading that are tried.
+#[derive(Clone, Copy)]
+enum Refusal {
+    Denied,
+    TooLong,
+    Memory,
+}
 
 // Files over memory, and one path that cannot be read, for this reason.
 #[derive(Clone, Copy)]
 struct Locked<'a> {
     shelf: Shelf<'a>,
     path: &'a [u8],
-    fault: FilesFault,
+    refusal: Refusal,
+}
+
+// Returns the fault of a refusal.
+fn fault_of(refusal: Refusal) -> FilesFault {
+    match refusal {
+        Refusal::Denied => FilesFault::Failed(Obstacle::PermissionDenied),
+        Refusal::TooLong => FilesFault::TooLong,
+        Refusal::Memory => FilesFault::Memory,
+    }
 }
 
 impl Files for Locked<'_> {
@@ -25,7 +42,7 @@ impl Files for Locked<'_> {
 
     fn file(&mut self, alloc: Global, path: &[u8]) -> Result<Option<Seq<u8>>, FilesFault> {
         if path == self.path {
-            return Err(self.fault);
+            return Err(fault_of(self.refusal));
         }
         self.shelf.file(alloc, path)
     }
@@ -33,9 +50,9 @@ impl Files for Locked<'_> {
     fn folder(&mut self, alloc: Global, path: &[u8]) -> Result<Seq<Seq<u8>>, FilesFault> {
         if path == self.path {
             // A folder is never too long.
-            return Err(match self.fault {
-                FilesFault::Failed | FilesFault::TooLong => FilesFault::Failed,
-                FilesFault::Memory => FilesFault::Memory,
+            return Err(match self.refusal {
+                Refusal::Denied | Refusal::TooLong => fault_of(Refusal::Denied),
+                Refusal::Memory => FilesFault::Memory,
             });
         }
         self.shelf.folder(alloc, path)
@@ -47,7 +64,7 @@ impl Files for Locked<'_> {
 fn checks_locked(
     alloc: Global,
     policy: &[u8],
-    fault: FilesFault,
+    refusal: Refusal,
     status: u8,
     err_text: &[u8],
 ) -> Result<bool, AllocError> {
@@ -58,7 +75,7 @@ fn checks_locked(
     let mut files = Locked {
         shelf: Shelf { items: &items },
         path: b"locked",
-        fault,
+        refusal,
     };
     let mut out = Script::of(alloc, b"", 1000)?;
     let mut err = Script::of(alloc, b"", 1000)?;
@@ -72,17 +89,25 @@ fn leaves_what_is_not_reached(rt: HostRuntime) -> Result<(), Fail> {
     let missing = b"@include gone\n@include locked\n@includedir locked\n";
     let broken = b"alice ALL =\n@include locked\n";
     let reached = b"@include locked\n@include gone\n";
-    for fault in [FilesFault::Failed, FilesFault::TooLong, FilesFault::Memory] {
-        assert!(rt; checks_locked(alloc, missing, fault, 1, b"sudo_audit: p:1: missing gone\n")?);
+    for refusal in [Refusal::Denied, Refusal::TooLong, Refusal::Memory] {
+        assert!(rt;
+            checks_locked(
+                alloc,
+                missing,
+                refusal,
+                1,
+                b"sudo_audit: p:1: missing gone\n"
+            )?
+        );
         let line = b"sudo_audit: p:1:12: syntax error, expected command\n";
-        assert!(rt; checks_locked(alloc, broken, fault, 1, line)?);
+        assert!(rt; checks_locked(alloc, broken, refusal, 1, line)?);
     }
     let line = b"sudo_audit: cannot read locked\n";
-    assert!(rt; checks_locked(alloc, reached, FilesFault::Failed, 4, line)?);
+    assert!(rt; checks_locked(alloc, reached, Refusal::Denied, 4, line)?);
     let line = b"sudo_audit: locked: text too long\n";
-    assert!(rt; checks_locked(alloc, reached, FilesFault::TooLong, 1, line)?);
+    assert!(rt; checks_locked(alloc, reached, Refusal::TooLong, 1, line)?);
     let line = b"sudo_audit: out of memory\n";
-    assert!(rt; checks_locked(alloc, reached, FilesFault::Memory, 4, line)?);
+    assert!(rt; checks_locked(alloc, reached, Refusal::Memory, 4, line)?);
     Ok(())
 }
 

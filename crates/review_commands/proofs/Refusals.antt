@@ -6,6 +6,7 @@ use Rattle.clap.specs.Words.{Row, Text, all_of, first_of}
 use Rattle.run_base.specs.Arguments.{HasNoWorkers}
 use Rattle.review_cautions.specs.Classes.{class_name}
 use Rattle.review_cautions.specs.declared.class.CautionClass.{CautionClass}
+use Rattle.review_commands.specs.declared.request.Paths.{Paths}
 use Rattle.review_commands.specs.declared.request.Asked.TheVariants.{Cautions, Grants, Report, Roots, Rules, Subjects}
 use Rattle.review_commands.specs.Body.Paths.{LackPaths}
 use Rattle.review_commands.specs.Words.{AsksNothing, HavePaths}
@@ -67,24 +68,24 @@ none_there o text none there = cc
 
 pub no_name : (name : Text) (rows : List Row) → name ≢ codes "cautions" → name ≢ codes "report" → name ≢ codes "grants"
     → name ≢ codes "roots" → name ≢ codes "subjects" → name ≢ codes "rules" → AsksNothing (name, rows)
-no_name name rows cautions report grants roots subjects rules (Cautions file without) stated fit = cautions stated.0
-no_name name rows cautions report grants roots subjects rules (Report file users hosts workers senders) stated fit = report stated.0
-no_name name rows cautions report grants roots subjects rules (Grants file users hosts user host) stated fit = grants stated.0
-no_name name rows cautions report grants roots subjects rules (Roots file users hosts all) stated fit = roots stated.0
-no_name name rows cautions report grants roots subjects rules (Subjects file users hosts) stated fit = subjects stated.0
-no_name name rows cautions report grants roots subjects rules (Rules file users hosts workers senders) stated fit = rules stated.0
+no_name name rows cautions report grants roots subjects rules (Cautions policy without) stated fit = cautions stated.0
+no_name name rows cautions report grants roots subjects rules (Report paths workers senders) stated fit = report stated.0
+no_name name rows cautions report grants roots subjects rules (Grants paths user host) stated fit = grants stated.0
+no_name name rows cautions report grants roots subjects rules (Roots paths all) stated fit = roots stated.0
+no_name name rows cautions report grants roots subjects rules (Subjects paths) stated fit = subjects stated.0
+no_name name rows cautions report grants roots subjects rules (Rules paths workers senders) stated fit = rules stated.0
 
 pub cautions_without_file : (rows : List Row) → first_of (codes "file") rows ≡ None → AsksNothing (codes "cautions", rows)
-cautions_without_file rows none (Cautions file without) stated fit = none_there _ _ none stated.1
-cautions_without_file rows none (Report file users hosts workers senders) stated fit = report_is_cautions (sym stated.0)
-cautions_without_file rows none (Grants file users hosts user host) stated fit = grants_is_cautions (sym stated.0)
-cautions_without_file rows none (Roots file users hosts all) stated fit = roots_is_cautions (sym stated.0)
-cautions_without_file rows none (Subjects file users hosts) stated fit = subjects_is_cautions (sym stated.0)
-cautions_without_file rows none (Rules file users hosts workers senders) stated fit = rules_is_cautions (sym stated.0)
+cautions_without_file rows none (Cautions policy without) stated fit = none_there _ _ none stated.1.file_is
+cautions_without_file rows none (Report paths workers senders) stated fit = report_is_cautions (sym stated.0)
+cautions_without_file rows none (Grants paths user host) stated fit = grants_is_cautions (sym stated.0)
+cautions_without_file rows none (Roots paths all) stated fit = roots_is_cautions (sym stated.0)
+cautions_without_file rows none (Subjects paths) stated fit = subjects_is_cautions (sym stated.0)
+cautions_without_file rows none (Rules paths workers senders) stated fit = rules_is_cautions (sym stated.0)
 
-have_or_lack : (rows : List Row) (file users hosts : Text) → LackPaths rows → HavePaths rows file users hosts → ⊥
-have_or_lack rows file users hosts lack have = elim lack [
-  | inl none ↦ none_there _ _ none have.file_is
+have_or_lack : (rows : List Row) (paths : Paths) → LackPaths rows → HavePaths rows paths → ⊥
+have_or_lack rows paths lack have = elim lack [
+  | inl none ↦ none_there _ _ none have.policy_is.file_is
   | inr rest ↦ elim rest [
     | inl none ↦ none_there _ _ none have.users_is
     | inr none ↦ none_there _ _ none have.hosts_is
@@ -92,70 +93,70 @@ have_or_lack rows file users hosts lack have = elim lack [
 ]
 
 pub report_without_paths : (rows : List Row) → LackPaths rows → AsksNothing (codes "report", rows)
-report_without_paths rows lack (Cautions file without) stated fit = report_is_cautions stated.0
-report_without_paths rows lack (Report file users hosts workers senders) stated fit = have_or_lack _ _ _ _ lack stated.1
-report_without_paths rows lack (Grants file users hosts user host) stated fit = grants_is_report (sym stated.0)
-report_without_paths rows lack (Roots file users hosts all) stated fit = roots_is_report (sym stated.0)
-report_without_paths rows lack (Subjects file users hosts) stated fit = subjects_is_report (sym stated.0)
-report_without_paths rows lack (Rules file users hosts workers senders) stated fit = rules_is_report (sym stated.0)
+report_without_paths rows lack (Cautions policy without) stated fit = report_is_cautions stated.0
+report_without_paths rows lack (Report paths workers senders) stated fit = have_or_lack _ _ lack stated.1
+report_without_paths rows lack (Grants paths user host) stated fit = grants_is_report (sym stated.0)
+report_without_paths rows lack (Roots paths all) stated fit = roots_is_report (sym stated.0)
+report_without_paths rows lack (Subjects paths) stated fit = subjects_is_report (sym stated.0)
+report_without_paths rows lack (Rules paths workers senders) stated fit = rules_is_report (sym stated.0)
 
 pub grants_without_paths : (rows : List Row) → LackPaths rows → AsksNothing (codes "grants", rows)
-grants_without_paths rows lack (Cautions file without) stated fit = grants_is_cautions stated.0
-grants_without_paths rows lack (Report file users hosts workers senders) stated fit = grants_is_report stated.0
-grants_without_paths rows lack (Grants file users hosts user host) stated fit = have_or_lack _ _ _ _ lack stated.1
-grants_without_paths rows lack (Roots file users hosts all) stated fit = grants_is_roots stated.0
-grants_without_paths rows lack (Subjects file users hosts) stated fit = grants_is_subjects stated.0
-grants_without_paths rows lack (Rules file users hosts workers senders) stated fit = grants_is_rules stated.0
+grants_without_paths rows lack (Cautions policy without) stated fit = grants_is_cautions stated.0
+grants_without_paths rows lack (Report paths workers senders) stated fit = grants_is_report stated.0
+grants_without_paths rows lack (Grants paths user host) stated fit = have_or_lack _ _ lack stated.1
+grants_without_paths rows lack (Roots paths all) stated fit = grants_is_roots stated.0
+grants_without_paths rows lack (Subjects paths) stated fit = grants_is_subjects stated.0
+grants_without_paths rows lack (Rules paths workers senders) stated fit = grants_is_rules stated.0
 
 pub roots_without_paths : (rows : List Row) → LackPaths rows → AsksNothing (codes "roots", rows)
-roots_without_paths rows lack (Cautions file without) stated fit = roots_is_cautions stated.0
-roots_without_paths rows lack (Report file users hosts workers senders) stated fit = roots_is_report stated.0
-roots_without_paths rows lack (Grants file users hosts user host) stated fit = grants_is_roots (sym stated.0)
-roots_without_paths rows lack (Roots file users hosts all) stated fit = have_or_lack _ _ _ _ lack stated.1
-roots_without_paths rows lack (Subjects file users hosts) stated fit = subjects_is_roots (sym stated.0)
-roots_without_paths rows lack (Rules file users hosts workers senders) stated fit = rules_is_roots (sym stated.0)
+roots_without_paths rows lack (Cautions policy without) stated fit = roots_is_cautions stated.0
+roots_without_paths rows lack (Report paths workers senders) stated fit = roots_is_report stated.0
+roots_without_paths rows lack (Grants paths user host) stated fit = grants_is_roots (sym stated.0)
+roots_without_paths rows lack (Roots paths all) stated fit = have_or_lack _ _ lack stated.1
+roots_without_paths rows lack (Subjects paths) stated fit = subjects_is_roots (sym stated.0)
+roots_without_paths rows lack (Rules paths workers senders) stated fit = rules_is_roots (sym stated.0)
 
 pub subjects_without_paths : (rows : List Row) → LackPaths rows → AsksNothing (codes "subjects", rows)
-subjects_without_paths rows lack (Cautions file without) stated fit = subjects_is_cautions stated.0
-subjects_without_paths rows lack (Report file users hosts workers senders) stated fit = subjects_is_report stated.0
-subjects_without_paths rows lack (Grants file users hosts user host) stated fit = grants_is_subjects (sym stated.0)
-subjects_without_paths rows lack (Roots file users hosts all) stated fit = subjects_is_roots stated.0
-subjects_without_paths rows lack (Subjects file users hosts) stated fit = have_or_lack _ _ _ _ lack stated.1
-subjects_without_paths rows lack (Rules file users hosts workers senders) stated fit = subjects_is_rules stated.0
+subjects_without_paths rows lack (Cautions policy without) stated fit = subjects_is_cautions stated.0
+subjects_without_paths rows lack (Report paths workers senders) stated fit = subjects_is_report stated.0
+subjects_without_paths rows lack (Grants paths user host) stated fit = grants_is_subjects (sym stated.0)
+subjects_without_paths rows lack (Roots paths all) stated fit = subjects_is_roots stated.0
+subjects_without_paths rows lack (Subjects paths) stated fit = have_or_lack _ _ lack stated.1
+subjects_without_paths rows lack (Rules paths workers senders) stated fit = subjects_is_rules stated.0
 
 pub rules_without_paths : (rows : List Row) → LackPaths rows → AsksNothing (codes "rules", rows)
-rules_without_paths rows lack (Cautions file without) stated fit = rules_is_cautions stated.0
-rules_without_paths rows lack (Report file users hosts workers senders) stated fit = rules_is_report stated.0
-rules_without_paths rows lack (Grants file users hosts user host) stated fit = grants_is_rules (sym stated.0)
-rules_without_paths rows lack (Roots file users hosts all) stated fit = rules_is_roots stated.0
-rules_without_paths rows lack (Subjects file users hosts) stated fit = subjects_is_rules (sym stated.0)
-rules_without_paths rows lack (Rules file users hosts workers senders) stated fit = have_or_lack _ _ _ _ lack stated.1
+rules_without_paths rows lack (Cautions policy without) stated fit = rules_is_cautions stated.0
+rules_without_paths rows lack (Report paths workers senders) stated fit = rules_is_report stated.0
+rules_without_paths rows lack (Grants paths user host) stated fit = grants_is_rules (sym stated.0)
+rules_without_paths rows lack (Roots paths all) stated fit = rules_is_roots stated.0
+rules_without_paths rows lack (Subjects paths) stated fit = subjects_is_rules (sym stated.0)
+rules_without_paths rows lack (Rules paths workers senders) stated fit = have_or_lack _ _ lack stated.1
 
 pub rules_without_workers : (rows : List Row) → HasNoWorkers rows → AsksNothing (codes "rules", rows)
-rules_without_workers rows none (Cautions file without) stated fit = rules_is_cautions stated.0
-rules_without_workers rows none (Report file users hosts workers senders) stated fit = rules_is_report stated.0
-rules_without_workers rows none (Grants file users hosts user host) stated fit = grants_is_rules (sym stated.0)
-rules_without_workers rows none (Roots file users hosts all) stated fit = rules_is_roots stated.0
-rules_without_workers rows none (Subjects file users hosts) stated fit = subjects_is_rules (sym stated.0)
-rules_without_workers rows none (Rules file users hosts workers senders) stated fit = none workers stated.2 fit.0 fit.1
+rules_without_workers rows none (Cautions policy without) stated fit = rules_is_cautions stated.0
+rules_without_workers rows none (Report paths workers senders) stated fit = rules_is_report stated.0
+rules_without_workers rows none (Grants paths user host) stated fit = grants_is_rules (sym stated.0)
+rules_without_workers rows none (Roots paths all) stated fit = rules_is_roots stated.0
+rules_without_workers rows none (Subjects paths) stated fit = subjects_is_rules (sym stated.0)
+rules_without_workers rows none (Rules paths workers senders) stated fit = none workers stated.2 fit.0 fit.1
 
 pub report_without_workers : (rows : List Row) → HasNoWorkers rows → AsksNothing (codes "report", rows)
-report_without_workers rows none (Cautions file without) stated fit = report_is_cautions stated.0
-report_without_workers rows none (Report file users hosts workers senders) stated fit = none workers stated.2 fit.0 fit.1
-report_without_workers rows none (Grants file users hosts user host) stated fit = grants_is_report (sym stated.0)
-report_without_workers rows none (Roots file users hosts all) stated fit = roots_is_report (sym stated.0)
-report_without_workers rows none (Subjects file users hosts) stated fit = subjects_is_report (sym stated.0)
-report_without_workers rows none (Rules file users hosts workers senders) stated fit = rules_is_report (sym stated.0)
+report_without_workers rows none (Cautions policy without) stated fit = report_is_cautions stated.0
+report_without_workers rows none (Report paths workers senders) stated fit = none workers stated.2 fit.0 fit.1
+report_without_workers rows none (Grants paths user host) stated fit = grants_is_report (sym stated.0)
+report_without_workers rows none (Roots paths all) stated fit = roots_is_report (sym stated.0)
+report_without_workers rows none (Subjects paths) stated fit = subjects_is_report (sym stated.0)
+report_without_workers rows none (Rules paths workers senders) stated fit = rules_is_report (sym stated.0)
 
 -- a word for `--without` names no class
 pub cautions_of_bad_class : (rows : List Row) (words : List Text) → unwrap_or (all_of (codes "without") rows) [] ≡ words
     → ((classes : List CautionClass) → map class_name classes ≢ words) → AsksNothing (codes "cautions", rows)
-cautions_of_bad_class rows words are bad (Cautions file without) stated fit = bad without.items (sym stated.2 ∙ are)
-cautions_of_bad_class rows words are bad (Report file users hosts workers senders) stated fit = report_is_cautions (sym stated.0)
-cautions_of_bad_class rows words are bad (Grants file users hosts user host) stated fit = grants_is_cautions (sym stated.0)
-cautions_of_bad_class rows words are bad (Roots file users hosts all) stated fit = roots_is_cautions (sym stated.0)
-cautions_of_bad_class rows words are bad (Subjects file users hosts) stated fit = subjects_is_cautions (sym stated.0)
-cautions_of_bad_class rows words are bad (Rules file users hosts workers senders) stated fit = rules_is_cautions (sym stated.0)
+cautions_of_bad_class rows words are bad (Cautions policy without) stated fit = bad without.items (sym stated.2 ∙ are)
+cautions_of_bad_class rows words are bad (Report paths workers senders) stated fit = report_is_cautions (sym stated.0)
+cautions_of_bad_class rows words are bad (Grants paths user host) stated fit = grants_is_cautions (sym stated.0)
+cautions_of_bad_class rows words are bad (Roots paths all) stated fit = roots_is_cautions (sym stated.0)
+cautions_of_bad_class rows words are bad (Subjects paths) stated fit = subjects_is_cautions (sym stated.0)
+cautions_of_bad_class rows words are bad (Rules paths workers senders) stated fit = rules_is_cautions (sym stated.0)
 
 -- a word that names no class is no name of a class in a list of such names
 pub no_classes : (words : List (Bor (List ℕ))) (at : ℕ) → at < length words

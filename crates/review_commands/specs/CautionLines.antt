@@ -4,10 +4,10 @@ use Rattle.std.specs.Prelude.{◌==◌, if◌then◌else◌}
 use Rattle.std.specs.List.{list_any}
 use Rattle.audit_files.specs.Places.{place_text}
 use Rattle.run_base.specs.Endings.{Notices, notices}
-use Rattle.run_base.specs.FaultLines.{policy_printed}
+use Rattle.run_base.specs.FaultLines.{policy_explained}
 use Rattle.run_base.specs.Faults.{policy_status}
 use Rattle.run_base.specs.declared.fault.PolicyFault.{PolicyFault}
-use Rattle.audit_commands.specs.FaultLines.{report_printed}
+use Rattle.audit_commands.specs.FaultLines.{report_explained}
 use Rattle.audit_commands.specs.Faults.{report_status}
 use Rattle.audit_commands.specs.declared.fault.ReportFault.{ReportFault}
 use Rattle.review_cautions.specs.Classes.{class_name, class_text, classes}
@@ -88,7 +88,7 @@ notice_text found = if length found == 0 then []
 
 -- what each command prints for its faults
 abbrev pub cautions_notices : Notices PolicyFault
-cautions_notices = notices policy_status policy_printed program_name
+cautions_notices = notices policy_status policy_explained program_name
 
 abbrev pub report_notices : Notices ReportFault
-report_notices = notices report_status report_printed program_name
+report_notices = notices report_status report_explained program_name

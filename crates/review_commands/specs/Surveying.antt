@@ -6,7 +6,7 @@ use Rattle.audit_commands.specs.Faults.{directory_status}
 use Rattle.audit_commands.specs.declared.fault.DirectoryFault.TheVariants as directories
 use Rattle.audit_files.specs.Feeding.{Ahead}
 use Rattle.run_base.specs.Endings.{Notices, notices}
-use Rattle.run_base.specs.FaultLines.{error_line, memory_line, policy_printed}
+use Rattle.run_base.specs.FaultLines.{error_line, memory_line, policy_explained, policy_printed}
 use Rattle.run_base.specs.Faults.{policy_status}
 use Rattle.run_base.specs.Holding.{Holdings}
 use Rattle.run_base.specs.Loading.{IsNotChecked, PassesCheck}
@@ -120,5 +120,13 @@ table_printed program (tables.NoSuchUser name) = error_line program (codes "no s
 table_printed program (tables.NoSuchHost name) = error_line program (codes "no such host " ++ name)
 table_printed program tables.Memory = memory_line program
 
+-- the same text with the reason why a path cannot be read
+abbrev pub table_explained : List ℕ → TableFault → List ℕ
+table_explained program (tables.Policy fault) = policy_explained program fault
+table_explained program (tables.Directory fault) = table_printed program (tables.Directory fault)
+table_explained program (tables.NoSuchUser name) = table_printed program (tables.NoSuchUser name)
+table_explained program (tables.NoSuchHost name) = table_printed program (tables.NoSuchHost name)
+table_explained program tables.Memory = table_printed program tables.Memory
+
 abbrev pub table_notices : Notices TableFault
-table_notices = notices table_status table_printed program_name
+table_notices = notices table_status table_explained program_name

@@ -7,26 +7,35 @@ use Rattle.clap.specs.declared.builder.action.ArgAction.TheVariants.{Append, Set
 use Rattle.review_cautions.specs.Classes.{class_name}
 use Rattle.run_base.specs.Arguments.{IsErrorFor, IsNumberIn, required_option, required_word, senders_rule, workers_rule}
 use Rattle.review_commands.specs.declared.request.Asked.{Asked}
+use Rattle.review_commands.specs.declared.request.Paths.{Paths}
+use Rattle.review_commands.specs.declared.request.PolicyPath.{PolicyPath}
 use Rattle.review_commands.specs.declared.request.Asked.TheVariants.{Cautions, Grants, Report, Roots, Rules, Subjects}
 
 -- --without CLASS, any number of times
 abbrev pub without_rule : Rule
 without_rule = record (new_rule (codes "without")) { long = Some (codes "without"); action = Some Append }
 
--- cautions FILE [--without CLASS]...
-abbrev pub cautions_app : App
-cautions_app = with_rule (with_rule (new_app (codes "cautions")) (required_word (codes "file"))) without_rule
-
 -- --ID NAME
 abbrev pub name_rule : Text → Rule
 name_rule id = record (new_rule id) { long = Some id }
 
--- NAME FILE --users F --hosts F
-abbrev pub paths_app : Text → App
-paths_app name = with_rule (with_rule (with_rule (new_app name) (required_word (codes "file")))
-    (required_option (codes "users"))) (required_option (codes "hosts"))
+-- --root DIR
+abbrev pub root_rule : Rule
+root_rule = name_rule (codes "root")
 
--- grants FILE --users F --hosts F [--user NAME] [--host NAME]
+-- NAME FILE [--root DIR]
+abbrev pub policy_app : Text → App
+policy_app name = with_rule (with_rule (new_app name) (required_word (codes "file"))) root_rule
+
+-- cautions FILE [--root DIR] [--without CLASS]...
+abbrev pub cautions_app : App
+cautions_app = with_rule (policy_app (codes "cautions")) without_rule
+
+-- NAME FILE [--root DIR] --users F --hosts F
+abbrev pub paths_app : Text → App
+paths_app name = with_rule (with_rule (policy_app name) (required_option (codes "users"))) (required_option (codes "hosts"))
+
+-- grants FILE [--root DIR] --users F --hosts F [--user NAME] [--host NAME]
 abbrev pub grants_app : App
 grants_app = with_rule (with_rule (paths_app (codes "grants")) (name_rule (codes "user"))) (name_rule (codes "host"))
 
@@ -34,11 +43,11 @@ grants_app = with_rule (with_rule (paths_app (codes "grants")) (name_rule (codes
 abbrev pub all_rule : Rule
 all_rule = record (new_rule (codes "all")) { long = Some (codes "all"); action = Some SetTrue }
 
--- roots FILE --users F --hosts F [--all]
+-- roots FILE [--root DIR] --users F --hosts F [--all]
 abbrev pub roots_app : App
 roots_app = with_rule (paths_app (codes "roots")) all_rule
 
--- NAME FILE --users F --hosts F [--workers N] [NAME=PATH]...
+-- NAME FILE [--root DIR] --users F --hosts F [--workers N] [NAME=PATH]...
 abbrev pub judging_app : Text → App
 judging_app name = with_rule (with_rule (paths_app name) workers_rule) senders_rule
 
@@ -52,11 +61,16 @@ program_app = with_subcommand (with_subcommand (with_subcommand (with_subcommand
     cautions_app.top) (judging_app (codes "report")).top) grants_app.top) roots_app.top) (paths_app (codes "subjects")).top)
     (judging_app (codes "rules")).top
 
+-- the rows hold the main file of a policy, and the folder below which its files are, if one is given
+pub record HavePolicy (rows : List Row) (policy : PolicyPath) : Type 0 where
+  pub file_is : first_of (codes "file") rows ≡ Some policy.file.now
+  pub root_is : first_of (codes "root") rows ≡ option_map (λ s. s.now) policy.root
+
 -- the rows hold the paths of a policy, of the known users and of the known hosts
-pub record HavePaths (rows : List Row) (file users hosts : Text) : Type 0 where
-  pub file_is : first_of (codes "file") rows ≡ Some file
-  pub users_is : first_of (codes "users") rows ≡ Some users
-  pub hosts_is : first_of (codes "hosts") rows ≡ Some hosts
+pub record HavePaths (rows : List Row) (paths : Paths) : Type 0 where
+  pub policy_is : HavePolicy rows paths.policy
+  pub users_is : first_of (codes "users") rows ≡ Some paths.users.now
+  pub hosts_is : first_of (codes "hosts") rows ≡ Some paths.hosts.now
 
 -- the text of a flag says whether it is on; without one it is off
 abbrev pub IsFlag : Bool → Option Text → Type 0
@@ -65,30 +79,30 @@ IsFlag on (Some text) = (text ≡ codes "true" → on ≡ true) × (text ≡ cod
 
 -- the rows of the subcommand hold this command
 abbrev pub HoldsCommand : Asked → Text × List Row → Type 0
-HoldsCommand (Cautions file without) p =
-    (p.0 ≡ codes "cautions") × (first_of (codes "file") p.1 ≡ Some file.now)
+HoldsCommand (Cautions policy without) p =
+    (p.0 ≡ codes "cautions") × HavePolicy p.1 policy
     × (unwrap_or (all_of (codes "without") p.1) [] ≡ map class_name without.items)
-HoldsCommand (Grants file users hosts user host) p =
-    (p.0 ≡ codes "grants") × HavePaths p.1 file.now users.now hosts.now
+HoldsCommand (Grants paths user host) p =
+    (p.0 ≡ codes "grants") × HavePaths p.1 paths
     × (first_of (codes "user") p.1 ≡ option_map (λ s. s.now) user) × (first_of (codes "host") p.1 ≡ option_map (λ s. s.now) host)
-HoldsCommand (Roots file users hosts all) p =
-    (p.0 ≡ codes "roots") × HavePaths p.1 file.now users.now hosts.now × IsFlag all (one_of (codes "all") p.1)
-HoldsCommand (Subjects file users hosts) p = (p.0 ≡ codes "subjects") × HavePaths p.1 file.now users.now hosts.now
-HoldsCommand (Rules file users hosts workers senders) p =
-    (p.0 ≡ codes "rules") × HavePaths p.1 file.now users.now hosts.now × IsNumberIn workers p.1
+HoldsCommand (Roots paths all) p =
+    (p.0 ≡ codes "roots") × HavePaths p.1 paths × IsFlag all (one_of (codes "all") p.1)
+HoldsCommand (Subjects paths) p = (p.0 ≡ codes "subjects") × HavePaths p.1 paths
+HoldsCommand (Rules paths workers senders) p =
+    (p.0 ≡ codes "rules") × HavePaths p.1 paths × IsNumberIn workers p.1
     × (unwrap_or (all_of (codes "senders") p.1) [] ≡ map (λ s. s.now) senders.items)
-HoldsCommand (Report file users hosts workers senders) p =
-    (p.0 ≡ codes "report") × HavePaths p.1 file.now users.now hosts.now × IsNumberIn workers p.1
+HoldsCommand (Report paths workers senders) p =
+    (p.0 ≡ codes "report") × HavePaths p.1 paths × IsNumberIn workers p.1
     × (unwrap_or (all_of (codes "senders") p.1) [] ≡ map (λ s. s.now) senders.items)
 
 -- the number of workers is one that an audit accepts
 abbrev pub WorkersFit : Asked → Type 0
-WorkersFit (Cautions file without) = ⊤
-WorkersFit (Grants file users hosts user host) = ⊤
-WorkersFit (Roots file users hosts all) = ⊤
-WorkersFit (Subjects file users hosts) = ⊤
-WorkersFit (Rules file users hosts workers senders) = (1 ≤ workers) × (workers ≤ 16)
-WorkersFit (Report file users hosts workers senders) = (1 ≤ workers) × (workers ≤ 16)
+WorkersFit (Cautions policy without) = ⊤
+WorkersFit (Grants paths user host) = ⊤
+WorkersFit (Roots paths all) = ⊤
+WorkersFit (Subjects paths) = ⊤
+WorkersFit (Rules paths workers senders) = (1 ≤ workers) × (workers ≤ 16)
+WorkersFit (Report paths workers senders) = (1 ≤ workers) × (workers ≤ 16)
 
 -- a subcommand with these rows asks for no command: its name is another, a word is missing, a CLASS is no class of
 -- cautions, or its number of workers is outside the range that an audit accepts

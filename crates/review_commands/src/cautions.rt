@@ -12,7 +12,7 @@ use crate::lines::caution_lines;
 use crate::program_name::PROGRAM;
 use audit_files::Sink;
 use review_cautions::{Caution, CautionClass, cautions};
-use run_base::{Files, Loaded, PolicyFault, RunOutput, end_run, load_files};
+use run_base::{Files, Loaded, PolicyFault, RunOutput, end_explained, load_files};
 use std::alloc::{AllocError, Global};
 use std::mem;
 use sudo_grammar::Policy;
@@ -100,5 +100,5 @@ pub fn cautions_run<F: Files, O: Sink, E: Sink>(
         (sent E.taken E.stalled_writes err.old err.new) }
 {
     let ended = cautions_output(alloc, path, files, without);
-    end_run(alloc, PROGRAM, ended, out, err)
+    end_explained(alloc, PROGRAM, ended, out, err)
 }

@@ -3,7 +3,7 @@ ghost use Rattle.std.specs.Prelude.{◌≡◌, IfOk, codes, false};
 ghost use Rattle.clap.specs.Words.{app_of, rule_of};
 ghost use Rattle.clap.specs.declared.builder.command.Command.TheViews.{out-Command as fields_of};
 ghost use Rattle.review_commands.specs.Words.{all_rule, cautions_app, grants_app, judging_app, name_rule};
-ghost use Rattle.review_commands.specs.Words.{named_app, paths_app, program_app, roots_app, without_rule};
+ghost use Rattle.review_commands.specs.Words.{named_app, paths_app, program_app, root_rule, roots_app, without_rule};
 
 use clap::{Arg, ArgAction, Command};
 use run_base::{file, path_option, senders_words, with_subcommand, workers_option};
@@ -20,7 +20,19 @@ fn without<'a>(alloc: Global) -> Arg<'a>
         .help("A class of cautions that is not listed")
 }
 
-// Returns `cautions FILE [--without CLASS]...`.
+// Returns `--root DIR`.
+fn root<'a>(alloc: Global) -> Arg<'a>
+    ensures rule { rule_of result ≡ root_rule }
+    ensures local { result.global ≡ false }
+{
+    name_option(
+        alloc,
+        "root",
+        "The folder below which all files of the policy are",
+    )
+}
+
+// Returns `cautions FILE [--root DIR] [--without CLASS]...`.
 fn cautions<'a>(alloc: Global) -> Result<Command<'a>, AllocError>
     ensures app { IfOk result (λ c. app_of c ≡ cautions_app) }
     ensures local { IfOk result (λ c. (fields_of c).has_globals ≡ false) }
@@ -28,10 +40,11 @@ fn cautions<'a>(alloc: Global) -> Result<Command<'a>, AllocError>
     Command::new(alloc, "cautions")
         .about("Lists what sudo reads or judges otherwise")
         .arg(file(alloc))?
+        .arg(root(alloc))?
         .arg(without(alloc))
 }
 
-// Returns `NAME FILE --users F --hosts F`.
+// Returns `NAME FILE [--root DIR] --users F --hosts F`.
 fn with_paths<'a>(alloc: Global, name: &'a str, about: &'a str) -> Result<Command<'a>, AllocError>
     ensures app { IfOk result (λ c. app_of c ≡ paths_app name.entry.now) }
     ensures local { IfOk result (λ c. (fields_of c).has_globals ≡ false) }
@@ -39,6 +52,7 @@ fn with_paths<'a>(alloc: Global, name: &'a str, about: &'a str) -> Result<Comman
     Command::new(alloc, name)
         .about(about)
         .arg(file(alloc))?
+        .arg(root(alloc))?
         .arg(path_option(alloc, "users", "The known users, as CSV"))?
         .arg(path_option(alloc, "hosts", "The known hosts, as CSV"))
 }
@@ -51,7 +65,7 @@ fn name_option<'a>(alloc: Global, id: &'a str, help: &'a str) -> Arg<'a>
     Arg::new(alloc, id).long(id).help(help)
 }
 
-// Returns `grants FILE --users F --hosts F [--user NAME] [--host NAME]`.
+// Returns `grants FILE [--root DIR] --users F --hosts F [--user NAME] [--host NAME]`.
 fn grants<'a>(alloc: Global) -> Result<Command<'a>, AllocError>
     ensures app { IfOk result (λ c. app_of c ≡ grants_app) }
     ensures local { IfOk result (λ c. (fields_of c).has_globals ≡ false) }
@@ -73,7 +87,7 @@ fn all<'a>(alloc: Global) -> Arg<'a>
         .help("Also who can by listed commands alone")
 }
 
-// Returns `roots FILE --users F --hosts F [--all]`.
+// Returns `roots FILE [--root DIR] --users F --hosts F [--all]`.
 fn roots<'a>(alloc: Global) -> Result<Command<'a>, AllocError>
     ensures app { IfOk result (λ c. app_of c ≡ roots_app) }
     ensures local { IfOk result (λ c. (fields_of c).has_globals ≡ false) }
@@ -82,7 +96,7 @@ fn roots<'a>(alloc: Global) -> Result<Command<'a>, AllocError>
     with_paths(alloc, "roots", about)?.arg(all(alloc))
 }
 
-// Returns `subjects FILE --users F --hosts F`.
+// Returns `subjects FILE [--root DIR] --users F --hosts F`.
 fn subjects<'a>(alloc: Global) -> Result<Command<'a>, AllocError>
     ensures app { IfOk result (λ c. app_of c ≡ paths_app (codes "subjects")) }
     ensures local { IfOk result (λ c. (fields_of c).has_globals ≡ false) }
@@ -91,7 +105,7 @@ fn subjects<'a>(alloc: Global) -> Result<Command<'a>, AllocError>
     with_paths(alloc, "subjects", about)
 }
 
-// Returns `rules FILE --users F --hosts F [--workers N] [NAME=PATH]...`.
+// Returns `rules FILE [--root DIR] --users F --hosts F [--workers N] [NAME=PATH]...`.
 fn rules<'a>(alloc: Global) -> Result<Command<'a>, AllocError>
     ensures app { IfOk result (λ c. app_of c ≡ judging_app (codes "rules")) }
     ensures local { IfOk result (λ c. (fields_of c).has_globals ≡ false) }
@@ -102,7 +116,7 @@ fn rules<'a>(alloc: Global) -> Result<Command<'a>, AllocError>
         .arg(senders_words(alloc))
 }
 
-// Returns `report FILE --users F --hosts F [--workers N] [NAME=PATH]...`.
+// Returns `report FILE [--root DIR] --users F --hosts F [--workers N] [NAME=PATH]...`.
 fn report<'a>(alloc: Global) -> Result<Command<'a>, AllocError>
     ensures app { IfOk result (λ c. app_of c ≡ judging_app (codes "report")) }
     ensures local { IfOk result (λ c. (fields_of c).has_globals ≡ false) }

@@ -4,7 +4,7 @@ ghost use Rattle.run_base.specs.Endings.{notices, writer_states as sent};
 ghost use Rattle.review_commands.specs.Endings.{EndsNoted, IsNoted};
 
 use audit_files::{Sink, write_all_of};
-use run_base::{Fails, report_fault, write_text};
+use run_base::{Fails, report_explained, write_text};
 use std::alloc::Global;
 
 /// The text that a run prints on the output, the notice that it then prints on the error output, and its exit status.
@@ -16,7 +16,7 @@ pub(crate) struct NotedOutput {
 }
 
 /// Ends a run of the program of this name: prints its text on `out` and then its notice on `err`, and returns its status; or
-/// prints the fault on `err` and returns the fault's status. A write on `out` that fails is a fault; one on `err` is ignored.
+/// prints the fault on `err`, with the reason why a path cannot be read, and returns the fault's status. A write on `out` that fails is a fault; one on `err` is ignored.
 pub(crate) fn end_noted<F: Fails, O: Sink, E: Sink>(
     alloc: Global,
     program: &[u8],
@@ -24,7 +24,7 @@ pub(crate) fn end_noted<F: Fails, O: Sink, E: Sink>(
     out: &mut O,
     err: &mut E,
 ) -> u8
-    ensures { EndsNoted (notices F.status F.printed program.now) (IsNoted ended)
+    ensures { EndsNoted (notices F.status F.explained program.now) (IsNoted ended)
         (λ fault. ended ≡ Err fault) result
         (sent O.taken O.stalled_writes out.old out.new)
         (sent E.taken E.stalled_writes err.old err.new) }
@@ -32,8 +32,8 @@ pub(crate) fn end_noted<F: Fails, O: Sink, E: Sink>(
     match ended {
         Ok(noted) => match write_all_of(out, &noted.text) {
             Ok(()) => write_text(&noted.notice, noted.status, err),
-            Err(lost) => report_fault(alloc, program, lost, err),
+            Err(lost) => report_explained(alloc, program, lost, err),
         },
-        Err(fault) => report_fault(alloc, program, fault, err),
+        Err(fault) => report_explained(alloc, program, fault, err),
     }
 }

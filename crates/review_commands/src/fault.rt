@@ -1,7 +1,7 @@
 //! The faults of a table, each with its exit status and its line.
 ghost use Rattle.std.specs.Prelude.{◌≡◌, ◌++◌, IfOk, codes};
 ghost use Rattle.run_base.specs.FaultLines.{error_line};
-ghost use Rattle.review_commands.specs.Surveying.{table_printed, table_status};
+ghost use Rattle.review_commands.specs.Surveying.{table_explained, table_printed, table_status};
 
 use audit_commands::DirectoryFault;
 use run_base::{Fails, PolicyFault, begin_line, push, push_both};
@@ -55,6 +55,8 @@ impl Fails for TableFault {
 
     ghost printed = { table_printed };
 
+    ghost explained = { table_explained };
+
     fn status(&self) -> u8 {
         match self {
             TableFault::Policy(fault) => fault.status(),
@@ -75,6 +77,13 @@ impl Fails for TableFault {
                 name_line(alloc, program, b"no such host ", name.as_slice())
             }
             TableFault::Memory => AllocError.printed(alloc, program),
+        }
+    }
+
+    fn explained(self, alloc: Global, program: &[u8]) -> Result<Vec<u8>, AllocError> {
+        match self {
+            TableFault::Policy(fault) => fault.explained(alloc, program),
+            fault => fault.printed(alloc, program),
         }
     }
 }

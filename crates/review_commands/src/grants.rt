@@ -14,7 +14,7 @@ use crate::program_name::PROGRAM;
 use crate::survey::{Survey, read_survey};
 use audit_files::{Feed, Sink};
 use review_grants::{Scope, Stopped, write_grants};
-use run_base::{Files, report_fault, write_text};
+use run_base::{Files, report_explained, write_text};
 use std::alloc::{AllocError, Global};
 use std::mem;
 use sudo_match::Directory;
@@ -64,8 +64,8 @@ fn report_stop<E: Sink>(alloc: Global, stopped: Stopped, err: &mut E) -> u8
         (sent E.taken E.stalled_writes err.old err.new) }
 {
     match stopped {
-        Stopped::Write(lost) => report_fault(alloc, PROGRAM, lost, err),
-        Stopped::Memory => report_fault(alloc, PROGRAM, AllocError, err),
+        Stopped::Write(lost) => report_explained(alloc, PROGRAM, lost, err),
+        Stopped::Memory => report_explained(alloc, PROGRAM, AllocError, err),
     }
 }
 
@@ -105,7 +105,7 @@ fn write_named<O: Sink, E: Sink>(
 {
     match scope_of(alloc, &survey.directory, names) {
         Ok(scope) => write_scope(alloc, survey, scope, out, err),
-        Err(fault) => report_fault(alloc, PROGRAM, fault, err),
+        Err(fault) => report_explained(alloc, PROGRAM, fault, err),
     }
 }
 
@@ -142,6 +142,6 @@ pub fn grants_run<F: Files, U: Feed, H: Feed, O: Sink, E: Sink>(
             mem::forget(survey);
             status
         }
-        Err(fault) => report_fault(alloc, PROGRAM, fault, err),
+        Err(fault) => report_explained(alloc, PROGRAM, fault, err),
     }
 }

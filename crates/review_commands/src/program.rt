@@ -4,9 +4,10 @@ ghost use Rattle.review_commands.specs.Words.{WorkersFit};
 
 use crate::cautions::cautions_run;
 use crate::grants::{ScopeNames, grants_run};
+use crate::policy_files::policy_files;
 use crate::program_name::PROGRAM;
 use crate::report::{Form, report_into};
-use crate::request::Asked;
+use crate::request::{Asked, Paths};
 use crate::roots::roots_run;
 use crate::subjects::subjects_run;
 use crate::words::{asked, unread};
@@ -14,20 +15,18 @@ use audit_commands::{OpenedFiles, Work, open_all};
 use audit_files::Device;
 use clap::Error;
 use clap::error::ErrorKind;
-use run_base::{Disk, SystemOpener, report_fault};
+use run_base::{SystemOpener, report_explained};
 use std::alloc::AllocError;
 use std::env;
 use std::sync::Wait;
 use std::thread::Threads;
 
-// Answers the requests of the files that the words `NAME=PATH` name, and returns the exit status.
+// Answers the requests of the files that the words `NAME=PATH` name, under a policy, and returns the exit status.
 // `threads` is the runtime, if it can start threads.
 fn run_report<T: Threads + Wait + Sync>(
     rt: &HostRuntime,
     threads: &T,
-    file: &str,
-    users: &str,
-    hosts: &str,
+    paths: Paths<'_>,
     workers: u32,
     words: &[&str],
     form: Form,
@@ -37,7 +36,13 @@ fn run_report<T: Threads + Wait + Sync>(
     let alloc = rt.alloc();
     let mut out = Device::new(rt.stdout());
     let mut err = Device::new(rt.stderr());
-    match open_all(alloc, &SystemOpener::new(rt), users, hosts, words) {
+    match open_all(
+        alloc,
+        &SystemOpener::new(rt),
+        paths.users,
+        paths.hosts,
+        words,
+    ) {
         Ok(files) => {
             let OpenedFiles {
                 mut users,
@@ -47,8 +52,8 @@ fn run_report<T: Threads + Wait + Sync>(
             report_into(
                 alloc,
                 threads,
-                file.as_bytes(),
-                &mut Disk::new(rt),
+                paths.policy.file.as_bytes(),
+                &mut policy_files(rt, paths.policy),
                 &mut users,
                 &mut hosts,
                 Work { sources, workers },
@@ -57,16 +62,16 @@ fn run_report<T: Threads + Wait + Sync>(
                 &mut err,
             )
         }
-        Err(fault) => report_fault(alloc, PROGRAM, fault, &mut err),
+        Err(fault) => report_explained(alloc, PROGRAM, fault, &mut err),
     }
 }
 
-// Lists the grants of the policy of a file, and returns the exit status.
-fn run_grants(rt: &HostRuntime, file: &str, users: &str, hosts: &str, names: ScopeNames<'_>) -> u8 {
+// Lists the grants of a policy, and returns the exit status.
+fn run_grants(rt: &HostRuntime, paths: Paths<'_>, names: ScopeNames<'_>) -> u8 {
     let alloc = rt.alloc();
     let mut out = Device::new(rt.stdout());
     let mut err = Device::new(rt.stderr());
-    match open_all(alloc, &SystemOpener::new(rt), users, hosts, &[]) {
+    match open_all(alloc, &SystemOpener::new(rt), paths.users, paths.hosts, &[]) {
         Ok(files) => {
             let OpenedFiles {
                 mut users,
@@ -75,8 +80,8 @@ fn run_grants(rt: &HostRuntime, file: &str, users: &str, hosts: &str, names: Sco
             } = files;
             grants_run(
                 alloc,
-                file.as_bytes(),
-                &mut Disk::new(rt),
+                paths.policy.file.as_bytes(),
+                &mut policy_files(rt, paths.policy),
                 &mut users,
                 &mut hosts,
                 names,
@@ -84,16 +89,16 @@ fn run_grants(rt: &HostRuntime, file: &str, users: &str, hosts: &str, names: Sco
                 &mut err,
             )
         }
-        Err(fault) => report_fault(alloc, PROGRAM, fault, &mut err),
+        Err(fault) => report_explained(alloc, PROGRAM, fault, &mut err),
     }
 }
 
-// Lists who can become root under the policy of a file, and returns the exit status.
-fn run_roots(rt: &HostRuntime, file: &str, users: &str, hosts: &str, all: bool) -> u8 {
+// Lists who can become root under a policy, and returns the exit status.
+fn run_roots(rt: &HostRuntime, paths: Paths<'_>, all: bool) -> u8 {
     let alloc = rt.alloc();
     let mut out = Device::new(rt.stdout());
     let mut err = Device::new(rt.stderr());
-    match open_all(alloc, &SystemOpener::new(rt), users, hosts, &[]) {
+    match open_all(alloc, &SystemOpener::new(rt), paths.users, paths.hosts, &[]) {
         Ok(files) => {
             let OpenedFiles {
                 mut users,
@@ -102,8 +107,8 @@ fn run_roots(rt: &HostRuntime, file: &str, users: &str, hosts: &str, all: bool) 
             } = files;
             roots_run(
                 alloc,
-                file.as_bytes(),
-                &mut Disk::new(rt),
+                paths.policy.file.as_bytes(),
+                &mut policy_files(rt, paths.policy),
                 &mut users,
                 &mut hosts,
                 all,
@@ -111,16 +116,16 @@ fn run_roots(rt: &HostRuntime, file: &str, users: &str, hosts: &str, all: bool) 
                 &mut err,
             )
         }
-        Err(fault) => report_fault(alloc, PROGRAM, fault, &mut err),
+        Err(fault) => report_explained(alloc, PROGRAM, fault, &mut err),
     }
 }
 
-// Lists what of the policy of a file reaches nobody, and returns the exit status.
-fn run_subjects(rt: &HostRuntime, file: &str, users: &str, hosts: &str) -> u8 {
+// Lists what of a policy reaches nobody, and returns the exit status.
+fn run_subjects(rt: &HostRuntime, paths: Paths<'_>) -> u8 {
     let alloc = rt.alloc();
     let mut out = Device::new(rt.stdout());
     let mut err = Device::new(rt.stderr());
-    match open_all(alloc, &SystemOpener::new(rt), users, hosts, &[]) {
+    match open_all(alloc, &SystemOpener::new(rt), paths.users, paths.hosts, &[]) {
         Ok(files) => {
             let OpenedFiles {
                 mut users,
@@ -129,15 +134,15 @@ fn run_subjects(rt: &HostRuntime, file: &str, users: &str, hosts: &str) -> u8 {
             } = files;
             subjects_run(
                 alloc,
-                file.as_bytes(),
-                &mut Disk::new(rt),
+                paths.policy.file.as_bytes(),
+                &mut policy_files(rt, paths.policy),
                 &mut users,
                 &mut hosts,
                 &mut out,
                 &mut err,
             )
         }
-        Err(fault) => report_fault(alloc, PROGRAM, fault, &mut err),
+        Err(fault) => report_explained(alloc, PROGRAM, fault, &mut err),
     }
 }
 
@@ -156,65 +161,34 @@ fn run<T: Threads + Wait + Sync>(rt: &HostRuntime, threads: &T, asked: Asked<'_>
     let alloc = rt.alloc();
     let mut out = Device::new(rt.stdout());
     let mut err = Device::new(rt.stderr());
-    let mut disk = Disk::new(rt);
     match asked {
-        Asked::Cautions { file, without } => cautions_run(
+        Asked::Cautions { policy, without } => cautions_run(
             alloc,
-            file.as_bytes(),
-            &mut disk,
+            policy.file.as_bytes(),
+            &mut policy_files(rt, policy),
             &without,
             &mut out,
             &mut err,
         ),
-        Asked::Grants {
-            file,
-            users,
-            hosts,
-            user,
-            host,
-        } => {
+        Asked::Grants { paths, user, host } => {
             let names = ScopeNames {
                 user: bytes_of(user),
                 host: bytes_of(host),
             };
-            run_grants(rt, file, users, hosts, names)
+            run_grants(rt, paths, names)
         }
-        Asked::Roots {
-            file,
-            users,
-            hosts,
-            all,
-        } => run_roots(rt, file, users, hosts, all),
-        Asked::Subjects { file, users, hosts } => run_subjects(rt, file, users, hosts),
+        Asked::Roots { paths, all } => run_roots(rt, paths, all),
+        Asked::Subjects { paths } => run_subjects(rt, paths),
         Asked::Rules {
-            file,
-            users,
-            hosts,
+            paths,
             workers,
             senders,
-        } => {
-            let words = senders.as_slice();
-            run_report(rt, threads, file, users, hosts, workers, words, Form::Rules)
-        }
+        } => run_report(rt, threads, paths, workers, &senders, Form::Rules),
         Asked::Report {
-            file,
-            users,
-            hosts,
+            paths,
             workers,
             senders,
-        } => {
-            let words = senders.as_slice();
-            run_report(
-                rt,
-                threads,
-                file,
-                users,
-                hosts,
-                workers,
-                words,
-                Form::Requests,
-            )
-        }
+        } => run_report(rt, threads, paths, workers, &senders, Form::Requests),
     }
 }
 
@@ -223,7 +197,7 @@ fn run<T: Threads + Wait + Sync>(rt: &HostRuntime, threads: &T, asked: Asked<'_>
 fn refuse(rt: &HostRuntime, error: &Error) -> u8 {
     if error.kind() == ErrorKind::OutOfMemory {
         let mut err = Device::new(rt.stderr());
-        return report_fault(rt.alloc(), PROGRAM, AllocError, &mut err);
+        return report_explained(rt.alloc(), PROGRAM, AllocError, &mut err);
     }
     let printed = error.print(rt);
     if error.use_stderr() {

@@ -2,50 +2,55 @@
 
 use review_cautions::CautionClass;
 
+/// The main file of a policy, and the folder below which all files of the policy are, if one is given.
+#[derive(Clone, Copy, Debug)]
+pub struct PolicyPath<'a> {
+    pub file: &'a str,
+    pub root: Option<&'a str>,
+}
+
+/// The paths of a policy, of the known users and of the known hosts.
+#[derive(Clone, Copy, Debug)]
+pub struct Paths<'a> {
+    pub policy: PolicyPath<'a>,
+    pub users: &'a str,
+    pub hosts: &'a str,
+}
+
 /// A command that the command line asks for, with its texts as given.
 #[derive(Debug, Drop)]
 pub enum Asked<'a> {
-    /// `cautions FILE [--without CLASS]...`: lists what sudo reads or judges otherwise, but for some classes.
+    /// `cautions FILE [--root DIR] [--without CLASS]...`: lists what sudo reads or judges otherwise, but for some classes.
     Cautions {
-        file: &'a str,
+        policy: PolicyPath<'a>,
         without: Vec<CautionClass>,
     },
-    /// `grants FILE --users F --hosts F [--user NAME] [--host NAME]`: lists the grants of a policy, with the known users and
-    /// hosts of each.
+    /// `grants FILE [--root DIR] --users F --hosts F [--user NAME] [--host NAME]`: lists the grants of a policy, with the known
+    /// users and hosts of each.
     Grants {
-        file: &'a str,
-        users: &'a str,
-        hosts: &'a str,
+        paths: Paths<'a>,
         user: Option<&'a str>,
         host: Option<&'a str>,
     },
-    /// `roots FILE --users F --hosts F [--all]`: lists who can become root, also by listed commands alone if `all`.
+    /// `roots FILE [--root DIR] --users F --hosts F [--all]`: lists who can become root, also by listed commands alone if `all`.
     Roots {
-        file: &'a str,
-        users: &'a str,
-        hosts: &'a str,
+        paths: Paths<'a>,
         all: bool,
     },
-    /// `subjects FILE --users F --hosts F`: lists what of a policy reaches nobody.
+    /// `subjects FILE [--root DIR] --users F --hosts F`: lists what of a policy reaches nobody.
     Subjects {
-        file: &'a str,
-        users: &'a str,
-        hosts: &'a str,
+        paths: Paths<'a>,
     },
-    /// `rules FILE --users F --hosts F [--workers N] [NAME=PATH]...`: counts the requests that each rule decides.
+    /// `rules FILE [--root DIR] --users F --hosts F [--workers N] [NAME=PATH]...`: counts the requests that each rule decides.
     Rules {
-        file: &'a str,
-        users: &'a str,
-        hosts: &'a str,
+        paths: Paths<'a>,
         workers: u32,
         /// The words `NAME=PATH`, as given.
         senders: Vec<&'a str>,
     },
-    /// `report FILE --users F --hosts F [--workers N] [NAME=PATH]...`: answers requests, each beside its answer.
+    /// `report FILE [--root DIR] --users F --hosts F [--workers N] [NAME=PATH]...`: answers requests, each beside its answer.
     Report {
-        file: &'a str,
-        users: &'a str,
-        hosts: &'a str,
+        paths: Paths<'a>,
         workers: u32,
         /// The words `NAME=PATH`, as given.
         senders: Vec<&'a str>,

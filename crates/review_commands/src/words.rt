@@ -1,17 +1,17 @@
 //! The words of the command line.
 ghost use Rattle.std.specs.Prelude.{◌≡◌, ◌≢◌, None, Some, IfErr, IfOk, IfSome, List, codes, map};
-ghost use Rattle.clap.specs.Words.{Row, Text, app_of, found_of, kind_of as error_kind, one_of, rows_of};
+ghost use Rattle.clap.specs.Words.{Row, Text, app_of, first_of, found_of, kind_of as error_kind, one_of, rows_of};
 ghost use Rattle.clap.specs.Words.{subcommand_of, subcommand_rows_of};
 ghost use Rattle.run_base.specs.Arguments.{IsUnaskedKind, IsUnreadableWord};
 ghost use Rattle.review_cautions.specs.Classes.{class_name};
 ghost use Rattle.review_cautions.specs.declared.class.CautionClass.{CautionClass};
 ghost use Rattle.review_commands.specs.Words.{AsksNothing, IsErrorOfWords};
 ghost use Rattle.review_commands.specs.Body.Paths.{LackPaths};
-ghost use Rattle.review_commands.specs.Words.{HavePaths, HoldsCommand, IsFlag};
+ghost use Rattle.review_commands.specs.Words.{HavePaths, HavePolicy, HoldsCommand, IsFlag};
 ghost use Rattle.review_commands.specs.Words.{WorkersFit, program_app};
 
 use crate::command_line::program;
-use crate::request::Asked;
+use crate::request::{Asked, Paths, PolicyPath};
 use clap::error::ErrorKind;
 use clap::{ArgMatches, Command, Error};
 use review_cautions::{CautionClass, class_named};
@@ -69,6 +69,16 @@ fn classes_named(alloc: Global, words: &[&str]) -> Result<Vec<CautionClass>, Una
     Ok(classes)
 }
 
+// Returns the policy that a command is about, or `None` if it has no main file.
+fn policy_of<'a>(given: &ArgMatches<'a>) -> Option<PolicyPath<'a>>
+    ensures stated { IfSome result (HavePolicy (rows_of (found_of given.now))) }
+    ensures none { result ≡ None → first_of (codes "file") (rows_of (found_of given.now)) ≡ None }
+{
+    let file = value(given, "file")?;
+    let root = value(given, "root");
+    Some(PolicyPath { file, root })
+}
+
 // Returns the command of the values of `cautions`.
 fn asked_cautions<'a>(alloc: Global, given: &ArgMatches<'a>) -> Result<Asked<'a>, Unasked>
     ensures stated { IfOk result
@@ -77,32 +87,27 @@ fn asked_cautions<'a>(alloc: Global, given: &ArgMatches<'a>) -> Result<Asked<'a>
     ensures nothing { IfErr result (λ e. e ≢ Unasked.Memory
         → AsksNothing (codes "cautions", rows_of (found_of given.now))) }
 {
-    let Some(file) = value(given, "file") else {
+    let Some(policy) = policy_of(given) else {
         return Err(Unasked::Missing);
     };
     let words = values(alloc, given, "without")?;
     let without = classes_named(alloc, &words)?;
-    Ok(Asked::Cautions { file, without })
-}
-
-// The paths of a policy, of the known users and of the known hosts.
-#[derive(Clone, Copy)]
-struct Paths<'a> {
-    file: &'a str,
-    users: &'a str,
-    hosts: &'a str,
+    Ok(Asked::Cautions { policy, without })
 }
 
 // Returns the paths that a command takes, or `None` if one has no value.
 fn paths_of<'a>(given: &ArgMatches<'a>) -> Option<Paths<'a>>
-    ensures stated { IfSome result (λ p. HavePaths (rows_of (found_of given.now))
-        p.file.now p.users.now p.hosts.now) }
+    ensures stated { IfSome result (HavePaths (rows_of (found_of given.now))) }
     ensures none { result ≡ None → LackPaths (rows_of (found_of given.now)) }
 {
-    let file = value(given, "file")?;
+    let policy = policy_of(given)?;
     let users = value(given, "users")?;
     let hosts = value(given, "hosts")?;
-    Some(Paths { file, users, hosts })
+    Some(Paths {
+        policy,
+        users,
+        hosts,
+    })
 }
 
 // Returns the command of the values of `grants`.
@@ -113,13 +118,11 @@ fn asked_grants<'a>(given: &ArgMatches<'a>) -> Result<Asked<'a>, Unasked>
     ensures nothing { IfErr result (λ e. e ≢ Unasked.Memory
         → AsksNothing (codes "grants", rows_of (found_of given.now))) }
 {
-    let Some(Paths { file, users, hosts }) = paths_of(given) else {
+    let Some(paths) = paths_of(given) else {
         return Err(Unasked::Missing);
     };
     Ok(Asked::Grants {
-        file,
-        users,
-        hosts,
+        paths,
         user: value(given, "user"),
         host: value(given, "host"),
     })
@@ -140,13 +143,11 @@ fn asked_roots<'a>(given: &ArgMatches<'a>) -> Result<Asked<'a>, Unasked>
     ensures nothing { IfErr result (λ e. e ≢ Unasked.Memory
         → AsksNothing (codes "roots", rows_of (found_of given.now))) }
 {
-    let Some(Paths { file, users, hosts }) = paths_of(given) else {
+    let Some(paths) = paths_of(given) else {
         return Err(Unasked::Missing);
     };
     Ok(Asked::Roots {
-        file,
-        users,
-        hosts,
+        paths,
         all: flag(given, "all"),
     })
 }
@@ -160,7 +161,7 @@ fn asked_subjects<'a>(given: &ArgMatches<'a>) -> Result<Asked<'a>, Unasked>
         → AsksNothing (codes "subjects", rows_of (found_of given.now))) }
 {
     match paths_of(given) {
-        Some(Paths { file, users, hosts }) => Ok(Asked::Subjects { file, users, hosts }),
+        Some(paths) => Ok(Asked::Subjects { paths }),
         None => Err(Unasked::Missing),
     }
 }
@@ -173,7 +174,7 @@ fn asked_rules<'a>(alloc: Global, given: &ArgMatches<'a>) -> Result<Asked<'a>, U
     ensures nothing { IfErr result (λ e. e ≢ Unasked.Memory
         → AsksNothing (codes "rules", rows_of (found_of given.now))) }
 {
-    let Some(Paths { file, users, hosts }) = paths_of(given) else {
+    let Some(paths) = paths_of(given) else {
         return Err(Unasked::Missing);
     };
     let Some(workers) = workers(given) else {
@@ -181,9 +182,7 @@ fn asked_rules<'a>(alloc: Global, given: &ArgMatches<'a>) -> Result<Asked<'a>, U
     };
     let senders = values(alloc, given, "senders")?;
     Ok(Asked::Rules {
-        file,
-        users,
-        hosts,
+        paths,
         workers,
         senders,
     })
@@ -197,7 +196,7 @@ fn asked_report<'a>(alloc: Global, given: &ArgMatches<'a>) -> Result<Asked<'a>, 
     ensures nothing { IfErr result (λ e. e ≢ Unasked.Memory
         → AsksNothing (codes "report", rows_of (found_of given.now))) }
 {
-    let Some(Paths { file, users, hosts }) = paths_of(given) else {
+    let Some(paths) = paths_of(given) else {
         return Err(Unasked::Missing);
     };
     let Some(workers) = workers(given) else {
@@ -205,9 +204,7 @@ fn asked_report<'a>(alloc: Global, given: &ArgMatches<'a>) -> Result<Asked<'a>, 
     };
     let senders = values(alloc, given, "senders")?;
     Ok(Asked::Report {
-        file,
-        users,
-        hosts,
+        paths,
         workers,
         senders,
     })
@@ -298,7 +295,8 @@ fn asked_of<'a, S: AsStr>(
 /// `cautions FILE [--without CLASS]...`, `report FILE --users F --hosts F [--workers N] [NAME=PATH]...`,
 /// `grants FILE --users F --hosts F [--user NAME] [--host NAME]`, `roots FILE --users F --hosts F [--all]`,
 /// `subjects FILE --users F --hosts F`, or
-/// `rules FILE --users F --hosts F [--workers N] [NAME=PATH]...`, where N is 1 to 16, by default 2.
+/// `rules FILE --users F --hosts F [--workers N] [NAME=PATH]...`, where N is 1 to 16, by default 2; each takes `--root DIR`
+/// behind its name.
 ///
 /// Returns `clap`'s error, apart from allocation failure, exactly if `clap` does not accept the
 /// words (they are no such command, or ask for help or for the version), or a CLASS is no class of cautions.

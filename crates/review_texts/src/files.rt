@@ -1,6 +1,6 @@
 //! Files whose texts are masked.
-ghost use Rattle.std.specs.Prelude.{◌≡◌, ◌≢◌, ℕ, List, Option, None, IfErr, IfOk};
-ghost use Rattle.run_base.specs.Holding.{Holdings, HoldsFile, HoldsFolder, IsTooLong, IsUnreadable};
+ghost use Rattle.std.specs.Prelude.{◌≡◌, ℕ, List, Option, None, IfErr, IfOk};
+ghost use Rattle.run_base.specs.Holding.{Holdings, HoldsFile, HoldsFolder, IsFileFault, IsFolderFault};
 ghost use Rattle.review_texts.specs.MaskedTexts.{IsMaskedFile};
 
 use crate::texts::mask_text;
@@ -39,15 +39,11 @@ impl<F: Files> Files for Masked<F> {
 
     fn file(&mut self, alloc: Global, path: &[u8]) -> Result<Option<Seq<u8>>, FilesFault>
         ensures text { IfOk result (λ text. HoldsFile None path.now text) }
-        ensures failed { IfErr result (λ e. e ≡ FilesFault.Failed → IsUnreadable None path.now) }
-        ensures long { IfErr result (λ e. e ≡ FilesFault.TooLong → IsTooLong None path.now) }
+        ensures fault { IfErr result (IsFileFault None path.now) }
         ensures same { ◌≡◌ {A = Option Holdings} None None }
         ensures masked { IfOk result (λ masked. (text : Option (List ℕ))
             × HoldsFile (F.held self.old.files) path.now text × IsMaskedFile text masked) }
-        ensures unread { IfErr result (λ e. e ≡ FilesFault.Failed
-            → IsUnreadable (F.held self.old.files) path.now) }
-        ensures too_long { IfErr result (λ e. e ≡ FilesFault.TooLong
-            → IsTooLong (F.held self.old.files) path.now) }
+        ensures own_fault { IfErr result (IsFileFault (F.held self.old.files) path.now) }
         ensures kept { F.held self.new.files ≡ F.held self.old.files }
     {
         let text = self.files.file(alloc, path)?;
@@ -56,15 +52,11 @@ impl<F: Files> Files for Masked<F> {
 
     fn main_file(&mut self, alloc: Global, path: &[u8]) -> Result<Option<Seq<u8>>, FilesFault>
         ensures text { IfOk result (λ text. HoldsFile None path.now text) }
-        ensures failed { IfErr result (λ e. e ≡ FilesFault.Failed → IsUnreadable None path.now) }
-        ensures long { IfErr result (λ e. e ≡ FilesFault.TooLong → IsTooLong None path.now) }
+        ensures fault { IfErr result (IsFileFault None path.now) }
         ensures same { ◌≡◌ {A = Option Holdings} None None }
         ensures masked { IfOk result (λ masked. (text : Option (List ℕ))
             × HoldsFile (F.held self.old.files) path.now text × IsMaskedFile text masked) }
-        ensures unread { IfErr result (λ e. e ≡ FilesFault.Failed
-            → IsUnreadable (F.held self.old.files) path.now) }
-        ensures too_long { IfErr result (λ e. e ≡ FilesFault.TooLong
-            → IsTooLong (F.held self.old.files) path.now) }
+        ensures own_fault { IfErr result (IsFileFault (F.held self.old.files) path.now) }
         ensures kept { F.held self.new.files ≡ F.held self.old.files }
     {
         let text = self.files.main_file(alloc, path)?;
@@ -73,12 +65,10 @@ impl<F: Files> Files for Masked<F> {
 
     fn folder(&mut self, alloc: Global, path: &[u8]) -> Result<Seq<Seq<u8>>, FilesFault>
         ensures names { IfOk result (λ names. HoldsFolder None path.now names) }
-        ensures failed { IfErr result (λ e. e ≡ FilesFault.Failed → IsUnreadable None path.now) }
-        ensures long { IfErr result (λ e. e ≢ FilesFault.TooLong) }
+        ensures fault { IfErr result (IsFolderFault None path.now) }
         ensures same { ◌≡◌ {A = Option Holdings} None None }
         ensures held { IfOk result (λ names. HoldsFolder (F.held self.old.files) path.now names) }
-        ensures unread { IfErr result (λ e. e ≡ FilesFault.Failed
-            → IsUnreadable (F.held self.old.files) path.now) }
+        ensures own_fault { IfErr result (IsFolderFault (F.held self.old.files) path.now) }
         ensures kept { F.held self.new.files ≡ F.held self.old.files }
     {
         self.files.folder(alloc, path)

@@ -2,7 +2,7 @@
 use Rattle.std.specs.Prelude.{ℕ, List, [], ◌∷◌, ◌++◌, codes, decimal}
 use Rattle.std.specs.declared.alloc.AllocError.{AllocError}
 use Rattle.audit_files.specs.declared.sink.WriteFault.{WriteFault}
-use Rattle.run_base.specs.FaultTexts.{cannot_read, load_fault_text, no_memory}
+use Rattle.run_base.specs.FaultTexts.{cannot_read, cannot_read_since, load_fault_text, no_memory}
 use Rattle.run_base.specs.declared.fault.OpenFault.{OpenFault}
 use Rattle.run_base.specs.declared.fault.OpenFault.TheVariants as opens
 use Rattle.run_base.specs.declared.fault.PolicyFault.{PolicyFault}
@@ -28,13 +28,27 @@ write_printed program fault = write_line program fault.written
 
 -- the errors of a policy are printed as `check` prints them, any other fault as a line
 abbrev pub policy_printed : List ℕ → PolicyFault → List ℕ
-policy_printed program (policies.CannotRead path) = error_line program (cannot_read path)
+policy_printed program (policies.CannotRead path why) = error_line program (cannot_read path)
 policy_printed program (policies.TooLong path) = error_line program (path ++ codes ": text too long")
 policy_printed program policies.TooManyFiles = error_line program (codes "too many files")
-policy_printed program (policies.Refused read fault) = error_line program (load_fault_text read fault)
+policy_printed program (policies.Refused read fault text) = error_line program (load_fault_text read fault)
 policy_printed program (policies.Errors lines) = lines.items
 policy_printed program policies.Memory = memory_line program
 
 abbrev pub open_printed : List ℕ → OpenFault → List ℕ
-open_printed program (opens.CannotRead path) = error_line program (cannot_read path)
+open_printed program (opens.CannotRead path why) = error_line program (cannot_read path)
 open_printed program opens.Memory = memory_line program
+
+-- the same texts as a program prints them that says why a path cannot be read
+
+abbrev pub policy_explained : List ℕ → PolicyFault → List ℕ
+policy_explained program (policies.CannotRead path why) = error_line program (cannot_read_since path why)
+policy_explained program (policies.TooLong path) = policy_printed program (policies.TooLong path)
+policy_explained program policies.TooManyFiles = policy_printed program policies.TooManyFiles
+policy_explained program (policies.Refused read fault text) = policy_printed program (policies.Refused read fault text)
+policy_explained program (policies.Errors lines) = policy_printed program (policies.Errors lines)
+policy_explained program policies.Memory = policy_printed program policies.Memory
+
+abbrev pub open_explained : List ℕ → OpenFault → List ℕ
+open_explained program (opens.CannotRead path why) = error_line program (cannot_read_since path why)
+open_explained program opens.Memory = open_printed program opens.Memory

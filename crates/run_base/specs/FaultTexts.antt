@@ -1,5 +1,5 @@
 -- The texts of faults of a policy, as a program prints them.
-use Rattle.std.specs.Prelude.{ℕ, List, ◌++◌, codes, decimal}
+use Rattle.std.specs.Prelude.{ℕ, List, [], ◌++◌, codes, decimal}
 use Rattle.sudo_load.specs.declared.fault.LoadFault.{LoadFault}
 use Rattle.sudo_load.specs.declared.fault.LoadFault.TheVariants as loads
 use Rattle.sudo_load.specs.declared.fault.Want.{Want}
@@ -14,12 +14,30 @@ use Rattle.sudo_grammar.specs.declared.fault.ParseFault.TheVariants as parses
 use Rattle.sudo_grammar.specs.declared.fault.Unsupported.{Unsupported}
 use Rattle.sudo_grammar.specs.declared.fault.Unsupported.TheVariants as unsupporteds
 use Rattle.audit_files.specs.Places.{path_of, place_text}
+use Rattle.run_base.specs.declared.obstacle.Obstacle.{Obstacle}
+use Rattle.run_base.specs.declared.obstacle.Obstacle.TheVariants as obstacles
 
 abbrev pub no_memory : List ℕ
 no_memory = codes "out of memory"
 
 abbrev pub cannot_read : List ℕ → List ℕ
 cannot_read path = codes "cannot read " ++ path
+
+-- why a path cannot be read, behind the path
+abbrev pub reason_text : Obstacle → List ℕ
+reason_text obstacles.NotFound = codes ": no such file"
+reason_text obstacles.PermissionDenied = codes ": permission denied"
+reason_text obstacles.IsFolder = codes ": is a folder"
+reason_text obstacles.NotFolder = codes ": not a folder"
+reason_text obstacles.NotFile = codes ": not a regular file"
+reason_text obstacles.NotText = codes ": name is not UTF-8"
+reason_text (obstacles.LeadsOut folder) = codes ": leads out of " ++ folder
+reason_text obstacles.TooManyLinks = codes ": too many symbolic links"
+reason_text obstacles.Other = []
+
+-- `cannot read PATH`, and why
+abbrev pub cannot_read_since : List ℕ → Obstacle → List ℕ
+cannot_read_since path why = cannot_read path ++ reason_text why
 
 -- the text of an expected form
 abbrev pub expected_text : Expected → List ℕ

@@ -1,14 +1,17 @@
 -- The files and folders that exist, if they are specified.
-use Rattle.std.specs.Prelude.{◌≡◌, ◌<◌, ⊤, ℕ, length, List, [], ◌∷◌, Option, None, Some, unwrap_or, Contains}
+use Rattle.std.specs.Prelude.{◌≡◌, ◌≢◌, ◌<◌, ⊤, ℕ, length, List, [], ◌∷◌, Option, None, Some, unwrap_or, Contains}
 use Rattle.sudo_load.specs.declared.supply.Supply.{Supply}
 use Rattle.sudo_load.specs.declared.supply.Supply.TheVariants as supplies
 use Rattle.sudo_load.specs.Supplies.{supplied_file, supplied_folder}
 use Rattle.sudo_text.specs.Lines.{text_limit}
+use Rattle.run_base.specs.declared.files.FilesFault.{FilesFault}
+use Rattle.run_base.specs.declared.files.FilesFault.TheVariants as faults
+use Rattle.run_base.specs.declared.obstacle.Obstacle.{Obstacle}
 
--- the files and folders that exist, and the paths at which reading fails
+-- the files and folders that exist, and the paths at which reading fails, each with what keeps it from being read
 pub record Holdings : Type 0 where
   pub supplies : List Supply
-  pub unreadable : List (List ℕ)
+  pub unreadable : List (List ℕ × Obstacle)
 
 -- the text of the file at a path; `None` if there is no file
 abbrev pub file_at : List Supply → List ℕ → Option (List ℕ)
@@ -28,15 +31,26 @@ abbrev pub HoldsFolder : Option Holdings → List ℕ → List (List ℕ) → Ty
 HoldsFolder None path names = ⊤
 HoldsFolder (Some held) path names = names ≡ folder_at held.supplies path
 
--- reading the file or the folder at a path may fail
-abbrev pub IsUnreadable : Option Holdings → List ℕ → Type 0
-IsUnreadable None path = ⊤
-IsUnreadable (Some held) path = Contains held.unreadable path
+-- this may keep the file or the folder at a path from being read
+abbrev pub IsUnreadable : Option Holdings → List ℕ → Obstacle → Type 0
+IsUnreadable None path why = ⊤
+IsUnreadable (Some held) path why = Contains held.unreadable (path, why)
 
 -- the file at a path may be longer than a file of a policy may be
 abbrev pub IsTooLong : Option Holdings → List ℕ → Type 0
 IsTooLong None path = ⊤
 IsTooLong (Some held) path = (text : List ℕ) × (file_at held.supplies path ≡ Some text) × (text_limit < length text)
+
+-- why there is no text of the file at a path: reading it fails, it is too long, or memory failed
+abbrev pub IsFileFault : Option Holdings → List ℕ → FilesFault → Type 0
+IsFileFault None path fault = ⊤
+IsFileFault (Some held) path (faults.Failed why) = IsUnreadable (Some held) path why
+IsFileFault (Some held) path faults.TooLong = IsTooLong (Some held) path
+IsFileFault (Some held) path faults.Memory = ⊤
+
+-- why there are no names of the folder at a path: reading it fails, or memory failed
+abbrev pub IsFolderFault : Option Holdings → List ℕ → FilesFault → Type 0
+IsFolderFault held path fault = (fault ≢ faults.TooLong) × IsFileFault held path fault
 
 -- this supply may exist
 abbrev pub IsHeld : Option Holdings → Supply → Type 0

@@ -1,5 +1,8 @@
 -- The policy of a run.
-use Rattle.std.specs.Prelude.{◌≡◌, ◌≤◌, ◌⊎◌, ⊤, ℕ, length, List, Option, None, Some, Ok, Err, true}
+use Rattle.std.specs.Prelude.{◌≡◌, ◌≤◌, ◌⊎◌, ◌==◌, if◌then◌else◌, ⊤, ℕ, length, List, Option, None, Some, Ok, Err, true, option_and_then}
+use Rattle.audit_files.specs.Places as places
+use Rattle.sudo_grammar.specs.declared.fault.ParseFault.{ParseFault}
+use Rattle.sudo_grammar.specs.declared.fault.ParseFault.TheVariants as parses
 use Rattle.sudo_grammar.specs.declared.policy.Policy.{Policy}
 use Rattle.sudo_load.specs.declared.fault.LoadFault.{LoadFault}
 use Rattle.sudo_load.specs.declared.fault.LoadFault.TheVariants as load_faults
@@ -9,10 +12,15 @@ use Rattle.sudo_load.specs.declared.supply.Supply.{Supply}
 use Rattle.sudo_load.specs.Load.{IsLoad}
 use Rattle.sudo_policy.specs.Checking.{FailsCheck, Passes}
 use Rattle.sudo_policy.specs.declared.finding.Finding.{Finding}
+use Rattle.sudo_text.specs.declared.fault.TextFault.{TextFault}
+use Rattle.sudo_text.specs.declared.fault.TextFault.TheVariants as texts
+use Rattle.sudo_text.specs.declared.line.Place.{Place}
 use Rattle.run_base.specs.FindingLines.{finding_lines}
-use Rattle.run_base.specs.Holding.{AreHeld, HoldsFile, Holdings, IsTooLong, IsUnreadable}
+use Rattle.run_base.specs.Holding.{AreHeld, HoldsFile, Holdings, IsTooLong, IsUnreadable, file_at}
 use Rattle.run_base.specs.declared.fault.PolicyFault.{PolicyFault}
 use Rattle.run_base.specs.declared.fault.PolicyFault.TheVariants as faults
+use Rattle.run_base.specs.declared.obstacle.Obstacle.{Obstacle}
+use Rattle.run_base.specs.declared.obstacle.Obstacle.TheVariants as obstacles
 
 -- the policy is that to which this text of the main file, and these texts and names of what is included, unfold; they are
 -- those of the files that exist, if these are specified
@@ -39,28 +47,68 @@ EndsIn held path read fault =
     (text : List ℕ) × (handed : List Supply) × HoldsFile held path (Some text) × AreHeld held handed
     × IsLoad path text handed (Err (read, fault))
 
--- the files unfold to no policy, for this reason, which is their content
-abbrev pub IsUnloaded : Option Holdings → List ℕ → List (List ℕ) → LoadFault → Type 0
-IsUnloaded held path read fault = IsOfContent fault × EndsIn held path read fault
+-- the place of a fault of a text, if it is in a line
+abbrev pub text_place : TextFault → Option Place
+text_place (texts.BadQuote place col) = Some place
+text_place (texts.BadHex place col) = Some place
+text_place (texts.BadEscape place col) = Some place
+text_place (texts.NotPrintable place col) = Some place
+text_place (texts.TooLong file) = None
+text_place texts.Memory = None
+
+-- the place of a fault of a policy's lines
+abbrev pub parse_place : ParseFault → Option Place
+parse_place (parses.Syntax place col expected) = Some place
+parse_place (parses.Unsupported place what) = Some place
+parse_place (parses.NotCommand place col) = Some place
+parse_place (parses.BadNumber place col) = Some place
+parse_place (parses.TooMany place) = Some place
+parse_place (parses.Text fault) = text_place fault
+parse_place parses.Memory = None
+
+-- the place of a fault in a line
+abbrev pub fault_place : LoadFault → Option Place
+fault_place (load_faults.Parse fault) = parse_place fault
+fault_place (load_faults.TooNested place) = None
+fault_place (load_faults.TooMany place) = None
+fault_place (load_faults.Missing place path) = None
+fault_place (load_faults.Wanted want) = None
+fault_place load_faults.Memory = None
+
+-- the text of the file of this number, given the text of the main file, what was handed in, and the paths of the files
+abbrev pub text_of_file : List ℕ → List Supply → List (List ℕ) → ℕ → Option (List ℕ)
+text_of_file main handed read number =
+    if number == 0 then Some main else file_at handed (places.path_of read number)
+
+-- the text of the file in which a fault is, if it is in a line
+abbrev pub text_at_fault : List ℕ → List Supply → List (List ℕ) → LoadFault → Option (List ℕ)
+text_at_fault main handed read fault = option_and_then (λ place. text_of_file main handed read place.file) (fault_place fault)
+
+-- the files unfold to no policy, for this reason, which is their content; `faulty` is the text of the file in which it is
+abbrev pub IsUnloaded : Option Holdings → List ℕ → List (List ℕ) → LoadFault → Option (List ℕ) → Type 0
+IsUnloaded held path read fault faulty =
+    IsOfContent fault × ((text : List ℕ) × (handed : List Supply) × HoldsFile held path (Some text) × AreHeld held handed
+    × IsLoad path text handed (Err (read, fault)) × (faulty ≡ text_at_fault text handed read fault))
 
 -- the path of a file or a folder that is needed
 abbrev pub path_of : Want → List ℕ
 path_of (wants.File path) = path
 path_of (wants.Folder path) = path
 
--- the path is needed after what was handed in, and reading fails there
-abbrev pub IsUnreadWant : Option Holdings → List ℕ → List ℕ → Type 0
-IsUnreadWant held path unread =
-    (want : Want) × (unread ≡ path_of want) × IsUnreadable held unread
+-- the path is needed after what was handed in, and this keeps it from being read
+abbrev pub IsUnreadWant : Option Holdings → List ℕ → List ℕ → Obstacle → Type 0
+IsUnreadWant held path unread why =
+    (want : Want) × (unread ≡ path_of want) × IsUnreadable held unread why
     × ((read : List (List ℕ)) × EndsIn held path read (load_faults.Wanted want))
 
--- the main file does not exist, or reading it fails
-abbrev pub IsUnreadMain : Option Holdings → List ℕ → List ℕ → Type 0
-IsUnreadMain held path unread = (unread ≡ path) × (IsUnreadable held path ⊎ HoldsFile held path None)
+-- this keeps the main file from being read, or it does not exist
+abbrev pub IsUnreadMain : Option Holdings → List ℕ → List ℕ → Obstacle → Type 0
+IsUnreadMain held path unread why =
+    (unread ≡ path) × (IsUnreadable held path why ⊎ (HoldsFile held path None × (why ≡ obstacles.NotFound)))
 
--- the path cannot be read: it is that of the main file, or it is needed after what was read
-abbrev pub IsUnreadPath : Option Holdings → List ℕ → List ℕ → Type 0
-IsUnreadPath held path unread = IsUnreadMain held path unread ⊎ IsUnreadWant held path unread
+-- the path cannot be read, for this reason: it is that of the main file, or it is needed after what was read
+abbrev pub IsUnreadPath : Option Holdings → List ℕ → List ℕ → Obstacle → Type 0
+IsUnreadPath held path unread why = IsUnreadMain held path unread why ⊎ IsUnreadWant held path unread why
 
 -- the file at a path is too long: it is the main file, or it is needed after what was handed in
 abbrev pub IsLongPath : Option Holdings → List ℕ → List ℕ → Type 0
@@ -79,8 +127,8 @@ AreTooMany held = (handed : List Supply) × AreHeld held handed × (most_supplie
 -- why there is no policy: a path cannot be read, a file is too long, too many files are needed, memory failed, or the
 -- content of the files is refused
 abbrev pub IsNoPolicy : Option Holdings → List ℕ → PolicyFault → Type 0
-IsNoPolicy held path (faults.Refused files fault) = IsUnloaded held path files fault
-IsNoPolicy held path (faults.CannotRead unread) = IsUnreadPath held path unread
+IsNoPolicy held path (faults.Refused files fault text) = IsUnloaded held path files fault text
+IsNoPolicy held path (faults.CannotRead unread why) = IsUnreadPath held path unread why
 IsNoPolicy held path (faults.TooLong long) = IsLongPath held path long
 IsNoPolicy held path faults.TooManyFiles = AreTooMany held
 IsNoPolicy held path faults.Memory = ⊤
@@ -105,8 +153,8 @@ AreErrors held path lines = (policy : Policy) × IsLoaded held path policy × Ar
 
 -- why no policy passes the check: there is no policy, or it has errors
 abbrev pub IsNotChecked : Option Holdings → List ℕ → PolicyFault → Type 0
-IsNotChecked held path (faults.Refused files fault) = IsNoPolicy held path (faults.Refused files fault)
-IsNotChecked held path (faults.CannotRead unread) = IsNoPolicy held path (faults.CannotRead unread)
+IsNotChecked held path (faults.Refused files fault text) = IsNoPolicy held path (faults.Refused files fault text)
+IsNotChecked held path (faults.CannotRead unread why) = IsNoPolicy held path (faults.CannotRead unread why)
 IsNotChecked held path (faults.TooLong long) = IsNoPolicy held path (faults.TooLong long)
 IsNotChecked held path faults.TooManyFiles = IsNoPolicy held path faults.TooManyFiles
 IsNotChecked held path faults.Memory = ⊤

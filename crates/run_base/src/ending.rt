@@ -40,6 +40,23 @@ pub fn report_fault<F: Fails, E: Sink>(alloc: Global, program: &[u8], fault: F, 
     }
 }
 
+/// Prints the text of a fault as `report_fault` does, with the reason why a path cannot be read.
+pub fn report_explained<F: Fails, E: Sink>(
+    alloc: Global,
+    program: &[u8],
+    fault: F,
+    err: &mut E,
+) -> u8
+    ensures { IsFaultPrinted (notices F.status F.explained program.now) fault result
+        (sent E.taken E.stalled_writes err.old err.new) }
+{
+    let status = fault.status();
+    match fault.explained(alloc, program) {
+        Ok(text) => write_text(&text, status, err),
+        Err(_) => write_memory_line(program, err),
+    }
+}
+
 /// Ends a run of the program of this name: prints its text on `out` and returns its status, or prints the fault on `err`
 /// and returns the fault's status. A write on `out` that fails is a fault.
 pub fn end_run<F: Fails, O: Sink, E: Sink>(
@@ -59,5 +76,26 @@ pub fn end_run<F: Fails, O: Sink, E: Sink>(
             Err(lost) => report_fault(alloc, program, lost, err),
         },
         Err(fault) => report_fault(alloc, program, fault, err),
+    }
+}
+
+/// Ends a run as `end_run` does, with the reason why a path cannot be read.
+pub fn end_explained<F: Fails, O: Sink, E: Sink>(
+    alloc: Global,
+    program: &[u8],
+    ended: Result<RunOutput, F>,
+    out: &mut O,
+    err: &mut E,
+) -> u8
+    ensures { Ends (notices F.status F.explained program.now) (IsPrinted ended) (IsFault ended)
+        result (sent O.taken O.stalled_writes out.old out.new)
+        (sent E.taken E.stalled_writes err.old err.new) }
+{
+    match ended {
+        Ok(printed) => match write_all_of(out, &printed.text) {
+            Ok(()) => printed.status,
+            Err(lost) => report_explained(alloc, program, lost, err),
+        },
+        Err(fault) => report_explained(alloc, program, fault, err),
     }
 }

@@ -13,6 +13,8 @@ impl Fails for AllocError {
 
     ghost printed = { memory_printed };
 
+    ghost explained = { memory_printed };
+
     fn status(&self) -> u8 {
         4
     }
@@ -23,12 +25,18 @@ impl Fails for AllocError {
         push(&mut line, b"\n")?;
         Ok(line)
     }
+
+    fn explained(self, alloc: Global, program: &[u8]) -> Result<Vec<u8>, AllocError> {
+        self.printed(alloc, program)
+    }
 }
 
 impl Fails for WriteFault {
     ghost status = { write_status };
 
     ghost printed = { write_printed };
+
+    ghost explained = { write_printed };
 
     fn status(&self) -> u8 {
         4
@@ -40,5 +48,9 @@ impl Fails for WriteFault {
         push_number(&mut line, self.written)?;
         push(&mut line, b" bytes\n")?;
         Ok(line)
+    }
+
+    fn explained(self, alloc: Global, program: &[u8]) -> Result<Vec<u8>, AllocError> {
+        self.printed(alloc, program)
     }
 }

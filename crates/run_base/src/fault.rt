@@ -1,12 +1,14 @@
 //! Faults of the first stages of a run: a file is opened, a policy is loaded.
 ghost use Rattle.std.specs.Prelude.{◌≡◌, ◌++◌, IfOk, codes};
-ghost use Rattle.run_base.specs.FaultLines.{error_line, open_printed, policy_printed};
-ghost use Rattle.run_base.specs.FaultTexts.{cannot_read, load_fault_text};
+ghost use Rattle.run_base.specs.FaultLines.{error_line, open_explained, open_printed, policy_explained};
+ghost use Rattle.run_base.specs.FaultLines.{policy_printed};
+ghost use Rattle.run_base.specs.FaultTexts.{cannot_read, cannot_read_since, load_fault_text};
 ghost use Rattle.run_base.specs.Faults.{open_status, policy_status};
 
 use crate::fails::Fails;
 use crate::fault_text::{push_cannot_read, push_load_fault};
 use crate::lines::{begin_line, push, push_both};
+use crate::obstacle::{Obstacle, push_reason};
 use std::alloc::{AllocError, AllocFailed, Global};
 use sudo_load::LoadFault;
 use sudo_text::Seq;
@@ -14,14 +16,19 @@ use sudo_text::Seq;
 /// The reason why a policy is not loaded, or does not pass the check.
 #[derive(Debug, Drop)]
 pub enum PolicyFault {
-    /// The file or the folder at this path cannot be read.
-    CannotRead(Seq<u8>),
+    /// The file or the folder at this path cannot be read, for this reason.
+    CannotRead(Seq<u8>, Obstacle),
     /// The file at this path is longer than a file of a policy may be.
     TooLong(Seq<u8>),
     /// More files and folders are needed than are handed in at most.
     TooManyFiles,
-    /// The files are not a policy: the paths of those that were read, and the fault.
-    Refused(Seq<Seq<u8>>, LoadFault),
+    /// The files are not a policy: the paths of those that were read, the fault, and the text of the file in which it is, where
+    /// it is in a line.
+    Refused {
+        read: Seq<Seq<u8>>,
+        fault: LoadFault,
+        text: Option<Seq<u8>>,
+    },
     /// The check finds errors in the policy: their lines.
     Errors(Vec<u8>),
     /// Out of memory.
@@ -55,26 +62,37 @@ impl Fails for PolicyFault {
 
     ghost printed = { policy_printed };
 
+    ghost explained = { policy_explained };
+
     fn status(&self) -> u8 {
         match self {
             PolicyFault::TooLong(_)
             | PolicyFault::TooManyFiles
-            | PolicyFault::Refused(..)
+            | PolicyFault::Refused { .. }
             | PolicyFault::Errors(_) => 1,
-            PolicyFault::CannotRead(_) | PolicyFault::Memory => 4,
+            PolicyFault::CannotRead(..) | PolicyFault::Memory => 4,
         }
     }
 
     fn printed(self, alloc: Global, program: &[u8]) -> Result<Vec<u8>, AllocError> {
         match self {
-            PolicyFault::CannotRead(path) => unread_line(alloc, program, path.as_slice()),
+            PolicyFault::CannotRead(path, _) => unread_line(alloc, program, path.as_slice()),
             PolicyFault::TooLong(path) => long_line(alloc, program, path.as_slice()),
             PolicyFault::TooManyFiles => many_line(alloc, program),
-            PolicyFault::Refused(read, fault) => {
+            PolicyFault::Refused { read, fault, .. } => {
                 refused_line(alloc, program, read.as_slice(), &fault)
             }
             PolicyFault::Errors(lines) => Ok(lines),
             PolicyFault::Memory => AllocError.printed(alloc, program),
+        }
+    }
+
+    fn explained(self, alloc: Global, program: &[u8]) -> Result<Vec<u8>, AllocError> {
+        match self {
+            PolicyFault::CannotRead(path, why) => {
+                explained_line(alloc, program, path.as_slice(), &why)
+            }
+            fault => fault.printed(alloc, program),
         }
     }
 }
@@ -82,8 +100,8 @@ impl Fails for PolicyFault {
 /// The reason why a file is not opened.
 #[derive(Debug, Drop)]
 pub enum OpenFault {
-    /// The file at this path cannot be opened.
-    CannotRead(Seq<u8>),
+    /// The file at this path cannot be opened, for this reason.
+    CannotRead(Seq<u8>, Obstacle),
     /// Out of memory.
     Memory,
 }
@@ -115,13 +133,24 @@ impl Fails for OpenFault {
 
     ghost printed = { open_printed };
 
+    ghost explained = { open_explained };
+
     fn status(&self) -> u8 {
         4
     }
 
     fn printed(self, alloc: Global, program: &[u8]) -> Result<Vec<u8>, AllocError> {
         match self {
-            OpenFault::CannotRead(path) => unread_line(alloc, program, path.as_slice()),
+            OpenFault::CannotRead(path, _) => unread_line(alloc, program, path.as_slice()),
+            OpenFault::Memory => AllocError.printed(alloc, program),
+        }
+    }
+
+    fn explained(self, alloc: Global, program: &[u8]) -> Result<Vec<u8>, AllocError> {
+        match self {
+            OpenFault::CannotRead(path, why) => {
+                explained_line(alloc, program, path.as_slice(), &why)
+            }
             OpenFault::Memory => AllocError.printed(alloc, program),
         }
     }
@@ -133,6 +162,23 @@ fn unread_line(alloc: Global, program: &[u8], path: &[u8]) -> Result<Vec<u8>, Al
 {
     let mut line = begin_line(alloc, program)?;
     push_cannot_read(&mut line, path)?;
+    push(&mut line, b"\n")?;
+    Ok(line)
+}
+
+// Returns the line of a path that cannot be read, with the reason.
+fn explained_line(
+    alloc: Global,
+    program: &[u8],
+    path: &[u8],
+    why: &Obstacle,
+) -> Result<Vec<u8>, AllocError>
+    ensures { IfOk result (λ line. line.items
+        ≡ error_line program.now (cannot_read_since path.now why.now)) }
+{
+    let mut line = begin_line(alloc, program)?;
+    push_cannot_read(&mut line, path)?;
+    push_reason(&mut line, why)?;
     push(&mut line, b"\n")?;
     Ok(line)
 }

@@ -1,7 +1,8 @@
 //! The files and folders of a policy.
 ghost use Rattle.std.specs.Prelude.{◌≡◌, ◌≢◌, Option, None, IfErr, IfOk};
-ghost use Rattle.run_base.specs.Holding.{Holdings, HoldsFile, HoldsFolder, IsTooLong, IsUnreadable};
+ghost use Rattle.run_base.specs.Holding.{Holdings, HoldsFile, HoldsFolder, IsFileFault, IsFolderFault};
 
+use crate::obstacle::Obstacle;
 use audit_files::{Device, ReadFault, read_whole};
 use std::alloc::{AllocError, Global};
 use std::fs::File;
@@ -12,11 +13,11 @@ use sudo_text::{Seq, TEXT_LIMIT};
 use thiserror::Error;
 
 /// The reason why a file or a folder cannot be read.
-#[derive(Clone, Copy, Debug, PartialEq, Eq, Error)]
+#[derive(Debug, Drop, Error)]
 pub enum FilesFault {
     /// Opening or reading failed, or a name is not text.
     #[error("failed")]
-    Failed,
+    Failed(Obstacle),
     /// The file is longer than a file of a policy may be, 16,777,216 bytes.
     #[error("too long")]
     TooLong,
@@ -46,20 +47,14 @@ pub trait Files {
     /// policy may be, `Failed` if reading failed, and `Memory` if allocation failed.
     fn file(&mut self, alloc: Global, path: &[u8]) -> Result<Option<Seq<u8>>, FilesFault>
         ensures text { IfOk result (λ text. HoldsFile (held self.old) path.now text) }
-        ensures failed { IfErr result (λ e. e ≡ FilesFault.Failed
-            → IsUnreadable (held self.old) path.now) }
-        ensures long { IfErr result (λ e. e ≡ FilesFault.TooLong
-            → IsTooLong (held self.old) path.now) }
+        ensures fault { IfErr result (IsFileFault (held self.old) path.now) }
         ensures same { held self.new ≡ held self.old };
 
     /// Returns the text of the main file, as `file` does. The main file may be a pipe or another device, also where
     /// `file` reads regular files alone.
     fn main_file(&mut self, alloc: Global, path: &[u8]) -> Result<Option<Seq<u8>>, FilesFault>
         ensures text { IfOk result (λ text. HoldsFile (held self.old) path.now text) }
-        ensures failed { IfErr result (λ e. e ≡ FilesFault.Failed
-            → IsUnreadable (held self.old) path.now) }
-        ensures long { IfErr result (λ e. e ≡ FilesFault.TooLong
-            → IsTooLong (held self.old) path.now) }
+        ensures fault { IfErr result (IsFileFault (held self.old) path.now) }
         ensures same { held self.new ≡ held self.old }
     {
         self.file(alloc, path)
@@ -70,9 +65,7 @@ pub trait Files {
     /// name is not text, and `Memory` if allocation failed.
     fn folder(&mut self, alloc: Global, path: &[u8]) -> Result<Seq<Seq<u8>>, FilesFault>
         ensures names { IfOk result (λ names. HoldsFolder (held self.old) path.now names) }
-        ensures failed { IfErr result (λ e. e ≡ FilesFault.Failed
-            → IsUnreadable (held self.old) path.now) }
-        ensures long { IfErr result (λ e. e ≢ FilesFault.TooLong) }
+        ensures fault { IfErr result (IsFolderFault (held self.old) path.now) }
         ensures same { held self.new ≡ held self.old };
 }
 
@@ -89,13 +82,13 @@ impl<'a> Disk<'a> {
     }
 }
 
-// Returns the fault of a file or a folder that exists and that the system does not let be read.
+// Returns the fault of a file or a folder that the system does not let be read.
 fn fault_of(error: &io::Error) -> FilesFault
     ensures { result ≢ FilesFault.TooLong }
 {
     match error.kind() {
         ErrorKind::OutOfMemory => FilesFault::Memory,
-        _ => FilesFault::Failed,
+        _ => FilesFault::Failed(Obstacle::of_error(error)),
     }
 }
 
@@ -109,7 +102,7 @@ fn text_at(rt: &HostRuntime, alloc: Global, path: &str) -> Result<Option<Seq<u8>
     match read_whole(alloc, &mut Device::new(file), TEXT_LIMIT) {
         Ok(text) => Ok(Some(Seq::from_vec(text))),
         Err(ReadFault::TooLong) => Err(FilesFault::TooLong),
-        Err(ReadFault::Failed) => Err(FilesFault::Failed),
+        Err(ReadFault::Failed) => Err(FilesFault::Failed(Obstacle::Other)),
         Err(ReadFault::Memory) => Err(FilesFault::Memory),
     }
 }
@@ -128,27 +121,31 @@ impl Files for Disk<'_> {
 
     fn file(&mut self, alloc: Global, path: &[u8]) -> Result<Option<Seq<u8>>, FilesFault> {
         let Ok(path) = str::from_utf8(path) else {
-            return Err(FilesFault::Failed);
+            return Err(FilesFault::Failed(Obstacle::NotText));
         };
         // Opening a pipe may wait for ever, and opening a device may change it: only regular files are opened.
         match fs::metadata(self.rt, path) {
             Ok(kind) if kind.is_file() => text_at(self.rt, alloc, path),
-            Ok(_) => Err(FilesFault::Failed),
+            Ok(kind) if kind.is_dir() => Err(FilesFault::Failed(Obstacle::IsFolder)),
+            Ok(_) => Err(FilesFault::Failed(Obstacle::NotFile)),
             Err(error) if error.kind() == ErrorKind::NotFound => Ok(None),
             Err(error) => Err(fault_of(&error)),
         }
     }
 
     fn main_file(&mut self, alloc: Global, path: &[u8]) -> Result<Option<Seq<u8>>, FilesFault> {
-        match str::from_utf8(path) {
-            Ok(path) => text_at(self.rt, alloc, path),
-            Err(_) => Err(FilesFault::Failed),
+        let Ok(path) = str::from_utf8(path) else {
+            return Err(FilesFault::Failed(Obstacle::NotText));
+        };
+        match fs::metadata(self.rt, path) {
+            Ok(kind) if kind.is_dir() => Err(FilesFault::Failed(Obstacle::IsFolder)),
+            _ => text_at(self.rt, alloc, path),
         }
     }
 
     fn folder(&mut self, alloc: Global, path: &[u8]) -> Result<Seq<Seq<u8>>, FilesFault> {
         let Ok(path) = str::from_utf8(path) else {
-            return Err(FilesFault::Failed);
+            return Err(FilesFault::Failed(Obstacle::NotText));
         };
         let mut names = Seq::new(alloc);
         let entries = match fs::read_dir(self.rt, path) {

@@ -1,28 +1,32 @@
 //! Reads a policy from its files.
 ghost use Rattle.std.specs.Prelude.{◌≡◌, ◌<◌, ◌⊎◌, Some, IfErr, IfOk, OnOk, length, true, vec_len};
 ghost use Rattle.sudo_policy.specs.Checking.{Passes};
-ghost use Rattle.run_base.specs.Holding.{AreHeld, HoldsFile, IsHeld, IsTooLong, IsUnreadable};
-ghost use Rattle.run_base.specs.Loading.{IsChecked, IsLoaded, IsLoadedFrom, IsNoPolicy, IsNotChecked, path_of};
-ghost use Rattle.run_base.specs.Body.Loading.{IsNotCheckedOf, IsNotHanded};
+ghost use Rattle.audit_files.specs.Places as places;
+ghost use Rattle.sudo_load.specs.Supplies.{file_in};
+ghost use Rattle.run_base.specs.Holding.{AreHeld, HoldsFile, IsFileFault, IsHeld, file_at};
+ghost use Rattle.run_base.specs.Loading.{IsChecked, IsLoaded, IsLoadedFrom, IsNoPolicy, IsNotChecked, fault_place};
+ghost use Rattle.run_base.specs.Loading.{path_of, text_at_fault, text_of_file as spec_text_of_file};
+ghost use Rattle.run_base.specs.Body.Loading.{IsNotCheckedOf, IsNotHanded, IsUnfetched};
 
 use crate::fault::PolicyFault;
 use crate::files::{Files, FilesFault};
 use crate::lines::finding_lines;
+use crate::obstacle::Obstacle;
 use std::alloc::{AllocError, Global};
-use sudo_grammar::Policy;
+use sudo_grammar::{ParseFault, Policy};
 use sudo_load::{LoadFault, Supply, Want, folder_files, included, load};
 use sudo_policy::{CheckFault, Checked, check};
-use sudo_text::Seq;
+use sudo_text::{Place, Seq, TextFault};
 
 // The most files and folders that are handed in. `load` needs at most 1,024 of each.
 const MOST_SUPPLIES: usize = 2048;
 
-// Returns the fault of a main file that cannot be read.
-fn unread_main(alloc: Global, path: &[u8]) -> PolicyFault
-    ensures { (result ≡ PolicyFault.Memory) ⊎ (result ≡ PolicyFault.CannotRead path.now) }
+// Returns the fault of a main file that cannot be read, for this reason.
+fn unread_main(alloc: Global, path: &[u8], why: Obstacle) -> PolicyFault
+    ensures { (result ≡ PolicyFault.Memory) ⊎ (result ≡ PolicyFault.CannotRead path.now why) }
 {
     match Seq::from_slice(alloc, path) {
-        Ok(path) => PolicyFault::CannotRead(path),
+        Ok(path) => PolicyFault::CannotRead(path, why),
         Err(_) => PolicyFault::Memory,
     }
 }
@@ -45,7 +49,8 @@ fn main_text<F: Files>(alloc: Global, files: &mut F, path: &[u8]) -> Result<Seq<
 {
     match files.main_file(alloc, path) {
         Ok(Some(text)) => Ok(text),
-        Ok(None) | Err(FilesFault::Failed) => Err(unread_main(alloc, path)),
+        Ok(None) => Err(unread_main(alloc, path, Obstacle::NotFound)),
+        Err(FilesFault::Failed(why)) => Err(unread_main(alloc, path, why)),
         Err(FilesFault::TooLong) => Err(long_main(alloc, path)),
         Err(FilesFault::Memory) => Err(PolicyFault::Memory),
     }
@@ -59,10 +64,7 @@ fn fetch<F: Files>(
 ) -> Result<Supply, (Seq<u8>, FilesFault)>
     ensures held { IfOk result (IsHeld (F.held files.old)) }
     ensures same { F.held files.new ≡ F.held files.old }
-    ensures failed { IfErr result (λ e. e.1 ≡ FilesFault.Failed
-        → IsUnreadable (F.held files.old) e.0) }
-    ensures long { IfErr result (λ e. e.1 ≡ FilesFault.TooLong
-        → IsTooLong (F.held files.old) e.0) }
+    ensures fault { IfErr result (λ e. IsFileFault (F.held files.old) e.0 e.1) }
     ensures path { IfErr result (λ e. e.0 ≡ path_of want) }
 {
     match want {
@@ -140,7 +142,7 @@ fn read_one<F: Files>(
             pending.append(&mut named_by(alloc, &supply)?)?;
             Ok(supplies.push(supply)?)
         }
-        Err((_, FilesFault::Failed | FilesFault::TooLong)) => Ok(()),
+        Err((_, FilesFault::Failed(_) | FilesFault::TooLong)) => Ok(()),
         Err((_, FilesFault::Memory)) => Err(AllocError),
     }
 }
@@ -170,6 +172,17 @@ fn read_ahead<F: Files>(alloc: Global, files: &mut F, path: &[u8], text: &[u8]) 
     supplies
 }
 
+// Returns the fault of a path that is needed and could not be read.
+fn unfetched(path: Seq<u8>, fault: FilesFault) -> PolicyFault
+    ensures { IsUnfetched path fault result }
+{
+    match fault {
+        FilesFault::Failed(why) => PolicyFault::CannotRead(path, why),
+        FilesFault::TooLong => PolicyFault::TooLong(path),
+        FilesFault::Memory => PolicyFault::Memory,
+    }
+}
+
 // Reads a needed file or folder.
 fn push_wanted<F: Files>(
     alloc: Global,
@@ -185,9 +198,7 @@ fn push_wanted<F: Files>(
 {
     match fetch(alloc, files, want) {
         Ok(supply) => Ok(supplies.push(supply)?),
-        Err((unread, FilesFault::Failed)) => Err(PolicyFault::CannotRead(unread)),
-        Err((long, FilesFault::TooLong)) => Err(PolicyFault::TooLong(long)),
-        Err((_, FilesFault::Memory)) => Err(PolicyFault::Memory),
+        Err((path, fault)) => Err(unfetched(path, fault)),
     }
 }
 
@@ -223,12 +234,106 @@ pub struct Loaded {
     pub policy: Policy,
 }
 
+// Returns the place of a fault in a line.
+fn place_of(fault: &LoadFault) -> Option<Place>
+    ensures { result ≡ fault_place fault.now }
+{
+    match fault {
+        LoadFault::Parse(fault) => match fault {
+            ParseFault::Syntax { place, .. }
+            | ParseFault::Unsupported { place, .. }
+            | ParseFault::NotCommand { place, .. }
+            | ParseFault::BadNumber { place, .. }
+            | ParseFault::TooMany { place }
+            | ParseFault::Text(
+                TextFault::BadQuote { place, .. }
+                | TextFault::BadHex { place, .. }
+                | TextFault::BadEscape { place, .. }
+                | TextFault::NotPrintable { place, .. },
+            ) => Some(*place),
+            ParseFault::Text(TextFault::TooLong { .. } | TextFault::Memory) | ParseFault::Memory =>
+                None,
+        },
+        _ => None,
+    }
+}
+
+// Returns the text of the file at a path, or that it is missing, if this is its supply.
+fn text_in(supply: Supply, path: &[u8]) -> Option<Option<Seq<u8>>>
+    ensures { result ≡ file_in path.now supply }
+{
+    match supply {
+        Supply::File { path: found, text } => {
+            if found.as_slice() == path {
+                Some(text)
+            } else {
+                None
+            }
+        }
+        Supply::Folder { .. } => None,
+    }
+}
+
+// Returns the text of the file at a path, if it was read.
+fn read_text(supplies: Vec<Supply>, path: &[u8]) -> Option<Seq<u8>>
+    ensures { result ≡ file_at supplies.items path.now }
+{
+    for supply in supplies {
+        if let Some(text) = text_in(supply, path) {
+            return text;
+        }
+    }
+    None
+}
+
+// Returns the path of the file with a number, empty if there is none.
+fn path_at(read: &[Seq<u8>], file: u32) -> &[u8]
+    ensures { result.now ≡ places.path_of read.now file }
+{
+    match read.get(file as usize) {
+        Some(path) => path.as_slice(),
+        None => &[],
+    }
+}
+
+// Returns the text of the file with a number, given the text of the main file, what was read for it, and the paths of the
+// files in their order.
+fn text_of_file(
+    main: Seq<u8>,
+    supplies: Vec<Supply>,
+    read: &[Seq<u8>],
+    number: u32,
+) -> Option<Seq<u8>>
+    ensures { result ≡ spec_text_of_file main supplies.items read.now number }
+{
+    if number == 0 {
+        return Some(main);
+    }
+    drop(main);
+    read_text(supplies, path_at(read, number))
+}
+
+// Returns the text of the file in which a fault is.
+fn faulty_text(
+    main: Seq<u8>,
+    supplies: Vec<Supply>,
+    read: &[Seq<u8>],
+    fault: &LoadFault,
+) -> Option<Seq<u8>>
+    ensures { result ≡ text_at_fault main supplies.items read.now fault.now }
+{
+    match place_of(fault) {
+        Some(place) => text_of_file(main, supplies, read, place.file),
+        None => None,
+    }
+}
+
 /// Returns the policy of a file and of all that it includes, with what was read. Reads what `load` needs, and calls `load`
 /// again.
 ///
-/// Returns `CannotRead` with the path of the main file, or of what is needed after what was read, if it cannot be read,
+/// Returns `CannotRead` with the path of the main file, or of what is needed after what was read, and the obstacle, if it cannot be read,
 /// `TooLong` if it is longer than a file of a policy may be; `TooManyFiles` if 2,048 files and folders were read and
-/// more are needed; `Refused` if the content of the files is refused; `Memory` if allocation failed.
+/// more are needed; `Refused` with the text of the faulty file if the content of the files is refused; `Memory` if allocation failed.
 pub fn load_files<F: Files>(
     alloc: Global,
     path: &[u8],
@@ -258,7 +363,10 @@ pub fn load_files<F: Files>(
                     }
                 }
                 LoadFault::Memory => return Err(PolicyFault::Memory),
-                fault => return Err(PolicyFault::Refused(read, fault)),
+                fault => {
+                    let text = faulty_text(text, supplies, read.as_slice(), &fault);
+                    return Err(PolicyFault::Refused { read, fault, text });
+                }
             },
         }
     }

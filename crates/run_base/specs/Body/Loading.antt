@@ -1,8 +1,10 @@
 -- The policy of a run. Only proofs of bodies use these.
-use Rattle.std.specs.Prelude.{◌≡◌, ◌⊎◌, ⊤, Option}
+use Rattle.std.specs.Prelude.{◌≡◌, ⊤, ℕ, List, Option}
 use Rattle.sudo_grammar.specs.declared.policy.Policy.{Policy}
 use Rattle.sudo_load.specs.declared.fault.Want.{Want}
 use Rattle.run_base.specs.Holding.{Holdings, IsTooLong, IsUnreadable}
+use Rattle.run_base.specs.declared.files.FilesFault.{FilesFault}
+use Rattle.run_base.specs.declared.files.FilesFault.TheVariants as files
 use Rattle.run_base.specs.declared.fault.PolicyFault.{PolicyFault}
 use Rattle.run_base.specs.declared.fault.PolicyFault.TheVariants as faults
 use Rattle.run_base.specs.Loading.{path_of, AreErrorsOf}
@@ -11,13 +13,22 @@ use Rattle.run_base.specs.Loading.{path_of, AreErrorsOf}
 abbrev pub IsNotCheckedOf : Policy → PolicyFault → Type 0
 IsNotCheckedOf policy (faults.Errors lines) = AreErrorsOf policy lines.items
 IsNotCheckedOf policy faults.Memory = ⊤
-IsNotCheckedOf policy (faults.Refused files fault) = ⊥
-IsNotCheckedOf policy (faults.CannotRead unread) = ⊥
+IsNotCheckedOf policy (faults.Refused files fault text) = ⊥
+IsNotCheckedOf policy (faults.CannotRead unread why) = ⊥
 IsNotCheckedOf policy (faults.TooLong long) = ⊥
 IsNotCheckedOf policy faults.TooManyFiles = ⊥
 
+-- the fault of a path that could not be read
+abbrev pub IsUnfetched : List ℕ → FilesFault → PolicyFault → Type 0
+IsUnfetched path (files.Failed why) fault = fault ≡ faults.CannotRead path why
+IsUnfetched path files.TooLong fault = fault ≡ faults.TooLong path
+IsUnfetched path files.Memory fault = fault ≡ faults.Memory
+
 -- why what is needed is not handed in: memory failed, reading it fails, or it is too long
 abbrev pub IsNotHanded : Option Holdings → Want → PolicyFault → Type 0
-IsNotHanded held want fault =
-    (fault ≡ faults.Memory) ⊎ (((fault ≡ faults.CannotRead (path_of want)) × IsUnreadable held (path_of want))
-    ⊎ ((fault ≡ faults.TooLong (path_of want)) × IsTooLong held (path_of want)))
+IsNotHanded held want (faults.CannotRead unread why) = (unread ≡ path_of want) × IsUnreadable held unread why
+IsNotHanded held want (faults.TooLong long) = (long ≡ path_of want) × IsTooLong held long
+IsNotHanded held want faults.Memory = ⊤
+IsNotHanded held want (faults.Refused files fault text) = ⊥
+IsNotHanded held want (faults.Errors lines) = ⊥
+IsNotHanded held want faults.TooManyFiles = ⊥

@@ -34,6 +34,6 @@ returns-in-Err g c =
     let user = option_copied c.args.names.user in
     let host = option_copied c.args.names.host in
     let out = sent g.O.Sink.taken g.O.Sink.stalled_writes c.args.out.now c.args.out.now in
-    let err = sent g.E.Sink.taken g.E.Sink.stalled_writes c.args.err.now c.report_fault.new.err in
-    ends-refused table_notices (AreNamedGrants s user host) (IsNotInScope s.directory user host) c.report_fault.result out err
-    c.in-Err.fault c.in-Err.ensures.fault refl refl c.report_fault.ensures
+    let err = sent g.E.Sink.taken g.E.Sink.stalled_writes c.args.err.now c.report_explained.new.err in
+    ends-refused table_notices (AreNamedGrants s user host) (IsNotInScope s.directory user host) c.report_explained.result out err
+    c.in-Err.fault c.in-Err.ensures.fault refl refl c.report_explained.ensures
