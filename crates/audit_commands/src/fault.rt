@@ -233,8 +233,8 @@ impl Fails for ReportFault {
     }
 }
 
-// Returns the exit status for a file that is refused.
-fn file_status(fault: FileFault) -> u8
+/// Returns the exit status for a CSV file that is refused.
+pub fn file_status(fault: FileFault) -> u8
     ensures { result ≡ status_of_file fault }
 {
     match fault {

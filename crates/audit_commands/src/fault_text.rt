@@ -20,8 +20,8 @@ fn push_row(line: &mut Vec<u8>, row: u32, what: &[u8]) -> Result<(), AllocError>
     push(line, what)
 }
 
-/// Appends the fault of a users file, a hosts file or a requests file.
-pub(crate) fn push_file_fault(line: &mut Vec<u8>, fault: FileFault) -> Result<(), AllocError>
+/// Appends the fault of a CSV file, as one of users, of hosts or of requests.
+pub fn push_file_fault(line: &mut Vec<u8>, fault: FileFault) -> Result<(), AllocError>
     ensures { OnOk result (line.new.items ≡ line.old.items ++ file_fault_text fault) }
 {
     match fault {

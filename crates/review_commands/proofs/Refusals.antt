@@ -68,7 +68,7 @@ none_there o text none there = cc
 
 pub no_name : (name : Text) (rows : List Row) → name ≢ codes "cautions" → name ≢ codes "report" → name ≢ codes "grants"
     → name ≢ codes "roots" → name ≢ codes "subjects" → name ≢ codes "rules" → AsksNothing (name, rows)
-no_name name rows cautions report grants roots subjects rules (Cautions policy without) stated fit = cautions stated.0
+no_name name rows cautions report grants roots subjects rules (Cautions policy links without) stated fit = cautions stated.0
 no_name name rows cautions report grants roots subjects rules (Report paths workers senders) stated fit = report stated.0
 no_name name rows cautions report grants roots subjects rules (Grants paths user host) stated fit = grants stated.0
 no_name name rows cautions report grants roots subjects rules (Roots paths all) stated fit = roots stated.0
@@ -76,7 +76,7 @@ no_name name rows cautions report grants roots subjects rules (Subjects paths) s
 no_name name rows cautions report grants roots subjects rules (Rules paths workers senders) stated fit = rules stated.0
 
 pub cautions_without_file : (rows : List Row) → first_of (codes "file") rows ≡ None → AsksNothing (codes "cautions", rows)
-cautions_without_file rows none (Cautions policy without) stated fit = none_there _ _ none stated.1.file_is
+cautions_without_file rows none (Cautions policy links without) stated fit = none_there _ _ none stated.1.0.file_is
 cautions_without_file rows none (Report paths workers senders) stated fit = report_is_cautions (sym stated.0)
 cautions_without_file rows none (Grants paths user host) stated fit = grants_is_cautions (sym stated.0)
 cautions_without_file rows none (Roots paths all) stated fit = roots_is_cautions (sym stated.0)
@@ -93,7 +93,7 @@ have_or_lack rows paths lack have = elim lack [
 ]
 
 pub report_without_paths : (rows : List Row) → LackPaths rows → AsksNothing (codes "report", rows)
-report_without_paths rows lack (Cautions policy without) stated fit = report_is_cautions stated.0
+report_without_paths rows lack (Cautions policy links without) stated fit = report_is_cautions stated.0
 report_without_paths rows lack (Report paths workers senders) stated fit = have_or_lack _ _ lack stated.1
 report_without_paths rows lack (Grants paths user host) stated fit = grants_is_report (sym stated.0)
 report_without_paths rows lack (Roots paths all) stated fit = roots_is_report (sym stated.0)
@@ -101,7 +101,7 @@ report_without_paths rows lack (Subjects paths) stated fit = subjects_is_report 
 report_without_paths rows lack (Rules paths workers senders) stated fit = rules_is_report (sym stated.0)
 
 pub grants_without_paths : (rows : List Row) → LackPaths rows → AsksNothing (codes "grants", rows)
-grants_without_paths rows lack (Cautions policy without) stated fit = grants_is_cautions stated.0
+grants_without_paths rows lack (Cautions policy links without) stated fit = grants_is_cautions stated.0
 grants_without_paths rows lack (Report paths workers senders) stated fit = grants_is_report stated.0
 grants_without_paths rows lack (Grants paths user host) stated fit = have_or_lack _ _ lack stated.1
 grants_without_paths rows lack (Roots paths all) stated fit = grants_is_roots stated.0
@@ -109,7 +109,7 @@ grants_without_paths rows lack (Subjects paths) stated fit = grants_is_subjects 
 grants_without_paths rows lack (Rules paths workers senders) stated fit = grants_is_rules stated.0
 
 pub roots_without_paths : (rows : List Row) → LackPaths rows → AsksNothing (codes "roots", rows)
-roots_without_paths rows lack (Cautions policy without) stated fit = roots_is_cautions stated.0
+roots_without_paths rows lack (Cautions policy links without) stated fit = roots_is_cautions stated.0
 roots_without_paths rows lack (Report paths workers senders) stated fit = roots_is_report stated.0
 roots_without_paths rows lack (Grants paths user host) stated fit = grants_is_roots (sym stated.0)
 roots_without_paths rows lack (Roots paths all) stated fit = have_or_lack _ _ lack stated.1
@@ -117,7 +117,7 @@ roots_without_paths rows lack (Subjects paths) stated fit = subjects_is_roots (s
 roots_without_paths rows lack (Rules paths workers senders) stated fit = rules_is_roots (sym stated.0)
 
 pub subjects_without_paths : (rows : List Row) → LackPaths rows → AsksNothing (codes "subjects", rows)
-subjects_without_paths rows lack (Cautions policy without) stated fit = subjects_is_cautions stated.0
+subjects_without_paths rows lack (Cautions policy links without) stated fit = subjects_is_cautions stated.0
 subjects_without_paths rows lack (Report paths workers senders) stated fit = subjects_is_report stated.0
 subjects_without_paths rows lack (Grants paths user host) stated fit = grants_is_subjects (sym stated.0)
 subjects_without_paths rows lack (Roots paths all) stated fit = subjects_is_roots stated.0
@@ -125,7 +125,7 @@ subjects_without_paths rows lack (Subjects paths) stated fit = have_or_lack _ _ 
 subjects_without_paths rows lack (Rules paths workers senders) stated fit = subjects_is_rules stated.0
 
 pub rules_without_paths : (rows : List Row) → LackPaths rows → AsksNothing (codes "rules", rows)
-rules_without_paths rows lack (Cautions policy without) stated fit = rules_is_cautions stated.0
+rules_without_paths rows lack (Cautions policy links without) stated fit = rules_is_cautions stated.0
 rules_without_paths rows lack (Report paths workers senders) stated fit = rules_is_report stated.0
 rules_without_paths rows lack (Grants paths user host) stated fit = grants_is_rules (sym stated.0)
 rules_without_paths rows lack (Roots paths all) stated fit = rules_is_roots stated.0
@@ -133,7 +133,7 @@ rules_without_paths rows lack (Subjects paths) stated fit = subjects_is_rules (s
 rules_without_paths rows lack (Rules paths workers senders) stated fit = have_or_lack _ _ lack stated.1
 
 pub rules_without_workers : (rows : List Row) → HasNoWorkers rows → AsksNothing (codes "rules", rows)
-rules_without_workers rows none (Cautions policy without) stated fit = rules_is_cautions stated.0
+rules_without_workers rows none (Cautions policy links without) stated fit = rules_is_cautions stated.0
 rules_without_workers rows none (Report paths workers senders) stated fit = rules_is_report stated.0
 rules_without_workers rows none (Grants paths user host) stated fit = grants_is_rules (sym stated.0)
 rules_without_workers rows none (Roots paths all) stated fit = rules_is_roots stated.0
@@ -141,7 +141,7 @@ rules_without_workers rows none (Subjects paths) stated fit = subjects_is_rules 
 rules_without_workers rows none (Rules paths workers senders) stated fit = none workers stated.2 fit.0 fit.1
 
 pub report_without_workers : (rows : List Row) → HasNoWorkers rows → AsksNothing (codes "report", rows)
-report_without_workers rows none (Cautions policy without) stated fit = report_is_cautions stated.0
+report_without_workers rows none (Cautions policy links without) stated fit = report_is_cautions stated.0
 report_without_workers rows none (Report paths workers senders) stated fit = none workers stated.2 fit.0 fit.1
 report_without_workers rows none (Grants paths user host) stated fit = grants_is_report (sym stated.0)
 report_without_workers rows none (Roots paths all) stated fit = roots_is_report (sym stated.0)
@@ -151,7 +151,7 @@ report_without_workers rows none (Rules paths workers senders) stated fit = rule
 -- a word for `--without` names no class
 pub cautions_of_bad_class : (rows : List Row) (words : List Text) → unwrap_or (all_of (codes "without") rows) [] ≡ words
     → ((classes : List CautionClass) → map class_name classes ≢ words) → AsksNothing (codes "cautions", rows)
-cautions_of_bad_class rows words are bad (Cautions policy without) stated fit = bad without.items (sym stated.2 ∙ are)
+cautions_of_bad_class rows words are bad (Cautions policy links without) stated fit = bad without.items (sym stated.2 ∙ are)
 cautions_of_bad_class rows words are bad (Report paths workers senders) stated fit = report_is_cautions (sym stated.0)
 cautions_of_bad_class rows words are bad (Grants paths user host) stated fit = grants_is_cautions (sym stated.0)
 cautions_of_bad_class rows words are bad (Roots paths all) stated fit = roots_is_cautions (sym stated.0)

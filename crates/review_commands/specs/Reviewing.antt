@@ -6,9 +6,11 @@ use Rattle.audit_collect.specs.declared.report.Report.{Report}
 use Rattle.audit_commands.specs.Auditing.{Given, IsAnswer}
 use Rattle.run_base.specs.Holding.{Holdings}
 use Rattle.run_base.specs.Loading.{IsLoadedFrom}
-use Rattle.review_cautions.specs.Cautions.{policy_cautions}
+use Rattle.review_cautions.specs.Cautions.{cautions_by_links}
+use Rattle.review_cautions.specs.ListTests.{usual_links}
 use Rattle.review_cautions.specs.declared.caution.Caution.{Caution}
 use Rattle.review_cautions.specs.declared.class.CautionClass.{CautionClass}
+use Rattle.review_cautions.specs.declared.link.Link.{Link}
 use Rattle.review_commands.specs.CautionLines.{cautions_status, cautions_text, kept_cautions, notice_text}
 use Rattle.review_commands.specs.FileTexts.{texts_of}
 use Rattle.review_subjects.specs.Counts.{rule_counts}
@@ -17,18 +19,26 @@ use Rattle.review_commands.specs.SubjectRows.{rules_text}
 use Rattle.review_commands.specs.declared.report.Form.{Form}
 use Rattle.review_commands.specs.declared.report.Form.TheVariants as forms
 
--- these are the cautions on the policy to which the file at a path unfolds, by the texts that were read for it
-pub record AreCautions (held : Option Holdings) (path : List ℕ) (policy : Policy) (found : List Caution) : Type 0 where
+-- these are the cautions on the policy to which the file at a path unfolds, by the texts that were read for it, on a machine
+-- that has these links
+pub record AreCautionsBy (links : List Link) (held : Option Holdings) (path : List ℕ) (policy : Policy) (found : List Caution)
+    : Type 0 where
   pub main : List ℕ
   pub handed : List Supply
   pub loaded : IsLoadedFrom held path main handed policy
-  pub found_are : found ≡ policy_cautions (texts_of main handed policy.files) policy
+  pub found_are : found ≡ cautions_by_links links (texts_of main handed policy.files) policy
 
--- the output of `cautions` and its status, for the policy that the file at a path unfolds to, without these classes
-pub record IsCautioned (held : Option Holdings) (path : List ℕ) (without : List CautionClass) (text : List ℕ) (status : ℕ) : Type 0 where
+-- the same on a machine that has the usual links
+abbrev pub AreCautions : Option Holdings → List ℕ → Policy → List Caution → Type 0
+AreCautions = AreCautionsBy usual_links
+
+-- the output of `cautions` and its status, for the policy that the file at a path unfolds to, on a machine that has these
+-- links, without these classes
+pub record IsCautioned (held : Option Holdings) (path : List ℕ) (links : List Link) (without : List CautionClass) (text : List ℕ)
+    (status : ℕ) : Type 0 where
   pub policy : Policy
   pub found : List Caution
-  pub are : AreCautions held path policy found
+  pub are : AreCautionsBy links held path policy found
   pub text_is : text ≡ cautions_text policy.files (kept_cautions without found)
   pub status_is : status ≡ cautions_status (kept_cautions without found)
 

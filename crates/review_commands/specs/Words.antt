@@ -15,7 +15,7 @@ use Rattle.review_commands.specs.declared.request.Asked.TheVariants.{Cautions, G
 abbrev pub without_rule : Rule
 without_rule = record (new_rule (codes "without")) { long = Some (codes "without"); action = Some Append }
 
--- --ID NAME
+-- --ID WORD, which may be left out
 abbrev pub name_rule : Text → Rule
 name_rule id = record (new_rule id) { long = Some id }
 
@@ -27,9 +27,9 @@ root_rule = name_rule (codes "root")
 abbrev pub policy_app : Text → App
 policy_app name = with_rule (with_rule (new_app name) (required_word (codes "file"))) root_rule
 
--- cautions FILE [--root DIR] [--without CLASS]...
+-- cautions FILE [--root DIR] [--links F] [--without CLASS]...
 abbrev pub cautions_app : App
-cautions_app = with_rule (policy_app (codes "cautions")) without_rule
+cautions_app = with_rule (with_rule (policy_app (codes "cautions")) (name_rule (codes "links"))) without_rule
 
 -- NAME FILE [--root DIR] --users F --hosts F
 abbrev pub paths_app : Text → App
@@ -79,8 +79,8 @@ IsFlag on (Some text) = (text ≡ codes "true" → on ≡ true) × (text ≡ cod
 
 -- the rows of the subcommand hold this command
 abbrev pub HoldsCommand : Asked → Text × List Row → Type 0
-HoldsCommand (Cautions policy without) p =
-    (p.0 ≡ codes "cautions") × HavePolicy p.1 policy
+HoldsCommand (Cautions policy links without) p =
+    (p.0 ≡ codes "cautions") × HavePolicy p.1 policy × (first_of (codes "links") p.1 ≡ option_map (λ s. s.now) links)
     × (unwrap_or (all_of (codes "without") p.1) [] ≡ map class_name without.items)
 HoldsCommand (Grants paths user host) p =
     (p.0 ≡ codes "grants") × HavePaths p.1 paths
@@ -97,7 +97,7 @@ HoldsCommand (Report paths workers senders) p =
 
 -- the number of workers is one that an audit accepts
 abbrev pub WorkersFit : Asked → Type 0
-WorkersFit (Cautions policy without) = ⊤
+WorkersFit (Cautions policy links without) = ⊤
 WorkersFit (Grants paths user host) = ⊤
 WorkersFit (Roots paths all) = ⊤
 WorkersFit (Subjects paths) = ⊤

@@ -2,7 +2,7 @@
 ghost use Rattle.std.specs.Prelude.{◌≡◌, IfErr, IfOk};
 ghost use Rattle.run_base.specs.Endings.{writer_states as sent, Ends};
 ghost use Rattle.run_base.specs.Loading.{IsNoPolicy};
-ghost use Rattle.review_cautions.specs.Cautions.{policy_cautions};
+ghost use Rattle.review_cautions.specs.Cautions.{cautions_by_links as spec_by_links, policy_cautions};
 ghost use Rattle.review_commands.specs.CautionLines.{cautions_notices, is_without, kept_cautions};
 ghost use Rattle.review_commands.specs.Reviewing.{IsCautioned};
 ghost use Rattle.review_commands.specs.FileTexts.{texts_of};
@@ -11,7 +11,7 @@ use crate::file_texts::file_texts;
 use crate::lines::caution_lines;
 use crate::program_name::PROGRAM;
 use audit_files::Sink;
-use review_cautions::{Caution, CautionClass, cautions};
+use review_cautions::{Caution, CautionClass, Link, cautions_by_links, usual_links};
 use run_base::{Files, Loaded, PolicyFault, RunOutput, end_explained, load_files};
 use std::alloc::{AllocError, Global};
 use std::mem;
@@ -34,8 +34,31 @@ fn listed(mut found: Vec<Caution>, without: &[CautionClass]) -> Vec<Caution>
     found
 }
 
-/// Returns the cautions on a policy that was read from the text of its main file and from these files and folders. Returns
-/// `AllocError` if allocation failed.
+/// Returns the cautions on a policy that was read from the text of its main file and from these files and folders, on a
+/// machine that has these links. Returns `AllocError` if allocation failed.
+fn found_by_links(
+    alloc: Global,
+    links: &[Link],
+    main: &Seq<u8>,
+    supplies: &Seq<Supply>,
+    policy: &Policy,
+) -> Result<Vec<Caution>, AllocError>
+    ensures { let texts = texts_of main.now supplies.now policy.now.files in
+        IfOk result (λ found. found.items
+        ≡ spec_by_links links.now texts policy.now) }
+{
+    let texts = file_texts(
+        alloc,
+        main.as_slice(),
+        supplies.as_slice(),
+        policy.files.as_slice(),
+    )?;
+    let found = cautions_by_links(alloc, links, &texts, policy);
+    drop(texts);
+    found
+}
+
+/// Returns the same on a machine that has the usual links.
 pub(crate) fn found_in(
     alloc: Global,
     main: &Seq<u8>,
@@ -45,15 +68,8 @@ pub(crate) fn found_in(
     ensures { let texts = texts_of main.now supplies.now policy.now.files in
         IfOk result (λ found. found.items ≡ policy_cautions texts policy.now) }
 {
-    let texts = file_texts(
-        alloc,
-        main.as_slice(),
-        supplies.as_slice(),
-        policy.files.as_slice(),
-    )?;
-    let found = cautions(alloc, &texts, policy);
-    drop(texts);
-    found
+    let links = usual_links(alloc)?;
+    found_by_links(alloc, &links, main, supplies, policy)
 }
 
 // Returns the text and the status for the cautions on the policy of a file. Forgets the policy: the run ends here, and
@@ -62,10 +78,11 @@ fn cautions_output<F: Files>(
     alloc: Global,
     path: &[u8],
     files: &mut F,
+    links: &[Link],
     without: &[CautionClass],
 ) -> Result<RunOutput, PolicyFault>
     ensures printed { IfOk result (λ p. IsCautioned
-        (F.held files.old) path.now without.now p.text.items p.status) }
+        (F.held files.old) path.now links.now without.now p.text.items p.status) }
     ensures fault { IfErr result (IsNoPolicy (F.held files.old) path.now) }
 {
     let loaded = load_files(alloc, path, files)?;
@@ -74,7 +91,7 @@ fn cautions_output<F: Files>(
         supplies,
         policy,
     } = &loaded;
-    let found = found_in(alloc, text, supplies, policy)?;
+    let found = found_by_links(alloc, links, text, supplies, policy)?;
     let kept = listed(found, without);
     let printed = caution_lines(alloc, policy.files.as_slice(), &kept)?;
     mem::forget(loaded);
@@ -82,7 +99,7 @@ fn cautions_output<F: Files>(
 }
 
 /// Prints on `out` one line for each construct of the policy of a file that sudo reads or judges otherwise, but for those of
-/// the classes in `without`, and a last line with their number.
+/// the classes in `without`, and a last line with their number. The machine has these links to folders.
 ///
 /// Returns the exit status: 0 without such a line, 5 with one or more, 1 if the policy is refused, 4 if reading, writing or
 /// memory failed. Prints a fault as one line on `err`; then nothing was printed on `out`, except by a write that failed part way.
@@ -90,15 +107,17 @@ pub fn cautions_run<F: Files, O: Sink, E: Sink>(
     alloc: Global,
     path: &[u8],
     files: &mut F,
+    links: &[Link],
     without: &[CautionClass],
     out: &mut O,
     err: &mut E,
 ) -> u8
-    ensures ends { Ends cautions_notices (IsCautioned (F.held files.old) path.now without.now)
+    ensures ends { Ends cautions_notices
+        (IsCautioned (F.held files.old) path.now links.now without.now)
         (IsNoPolicy (F.held files.old) path.now) result
         (sent O.taken O.stalled_writes out.old out.new)
         (sent E.taken E.stalled_writes err.old err.new) }
 {
-    let ended = cautions_output(alloc, path, files, without);
+    let ended = cautions_output(alloc, path, files, links, without);
     end_explained(alloc, PROGRAM, ended, out, err)
 }

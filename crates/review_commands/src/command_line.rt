@@ -32,7 +32,7 @@ fn root<'a>(alloc: Global) -> Arg<'a>
     )
 }
 
-// Returns `cautions FILE [--root DIR] [--without CLASS]...`.
+// Returns `cautions FILE [--root DIR] [--links F] [--without CLASS]...`.
 fn cautions<'a>(alloc: Global) -> Result<Command<'a>, AllocError>
     ensures app { IfOk result (λ c. app_of c ≡ cautions_app) }
     ensures local { IfOk result (λ c. (fields_of c).has_globals ≡ false) }
@@ -41,6 +41,7 @@ fn cautions<'a>(alloc: Global) -> Result<Command<'a>, AllocError>
         .about("Lists what sudo reads or judges otherwise")
         .arg(file(alloc))?
         .arg(root(alloc))?
+        .arg(name_option(alloc, "links", "The links to folders of the machine, as CSV"))?
         .arg(without(alloc))
 }
 
@@ -57,7 +58,7 @@ fn with_paths<'a>(alloc: Global, name: &'a str, about: &'a str) -> Result<Comman
         .arg(path_option(alloc, "hosts", "The known hosts, as CSV"))
 }
 
-// Returns `--ID NAME`.
+// Returns `--ID WORD`, which may be left out.
 fn name_option<'a>(alloc: Global, id: &'a str, help: &'a str) -> Arg<'a>
     ensures rule { rule_of result ≡ name_rule id.entry.now }
     ensures local { result.global ≡ false }

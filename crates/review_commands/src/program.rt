@@ -4,10 +4,11 @@ ghost use Rattle.review_commands.specs.Words.{WorkersFit};
 
 use crate::cautions::cautions_run;
 use crate::grants::{ScopeNames, grants_run};
+use crate::links::{LinksFault, machine_links};
 use crate::policy_files::policy_files;
 use crate::program_name::PROGRAM;
 use crate::report::{Form, report_into};
-use crate::request::{Asked, Paths};
+use crate::request::{Asked, Paths, PolicyPath};
 use crate::roots::roots_run;
 use crate::subjects::subjects_run;
 use crate::words::{asked, unread};
@@ -15,7 +16,8 @@ use audit_commands::{OpenedFiles, Work, open_all};
 use audit_files::Device;
 use clap::Error;
 use clap::error::ErrorKind;
-use run_base::{SystemOpener, report_explained};
+use review_cautions::{CautionClass, Link, usual_links};
+use run_base::{OpenFault, SystemOpener, open, report_explained};
 use std::alloc::AllocError;
 use std::env;
 use std::sync::Wait;
@@ -62,6 +64,45 @@ fn run_report<T: Threads + Wait + Sync>(
                 &mut err,
             )
         }
+        Err(fault) => report_explained(alloc, PROGRAM, fault, &mut err),
+    }
+}
+
+// Returns the links of the machine: those of the file at a path, or the usual ones.
+fn links_at(rt: &HostRuntime, path: Option<&str>) -> Result<Vec<Link>, LinksFault> {
+    let alloc = rt.alloc();
+    let Some(path) = path else {
+        return match usual_links(alloc) {
+            Ok(links) => Ok(links),
+            Err(_) => Err(LinksFault::Unopened(OpenFault::Memory)),
+        };
+    };
+    match open(alloc, &SystemOpener::new(rt), path) {
+        Ok(mut file) => machine_links(alloc, &mut file),
+        Err(fault) => Err(LinksFault::Unopened(fault)),
+    }
+}
+
+// Lists the cautions on a policy, and returns the exit status.
+fn run_cautions(
+    rt: &HostRuntime,
+    policy: PolicyPath<'_>,
+    links: Option<&str>,
+    without: &[CautionClass],
+) -> u8 {
+    let alloc = rt.alloc();
+    let mut out = Device::new(rt.stdout());
+    let mut err = Device::new(rt.stderr());
+    match links_at(rt, links) {
+        Ok(links) => cautions_run(
+            alloc,
+            policy.file.as_bytes(),
+            &mut policy_files(rt, policy),
+            &links,
+            without,
+            &mut out,
+            &mut err,
+        ),
         Err(fault) => report_explained(alloc, PROGRAM, fault, &mut err),
     }
 }
@@ -158,18 +199,12 @@ fn bytes_of<'a>(text: Option<&'a str>) -> Option<&'a [u8]> {
 fn run<T: Threads + Wait + Sync>(rt: &HostRuntime, threads: &T, asked: Asked<'_>) -> u8
     requires { WorkersFit asked }
 {
-    let alloc = rt.alloc();
-    let mut out = Device::new(rt.stdout());
-    let mut err = Device::new(rt.stderr());
     match asked {
-        Asked::Cautions { policy, without } => cautions_run(
-            alloc,
-            policy.file.as_bytes(),
-            &mut policy_files(rt, policy),
-            &without,
-            &mut out,
-            &mut err,
-        ),
+        Asked::Cautions {
+            policy,
+            links,
+            without,
+        } => run_cautions(rt, policy, links, &without),
         Asked::Grants { paths, user, host } => {
             let names = ScopeNames {
                 user: bytes_of(user),

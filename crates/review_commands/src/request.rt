@@ -20,9 +20,11 @@ pub struct Paths<'a> {
 /// A command that the command line asks for, with its texts as given.
 #[derive(Debug, Drop)]
 pub enum Asked<'a> {
-    /// `cautions FILE [--root DIR] [--without CLASS]...`: lists what sudo reads or judges otherwise, but for some classes.
+    /// `cautions FILE [--root DIR] [--links F] [--without CLASS]...`: lists what sudo reads or judges otherwise on a machine that
+    /// has the links of a file, or the usual ones, but for some classes.
     Cautions {
         policy: PolicyPath<'a>,
+        links: Option<&'a str>,
         without: Vec<CautionClass>,
     },
     /// `grants FILE [--root DIR] --users F --hosts F [--user NAME] [--host NAME]`: lists the grants of a policy, with the known

@@ -92,7 +92,12 @@ fn asked_cautions<'a>(alloc: Global, given: &ArgMatches<'a>) -> Result<Asked<'a>
     };
     let words = values(alloc, given, "without")?;
     let without = classes_named(alloc, &words)?;
-    Ok(Asked::Cautions { policy, without })
+    let links = value(given, "links");
+    Ok(Asked::Cautions {
+        policy,
+        links,
+        without,
+    })
 }
 
 // Returns the paths that a command takes, or `None` if one has no value.
@@ -292,7 +297,7 @@ fn asked_of<'a, S: AsStr>(
 }
 
 /// Returns the command that the words ask for, the program's own name first, as `clap` reads them:
-/// `cautions FILE [--without CLASS]...`, `report FILE --users F --hosts F [--workers N] [NAME=PATH]...`,
+/// `cautions FILE [--links F] [--without CLASS]...`, `report FILE --users F --hosts F [--workers N] [NAME=PATH]...`,
 /// `grants FILE --users F --hosts F [--user NAME] [--host NAME]`, `roots FILE --users F --hosts F [--all]`,
 /// `subjects FILE --users F --hosts F`, or
 /// `rules FILE --users F --hosts F [--workers N] [NAME=PATH]...`, where N is 1 to 16, by default 2; each takes `--root DIR`

@@ -1,8 +1,8 @@
 -- The text that is printed for a fault.
-use Rattle.std.specs.Prelude.{ℕ, List, [], ◌∷◌, ◌++◌, codes, decimal}
+use Rattle.std.specs.Prelude.{ℕ, List, [], ◌∷◌, ◌++◌, Option, None, Some, codes, decimal}
 use Rattle.std.specs.declared.alloc.AllocError.{AllocError}
 use Rattle.audit_files.specs.declared.sink.WriteFault.{WriteFault}
-use Rattle.run_base.specs.FaultTexts.{cannot_read, cannot_read_since, load_fault_text, no_memory}
+use Rattle.run_base.specs.FaultTexts.{cannot_read, cannot_read_since, hint_at_fault, load_fault_text, no_memory}
 use Rattle.run_base.specs.declared.fault.OpenFault.{OpenFault}
 use Rattle.run_base.specs.declared.fault.OpenFault.TheVariants as opens
 use Rattle.run_base.specs.declared.fault.PolicyFault.{PolicyFault}
@@ -39,13 +39,19 @@ abbrev pub open_printed : List ℕ → OpenFault → List ℕ
 open_printed program (opens.CannotRead path why) = error_line program (cannot_read path)
 open_printed program opens.Memory = memory_line program
 
--- the same texts as a program prints them that says why a path cannot be read
+-- the line of a hint, if there is one
+abbrev pub hint_line : List ℕ → Option (List ℕ) → List ℕ
+hint_line program None = []
+hint_line program (Some hint) = error_line program (codes "hint: " ++ hint)
+
+-- the same texts as a program prints them that says why a path cannot be read, and hints at what a fault often comes from
 
 abbrev pub policy_explained : List ℕ → PolicyFault → List ℕ
 policy_explained program (policies.CannotRead path why) = error_line program (cannot_read_since path why)
 policy_explained program (policies.TooLong path) = policy_printed program (policies.TooLong path)
 policy_explained program policies.TooManyFiles = policy_printed program policies.TooManyFiles
-policy_explained program (policies.Refused read fault text) = policy_printed program (policies.Refused read fault text)
+policy_explained program (policies.Refused read fault text) =
+    policy_printed program (policies.Refused read fault text) ++ hint_line program (hint_at_fault text fault)
 policy_explained program (policies.Errors lines) = policy_printed program (policies.Errors lines)
 policy_explained program policies.Memory = policy_printed program policies.Memory
 

@@ -1,5 +1,5 @@
 -- The texts of faults of a policy, as a program prints them.
-use Rattle.std.specs.Prelude.{ℕ, List, [], ◌++◌, codes, decimal}
+use Rattle.std.specs.Prelude.{ℕ, List, [], ◌++◌, Option, None, Some, codes, decimal}
 use Rattle.sudo_load.specs.declared.fault.LoadFault.{LoadFault}
 use Rattle.sudo_load.specs.declared.fault.LoadFault.TheVariants as loads
 use Rattle.sudo_load.specs.declared.fault.Want.{Want}
@@ -14,6 +14,7 @@ use Rattle.sudo_grammar.specs.declared.fault.ParseFault.TheVariants as parses
 use Rattle.sudo_grammar.specs.declared.fault.Unsupported.{Unsupported}
 use Rattle.sudo_grammar.specs.declared.fault.Unsupported.TheVariants as unsupporteds
 use Rattle.audit_files.specs.Places.{path_of, place_text}
+use Rattle.review_hints.specs.Hints.{hint_of}
 use Rattle.run_base.specs.declared.obstacle.Obstacle.{Obstacle}
 use Rattle.run_base.specs.declared.obstacle.Obstacle.TheVariants as obstacles
 
@@ -93,6 +94,20 @@ parse_fault_text files parses.Memory = no_memory
 abbrev pub wanted_path : Want → List ℕ
 wanted_path (wants.File path) = path
 wanted_path (wants.Folder path) = path
+
+-- the hint at a fault of a policy's lines, given the text of the file in which it is
+abbrev pub hint_in : Option (List ℕ) → ParseFault → Option (List ℕ)
+hint_in None fault = None
+hint_in (Some text) fault = hint_of text fault
+
+-- the hint at a fault of a policy, given the text of the file in which it is
+abbrev pub hint_at_fault : Option (List ℕ) → LoadFault → Option (List ℕ)
+hint_at_fault text (loads.Parse fault) = hint_in text fault
+hint_at_fault text (loads.TooNested place) = None
+hint_at_fault text (loads.TooMany place) = None
+hint_at_fault text (loads.Missing place path) = None
+hint_at_fault text (loads.Wanted want) = None
+hint_at_fault text loads.Memory = None
 
 -- the fault of a policy, given the paths of the files that were read
 abbrev pub load_fault_text : List (List ℕ) → LoadFault → List ℕ

@@ -1,15 +1,18 @@
 //! Faults of the first stages of a run: a file is opened, a policy is loaded.
-ghost use Rattle.std.specs.Prelude.{◌≡◌, ◌++◌, IfOk, codes};
+ghost use Rattle.std.specs.Prelude.{◌≡◌, ◌++◌, IfOk, OnOk, codes};
 ghost use Rattle.run_base.specs.FaultLines.{error_line, open_explained, open_printed, policy_explained};
-ghost use Rattle.run_base.specs.FaultLines.{policy_printed};
+ghost use Rattle.run_base.specs.FaultLines.{hint_line, policy_printed};
 ghost use Rattle.run_base.specs.FaultTexts.{cannot_read, cannot_read_since, load_fault_text};
+ghost use Rattle.run_base.specs.FaultTexts.{hint_at_fault as spec_hint_at_fault, hint_in as spec_hint_in};
 ghost use Rattle.run_base.specs.Faults.{open_status, policy_status};
 
 use crate::fails::Fails;
 use crate::fault_text::{push_cannot_read, push_load_fault};
 use crate::lines::{begin_line, push, push_both};
 use crate::obstacle::{Obstacle, push_reason};
+use review_hints::hint;
 use std::alloc::{AllocError, AllocFailed, Global};
+use sudo_grammar::ParseFault;
 use sudo_load::LoadFault;
 use sudo_text::Seq;
 
@@ -91,6 +94,9 @@ impl Fails for PolicyFault {
         match self {
             PolicyFault::CannotRead(path, why) => {
                 explained_line(alloc, program, path.as_slice(), &why)
+            }
+            PolicyFault::Refused { read, fault, text } => {
+                hinted_lines(alloc, program, read.as_slice(), &fault, &text)
             }
             fault => fault.printed(alloc, program),
         }
@@ -218,4 +224,64 @@ fn refused_line(
     push_load_fault(&mut line, read, fault)?;
     push(&mut line, b"\n")?;
     Ok(line)
+}
+
+// Returns the hint at a fault of a policy's lines, given the text of the file in which it is.
+fn hint_in(
+    alloc: Global,
+    text: &Option<Seq<u8>>,
+    fault: &ParseFault,
+) -> Result<Option<Seq<u8>>, AllocError>
+    ensures { IfOk result (λ hint. hint ≡ spec_hint_in text.now fault.now) }
+{
+    match text {
+        Some(text) => hint(alloc, text.as_slice(), fault),
+        None => Ok(None),
+    }
+}
+
+// Returns the hint at a fault of a policy, given the text of the file in which it is.
+fn hint_at_fault(
+    alloc: Global,
+    text: &Option<Seq<u8>>,
+    fault: &LoadFault,
+) -> Result<Option<Seq<u8>>, AllocError>
+    ensures { IfOk result (λ hint. hint ≡ spec_hint_at_fault text.now fault.now) }
+{
+    match fault {
+        LoadFault::Parse(fault) => hint_in(alloc, text, fault),
+        _ => Ok(None),
+    }
+}
+
+// Appends the line of a hint, if there is one.
+fn push_hint(lines: &mut Vec<u8>, program: &[u8], hint: &Option<Seq<u8>>) -> Result<(), AllocError>
+    ensures { OnOk result (lines.new.items ≡ lines.old.items ++ hint_line program.now hint.now) }
+{
+    match hint {
+        Some(hint) => {
+            push_both(lines, program, b": hint: ")?;
+            push_both(lines, hint.as_slice(), b"\n")
+        }
+        None => Ok(()),
+    }
+}
+
+// Returns the line of files that are not a policy, and the line of a hint, if there is one, given the paths of the files that
+// were read and the text of the faulty one.
+fn hinted_lines(
+    alloc: Global,
+    program: &[u8],
+    read: &[Seq<u8>],
+    fault: &LoadFault,
+    text: &Option<Seq<u8>>,
+) -> Result<Vec<u8>, AllocError>
+    ensures { IfOk result (λ lines. lines.items
+        ≡ error_line program.now (load_fault_text read.now fault.now)
+        ++ hint_line program.now (spec_hint_at_fault text.now fault.now)) }
+{
+    let mut lines = refused_line(alloc, program, read, fault)?;
+    let hint = hint_at_fault(alloc, text, fault)?;
+    push_hint(&mut lines, program, &hint)?;
+    Ok(lines)
 }
