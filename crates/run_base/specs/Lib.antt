@@ -8,3 +8,4 @@ pub mod Loading
 pub mod Opening
 pub mod Arguments
 pub mod Body
+pub mod Obstacles

@@ -1,6 +1,8 @@
 //! What keeps a file or a folder from being read.
 ghost use Rattle.std.specs.Prelude.{◌≡◌, ◌++◌, OnOk, codes};
+ghost use Rattle.std.specs.IoError.{error_kind};
 ghost use Rattle.run_base.specs.FaultTexts.{reason_text};
+ghost use Rattle.run_base.specs.Obstacles.{obstacle_of};
 
 use crate::lines::{push, push_both};
 use std::alloc::AllocError;
@@ -33,7 +35,9 @@ pub enum Obstacle {
 
 impl Obstacle {
     /// Returns the obstacle that an error of the system names.
-    pub fn of_error(error: &io::Error) -> Obstacle {
+    pub fn of_error(error: &io::Error) -> Obstacle
+        ensures { result ≡ obstacle_of (error_kind error.now) }
+    {
         match error.kind() {
             ErrorKind::NotFound => Obstacle::NotFound,
             ErrorKind::PermissionDenied => Obstacle::PermissionDenied,
