@@ -171,7 +171,7 @@ def _wrong(program: str, done: subprocess.CompletedProcess[bytes], text: bytes) 
 def _answer(verdict: str, path: str, line: int, numbers: list[bytes], case: Case) -> Answer:
     """Returns the peer's answer in the form of the program's."""
     name = POLICY if path == "sudoers" else path.replace("//", "/")
-    text = case.text if name == POLICY else dict(case.files)[os.path.normpath(name)]
+    text = case.text if name == POLICY else dict(case.files)[os.path.normpath(name.removeprefix(f"{world.TOP}/"))]
     place = f"{name}:{first_line(text, line)}"
     if verdict != "allow":
         return Answer(verdict, place)

@@ -14,6 +14,7 @@ from functools import partial
 from typing import NamedTuple
 
 from differ import world
+from differ.aimed import DRAWN, drawn
 from differ.alone import alone_with, requests_for
 from differ.ask import Answer, Asker, Case
 from differ.assumed import unmet
@@ -28,6 +29,7 @@ from differ.world import Request
 VERDICTS_A_TASK = 500
 SAMPLE_A_TASK = 5
 DRAWS_A_TASK = 10
+AIMED_A_TASK = 50
 TASKS_A_WAVE = 16
 MOST_ASKED = 5
 BY_CHANCE = 8
@@ -85,15 +87,21 @@ class Sampled(NamedTuple):
 class Single(NamedTuple):
     """What was found of policies with one caution: by class how many, and of how many sudo judges a request otherwise.
 
-    Parameters of Defaults lines count each by itself."""
+    Parameters of Defaults lines count each by itself. Policies with further cautions, or none, are passed over."""
 
     policies: Counter[str] = Counter()
     otherwise: Counter[str] = Counter()
     alike: tuple[tuple[str, str], ...] = ()
+    passed_over: int = 0
 
     def plus(self, more: "Single") -> "Single":
         """Returns what both found."""
-        return Single(self.policies + more.policies, self.otherwise + more.otherwise, self.alike + more.alike)
+        return Single(
+            self.policies + more.policies,
+            self.otherwise + more.otherwise,
+            self.alike + more.alike,
+            self.passed_over + more.passed_over,
+        )
 
 
 class Measure:
@@ -240,6 +248,19 @@ class Measure:
             yield from _spread(decided, MOST_ASKED)
         yield from _spread(range(len(told)), BY_CHANCE)
 
+    def aimed(self, name: str, seed: str) -> Single:
+        """Looks for a request that sudo judges otherwise, under a policy with one construct of a class."""
+        case, requests = drawn(name, seed)
+        self.asker.write(case)
+        if [caution.name for caution in self.reviewer.cautions() or ()] != [name]:
+            return Single(passed_over=1)
+        told = [one for one in requests if not unmet(case._replace(request=one))]
+        here = self.asker.audit(told) or ()
+        there = (self.asker.peer_answer(case, asked).answer for asked in told)
+        found = any(alike(one) != alike(other) for one, other in zip(here, there))
+        alike_here = () if found else ((name, case.text),)
+        return Single(Counter([name]), Counter([name] if found else []), alike_here)
+
     def _is_otherwise(self, case: Case, here: Answer, name: str) -> bool:
         """Returns whether sudo judges a request otherwise, and by the construct of the class."""
         assert case.request is not None
@@ -293,6 +314,18 @@ def _single(programs: Programs, enough: frozenset[str], draws: int, seed: str) -
     return total
 
 
+def _aimed(programs: Programs, policies: int, seed: str, name: str) -> Single:
+    """Tries so many policies with one construct of a class, and at most four times as many draws."""
+    total = Single()
+    with tempfile.TemporaryDirectory(prefix="differential-", dir=memory()) as folder:
+        measure = Measure(programs, folder, name == OF_LETTERS)
+        for number in range(4 * policies):
+            total = total.plus(measure.aimed(name, f"{seed}.{number}"))
+            if total.policies[name] >= policies:
+                break
+    return total
+
+
 def plain(pool: ProcessPoolExecutor, programs: Programs, verdicts: int, seed: int) -> Iterator[Plain]:
     """Yields what is found of policies without cautions, for at least so many verdicts."""
     each = min(verdicts, VERDICTS_A_TASK)
@@ -318,3 +351,10 @@ def single(pool: ProcessPoolExecutor, programs: Programs, each: int, draws: int,
         for found in pool.map(partial(_single, programs, enough, a_task), seeds):
             counted += found.policies
             yield found
+
+
+def aimed(pool: ProcessPoolExecutor, programs: Programs, each: int, seed: int) -> Iterator[Single]:
+    """Yields what is found of policies with one construct of a class, so many of each class."""
+    parts = [min(AIMED_A_TASK, each - first) for first in range(0, each, AIMED_A_TASK)]
+    tasks = [(part, f"{seed}.a{number}", name) for name in DRAWN for number, part in enumerate(parts)]
+    yield from pool.map(partial(_aimed, programs), *zip(*tasks)) if tasks else ()

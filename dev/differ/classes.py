@@ -21,7 +21,7 @@ ALIAS = re.compile(r"[A-Z][A-Z0-9_]*")
 JOIN = rf"{EVEN}\\\r?\n[ \t]*"
 LINE = re.compile(r"(?:[^\n]*\\[ \t]*\r?\n)*[^\n]*(?:\n|\Z)")
 DECIDING = (
-    "authenticate root_sudo case_insensitive_user case_insensitive_group use_netgroups targetpw rootpw runaspw"
+    "authenticate root_sudo use_netgroups targetpw rootpw runaspw"
     " match_group_by_gid setenv noexec intercept requiretty runas_allow_unknown_id runas_check_shell fast_glob"
     " netgroup_tuple fqdn runas_default exempt_group group_plugin sudoers_locale runchroot"
 ).split()

@@ -11,7 +11,9 @@ use Rattle.sudo_grammar.specs.declared.kind.Atom.{Atom}
 use Rattle.sudo_grammar.specs.declared.kind.Atom.TheVariants as atoms
 use Rattle.sudo_grammar.specs.declared.kind.Member.{Member}
 use Rattle.sudo_grammar.specs.declared.policy.Parameter.{Parameter}
-use Rattle.sudo_grammar.specs.declared.policy.Parameter.TheVariants.{Switch}
+use Rattle.sudo_grammar.specs.declared.policy.Parameter.TheVariants.{Switch, Assign}
+use Rattle.sudo_grammar.specs.declared.policy.Operator.TheVariants.{Set}
+use Rattle.sudo_grammar.specs.declared.tag.Tag.{Tag}
 use Rattle.sudo_grammar.specs.declared.tag.TagPair.TheVariants as pair
 use Rattle.sudo_grammar.specs.declared.policy.Runas.{Runas}
 use Rattle.sudo_grammar.specs.declared.policy.CommandSpec.{CommandSpec}
@@ -22,13 +24,20 @@ use Rattle.review_cautions.specs.declared.class.CautionClass.TheVariants.{Return
 use Rattle.review_cautions.specs.declared.class.CautionClass.TheVariants.{IncludeEscape, IncludeIndent}
 use Rattle.review_cautions.specs.declared.class.CautionClass.TheVariants.{Caret, Escape, Case, QuotedHost, QuotedEscape, Linked, Defaults}
 use Rattle.review_cautions.specs.declared.class.CautionClass.TheVariants.{Sudoedit, Network, Bracket, Setenv, GroupForm}
+use Rattle.review_cautions.specs.ListTests.{linking, usual_links}
 use Rattle.review_cautions.specs.Cautions.{caution_at, text_cautions, list_cautions, linked_cautions, parameter_cautions}
 use Rattle.review_cautions.specs.Cautions.{entry_cautions}
 
--- the carriage return of a rule is dropped; that of a comment means nothing
-return : text_cautions Return ((codes "alice ALL = ALL" ++ 13 ∷ 10 ∷ codes "# note" ++ 13 ∷ 10 ∷ codes "bob ALL = ALL") ∷ [])
-    ≡ caution_at Return (place 0 1) ∷ []
+-- the carriage return behind a command is dropped; that of a comment means nothing, nor does one behind `ALL`
+return : text_cautions Return ((codes "alice ALL = /bin/ls" ++ 13 ∷ 10 ∷ codes "# /bin/ls" ++ 13 ∷ 10 ∷ codes "bob ALL = ALL" ++ 13 ∷ 10
+    ∷ codes "bob ALL = sudoedit" ++ 13 ∷ 10 ∷ codes "eve ALL = \\" ++ 10 ∷ codes "ALL" ++ 13 ∷ 10 ∷ codes "Defaults insults") ∷ [])
+    ≡ caution_at Return (place 0 1) ∷ caution_at Return (place 0 4) ∷ caution_at Return (place 0 6) ∷ []
 return = refl
+
+-- behind a backslash, and not at the end of the last line
+return_alone : text_cautions Return ((codes "User_Alias A = bob\\" ++ 13 ∷ 10 ∷ codes "# note" ++ 10 ∷ codes "bob ALL = ALL" ++ 13 ∷ []) ∷ [])
+    ≡ caution_at Return (place 0 1) ∷ []
+return_alone = refl
 
 -- a blank behind a backslash, and one behind two
 blank : text_cautions BlankAfterBackslash (codes "Defaults insults" ∷ (codes "alice ALL = /bin/ls foo\\ " ++ 10
@@ -60,10 +69,11 @@ group : text_cautions TornMark ((codes "%\\" ++ 10 ∷ codes "#27 ALL = ALL" ++ 
     ≡ caution_at TornMark (place 0 1) ∷ []
 group = refl
 
--- a backslash in the path of an include line, and none
+-- a backslash before `%` or `x` in the path of an include line, or beside double quotes; none, and one before a comma
 include_escape : text_cautions IncludeEscape ((codes "@include /x/a\\%h" ++ 10 ∷ codes "@include /x/a" ++ 10
-    ∷ codes "alice ALL = /bin/ls a\\,b") ∷ [])
-    ≡ caution_at IncludeEscape (place 0 1) ∷ []
+    ∷ codes "@include /x/a\\,b" ++ 10 ∷ codes "@include /x/a\\x62" ++ 10 ∷ codes "@include \"a\\,b\"" ++ 10
+    ∷ codes "alice ALL = /bin/ls a\\%b") ∷ [])
+    ≡ caution_at IncludeEscape (place 0 1) ∷ caution_at IncludeEscape (place 0 4) ∷ caution_at IncludeEscape (place 0 5) ∷ []
 include_escape = refl
 
 -- blanks before `#include`; none before the next, and blanks before `@include` are blanks for both
@@ -106,6 +116,18 @@ escape : list_cautions Escape (list kinds.Cmnd 1 (command (map plain (codes "/bi
 unfolding list member command
 escape = refl
 
+-- `/bin/[!l]s` and `/bin/l!s` have no escape, `sudoedit` has no arguments, and a tab or a parenthesis ends a word as `!` does
+path_escape : list_cautions Escape (list kinds.Cmnd 1 (atoms.Command (map plain (codes "/bin/[!l]s")) None)
+    ∷ list kinds.Cmnd 2 (atoms.Command (map plain (codes "/bin/l!s")) None)
+    ∷ list kinds.Cmnd 3 (atoms.Command (escaped 42 ∷ map plain (codes "!ls")) None)
+    ∷ list kinds.Cmnd 4 (atoms.Command (map plain (codes "sudoedit")) None)
+    ∷ list kinds.Cmnd 5 (atoms.Command (map plain (codes "sudoedit\"a\"")) None)
+    ∷ list kinds.Cmnd 6 (atoms.Command (map plain (codes "/bin/l(") ++ escaped 63 ∷ []) None)
+    ∷ list kinds.Cmnd 7 (atoms.Command (map plain (codes "/bin/l") ++ escaped 9 ∷ escaped 63 ∷ []) None) ∷ [])
+    ≡ caution_at Escape (place 0 5) ∷ caution_at Escape (place 0 6) ∷ caution_at Escape (place 0 7) ∷ []
+unfolding list member
+path_escape = refl
+
 -- `web\*`, and not `web*` and `web\ 1`
 host_escape : list_cautions Escape (list kinds.Host 1 (atoms.Host (map plain (codes "web") ++ escaped 42 ∷ []) false)
     ∷ list kinds.Host 2 (atoms.Host (map plain (codes "web*")) false)
@@ -114,11 +136,20 @@ host_escape : list_cautions Escape (list kinds.Host 1 (atoms.Host (map plain (co
 unfolding list member
 host_escape = refl
 
--- `\#1000`, and not `"\#1000"` and `a\#`
+-- `web[0\-9]`, and not `web\-1`
+bracket_escape : list_cautions Escape
+    (list kinds.Host 1 (atoms.Host (map plain (codes "web[0") ++ escaped 45 ∷ map plain (codes "9]")) false)
+    ∷ list kinds.Host 2 (atoms.Host (map plain (codes "web") ++ escaped 45 ∷ plain 49 ∷ []) false) ∷ [])
+    ≡ caution_at Escape (place 0 1) ∷ []
+unfolding list member
+bracket_escape = refl
+
+-- `\#1000`, and not `"\#1000"`, `a\#` and `\#a`
 id_escape : list_cautions Escape
     (granting_list kinds.User (place 0 1) (word false (escaped 35 ∷ map plain (codes "1000")) (atoms.Name (codes "#1000")) ∷ [])
     ∷ granting_list kinds.Runas (place 0 2) (word true (escaped 35 ∷ map plain (codes "1000")) (atoms.Name (codes "#1000")) ∷ [])
-    ∷ granting_list kinds.Runas (place 0 3) (word false (plain 97 ∷ escaped 35 ∷ []) (atoms.Name (codes "a#")) ∷ []) ∷ [])
+    ∷ granting_list kinds.Runas (place 0 3) (word false (plain 97 ∷ escaped 35 ∷ []) (atoms.Name (codes "a#")) ∷ [])
+    ∷ granting_list kinds.Runas (place 0 4) (word false (escaped 35 ∷ plain 97 ∷ []) (atoms.Name (codes "#a")) ∷ []) ∷ [])
     ≡ caution_at Escape (place 0 1) ∷ []
 unfolding word
 id_escape = refl
@@ -147,12 +178,21 @@ unfolding word
 quoted_escape = refl
 
 -- `/opt/*` and `/bi`; `/usr/*` may lie below `/usr/bin/`, and so does `/bin/ls`, but one caution is enough
-linked : linked_cautions (list kinds.Cmnd 1 (atoms.Command (map plain (codes "/opt/*")) None)
+linked : linked_cautions usual_links (list kinds.Cmnd 1 (atoms.Command (map plain (codes "/opt/*")) None)
     ∷ list kinds.Cmnd 2 (atoms.Command (map plain (codes "/bi")) None)
     ∷ list kinds.Cmnd 3 (atoms.Command (map plain (codes "/usr/*")) None)
     ∷ list kinds.Cmnd 4 (atoms.Command (map plain (codes "/bin/ls")) None) ∷ []) ≡ caution_at Linked (place 0 3) ∷ []
 unfolding list member
 linked = refl
+
+-- by a link from `/opt` to `/srv/opt`: `/srv/opt/run`, and not `/bin/ls`, `/opt` and `/opt2/run`
+other_link : linked_cautions (linking (codes "/opt") (codes "/srv/opt") ∷ [])
+    (list kinds.Cmnd 1 (atoms.Command (map plain (codes "/bin/ls")) None)
+    ∷ list kinds.Cmnd 2 (atoms.Command (map plain (codes "/opt")) None)
+    ∷ list kinds.Cmnd 3 (atoms.Command (map plain (codes "/opt2/run")) None)
+    ∷ list kinds.Cmnd 4 (atoms.Command (map plain (codes "/srv/opt/run")) None) ∷ []) ≡ caution_at Linked (place 0 4) ∷ []
+unfolding list member
+other_link = refl
 
 -- a switch of this name
 switch : ℕ → List ℕ → Parameter
@@ -165,6 +205,21 @@ defaults : parameter_cautions (place 0 1) (switch 1 (codes "authenticate") ∷ s
     ∷ record { class = Defaults; place = place 0 1; subject = codes "targetpw" } ∷ []
 unfolding switch
 defaults = refl
+
+-- a parameter of this name with this value
+assigned : List ℕ → List Ch → Parameter
+assigned name value = Assign (record { kind = tokens.Word false (map plain name); start = 0; end = 0 }) Set
+    (record { kind = tokens.Word false value; start = 0; end = 0 })
+
+-- `runas_default=bob` and `runas_default=r\oot`, and not `runas_default=root`, `fast_glob=x` and `!case_insensitive_user`
+values : parameter_cautions (place 0 1) (assigned (codes "runas_default") (map plain (codes "root"))
+    ∷ assigned (codes "runas_default") (map plain (codes "bob")) ∷ assigned (codes "fast_glob") (map plain (codes "x"))
+    ∷ assigned (codes "runas_default") (plain 114 ∷ escaped 111 ∷ map plain (codes "ot"))
+    ∷ switch 1 (codes "case_insensitive_user") ∷ [])
+    ≡ record { class = Defaults; place = place 0 1; subject = codes "runas_default" }
+    ∷ record { class = Defaults; place = place 0 1; subject = codes "runas_default" } ∷ []
+unfolding switch assigned
+values = refl
 
 -- `/usr/bin/sudoedit`, and not `sudoedit` and `/usr/bin/sudoedit.sh`
 sudoedit : list_cautions Sudoedit (list kinds.Cmnd 1 (atoms.Command (map plain (codes "/usr/bin/sudoedit")) None)
@@ -183,18 +238,26 @@ leading_zero : list_cautions Network (spelled 1 (codes "010.0.0.1") (atoms.Addre
 unfolding spelled word
 leading_zero = refl
 
--- `10.0.0.0/0` and `127.5.0.1`, and not `10.0.0.0/8` and the host `web01`
+-- `10.0.0.0/0` and `127.5.0.1`, and not `10.0.0.0/0.0.0.0`, `10.0.0.0/8` and the host `web01`
 network : list_cautions Network (spelled 1 (codes "10.0.0.0/0") (atoms.Net 167772160 0)
+    ∷ spelled 5 (codes "10.0.0.0/0.0.0.0") (atoms.Net 167772160 0)
     ∷ spelled 2 (codes "127.5.0.1") (atoms.Address 2131034113) ∷ spelled 3 (codes "10.0.0.0/8") (atoms.Net 167772160 4278190080)
     ∷ spelled 4 (codes "web01") (atoms.Host (map plain (codes "web01")) false) ∷ [])
     ≡ caution_at Network (place 0 1) ∷ caution_at Network (place 0 2) ∷ []
 unfolding spelled word
 network = refl
 
--- a command with this runas, and SETENV or no tag
-granted : Option Runas → Bool → Atom → CommandSpec
-granted runas true atom = record { runas = runas; tags = record { pair = pair.SetEnv; on = true } ∷ []; command = member atom }
-granted runas false atom = record { runas = runas; tags = []; command = member atom }
+-- a command with this runas and these tags
+granted : Option Runas → List Tag → Atom → CommandSpec
+granted runas tags atom = record { runas = runas; tags = tags; command = member atom }
+
+-- SETENV or NOSETENV
+environment : Bool → List Tag
+environment on = record { pair = pair.SetEnv; on = on } ∷ []
+
+-- `/bin/ls`
+ls : Atom
+ls = atoms.Command (map plain (codes "/bin/ls")) None
 
 -- a rule on a line with one section of these commands
 rule : ℕ → List CommandSpec → Entry
@@ -204,35 +267,46 @@ rule line commands = record {
       (record { hosts = member atoms.All ∷ []; commands = commands } ∷ []);
 }
 
--- `SETENV: /bin/ls, ALL`, and not `SETENV: /bin/ls` and `ALL`
+-- `NOSETENV: /bin/ls, ALL` and `SETENV: /bin/ls, ALL, /bin/ls`; not `SETENV: /bin/ls, ALL`, `NOSETENV: ALL, /bin/ls`,
+-- `ALL, /bin/ls` and `SETENV: /bin/ls, ALL, NOSETENV: /bin/ls`
 setenv : entry_cautions Setenv
-    (rule 1 (granted None true (atoms.Command (map plain (codes "/bin/ls")) None) ∷ granted None false atoms.All ∷ [])
-    ∷ rule 2 (granted None true (atoms.Command (map plain (codes "/bin/ls")) None) ∷ [])
-    ∷ rule 3 (granted None false atoms.All ∷ []) ∷ []) ≡ caution_at Setenv (place 0 1) ∷ []
-unfolding rule granted member
+    (rule 1 (granted None (environment false) ls ∷ granted None [] atoms.All ∷ [])
+    ∷ rule 2 (granted None (environment true) ls ∷ granted None [] atoms.All ∷ granted None [] ls ∷ [])
+    ∷ rule 3 (granted None (environment true) ls ∷ granted None [] atoms.All ∷ [])
+    ∷ rule 4 (granted None (environment false) atoms.All ∷ granted None [] ls ∷ [])
+    ∷ rule 5 (granted None [] atoms.All ∷ granted None [] ls ∷ [])
+    ∷ rule 6 (granted None (environment true) ls ∷ granted None [] atoms.All ∷ granted None (environment false) ls ∷ []) ∷ [])
+    ≡ caution_at Setenv (place 0 1) ∷ caution_at Setenv (place 0 2) ∷ []
+unfolding rule granted environment ls member
 setenv = refl
 
--- the definitions of an alias `X` of `ALL`
-alias : Kind → ℕ → Entry
-alias kind line = record {
+-- the definition of an alias `X` of this kind, with this member
+alias : Kind → ℕ → Atom → Entry
+alias kind line atom = record {
   place = place 0 line;
-  body = entries.Aliases kind (record { name = codes "X"; members = member atoms.All ∷ [] } ∷ []);
+  body = entries.Aliases kind (record { name = codes "X"; members = member atom ∷ [] } ∷ []);
 }
 
--- `Cmnd_Alias X = ALL`, and not `Host_Alias X = ALL`
-alias_of_all : entry_cautions Setenv (alias kinds.Cmnd 1 ∷ alias kinds.Host 2 ∷ []) ≡ caution_at Setenv (place 0 1) ∷ []
-unfolding alias member
+-- `Cmnd_Alias X = ALL`, where a rule has an alias; not `Host_Alias X = ALL` and `Cmnd_Alias X = /bin/ls`
+alias_of_all : entry_cautions Setenv (alias kinds.Cmnd 1 atoms.All ∷ alias kinds.Host 2 atoms.All ∷ alias kinds.Cmnd 3 ls
+    ∷ rule 4 (granted None [] (atoms.Alias (codes "X")) ∷ []) ∷ []) ≡ caution_at Setenv (place 0 1) ∷ []
+unfolding alias rule granted ls member
 alias_of_all = refl
 
--- `(:adm) ALL` and `() ALL`, and not `(bob:adm) ALL` and `ALL`
+-- no rule has an alias
+idle_alias : entry_cautions Setenv (alias kinds.Cmnd 1 atoms.All ∷ rule 2 (granted None [] ls ∷ []) ∷ []) ≡ []
+unfolding alias rule granted ls member
+idle_alias = refl
+
+-- `(:adm) ALL`, and not `() ALL`, `(bob:adm) ALL` and `ALL`
 group_form : entry_cautions GroupForm
-    (rule 1 (granted (Some (record { users = None; groups = Some (member (atoms.Name (codes "adm")) ∷ []) })) false atoms.All ∷ [])
-    ∷ rule 2 (granted (Some (record { users = None; groups = None })) false atoms.All ∷ [])
+    (rule 1 (granted (Some (record { users = None; groups = Some (member (atoms.Name (codes "adm")) ∷ []) })) [] atoms.All ∷ [])
+    ∷ rule 2 (granted (Some (record { users = None; groups = None })) [] atoms.All ∷ [])
     ∷ rule 3 (granted (Some (record {
       users = Some (member (atoms.Name (codes "bob")) ∷ []);
       groups = Some (member (atoms.Name (codes "adm")) ∷ []);
-    })) false atoms.All ∷ [])
-    ∷ rule 4 (granted None false atoms.All ∷ []) ∷ []) ≡ caution_at GroupForm (place 0 1) ∷ caution_at GroupForm (place 0 2) ∷ []
+    })) [] atoms.All ∷ [])
+    ∷ rule 4 (granted None [] atoms.All ∷ []) ∷ []) ≡ caution_at GroupForm (place 0 1) ∷ []
 unfolding rule granted member
 group_form = refl
 
@@ -246,11 +320,12 @@ bracket_slash = refl
 class : List ℕ → List Ch
 class name = map plain (codes "[[") ++ escaped 58 ∷ map plain name ++ escaped 58 ∷ []
 
--- `/bin/ls [[=a=]]` and `/bin/ls [[\:word\:]]`, and not `/bin/ls [[\:upper\:]=]`
+-- `/bin/ls [[=a=]]` and `/bin/ls [[\:word\:]]`, and not `/bin/ls [[\:upper\:]=]` and `/bin/ls [[\:Word\:]]`
 bracket_class : list_cautions Bracket
     (list kinds.Cmnd 1 (command (map plain (codes "/bin/ls")) (map plain (codes "[[=a=]]")))
     ∷ list kinds.Cmnd 2 (command (map plain (codes "/bin/ls")) (class (codes "word") ++ map plain (codes "]]")))
-    ∷ list kinds.Cmnd 3 (command (map plain (codes "/bin/ls")) (class (codes "upper") ++ map plain (codes "]=]"))) ∷ [])
+    ∷ list kinds.Cmnd 3 (command (map plain (codes "/bin/ls")) (class (codes "upper") ++ map plain (codes "]=]")))
+    ∷ list kinds.Cmnd 4 (command (map plain (codes "/bin/ls")) (class (codes "Word") ++ map plain (codes "]]"))) ∷ [])
     ≡ caution_at Bracket (place 0 1) ∷ caution_at Bracket (place 0 2) ∷ []
 unfolding list member command class
 bracket_class = refl

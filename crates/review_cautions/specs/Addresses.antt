@@ -24,10 +24,22 @@ word_has_leading_zero _ = false
 abbrev pub is_loopback : ℕ → Bool
 is_loopback addr = addr / 16777216 == 127
 
--- an atom is an address or a network that sudo reads otherwise: one of these, or a mask of 0, which is no host for sudo
+-- a dot stands behind a slash; `behind`: a slash stands before the characters
+abbrev pub has_dotted_mask : Bool → List Ch → Bool
+has_dotted_mask behind [] = false
+has_dotted_mask behind (c ∷ cs) = (behind && (c.byte == 46)) || has_dotted_mask (behind || (c.byte == 47)) cs
+
+-- the token is a word with such a dot
+abbrev pub word_has_dotted_mask : TokenKind → Bool
+word_has_dotted_mask (tokens.Word quoted chars) = has_dotted_mask false chars
+word_has_dotted_mask _ = false
+
+-- an atom is an address or a network that sudo reads otherwise: one of these, or a mask of `/0`, which is no host for
+-- sudo, while `/0.0.0.0` is each
 abbrev pub is_other_address : Atom → TokenKind → Bool
 is_other_address (atoms.Address addr) token = is_loopback addr || word_has_leading_zero token
-is_other_address (atoms.Net addr mask) token = (mask == 0) || is_loopback addr || word_has_leading_zero token
+is_other_address (atoms.Net addr mask) token =
+    ((mask == 0) && not (word_has_dotted_mask token)) || is_loopback addr || word_has_leading_zero token
 is_other_address _ token = false
 
 -- the member is such an address or network

@@ -1,5 +1,5 @@
 -- Brackets of patterns that sudo reads otherwise. sudoers(5), "Wildcards"; fnmatch(3) and glob(7), which it follows there.
-use Rattle.std.specs.Prelude.{ℕ, Bool, true, false, not, ◌&&◌, ◌||◌, ◌==◌, List, [], ◌∷◌, Option, None, Some, codes}
+use Rattle.std.specs.Prelude.{ℕ, Bool, true, false, not, ◌&&◌, ◌||◌, ◌==◌, nat_le, List, [], ◌∷◌, Option, None, Some, codes}
 use Rattle.sudo_text.specs.declared.token.Ch.{Ch}
 use Rattle.sudo_grammar.specs.declared.kind.Atom.{Atom}
 use Rattle.sudo_grammar.specs.declared.kind.Atom.TheVariants as atoms
@@ -62,11 +62,20 @@ is_class host cs = names_class (codes "alnum") cs || names_class (codes "alpha")
     || names_class (codes "lower") cs || names_class (codes "print") cs || names_class (codes "punct") cs
     || names_class (codes "space") cs || names_class (codes "xdigit") cs || (not host && names_class (codes "upper") cs)
 
--- the characters, directly behind a `[`, begin an equivalence (`=`), a collating symbol (`.`), or (`:`) a class that is
+-- letters from `a` to `y`, possibly none, and the end of a class: fnmatch(3) of glibc takes nothing else for a class
+abbrev pub names_any_class : List Ch → Bool
+names_any_class [] = false
+names_any_class (c ∷ cs) = ends_class (c ∷ cs) || (nat_le 97 c.byte && nat_le c.byte 121 && names_any_class cs)
+
+-- the characters begin a class for sudo or for the reader, which puts a host's letters in lower case first, and it is
 -- none of those above
+abbrev pub names_other_class : Bool → List Ch → Bool
+names_other_class host cs = not (is_class host cs) && (host || names_any_class cs)
+
+-- the characters, directly behind a `[`, begin an equivalence (`=`), a collating symbol (`.`), or (`:`) such a class
 abbrev pub begins_other_class : Bool → List Ch → Bool
 begins_other_class host [] = false
-begins_other_class host (c ∷ cs) = (c.byte == 61) || (c.byte == 46) || ((c.byte == 58) && not (is_class host cs))
+begins_other_class host (c ∷ cs) = (c.byte == 61) || (c.byte == 46) || ((c.byte == 58) && names_other_class host cs)
 
 -- such characters stand directly behind a `[` that no escape yields
 abbrev pub has_other_class : Bool → List Ch → Bool

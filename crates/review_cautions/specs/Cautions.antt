@@ -17,10 +17,11 @@ use Rattle.review_cautions.specs.declared.class.CautionClass.TheVariants.{Includ
 use Rattle.review_cautions.specs.declared.class.CautionClass.TheVariants.{Caret, Escape, Case, QuotedHost, QuotedEscape, Linked, Defaults}
 use Rattle.review_cautions.specs.declared.class.CautionClass.TheVariants.{UnknownParameter, Sudoedit, Network, Bracket, Setenv, GroupForm}
 use Rattle.review_cautions.specs.PhysicalLines.{numbers_of}
-use Rattle.review_cautions.specs.ListTests.{list_holds}
+use Rattle.review_cautions.specs.declared.link.Link.{Link}
+use Rattle.review_cautions.specs.ListTests.{list_holds, list_is_linked, usual_links}
 use Rattle.review_cautions.specs.Parameters.{decides, name_of}
 use Rattle.review_cautions.specs.KnownParameters.{is_unknown, shown_name}
-use Rattle.review_cautions.specs.EntryTests.{body_holds}
+use Rattle.review_cautions.specs.EntryTests.{body_holds, rules_have_alias}
 
 -- a caution on a line
 abbrev pub caution_at : CautionClass → Place → Caution
@@ -60,8 +61,9 @@ list_cautions class lists =
     map (caution_at class) (distinct_places None (map (λ (l : MemberList). l.place) (filter (list_holds class) lists)))
 
 -- the first list of commands that has a linked one, one caution for the whole policy
-abbrev pub linked_cautions : List MemberList → List Caution
-linked_cautions lists = map (λ (l : MemberList). caution_at Linked l.place) (option_to_list (find (list_holds Linked) lists))
+abbrev pub linked_cautions : List Link → List MemberList → List Caution
+linked_cautions links lists =
+    map (λ (l : MemberList). caution_at Linked l.place) (option_to_list (find (list_is_linked links) lists))
 
 -- the caution on a parameter of a line; its subject is the parameter's name
 abbrev pub parameter_caution : Place → Parameter → Caution
@@ -97,17 +99,28 @@ unknown_in at _ = []
 abbrev pub unknown_cautions : List Entry → List Caution
 unknown_cautions es = flat_map (λ (e : Entry). unknown_in e.place e.body) es
 
+-- those of some entries that have the construct of the class, one caution for each; `used`: a rule of the policy has an
+-- alias among its commands
+abbrev pub cautions_among : CautionClass → Bool → List Entry → List Caution
+cautions_among class used es =
+    map (λ (e : Entry). caution_at class e.place) (filter (λ (e : Entry). body_holds class used e.body) es)
+
 -- the entries that have the construct of the class, one caution for each
 abbrev pub entry_cautions : CautionClass → List Entry → List Caution
-entry_cautions class es = map (λ (e : Entry). caution_at class e.place) (filter (λ (e : Entry). body_holds class e.body) es)
+entry_cautions class es = cautions_among class (rules_have_alias es) es
 
--- the cautions on a policy whose files have these texts: the classes one after the other, in the order of `CautionClass`
-abbrev pub policy_cautions : List (List ℕ) → Policy → List Caution
-policy_cautions texts policy =
+-- the cautions on a policy whose files have these texts: the classes one after the other, in the order of `CautionClass`;
+-- the machine has these links
+abbrev pub cautions_by_links : List Link → List (List ℕ) → Policy → List Caution
+cautions_by_links links texts policy =
     text_cautions Return texts ++ text_cautions BlankAfterBackslash texts ++ text_cautions Join texts
     ++ text_cautions TornMark texts ++ text_cautions IncludeEscape texts ++ text_cautions IncludeIndent texts
     ++ list_cautions Caret (lists policy) ++ list_cautions Escape (lists policy) ++ list_cautions Case (lists policy)
-    ++ list_cautions QuotedHost (lists policy) ++ list_cautions QuotedEscape (lists policy) ++ linked_cautions (lists policy)
+    ++ list_cautions QuotedHost (lists policy) ++ list_cautions QuotedEscape (lists policy) ++ linked_cautions links (lists policy)
     ++ defaults_cautions policy.entries ++ unknown_cautions policy.entries
     ++ list_cautions Sudoedit (lists policy) ++ list_cautions Network (lists policy) ++ list_cautions Bracket (lists policy)
     ++ entry_cautions Setenv policy.entries ++ entry_cautions GroupForm policy.entries
+
+-- the same where the machine has the usual links
+abbrev pub policy_cautions : List (List ℕ) → Policy → List Caution
+policy_cautions texts policy = cautions_by_links usual_links texts policy

@@ -13,26 +13,39 @@ use Rattle.sudo_grammar.specs.Words.{is_upper, bytes_of}
 use Rattle.sudo_policy.specs.Definitions.{MemberList}
 use Rattle.review_cautions.specs.Addresses.{has_other_address}
 use Rattle.review_cautions.specs.Brackets.{atom_has_caret, atom_has_other_bracket}
+use Rattle.review_cautions.specs.declared.link.Link.{Link}
 use Rattle.review_cautions.specs.Escapes.{has_other_escape, has_quoted_mark, has_quoted_escape}
 use Rattle.review_cautions.specs.declared.class.CautionClass.{CautionClass}
-use Rattle.review_cautions.specs.declared.class.CautionClass.TheVariants.{Caret, Escape, Case, QuotedHost, QuotedEscape, Linked}
+use Rattle.review_cautions.specs.declared.class.CautionClass.TheVariants.{Caret, Escape, Case, QuotedHost, QuotedEscape}
 use Rattle.review_cautions.specs.declared.class.CautionClass.TheVariants.{Sudoedit, Network, Bracket}
 
 -- a wildcard that no escape yields: `*`, `?` or `[`
 abbrev pub is_wildcard : Ch → Bool
 is_wildcard c = not c.escaped && ((c.byte == 42) || (c.byte == 63) || (c.byte == 91))
 
--- the path may begin with the text: its characters agree with it until it ends or a wildcard stands in the path
-abbrev pub may_begin : List ℕ → List Ch → Bool
-may_begin [] path = true
-may_begin (b ∷ bs) [] = false
-may_begin (b ∷ bs) (c ∷ cs) = is_wildcard c || ((c.byte == b) && may_begin bs cs)
+-- the path may lie below the folder: its characters are those of the folder and a slash, until they end or a wildcard
+-- stands in the path
+abbrev pub may_lie_below : List ℕ → List Ch → Bool
+may_lie_below folder [] = false
+may_lie_below [] (c ∷ cs) = is_wildcard c || (c.byte == 47)
+may_lie_below (b ∷ bs) (c ∷ cs) = is_wildcard c || ((c.byte == b) && may_lie_below bs cs)
 
--- the path may lie below `/bin/`, `/sbin/` or `/lib/`, which are links to folders in `/usr` on most machines, or below
--- those folders; sudo compares the files that the paths lead to
-abbrev pub is_linked : List Ch → Bool
-is_linked path = may_begin (codes "/bin/") path || may_begin (codes "/sbin/") path || may_begin (codes "/lib/") path
-    || may_begin (codes "/usr/bin/") path || may_begin (codes "/usr/sbin/") path || may_begin (codes "/usr/lib/") path
+-- the path may lie below the folder that is the link, or below the one that it leads to
+abbrev pub is_below_link : List Ch → Link → Bool
+is_below_link path link = may_lie_below link.from path || may_lie_below link.to path
+
+-- the path may lie below such a folder of a link; sudo compares the files that the paths lead to
+abbrev pub is_linked : List Link → List Ch → Bool
+is_linked links path = list_any (is_below_link path) links
+
+-- a link from one folder to another
+abbrev pub linking : List ℕ → List ℕ → Link
+linking from to = record { from = from; to = to }
+
+-- `/bin`, `/sbin` and `/lib`, which are links to folders in `/usr` on most machines
+abbrev pub usual_links : List Link
+usual_links = linking (codes "/bin") (codes "/usr/bin") ∷ linking (codes "/sbin") (codes "/usr/sbin")
+    ∷ linking (codes "/lib") (codes "/usr/lib") ∷ []
 
 -- the name of a user or a group has a capital letter. sudoers(5), `case_insensitive_user` and `case_insensitive_group`
 abbrev pub atom_has_capital : Atom → Bool
@@ -41,9 +54,9 @@ atom_has_capital (atoms.Group name) = list_any is_upper name
 atom_has_capital _ = false
 
 -- a command's path is linked
-abbrev pub atom_is_linked : Atom → Bool
-atom_is_linked (atoms.Command path args) = is_linked path
-atom_is_linked _ = false
+abbrev pub atom_is_linked : List Link → Atom → Bool
+atom_is_linked links (atoms.Command path args) = is_linked links path
+atom_is_linked links _ = false
 
 -- the path ends in `/sudoedit`, which sudo takes for `sudoedit`
 abbrev pub ends_in_sudoedit : List Ch → Bool
@@ -65,7 +78,6 @@ concerns QuotedHost kinds.Host = true
 concerns QuotedEscape kinds.User = true
 concerns QuotedEscape kinds.Runas = true
 concerns QuotedEscape kinds.Host = true
-concerns Linked kinds.Cmnd = true
 concerns Sudoedit kinds.Cmnd = true
 concerns Network kinds.Host = true
 concerns Bracket kinds.Host = true
@@ -79,7 +91,6 @@ member_holds Escape m = has_other_escape m
 member_holds Case m = atom_has_capital m.atom
 member_holds QuotedHost m = has_quoted_mark m.atom
 member_holds QuotedEscape m = has_quoted_escape m.token.kind
-member_holds Linked m = atom_is_linked m.atom
 member_holds Sudoedit m = atom_is_sudoedit m.atom
 member_holds Network m = has_other_address m
 member_holds Bracket m = atom_has_other_bracket m.atom
@@ -88,3 +99,13 @@ member_holds _ m = false
 -- a member of the list has the construct of the class
 abbrev pub list_holds : CautionClass → MemberList → Bool
 list_holds class list = concerns class list.kind && list_any (member_holds class) list.members
+
+-- commands
+abbrev pub is_of_commands : Kind → Bool
+is_of_commands kinds.Cmnd = true
+is_of_commands _ = false
+
+-- a command of the list is linked
+abbrev pub list_is_linked : List Link → MemberList → Bool
+list_is_linked links list =
+    is_of_commands list.kind && list_any (λ (m : Member). atom_is_linked links m.atom) list.members

@@ -1,8 +1,8 @@
 -- Constructs of physical lines: what ends them, and what their joins to the next line tear apart. sudoers(5), "Other
 -- special characters and reserved words".
 use Rattle.std.specs.Prelude.{ℕ, Bool, false, not, ◌&&◌, ◌||◌, ◌==◌, nat_lt, nat_le, if◌then◌else◌, List, [], ◌∷◌, ◌++◌}
-use Rattle.std.specs.Prelude.{reverse, length, take, slice_index, codes, ◌+◌, ◌-◌}
-use Rattle.std.specs.List.{list_any, take_while}
+use Rattle.std.specs.Prelude.{reverse, length, take, slice_index, codes, nat_eq, ◌+◌, ◌-◌}
+use Rattle.std.specs.List.{list_any, take_while, starts_with}
 use Rattle.std.specs.Str.{bytes_eq}
 use Rattle.sudo_text.specs.Bytes.{is_blank, is_include}
 use Rattle.sudo_text.specs.Lines.{without_return, without_indent, without_escape, is_comment, ends_in_escape, is_continued}
@@ -13,10 +13,6 @@ use Rattle.review_cautions.specs.declared.class.CautionClass.TheVariants.{Includ
 -- the last byte of a line, and 0 if it has none
 abbrev pub last_byte : List ℕ → ℕ
 last_byte line = slice_index line (length line - 1)
-
--- a carriage return is the last byte of the line
-abbrev pub ends_in_return : List ℕ → Bool
-ends_in_return line = last_byte line == 13
 
 -- the number of blanks at the end of a line
 abbrev pub end_blanks : List ℕ → ℕ
@@ -29,6 +25,20 @@ ends_in_escaped_blanks line = nat_lt 0 (end_blanks line) && ends_in_escape (take
 -- a slash stands in the line, and so a command may
 abbrev pub has_slash : List ℕ → Bool
 has_slash line = list_any (λ b. b == 47) line
+
+-- the word stands somewhere in the line
+abbrev pub contains : List ℕ → List ℕ → Bool
+contains word [] = false
+contains word (b ∷ bs) = starts_with nat_eq (b ∷ bs) word || contains word bs
+
+-- a command may stand in a line, which continues another one or not
+abbrev pub may_have_command : Bool → List ℕ → Bool
+may_have_command continuing line = continuing || has_slash line || contains (codes "sudoedit") line
+
+-- a carriage return is the last byte of the line; behind a name or `ALL` sudo drops it too, if no backslash stands before it
+abbrev pub ends_in_return : Bool → List ℕ → Bool
+ends_in_return continuing line =
+    (last_byte line == 13) && (may_have_command continuing line || ends_in_escape (without_return line))
 
 -- a blank, a comma or a colon; in a line without a command also a double quote, `=`, `(`, `)` and `!`, which arguments
 -- of a command may contain
@@ -87,9 +97,20 @@ tears_mark line next = ends_in_escape line && ends_in_mark (without_escape line)
 abbrev pub stripped : List ℕ → List ℕ
 stripped line = without_indent (without_return line)
 
--- a line that continues no other is an include line and has a backslash; the line is given as the reader joins it
+-- a backslash stands directly before the byte; `behind`: one stands directly before the line
+abbrev pub has_escape_of : ℕ → Bool → List ℕ → Bool
+has_escape_of byte behind [] = false
+has_escape_of byte behind (b ∷ bs) = (behind && (b == byte)) || has_escape_of byte (b == 92) bs
+
+-- the line has a backslash and a double quote, between two of which sudo keeps backslashes; or a backslash before `x`,
+-- which in a path with a slash stands for itself here, and begins a byte for sudo; or one before `%`
+abbrev pub has_path_escape : List ℕ → Bool
+has_path_escape line = (list_any (λ b. b == 92) line && list_any (λ b. b == 34) line)
+    || (has_slash line && has_escape_of 120 false line) || has_escape_of 37 false line
+
+-- a line that continues no other is an include line with such a backslash; the line is given as the reader joins it
 abbrev pub is_escaped_include : Bool → List ℕ → Bool
-is_escaped_include continuing line = not continuing && is_include line && list_any (λ b. b == 92) line
+is_escaped_include continuing line = not continuing && is_include line && has_path_escape line
 
 -- a line that continues no other is an include line that begins with `#`, behind blanks
 abbrev pub is_indented_include : Bool → List ℕ → Bool
@@ -98,7 +119,7 @@ is_indented_include continuing line =
 
 -- the line has the construct of the class; `continuing`: it continues another; `next`: the line after it
 abbrev pub line_holds : CautionClass → Bool → List ℕ → List ℕ → Bool
-line_holds Return continuing line next = ends_in_return line
+line_holds Return continuing line next = ends_in_return continuing line
 line_holds BlankAfterBackslash continuing line next = ends_in_escaped_blanks (without_return line)
 line_holds Join continuing line next = tears_word (stripped line) (stripped next)
 line_holds TornMark continuing line next = tears_mark (stripped line) (stripped next)

@@ -32,6 +32,30 @@ fn word_has_leading_zero(token: &TokenKind) -> bool
     }
 }
 
+// Whether a dot stands behind a slash.
+fn has_dotted_mask(chars: &[Ch]) -> bool
+    ensures { result ≡ spec.has_dotted_mask false chars.now }
+{
+    let mut behind = false;
+    for ch in chars {
+        if behind && ch.byte == b'.' {
+            return true;
+        }
+        behind = behind || ch.byte == b'/';
+    }
+    false
+}
+
+// Whether a token is a word with such a dot.
+fn word_has_dotted_mask(token: &TokenKind) -> bool
+    ensures { result ≡ spec.word_has_dotted_mask token.now }
+{
+    match token {
+        TokenKind::Word { chars, .. } => has_dotted_mask(chars.as_slice()),
+        _ => false,
+    }
+}
+
 // Whether an address is one of 127.0.0.0/8.
 fn is_loopback(addr: u32) -> bool
     ensures { result ≡ spec.is_loopback addr }
@@ -47,7 +71,9 @@ pub(crate) fn has_other_address(member: &Member) -> bool
     match &member.atom {
         Atom::Address(addr) => is_loopback(*addr) || word_has_leading_zero(token),
         Atom::Net { addr, mask } => {
-            *mask == 0 || is_loopback(*addr) || word_has_leading_zero(token)
+            (*mask == 0 && !word_has_dotted_mask(token))
+                || is_loopback(*addr)
+                || word_has_leading_zero(token)
         }
         _ => false,
     }

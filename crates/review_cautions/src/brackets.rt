@@ -124,6 +124,25 @@ fn is_class(host: bool, chars: &[Ch]) -> bool
         || (!host && names_class(b"upper", chars))
 }
 
+// Whether characters begin with letters that may name a class for sudo, possibly none, and the end of a class.
+fn names_any_class(chars: &[Ch]) -> bool
+    ensures { result ≡ spec.names_any_class chars.now }
+{
+    match chars {
+        [] => false,
+        [ch, after @ ..] => {
+            ends_class(chars) || (b'a' <= ch.byte && ch.byte <= b'y' && names_any_class(after))
+        }
+    }
+}
+
+// Whether characters begin with the name of another class, and its end.
+fn names_other_class(host: bool, chars: &[Ch]) -> bool
+    ensures { result ≡ spec.names_other_class host chars.now }
+{
+    !is_class(host, chars) && (host || names_any_class(chars))
+}
+
 // Whether characters directly behind a `[` begin an equivalence, a collating symbol or another class.
 fn begins_other_class(host: bool, chars: &[Ch]) -> bool
     ensures { result ≡ spec.begins_other_class host chars.now }
@@ -131,7 +150,9 @@ fn begins_other_class(host: bool, chars: &[Ch]) -> bool
     match chars {
         [] => false,
         [ch, after @ ..] => {
-            ch.byte == b'=' || ch.byte == b'.' || (ch.byte == b':' && !is_class(host, after))
+            ch.byte == b'='
+                || ch.byte == b'.'
+                || (ch.byte == b':' && names_other_class(host, after))
         }
     }
 }

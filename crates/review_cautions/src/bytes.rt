@@ -1,12 +1,14 @@
-//! The reader's rules for bytes and physical lines: blanks, comments, backslashes at the end of a line.
+//! Texts, and the reader's rules for bytes and physical lines: blanks, comments, backslashes at the end of a line.
 ghost use Rattle.std.specs.Prelude.{◌≡◌, ◌≤◌, ◌<◌, ◌∷◌, length, reverse, slice_index, ◌==◌, not, bytes_eq};
 ghost use Rattle.std.specs.List.{take_while};
 ghost use Rattle.sudo_text.specs.Bytes as bytes;
 ghost use Rattle.sudo_text.specs.Lines as lines;
 ghost use Rattle.sudo_text.specs.Lines.{cut};
+ghost use Rattle.sudo_grammar.specs.Words.{bytes_of};
 ghost use Rattle.review_cautions.specs.PhysicalLines.{stripped, end_blanks};
 
 use memchr::memchr;
+use sudo_text::Ch;
 
 /// Whether a byte is a space or a tab.
 pub(crate) fn is_blank(byte: u8) -> bool
@@ -20,6 +22,17 @@ pub(crate) fn is_text(bytes: &[u8], text: &[u8]) -> bool
     ensures { result ≡ bytes_eq bytes.now text.now }
 {
     bytes == text
+}
+
+/// Whether the bytes of characters are a text.
+pub(crate) fn spells(chars: &[Ch], text: &[u8]) -> bool
+    ensures { result ≡ bytes_eq (bytes_of chars.now) text.now }
+{
+    match (chars, text) {
+        ([], []) => true,
+        ([ch, chars @ ..], [byte, text @ ..]) => ch.byte == *byte && spells(chars, text),
+        _ => false,
+    }
 }
 
 /// Whether a byte is a decimal digit.

@@ -1,13 +1,15 @@
 //! The cautions on a policy.
 ghost use Rattle.std.specs.Prelude.{◌≡◌, IfOk, map};
+ghost use Rattle.review_cautions.specs.Cautions as spec;
 ghost use Rattle.review_cautions.specs.Cautions.{policy_cautions};
 
 use crate::defaults::push_defaults;
 use crate::entries::push_entries;
 use crate::lines::push_texts;
+use crate::link::usual_links;
 use crate::lists::{push_linked, push_lists};
 use crate::unknown::push_unknown;
-use crate::{Caution, CautionClass};
+use crate::{Caution, CautionClass, Link};
 use std::alloc::{AllocError, Global};
 use sudo_policy::{Policy, lists};
 
@@ -19,6 +21,20 @@ use sudo_policy::{Policy, lists};
 pub fn cautions(alloc: Global, texts: &[&[u8]], policy: &Policy) -> Result<Vec<Caution>, AllocError>
     ensures { IfOk result (λ found. found.items
         ≡ policy_cautions (map (λ t. t.now) texts.now) policy.now) }
+{
+    let links = usual_links(alloc)?;
+    cautions_by_links(alloc, &links, texts, policy)
+}
+
+/// Returns the same on a machine that has these links to folders.
+pub fn cautions_by_links(
+    alloc: Global,
+    links: &[Link],
+    texts: &[&[u8]],
+    policy: &Policy,
+) -> Result<Vec<Caution>, AllocError>
+    ensures { IfOk result (λ found. found.items
+        ≡ spec.cautions_by_links links.now (map (λ t. t.now) texts.now) policy.now) }
 {
     let written = lists(alloc, policy)?;
     let lists = written.as_slice();
@@ -35,7 +51,7 @@ pub fn cautions(alloc: Global, texts: &[&[u8]], policy: &Policy) -> Result<Vec<C
     push_lists(alloc, CautionClass::Case, lists, &mut found)?;
     push_lists(alloc, CautionClass::QuotedHost, lists, &mut found)?;
     push_lists(alloc, CautionClass::QuotedEscape, lists, &mut found)?;
-    push_linked(alloc, lists, &mut found)?;
+    push_linked(alloc, links, lists, &mut found)?;
     push_defaults(alloc, entries, &mut found)?;
     push_unknown(alloc, entries, &mut found)?;
     push_lists(alloc, CautionClass::Sudoedit, lists, &mut found)?;

@@ -1,24 +1,21 @@
 //! Cautions on the parameters of `Defaults` lines.
-ghost use Rattle.std.specs.Prelude.{◌≡◌, ◌++◌, ◌∷◌, [], OnOk, IfOk, if◌then◌else◌};
+ghost use Rattle.std.specs.Prelude.{◌≡◌, ◌++◌, ◌∷◌, [], OnOk, IfOk, not, if◌then◌else◌};
+ghost use Rattle.std.specs.List.{list_all};
 ghost use Rattle.sudo_grammar.specs.Words.{bytes_of};
 ghost use Rattle.review_cautions.specs.Parameters as spec;
 ghost use Rattle.review_cautions.specs.Cautions as cautions;
 
-use crate::bytes::is_text;
+use crate::bytes::{is_text, spells};
 use crate::{Caution, CautionClass};
 use std::alloc::{AllocError, Global};
-use sudo_policy::{Entry, EntryBody, Parameter};
+use sudo_policy::{Entry, EntryBody, Operator, Parameter};
 use sudo_text::{Ch, Place, Seq, TokenKind};
 
 // Whether a name is that of a flag that is on by default.
 fn is_on_flag(name: &[u8]) -> bool
     ensures { result ≡ spec.is_on_flag name.now }
 {
-    is_text(name, b"authenticate")
-        || is_text(name, b"root_sudo")
-        || is_text(name, b"case_insensitive_user")
-        || is_text(name, b"case_insensitive_group")
-        || is_text(name, b"use_netgroups")
+    is_text(name, b"authenticate") || is_text(name, b"root_sudo") || is_text(name, b"use_netgroups")
 }
 
 // Whether a name is that of a flag that is off by default.
@@ -62,17 +59,45 @@ fn switch_decides(on: bool, name: &[u8]) -> bool
     ensures { result ≡ spec.switch_decides on name.now }
 {
     if on {
-        is_off_flag(name) || is_either_flag(name) || has_value(name)
+        is_off_flag(name) || is_either_flag(name)
     } else {
         is_on_flag(name) || is_either_flag(name)
     }
 }
 
-// Whether an assignment to a parameter decides.
-fn assignment_decides(name: &[u8]) -> bool
-    ensures { result ≡ spec.assignment_decides name.now }
+// Whether no escape yields one of the characters.
+fn are_plain(chars: &[Ch]) -> bool
+    ensures { result ≡ list_all (λ c. not c.escaped) chars.now }
 {
-    is_on_flag(name) || is_off_flag(name) || is_either_flag(name) || has_value(name)
+    chars.iter().all(|ch| !ch.escaped)
+}
+
+// Whether a token is a word without an escape, of this text.
+fn is_plainly(text: &[u8], token: &TokenKind) -> bool
+    ensures { result ≡ spec.is_plainly text.now token.now }
+{
+    match token {
+        TokenKind::Word { chars, .. } => {
+            let chars = chars.as_slice();
+            spells(chars, text) && are_plain(chars)
+        }
+        _ => false,
+    }
+}
+
+// Whether a value is the one that a parameter has by default.
+fn is_default_value(name: &[u8], value: &TokenKind) -> bool
+    ensures { result ≡ spec.is_default_value name.now value.now }
+{
+    (is_text(name, b"runas_default") && is_plainly(b"root", value))
+        || (is_text(name, b"sudoers_locale") && is_plainly(b"C", value))
+}
+
+// Whether an assignment to a parameter decides.
+fn assignment_decides(name: &[u8], operator: Operator, value: &TokenKind) -> bool
+    ensures { result ≡ spec.assignment_decides name.now operator value.now }
+{
+    has_value(name) && matches!(operator, Operator::Set) && !is_default_value(name, value)
 }
 
 // Copies the bytes of characters.
@@ -110,7 +135,11 @@ fn decides(parameter: &Parameter, name: &[u8]) -> bool
 {
     match parameter {
         Parameter::Switch { bangs, .. } => switch_decides(*bangs % 2 != 1, name),
-        Parameter::Assign { .. } => assignment_decides(name),
+        Parameter::Assign {
+            operator,
+            value,
+            ..
+        } => assignment_decides(name, *operator, &value.kind),
     }
 }
 

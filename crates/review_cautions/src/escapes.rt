@@ -1,8 +1,9 @@
 //! Escapes that sudo reads otherwise.
-ghost use Rattle.std.specs.Prelude.{◌≡◌};
+ghost use Rattle.std.specs.Prelude.{◌≡◌, ◌==◌, false};
 ghost use Rattle.std.specs.List.{list_any};
 ghost use Rattle.review_cautions.specs.Escapes as spec;
 
+use crate::bytes::is_digit;
 use sudo_policy::{Atom, Member};
 use sudo_text::{Ch, Seq, TokenKind};
 
@@ -30,23 +31,21 @@ fn arguments_have_backslash(arguments: &Option<Seq<Ch>>) -> bool
     }
 }
 
-// Whether a character is a `!` that no escape yields.
-fn is_bang(ch: Ch) -> bool
-    ensures { result ≡ spec.is_bang ch }
+// Whether a character ends a word for sudo, and no path.
+fn ends_word(ch: Ch) -> bool
+    ensures { result ≡ spec.ends_word ch }
 {
-    !ch.escaped && ch.byte == b'!'
+    let byte = ch.byte;
+    if ch.escaped {
+        byte == b'\t'
+    } else {
+        byte == b'!' || byte == b'>' || byte == b'(' || byte == b')' || byte == b'"'
+    }
 }
 
-// Whether a path has such a `!`.
-fn has_bang(path: &[Ch]) -> bool
-    ensures { result ≡ list_any spec.is_bang path.now }
-{
-    path.iter().any(|ch| is_bang(*ch))
-}
-
-// Whether a character is a mark of patterns that an escape yields.
-fn is_escaped_mark(ch: Ch) -> bool
-    ensures { result ≡ spec.is_escaped_mark ch }
+// Whether an escape yields a character and ends a path for sudo, so that arguments may begin with it.
+fn begins_argument(ch: Ch) -> bool
+    ensures { result ≡ spec.begins_argument ch }
 {
     let byte = ch.byte;
     ch.escaped
@@ -54,26 +53,112 @@ fn is_escaped_mark(ch: Ch) -> bool
             || byte == b'?'
             || byte == b'['
             || byte == b']'
-            || byte == b'\\'
-            || byte == b'-'
+            || byte == b'!'
             || byte == b'^'
-            || byte == b'!')
+            || byte == b'\\')
 }
 
-// Whether a host has such a mark.
+// Whether such a character stands behind one that ends a word.
+fn has_argument_inside(path: &[Ch]) -> bool
+    ensures { result ≡ spec.has_argument_inside false path.now }
+{
+    let mut ended = false;
+    for ch in path {
+        if ended && begins_argument(*ch) {
+            return true;
+        }
+        ended = ended || ends_word(*ch);
+    }
+    false
+}
+
+// Whether the first character is this byte.
+fn begins_with(byte: u8, chars: &[Ch]) -> bool
+    ensures { result ≡ spec.begins_with byte chars.now }
+{
+    match chars {
+        [] => false,
+        [first, ..] => first.byte == byte,
+    }
+}
+
+// Whether a path is longer than `sudoedit`, and begins with no slash.
+fn is_long_sudoedit(path: &[Ch]) -> bool
+    ensures { result ≡ spec.is_long_sudoedit path.now }
+{
+    path.len() > 8 && !begins_with(b'/', path)
+}
+
+// Whether a character is `*`, `?` or a backslash that an escape yields.
+fn is_escaped_mark(ch: Ch) -> bool
+    ensures { result ≡ spec.is_escaped_mark ch }
+{
+    ch.escaped && (ch.byte == b'*' || ch.byte == b'?' || ch.byte == b'\\')
+}
+
+// Whether a host has such a character.
 fn has_escaped_mark(chars: &[Ch]) -> bool
     ensures { result ≡ list_any spec.is_escaped_mark chars.now }
 {
     chars.iter().any(|ch| is_escaped_mark(*ch))
 }
 
-// Whether a `#` that an escape yields is the first character.
+// Whether a character is a mark of a bracket that an escape yields.
+fn is_escaped_bracket_mark(ch: Ch) -> bool
+    ensures { result ≡ spec.is_escaped_bracket_mark ch }
+{
+    let byte = ch.byte;
+    ch.escaped && (byte == b'[' || byte == b']' || byte == b'-' || byte == b'^')
+}
+
+// Whether a host has such a mark.
+fn has_escaped_bracket_mark(chars: &[Ch]) -> bool
+    ensures { result ≡ list_any spec.is_escaped_bracket_mark chars.now }
+{
+    chars.iter().any(|ch| is_escaped_bracket_mark(*ch))
+}
+
+// Whether a host has a byte, escaped or not.
+fn has_byte(byte: u8, chars: &[Ch]) -> bool
+    ensures { result ≡ list_any (λ c. c.byte == byte) chars.now }
+{
+    chars.iter().any(|ch| ch.byte == byte)
+}
+
+// Whether a host may have a bracket for sudo.
+fn may_have_bracket(chars: &[Ch]) -> bool
+    ensures { result ≡ spec.may_have_bracket chars.now }
+{
+    has_byte(b'[', chars) && has_byte(b']', chars)
+}
+
+// Whether a host has an escape that sudo takes for a mark of its pattern.
+fn host_has_escape(chars: &[Ch]) -> bool
+    ensures { result ≡ spec.host_has_escape chars.now }
+{
+    has_escaped_mark(chars) || (has_escaped_bracket_mark(chars) && may_have_bracket(chars))
+}
+
+// Whether characters begin as a number may for sudo.
+fn begins_number(chars: &[Ch]) -> bool
+    ensures { result ≡ spec.begins_number chars.now }
+{
+    match chars {
+        [] => false,
+        [first, ..] => {
+            let byte = first.byte;
+            is_digit(byte) || byte == b'-' || byte == b'+' || byte <= b' '
+        }
+    }
+}
+
+// Whether a `#` that an escape yields is the first character, and a number may follow.
 fn begins_as_id(chars: &[Ch]) -> bool
     ensures { result ≡ spec.begins_as_id chars.now }
 {
     match chars {
         [] => false,
-        [first, ..] => first.escaped && first.byte == b'#',
+        [first, number @ ..] => first.escaped && first.byte == b'#' && begins_number(number),
     }
 }
 
@@ -93,9 +178,10 @@ pub(crate) fn has_other_escape(member: &Member) -> bool
 {
     match &member.atom {
         Atom::Name(_) => word_begins_as_id(&member.token.kind),
-        Atom::Host { chars, quoted } => !*quoted && has_escaped_mark(chars.as_slice()),
+        Atom::Host { chars, quoted } => !*quoted && host_has_escape(chars.as_slice()),
         Atom::Command { path, args } => {
-            has_bang(path.as_slice()) || arguments_have_backslash(args)
+            let path = path.as_slice();
+            has_argument_inside(path) || is_long_sudoedit(path) || arguments_have_backslash(args)
         }
         _ => false,
     }

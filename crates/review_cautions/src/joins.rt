@@ -6,8 +6,8 @@ ghost use Rattle.review_cautions.specs.PhysicalLines as spec;
 
 use crate::bytes::{ends_in_escape, is_blank, is_text, peek};
 
-// Whether a slash stands in a line, and so a command may.
-fn has_slash(line: &[u8]) -> bool
+/// Whether a slash stands in a line, and so a command may.
+pub(crate) fn has_slash(line: &[u8]) -> bool
     ensures { result ≡ spec.has_slash line.now }
 {
     line.iter().any(|byte| *byte == b'/')

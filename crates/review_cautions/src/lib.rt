@@ -14,11 +14,13 @@ mod entries;
 mod escapes;
 mod joins;
 mod lines;
+mod link;
 mod lists;
 mod passwords;
 mod unknown;
 
 pub use caution::Caution;
 pub use class::{CAUTION_CLASSES, CautionClass, class_named};
-pub use collecting::cautions;
+pub use collecting::{cautions, cautions_by_links};
+pub use link::{Link, usual_links};
 pub use passwords::decides_passwords;

@@ -12,7 +12,7 @@ use crate::bytes::{
     cut_first, end_blank_count, ends_in_escape, is_blank, is_comment, is_include, peek, strip,
     without_return,
 };
-use crate::joins::{tears_mark, tears_word};
+use crate::joins::{has_slash, tears_mark, tears_word};
 use crate::{Caution, CautionClass};
 use std::alloc::{AllocError, Global};
 use sudo_text::{Place, TEXT_LIMIT};
@@ -41,11 +41,33 @@ fn is_comment_line(continuing: bool, line: &[u8]) -> bool
     !continuing && is_comment(strip(line))
 }
 
-// Whether a carriage return ends a line.
-fn ends_in_return(line: &[u8]) -> bool
-    ensures { result ≡ spec.ends_in_return line.now }
+// Whether a word stands somewhere in a line.
+fn contains(word: &[u8], line: &[u8]) -> bool
+    ensures { result ≡ spec.contains word.now line.now }
+{
+    let mut rest = line;
+    while let [_, after @ ..] = rest {
+        if rest.starts_with(word) {
+            return true;
+        }
+        rest = after;
+    }
+    false
+}
+
+// Whether a command may stand in a line, which continues another one or not.
+fn may_have_command(continuing: bool, line: &[u8]) -> bool
+    ensures { result ≡ spec.may_have_command continuing line.now }
+{
+    continuing || has_slash(line) || contains(b"sudoedit", line)
+}
+
+// Whether a carriage return that sudo may not drop ends a line.
+fn ends_in_return(continuing: bool, line: &[u8]) -> bool
+    ensures { result ≡ spec.ends_in_return continuing line.now }
 {
     matches!(line, [.., b'\r'])
+        && (may_have_command(continuing, line) || ends_in_escape(without_return(line)))
 }
 
 // Whether blanks end a line and an odd number of backslashes stands before them.
@@ -56,18 +78,41 @@ fn ends_in_escaped_blanks(line: &[u8]) -> bool
     blanks > 0 && ends_in_escape(&line[..line.len() - blanks])
 }
 
-// Whether a backslash stands in a line.
-fn has_backslash(line: &[u8]) -> bool
-    ensures { result ≡ list_any (λ b. b == 92) line.now }
+// Whether a byte stands in a line.
+fn has_byte(byte: u8, line: &[u8]) -> bool
+    ensures { result ≡ list_any (λ b. b == byte) line.now }
 {
-    line.iter().any(|byte| *byte == b'\\')
+    line.iter().any(|other| *other == byte)
 }
 
-// Whether a line, as it is joined, is an include line with a backslash, and continues no other.
+// Whether a backslash stands directly before a byte in a line.
+fn has_escape_of(byte: u8, line: &[u8]) -> bool
+    ensures { result ≡ spec.has_escape_of byte false line.now }
+{
+    let mut behind = false;
+    for other in line {
+        if behind && *other == byte {
+            return true;
+        }
+        behind = *other == b'\\';
+    }
+    false
+}
+
+// Whether an include line has a backslash that sudo reads otherwise.
+fn has_path_escape(line: &[u8]) -> bool
+    ensures { result ≡ spec.has_path_escape line.now }
+{
+    (has_byte(b'\\', line) && has_byte(b'"', line))
+        || (has_slash(line) && has_escape_of(b'x', line))
+        || has_escape_of(b'%', line)
+}
+
+// Whether a line, as it is joined, is an include line with such a backslash, and continues no other.
 fn is_escaped_include(continuing: bool, line: &[u8]) -> bool
     ensures { result ≡ spec.is_escaped_include continuing line.now }
 {
-    !continuing && is_include(line) && has_backslash(line)
+    !continuing && is_include(line) && has_path_escape(line)
 }
 
 // Whether a physical line is an include line that begins with `#` behind blanks, and continues no other.
@@ -94,7 +139,7 @@ fn line_holds(class: CautionClass, continuing: bool, line: &[u8], after: &[u8]) 
     ensures { result ≡ spec.line_holds class continuing line.now (first_line (cut after.now)) }
 {
     match class {
-        CautionClass::Return => ends_in_return(line),
+        CautionClass::Return => ends_in_return(continuing, line),
         CautionClass::BlankAfterBackslash => ends_in_escaped_blanks(without_return(line)),
         CautionClass::Join => tears_word(strip(line), strip(first_of(after))),
         CautionClass::TornMark => tears_mark(strip(line), strip(first_of(after))),

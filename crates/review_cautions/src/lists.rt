@@ -1,15 +1,16 @@
 //! Cautions on the lists of a policy.
-ghost use Rattle.std.specs.Prelude.{◌≡◌, ◌++◌, ◌∷◌, [], OnOk, map, false, bytes_eq};
+ghost use Rattle.std.specs.Prelude.{◌≡◌, ◌++◌, ◌∷◌, [], OnOk, map, false};
 ghost use Rattle.std.specs.List.{list_any};
-ghost use Rattle.sudo_grammar.specs.Words.{is_upper, bytes_of};
+ghost use Rattle.sudo_grammar.specs.Words.{is_upper};
 ghost use Rattle.sudo_policy.specs.Definitions.{list_view};
 ghost use Rattle.review_cautions.specs.ListTests as spec;
 ghost use Rattle.review_cautions.specs.Cautions as cautions;
 
 use crate::addresses::has_other_address;
 use crate::brackets::{atom_has_caret, atom_has_other_bracket};
+use crate::bytes::spells;
 use crate::escapes::{has_other_escape, has_quoted_escape, has_quoted_mark};
-use crate::{Caution, CautionClass};
+use crate::{Caution, CautionClass, Link};
 use std::alloc::{AllocError, Global};
 use sudo_policy::{Atom, Kind, Member, MemberList};
 use sudo_text::{Ch, Place};
@@ -39,48 +40,41 @@ fn is_wildcard(ch: Ch) -> bool
     !ch.escaped && (ch.byte == b'*' || ch.byte == b'?' || ch.byte == b'[')
 }
 
-// Whether a path may begin with a text, as far as its wildcards let one know.
-fn may_begin(text: &[u8], path: &[Ch]) -> bool
-    ensures { result ≡ spec.may_begin text.now path.now }
+// Whether a path may lie below a folder, as far as its wildcards let one know.
+fn may_lie_below(folder: &[u8], path: &[Ch]) -> bool
+    ensures { result ≡ spec.may_lie_below folder.now path.now }
 {
-    match text {
-        [] => true,
-        [byte, text @ ..] => match path {
-            [] => false,
-            [ch, path @ ..] => is_wildcard(*ch) || (ch.byte == *byte && may_begin(text, path)),
+    match path {
+        [] => false,
+        [ch, path @ ..] => match folder {
+            [] => is_wildcard(*ch) || ch.byte == b'/',
+            [byte, folder @ ..] => {
+                is_wildcard(*ch) || (ch.byte == *byte && may_lie_below(folder, path))
+            }
         },
     }
 }
 
-// Whether a path may lie below a folder that is a link on most machines, or below the folder that the link leads to.
-fn is_linked(path: &[Ch]) -> bool
-    ensures { result ≡ spec.is_linked path.now }
+// Whether a path may lie below the folder that is the link, or below the one that it leads to.
+fn is_below_link(path: &[Ch], link: &Link) -> bool
+    ensures { result ≡ spec.is_below_link path.now link.now }
 {
-    may_begin(b"/bin/", path)
-        || may_begin(b"/sbin/", path)
-        || may_begin(b"/lib/", path)
-        || may_begin(b"/usr/bin/", path)
-        || may_begin(b"/usr/sbin/", path)
-        || may_begin(b"/usr/lib/", path)
+    may_lie_below(link.from.as_slice(), path) || may_lie_below(link.to.as_slice(), path)
+}
+
+// Whether a path may lie below such a folder of one of the links.
+fn is_linked(links: &[Link], path: &[Ch]) -> bool
+    ensures { result ≡ spec.is_linked links.now path.now }
+{
+    links.iter().any(|link| is_below_link(path, link))
 }
 
 // Whether an atom is a command whose path may lie there.
-fn atom_is_linked(atom: &Atom) -> bool
-    ensures { result ≡ spec.atom_is_linked atom.now }
+fn atom_is_linked(links: &[Link], atom: &Atom) -> bool
+    ensures { result ≡ spec.atom_is_linked links.now atom.now }
 {
     match atom {
-        Atom::Command { path, .. } => is_linked(path.as_slice()),
-        _ => false,
-    }
-}
-
-// Whether the bytes of characters are a text.
-fn spells(chars: &[Ch], text: &[u8]) -> bool
-    ensures { result ≡ bytes_eq (bytes_of chars.now) text.now }
-{
-    match (chars, text) {
-        ([], []) => true,
-        ([ch, chars @ ..], [byte, text @ ..]) => ch.byte == *byte && spells(chars, text),
+        Atom::Command { path, .. } => is_linked(links, path.as_slice()),
         _ => false,
     }
 }
@@ -113,7 +107,6 @@ fn concerns(class: CautionClass, kind: Kind) -> bool
         CautionClass::Case => matches!(kind, Kind::User | Kind::Runas),
         CautionClass::QuotedHost => matches!(kind, Kind::Host),
         CautionClass::QuotedEscape => matches!(kind, Kind::User | Kind::Runas | Kind::Host),
-        CautionClass::Linked => matches!(kind, Kind::Cmnd),
         CautionClass::Sudoedit => matches!(kind, Kind::Cmnd),
         CautionClass::Network => matches!(kind, Kind::Host),
         CautionClass::Bracket => matches!(kind, Kind::Host | Kind::Cmnd),
@@ -131,7 +124,6 @@ fn member_holds(class: CautionClass, member: &Member) -> bool
         CautionClass::Case => atom_has_capital(&member.atom),
         CautionClass::QuotedHost => has_quoted_mark(&member.atom),
         CautionClass::QuotedEscape => has_quoted_escape(&member.token.kind),
-        CautionClass::Linked => atom_is_linked(&member.atom),
         CautionClass::Sudoedit => atom_is_sudoedit(&member.atom),
         CautionClass::Network => has_other_address(member),
         CautionClass::Bracket => atom_has_other_bracket(&member.atom),
@@ -151,6 +143,22 @@ fn list_holds(class: CautionClass, list: &MemberList<'_>) -> bool
     ensures { result ≡ spec.list_holds class (list_view list.now) }
 {
     concerns(class, list.kind) && members_hold(class, list.members)
+}
+
+// Whether one of the members is a linked command.
+fn members_are_linked(links: &[Link], members: &[Member]) -> bool
+    ensures { result ≡ list_any (λ m. spec.atom_is_linked links.now m.atom) members.now }
+{
+    members
+        .iter()
+        .any(|member| atom_is_linked(links, &member.atom))
+}
+
+// Whether a command of a list is linked.
+fn list_is_linked(links: &[Link], list: &MemberList<'_>) -> bool
+    ensures { result ≡ spec.list_is_linked links.now (list_view list.now) }
+{
+    matches!(list.kind, Kind::Cmnd) && members_are_linked(links, list.members)
 }
 
 // Whether two places are the same line of the same file.
@@ -209,14 +217,15 @@ pub(crate) fn push_lists(
 /// Appends the caution on the first list with a linked command, if any.
 pub(crate) fn push_linked(
     alloc: Global,
+    links: &[Link],
     lists: &[MemberList<'_>],
     found: &mut Vec<Caution>,
 ) -> Result<(), AllocError>
     ensures { OnOk result (found.new.items ≡ found.old.items
-        ++ cautions.linked_cautions (map list_view lists.now)) }
+        ++ cautions.linked_cautions links.now (map list_view lists.now)) }
 {
     for list in lists {
-        if list_holds(CautionClass::Linked, list) {
+        if list_is_linked(links, list) {
             return push_caution(alloc, CautionClass::Linked, list.place, found);
         }
     }

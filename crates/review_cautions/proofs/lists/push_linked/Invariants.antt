@@ -6,5 +6,5 @@ use Rattle.review_cautions.proofs.lists.push_linked.Given as goal
 abbrev pub invariant-loop-list : goal.invariant-loop-list
 invariant-loop-list l = record {
   found : l.found.items ≡ l.initial.found.items;
-  ahead : linked_cautions (map list_view (drop l.list-index l.lists)) ≡ linked_cautions (map list_view l.lists);
+  ahead : linked_cautions l.links (map list_view (drop l.list-index l.lists)) ≡ linked_cautions l.links (map list_view l.lists);
 }

@@ -1,5 +1,5 @@
 use Rattle.std.proofs.Common.{length}
-use Rattle.review_cautions.proofs.lists.+spells.Given as goal
+use Rattle.review_cautions.proofs.bytes.+spells.Given as goal
 
 abbrev pub decreases-spells : goal.decreases-spells
 decreases-spells l = length l.text.now
