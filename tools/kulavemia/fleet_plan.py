@@ -46,16 +46,21 @@ class Host(NamedTuple):
     fault: str = ""
 
 
-class ToReview(NamedTuple):
-    """What a review of a host reads: the main file of its policy, the policy, and the users and hosts files.
+class Given(NamedTuple):
+    """A file of users or hosts as it was read: its path below the fleet's folder, its text, and whether it is the fleet's."""
 
-    It has no hosts file where that is the fleet's own.
-    """
+    path: str
+    text: bytes
+    is_shared: bool
+
+
+class ToReview(NamedTuple):
+    """What a review of a host reads: the main file of its policy, the policy, and the users and hosts files."""
 
     main: str
     policy: Tree
-    users: bytes
-    hosts: bytes | None
+    users: Given
+    hosts: Given
 
 
 def shard_name(host: str, number: int) -> str:
@@ -146,11 +151,16 @@ class Fleet:
         if not self._exists(place, TREE):
             raise Fault(f"there is no {TREE}")
         policy = read_tree(os.path.join(place, TREE), main, os.fsencode(root), self.folder)
-        tables = [self._read(folder, table) if self._exists(folder, table) else None for table in (USERS, HOSTS)]
-        users = tables[0] if tables[0] is not None else self.shared.get(USERS)
-        if users is None:
-            raise Fault(f"there is no {USERS}")
-        return ToReview(main, policy, users, tables[1])
+        return ToReview(main, policy, self._given(name, USERS), self._given(name, HOSTS))
+
+    def _given(self, name: str, table: str) -> Given:
+        """Returns a table of a host, or the fleet's where the host has none. Raises `Fault` if there is neither."""
+        folder = os.path.join(self.folder, name)
+        if self._exists(folder, table):
+            return Given(f"{name}/{table}", self._read(folder, table), False)
+        if table not in self.shared:
+            raise Fault(f"there is no {table}")
+        return Given(table, self.shared[table], True)
 
     def gathered(self, name: str) -> int:
         """Returns when the users of a host were gathered, in nanoseconds: by its passwd, or by its users file; 0 if by none."""

@@ -1,36 +1,37 @@
 """What the second program says of each host of a fleet by its own policy, and all of it as one table of users by hosts.
 
-OUT/roots/HOST has the tables of a host, with the users and hosts that they are about, and OUT/reviewed.csv a row for each
-host.
+OUT/roots/HOST has the tables of a host, with the users and hosts that they are about and what they were made of, and
+OUT/reviewed.csv a row for each host.
 """
 
 import os
 import shutil
 import tempfile
-from collections.abc import Iterable, Iterator, Mapping
+from collections.abc import Iterable, Iterator, Mapping, Sequence
 from concurrent.futures import ThreadPoolExecutor
 from typing import NamedTuple
 
-from kulavemia import foreign, outputs, program
+from kulavemia import fleet_evidence, foreign, missing, outputs, program
 from kulavemia.command import FAILED as FAILED_HERE
 from kulavemia.command import Fault, line_of
 from kulavemia.directory import users_in
+from kulavemia.fleet_evidence import Input
 from kulavemia.fleet_foreign import Foreigners
-from kulavemia.fleet_plan import Fleet
+from kulavemia.fleet_plan import Fleet, Given, ToReview
 from kulavemia.fleet_work import DONE, FAILED, HOSTS, REFUSED, TREE, USERS
 from kulavemia.program import Policy
 from kulavemia.requests import number_of
 from kulavemia.review import Asked
 from kulavemia.rows import open_write, read_rows, row
 from kulavemia.shown import Form, shown_records
-from kulavemia.sums import digest_of
+from kulavemia.sums import File, digest_of, file_of_text
 from kulavemia.tree import write_copies
 from kulavemia.unknown import folded
 
 ROOTS = "roots"
 REVIEWED = "reviewed.csv"
 REVIEWED_HEADER = ("host", "status", "users", "gathered", "digest", "fault")
-_DIGEST = "digest"
+DIGEST = "digest"
 _DIGEST_CAP = 100
 
 
@@ -52,13 +53,21 @@ class Reviewed(NamedTuple):
         return self.host, self.status, str(self.users), str(self.gathered), self.digest, self.fault
 
 
+class _Made(NamedTuple):
+    """What the tables of a host are made of: texts of files by their names, inputs, and what could not be gathered."""
+
+    texts: Mapping[str, bytes]
+    inputs: Sequence[Input]
+    missing: Sequence[str]
+
+
 class Reviewing:
     """Has the second program say who can become root on the hosts of a fleet, each by its own policy."""
 
     def __init__(self, fleet: Fleet, second: str, out: str, form: Form) -> None:
         self.fleet = fleet
         self.second = second
-        self.second_sum = program.sum_of(second)
+        self.second_file = File(program.version_of(second), os.path.getsize(second), program.sum_of(second))
         self.out = out
         self.form = form
         self.foreigners = Foreigners(fleet.shared.get(HOSTS, b""))
@@ -83,30 +92,37 @@ class Reviewing:
         """Returns a host whose tables are made. Raises `Fault` or `OSError` if there are none."""
         root = os.path.join(scratch, TREE)
         found = self.fleet.to_review(name, root)
-        hosts = found.hosts if found.hosts is not None else self._own_hosts(name)
-        originals = [part for file in found.policy.originals for part in (file.path, file.sum)]
-        parts = [b"roots 1", found.users, hosts, *map(os.fsencode, (self.second_sum, str(self.form), found.main, *originals))]
-        digest = digest_of(parts)
+        made = self._made_of(name, found)
         place = self._place(name)
-        if not self._stands(place, digest):
+        if digest_in(place, self.out) != made.texts[DIGEST]:
             shutil.rmtree(place, ignore_errors=True)
             write_copies(root, found.policy.files)
             with outputs.new_folder(place) as part:
-                files = {USERS: found.users, HOSTS: hosts, _DIGEST: digest.encode()}
-                self._write(part, Policy(root + found.main, "", "", root), files)
+                self._write(part, Policy(root + found.main, "", "", root), made)
         users = len(users_in(os.path.join(place, USERS)))
-        return Reviewed(name, DONE, users, self.fleet.gathered(name), digest)
+        return Reviewed(name, DONE, users, self.fleet.gathered(name), made.texts[DIGEST].decode())
 
-    def _stands(self, place: str, digest: str) -> bool:
-        """Returns whether the tables of a host were made of the same inputs."""
-        path = os.path.join(place, _DIGEST)
-        return foreign.exists(path, self.out) and foreign.read(path, _DIGEST_CAP, self.out) == digest.encode()
+    def _made_of(self, name: str, found: ToReview) -> _Made:
+        """Returns what the tables of a host are made of."""
+        hosts = self._own_hosts(name, found.hosts) if found.hosts.is_shared else found.hosts.text
+        inputs = [
+            Input(fleet_evidence.PROGRAM, self.second_file),
+            *(Input(fleet_evidence.POLICY, file) for file in found.policy.originals),
+            Input(fleet_evidence.USERS, file_of_text(found.users.path, found.users.text)),
+            Input(fleet_evidence.HOSTS, file_of_text(found.hosts.path, found.hosts.text)),
+        ]
+        lacks = missing.lines_of(os.path.join(self.fleet.folder, name), self.fleet.folder)
+        parts = [part for role, file in inputs for part in (role, file.path, file.sum)]
+        words = ["roots 2", str(self.form), found.main, *parts, *lacks]
+        digest = digest_of([hosts, *map(os.fsencode, words)])
+        return _Made({USERS: found.users.text, HOSTS: hosts, DIGEST: digest.encode()}, inputs, lacks)
 
-    def _write(self, part: str, policy: Policy, files: Mapping[str, bytes]) -> None:
-        """Writes the tables of a host, and what they are about, into a folder."""
-        for name, text in files.items():
+    def _write(self, part: str, policy: Policy, made: _Made) -> None:
+        """Writes the tables of a host, what they are about, and what they are made of, into a folder."""
+        for name, text in made.texts.items():
             with outputs.new(os.path.join(part, name)) as file:
                 file.write(text)
+        fleet_evidence.write_inputs(part, made.inputs, made.missing, self.form)
         users, hosts = (os.path.join(part, name) for name in (USERS, HOSTS))
         try:
             Asked(self.second, policy._replace(users=users, hosts=hosts), self.form).write(part)
@@ -114,12 +130,10 @@ class Reviewing:
             # Which folder by chance a file stood in says nothing.
             raise Fault(str(fault).replace(os.path.join(part, ""), ""), fault.status) from None
 
-    def _own_hosts(self, name: str) -> bytes:
+    def _own_hosts(self, name: str, given: Given) -> bytes:
         """Returns the rows of the fleet's hosts file that are a host's own. Raises `Fault` if there are none."""
-        if HOSTS not in self.fleet.shared:
-            raise Fault(f"there is no {HOSTS}")
         named = self.foreigners.called(folded(name))
-        header, *rows = read_rows(self.fleet.shared[HOSTS])
+        header, *rows = read_rows(given.text)
         own = [fields for fields in rows if fields and folded(fields[0]) in named]
         if not own:
             raise Fault(f"{HOSTS} has no host of this name")
@@ -127,6 +141,12 @@ class Reviewing:
 
     def _place(self, name: str) -> str:
         return os.path.join(self.out, ROOTS, name)
+
+
+def digest_in(place: str, out: str) -> bytes:
+    """Returns the digest of what the tables of a host were made of, empty if there is none."""
+    path = os.path.join(place, DIGEST)
+    return foreign.read(path, _DIGEST_CAP, out) if foreign.exists(path, out) else b""
 
 
 def write_reviewed(out: str, found: Iterable[Reviewed], form: Form) -> list[Reviewed]:

@@ -4,10 +4,12 @@ import os
 from collections.abc import Mapping, Sequence
 from typing import NamedTuple
 
-from kulavemia import review
+from kulavemia import fleet_evidence, review
+from kulavemia.command import Fault
 from kulavemia.directory import hosts_in, users_in
 from kulavemia.effects import Effect, effect_of, is_doubtful
-from kulavemia.fleet_review import ROOTS, Reviewed, reviewed_in
+from kulavemia.fleet_evidence import Input, Shared
+from kulavemia.fleet_review import REVIEWED, ROOTS, Reviewed, digest_in, reviewed_in
 from kulavemia.fleet_work import DONE, HOSTS, USERS
 from kulavemia.grants import Grants
 from kulavemia.review import Caution
@@ -15,27 +17,47 @@ from kulavemia.roots import Cell, Roots, Table
 
 
 class Noted(NamedTuple):
-    """What is said of several hosts alike: its kind and text, what it means for the page, and on how many hosts it stands."""
+    """What is said of several hosts alike: its kind and text, what it means for the page, and on which hosts it stands.
+
+    Of a caution also which answers of the page it is about.
+    """
 
     kind: str
     text: str
     meaning: str
+    answers: str
     hosts: Sequence[str]
 
 
 class FleetTable(NamedTuple):
-    """The table of a fleet, what was reviewed, and what is to be noted."""
+    """The table of a fleet, what was reviewed, what is to be noted, and of each host what its tables were made of."""
 
     table: Table
     reviewed: Sequence[Reviewed]
     cautions: Sequence[Noted]
     subjects: Sequence[Noted]
     ids: Mapping[str, Sequence[str]]
+    inputs: Mapping[str, Sequence[Input]]
+    missing: Mapping[str, Sequence[str]]
+
+    def policies(self) -> list[Shared]:
+        """Returns the files of the policies, each once with the hosts that have it."""
+        return fleet_evidence.shared_by(self.inputs.items(), fleet_evidence.POLICY)
+
+    def programs(self) -> list[Shared]:
+        """Returns the programs that the hosts' tables are of."""
+        return fleet_evidence.shared_by(self.inputs.items(), fleet_evidence.PROGRAM)
+
+    def sums(self, host: str) -> list[Input]:
+        """Returns the files of users and hosts of a host."""
+        roles = (fleet_evidence.USERS, fleet_evidence.HOSTS)
+        return [read for read in self.inputs.get(host, ()) if read.role in roles]
 
 
 class _Host(NamedTuple):
-    """A host's tables: their folder, the host's name in the table, and its users with their IDs."""
+    """A host's tables: its name and their folder, the host's names in the table, and its users with their IDs."""
 
+    name: str
     folder: str
     names: Sequence[str]
     hosts: Sequence[str]
@@ -46,24 +68,23 @@ class _Notes:
     """Gathers what is said of several hosts alike."""
 
     def __init__(self) -> None:
-        self.found: dict[tuple[str, str, str], list[str]] = {}
+        self.found: dict[tuple[str, str, str, str], dict[str, None]] = {}
 
-    def add(self, kind: str, text: str, meaning: str, host: str) -> None:
-        """Adds what is said of a host, once."""
-        hosts = self.found.setdefault((kind, text, meaning), [])
-        if not hosts or hosts[-1] != host:
-            hosts.append(host)
+    def add(self, kind: str, text: str, effect: Effect, hosts: Sequence[str]) -> None:
+        """Adds what is said of hosts, once."""
+        key = kind, text, effect.meaning, effect.answers
+        self.found.setdefault(key, {}).update(dict.fromkeys(hosts))
 
     def list(self) -> list[Noted]:
         """Returns what is said, that of the most hosts first."""
-        notes = [Noted(*key, hosts) for key, hosts in self.found.items()]
+        notes = [Noted(*key, list(hosts)) for key, hosts in self.found.items()]
         return sorted(notes, key=lambda note: -len(note.hosts))
 
 
 def table_of(out: str) -> FleetTable:
     """Returns the table of a fleet that `Reviewing` reviewed."""
     reviewed = reviewed_in(out)
-    hosts = [_host(out, found.host) for found in reviewed if found.status == DONE]
+    hosts = [_host(out, found) for found in reviewed if found.status == DONE]
     ids: dict[str, dict[str, None]] = {}
     for host in hosts:
         for user, uid in host.users.items():
@@ -79,14 +100,19 @@ def table_of(out: str) -> FleetTable:
         _note_subjects(host, subjects)
         column += len(host.names)
     several = {user: list(found) for user, found in ids.items() if len(found) > 1}
-    return FleetTable(table, reviewed, cautions.list(), subjects.list(), several)
+    inputs = {host.name: fleet_evidence.inputs_in(host.folder) for host in hosts}
+    lacks = {host.name: found for host in hosts if (found := fleet_evidence.missing_in(host.folder))}
+    return FleetTable(table, reviewed, cautions.list(), subjects.list(), several, inputs, lacks)
 
 
-def _host(out: str, name: str) -> _Host:
-    folder = os.path.join(out, ROOTS, name)
+def _host(out: str, found: Reviewed) -> _Host:
+    """Returns the tables of a host. Raises `Fault` if they are not those of the table of hosts."""
+    name, folder = found.host, os.path.join(out, ROOTS, found.host)
+    if digest_in(folder, out) != found.digest.encode():
+        raise Fault(f"{folder} has other tables than those that {REVIEWED} is about: run the review of the fleet again")
     hosts = hosts_in(os.path.join(folder, HOSTS))
     names = [name] if len(hosts) == 1 else [f"{name}/{host}" for host in hosts]
-    return _Host(folder, names, hosts, users_in(os.path.join(folder, USERS)))
+    return _Host(name, folder, names, hosts, users_in(os.path.join(folder, USERS)))
 
 
 def _cautions_of(host: _Host, notes: _Notes) -> bool:
@@ -95,15 +121,13 @@ def _cautions_of(host: _Host, notes: _Notes) -> bool:
     for fields in review.rows_of(host.folder, review.CAUTIONS):
         caution = Caution(*fields)
         effects.append(effect_of(caution))
-        for name in host.names:
-            notes.add(caution.kind, caution.text, effects[-1].meaning, name)
+        notes.add(caution.kind, caution.text, effects[-1], host.names)
     return is_doubtful(effects)
 
 
 def _note_subjects(host: _Host, notes: _Notes) -> None:
     for _, kind, named, what in review.rows_of(host.folder, review.SUBJECTS):
-        for name in host.names:
-            notes.add(kind, named, what, name)
+        notes.add(kind, named, Effect("", what), host.names)
 
 
 def _put(host: _Host, table: Table, numbers: Mapping[str, int], column: int, doubtful: bool) -> None:

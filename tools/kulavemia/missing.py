@@ -20,13 +20,29 @@ def warnings(folders: Iterable[str], below: str) -> list[str]:
     return [warning for _, warning in found[:SHOWN]] + more
 
 
+def lines_of(folder: str, below: str) -> list[str]:
+    """Returns the first lines of the file of a folder, and whether it has more, or why it cannot be read."""
+    try:
+        found = _read(folder, below)
+    except (Fault, OSError) as error:
+        return [line_of(error)]
+    more = [f"the file {NAME} has further lines"] if len(found) > SHOWN else []
+    return found[:SHOWN] + more
+
+
 def _lines(folder: str, below: str) -> Iterator[str]:
     """Yields the first lines of the file of a folder, or why it cannot be read."""
     path = os.path.join(folder, NAME)
     try:
-        text = foreign.read(path, foreign.POLICY_CAP, below) if foreign.exists(path, below) else b""
+        found = _read(folder, below)
     except (Fault, OSError) as error:
         yield line_of(error)
         return
-    for line in itertools.islice(os.fsdecode(text).splitlines(), SHOWN + 1):
-        yield f"{path}: {line[:_WIDTH]}"
+    yield from (f"{path}: {line}" for line in found)
+
+
+def _read(folder: str, below: str) -> list[str]:
+    """Returns the first lines of the file of a folder, and one more where there is one."""
+    path = os.path.join(folder, NAME)
+    text = foreign.read(path, foreign.POLICY_CAP, below) if foreign.exists(path, below) else b""
+    return [line[:_WIDTH] for line in itertools.islice(os.fsdecode(text).splitlines(), SHOWN + 1)]

@@ -129,7 +129,7 @@ def replacing(path: str) -> Iterator[BinaryIO]:
 
     A terminal, a pipe or the like is written as it is.
     """
-    if not _is_stream(path):
+    if not is_stream(path):
         with written(path) as file:
             yield file
         return
@@ -140,7 +140,7 @@ def replacing(path: str) -> Iterator[BinaryIO]:
         yield cast(BinaryIO, stream)
 
 
-def _is_stream(path: str) -> bool:
+def is_stream(path: str) -> bool:
     """Returns whether a path is a terminal, a pipe or the like, or names a descriptor, as /dev/stdout does.
 
     Raises `Fault` at a disk or a socket, and at a pipe of another user.

@@ -17,11 +17,12 @@ from kulavemia.command import FAILED, Fault
 from kulavemia.compare import CHANGE_HEADER, CHANGES
 from kulavemia.directory import hosts_in, users_in
 from kulavemia.effects import Effect, effect_of, is_doubtful
-from kulavemia.evidence import Evidence, age, at, made_now
-from kulavemia.fleet_table import table_of
+from kulavemia.evidence import Evidence, Program, age, at, made_now
+from kulavemia.fleet_table import FleetTable, table_of
 from kulavemia.grants import Grant, Grants
 from kulavemia.numbering import Numbering
 from kulavemia.probes import Probes
+from kulavemia.program import REVIEW
 from kulavemia.requests import LOG_KEY, PROBE_KEY, sources_of
 from kulavemia.roots import LEVELS, NONE, UNSURE, Answer, Cell, Roots, Table
 from kulavemia.rules import Rule, Rules
@@ -130,6 +131,7 @@ class Page:
     def __init__(self, inputs: Inputs, evidence: Evidence | None = None) -> None:
         self.inputs = inputs
         self.evidence = evidence or Evidence(made_now())
+        self.now = time.time()
         self.places: Numbering[str] = Numbering()
         self.rules = Rules(inputs.policy, inputs.root) if inputs.policy else None
         self.old_rules = Rules(inputs.old_policy, inputs.old_root) if inputs.old_policy else None
@@ -138,12 +140,20 @@ class Page:
                 self.places.of(rule.place)
         self.cautions = self._cautions() if inputs.review else []
         self.subjects = self._subjects() if inputs.review else []
-        self.fleet = table_of(inputs.fleet) if inputs.fleet else None
+        self.fleet = self._fleet() if inputs.fleet else None
         self.roots: Table | None = self.fleet.table if self.fleet else self._roots() if inputs.review else None
         self.probes = self._probes() if inputs.probe else None
         self.uses = self._uses() if inputs.requests else None
         self.changes = self._changes() if inputs.changes else None
         self.log_texts = self._log_texts()
+
+    def _fleet(self) -> FleetTable:
+        """Returns the table of a fleet, and adds to the evidence what it was made of."""
+        fleet = table_of(self.inputs.fleet)
+        programs = [Program(REVIEW, shared.input.file.path, shared.input.file.sum) for shared in fleet.programs()]
+        lacks = [f"{host}: {line}" for host, lines in fleet.missing.items() for line in lines]
+        self.evidence = self.evidence._replace(programs=programs, missing=lacks)
+        return fleet
 
     def _cautions(self) -> list[Caution]:
         found = [review.Caution(*fields) for fields in review.rows_of(self.inputs.review, review.CAUTIONS)]
@@ -216,6 +226,7 @@ class Page:
         found: list[str] = []
         if self.roots is not None:
             unknown = [subject.name for subject in self.subjects if subject.what == UNKNOWN]
+            unknown += [note.text for note in self.fleet.subjects if note.meaning == UNKNOWN] if self.fleet is not None else []
             found += sentences.of_roots(self.roots)
             found += sentences.of_fleet(self.fleet) if self.fleet is not None else ()
             found += sentences.of_subjects(unknown)
@@ -259,7 +270,7 @@ class Page:
 
     def time_of(self, nanoseconds: int) -> str:
         """Returns a time, with how long before the page it was."""
-        return f"{at(nanoseconds)} ({age(nanoseconds, time.time())})" if nanoseconds else "time not known"
+        return f"{at(nanoseconds)} ({age(nanoseconds, self.now)})" if nanoseconds else "time not known"
 
     def anchor(self, place: str) -> str:
         """Returns the anchor of a place."""
@@ -270,6 +281,7 @@ class Page:
         roots = self.roots.data(self.places) if self.roots else None
         return {
             "levels": LEVELS,
+            "fleet": self.fleet is not None,
             "roots": roots,
             "probes": self.probes.data() if self.probes else None,
             "places": [[visible(place), visible(self.rule_text(place))] for place in self.places.list()],

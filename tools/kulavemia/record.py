@@ -24,14 +24,14 @@ def record_of(page: Page) -> dict[str, Any]:
         **_evidence(page.evidence),
         "sentences": page.sentences(),
         "cautions": list(map(_caution, page.cautions)),
-        "roots": _roots(page),
+        "roots": roots_of(page),
         "subjects": list(map(_subject, page.subjects)),
         "changes": {changed.kind: changed.count for changed in page.changes} if page.changes is not None else None,
         "requests": _uses(page.uses) if page.uses is not None else None,
         "rules": list(_rules(page)),
     }
-    shown: dict[str, Any] = _shown(found)
-    return shown
+    record: dict[str, Any] = shown(found)
+    return record
 
 
 def write(page: Page, path: str) -> None:
@@ -40,15 +40,20 @@ def write(page: Page, path: str) -> None:
         file.write(json.dumps(record_of(page), indent=1).encode() + b"\n")
 
 
-def _shown(value: Any) -> Any:
+def shown(value: Any) -> Any:
     """Returns a value with each text in it as it is shown."""
     if isinstance(value, str):
         return visible(value)
     if isinstance(value, Mapping):
-        return {visible(name): _shown(inner) for name, inner in value.items()}
+        return {visible(name): shown(inner) for name, inner in value.items()}
     if isinstance(value, (list, tuple)):
-        return [_shown(inner) for inner in value]
+        return [shown(inner) for inner in value]
     return value
+
+
+def programs_of(evidence: Evidence) -> list[dict[str, Any]]:
+    """Returns the programs that were asked."""
+    return [{"name": program.name, "version": program.version, "sha256": program.sum} for program in evidence.programs]
 
 
 def _evidence(evidence: Evidence) -> dict[str, Any]:
@@ -61,9 +66,7 @@ def _evidence(evidence: Evidence) -> dict[str, Any]:
     )
     return {
         "made": evidence.made._asdict(),
-        "programs": [
-            {"name": program.name, "version": program.version, "sha256": program.sum} for program in evidence.programs
-        ],
+        "programs": programs_of(evidence),
         "files": [
             {"role": role, "path": file.path, "bytes": file.size, "sha256": file.sum or None}
             for role, files in roles
@@ -90,7 +93,8 @@ def _subject(subject: Subject) -> dict[str, Any]:
     return subject._asdict()
 
 
-def _roots(page: Page) -> dict[str, Any] | None:
+def roots_of(page: Page) -> dict[str, Any] | None:
+    """Returns who can become root where, as a page says it, or nothing if it does not say."""
     if page.roots is None:
         return None
     return {

@@ -4,6 +4,7 @@ from collections import Counter
 from collections.abc import Callable, Iterable, Iterator, Mapping, Sequence
 from typing import NamedTuple
 
+from kulavemia.effects import WHO
 from kulavemia.fleet_table import FleetTable
 from kulavemia.fleet_work import DONE
 from kulavemia.roots import ALL, ALL_BUT, ALL_FREE, LISTED, NONE, ROOT, UNSURE, Table
@@ -148,7 +149,11 @@ def of_fleet(fleet: FleetTable) -> Iterator[str]:
         yield f"{begun(number_of(len(names)))} {has} several IDs, and may be several people: {listed(names)}."
     if fleet.cautions:
         hosts = {host for note in fleet.cautions for host in note.hosts}
-        yield f"sudo reads or judges constructs of the policies of {counted(len(hosts), 'host')} otherwise than this page."
+        who = {host for note in fleet.cautions if note.answers == WHO for host in note.hosts}
+        some = f"on {number_of(len(who))} of them who can become root may differ"
+        of_hosts = f"of the policies of {counted(len(hosts), 'host')}"
+        differs = some if who else "none changes who can become root"
+        yield f"sudo reads or judges constructs {of_hosts} otherwise than this page: {differs}."
 
 
 def of_subjects(unknown: Sequence[str]) -> Iterator[str]:

@@ -15,6 +15,7 @@ SIGNATURE = "review.sha256.sig"
 # What the signature is for, as ssh-keygen -Y verify -n wants it again.
 NAMESPACE = "kulavemia-review"
 KEYGEN = "ssh-keygen"
+_BACKSLASH = "\\"
 
 
 def want_keygen() -> str:
@@ -28,10 +29,15 @@ def want_keygen() -> str:
 def write_sums(folder: str, names: Sequence[str]) -> bytes:
     """Writes the sums of files of a folder, as `sha256sum -c` reads them, and returns the text."""
     found = [(file_of(os.path.join(folder, name), foreign.TABLE_CAP, folder).sum, name) for name in names]
-    text = "".join(f"{digest}  {name}\n" for digest, name in found).encode()
+    text = "".join(f"{_line(digest, name)}\n" for digest, name in found).encode("utf-8", "surrogateescape")
     with outputs.written(os.path.join(folder, SUMS)) as file:
         file.write(text)
     return text
+
+
+def _line(digest: str, name: str) -> str:
+    """Returns a line of sums; one whose name has a backslash begins with one, and has each twice."""
+    return f"\\{digest}  {name.replace(_BACKSLASH, 2 * _BACKSLASH)}" if _BACKSLASH in name else f"{digest}  {name}"
 
 
 def write_signature(folder: str, sums: bytes, key: str | None) -> None:

@@ -8,6 +8,7 @@ import unittest
 from browsing import Browser
 from support import Case, needs_driver, needs_jinja, needs_review
 from kulavemia.evidence import Evidence, Made
+from kulavemia.fleet_evidence import FILES_HEADER
 from kulavemia.fleet_review import REVIEWED_HEADER, reviewed_in
 from kulavemia.fleet_table import table_of
 from kulavemia.page import Inputs, Page, rendered
@@ -116,8 +117,12 @@ class OfTables(FleetRoots):
                     rows.append(f"{name},{host},root,{'all' if at < 20 else 'listed'},own,/etc/sudoers:{at % 30 + 1},,,\n")
             for name, header in HEADERS.items():
                 self.write(f"out/roots/{host}/{name}.csv", ",".join(header) + "\n" + ("".join(rows) if name == "roots" else ""))
-            self.write(f"out/roots/{host}/users.csv", people)
-            self.write(f"out/roots/{host}/hosts.csv", f"host,interfaces\n{host},\n")
+            inputs = [f"policy,/etc/sudoers.d/{number},90,{number:064}", f"users,{host}/users.csv,70,{number + 1:064}"]
+            files = {"users": people, "hosts": f"host,interfaces\n{host},\n", "missing": "what\n"}
+            files["files"] = "\n".join([",".join(FILES_HEADER), f"program,sudo_review 0.1.0,9,{'2' * 64}", *inputs, ""])
+            for name, text in files.items():
+                self.write(f"out/roots/{host}/{name}.csv", text)
+            self.write(f"out/roots/{host}/digest", "0" * 64)
             reviewed.append(f"{host},done,{users + 1},1,{'0' * 64},\n")
         self.write("out/reviewed.csv", "".join(reviewed) + "bad,refused,0,0,,there is no tree\n")
 

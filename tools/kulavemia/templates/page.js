@@ -335,6 +335,7 @@
     const parts = [title, said, ...ways.map((way) => wayText(way, mark.endsWith("?")))];
     if (!ways.length && mark) parts.push(make("p", "No chain of runs of sudo, of any length, leads to a user with the ID 0: so the program has found, for every command."));
     if (rests.length) parts.push(...grantParts(rests));
+    else if (data.fleet && ways.some(([, level]) => level !== "root")) parts.push(make("p", "The commands there are in roots/HOST/grants.csv, with the users and hosts of each."));
     parts.push(...probeParts(group[0], hostGroup[0]));
     const box = find("answers");
     box.replaceChildren(...parts);
