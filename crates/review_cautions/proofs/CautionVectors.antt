@@ -35,7 +35,8 @@ return : text_cautions Return ((codes "alice ALL = /bin/ls" ++ 13 ∷ 10 ∷ cod
 return = refl
 
 -- behind a backslash, and not at the end of the last line
-return_alone : text_cautions Return ((codes "User_Alias A = bob\\" ++ 13 ∷ 10 ∷ codes "# note" ++ 10 ∷ codes "bob ALL = ALL" ++ 13 ∷ []) ∷ [])
+return_alone : text_cautions Return
+    ((codes "User_Alias A = bob\\" ++ 13 ∷ 10 ∷ codes "# note" ++ 10 ∷ codes "bob ALL = ALL" ++ 13 ∷ []) ∷ [])
     ≡ caution_at Return (place 0 1) ∷ []
 return_alone = refl
 

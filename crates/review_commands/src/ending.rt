@@ -16,7 +16,8 @@ pub(crate) struct NotedOutput {
 }
 
 /// Ends a run of the program of this name: prints its text on `out` and then its notice on `err`, and returns its status; or
-/// prints the fault on `err`, with the reason why a path cannot be read, and returns the fault's status. A write on `out` that fails is a fault; one on `err` is ignored.
+/// prints the fault on `err`, with the reason why a path cannot be read, and returns the fault's status. A write on `out` that
+/// fails is a fault; one on `err` is ignored.
 pub(crate) fn end_noted<F: Fails, O: Sink, E: Sink>(
     alloc: Global,
     program: &[u8],

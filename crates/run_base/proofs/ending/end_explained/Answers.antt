@@ -28,4 +28,5 @@ returns g c =
     let told = notices g.F.Fails.status g.F.Fails.explained c.args.program.now in
     let out = sent g.O.Sink.taken g.O.Sink.stalled_writes c.args.out.now c.args.out.now in
     let err = sent g.E.Sink.taken g.E.Sink.stalled_writes c.args.err.now c.report_explained-in-Err.new.err in
-    refused_ends told c.args.ended c.in-Err.fault c.report_explained-in-Err.result out err c.in-Err.is refl refl c.report_explained-in-Err.ensures
+    refused_ends told c.args.ended c.in-Err.fault c.report_explained-in-Err.result out err c.in-Err.is refl refl
+    c.report_explained-in-Err.ensures
