@@ -1,9 +1,54 @@
 //! The files of the policy that a command is about.
+ghost use Rattle.std.specs.Prelude.{None};
 
 use crate::request::PolicyPath;
-use run_base::Disk;
+use review_files::{HostTree, Rooted};
+use run_base::{Disk, Files, FilesFault};
+use std::alloc::{AllocError, Global};
+use sudo_text::Seq;
 
-/// Returns the files of a policy: those of this machine.
-pub(crate) fn policy_files<'a>(rt: &'a HostRuntime, _policy: PolicyPath<'_>) -> Disk<'a> {
-    Disk::new(rt)
+/// The files of this machine, or those below a folder of it.
+#[derive(Drop)]
+pub(crate) enum PolicyFiles<'a> {
+    Machine(Disk<'a>),
+    Below(Rooted<HostTree<'a>>),
+}
+
+/// Returns the files of a policy. Returns `AllocError` if allocation failed.
+pub(crate) fn policy_files<'a>(
+    rt: &'a HostRuntime,
+    policy: PolicyPath<'_>,
+) -> Result<PolicyFiles<'a>, AllocError> {
+    match policy.root {
+        None => Ok(PolicyFiles::Machine(Disk::new(rt))),
+        Some(root) => {
+            let folder = Seq::from_slice(rt.alloc(), root.as_bytes())?;
+            Ok(PolicyFiles::Below(Rooted::new(HostTree::new(rt), folder)))
+        }
+    }
+}
+
+impl Files for PolicyFiles<'_> {
+    ghost held = { λ _. None };
+
+    fn file(&mut self, alloc: Global, path: &[u8]) -> Result<Option<Seq<u8>>, FilesFault> {
+        match self {
+            PolicyFiles::Machine(files) => files.file(alloc, path),
+            PolicyFiles::Below(files) => files.file(alloc, path),
+        }
+    }
+
+    fn main_file(&mut self, alloc: Global, path: &[u8]) -> Result<Option<Seq<u8>>, FilesFault> {
+        match self {
+            PolicyFiles::Machine(files) => files.main_file(alloc, path),
+            PolicyFiles::Below(files) => files.main_file(alloc, path),
+        }
+    }
+
+    fn folder(&mut self, alloc: Global, path: &[u8]) -> Result<Seq<Seq<u8>>, FilesFault> {
+        match self {
+            PolicyFiles::Machine(files) => files.folder(alloc, path),
+            PolicyFiles::Below(files) => files.folder(alloc, path),
+        }
+    }
 }

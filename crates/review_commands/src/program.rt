@@ -38,6 +38,10 @@ fn run_report<T: Threads + Wait + Sync>(
     let alloc = rt.alloc();
     let mut out = Device::new(rt.stdout());
     let mut err = Device::new(rt.stderr());
+    let mut files = match policy_files(rt, paths.policy) {
+        Ok(files) => files,
+        Err(refused) => return report_explained(alloc, PROGRAM, refused, &mut err),
+    };
     match open_all(
         alloc,
         &SystemOpener::new(rt),
@@ -45,17 +49,17 @@ fn run_report<T: Threads + Wait + Sync>(
         paths.hosts,
         words,
     ) {
-        Ok(files) => {
+        Ok(opened) => {
             let OpenedFiles {
                 mut users,
                 mut hosts,
                 sources,
-            } = files;
+            } = opened;
             report_into(
                 alloc,
                 threads,
                 paths.policy.file.as_bytes(),
-                &mut policy_files(rt, paths.policy),
+                &mut files,
                 &mut users,
                 &mut hosts,
                 Work { sources, workers },
@@ -93,11 +97,15 @@ fn run_cautions(
     let alloc = rt.alloc();
     let mut out = Device::new(rt.stdout());
     let mut err = Device::new(rt.stderr());
+    let mut files = match policy_files(rt, policy) {
+        Ok(files) => files,
+        Err(refused) => return report_explained(alloc, PROGRAM, refused, &mut err),
+    };
     match links_at(rt, links) {
         Ok(links) => cautions_run(
             alloc,
             policy.file.as_bytes(),
-            &mut policy_files(rt, policy),
+            &mut files,
             &links,
             without,
             &mut out,
@@ -112,17 +120,21 @@ fn run_grants(rt: &HostRuntime, paths: Paths<'_>, names: ScopeNames<'_>) -> u8 {
     let alloc = rt.alloc();
     let mut out = Device::new(rt.stdout());
     let mut err = Device::new(rt.stderr());
+    let mut files = match policy_files(rt, paths.policy) {
+        Ok(files) => files,
+        Err(refused) => return report_explained(alloc, PROGRAM, refused, &mut err),
+    };
     match open_all(alloc, &SystemOpener::new(rt), paths.users, paths.hosts, &[]) {
-        Ok(files) => {
+        Ok(opened) => {
             let OpenedFiles {
                 mut users,
                 mut hosts,
                 ..
-            } = files;
+            } = opened;
             grants_run(
                 alloc,
                 paths.policy.file.as_bytes(),
-                &mut policy_files(rt, paths.policy),
+                &mut files,
                 &mut users,
                 &mut hosts,
                 names,
@@ -139,17 +151,21 @@ fn run_roots(rt: &HostRuntime, paths: Paths<'_>, all: bool) -> u8 {
     let alloc = rt.alloc();
     let mut out = Device::new(rt.stdout());
     let mut err = Device::new(rt.stderr());
+    let mut files = match policy_files(rt, paths.policy) {
+        Ok(files) => files,
+        Err(refused) => return report_explained(alloc, PROGRAM, refused, &mut err),
+    };
     match open_all(alloc, &SystemOpener::new(rt), paths.users, paths.hosts, &[]) {
-        Ok(files) => {
+        Ok(opened) => {
             let OpenedFiles {
                 mut users,
                 mut hosts,
                 ..
-            } = files;
+            } = opened;
             roots_run(
                 alloc,
                 paths.policy.file.as_bytes(),
-                &mut policy_files(rt, paths.policy),
+                &mut files,
                 &mut users,
                 &mut hosts,
                 all,
@@ -166,17 +182,21 @@ fn run_subjects(rt: &HostRuntime, paths: Paths<'_>) -> u8 {
     let alloc = rt.alloc();
     let mut out = Device::new(rt.stdout());
     let mut err = Device::new(rt.stderr());
+    let mut files = match policy_files(rt, paths.policy) {
+        Ok(files) => files,
+        Err(refused) => return report_explained(alloc, PROGRAM, refused, &mut err),
+    };
     match open_all(alloc, &SystemOpener::new(rt), paths.users, paths.hosts, &[]) {
-        Ok(files) => {
+        Ok(opened) => {
             let OpenedFiles {
                 mut users,
                 mut hosts,
                 ..
-            } = files;
+            } = opened;
             subjects_run(
                 alloc,
                 paths.policy.file.as_bytes(),
-                &mut policy_files(rt, paths.policy),
+                &mut files,
                 &mut users,
                 &mut hosts,
                 &mut out,
