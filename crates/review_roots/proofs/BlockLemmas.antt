@@ -22,33 +22,39 @@ use Rattle.sudo_verdict.specs.Tagged.{runas_at, tags_at, runas_before}
 use Rattle.sudo_verdict.specs.Grants.{Grant, grants, grant_of, place_grants, section_grants, entry_grants}
 use Rattle.sudo_verdict.proofs.SearchLaw.{runas_before-resolves}
 use Rattle.review_roots.specs.declared.block.Block.{Block}
-use Rattle.review_roots.specs.declared.block.Head.{Head}
-use Rattle.review_roots.specs.declared.block.InForce.{InForce}
+use Rattle.review_roots.specs.declared.blocks.Head.{Head}
+use Rattle.review_roots.specs.declared.blocks.InForce.{InForce}
 use Rattle.review_roots.specs.declared.block.Sign.{Sign}
-use Rattle.review_roots.specs.Blocks.{Row, row_of, sign_of, block_row, block_rows, block_resolves, AreBlocks}
+use Rattle.review_roots.specs.declared.effect.Effect.{Effect}
+use Rattle.review_roots.specs.Body.Effects.{effect_of}
+use Rattle.review_roots.specs.Blocks.{Row, row_of, sign_of, block_row, block_rows, AreBlocks}
 use Rattle.review_roots.specs.Body.Heads.{IsInForce, signed_row, head_resolves}
-use Rattle.review_roots.proofs.ListSteps.{take-more, take-enumerated, flat-one, all-push, all-taken, all-there, map-same, map-twice}
+use Rattle.review_roots.proofs.ListSteps.{take-more, take-enumerated, flat-one, all-taken, all-there, map-same, map-twice}
 
 -- ---- The block of a command
 
+abbrev pub block_of : (h : Head) (f : InForce) (signs : Vec Sign Global) (effect : Effect) → effect ≡ effect_of f.tags signs.items → Block
+block_of h f signs effect is = record {
+  place = h.place;
+  users = h.users;
+  hosts = h.hosts;
+  runas = f.runas;
+  tags = f.tags;
+  signs = signs;
+  effect = effect;
+  effective = is;
+}
+
 -- one block more, with the signs of a command
 pub block-pushed :
-    (h : Head) (f : InForce) (signs : Vec Sign Global) (ws : List Signed) (old new : List Block) →
-    new ≡ old ++ record { place = h.place; users = h.users; hosts = h.hosts; runas = f.runas; tags = f.tags; signs = signs } ∷ [] →
+    (h : Head) (f : InForce) (signs : Vec Sign Global) (effect : Effect) (is : effect ≡ effect_of f.tags signs.items) (ws : List Signed)
+    (old new : List Block) →
+    new ≡ old ++ block_of h f signs effect is ∷ [] →
     signs.items ≡ map sign_of ws → flat_map block_rows new ≡ flat_map block_rows old ++ map (signed_row h f) ws
-block-pushed h f signs ws old new is written =
-    let b : Block = record { place = h.place; users = h.users; hosts = h.hosts; runas = f.runas; tags = f.tags; signs = signs } in
-    ap (flat_map block_rows) is ∙ flat-one block_rows old b
+block-pushed h f signs effect is ws old new grown written =
+    let b : Block = block_of h f signs effect is in
+    ap (flat_map block_rows) grown ∙ flat-one block_rows old b
     ∙ ap (λ (rs : List Row). flat_map block_rows old ++ rs) (ap (map (block_row b)) written ∙ map-twice (block_row b) sign_of ws)
-
-pub block-resolved :
-    (p : Policy) (h : Head) (f : InForce) (signs : Vec Sign Global) (old new : List Block) →
-    new ≡ old ++ record { place = h.place; users = h.users; hosts = h.hosts; runas = f.runas; tags = f.tags; signs = signs } ∷ [] →
-    head_resolves p h f ≡ true → list_all (block_resolves p) old ≡ true → list_all (block_resolves p) new ≡ true
-block-resolved p h f signs old new is head all =
-    ap (list_all (block_resolves p)) is
-    ∙ all-push (block_resolves p) old
-    (record { place = h.place; users = h.users; hosts = h.hosts; runas = f.runas; tags = f.tags; signs = signs }) all head
 
 -- ---- The blocks of a section
 

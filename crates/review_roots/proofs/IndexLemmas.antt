@@ -2,14 +2,16 @@
 use Rattle.std.proofs.Common.{◌≡◌, ◌∙◌, ◌+◌, ℕ, zero, suc, Bool, true, false, cond, ◌&&◌, ◌||◌, List, [], ◌∷◌, ◌++◌}
 use Rattle.std.proofs.Common.{◌<◌, ap, append_assoc, get_or, take}
 use Rattle.std.proofs.Common.{arith, flat_map, length, length-append, map, refl, sym, Some}
-use Rattle.std.specs.Prelude.{slice_get}
+use Rattle.std.specs.Prelude.{filter, slice_get}
 use Rattle.std.specs.List.{list_all, list_any, slice_index_or}
 use Rattle.std.proofs.lemmas.Bool.{and_parts}
 use Rattle.std.proofs.lemmas.List.{length-take-le}
+use Rattle.std.proofs.lemmas.List.Elements.{filter-append}
 use Rattle.review_roots.specs.declared.block.Block.{Block}
 use Rattle.review_roots.specs.Blocks.{Row, block_rows}
 use Rattle.review_roots.proofs.ListSteps.{take-more}
-use Rattle.review_roots.specs.Body.Candidates.{indices, indices_from, part_at, part_of}
+use Rattle.review_roots.specs.Body.Candidates.{part_at, part_of}
+use Rattle.review_roots.specs.Body.Raising.{indices, indices_from, passes, passes_at}
 
 -- what holds of all holds of the one at an index
 pub all-at : {X : Type 0} (t : X → Bool) (xs : List X) (i : ℕ) (x : X) → list_all t xs ≡ true → slice_get xs i ≡ Some x → t x ≡ true
@@ -126,3 +128,39 @@ index-step l bs i b passes old new within is same so_far more =
     ∙ ap (λ c. indices l (take i bs) ++ cond c (i ∷ []) []) same
     ∙ sym (ap (indices l) (take-more bs i b within is)
     ∙ indices-more l (take i bs) b i (sym (length-take-le i bs (omega (arith, within)))))
+
+-- ---- Indices that are filtered
+
+-- one item more of a list that is filtered
+pub filter-step :
+    {X : Type 0} (f : X → Bool) (xs : List X) (i : ℕ) (x : X) (passes : Bool) (old new : List X) → i < length xs → x ≡ get_or xs i x →
+    passes ≡ f x → old ≡ filter f (take i xs) → new ≡ old ++ cond passes (x ∷ []) [] → new ≡ filter f (take (i + 1) xs)
+filter-step f xs i x passes old new within is same so_far more =
+    more ∙ ap (λ (ys : List _). ys ++ cond passes (x ∷ []) []) so_far
+    ∙ ap (λ c. filter f (take i xs) ++ cond c (x ∷ []) []) same
+    ∙ sym (ap (filter f) (take-more xs i x within is) ∙ filter-append f (take i xs) (x ∷ []))
+
+filtered-from :
+    (r l : Block → Bool) (all bs before : List Block) (k : ℕ) → all ≡ before ++ bs → k ≡ length before →
+    filter (passes_at l all) (indices_from r k bs) ≡ indices_from (λ b. r b && l b) k bs
+filtered-from r l all [] before k is at = refl
+filtered-from r l all (b ∷ bs) before k is at = go (r b) (filtered-from r l all bs (before ++ b ∷ []) (k + 1)
+    (is ∙ sym (append_assoc before (b ∷ []) bs))
+    (let n : length (before ++ b ∷ []) ≡ length before + 1 = length-append before (b ∷ []) in omega (arith, n, at)))
+  where
+    there : passes_at l all k ≡ l b
+    there = ap (passes l) (ap (slice_get all) at ∙ ap (λ (xs : List Block). slice_get xs (length before)) is ∙ item-behind before b bs)
+
+    go :
+        (c : Bool) → filter (passes_at l all) (indices_from r (k + 1) bs) ≡ indices_from (λ b. r b && l b) (k + 1) bs →
+        filter (passes_at l all) (cond c (k ∷ indices_from r (k + 1) bs) (indices_from r (k + 1) bs))
+        ≡ cond (c && l b) (k ∷ indices_from (λ b. r b && l b) (k + 1) bs) (indices_from (λ b. r b && l b) (k + 1) bs)
+    go true e =
+        ap (λ c. cond c (k ∷ filter (passes_at l all) (indices_from r (k + 1) bs)) (filter (passes_at l all) (indices_from r (k + 1) bs)))
+        there
+        ∙ ap (λ (is : List ℕ). cond (l b) (k ∷ is) is) e
+    go false e = e
+
+-- the indices of the blocks that pass a test, of those that pass another one
+pub indices-filtered : (r l : Block → Bool) (bs : List Block) → filter (passes_at l bs) (indices r bs) ≡ indices (λ b. r b && l b) bs
+indices-filtered r l bs = filtered-from r l bs bs [] 0 refl refl

@@ -7,7 +7,9 @@ pub mod BlockLemmas
 pub mod GivenLemmas
 pub mod SearchLemmas
 pub mod DrawLemmas
+pub mod EffectLemmas
 pub mod StartLemmas
+pub mod StartsLemmas
 pub mod WayLemmas
 pub mod RootLemmas
 pub mod LoopLemmas

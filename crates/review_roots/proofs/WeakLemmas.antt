@@ -19,10 +19,11 @@ use Rattle.review_roots.specs.declared.given.Given.{Given}
 use Rattle.review_roots.specs.declared.level.Level.{Level}
 use Rattle.review_roots.specs.declared.level.Level.TheVariants as level
 use Rattle.review_roots.specs.Asked.{better, given_alone, given_asked, is_better, nothing}
-use Rattle.review_roots.specs.Blocks.{AreBlocks, block_row, block_rows, free_after, is_for, lists, standing_rows, with_row, with_rows}
-use Rattle.review_roots.specs.Body.Candidates.{block_raises, raises, raises_for}
+use Rattle.review_roots.specs.Blocks.{AreBlocks, block_row, block_rows, is_for, lists, standing_rows, with_row, with_rows}
+use Rattle.review_roots.specs.Body.Candidates.{raises_for}
+use Rattle.review_roots.specs.Body.Raising.{block_raises, raises}
 use Rattle.review_roots.specs.Levels.{after_signed, lowered, raised}
-use Rattle.review_roots.specs.Passwords.{nopasswd}
+use Rattle.review_roots.specs.Passwords.{free_after, nopasswd}
 use Rattle.review_roots.specs.Ranks.{rank, is_at_least}
 use Rattle.review_roots.specs.States.{given_between, level_for}
 use Rattle.review_roots.proofs.GivenLemmas.{blocks_give}

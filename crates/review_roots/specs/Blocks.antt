@@ -1,6 +1,6 @@
 -- The rows of a policy without their commands, in the order of the file, and the blocks in which a program has them.
 -- sudoers(5), "User Specification".
-use Rattle.std.specs.Prelude.{◌≡◌, Bool, false, ◌&&◌, ◌||◌, if◌then◌else◌, List, [], fold, map, flat_map}
+use Rattle.std.specs.Prelude.{◌≡◌, Bool, ◌&&◌, if◌then◌else◌, List, [], fold, map, flat_map}
 use Rattle.std.specs.Prelude.{Option, Some, option_copied}
 use Rattle.sudo_text.specs.declared.line.Place.{Place}
 use Rattle.sudo_grammar.specs.declared.kind.Kind.TheVariants as kind
@@ -20,7 +20,7 @@ use Rattle.review_roots.specs.declared.block.Block.{Block}
 use Rattle.review_roots.specs.declared.block.Sign.{Sign}
 use Rattle.review_roots.specs.declared.given.Given.{Given}
 use Rattle.review_roots.specs.Levels.{after_signed}
-use Rattle.review_roots.specs.Passwords.{nopasswd}
+use Rattle.review_roots.specs.Passwords.{free_after}
 
 -- a grant, of whose command is known only whether it is ALL
 pub record Row : Type 0 where
@@ -70,10 +70,6 @@ AreBlocks p blocks = flat_map block_rows blocks ≡ map row_of (grants p)
 abbrev pub block_resolves : Policy → Block → Bool
 block_resolves p b =
     (resolves kind.User p b.users.now && resolves kind.Host p b.hosts.now) && runas_resolves p (option_copied b.runas)
-
--- after a row: whether every command is allowed without a password
-abbrev pub free_after : Bool → Bool → Tags → Bool → Bool
-free_after free negated tags all = if negated then false else (if nopasswd tags then all || free else false)
 
 -- what is given with a further row
 abbrev pub with_row : Given → Row → Given

@@ -1,5 +1,9 @@
 -- Definitions that only the proofs of bodies use: no contract of a public function cites them.
 pub mod Heads
+pub mod Effects
+pub mod Raising
+pub mod Rows
 pub mod Candidates
 pub mod Towards
 pub mod Found
+pub mod Passing

@@ -21,8 +21,11 @@ abbrev pub nopasswd : Tags → Bool
 nopasswd t = is_off (get_or t.choices 6 None)
 
 -- after a row: whether every command is allowed without a password
+abbrev pub free_after : Bool → Bool → Tags → Bool → Bool
+free_after free negated tags all = if negated then false else (if nopasswd tags then all || free else false)
+
 abbrev pub after_free : Bool → Grant → Bool
-after_free free g = if g.negated then false else (if nopasswd g.tags then is_all g.atom || free else false)
+after_free free g = free_after free g.negated g.tags (is_all g.atom)
 
 abbrev pub is_free : List Grant → Bool
 is_free gs = fold after_free false gs

@@ -1,16 +1,16 @@
 //! Users that may take steps, with what is known of each on all hosts.
-ghost use Rattle.std.specs.Prelude.{◌≡◌, ◌++◌, ◌∷◌, [], IfOk, IsTrue, OnOk, Some, None, if◌then◌else◌, true};
-ghost use Rattle.sudo_grammar.specs.declared.kind.Kind.TheVariants as kind;
-ghost use Rattle.sudo_policy.specs.Resolving.{resolves};
+ghost use Rattle.std.specs.Prelude.{◌≡◌, [], IfOk, Some, None, true};
 ghost use Rattle.sudo_verdict.specs.RunasForms as form;
 ghost use Rattle.review_roots.specs.Blocks.{lists};
 ghost use Rattle.review_roots.specs.Body.Candidates as spec;
+ghost use Rattle.review_roots.specs.Body.Raising.{indices, passes_at};
 ghost use Rattle.review_roots.specs.States.{person_of};
 ghost use Rattle.review_roots.specs.declared.candidate.Candidate.{Candidate as TheCandidate};
 
 use crate::Level;
-use crate::block::{Block, Sign};
+use crate::block::Block;
 use crate::ground::Ground;
+use crate::raising::push_if;
 use crate::state::{State, group_at, with_added};
 use crate::toward::{Toward, toward_at};
 use std::alloc::{AllocError, Global};
@@ -35,38 +35,15 @@ pub(crate) fn is_same_user(one: &Person, other: &Person) -> bool
     one.name.as_slice() == other.name.as_slice()
 }
 
-// Whether the level is the least one or a better one behind the sign, whatever it was before.
-fn raises(least: Level, sign: Sign) -> bool
-    ensures { result ≡ spec.raises least sign }
+// Whether there is a block at the index, and its user list allows the user.
+fn lists_at(ground: Ground<'_, '_>, index: usize, person: &Person) -> bool
+    ensures { result ≡ passes_at (lists ground.entry.checked.now person.now)
+        ground.entry.blocks.now index }
 {
-    !sign.negated && (sign.all || Level::Listed.is_at_least(least))
-}
-
-// Whether a sign of the block raises.
-fn block_raises(least: Level, block: &Block<'_>) -> bool
-    ensures { result ≡ spec.block_raises least block.now }
-{
-    block.signs.iter().any(|sign| raises(least, *sign))
-}
-
-// Whether the block raises, and its user list allows the user.
-fn raises_for(ground: Ground<'_, '_>, block: &Block<'_>, person: &Person) -> bool
-    requires { IsTrue (resolves kind.User ground.checked.now block.now.users.now) }
-    ensures { result ≡ spec.raises_for ground.entry.checked.now ground.entry.least person.now
-        block.now }
-{
-    block_raises(ground.least, block) && lists_user(ground.checked, block.users, person)
-}
-
-// Appends the index, if its block passes.
-fn push_if(found: &mut Vec<usize>, index: usize, passes: bool) -> Result<(), AllocError>
-    ensures { OnOk result (found.new.items
-        ≡ found.old.items ++ (if passes then index ∷ [] else [])) }
-{
-    if passes {
-        found.push(index)?;
+    match ground.blocks.get(index) {
+        Some(block) => lists_user(ground.checked, block.users, person),
+        None => false,
     }
-    Ok(())
 }
 
 // Whether no index is listed.
@@ -86,7 +63,7 @@ fn listed_of(
     person: &Person,
 ) -> Result<Vec<usize>, AllocError>
     ensures { IfOk result (λ listed. listed.items
-        ≡ spec.indices (lists ground.entry.checked.now person.now) ground.entry.blocks.now) }
+        ≡ indices (lists ground.entry.checked.now person.now) ground.entry.blocks.now) }
 {
     let mut listed = Vec::new(alloc);
     for index in 0..ground.blocks.len() {
@@ -102,13 +79,13 @@ fn strong_of(
     ground: Ground<'_, '_>,
     person: &Person,
 ) -> Result<Vec<usize>, AllocError>
-    ensures { IfOk result (λ strong. strong.items ≡ spec.indices (spec.raises_for
+    ensures { IfOk result (λ strong. strong.items ≡ indices (spec.raises_for
         ground.entry.checked.now ground.entry.least person.now) ground.entry.blocks.now) }
 {
     let mut strong = Vec::new(alloc);
-    for index in 0..ground.blocks.len() {
-        let passes = raises_for(ground, &ground.blocks[index], person);
-        push_if(&mut strong, index, passes)?;
+    for index in ground.raising {
+        let passes = lists_at(ground, *index, person);
+        push_if(&mut strong, *index, passes)?;
     }
     Ok(strong)
 }
@@ -138,7 +115,7 @@ fn candidate_of(
     strong: Vec<usize>,
 ) -> Result<Candidate, AllocError>
     requires person { person_of ground.directory.now ground.groups.now state ≡ Some person }
-    requires strong { strong.items ≡ spec.indices (spec.raises_for ground.checked.now
+    requires strong { strong.items ≡ indices (spec.raises_for ground.checked.now
         ground.least person) ground.blocks.now }
     ensures { IfOk result (λ c. (c.state ≡ state) × spec.Qualifies ground.entry.checked.now
         ground.entry.directory.now ground.entry.groups.now ground.entry.least

@@ -1,12 +1,12 @@
 //! What rows give, whatever the command.
 ghost use Rattle.std.specs.Prelude.{◌≡◌};
 ghost use Rattle.review_roots.specs.Asked as asked;
-ghost use Rattle.review_roots.specs.Passwords.{nopasswd};
 ghost use Rattle.review_roots.specs.Blocks as blocks;
+ghost use Rattle.review_roots.specs.Body.Rows as behind;
 ghost use Rattle.review_roots.specs.States.{level_for};
 
 use crate::Level;
-use crate::block::{Block, Sign};
+use crate::block::Block;
 use sudo_match::Tags;
 use sudo_text::Place;
 
@@ -37,57 +37,30 @@ pub(crate) const NOTHING: Given = Given {
     by: None,
 };
 
-// Whether the tags say NOPASSWD: the pair PASSWD has place 6.
-fn is_nopasswd(tags: Tags) -> bool
-    ensures { result ≡ nopasswd tags }
-{
-    match tags.choices[6] {
-        Some(on) => !on,
-        None => false,
-    }
-}
-
-// Whether no password is asked after a further row.
-fn is_free_after(free: bool, tags: Tags, sign: Sign) -> bool
-    ensures { result ≡ blocks.free_after free sign.negated tags sign.all }
-{
-    if sign.negated {
-        false
-    } else if is_nopasswd(tags) {
-        sign.all || free
-    } else {
-        false
-    }
-}
-
 impl Given {
-    // Returns what is given with a further row of the block.
-    fn with_sign(self, block: &Block<'_>, sign: Sign) -> Given
-        ensures { result ≡ blocks.with_row self (blocks.block_row block.now sign) }
-    {
-        Given {
-            level: self.level.after(sign.negated, sign.all),
-            free: is_free_after(self.free, block.tags, sign),
-            by: if sign.negated {
-                self.by
-            } else {
-                Some(AllowingRow {
-                    place: block.place,
-                    tags: block.tags,
-                })
-            },
-        }
-    }
-
     /// Returns what is given with the rows of a further block.
     pub(crate) fn with_block(self, block: &Block<'_>) -> Given
         ensures { result ≡ blocks.with_rows self (blocks.block_rows block.now) }
     {
-        let mut given = self;
-        for sign in &block.signs {
-            given = given.with_sign(block, *sign);
+        Given {
+            level: block.effect.level_after(self.level),
+            free: block.effect.is_free_after(self.free),
+            by: self.by_behind(block),
         }
-        given
+    }
+
+    // Returns the last row that allows, of those before the block and of its own.
+    fn by_behind(self, block: &Block<'_>) -> Option<AllowingRow>
+        ensures { result ≡ behind.by_behind block.now self.by }
+    {
+        if block.effect.allows {
+            Some(AllowingRow {
+                place: block.place,
+                tags: block.tags,
+            })
+        } else {
+            self.by
+        }
     }
 
     // Whether the other is better: by the level, and then by the password.

@@ -3,6 +3,7 @@ ghost use Rattle.std.specs.Prelude.{◌≡◌, IfOk, IsTrue, length, map};
 ghost use Rattle.std.specs.List.{list_all};
 ghost use Rattle.review_roots.specs.Blocks.{AreBlocks, block_resolves, is_for};
 ghost use Rattle.review_roots.specs.Body.Candidates.{AreCandidates};
+ghost use Rattle.review_roots.specs.Body.Raising.{block_raises, indices};
 ghost use Rattle.review_roots.specs.Ranks.{is_at_least};
 ghost use Rattle.review_roots.specs.States.{all_states};
 ghost use Rattle.review_roots.specs.declared.level.Level.TheVariants as level;
@@ -29,12 +30,15 @@ pub struct HostSteps<'r, 'a> {
     /// The least level of a chain.
     pub least: Level,
     pub(crate) blocks: &'r [Block<'a>],
+    // The indices of the blocks that raise.
+    pub(crate) raising: &'r [usize],
     pub(crate) candidates: &'r [Candidate],
     pub(crate) places: &'r [Option<usize>],
     // For each block, whether it is for the host.
     pub(crate) on: Vec<bool>,
     ghost listed: { IsTrue (is_at_least level.Listed least) },
     ghost tied: { AreBlocks checked.now blocks.now },
+    ghost raised: { raising.now ≡ indices (block_raises least) blocks.now },
     ghost resolve: { IsTrue (list_all (block_resolves checked.now) blocks.now) },
     ghost here: { on.items ≡ map (is_for checked.now host.now) blocks.now },
     ghost covered: { AreCandidates checked.now directory.now groups.now least blocks.now
@@ -80,6 +84,7 @@ impl<'r, 'a> HostSteps<'r, 'a> {
             groups: rules.groups,
             least: rules.least,
             blocks,
+            raising: rules.raising.as_slice(),
             candidates: rules.candidates.as_slice(),
             places: rules.places.as_slice(),
             on,

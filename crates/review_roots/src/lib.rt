@@ -6,16 +6,20 @@
 
 mod addable;
 mod block;
+mod blocks;
 mod candidate;
+mod effect;
 mod given;
 mod ground;
 mod groups;
 mod host;
 mod laws;
 mod level;
+mod raising;
 mod roots;
 mod rules;
 mod search;
+mod starts;
 mod state;
 mod steps;
 mod toward;

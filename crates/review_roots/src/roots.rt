@@ -2,14 +2,14 @@
 ghost use Rattle.std.specs.Prelude.{◌≡◌, ◌<◌, IfOk, MatchOption, Some, None, length};
 ghost use Rattle.review_roots.specs.States.{state_with};
 ghost use Rattle.review_roots.specs.Ways.{IsWay};
-ghost use Rattle.review_roots.specs.Body.Found.{AreChains, ChainsLead, IsFoundAt, IsFreeAt, is_start};
+ghost use Rattle.review_roots.specs.Body.Found.{AreChains, AreStarts, ChainsLead, IsFoundAt, IsFreeAt};
 ghost use Rattle.review_roots.specs.Roots.{AreRoots, IsRootAt, IsNoRoot, has_zero};
 ghost use Rattle.review_roots.specs.declared.level.Level.{Level as TheLevel};
 
 use crate::Level;
 use crate::host::HostSteps;
-use crate::search::{Chains, Found, search};
-use crate::state::State;
+use crate::search::{Chains, search};
+use crate::starts::start_at;
 use crate::way::{Way, way_of};
 use std::alloc::{AllocError, Global};
 
@@ -20,25 +20,6 @@ pub struct Root {
     pub user: usize,
     /// The chain, or `None` if the user is the target, or has ID 0.
     pub way: Option<Way>,
-}
-
-// Whether the state is the user without an added group.
-fn is_start(state: State, user: usize) -> bool
-    ensures { result ≡ is_start user state }
-{
-    state.user == user && state.added.is_none()
-}
-
-// Returns the index of the user without an added group among the found states, or `None` if it is not found.
-fn found_index(found: &[Found], user: usize) -> Option<usize>
-    ensures { IsFoundAt found.now user result }
-{
-    for index in 0..found.len() {
-        if is_start(found[index].state, user) {
-            return Some(index);
-        }
-    }
-    None
 }
 
 // Whether the user has ID 0.
@@ -54,9 +35,11 @@ fn has_zero(steps: &HostSteps<'_, '_>, user: usize) -> bool
 // Returns the index of the user among the states that chains without passwords lead from, if one of them has the level or a
 // better one.
 fn free_index(chains: &Chains, user: usize, level: Level) -> Option<usize>
+    requires starts { AreStarts chains.now.free.items chains.now.free_starts.items }
+    requires known { user < length chains.now.free_starts.items }
     ensures { IsFreeAt chains.now.free.items user level result }
 {
-    let index = found_index(&chains.free, user)?;
+    let index = start_at(&chains.free_starts, user)?;
     if chains.free[index].level.is_at_least(level) {
         Some(index)
     } else {
@@ -73,7 +56,8 @@ fn best_way(
     user: usize,
     index: usize,
 ) -> Result<Way, AllocError>
-    requires chains { AreChains chains.now }
+    requires chains { AreChains (length steps.now.directory.now.people) chains.now }
+    requires known { user < length steps.now.directory.now.people }
     requires start { IsFoundAt chains.now.any.items user (Some index) }
     ensures { IfOk result (λ way. (least : TheLevel) → ChainsLead steps.now target least chains.now
         → IsWay steps.now target least (state_with None user) way) }
@@ -92,17 +76,17 @@ fn root_of(
     chains: &Chains,
     user: usize,
 ) -> Result<Option<Root>, AllocError>
-    requires { AreChains chains.now }
+    requires chains { AreChains (length steps.now.directory.now.people) chains.now }
+    requires known { user < length steps.now.directory.now.people }
     ensures { IfOk result (λ root. (least : TheLevel)
         → ChainsLead steps.now target least chains.now
-        → user < length steps.now.directory.now.people
         → MatchOption root (IsNoRoot steps.now target least user)
         (IsRootAt steps.now target least user)) }
 {
     if user == target || has_zero(steps, user) {
         return Ok(Some(Root { user, way: None }));
     }
-    match found_index(&chains.any, user) {
+    match start_at(&chains.any_starts, user) {
         None => Ok(None),
         Some(index) => Ok(Some(Root {
             user,

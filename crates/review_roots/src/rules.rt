@@ -3,15 +3,18 @@ ghost use Rattle.std.specs.Prelude.{◌≡◌, ◌++◌, ◌∷◌, [], List, If
 ghost use Rattle.std.specs.List.{list_all};
 ghost use Rattle.review_roots.specs.Blocks.{AreBlocks, block_resolves};
 ghost use Rattle.review_roots.specs.Body.Candidates.{AreCandidates};
+ghost use Rattle.review_roots.specs.Body.Raising.{block_raises, indices};
 ghost use Rattle.review_roots.specs.Ranks.{is_at_least};
 ghost use Rattle.review_roots.specs.States.{all_states};
 ghost use Rattle.review_roots.specs.declared.level.Level.TheVariants as level;
 ghost use Rattle.review_roots.specs.declared.state.State.{State as TheState};
 
 use crate::Level;
-use crate::block::{Block, blocks_of};
+use crate::block::Block;
+use crate::blocks::blocks_of;
 use crate::candidate::{Candidate, hopeful};
 use crate::ground::Ground;
+use crate::raising::raising_of;
 use crate::state::{State, all_states};
 use std::alloc::{AllocError, Global};
 use sudo_match::{Directory, Group};
@@ -31,11 +34,14 @@ pub struct Rules<'a> {
     /// The least level of a chain.
     pub least: Level,
     pub(crate) blocks: Vec<Block<'a>>,
+    // The indices of the blocks that raise.
+    pub(crate) raising: Vec<usize>,
     pub(crate) candidates: Vec<Candidate>,
     // For each user, the index of its candidate without an added group, if any.
     pub(crate) places: Vec<Option<usize>>,
     ghost listed: { IsTrue (is_at_least level.Listed least) },
     ghost tied: { AreBlocks checked.now blocks.items },
+    ghost raised: { raising.items ≡ indices (block_raises least) blocks.items },
     ghost resolve: { IsTrue (list_all (block_resolves checked.now) blocks.items) },
     ghost covered: { AreCandidates checked.now directory.now groups.now least blocks.items
         (all_states (length directory.now.people) (length groups.now)) candidates.items },
@@ -107,12 +113,14 @@ impl<'a> Rules<'a> {
         ensures least { IfOk result (λ rules. rules.least ≡ least) }
     {
         let blocks = blocks_of(alloc, checked)?;
+        let raising = raising_of(alloc, least, &blocks)?;
         let ground = Ground {
             checked,
             directory,
             groups,
             least,
             blocks: blocks.as_slice(),
+            raising: raising.as_slice(),
         };
         let Gathered { candidates, places } = gather(alloc, ground)?;
         Ok(Rules {
@@ -121,6 +129,7 @@ impl<'a> Rules<'a> {
             groups,
             least,
             blocks,
+            raising,
             candidates,
             places,
         })

@@ -1,8 +1,8 @@
 //! The search for the states that lead to a target: back from the target, level by level.
-ghost use Rattle.std.specs.Prelude.{◌≡◌, ◌++◌, ◌==◌, IfOk, OnOk, IsTrue, All, filter, map, not};
+ghost use Rattle.std.specs.Prelude.{◌≡◌, ◌++◌, ◌==◌, IfOk, OnOk, IsTrue, All, filter, length, map, not};
 ghost use Rattle.review_roots.specs.Sought.{any_steps, free_steps, steps_of};
 ghost use Rattle.review_roots.specs.Body.Candidates.{is_heard, states_of};
-ghost use Rattle.review_roots.specs.Body.Found.{AreFound, HaveNoPath, IsCandidate, IsSearch, IsStartOf};
+ghost use Rattle.review_roots.specs.Body.Found.{AreChains, AreFound, HaveNoPath, IsCandidate, IsSearch, IsStartOf};
 ghost use Rattle.review_roots.specs.Body.Found.{found_by, found_there, reaches};
 ghost use Rattle.review_roots.specs.Body.Towards.{IsToward};
 ghost use Rattle.review_roots.specs.Ranks.{is_at_least};
@@ -10,6 +10,7 @@ ghost use Rattle.review_roots.specs.Ranks.{is_at_least};
 use crate::Level;
 use crate::candidate::Candidate;
 use crate::host::HostSteps;
+use crate::starts::starts_of;
 use crate::state::{State, all_states};
 use crate::toward::Toward;
 use std::alloc::{AllocError, Global};
@@ -30,11 +31,14 @@ pub(crate) struct Sought {
     pub(crate) free: bool,
 }
 
-/// The states from which chains lead to a target: by any steps, and by steps that ask for no password.
+/// The states from which chains lead to a target: by any steps, and by steps that ask for no password; and where each user is
+/// among them.
 #[derive(Drop)]
 pub(crate) struct Chains {
     pub(crate) any: Vec<Found>,
+    pub(crate) any_starts: Vec<Option<usize>>,
     pub(crate) free: Vec<Found>,
+    pub(crate) free_starts: Vec<Option<usize>>,
 }
 
 // A found state to which steps are sought: its index, the state, the level of the steps, and whether they must not ask for
@@ -235,6 +239,8 @@ pub(crate) fn search(
         chains.any.items) }
     ensures free { IfOk result (λ chains. AreFound (free_steps steps.now target)
         steps.now.least chains.free.items) }
+    ensures chains { IfOk result (λ chains. AreChains (length steps.now.directory.now.people)
+        chains) }
 {
     let mut any = found_at(alloc, steps, target)?;
     let mut free = Vec::from_slice(alloc, &any)?;
@@ -247,5 +253,13 @@ pub(crate) fn search(
     let sought = Sought { target, free: true };
     let left = heard(alloc, steps, target)?;
     search_levels(alloc, steps, sought, left, &mut free)?;
-    Ok(Chains { any, free })
+    let users = steps.directory.people().len();
+    let any_starts = starts_of(alloc, users, &any)?;
+    let free_starts = starts_of(alloc, users, &free)?;
+    Ok(Chains {
+        any,
+        any_starts,
+        free,
+        free_starts,
+    })
 }

@@ -70,6 +70,7 @@ impl<'r, 'a> HostSteps<'r, 'a> {
             groups: self.groups,
             least: self.least,
             blocks: self.blocks,
+            raising: self.raising,
         };
         toward_at(alloc, ground, state)
     }
@@ -87,6 +88,7 @@ impl<'r, 'a> HostSteps<'r, 'a> {
             groups: self.groups,
             least: self.least,
             blocks: self.blocks,
+            raising: self.raising,
         };
         candidate_at(alloc, ground, state)
     }

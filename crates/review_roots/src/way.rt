@@ -1,10 +1,11 @@
 //! A chain of steps to a target, with the row that allows its first step, and whose passwords it asks for.
-ghost use Rattle.std.specs.Prelude.{◌≡◌, ◌<◌, All, IfOk, Some, length, slice_get};
+ghost use Rattle.std.specs.Prelude.{◌≡◌, ◌<◌, ◌∷◌, All, IfOk, Some, length, slice_get};
 ghost use Rattle.std.specs.List.{Contains};
 ghost use Rattle.review_roots.specs.Sought.{steps_of};
 ghost use Rattle.review_roots.specs.Chains.{LeadsAlong, Steps as TheSteps};
 ghost use Rattle.review_roots.specs.Body.Found.{AreFound, AreLinked, PointBack, found_states};
-ghost use Rattle.review_roots.specs.Ways.{IsChain, first_row, password_along, password_name, step_password, worse};
+ghost use Rattle.review_roots.specs.Ways.{IsChain, password_along, password_name, step_password, worse};
+ghost use Rattle.review_roots.specs.Body.Passing.{AreAsked};
 ghost use Rattle.review_roots.specs.declared.level.Level.{Level as TheLevel};
 ghost use Rattle.review_roots.specs.declared.search.Found.{Found as TheFound};
 ghost use Rattle.review_roots.specs.declared.search.Sought.{Sought as TheSought};
@@ -96,38 +97,67 @@ fn step_password(free: bool, user: usize, from: State) -> Password
     }
 }
 
-// Returns whose passwords the steps of a chain ask for.
+// Returns whose passwords the steps of a chain from a state ask for, in a chain that begins with the user.
 fn password_along(
     alloc: Global,
     steps: &HostSteps<'_, '_>,
+    user: usize,
     start: State,
     chain: &[State],
 ) -> Result<Password, AllocError>
     ensures { IfOk result (λ password. password
-        ≡ password_along steps.now start.user start chain.now) }
+        ≡ password_along steps.now user start chain.now) }
 {
     let mut password = Password::None;
     let mut from = start;
     for to in chain {
         let given = steps.between(alloc, from, *to)?;
-        password = password.worse(step_password(given.free, start.user, from));
+        password = password.worse(step_password(given.free, user, from));
         from = *to;
     }
     Ok(password)
 }
 
-// Returns the last row that allows the first step of a chain.
-fn first_row(
+// The last row that allows the first step of a chain, and whose passwords its steps ask for.
+#[derive(Clone, Copy)]
+struct Asked {
+    by: Option<AllowingRow>,
+    password: Password,
+}
+
+// Returns what the steps of a chain ask for, from its first step and those behind it.
+fn asked_from(
+    alloc: Global,
+    steps: &HostSteps<'_, '_>,
+    start: State,
+    to: State,
+    behind: &[State],
+) -> Result<Asked, AllocError>
+    ensures { IfOk result (λ asked. AreAsked steps.now start (to ∷ behind.now) asked) }
+{
+    let given = steps.between(alloc, start, to)?;
+    let password = password_along(alloc, steps, start.user, to, behind)?;
+    Ok(Asked {
+        by: given.by,
+        password: step_password(given.free, start.user, start).worse(password),
+    })
+}
+
+// Returns what the steps of a chain ask for.
+fn asked_along(
     alloc: Global,
     steps: &HostSteps<'_, '_>,
     start: State,
     chain: &[State],
-) -> Result<Option<AllowingRow>, AllocError>
-    ensures { IfOk result (λ by. by ≡ first_row steps.now start chain.now) }
+) -> Result<Asked, AllocError>
+    ensures { IfOk result (λ asked. AreAsked steps.now start chain.now asked) }
 {
-    match chain.first() {
-        Some(to) => Ok(steps.between(alloc, start, *to)?.by),
-        None => Ok(None),
+    match chain {
+        [] => Ok(Asked {
+            by: None,
+            password: Password::None,
+        }),
+        [to, behind @ ..] => asked_from(alloc, steps, start, *to, behind),
     }
 }
 
@@ -150,12 +180,11 @@ pub(crate) fn way_of(
         next: _,
     } = found[index];
     let chain = chain_of(alloc, found, index)?;
-    let by = first_row(alloc, steps, state, &chain)?;
-    let password = password_along(alloc, steps, state, &chain)?;
+    let asked = asked_along(alloc, steps, state, &chain)?;
     Ok(Way {
         level,
         chain,
-        by,
-        password,
+        by: asked.by,
+        password: asked.password,
     })
 }

@@ -1,5 +1,5 @@
 -- Users that may take a step, with what a program knows of each on all hosts.
-use Rattle.std.specs.Prelude.{◌≡◌, ◌+◌, ◌==◌, ℕ, Bool, true, false, not, ◌&&◌, ◌||◌, if◌then◌else◌, List, [], ◌∷◌, All, map, slice_get}
+use Rattle.std.specs.Prelude.{◌≡◌, ◌==◌, ℕ, Bool, true, false, not, ◌&&◌, if◌then◌else◌, List, [], All, map, slice_get}
 use Rattle.std.specs.Prelude.{Option, Some, None}
 use Rattle.std.specs.List.{list_any, slice_index_or}
 use Rattle.sudo_grammar.specs.declared.policy.Policy.{Policy}
@@ -7,25 +7,15 @@ use Rattle.sudo_match.specs.declared.people.Group.{Group}
 use Rattle.sudo_match.specs.declared.people.Person.{Person}
 use Rattle.sudo_match.specs.KnownRows.{KnownRows}
 use Rattle.review_roots.specs.declared.block.Block.{Block}
-use Rattle.review_roots.specs.declared.block.Sign.{Sign}
 use Rattle.review_roots.specs.declared.candidate.Candidate.{Candidate}
 use Rattle.review_roots.specs.declared.level.Level.{Level}
-use Rattle.review_roots.specs.declared.level.Level.TheVariants as level
 use Rattle.review_roots.specs.declared.state.State.{State}
 use Rattle.review_roots.specs.Blocks.{Row, block_rows, lists}
-use Rattle.review_roots.specs.Ranks.{is_at_least}
 use Rattle.review_roots.specs.States.{person_of}
+use Rattle.review_roots.specs.Body.Raising.{block_raises, indices}
 use Rattle.review_roots.specs.Body.Towards.{IsToward}
 
 -- ---- Blocks by their indices
-
--- the indices of the blocks that pass a test, where the first one has this index
-abbrev pub indices_from : (Block → Bool) → ℕ → List Block → List ℕ
-indices_from t k [] = []
-indices_from t k (b ∷ bs) = if t b then k ∷ indices_from t (k + 1) bs else indices_from t (k + 1) bs
-
-abbrev pub indices : (Block → Bool) → List Block → List ℕ
-indices t bs = indices_from t 0 bs
 
 -- the rows of a block that passes a test, if there is one
 abbrev pub part_of : (Block → Bool) → Option Block → List Row
@@ -41,13 +31,6 @@ abbrev pub both_at : List Bool → List Bool → ℕ → Bool
 both_at xs ys i = slice_index_or xs i false && slice_index_or ys i false
 
 -- ---- Blocks without which no level is reached
-
--- a sign behind which the level is the least one or a better one, whatever it was before
-abbrev pub raises : Level → Sign → Bool
-raises least s = not s.negated && (s.all || is_at_least least level.Listed)
-
-abbrev pub block_raises : Level → Block → Bool
-block_raises least b = list_any (raises least) b.signs.items
 
 -- the block raises, and its user list allows the user
 abbrev pub raises_for : Policy → Level → Person → Block → Bool

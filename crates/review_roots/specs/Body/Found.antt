@@ -1,5 +1,6 @@
 -- The states that are found to lead to a target, and what is known of those that are left.
-use Rattle.std.specs.Prelude.{◌≡◌, ◌<◌, ◌⊎◌, ◌&&◌, ◌==◌, ℕ, Bool, true, false, not, is_some, List, All, map, slice_get, Option, Some, None}
+use Rattle.std.specs.Prelude.{◌≡◌, ◌<◌, ◌⊎◌, ◌&&◌, ◌==◌, ℕ, Bool, true, false, not, if◌then◌else◌, is_some, List, All, map, slice_get}
+use Rattle.std.specs.Prelude.{Option, Some, None, get_or, length, nat_lt, set, take}
 use Rattle.std.specs.List.{Contains}
 use Rattle.review_roots.specs.declared.level.Level.{Level}
 use Rattle.review_roots.specs.declared.level.Level.TheVariants as level
@@ -55,17 +56,6 @@ pub record AreFound (g : Steps State) (l : Level) (found : List Found) : Type 0 
   pub levels : All (λ f. is_at_least l f.level ≡ true) found
   pub complete : IsComplete g l found
 
--- the first steps of both lists lead back
-pub record AreChains (c : Chains) : Type 0 where
-  pub any : PointBack c.any.items
-  pub free : PointBack c.free.items
-
--- the chains to a target, by any steps, and by steps that ask for no password
-pub record ChainsLead (h : HostSteps) (target : ℕ) (l : Level) (c : Chains) : Type 0 where
-  pub level : is_at_least level.Listed l ≡ true
-  pub any : AreFound (any_steps h target) l c.any.items
-  pub free : AreFound (free_steps h target) l c.free.items
-
 -- the user without an added group
 abbrev pub is_start : ℕ → State → Bool
 is_start user s = (s.user == user) && not (is_some s.added)
@@ -74,6 +64,37 @@ is_start user s = (s.user == user) && not (is_some s.added)
 abbrev pub IsFoundAt : List Found → ℕ → Option ℕ → Type 0
 IsFoundAt found user None = All (λ f. is_start user f.state ≡ false) found
 IsFoundAt found user (Some i) = (f : Found) × ((slice_get found i ≡ Some f) × (is_start user f.state ≡ true))
+
+-- for each user, the index of its found state without an added group, if it is found
+abbrev pub AreStarts : List Found → List (Option ℕ) → Type 0
+AreStarts found starts = (user : ℕ) → user < length starts → IsFoundAt found user (get_or starts user None)
+
+-- the same of the first n found states
+abbrev pub IsFoundBefore : List Found → ℕ → ℕ → Option ℕ → Type 0
+IsFoundBefore found n user None = All (λ f. is_start user f.state ≡ false) (take n found)
+IsFoundBefore found n user (Some i) = IsFoundAt found user (Some i)
+
+abbrev pub AreStartsBefore : List Found → ℕ → List (Option ℕ) → Type 0
+AreStartsBefore found n starts = (user : ℕ) → user < length starts → IsFoundBefore found n user (get_or starts user None)
+
+-- the indices with that of a further found state, if it has no added group
+abbrev pub with_start : List (Option ℕ) → State → ℕ → List (Option ℕ)
+with_start starts s i = if not (is_some s.added) && nat_lt s.user (length starts) then set starts s.user (Some i) else starts
+
+-- the first steps of both lists lead back, and both have an index for each user
+pub record AreChains (users : ℕ) (c : Chains) : Type 0 where
+  pub any : PointBack c.any.items
+  pub any_starts : AreStarts c.any.items c.any_starts.items
+  pub any_users : length c.any_starts.items ≡ users
+  pub free : PointBack c.free.items
+  pub free_starts : AreStarts c.free.items c.free_starts.items
+  pub free_users : length c.free_starts.items ≡ users
+
+-- the chains to a target, by any steps, and by steps that ask for no password
+pub record ChainsLead (h : HostSteps) (target : ℕ) (l : Level) (c : Chains) : Type 0 where
+  pub level : is_at_least level.Listed l ≡ true
+  pub any : AreFound (any_steps h target) l c.any.items
+  pub free : AreFound (free_steps h target) l c.free.items
 
 -- the same of a found state with the level or a better one; without an index, one without an added group has a worse level
 abbrev pub IsFreeAt : List Found → ℕ → Level → Option ℕ → Type 0

@@ -7,8 +7,8 @@ use Rattle.sudo_grammar.specs.declared.policy.Policy.{Policy}
 use Rattle.sudo_policy.specs.Resolving.{resolves, runas_resolves}
 use Rattle.sudo_verdict.specs.Values.{is_all}
 use Rattle.sudo_verdict.specs.Tagged.{tags_before, runas_before}
-use Rattle.review_roots.specs.declared.block.Head.{Head}
-use Rattle.review_roots.specs.declared.block.InForce.{InForce}
+use Rattle.review_roots.specs.declared.blocks.Head.{Head}
+use Rattle.review_roots.specs.declared.blocks.InForce.{InForce}
 use Rattle.review_roots.specs.Blocks.{Row}
 
 -- what these commands of a section name last

@@ -1,6 +1,6 @@
 use Rattle.std.proofs.Common.{◌≡◌, take}
 use Rattle.review_roots.specs.Blocks.{lists}
-use Rattle.review_roots.specs.Body.Candidates.{indices}
+use Rattle.review_roots.specs.Body.Raising.{indices}
 use Rattle.review_roots.proofs.candidate.listed_of.Given as goal
 
 abbrev pub invariant-loop-index : goal.invariant-loop-index

@@ -21,7 +21,7 @@ loop-user-preserved c =
       any = c.in_ok-chains.ensures.any;
       free = c.in_ok-chains.ensures.free;
     } in
-    let is = c.in_ok-root.ensures least lead less in
+    let is = c.in_ok-root.ensures least lead in
     elim c.match-branch-3.branch [
       | in-Some+in_ok-push w ↦
           (let root = subst (λ o. MatchOption o (IsNoRoot h target least n) (IsRootAt h target least n)) w.in-Some.is is in

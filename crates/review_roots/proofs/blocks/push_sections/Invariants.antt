@@ -1,0 +1,13 @@
+use Rattle.std.proofs.Common.{◌≡◌, ◌++◌, IsTrue, flat_map, map, take}
+use Rattle.std.specs.List.{list_all}
+use Rattle.sudo_verdict.specs.Grants.{section_grants}
+use Rattle.review_roots.specs.Blocks.{block_resolves, block_rows, row_of}
+use Rattle.review_roots.proofs.blocks.push_sections.Given as goal
+
+abbrev pub invariant-loop-section : goal.invariant-loop-section
+invariant-loop-section l = record {
+  rows : flat_map block_rows l.blocks.items ≡ flat_map block_rows l.initial.blocks.items
+      ++ map row_of (flat_map (section_grants l.checked l.place l.users) (take l.section-index l.sections));
+  resolve : IsTrue (list_all (block_resolves l.checked) l.initial.blocks.items)
+      → IsTrue (list_all (block_resolves l.checked) l.blocks.items);
+}

@@ -1,0 +1,109 @@
+//! What the rows of one command make of what was given before them.
+ghost use Rattle.std.specs.Prelude.{◌≡◌};
+ghost use Rattle.review_roots.specs.Passwords.{free_after, nopasswd};
+ghost use Rattle.review_roots.specs.Body.Effects as spec;
+
+use crate::Level;
+use crate::block::Sign;
+use sudo_match::Tags;
+
+/// What rows of the same tags make of what was given before them: the level behind each level; whether every command is allowed
+/// without a password behind rows for which that was not so, and behind rows for which it was; and whether one of them allows.
+#[derive(Clone, Copy, Debug, PartialEq, Eq)]
+pub(crate) struct Effect {
+    none: Level,
+    listed: Level,
+    all_but: Level,
+    all: Level,
+    asked: bool,
+    free: bool,
+    pub(crate) allows: bool,
+}
+
+// Whether the tags say NOPASSWD: the pair PASSWD has place 6.
+fn is_nopasswd(tags: Tags) -> bool
+    ensures { result ≡ nopasswd tags }
+{
+    match tags.choices[6] {
+        Some(on) => !on,
+        None => false,
+    }
+}
+
+// Whether no password is asked after a further row.
+fn is_free_after(free: bool, tags: Tags, sign: Sign) -> bool
+    ensures { result ≡ free_after free sign.negated tags sign.all }
+{
+    if sign.negated {
+        false
+    } else if is_nopasswd(tags) {
+        sign.all || free
+    } else {
+        false
+    }
+}
+
+// Returns the level behind rows of these signs.
+fn level_behind(level: Level, signs: &[Sign]) -> Level
+    ensures { result ≡ spec.level_behind level signs.now }
+{
+    let mut level = level;
+    for sign in signs {
+        level = level.after(sign.negated, sign.all);
+    }
+    level
+}
+
+// Whether every command is allowed without a password behind rows of these tags and signs.
+fn is_free_behind(free: bool, tags: Tags, signs: &[Sign]) -> bool
+    ensures { result ≡ spec.free_behind tags free signs.now }
+{
+    let mut free = free;
+    for sign in signs {
+        free = is_free_after(free, tags, *sign);
+    }
+    free
+}
+
+// Whether a row of these signs allows.
+fn allows_one(signs: &[Sign]) -> bool
+    ensures { result ≡ spec.allows_one signs.now }
+{
+    signs.iter().any(|sign| !sign.negated)
+}
+
+/// Returns the effect of rows of these tags and signs.
+pub(crate) fn effect_of(tags: Tags, signs: &[Sign]) -> Effect
+    ensures { result ≡ spec.effect_of tags signs.now }
+{
+    Effect {
+        none: level_behind(Level::None, signs),
+        listed: level_behind(Level::Listed, signs),
+        all_but: level_behind(Level::AllBut, signs),
+        all: level_behind(Level::All, signs),
+        asked: is_free_behind(false, tags, signs),
+        free: is_free_behind(true, tags, signs),
+        allows: allows_one(signs),
+    }
+}
+
+impl Effect {
+    /// Returns the level behind the rows.
+    pub(crate) fn level_after(self, before: Level) -> Level
+        ensures { result ≡ spec.level_by self before }
+    {
+        match before {
+            Level::None => self.none,
+            Level::Listed => self.listed,
+            Level::AllBut => self.all_but,
+            Level::All => self.all,
+        }
+    }
+
+    /// Whether every command is allowed without a password behind the rows.
+    pub(crate) fn is_free_after(self, before: bool) -> bool
+        ensures { result ≡ spec.free_by self before }
+    {
+        if before { self.free } else { self.asked }
+    }
+}
