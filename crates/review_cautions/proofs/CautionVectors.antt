@@ -29,14 +29,15 @@ use Rattle.review_cautions.specs.Cautions.{caution_at, text_cautions, list_cauti
 use Rattle.review_cautions.specs.Cautions.{entry_cautions}
 
 -- the carriage return behind a command is dropped; that of a comment means nothing, nor does one behind `ALL`
-return : text_cautions Return ((codes "alice ALL = /bin/ls" ++ 13 ∷ 10 ∷ codes "# /bin/ls" ++ 13 ∷ 10 ∷ codes "bob ALL = ALL" ++ 13 ∷ 10
-    ∷ codes "bob ALL = sudoedit" ++ 13 ∷ 10 ∷ codes "eve ALL = \\" ++ 10 ∷ codes "ALL" ++ 13 ∷ 10 ∷ codes "Defaults insults") ∷ [])
+return : text_cautions Return ((codes "alice ALL = /bin/ls" ++ 13 ∷ 10 ∷ codes "# /bin/ls" ++ 13 ∷ 10
+    ∷ codes "bob ALL = ALL" ++ 13 ∷ 10 ∷ codes "bob ALL = sudoedit" ++ 13 ∷ 10 ∷ codes "eve ALL = \\" ++ 10
+    ∷ codes "ALL" ++ 13 ∷ 10 ∷ codes "Defaults insults") ∷ [])
     ≡ caution_at Return (place 0 1) ∷ caution_at Return (place 0 4) ∷ caution_at Return (place 0 6) ∷ []
 return = refl
 
 -- behind a backslash, and not at the end of the last line
-return_alone : text_cautions Return
-    ((codes "User_Alias A = bob\\" ++ 13 ∷ 10 ∷ codes "# note" ++ 10 ∷ codes "bob ALL = ALL" ++ 13 ∷ []) ∷ [])
+return_alone : text_cautions Return ((codes "User_Alias A = bob\\" ++ 13 ∷ 10 ∷ codes "# note" ++ 10
+    ∷ codes "bob ALL = ALL" ++ 13 ∷ []) ∷ [])
     ≡ caution_at Return (place 0 1) ∷ []
 return_alone = refl
 
