@@ -76,7 +76,7 @@ no_name name rows cautions report grants roots subjects rules (Subjects paths) s
 no_name name rows cautions report grants roots subjects rules (Rules paths workers senders) stated fit = rules stated.0
 
 pub cautions_without_file : (rows : List Row) → first_of (codes "file") rows ≡ None → AsksNothing (codes "cautions", rows)
-cautions_without_file rows none (Cautions policy links without) stated fit = none_there _ _ none stated.1.0.file_is
+cautions_without_file rows none (Cautions policy links without) stated fit = none_there _ _ none stated.1.file_is
 cautions_without_file rows none (Report paths workers senders) stated fit = report_is_cautions (sym stated.0)
 cautions_without_file rows none (Grants paths user host) stated fit = grants_is_cautions (sym stated.0)
 cautions_without_file rows none (Roots paths all) stated fit = roots_is_cautions (sym stated.0)
@@ -151,7 +151,7 @@ report_without_workers rows none (Rules paths workers senders) stated fit = rule
 -- a word for `--without` names no class
 pub cautions_of_bad_class : (rows : List Row) (words : List Text) → unwrap_or (all_of (codes "without") rows) [] ≡ words
     → ((classes : List CautionClass) → map class_name classes ≢ words) → AsksNothing (codes "cautions", rows)
-cautions_of_bad_class rows words are bad (Cautions policy links without) stated fit = bad without.items (sym stated.2 ∙ are)
+cautions_of_bad_class rows words are bad (Cautions policy links without) stated fit = bad without.items (sym stated.3 ∙ are)
 cautions_of_bad_class rows words are bad (Report paths workers senders) stated fit = report_is_cautions (sym stated.0)
 cautions_of_bad_class rows words are bad (Grants paths user host) stated fit = grants_is_cautions (sym stated.0)
 cautions_of_bad_class rows words are bad (Roots paths all) stated fit = roots_is_cautions (sym stated.0)

@@ -1,0 +1,4 @@
+pub mod PlainNames
+pub mod Below
+pub mod Leading
+pub mod ListedNames

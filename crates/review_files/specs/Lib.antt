@@ -1,0 +1,4 @@
+pub mod Paths
+pub mod Resolving
+pub mod Reading
+pub mod Laws
