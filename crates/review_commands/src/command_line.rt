@@ -41,7 +41,11 @@ fn cautions<'a>(alloc: Global) -> Result<Command<'a>, AllocError>
         .about("Lists what sudo reads or judges otherwise")
         .arg(file(alloc))?
         .arg(root(alloc))?
-        .arg(name_option(alloc, "links", "The links to folders of the machine, as CSV"))?
+        .arg(name_option(
+            alloc,
+            "links",
+            "The links to folders of the machine, as CSV",
+        ))?
         .arg(without(alloc))
 }
 
