@@ -20,7 +20,7 @@ from support import REVIEW, needs_review
 POLICIES = int(os.environ.get("POLICIES", "100"))
 HEADER = "user,host,target,level,password,place,tags,via,depends"
 LEVELS = ("none", "listed", "all-but", "all")
-PASSWORDS = ("none", "own", "other")
+PASSWORDS = ("none", "?", "own", "other")
 # The group that each word of a list of users is for.
 GROUP_OF = {"%adm": "adm", "%operator": "operator", "%#37": "operator"}
 
@@ -61,10 +61,13 @@ class Grant(NamedTuple):
 
 
 class Given(NamedTuple):
-    """What grants give: a level, whether no password is asked for, and the place and the tags of the last that allows."""
+    """What grants give: a level, how little is asked for, and the place and the tags of the last that allows.
+
+    `ease` is 2 where no command needs a password, 1 where some may need none, and 0 where each needs one.
+    """
 
     level: int = 0
-    is_free: bool = False
+    ease: int = 0
     place: str = ""
     tags: str = ""
 
@@ -85,16 +88,23 @@ class Row(NamedTuple):
 
 def given_by(grants: list[Grant]) -> Given:
     """Returns what grants give, from the first on."""
-    level, is_free, place, tags = 0, False, "", ""
+    level, place, tags = 0, "", ""
+    # Which of the kinds of commands that are told apart ask for a password, or none: each listed one, and any other.
+    listed: list[bool | None] = []
+    other: bool | None = None
     for grant in grants:
+        asks = None if grant.negated else not grant.is_free
+        if grant.is_all:
+            listed, other = [], asks
+        else:
+            listed.append(asks)
         if grant.negated:
             level = 0 if grant.is_all else min(level, 2)
-            is_free = False
         else:
             level = 3 if grant.is_all else max(level, 1)
-            is_free = grant.is_free and (grant.is_all or is_free)
             place, tags = grant.place, grant.tags
-    return Given(level, is_free, place, tags)
+    kinds = [other, *listed]
+    return Given(level, 2 if set(kinds) == {False} else int(False in kinds), place, tags)
 
 
 class Host:
@@ -148,20 +158,21 @@ class Host:
             asked.append(given_by([it for it in self.grants[one] if self.allowed(it.runas, one, None, other.added)]))
         return max(asked, key=lambda given: given[:2])
 
-    def reaching(self, target: str, level: int, is_free: bool = False) -> set[State]:
-        """Returns the states that lead to a target by steps of a level or a better one, without a password if asked for."""
+    def reaching(self, target: str, level: int, ease: int = 0) -> set[State]:
+        """Returns the states that lead to a target by steps of a level or a better one, and of an ease or a greater one."""
         found = {state for state in STATES if state.user == target}
-        good = {pair for pair, it in self.steps.items() if it.level >= level and (it.is_free or not is_free)}
+        good = {pair for pair, it in self.steps.items() if it.level >= level and it.ease >= ease}
         while more := {one for one, other in good if other in found and one not in found}:
             found |= more
         return found
 
-    def levels(self) -> dict[str, tuple[str, bool]]:
-        """Returns the best level of each user that leads to root, and whether a chain of that level asks for no password."""
-        best: dict[str, tuple[str, bool]] = {}
+    def levels(self) -> dict[str, tuple[str, int]]:
+        """Returns the best level of each user that leads to root, and the greatest ease of a chain of that level."""
+        best: dict[str, tuple[str, int]] = {}
         for level in (1, 2, 3):
-            found, free = self.reaching("root", level), self.reaching("root", level, is_free=True)
-            best |= {user: (LEVELS[level], State(user) in free) for user in GROUPS if State(user) in found and user != "root"}
+            for ease in (0, 1, 2):
+                found = self.reaching("root", level, ease)
+                best |= {user: (LEVELS[level], ease) for user in GROUPS if State(user) in found and user != "root"}
         return best
 
     def shown(self, row: Row) -> tuple[str, str, str, str]:
@@ -173,9 +184,8 @@ class Host:
         if states[-1].user != "root":
             states.append(State("root"))
         steps = [self.steps[pair] for pair in zip(states, states[1:])]
-        asking = [it.user for it, step in zip(states, steps) if not step.is_free]
-        password = max((1 + (user != row.user) for user in asking), default=0)
-        return LEVELS[min(step.level for step in steps)], PASSWORDS[password], steps[0].place, steps[0].tags
+        asked = [2 - step.ease if step.ease else 2 + (it.user != row.user) for it, step in zip(states, steps)]
+        return LEVELS[min(step.level for step in steps)], PASSWORDS[max(asked, default=0)], steps[0].place, steps[0].tags
 
 
 class Draw(listing.Draw):
@@ -229,7 +239,7 @@ class Roots(Drawn):
             level, password, place, tags = host.shown(row)
             wanted = password if is_sure or password == "none" else "?"
             self.assertEqual(row[2:7], ("root", level, wanted, place, tags))
-            self.assertEqual((row.level, row.password == "none"), best[row.user])
+            self.assertEqual((row.level, max(0, 2 - PASSWORDS.index(password))), best[row.user])
 
     def seen(self, policy: listing.Policy, is_sure: bool) -> Iterator[str]:
         """Yields what there is in the table of a policy. Fails where it is not that of the second body."""

@@ -216,7 +216,7 @@ pub(crate) fn table_text(word: &str) -> &'static str {
         "roots" => {
             "user,host,target,level,password,place,tags,via,depends;\
             root,web1.example.org,root,root,none,,,,;\
-            alice,web1.example.org,root,listed,own,p:1,PASSWD,,;\
+            alice,web1.example.org,root,listed,?,p:1,PASSWD,,;\
             root,web2.example.org,root,root,none,,,,;\
             alice,web2.example.org,root,listed,own,p:1,,,;"
         }

@@ -62,9 +62,10 @@ abbrev pub via_text : KnownRows → List Group → ℕ → List State → List �
 via_text d groups user chain =
     drop 3 (flat_map (λ b. 32 ∷ 62 ∷ 32 ∷ state_text d groups b) (behind user (shown chain)))
 
--- whose password is asked for: `?` where one is and a `Defaults` line decides
+-- whose password is asked for: `?` where one may be, or where one is and a `Defaults` line decides
 abbrev pub password_text : Bool → Password → List ℕ
 password_text unsure password.None = codes "none"
+password_text unsure password.Maybe = codes "?"
 password_text unsure password.Own = cond unsure (codes "?") (codes "own")
 password_text unsure password.Other = cond unsure (codes "?") (codes "other")
 

@@ -134,12 +134,13 @@ fn via(
     without_three(alloc, &behind)
 }
 
-// Returns whose password is asked for: `?` where one is and a `Defaults` line decides.
+// Returns whose password is asked for: `?` where one may be, or where one is and a `Defaults` line decides.
 fn password_text(unsure: bool, password: Password) -> &'static [u8]
     ensures { result.now ≡ spec.password_text unsure password }
 {
     match password {
         Password::None => b"none",
+        Password::Maybe => b"?",
         Password::Own if unsure => b"?",
         Password::Own => b"own",
         Password::Other if unsure => b"?",

@@ -63,32 +63,32 @@ module _ (h : HostSteps) (target : ℕ) (aim : Aim) (cs : List Candidate) where
   pub draw-found :
       map (found_by aim) (filter (reaches h aim) cs)
       ≡ map (new_found aim.level aim.index)
-      (filter (drawn_to (steps_to h.checked.now h.directory.now h.host.now h.groups.now target aim.free) aim.level aim.state)
+      (filter (drawn_to (steps_to h.checked.now h.directory.now h.host.now h.groups.now target aim.counted) aim.level aim.state)
       (states_of cs))
   draw-found =
       sym (ap (map (new_found aim.level aim.index))
-      (filter-mapped (drawn_to (steps_to h.checked.now h.directory.now h.host.now h.groups.now target aim.free) aim.level aim.state)
+      (filter-mapped (drawn_to (steps_to h.checked.now h.directory.now h.host.now h.groups.now target aim.counted) aim.level aim.state)
       (λ (c : Candidate). c.state) cs)
       ∙ map-twice (new_found aim.level aim.index) (λ (c : Candidate). c.state) (filter (reaches h aim) cs))
 
   pub draw-kept :
       states_of (filter (λ c. not (reaches h aim c)) cs)
-      ≡ filter (λ s. not (drawn_to (steps_to h.checked.now h.directory.now h.host.now h.groups.now target aim.free) aim.level aim.state
+      ≡ filter (λ s. not (drawn_to (steps_to h.checked.now h.directory.now h.host.now h.groups.now target aim.counted) aim.level aim.state
       s)) (states_of cs)
   draw-kept = sym (filter-mapped
-      (λ s. not (drawn_to (steps_to h.checked.now h.directory.now h.host.now h.groups.now target aim.free) aim.level aim.state s))
+      (λ s. not (drawn_to (steps_to h.checked.now h.directory.now h.host.now h.groups.now target aim.counted) aim.level aim.state s))
       (λ (c : Candidate). c.state) cs)
 
 module _
     (h : HostSteps) (q : Sought) (l : Level) (n : ℕ) (t : Found) (found new : List Found) (cs kept : List Candidate)
     (there : slice_get found n ≡ Some t)
     (finds : new ≡ found
-    ++ map (found_by (record { index = n; state = t.state; level = l; free = q.free }))
-    (filter (reaches h (record { index = n; state = t.state; level = l; free = q.free })) cs))
-    (keeps : kept ≡ filter (λ c. not (reaches h (record { index = n; state = t.state; level = l; free = q.free }) c)) cs)
+    ++ map (found_by (record { index = n; state = t.state; level = l; counted = q.counted }))
+    (filter (reaches h (record { index = n; state = t.state; level = l; counted = q.counted })) cs))
+    (keeps : kept ≡ filter (λ c. not (reaches h (record { index = n; state = t.state; level = l; counted = q.counted }) c)) cs)
   where
     abbrev aim : Aim
-    aim = record { index = n; state = t.state; level = l; free = q.free }
+    aim = record { index = n; state = t.state; level = l; counted = q.counted }
 
     finds_states : new ≡ found ++ map (new_found l n) (filter (drawn_to (steps_of h q) l t.state) (states_of cs))
     finds_states = finds ∙ ap (λ (xs : List Found). found ++ xs) (draw-found h q.target aim cs)

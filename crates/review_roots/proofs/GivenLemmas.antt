@@ -15,7 +15,7 @@ use Rattle.review_roots.specs.declared.block.Block.{Block}
 use Rattle.review_roots.specs.declared.given.AllowingRow.{AllowingRow}
 use Rattle.review_roots.specs.declared.given.Given.{Given}
 use Rattle.review_roots.specs.Levels.{after_one, target_rows}
-use Rattle.review_roots.specs.Passwords.{after_free}
+use Rattle.review_roots.specs.Passwords.{after_free, after_unasked}
 use Rattle.review_roots.specs.Asked.{is_allowing, allowing_row, given_by, nothing}
 use Rattle.review_roots.specs.Blocks.{Row, row_of, block_row, block_rows, AreBlocks, with_row, with_rows, stands}
 use Rattle.review_roots.specs.Blocks.{standing_rows}
@@ -27,6 +27,7 @@ given_from : Given → List Grant → Given
 given_from a gs = record {
   level = fold after_one a.level gs;
   free = fold after_free a.free gs;
+  unasked = fold after_unasked a.unasked gs;
   by = option_or (option_map allowing_row (last_that is_allowing gs)) a.by;
 }
 
@@ -43,7 +44,12 @@ unfolding given_from
 rows_give [] a = refl
 rows_give (g ∷ gs) a =
     rows_give gs (with_row a (row_of g))
-    ∙ ap (λ o. record { level = fold after_one (after_one a.level g) gs; free = fold after_free (after_free a.free g) gs; by = o })
+    ∙ ap (λ o. record {
+      level = fold after_one (after_one a.level g) gs;
+      free = fold after_free (after_free a.free g) gs;
+      unasked = fold after_unasked (after_unasked a.unasked g) gs;
+      by = o;
+    })
     (allowing_step (last_that is_allowing gs) g.negated g a.by)
 
 from_nothing : (o : Option AllowingRow) → option_or o None ≡ o
@@ -54,7 +60,7 @@ pub rows_give_all : (gs : List Grant) → with_rows nothing (map row_of gs) ≡ 
 unfolding given_from
 rows_give_all gs =
     rows_give gs nothing
-    ∙ ap (λ o. record { level = (given_by gs).level; free = (given_by gs).free; by = o })
+    ∙ ap (λ o. record { level = (given_by gs).level; free = (given_by gs).free; unasked = (given_by gs).unasked; by = o })
     (from_nothing (option_map allowing_row (last_that is_allowing gs)))
 
 -- ---- The blocks that stand have the rows for the target

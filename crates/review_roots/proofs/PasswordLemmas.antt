@@ -1,5 +1,5 @@
 -- Where every command is free of a password, the last row that matches is.
-use Rattle.std.proofs.Common.{◌≡◌, Bool, true, false, cond, ◌||◌, List, [], ◌∷◌, Option, Some, None, refl, sym, ◌∙◌, ap}
+use Rattle.std.proofs.Common.{◌≡◌, Bool, true, false, not, cond, ◌&&◌, ◌||◌, List, [], ◌∷◌, Option, Some, None, refl, sym, ◌∙◌, ap}
 use Rattle.std.specs.Prelude.{fold, get_or, unwrap_or, option_map}
 use Rattle.std.specs.Option.{option_or}
 use Rattle.sudo_text.specs.declared.line.Place.{Place}
@@ -13,7 +13,8 @@ use Rattle.sudo_verdict.specs.Verdicts.{decided_by, verdict_if_any}
 use Rattle.review_roots.specs.declared.level.Level.{Level}
 use Rattle.review_roots.specs.declared.level.Level.TheVariants as level
 use Rattle.review_roots.specs.Levels.{after_one, after_signed, raised, target_rows}
-use Rattle.review_roots.specs.Passwords.{is_off, nopasswd, after_free, freely_allowed, FreeNeedsNoPassword, FreeIsAll}
+use Rattle.review_roots.specs.Passwords.{is_off, nopasswd, after_free, after_unasked, freely_allowed}
+use Rattle.review_roots.specs.Passwords.{AskedAlways, FreeIsAll, FreeIsUnasked, FreeNeedsNoPassword}
 use Rattle.review_roots.proofs.LevelLemmas.{fitting, target_decides, all_matches}
 
 -- SETENV, which ALL adds, is no tag of that pair
@@ -98,3 +99,51 @@ all_along (g ∷ gs) l free so_far e =
 
 pub free_is_all : FreeIsAll
 free_is_all gs e = all_along gs level.None false (λ f. cc) e
+
+-- ---- Where rows let no command go unasked, the last row that matches asks for a password
+
+asked_step :
+    (n w a d unasked b : Bool) → (a ≡ true → d ≡ true) → (unasked ≡ false → b ≡ false) →
+    cond a (not n && w) (cond n unasked (w || unasked)) ≡ false → cond d (cond n false w) b ≡ false
+asked_step true w true d unasked b every s e = ap (λ v. cond v false b) (every refl)
+asked_step true w false true unasked b every s e = refl
+asked_step true w false false unasked b every s e = s e
+asked_step false w true d unasked b every s e = ap (λ v. cond v w b) (every refl) ∙ e
+asked_step false true false d unasked b every s e = cc
+asked_step false false false true unasked b every s e = refl
+asked_step false false false false unasked b every s e = s e
+
+asked_says :
+    (d : Grant → Bool) → ((g : Grant) → is_all g.atom ≡ true → d g ≡ true) → (gs : List Grant) (unasked b : Bool) →
+    (unasked ≡ false → b ≡ false) → fold after_unasked unasked gs ≡ false → free_last (last_that d gs) b ≡ false
+asked_says d every [] unasked b s e = s e
+asked_says d every (g ∷ gs) unasked b s e =
+    sym (one_more (last_that d gs) (d g) b g)
+    ∙ asked_says d every gs (after_unasked unasked g) (cond (d g) (freely g) b)
+    (asked_step g.negated (nopasswd g.tags) (is_all g.atom) (d g) unasked b (every g) s) e
+
+pub asked_always : AskedAlways
+asked_always p q e c x =
+    ap freely_allowed (target_decides p q c x) ∙ verdict_freely (last_that (fitting c x) (target_rows p q))
+    ∙ asked_says (fitting c x) (λ g. all_matches c x g.atom) (target_rows p q) false false (λ h. h) e
+
+-- ---- Rows that are free of passwords let a command go unasked
+
+unasked_step :
+    (n w a free unasked : Bool) → cond n false (cond w (a || free) false) ≡ true →
+    cond a (not n && w) (cond n unasked (w || unasked)) ≡ true
+unasked_step true w a free unasked e = cc
+unasked_step false false a free unasked e = cc
+unasked_step false true true free unasked e = refl
+unasked_step false true false free unasked e = refl
+
+unasked_along :
+    (gs : List Grant) (free unasked : Bool) → (free ≡ true → unasked ≡ true) → fold after_free free gs ≡ true →
+    fold after_unasked unasked gs ≡ true
+unasked_along [] free unasked so_far e = so_far e
+unasked_along (g ∷ gs) free unasked so_far e =
+    unasked_along gs (after_free free g) (after_unasked unasked g)
+    (unasked_step g.negated (nopasswd g.tags) (is_all g.atom) free unasked) e
+
+pub free_is_unasked : FreeIsUnasked
+free_is_unasked gs e = unasked_along gs false false (λ f. f) e

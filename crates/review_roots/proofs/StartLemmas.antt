@@ -45,25 +45,25 @@ module _ (h : HostSteps) (q : Sought) where
       g.goal s ≡ false → IsMute g h.least s
   quiet-mute s u is none away = (
     away,
-    λ t l above. ap (λ o. is_at_least l (level_for q.free
+    λ t l above. ap (λ o. is_at_least l (level_for q.counted
         (given_between h.checked.now h.directory.now h.host.now o (slice_get h.directory.now.people t.user)
         (group_at h.groups.now t.added)))) is
         ∙ weak-level h.least
         (given_between h.checked.now h.directory.now h.host.now (Some u) (slice_get h.directory.now.people t.user)
         (group_at h.groups.now t.added)) h.listed
         (quiet-between h.checked.now h.directory.now h.host.now h.least u h.blocks.now h.tied h.listed none
-        (slice_get h.directory.now.people t.user) (group_at h.groups.now t.added)) q.free l above,
+        (slice_get h.directory.now.people t.user) (group_at h.groups.now t.added)) q.counted l above,
   )
 
   unknown-mute : (s : State) → person_of h.directory.now h.groups.now s ≡ None → g.goal s ≡ false → IsMute g h.least s
   unknown-mute s none away = (
     away,
-    λ t l above. ap (λ o. is_at_least l (level_for q.free
+    λ t l above. ap (λ o. is_at_least l (level_for q.counted
         (given_between h.checked.now h.directory.now h.host.now o (slice_get h.directory.now.people t.user)
         (group_at h.groups.now t.added)))) none
         ∙ weak-level h.least
         (given_between h.checked.now h.directory.now h.host.now None (slice_get h.directory.now.people t.user)
-        (group_at h.groups.now t.added)) h.listed (weak-nothing h.least h.listed) q.free l above,
+        (group_at h.groups.now t.added)) h.listed (weak-nothing h.least h.listed) q.counted l above,
   )
 
   silent-mute :

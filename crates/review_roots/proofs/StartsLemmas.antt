@@ -1,6 +1,7 @@
 -- Where each user is among the found states, one state after the other.
 use Rattle.std.proofs.Common.{◌≡◌, ◌<◌, ◌≤◌, ◌+◌, ◌∙◌, ℕ, zero, suc, Bool, true, false, not, cond, ◌&&◌, ◌==◌}
-use Rattle.std.proofs.Common.{List, [], ◌∷◌, ◌++◌, ap, arith, refl, get_or, length, set, subst, sym, take, Option, Some, None, ◌⊎◌, inl, inr}
+use Rattle.std.proofs.Common.{List, [], ◌∷◌, ◌++◌, ap, arith, refl, get_or, length, set, subst, sym, take}
+use Rattle.std.proofs.Common.{Option, Some, None, ◌⊎◌, inl, inr}
 use Rattle.std.specs.Prelude.{All, is_some, nat_lt, slice_get}
 use Rattle.std.proofs.lemmas.Bool.{cases_lt, eq-eqb, lt-ltb, ltb-true, ne_eqb}
 use Rattle.std.proofs.lemmas.List.{get_or-set_other, get_or-set_same, length-set, take_all}

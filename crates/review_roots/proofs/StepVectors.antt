@@ -1,5 +1,5 @@
 -- Worked examples of steps and chains, each by computation.
-use Rattle.std.proofs.Common.{◌≡◌, ℕ, true, false, List, [], ◌∷◌, map, Option, Some, None, refl}
+use Rattle.std.proofs.Common.{◌≡◌, ℕ, Bool, true, false, List, [], ◌∷◌, map, Option, Some, None, refl}
 use Rattle.std.specs.Prelude.{codes}
 use Rattle.sudo_text.specs.declared.token.Mark.TheVariants.{Bang}
 use Rattle.sudo_text.specs.declared.token.TokenKind.TheVariants as token
@@ -24,6 +24,7 @@ use Rattle.sudo_verdict.specs.Tagged.{tags_named, tags_before, tags_at, runas_be
 use Rattle.sudo_verdict.specs.Values.{value}
 use Rattle.sudo_verdict.specs.RunasForms.{form_allows, runas_allows}
 use Rattle.sudo_verdict.specs.Grants.{place_grants, section_grants, grants}
+use Rattle.review_roots.specs.declared.given.Given.{Given}
 use Rattle.review_roots.specs.declared.level.Level.{Level}
 use Rattle.review_roots.specs.declared.level.Level.TheVariants as level
 use Rattle.review_roots.specs.declared.state.State.{State}
@@ -146,14 +147,36 @@ groups_named = refl
 
 -- ---- Passwords: the worst of a chain's steps, which begin with user 1
 
-no_password : worse (step_password true 1 ben) (step_password true 1 eve) ≡ password.None
+-- what a step gives that is free, that lets a command go unasked, or neither
+abbrev given_with : Bool → Bool → Given
+given_with free unasked = record { level = level.All; free = free; unasked = unasked; by = None }
+
+abbrev of_all : Given
+of_all = given_with true true
+
+abbrev of_some : Given
+of_some = given_with false true
+
+abbrev of_none : Given
+of_none = given_with false false
+
+no_password : worse (step_password of_all 1 ben) (step_password of_all 1 eve) ≡ password.None
 no_password = refl
 
-own_password : worse (step_password false 1 ben) (step_password true 1 eve) ≡ password.Own
+some_password : worse (step_password of_all 1 ben) (step_password of_some 1 eve) ≡ password.Maybe
+some_password = refl
+
+own_password : worse (step_password of_none 1 ben) (step_password of_all 1 eve) ≡ password.Own
 own_password = refl
 
-own_password_twice : worse (step_password false 1 ben) (step_password false 1 ben_with_adm) ≡ password.Own
+own_before_some : worse (step_password of_none 1 ben) (step_password of_some 1 eve) ≡ password.Own
+own_before_some = refl
+
+own_password_twice : worse (step_password of_none 1 ben) (step_password of_none 1 ben_with_adm) ≡ password.Own
 own_password_twice = refl
 
-other_password : worse (step_password false 1 ben) (step_password false 1 eve) ≡ password.Other
+other_password : worse (step_password of_none 1 ben) (step_password of_none 1 eve) ≡ password.Other
 other_password = refl
+
+other_before_some : worse (step_password of_some 1 ben) (step_password of_none 1 eve) ≡ password.Other
+other_before_some = refl

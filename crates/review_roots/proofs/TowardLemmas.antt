@@ -1,7 +1,7 @@
 -- Users of another name than the target's are given the same by the same blocks, on each host.
 use Rattle.std.proofs.Common.{◌≡◌, ◌∙◌, ℕ, Bool, true, false, cond, ◌&&◌, ◌||◌, ◌==◌, List, ap, flat_map, map, refl, subst, sym}
 use Rattle.std.proofs.Common.{Option, Some, None, option_copied}
-use Rattle.std.specs.Prelude.{is_some, nat_lt, slice_get, unwrap_or}
+use Rattle.std.specs.Prelude.{is_some, nat_lt, not, slice_get, unwrap_or}
 use Rattle.std.specs.List.{list_any, slice_index_or}
 use Rattle.sudo_grammar.specs.declared.kind.Member.{Member}
 use Rattle.sudo_grammar.specs.declared.policy.Policy.{Policy}
@@ -12,6 +12,7 @@ use Rattle.sudo_match.specs.declared.people.Machine.{Machine}
 use Rattle.sudo_match.specs.KnownRows.{KnownRows}
 use Rattle.sudo_verdict.specs.Questions.{question_as}
 use Rattle.sudo_verdict.specs.RunasForms.{form_allows, group_allowed, has_asked, is_same_user, runas_allows, target_value}
+use Rattle.review_roots.specs.declared.given.Counted.{Counted}
 use Rattle.review_roots.specs.declared.block.Block.{Block}
 use Rattle.review_roots.specs.declared.candidate.Candidate.{Candidate}
 use Rattle.review_roots.specs.declared.given.Given.{Given}
@@ -62,11 +63,15 @@ allowed-all p d bs v w m g allowed apart is u n away =
 better-alone : (a : Given) → better a nothing ≡ a
 better-alone a = go a.level refl
   where
-    go : (l : Level) → a.level ≡ l → better (record { level = a.level; free = a.free; by = a.by }) nothing ≡ a
-    go level.None e = ap (λ l. cond (nat_lt (rank l) 0 || ((rank l == 0) && (false && cond a.free false true))) nothing a) e
-    go level.Listed e = ap (λ l. cond (nat_lt (rank l) 0 || ((rank l == 0) && (false && cond a.free false true))) nothing a) e
-    go level.AllBut e = ap (λ l. cond (nat_lt (rank l) 0 || ((rank l == 0) && (false && cond a.free false true))) nothing a) e
-    go level.All e = ap (λ l. cond (nat_lt (rank l) 0 || ((rank l == 0) && (false && cond a.free false true))) nothing a) e
+    pick : Level → Given
+    pick l =
+        cond (nat_lt (rank l) 0 || ((rank l == 0) && ((false && not a.free) || (false && not a.unasked)))) nothing a
+
+    go : (l : Level) → a.level ≡ l → pick a.level ≡ a
+    go level.None e = ap pick e
+    go level.Listed e = ap pick e
+    go level.AllBut e = ap pick e
+    go level.All e = ap pick e
 
 module _
     (h : HostSteps) (c : Candidate) (v : Person) (g : Option Group) (allowed : List Bool) (is : IsCandidate h c)
@@ -108,14 +113,14 @@ module _
 
     -- where no block that raises stands, the step has not the least level
     pub foreign-barred :
-        list_any (both_at h.on.items allowed) c.strong.items ≡ false → (free : Bool) (l : Level) → is_at_least h.least l ≡ true →
-        is_at_least l (level_for free (given_towards h.checked.now h.directory.now h.host.now c.person v g)) ≡ false
-    foreign-barred none free l above =
-        ap (λ a. is_at_least l (level_for free a)) (sym towards-asked)
+        list_any (both_at h.on.items allowed) c.strong.items ≡ false → (k : Counted) (l : Level) → is_at_least h.least l ≡ true →
+        is_at_least l (level_for k (given_towards h.checked.now h.directory.now h.host.now c.person v g)) ≡ false
+    foreign-barred none k l above =
+        ap (λ a. is_at_least l (level_for k a)) (sym towards-asked)
         ∙ weak-level h.least (given_asked h.checked.now h.directory.now c.person h.host.now (Some v) g) h.listed
         (weak-asked h.checked.now h.directory.now h.least c.person h.host.now (Some v) g h.blocks.now h.tied h.listed
         (sym (any-are (raises_for h.checked.now h.least c.person) stands_for (both_at h.on.items allowed) h.blocks.now both-are)
-        ∙ sym (ap (list_any (both_at h.on.items allowed)) is.strong) ∙ none)) free l above
+        ∙ sym (ap (list_any (both_at h.on.items allowed)) is.strong) ∙ none)) k l above
 
 -- the step, from the user, the target and the group
 pub step-from :

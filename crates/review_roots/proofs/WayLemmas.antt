@@ -1,9 +1,10 @@
 -- The chain of a found state leads to the goal, and its steps ask for the passwords that are named.
-use Rattle.std.proofs.Common.{◌≡◌, ◌<◌, ◌∙◌, ◌+◌, ℕ, Bool, true, List, [], ◌∷◌, ◌++◌, ap, append-nil, append_assoc, refl, drop, get_or}
+use Rattle.std.proofs.Common.{◌≡◌, ◌<◌, ◌∙◌, ◌+◌, ℕ, true, List, [], ◌∷◌, ◌++◌, ap, append-nil, append_assoc, refl, drop, get_or}
 use Rattle.std.proofs.Common.{length, sym, subst}
 use Rattle.std.proofs.Common.{Some, None}
 use Rattle.std.specs.Prelude.{slice_get}
 use Rattle.std.proofs.lemmas.List.{drop_more}
+use Rattle.review_roots.specs.declared.given.Given.{Given}
 use Rattle.review_roots.specs.declared.host.HostSteps.{HostSteps}
 use Rattle.review_roots.specs.declared.search.Found.{Found}
 use Rattle.review_roots.specs.declared.state.State.{State}
@@ -67,30 +68,45 @@ leads-all found index at chain a here is so_far g f linked first =
 
 -- ---- Passwords
 
-worse-assoc : (p q r : Password) → worse (worse p q) r ≡ worse p (worse q r)
-worse-assoc password.None q r = refl
-worse-assoc password.Own password.None r = refl
-worse-assoc password.Own password.Own password.None = refl
-worse-assoc password.Own password.Own password.Own = refl
-worse-assoc password.Own password.Own password.Other = refl
-worse-assoc password.Own password.Other r = refl
-worse-assoc password.Other q r = refl
-
 pub worse-none : (p : Password) → worse p password.None ≡ p
 worse-none password.None = refl
+worse-none password.Maybe = refl
 worse-none password.Own = refl
 worse-none password.Other = refl
 
+worse-assoc : (p q r : Password) → worse (worse p q) r ≡ worse p (worse q r)
+worse-assoc password.None q r = refl
+worse-assoc password.Other q r = refl
+worse-assoc p password.None r = ap (λ a. worse a r) (worse-none p)
+worse-assoc password.Maybe password.Maybe password.None = refl
+worse-assoc password.Maybe password.Maybe password.Maybe = refl
+worse-assoc password.Maybe password.Maybe password.Own = refl
+worse-assoc password.Maybe password.Maybe password.Other = refl
+worse-assoc password.Maybe password.Own password.None = refl
+worse-assoc password.Maybe password.Own password.Maybe = refl
+worse-assoc password.Maybe password.Own password.Own = refl
+worse-assoc password.Maybe password.Own password.Other = refl
+worse-assoc password.Maybe password.Other r = refl
+worse-assoc password.Own password.Maybe password.None = refl
+worse-assoc password.Own password.Maybe password.Maybe = refl
+worse-assoc password.Own password.Maybe password.Own = refl
+worse-assoc password.Own password.Maybe password.Other = refl
+worse-assoc password.Own password.Own password.None = refl
+worse-assoc password.Own password.Own password.Maybe = refl
+worse-assoc password.Own password.Own password.Own = refl
+worse-assoc password.Own password.Own password.Other = refl
+worse-assoc password.Own password.Other r = refl
+
 -- one step more
 pub passwords-more :
-    (h : HostSteps) (user : ℕ) (from : State) (chain : List State) (at : ℕ) (to : State) (free : Bool) (so_far new whole : Password) →
-    at < length chain → to ≡ get_or chain at to → worse so_far (password_along h user from (drop at chain)) ≡ whole → free
-    ≡ (step_on h from to).free →
-    new ≡ worse so_far (step_password free user from) → worse new (password_along h user to (drop (at + 1) chain)) ≡ whole
-passwords-more h user from chain at to free so_far new whole within is old given more =
+    (h : HostSteps) (user : ℕ) (from : State) (chain : List State) (at : ℕ) (to : State) (given : Given) (so_far new whole : Password) →
+    at < length chain → to ≡ get_or chain at to → worse so_far (password_along h user from (drop at chain)) ≡ whole → given
+    ≡ step_on h from to →
+    new ≡ worse so_far (step_password given user from) → worse new (password_along h user to (drop (at + 1) chain)) ≡ whole
+passwords-more h user from chain at to given so_far new whole within is old gives more =
     ap (λ p. worse p (password_along h user to (drop (at + 1) chain)))
-    (more ∙ ap (λ b. worse so_far (step_password b user from)) given)
-    ∙ worse-assoc so_far (step_password (step_on h from to).free user from) (password_along h user to (drop (at + 1) chain))
+    (more ∙ ap (λ b. worse so_far (step_password b user from)) gives)
+    ∙ worse-assoc so_far (step_password (step_on h from to) user from) (password_along h user to (drop (at + 1) chain))
     ∙ ap (λ (ts : List State). worse so_far (password_along h user from ts))
     (sym (drop_more chain at to within ∙ ap (λ (t : State). t ∷ drop (at + 1) chain) (sym is)))
     ∙ old

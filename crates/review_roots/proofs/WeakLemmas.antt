@@ -13,6 +13,8 @@ use Rattle.sudo_match.specs.declared.request.Tags.{Tags}
 use Rattle.sudo_match.specs.KnownRows.{KnownRows}
 use Rattle.sudo_verdict.specs.Questions.{Question, question_as}
 use Rattle.sudo_verdict.specs.RunasForms.{is_same_user, runas_allows}
+use Rattle.review_roots.specs.declared.given.Counted.{Counted}
+use Rattle.review_roots.specs.declared.given.Counted.TheVariants as counted
 use Rattle.review_roots.specs.declared.block.Block.{Block}
 use Rattle.review_roots.specs.declared.block.Sign.{Sign}
 use Rattle.review_roots.specs.declared.given.Given.{Given}
@@ -152,16 +154,30 @@ weak-asked p d least u m t g bs tied listed none =
 
 -- a step that is weak has not the least level
 pub weak-level :
-    (least : Level) (a : Given) → is_at_least level.Listed least ≡ true → IsWeak least a → (free : Bool) (l : Level)
-    → is_at_least least l ≡ true → is_at_least l (level_for free a) ≡ false
-weak-level least a listed weak true l above =
-    let one = leb-true (rank level.Listed) (rank least) listed in
-    let most = leb-true (rank least) (rank l) above in
-    ap (λ b. is_at_least l (cond b a.level level.None)) weak.1 ∙ below-not l level.None (omega (arith, one, most))
-weak-level least a listed weak false l above =
-    let less = not-at-least least a.level weak.0 in
-    let most = leb-true (rank least) (rank l) above in
-    below-not l a.level (omega (arith, less, most))
+    (least : Level) (a : Given) → is_at_least level.Listed least ≡ true → IsWeak least a → (k : Counted) (l : Level)
+    → is_at_least least l ≡ true → is_at_least l (level_for k a) ≡ false
+weak-level least a listed weak k l above = go k
+  where
+    below : is_at_least l a.level ≡ false
+    below =
+        let less = not-at-least least a.level weak.0 in
+        let most = leb-true (rank least) (rank l) above in
+        below-not l a.level (omega (arith, less, most))
+
+    none : is_at_least l level.None ≡ false
+    none =
+        let one = leb-true (rank level.Listed) (rank least) listed in
+        let most = leb-true (rank least) (rank l) above in
+        below-not l level.None (omega (arith, one, most))
+
+    either : (b : Bool) → is_at_least l (cond b a.level level.None) ≡ false
+    either true = below
+    either false = none
+
+    go : (k : Counted) → is_at_least l (level_for k a) ≡ false
+    go counted.Any = below
+    go counted.Unasked = either a.unasked
+    go counted.Free = either a.free
 
 pub any-weaker : {X : Type 0} (f g : X → Bool) → ((x : X) → f x ≡ false → g x ≡ false) → (xs : List X) → list_any f xs ≡ false
     → list_any g xs ≡ false

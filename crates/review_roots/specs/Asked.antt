@@ -14,7 +14,7 @@ use Rattle.review_roots.specs.declared.level.Level.TheVariants as level
 use Rattle.review_roots.specs.declared.given.Given.{Given}
 use Rattle.review_roots.specs.declared.given.AllowingRow.{AllowingRow}
 use Rattle.review_roots.specs.Levels.{level_of, target_rows}
-use Rattle.review_roots.specs.Passwords.{is_free}
+use Rattle.review_roots.specs.Passwords.{is_free, is_unasked}
 use Rattle.review_roots.specs.Ranks.{rank}
 
 -- a row that allows its command
@@ -24,21 +24,31 @@ is_allowing g = not g.negated
 abbrev pub allowing_row : Grant → AllowingRow
 allowing_row g = record { place = g.place; tags = g.tags }
 
--- what rows give: their level, whether they are free of passwords, and the last one that allows, if any
+-- what rows give: their level, whether they are free of passwords, whether a command may go unasked, and the last one that
+-- allows, if any
 abbrev pub given_by : List Grant → Given
-given_by gs = record { level = level_of gs; free = is_free gs; by = option_map allowing_row (last_that is_allowing gs) }
+given_by gs = record {
+  level = level_of gs;
+  free = is_free gs;
+  unasked = is_unasked gs;
+  by = option_map allowing_row (last_that is_allowing gs);
+}
 
 -- what no row gives
 abbrev pub nothing : Given
-nothing = record { level = level.None; free = false; by = None }
+nothing = record { level = level.None; free = false; unasked = false; by = None }
 
 -- what the rows for a target give a user on a host
 abbrev pub given_asked : Policy → KnownRows → Person → Machine → Option Person → Option Group → Given
 given_asked p d u m t g = given_by (target_rows p (question_as d u m t g))
 
--- the second gives a better level, or the same level without a password where the first asks one
+-- the second is free of passwords, or lets a command go unasked, where the first does not
+abbrev pub is_easier : Given → Given → Bool
+is_easier a b = (b.free && not a.free) || (b.unasked && not a.unasked)
+
+-- the second gives a better level, or the same level more easily
 abbrev pub is_better : Given → Given → Bool
-is_better a b = nat_lt (rank a.level) (rank b.level) || ((rank a.level == rank b.level) && (b.free && not a.free))
+is_better a b = nat_lt (rank a.level) (rank b.level) || ((rank a.level == rank b.level) && is_easier a b)
 
 abbrev pub better : Given → Given → Given
 better a b = if is_better a b then b else a

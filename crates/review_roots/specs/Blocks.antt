@@ -20,7 +20,7 @@ use Rattle.review_roots.specs.declared.block.Block.{Block}
 use Rattle.review_roots.specs.declared.block.Sign.{Sign}
 use Rattle.review_roots.specs.declared.given.Given.{Given}
 use Rattle.review_roots.specs.Levels.{after_signed}
-use Rattle.review_roots.specs.Passwords.{free_after}
+use Rattle.review_roots.specs.Passwords.{free_after, unasked_after}
 
 -- a grant, of whose command is known only whether it is ALL
 pub record Row : Type 0 where
@@ -76,6 +76,7 @@ abbrev pub with_row : Given → Row → Given
 with_row a r = record {
   level = after_signed a.level r.negated r.all;
   free = free_after a.free r.negated r.tags r.all;
+  unasked = unasked_after a.unasked r.negated r.tags r.all;
   by = if r.negated then a.by else Some (record { place = r.place; tags = r.tags });
 }
 

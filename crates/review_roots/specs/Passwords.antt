@@ -1,6 +1,7 @@
--- When every command is allowed without a password: NOPASSWD ALL stands, and no row behind it is denied or lacks NOPASSWD.
+-- When every command is allowed without a password: NOPASSWD ALL stands, and no row behind it is denied or lacks NOPASSWD. And
+-- when a command may be: a row with NOPASSWD allows it, and no row behind it is for ALL and is denied or lacks NOPASSWD.
 -- sudoers(5), "Tag_Spec", NOPASSWD and PASSWD.
-use Rattle.std.specs.Prelude.{◌≡◌, ℕ, Bool, true, false, ◌||◌, if◌then◌else◌, List, Option, Some, None, fold, get_or}
+use Rattle.std.specs.Prelude.{◌≡◌, ℕ, Bool, true, false, not, ◌&&◌, ◌||◌, if◌then◌else◌, List, Option, Some, None, fold, get_or}
 use Rattle.sudo_grammar.specs.declared.policy.Policy.{Policy}
 use Rattle.sudo_match.specs.declared.request.Tags.{Tags}
 use Rattle.sudo_match.specs.declared.request.Verdict.{Verdict}
@@ -30,6 +31,17 @@ after_free free g = free_after free g.negated g.tags (is_all g.atom)
 abbrev pub is_free : List Grant → Bool
 is_free gs = fold after_free false gs
 
+-- after a row: whether a command may be allowed without a password
+abbrev pub unasked_after : Bool → Bool → Tags → Bool → Bool
+unasked_after unasked negated tags all =
+    if all then not negated && nopasswd tags else (if negated then unasked else nopasswd tags || unasked)
+
+abbrev pub after_unasked : Bool → Grant → Bool
+after_unasked unasked g = unasked_after unasked g.negated g.tags (is_all g.atom)
+
+abbrev pub is_unasked : List Grant → Bool
+is_unasked gs = fold after_unasked false gs
+
 -- the verdict allows without a password, as far as tags say
 abbrev pub freely_allowed : Verdict → Bool
 freely_allowed (Allow place tags) = nopasswd tags
@@ -39,6 +51,16 @@ abbrev pub FreeNeedsNoPassword : Type 0
 FreeNeedsNoPassword =
     (p : Policy) (q : Question) → is_free (target_rows p q) ≡ true →
     (command arguments : List ℕ) → freely_allowed (verdict_on p (with_command q command arguments)) ≡ true
+
+-- where the rows for a target let no command go unasked, none is allowed without a password
+abbrev pub AskedAlways : Type 0
+AskedAlways =
+    (p : Policy) (q : Question) → is_unasked (target_rows p q) ≡ false →
+    (command arguments : List ℕ) → freely_allowed (verdict_on p (with_command q command arguments)) ≡ false
+
+-- rows that are free of passwords let a command go unasked
+abbrev pub FreeIsUnasked : Type 0
+FreeIsUnasked = (gs : List Grant) → is_free gs ≡ true → is_unasked gs ≡ true
 
 -- rows that are free of passwords have the level All
 abbrev pub FreeIsAll : Type 0

@@ -1,6 +1,6 @@
 -- A chain of steps to a target: its level, the row that allows its first step, and whose passwords it asks for.
 -- sudo(8), sudoers(5), "Tag_Spec": a password is asked unless NOPASSWD is in force.
-use Rattle.std.specs.Prelude.{◌≡◌, ◌⊎◌, ℕ, Bool, true, ◌==◌, if◌then◌else◌, List, [], ◌∷◌, All, Option, None, codes}
+use Rattle.std.specs.Prelude.{◌≡◌, ◌⊎◌, ℕ, true, ◌==◌, if◌then◌else◌, List, [], ◌∷◌, All, Option, None, codes}
 use Rattle.std.specs.List.{Contains}
 use Rattle.review_roots.specs.declared.given.AllowingRow.{AllowingRow}
 use Rattle.review_roots.specs.declared.given.Given.{Given}
@@ -11,26 +11,32 @@ use Rattle.review_roots.specs.declared.state.State.{State}
 use Rattle.review_roots.specs.declared.way.Password.{Password}
 use Rattle.review_roots.specs.declared.way.Password.TheVariants as password
 use Rattle.review_roots.specs.declared.way.Way.{Way}
-use Rattle.review_roots.specs.Sought.{any_steps, free_steps, steps_of}
+use Rattle.review_roots.specs.Sought.{any_steps, free_steps, unasked_steps, steps_of}
 use Rattle.review_roots.specs.Chains.{HasNoPath, HasPath, LeadsAlong}
 use Rattle.review_roots.specs.Ranks.{is_at_least}
 use Rattle.review_roots.specs.States.{step_given}
 
 abbrev pub password_name : Password → List ℕ
 password_name password.None = codes "none"
+password_name password.Maybe = codes "?"
 password_name password.Own = codes "own"
 password_name password.Other = codes "other"
 
--- the worse of the two: another user's password, then one's own
+-- the worse of the two: another user's password, then one's own, then perhaps one
 abbrev pub worse : Password → Password → Password
 worse password.None q = q
+worse password.Maybe password.None = password.Maybe
+worse password.Maybe q = q
 worse password.Own password.Other = password.Other
 worse password.Own _ = password.Own
 worse password.Other q = password.Other
 
--- whose password a step from a state asks for, in a chain that begins with the user
-abbrev pub step_password : Bool → ℕ → State → Password
-step_password free user from = if free then password.None else (if from.user == user then password.Own else password.Other)
+-- whose password a step from a state asks for, in a chain that begins with the user: nobody's, if it asks for none; perhaps one,
+-- if some commands may go without; otherwise that of the user from whom it leads
+abbrev pub step_password : Given → ℕ → State → Password
+step_password a user from =
+    if a.free then password.None
+    else (if a.unasked then password.Maybe else (if from.user == user then password.Own else password.Other))
 
 -- what a step on the host gives
 abbrev pub step_on : HostSteps → State → State → Given
@@ -39,12 +45,16 @@ step_on h s t = step_given h.checked.now h.directory.now h.host.now h.groups.now
 -- whose passwords the steps of a chain from a state ask for: the worst that one of them does
 abbrev pub password_along : HostSteps → ℕ → State → List State → Password
 password_along h user s [] = password.None
-password_along h user s (t ∷ ts) = worse (step_password (step_on h s t).free user s) (password_along h user t ts)
+password_along h user s (t ∷ ts) = worse (step_password (step_on h s t) user s) (password_along h user t ts)
 
 -- the last row that allows the first step of a chain
 abbrev pub first_row : HostSteps → State → List State → Option AllowingRow
 first_row h s [] = None
 first_row h s (t ∷ ts) = (step_on h s t).by
+
+-- no password is asked for, or perhaps one
+abbrev pub IsUnasked : Password → Type 0
+IsUnasked p = (p ≡ password.None) ⊎ (p ≡ password.Maybe)
 
 -- of the steps that are sought, the chain leads from the state to the target through states, with its level, which no chain
 -- betters and which is the least asked for or a better one; the row allows the first step, and the password is the chain's
@@ -56,7 +66,8 @@ pub record IsChain (h : HostSteps) (q : Sought) (least : Level) (s : State) (w :
   pub by : w.by ≡ first_row h s w.chain.items
   pub password : w.password ≡ password_along h s.user s w.chain.items
 
--- the same of all steps; and where the chain asks for a password, no chain of its level, however long, asks for none
+-- the same of all steps; where the chain may ask for a password, no chain of its level, however long, asks for none; and where it
+-- asks for one whatever the command, no chain of its level has steps that all may go without
 pub record IsWay (h : HostSteps) (target : ℕ) (least : Level) (s : State) (w : Way) : Type 0 where
   pub inside : All (Contains (any_steps h target).states) w.chain.items
   pub leads : LeadsAlong (any_steps h target) w.level s w.chain.items
@@ -64,4 +75,5 @@ pub record IsWay (h : HostSteps) (target : ℕ) (least : Level) (s : State) (w :
   pub enough : is_at_least least w.level ≡ true
   pub by : w.by ≡ first_row h s w.chain.items
   pub free : (w.password ≡ password.None) ⊎ HasNoPath (free_steps h target) w.level s
+  pub unasked : IsUnasked w.password ⊎ HasNoPath (unasked_steps h target) w.level s
   pub password : w.password ≡ password_along h s.user s w.chain.items

@@ -28,11 +28,22 @@ pub(crate) struct Candidate {
     pub(crate) toward: Toward,
 }
 
+// Whether two texts may be the same by their last bytes, by which names differ more often than by their first.
+fn may_be_same(one: &[u8], other: &[u8]) -> bool
+    ensures { one.now ≡ other.now → result ≡ true }
+{
+    match (one.last(), other.last()) {
+        (Some(end), Some(other_end)) => end == other_end,
+        _ => true,
+    }
+}
+
 /// Whether two users have one name.
 pub(crate) fn is_same_user(one: &Person, other: &Person) -> bool
     ensures { result ≡ form.is_same_user one.now other.now }
 {
-    one.name.as_slice() == other.name.as_slice()
+    let (one, other) = (one.name.as_slice(), other.name.as_slice());
+    may_be_same(one, other) && one == other
 }
 
 // Whether there is a block at the index, and its user list allows the user.

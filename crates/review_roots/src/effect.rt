@@ -1,6 +1,6 @@
 //! What the rows of one command make of what was given before them.
 ghost use Rattle.std.specs.Prelude.{◌≡◌};
-ghost use Rattle.review_roots.specs.Passwords.{free_after, nopasswd};
+ghost use Rattle.review_roots.specs.Passwords.{free_after, nopasswd, unasked_after};
 ghost use Rattle.review_roots.specs.Body.Effects as spec;
 
 use crate::Level;
@@ -8,15 +8,18 @@ use crate::block::Sign;
 use sudo_match::Tags;
 
 /// What rows of the same tags make of what was given before them: the level behind each level; whether every command is allowed
-/// without a password behind rows for which that was not so, and behind rows for which it was; and whether one of them allows.
+/// without a password behind rows for which that was not so, and behind rows for which it was; the same of whether a command may
+/// be; and whether one of them allows.
 #[derive(Clone, Copy, Debug, PartialEq, Eq)]
 pub(crate) struct Effect {
     none: Level,
     listed: Level,
     all_but: Level,
     all: Level,
-    asked: bool,
+    newly_free: bool,
     free: bool,
+    newly_unasked: bool,
+    unasked: bool,
     pub(crate) allows: bool,
 }
 
@@ -65,6 +68,30 @@ fn is_free_behind(free: bool, tags: Tags, signs: &[Sign]) -> bool
     free
 }
 
+// Whether a command may be allowed without a password after a further row.
+fn is_unasked_after(unasked: bool, tags: Tags, sign: Sign) -> bool
+    ensures { result ≡ unasked_after unasked sign.negated tags sign.all }
+{
+    if sign.all {
+        !sign.negated && is_nopasswd(tags)
+    } else if sign.negated {
+        unasked
+    } else {
+        is_nopasswd(tags) || unasked
+    }
+}
+
+// Whether a command may be allowed without a password behind rows of these tags and signs.
+fn is_unasked_behind(unasked: bool, tags: Tags, signs: &[Sign]) -> bool
+    ensures { result ≡ spec.unasked_behind tags unasked signs.now }
+{
+    let mut unasked = unasked;
+    for sign in signs {
+        unasked = is_unasked_after(unasked, tags, *sign);
+    }
+    unasked
+}
+
 // Whether a row of these signs allows.
 fn allows_one(signs: &[Sign]) -> bool
     ensures { result ≡ spec.allows_one signs.now }
@@ -81,8 +108,10 @@ pub(crate) fn effect_of(tags: Tags, signs: &[Sign]) -> Effect
         listed: level_behind(Level::Listed, signs),
         all_but: level_behind(Level::AllBut, signs),
         all: level_behind(Level::All, signs),
-        asked: is_free_behind(false, tags, signs),
+        newly_free: is_free_behind(false, tags, signs),
         free: is_free_behind(true, tags, signs),
+        newly_unasked: is_unasked_behind(false, tags, signs),
+        unasked: is_unasked_behind(true, tags, signs),
         allows: allows_one(signs),
     }
 }
@@ -104,6 +133,17 @@ impl Effect {
     pub(crate) fn is_free_after(self, before: bool) -> bool
         ensures { result ≡ spec.free_by self before }
     {
-        if before { self.free } else { self.asked }
+        if before { self.free } else { self.newly_free }
+    }
+
+    /// Whether a command may be allowed without a password behind the rows.
+    pub(crate) fn is_unasked_after(self, before: bool) -> bool
+        ensures { result ≡ spec.unasked_by self before }
+    {
+        if before {
+            self.unasked
+        } else {
+            self.newly_unasked
+        }
     }
 }

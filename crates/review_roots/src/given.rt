@@ -1,9 +1,10 @@
 //! What rows give, whatever the command.
-ghost use Rattle.std.specs.Prelude.{◌≡◌};
+ghost use Rattle.std.specs.Prelude.{◌≡◌, if◌then◌else◌};
 ghost use Rattle.review_roots.specs.Asked as asked;
 ghost use Rattle.review_roots.specs.Blocks as blocks;
 ghost use Rattle.review_roots.specs.Body.Rows as behind;
 ghost use Rattle.review_roots.specs.States.{level_for};
+ghost use Rattle.review_roots.specs.declared.level.Level.TheVariants as level;
 
 use crate::Level;
 use crate::block::Block;
@@ -26,14 +27,28 @@ pub struct Given {
     pub level: Level,
     /// Whether every command is allowed with NOPASSWD: the level is then `All`.
     pub free: bool,
+    /// Whether a command may be allowed with NOPASSWD.
+    pub unasked: bool,
     /// The last of them that allows, if any.
     pub by: Option<AllowingRow>,
+}
+
+/// Which steps count.
+#[derive(Clone, Copy, Debug, PartialEq, Eq)]
+pub(crate) enum Counted {
+    /// All.
+    Any,
+    /// Those that allow a command with NOPASSWD, perhaps.
+    Unasked,
+    /// Those that allow every command with NOPASSWD.
+    Free,
 }
 
 /// What no row gives.
 pub(crate) const NOTHING: Given = Given {
     level: Level::None,
     free: false,
+    unasked: false,
     by: None,
 };
 
@@ -45,6 +60,7 @@ impl Given {
         Given {
             level: block.effect.level_after(self.level),
             free: block.effect.is_free_after(self.free),
+            unasked: block.effect.is_unasked_after(self.unasked),
             by: self.by_behind(block),
         }
     }
@@ -63,23 +79,37 @@ impl Given {
         }
     }
 
+    // Whether the other is free of passwords, or lets a command go unasked, where this one does not.
+    fn is_eased(self, other: Given) -> bool
+        ensures { result ≡ asked.is_easier self other }
+    {
+        (other.free && !self.free) || (other.unasked && !self.unasked)
+    }
+
     // Whether the other is better: by the level, and then by the password.
     fn is_improved(self, other: Given) -> bool
         ensures { result ≡ asked.is_better self other }
     {
         let (own, its) = (self.level.rank(), other.level.rank());
-        own < its || (own == its && (other.free && !self.free))
+        own < its || (own == its && self.is_eased(other))
     }
 
-    /// Returns the level, where every step counts; or, where only those count that ask for no password, the level if it is one.
-    pub(crate) fn level_for(self, free: bool) -> Level
-        ensures { result ≡ level_for free self }
+    /// Returns the level, if the step counts, and otherwise `None`.
+    pub(crate) fn level_for(self, counted: Counted) -> Level
+        ensures { result ≡ level_for counted self }
     {
-        if free && !self.free {
-            Level::None
-        } else {
-            self.level
+        match counted {
+            Counted::Any => self.level,
+            Counted::Unasked => self.level_if(self.unasked),
+            Counted::Free => self.level_if(self.free),
         }
+    }
+
+    // Returns the level, if that counts, and otherwise `None`.
+    fn level_if(self, counts: bool) -> Level
+        ensures { result ≡ (if counts then self.level else level.None) }
+    {
+        if counts { self.level } else { Level::None }
     }
 
     /// Returns the better of the two: by the level, and then by the password.

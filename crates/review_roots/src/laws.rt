@@ -3,7 +3,7 @@ ghost use Rattle.std.specs.Prelude.{◌≡◌, Some, slice_get};
 ghost use Rattle.sudo_grammar.specs.Tags.{pairs};
 ghost use Rattle.sudo_grammar.specs.declared.tag.TagPair.TheVariants.{Passwd};
 ghost use Rattle.review_roots.specs.Levels.{AllAllowsAll, NoneAllowsNone};
-ghost use Rattle.review_roots.specs.Passwords.{FreeNeedsNoPassword, FreeIsAll};
+ghost use Rattle.review_roots.specs.Passwords.{AskedAlways, FreeIsAll, FreeIsUnasked, FreeNeedsNoPassword};
 ghost use Rattle.review_roots.specs.Chains.{ChainsArePaths};
 ghost use Rattle.review_roots.specs.KnownGroups.{OtherGroupsChangeNoList};
 
@@ -23,6 +23,13 @@ pub fn free_needs_no_password()
     ensures place { slice_get pairs 6 ≡ Some Passwd }
     ensures free { FreeNeedsNoPassword }
     ensures all { FreeIsAll }
+{}
+
+/// Where the rows for a target let no command go unasked, none is allowed with the tag NOPASSWD; and rows that are free of
+/// passwords let commands go unasked.
+pub fn asked_always()
+    ensures asked { AskedAlways }
+    ensures free { FreeIsUnasked }
 {}
 
 /// A user with a further group that the user list of no rule names is allowed by those lists that allow it without.

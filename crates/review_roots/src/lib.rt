@@ -30,7 +30,7 @@ pub use given::{AllowingRow, Given};
 pub use groups::{known_groups, named_groups};
 pub use host::HostSteps;
 pub use laws::{
-    all_allows_all, chains_are_paths, free_needs_no_password, none_allows_none,
+    all_allows_all, asked_always, chains_are_paths, free_needs_no_password, none_allows_none,
     other_groups_change_no_list,
 };
 pub use level::Level;

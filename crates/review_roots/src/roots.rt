@@ -2,13 +2,13 @@
 ghost use Rattle.std.specs.Prelude.{◌≡◌, ◌<◌, IfOk, MatchOption, Some, None, length};
 ghost use Rattle.review_roots.specs.States.{state_with};
 ghost use Rattle.review_roots.specs.Ways.{IsWay};
-ghost use Rattle.review_roots.specs.Body.Found.{AreChains, AreStarts, ChainsLead, IsFoundAt, IsFreeAt};
+ghost use Rattle.review_roots.specs.Body.Found.{AreChains, AreStarts, ChainsLead, IsAsked, IsFoundAt, IsGoodAt};
 ghost use Rattle.review_roots.specs.Roots.{AreRoots, IsRootAt, IsNoRoot, has_zero};
 ghost use Rattle.review_roots.specs.declared.level.Level.{Level as TheLevel};
 
 use crate::Level;
 use crate::host::HostSteps;
-use crate::search::{Chains, search};
+use crate::search::{Chains, Found, search};
 use crate::starts::start_at;
 use crate::way::{Way, way_of};
 use std::alloc::{AllocError, Global};
@@ -32,18 +32,40 @@ fn has_zero(steps: &HostSteps<'_, '_>, user: usize) -> bool
     }
 }
 
-// Returns the index of the user among the states that chains without passwords lead from, if one of them has the level or a
-// better one.
-fn free_index(chains: &Chains, user: usize, level: Level) -> Option<usize>
-    requires starts { AreStarts chains.now.free.items chains.now.free_starts.items }
-    requires known { user < length chains.now.free_starts.items }
-    ensures { IsFreeAt chains.now.free.items user level result }
+// Returns the index of the user without an added group among the found states, if its chain has the level or a better one.
+fn good_index(found: &[Found], starts: &[Option<usize>], user: usize, level: Level) -> Option<usize>
+    requires starts { AreStarts found.now starts.now }
+    requires known { user < length starts.now }
+    ensures { IsGoodAt found.now user level result }
 {
-    let index = start_at(&chains.free_starts, user)?;
-    if chains.free[index].level.is_at_least(level) {
+    let index = start_at(starts, user)?;
+    if found[index].level.is_at_least(level) {
         Some(index)
     } else {
         None
+    }
+}
+
+// Returns the chain of a found state that is the user without an added group, where no chain of its level asks for no password:
+// one whose steps may go without, if one has its level.
+fn asked_way(
+    alloc: Global,
+    steps: &HostSteps<'_, '_>,
+    target: usize,
+    chains: &Chains,
+    user: usize,
+    index: usize,
+) -> Result<Way, AllocError>
+    requires chains { AreChains (length steps.now.directory.now.people) chains.now }
+    requires known { user < length steps.now.directory.now.people }
+    requires start { IsFoundAt chains.now.any.items user (Some index) }
+    ensures { IfOk result (λ way. (least : TheLevel) → ChainsLead steps.now target least chains.now
+        → IsAsked chains.now user index → IsWay steps.now target least (state_with None user) way) }
+{
+    let level = chains.any[index].level;
+    match good_index(&chains.unasked, &chains.unasked_starts, user, level) {
+        Some(index) => way_of(alloc, steps, &chains.unasked, index),
+        None => way_of(alloc, steps, &chains.any, index),
     }
 }
 
@@ -62,9 +84,10 @@ fn best_way(
     ensures { IfOk result (λ way. (least : TheLevel) → ChainsLead steps.now target least chains.now
         → IsWay steps.now target least (state_with None user) way) }
 {
-    match free_index(chains, user, chains.any[index].level) {
+    let level = chains.any[index].level;
+    match good_index(&chains.free, &chains.free_starts, user, level) {
         Some(index) => way_of(alloc, steps, &chains.free, index),
-        None => way_of(alloc, steps, &chains.any, index),
+        None => asked_way(alloc, steps, target, chains, user, index),
     }
 }
 
@@ -98,8 +121,9 @@ fn root_of(
 /// Returns the users that can become the target on the host, in the order of the directory: the target itself, all with ID 0,
 /// and those from whom a chain of steps of the least level of the steps, or a better one, leads to it.
 ///
-/// The chain that is given has the best level of all from the user, however long; and it asks for no password, if one of that
-/// level does not. From a user that is not among them no chain of the least level leads to the target, however long.
+/// The chain that is given has the best level of all from the user, however long. It asks for no password, if one of that level does
+/// not; otherwise its steps may go without, if those of one of that level may. From a user that is not among them no chain of the
+/// least level leads to the target, however long.
 ///
 /// Returns `AllocError` if allocation fails.
 pub fn roots_on(

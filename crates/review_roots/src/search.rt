@@ -1,6 +1,6 @@
 //! The search for the states that lead to a target: back from the target, level by level.
 ghost use Rattle.std.specs.Prelude.{◌≡◌, ◌++◌, ◌==◌, IfOk, OnOk, IsTrue, All, filter, length, map, not};
-ghost use Rattle.review_roots.specs.Sought.{any_steps, free_steps, steps_of};
+ghost use Rattle.review_roots.specs.Sought.{any_steps, free_steps, unasked_steps, steps_of};
 ghost use Rattle.review_roots.specs.Body.Candidates.{is_heard, states_of};
 ghost use Rattle.review_roots.specs.Body.Found.{AreChains, AreFound, HaveNoPath, IsCandidate, IsSearch, IsStartOf};
 ghost use Rattle.review_roots.specs.Body.Found.{found_by, found_there, reaches};
@@ -9,6 +9,7 @@ ghost use Rattle.review_roots.specs.Ranks.{is_at_least};
 
 use crate::Level;
 use crate::candidate::Candidate;
+use crate::given::Counted;
 use crate::host::HostSteps;
 use crate::starts::starts_of;
 use crate::state::{State, all_states};
@@ -24,31 +25,32 @@ pub(crate) struct Found {
     pub(crate) next: Option<usize>,
 }
 
-/// What is sought: steps to the target, all of them, or only those that ask for no password.
+/// What is sought: the steps to the target that count.
 #[derive(Clone, Copy)]
 pub(crate) struct Sought {
     pub(crate) target: usize,
-    pub(crate) free: bool,
+    pub(crate) counted: Counted,
 }
 
-/// The states from which chains lead to a target: by any steps, and by steps that ask for no password; and where each user is
-/// among them.
+/// The states from which chains lead to a target: by any steps, by steps that may go without a password, and by steps that ask for
+/// none; and where each user is among them.
 #[derive(Drop)]
 pub(crate) struct Chains {
     pub(crate) any: Vec<Found>,
     pub(crate) any_starts: Vec<Option<usize>>,
+    pub(crate) unasked: Vec<Found>,
+    pub(crate) unasked_starts: Vec<Option<usize>>,
     pub(crate) free: Vec<Found>,
     pub(crate) free_starts: Vec<Option<usize>>,
 }
 
-// A found state to which steps are sought: its index, the state, the level of the steps, and whether they must not ask for
-// a password.
+// A found state to which steps are sought: its index, the state, the level of the steps, and which of them count.
 #[derive(Clone, Copy)]
 struct Aim {
     index: usize,
     state: State,
     level: Level,
-    free: bool,
+    counted: Counted,
 }
 
 // Whether the step of the candidate to the state has the level or a better one.
@@ -64,7 +66,7 @@ fn reaches(steps: &HostSteps<'_, '_>, aim: Aim, toward: &Toward, candidate: &Can
         return false;
     }
     let given = steps.step_toward(candidate, toward);
-    given.level_for(aim.free).is_at_least(aim.level)
+    given.level_for(aim.counted).is_at_least(aim.level)
 }
 
 // Moves the candidates with a step to the aim to those that are found, and returns the others.
@@ -151,7 +153,7 @@ fn spread<'c>(
             index,
             state: found[index].state,
             level,
-            free: sought.free,
+            counted: sought.counted,
         };
         left = draw_to(alloc, steps, aim, &left, found)?;
         index += 1;
@@ -226,8 +228,24 @@ fn search_levels(
     }
 }
 
+// Returns the states from which a chain of the steps that count, of the least level or a better one, leads to the target, each
+// with the best level of such a chain.
+fn found_of(
+    alloc: Global,
+    steps: &HostSteps<'_, '_>,
+    sought: Sought,
+) -> Result<Vec<Found>, AllocError>
+    ensures { IfOk result (λ found. AreFound (steps_of steps.now sought) steps.now.least
+        found.items) }
+{
+    let mut found = found_at(alloc, steps, sought.target)?;
+    let left = heard(alloc, steps, sought.target)?;
+    search_levels(alloc, steps, sought, left, &mut found)?;
+    Ok(found)
+}
+
 /// Returns the states from which a chain of steps of the least level, or a better one, leads to the target, each with the best
-/// level of such a chain; and the same of chains whose steps ask for no password.
+/// level of such a chain; the same of chains whose steps may go without a password, and of chains whose steps ask for none.
 ///
 /// Returns `AllocError` if allocation fails.
 pub(crate) fn search(
@@ -237,28 +255,46 @@ pub(crate) fn search(
 ) -> Result<Chains, AllocError>
     ensures any { IfOk result (λ chains. AreFound (any_steps steps.now target) steps.now.least
         chains.any.items) }
+    ensures unasked { IfOk result (λ chains. AreFound (unasked_steps steps.now target)
+        steps.now.least chains.unasked.items) }
     ensures free { IfOk result (λ chains. AreFound (free_steps steps.now target)
         steps.now.least chains.free.items) }
     ensures chains { IfOk result (λ chains. AreChains (length steps.now.directory.now.people)
         chains) }
 {
-    let mut any = found_at(alloc, steps, target)?;
-    let mut free = Vec::from_slice(alloc, &any)?;
-    let sought = Sought {
-        target,
-        free: false,
-    };
-    let left = heard(alloc, steps, target)?;
-    search_levels(alloc, steps, sought, left, &mut any)?;
-    let sought = Sought { target, free: true };
-    let left = heard(alloc, steps, target)?;
-    search_levels(alloc, steps, sought, left, &mut free)?;
+    let any = found_of(
+        alloc,
+        steps,
+        Sought {
+            target,
+            counted: Counted::Any,
+        },
+    )?;
+    let unasked = found_of(
+        alloc,
+        steps,
+        Sought {
+            target,
+            counted: Counted::Unasked,
+        },
+    )?;
+    let free = found_of(
+        alloc,
+        steps,
+        Sought {
+            target,
+            counted: Counted::Free,
+        },
+    )?;
     let users = steps.directory.people().len();
     let any_starts = starts_of(alloc, users, &any)?;
+    let unasked_starts = starts_of(alloc, users, &unasked)?;
     let free_starts = starts_of(alloc, users, &free)?;
     Ok(Chains {
         any,
         any_starts,
+        unasked,
+        unasked_starts,
         free,
         free_starts,
     })

@@ -1,5 +1,5 @@
 //! What the steps of users on one host give.
-ghost use Rattle.std.specs.Prelude.{◌≡◌, ◌&&◌, Bool, IfOk, None, Some, false, true, flat_map, option_copied, slice_get};
+ghost use Rattle.std.specs.Prelude.{◌≡◌, ◌&&◌, IfOk, None, Some, false, true, flat_map, option_copied, slice_get};
 ghost use Rattle.std.specs.Borrow.{Bor};
 ghost use Rattle.std.specs.List.{list_any, slice_index_or};
 ghost use Rattle.sudo_verdict.specs.Questions.{question_as};
@@ -12,6 +12,7 @@ ghost use Rattle.review_roots.specs.Body.Towards.{IsToward};
 ghost use Rattle.review_roots.specs.Ranks.{is_at_least};
 ghost use Rattle.review_roots.specs.States.{level_for, person_of, step_given};
 ghost use Rattle.review_roots.specs.declared.candidate.Candidate.{Candidate as TheCandidate};
+ghost use Rattle.review_roots.specs.declared.given.Counted.{Counted as TheCounted};
 ghost use Rattle.review_roots.specs.declared.level.Level.{Level as TheLevel};
 
 use crate::candidate::{Candidate, candidate_at, is_same_user};
@@ -255,8 +256,8 @@ impl<'r, 'a> HostSteps<'r, 'a> {
         requires candidate { IsCandidate self.now candidate.now }
         requires toward { IsToward self.now.checked.now self.now.directory.now self.now.groups.now
             self.now.blocks.now toward.now.state toward.now }
-        ensures { result ≡ true → (free : Bool) (l : TheLevel)
-            → is_at_least self.now.least l ≡ true → is_at_least l (level_for free (step_given
+        ensures { result ≡ true → (k : TheCounted) (l : TheLevel)
+            → is_at_least self.now.least l ≡ true → is_at_least l (level_for k (step_given
             self.now.checked.now self.now.directory.now self.now.host.now self.now.groups.now
             candidate.now.state toward.now.state)) ≡ false }
     {

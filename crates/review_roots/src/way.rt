@@ -12,7 +12,7 @@ ghost use Rattle.review_roots.specs.declared.search.Sought.{Sought as TheSought}
 ghost use Rattle.review_roots.specs.declared.state.State.{State as TheState};
 
 use crate::Level;
-use crate::given::AllowingRow;
+use crate::given::{AllowingRow, Given};
 use crate::host::HostSteps;
 use crate::search::Found;
 use crate::state::State;
@@ -23,6 +23,8 @@ use std::alloc::{AllocError, Global};
 pub enum Password {
     /// Nobody's.
     None,
+    /// Perhaps one: each step allows a command that may go without.
+    Maybe,
     /// That of the user with whom the chain begins, and no other.
     Own,
     /// That of another user.
@@ -49,17 +51,20 @@ impl Password {
     {
         match self {
             Password::None => b"none",
+            Password::Maybe => b"?",
             Password::Own => b"own",
             Password::Other => b"other",
         }
     }
 
-    // Returns the worse of the two: another user's password, then one's own.
+    // Returns the worse of the two: another user's password, then one's own, then perhaps one.
     fn worse(self, other: Password) -> Password
         ensures { result ≡ worse self other }
     {
         match (self, other) {
             (Password::None, _) => other,
+            (Password::Maybe, Password::None) => Password::Maybe,
+            (Password::Maybe, _) => other,
             (Password::Other, _) | (Password::Own, Password::Other) => Password::Other,
             (Password::Own, _) => Password::Own,
         }
@@ -85,11 +90,13 @@ fn chain_of(alloc: Global, found: &[Found], index: usize) -> Result<Vec<State>, 
 }
 
 // Returns whose password the step of a chain asks for that begins with a user.
-fn step_password(free: bool, user: usize, from: State) -> Password
-    ensures { result ≡ step_password free user from }
+fn step_password(given: Given, user: usize, from: State) -> Password
+    ensures { result ≡ step_password given user from }
 {
-    if free {
+    if given.free {
         Password::None
+    } else if given.unasked {
+        Password::Maybe
     } else if from.user == user {
         Password::Own
     } else {
@@ -112,7 +119,7 @@ fn password_along(
     let mut from = start;
     for to in chain {
         let given = steps.between(alloc, from, *to)?;
-        password = password.worse(step_password(given.free, user, from));
+        password = password.worse(step_password(given, user, from));
         from = *to;
     }
     Ok(password)
@@ -139,7 +146,7 @@ fn asked_from(
     let password = password_along(alloc, steps, start.user, to, behind)?;
     Ok(Asked {
         by: given.by,
-        password: step_password(given.free, start.user, start).worse(password),
+        password: step_password(given, start.user, start).worse(password),
     })
 }
 

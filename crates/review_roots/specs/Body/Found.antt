@@ -12,7 +12,7 @@ use Rattle.review_roots.specs.declared.search.Found.{Found}
 use Rattle.review_roots.specs.declared.search.Sought.{Sought}
 use Rattle.review_roots.specs.declared.state.State.{State}
 use Rattle.review_roots.specs.Body.Candidates.{Qualifies, states_of}
-use Rattle.review_roots.specs.Sought.{any_steps, free_steps, steps_of}
+use Rattle.review_roots.specs.Sought.{any_steps, free_steps, unasked_steps, steps_of}
 use Rattle.review_roots.specs.Chains.{Steps, HasPath, HasNoPath}
 use Rattle.review_roots.specs.Ranks.{rank, is_at_least}
 use Rattle.review_roots.specs.States.{level_for, step_given}
@@ -81,28 +81,37 @@ AreStartsBefore found n starts = (user : ℕ) → user < length starts → IsFou
 abbrev pub with_start : List (Option ℕ) → State → ℕ → List (Option ℕ)
 with_start starts s i = if not (is_some s.added) && nat_lt s.user (length starts) then set starts s.user (Some i) else starts
 
--- the first steps of both lists lead back, and both have an index for each user
+-- the first steps of each list lead back, and each has an index for each user
 pub record AreChains (users : ℕ) (c : Chains) : Type 0 where
   pub any : PointBack c.any.items
   pub any_starts : AreStarts c.any.items c.any_starts.items
   pub any_users : length c.any_starts.items ≡ users
+  pub unasked : PointBack c.unasked.items
+  pub unasked_starts : AreStarts c.unasked.items c.unasked_starts.items
+  pub unasked_users : length c.unasked_starts.items ≡ users
   pub free : PointBack c.free.items
   pub free_starts : AreStarts c.free.items c.free_starts.items
   pub free_users : length c.free_starts.items ≡ users
 
--- the chains to a target, by any steps, and by steps that ask for no password
+-- the chains to a target, by any steps, by steps that may go without a password, and by steps that ask for none
 pub record ChainsLead (h : HostSteps) (target : ℕ) (l : Level) (c : Chains) : Type 0 where
   pub level : is_at_least level.Listed l ≡ true
   pub any : AreFound (any_steps h target) l c.any.items
+  pub unasked : AreFound (unasked_steps h target) l c.unasked.items
   pub free : AreFound (free_steps h target) l c.free.items
 
 -- the same of a found state with the level or a better one; without an index, one without an added group has a worse level
-abbrev pub IsFreeAt : List Found → ℕ → Level → Option ℕ → Type 0
-IsFreeAt found user l None =
+abbrev pub IsGoodAt : List Found → ℕ → Level → Option ℕ → Type 0
+IsGoodAt found user l None =
     All (λ f. is_start user f.state ≡ false) found
     ⊎ ((i : ℕ) × ((f : Found) × ((slice_get found i ≡ Some f) × ((is_start user f.state ≡ true) × (is_at_least l f.level ≡ false)))))
-IsFreeAt found user l (Some i) =
+IsGoodAt found user l (Some i) =
     (f : Found) × ((slice_get found i ≡ Some f) × ((is_start user f.state ≡ true) × (is_at_least l f.level ≡ true)))
+
+-- where the found state at the index is the user's, no chain of its level asks for no password
+abbrev pub IsAsked : Chains → ℕ → ℕ → Type 0
+IsAsked c user index =
+    (f : Found) → slice_get c.any.items index ≡ Some f → IsGoodAt c.free.items user f.level None
 
 -- ---- While a search goes on: what is found, and the states that are left
 
@@ -135,7 +144,7 @@ IsCandidate h c = Qualifies h.checked.now h.directory.now h.groups.now h.least h
 -- the step of the candidate to the aim has its level or a better one
 abbrev pub reaches : HostSteps → Aim → Candidate → Bool
 reaches h aim c =
-    is_at_least aim.level (level_for aim.free (step_given h.checked.now h.directory.now h.host.now h.groups.now c.state aim.state))
+    is_at_least aim.level (level_for aim.counted (step_given h.checked.now h.directory.now h.host.now h.groups.now c.state aim.state))
 
 abbrev pub found_by : Aim → Candidate → Found
 found_by aim c = record { state = c.state; level = aim.level; next = Some aim.index }

@@ -19,6 +19,7 @@ loop-user-preserved c =
     let lead : ChainsLead h target least c.in_ok-chains.chains = record {
       level = h.listed;
       any = c.in_ok-chains.ensures.any;
+      unasked = c.in_ok-chains.ensures.unasked;
       free = c.in_ok-chains.ensures.free;
     } in
     let is = c.in_ok-root.ensures least lead in
