@@ -127,7 +127,7 @@ def _include_escape(aim: Aim) -> Aimed:
         (
             ('"m\\x6fre"', (("more", rule),)),
             ('"mo\\re"', (("more", rule),)),
-            (f"{TOP}/m\\x6fre", (("more", rule), ("mx6fre", other))),
+            (f"{aim.pick('', f'{TOP}/')}m\\x6fre", (("more", rule), ("mx6fre", other))),
             (f"{TOP}/\\%h", (("%h", rule), (aim.short(), other))),
         )
     )

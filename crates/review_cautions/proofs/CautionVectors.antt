@@ -73,7 +73,7 @@ group = refl
 
 -- a backslash before `%` or `x` in the path of an include line, or beside double quotes; none, and one before a comma
 include_escape : text_cautions IncludeEscape ((codes "@include /x/a\\%h" ++ 10 ∷ codes "@include /x/a" ++ 10
-    ∷ codes "@include /x/a\\,b" ++ 10 ∷ codes "@include /x/a\\x62" ++ 10 ∷ codes "@include \"a\\,b\"" ++ 10
+    ∷ codes "@include /x/a\\,b" ++ 10 ∷ codes "@include a\\x62" ++ 10 ∷ codes "@include \"a\\,b\"" ++ 10
     ∷ codes "alice ALL = /bin/ls a\\%b") ∷ [])
     ≡ caution_at IncludeEscape (place 0 1) ∷ caution_at IncludeEscape (place 0 4) ∷ caution_at IncludeEscape (place 0 5) ∷ []
 include_escape = refl

@@ -1,3 +1,4 @@
 pub mod Naming
 pub mod LineSteps
 pub mod CautionVectors
+pub mod MarkLaws

@@ -3,6 +3,7 @@ pub mod PhysicalLines
 pub mod Brackets
 pub mod Escapes
 pub mod Addresses
+pub mod Marks
 pub mod ListTests
 pub mod EntryTests
 pub mod Parameters

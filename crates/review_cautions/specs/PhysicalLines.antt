@@ -103,10 +103,10 @@ has_escape_of byte behind [] = false
 has_escape_of byte behind (b ∷ bs) = (behind && (b == byte)) || has_escape_of byte (b == 92) bs
 
 -- the line has a backslash and a double quote, between two of which sudo keeps backslashes; or a backslash before `x`,
--- which in a path with a slash stands for itself here, and begins a byte for sudo; or one before `%`
+-- which stands for itself here, and begins a byte for sudo; or one before `%`
 abbrev pub has_path_escape : List ℕ → Bool
 has_path_escape line = (list_any (λ b. b == 92) line && list_any (λ b. b == 34) line)
-    || (has_slash line && has_escape_of 120 false line) || has_escape_of 37 false line
+    || has_escape_of 120 false line || has_escape_of 37 false line
 
 -- a line that continues no other is an include line with such a backslash; the line is given as the reader joins it
 abbrev pub is_escaped_include : Bool → List ℕ → Bool

@@ -7,7 +7,8 @@ use crate::defaults::push_defaults;
 use crate::entries::push_entries;
 use crate::lines::push_texts;
 use crate::link::usual_links;
-use crate::lists::{push_linked, push_lists};
+use crate::lists::{push_class, push_linked};
+use crate::marks::marked_lists;
 use crate::unknown::push_unknown;
 use crate::{Caution, CautionClass, Link};
 use std::alloc::{AllocError, Global};
@@ -38,6 +39,7 @@ pub fn cautions_by_links(
 {
     let written = lists(alloc, policy)?;
     let lists = written.as_slice();
+    let marked = marked_lists(alloc, lists)?;
     let entries = policy.entries.as_slice();
     let mut found = Vec::new(alloc);
     push_texts(alloc, CautionClass::Return, texts, &mut found)?;
@@ -46,17 +48,23 @@ pub fn cautions_by_links(
     push_texts(alloc, CautionClass::TornMark, texts, &mut found)?;
     push_texts(alloc, CautionClass::IncludeEscape, texts, &mut found)?;
     push_texts(alloc, CautionClass::IncludeIndent, texts, &mut found)?;
-    push_lists(alloc, CautionClass::Caret, lists, &mut found)?;
-    push_lists(alloc, CautionClass::Escape, lists, &mut found)?;
-    push_lists(alloc, CautionClass::Case, lists, &mut found)?;
-    push_lists(alloc, CautionClass::QuotedHost, lists, &mut found)?;
-    push_lists(alloc, CautionClass::QuotedEscape, lists, &mut found)?;
+    push_class(alloc, CautionClass::Caret, lists, &marked, &mut found)?;
+    push_class(alloc, CautionClass::Escape, lists, &marked, &mut found)?;
+    push_class(alloc, CautionClass::Case, lists, &marked, &mut found)?;
+    push_class(alloc, CautionClass::QuotedHost, lists, &marked, &mut found)?;
+    push_class(
+        alloc,
+        CautionClass::QuotedEscape,
+        lists,
+        &marked,
+        &mut found,
+    )?;
     push_linked(alloc, links, lists, &mut found)?;
     push_defaults(alloc, entries, &mut found)?;
     push_unknown(alloc, entries, &mut found)?;
-    push_lists(alloc, CautionClass::Sudoedit, lists, &mut found)?;
-    push_lists(alloc, CautionClass::Network, lists, &mut found)?;
-    push_lists(alloc, CautionClass::Bracket, lists, &mut found)?;
+    push_class(alloc, CautionClass::Sudoedit, lists, &marked, &mut found)?;
+    push_class(alloc, CautionClass::Network, lists, &marked, &mut found)?;
+    push_class(alloc, CautionClass::Bracket, lists, &marked, &mut found)?;
     push_entries(alloc, CautionClass::Setenv, entries, &mut found)?;
     push_entries(alloc, CautionClass::GroupForm, entries, &mut found)?;
     Ok(found)

@@ -82,8 +82,8 @@ fn begins_with(byte: u8, chars: &[Ch]) -> bool
     }
 }
 
-// Whether a path is longer than `sudoedit`, and begins with no slash.
-fn is_long_sudoedit(path: &[Ch]) -> bool
+/// Whether a path is longer than `sudoedit`, and begins with no slash.
+pub(crate) fn is_long_sudoedit(path: &[Ch]) -> bool
     ensures { result ≡ spec.is_long_sudoedit path.now }
 {
     path.len() > 8 && !begins_with(b'/', path)

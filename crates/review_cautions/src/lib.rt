@@ -16,6 +16,7 @@ mod joins;
 mod lines;
 mod link;
 mod lists;
+mod marks;
 mod passwords;
 mod unknown;
 

@@ -104,7 +104,7 @@ fn has_path_escape(line: &[u8]) -> bool
     ensures { result ≡ spec.has_path_escape line.now }
 {
     (has_byte(b'\\', line) && has_byte(b'"', line))
-        || (has_slash(line) && has_escape_of(b'x', line))
+        || has_escape_of(b'x', line)
         || has_escape_of(b'%', line)
 }
 

@@ -1,6 +1,7 @@
 //! Cautions on the lists of a policy.
 ghost use Rattle.std.specs.Prelude.{◌≡◌, ◌++◌, ◌∷◌, [], OnOk, map, false};
-ghost use Rattle.std.specs.List.{list_any};
+ghost use Rattle.std.specs.List.{filter, list_any};
+ghost use Rattle.review_cautions.specs.Marks.{list_is_marked};
 ghost use Rattle.sudo_grammar.specs.Words.{is_upper};
 ghost use Rattle.sudo_policy.specs.Definitions.{list_view};
 ghost use Rattle.review_cautions.specs.ListTests as spec;
@@ -10,6 +11,7 @@ use crate::addresses::has_other_address;
 use crate::brackets::{atom_has_caret, atom_has_other_bracket};
 use crate::bytes::spells;
 use crate::escapes::{has_other_escape, has_quoted_escape, has_quoted_mark};
+use crate::marks::needs_mark;
 use crate::{Caution, CautionClass, Link};
 use std::alloc::{AllocError, Global};
 use sudo_policy::{Atom, Kind, Member, MemberList};
@@ -192,8 +194,27 @@ fn push_caution(
     Ok(())
 }
 
-/// Appends the cautions of a class on lists, one for each line.
-pub(crate) fn push_lists(
+/// Appends the cautions of a class on lists, one for each line, where `marked` are those with marks among them.
+pub(crate) fn push_class(
+    alloc: Global,
+    class: CautionClass,
+    lists: &[MemberList<'_>],
+    marked: &[MemberList<'_>],
+    found: &mut Vec<Caution>,
+) -> Result<(), AllocError>
+    requires { map list_view marked.now ≡ filter list_is_marked (map list_view lists.now) }
+    ensures { OnOk result (found.new.items ≡ found.old.items
+        ++ cautions.list_cautions class (map list_view lists.now)) }
+{
+    if needs_mark(class) {
+        push_lists(alloc, class, marked, found)
+    } else {
+        push_lists(alloc, class, lists, found)
+    }
+}
+
+// Appends the cautions of a class on lists, one for each line.
+fn push_lists(
     alloc: Global,
     class: CautionClass,
     lists: &[MemberList<'_>],
