@@ -6,7 +6,7 @@ use std::alloc::{AllocError, Global};
 use sudo_text::Seq;
 
 /// The kind of an entry that is no symbolic link.
-#[derive(Clone, Copy, Debug, PartialEq, Eq)]
+#[derive(Clone, Copy)]
 pub enum Kind {
     /// A folder.
     Folder,
@@ -17,7 +17,7 @@ pub enum Kind {
 }
 
 /// What is at a path. A symbolic link at its end is not followed.
-#[derive(Debug, Drop)]
+#[derive(Drop)]
 pub enum Entry {
     /// Nothing.
     Absent,

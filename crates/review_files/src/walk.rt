@@ -5,7 +5,7 @@ use run_base::Obstacle;
 use sudo_text::Seq;
 
 /// A walk below a folder, towards a path.
-#[derive(Debug, Drop)]
+#[derive(Drop)]
 pub(crate) struct Walk {
     /// The names of the folders that were entered and not left.
     pub(crate) names: Seq<Seq<u8>>,
@@ -16,7 +16,7 @@ pub(crate) struct Walk {
 }
 
 /// Where a path leads.
-#[derive(Debug, Drop)]
+#[derive(Drop)]
 pub(crate) enum Outcome {
     /// To an entry of this kind, which has these names below the folder.
     At(Seq<Seq<u8>>, Kind),
@@ -27,7 +27,7 @@ pub(crate) enum Outcome {
 }
 
 /// What a step of a walk makes.
-#[derive(Debug, Drop)]
+#[derive(Drop)]
 pub(crate) enum Step {
     /// The walk goes on.
     On(Walk),

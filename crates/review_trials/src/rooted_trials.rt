@@ -1,5 +1,7 @@
 //! Files below the folder `/r` of a tree over memory, which follows no link: what a path leads to there is read, and nothing
 //! else is looked at.
+//!
+//! Each line of a table has a path, ` =>`, and the text of the file or the names of the folder; or why there are none, after `!`.
 
 use review_files::{Entry, Kind, Rooted, Tree};
 use run_base::{Files, FilesFault, Obstacle};
@@ -116,16 +118,16 @@ fn files(alloc: Global) -> Result<Rooted<Grove>, AllocError> {
 fn push_fault(line: &mut Seq<u8>, fault: &FilesFault) -> Result<(), AllocError> {
     match fault {
         FilesFault::Failed(Obstacle::LeadsOut(folder)) => {
-            line.extend_from_slice(b"!out of ")?;
+            line.extend_from_slice(b" !out of ")?;
             line.extend_from_slice(folder.as_slice())
         }
-        FilesFault::Failed(Obstacle::TooManyLinks) => line.extend_from_slice(b"!links"),
-        FilesFault::Failed(Obstacle::IsFolder) => line.extend_from_slice(b"!folder"),
-        FilesFault::Failed(Obstacle::NotFolder) => line.extend_from_slice(b"!no folder"),
-        FilesFault::Failed(Obstacle::NotFile) => line.extend_from_slice(b"!no file"),
-        FilesFault::Failed(Obstacle::PermissionDenied) => line.extend_from_slice(b"!denied"),
-        FilesFault::Failed(Obstacle::Other) => line.extend_from_slice(b"!other"),
-        _ => line.extend_from_slice(b"!"),
+        FilesFault::Failed(Obstacle::TooManyLinks) => line.extend_from_slice(b" !links"),
+        FilesFault::Failed(Obstacle::IsFolder) => line.extend_from_slice(b" !folder"),
+        FilesFault::Failed(Obstacle::NotFolder) => line.extend_from_slice(b" !no folder"),
+        FilesFault::Failed(Obstacle::NotFile) => line.extend_from_slice(b" !no file"),
+        FilesFault::Failed(Obstacle::PermissionDenied) => line.extend_from_slice(b" !denied"),
+        FilesFault::Failed(Obstacle::Other) => line.extend_from_slice(b" !other"),
+        _ => line.extend_from_slice(b" !"),
     }
 }
 
@@ -133,8 +135,11 @@ fn push_fault(line: &mut Seq<u8>, fault: &FilesFault) -> Result<(), AllocError> 
 fn file_shown(alloc: Global, path: &[u8]) -> Result<Seq<u8>, AllocError> {
     let mut line = Seq::new(alloc);
     match files(alloc)?.file(alloc, path) {
-        Ok(Some(text)) => line.extend_from_slice(text.as_slice())?,
-        Ok(None) => line.extend_from_slice(b"none")?,
+        Ok(Some(text)) => {
+            line.push(b' ')?;
+            line.extend_from_slice(text.as_slice())?;
+        }
+        Ok(None) => line.extend_from_slice(b" none")?,
         Err(fault) => push_fault(&mut line, &fault)?,
     }
     Ok(line)
@@ -146,8 +151,8 @@ fn folder_shown(alloc: Global, path: &[u8]) -> Result<Seq<u8>, AllocError> {
     match files(alloc)?.folder(alloc, path) {
         Ok(names) => {
             for name in &names {
-                line.extend_from_slice(name.as_slice())?;
                 line.push(b' ')?;
+                line.extend_from_slice(name.as_slice())?;
             }
         }
         Err(fault) => push_fault(&mut line, &fault)?,
@@ -155,20 +160,23 @@ fn folder_shown(alloc: Global, path: &[u8]) -> Result<Seq<u8>, AllocError> {
     Ok(line)
 }
 
-// Whether the file at each path is shown as the text beside it.
-fn are_files(alloc: Global, rows: &[(&str, &str)]) -> Result<bool, AllocError> {
-    for (path, wanted) in rows {
-        if file_shown(alloc, path.as_bytes())?.as_slice() != wanted.as_bytes() {
-            return Ok(false);
-        }
-    }
-    Ok(true)
+// Whether a line of a table has the text of its file, or else the names of its folder.
+fn is_shown(alloc: Global, row: &str, is_folder: bool) -> Result<bool, AllocError> {
+    let Some((path, wanted)) = row.split_once(" =>") else {
+        return Ok(false);
+    };
+    let shown = if is_folder {
+        folder_shown(alloc, path.as_bytes())?
+    } else {
+        file_shown(alloc, path.as_bytes())?
+    };
+    Ok(shown.as_slice() == wanted.as_bytes())
 }
 
-// Whether the folder at each path is shown as the text beside it.
-fn are_folders(alloc: Global, rows: &[(&str, &str)]) -> Result<bool, AllocError> {
-    for (path, wanted) in rows {
-        if folder_shown(alloc, path.as_bytes())?.as_slice() != wanted.as_bytes() {
+// Whether each line of a table has what its path leads to, as files or as folders.
+fn are_shown(alloc: Global, table: &str, are_folders: bool) -> Result<bool, AllocError> {
+    for row in table.lines() {
+        if !is_shown(alloc, row, are_folders)? {
             return Ok(false);
         }
     }
@@ -176,76 +184,65 @@ fn are_folders(alloc: Global, rows: &[(&str, &str)]) -> Result<bool, AllocError>
 }
 
 #[test]
-fn paths_begin_at_the_folder(rt: HostRuntime) -> Result<(), Fail> {
-    let rows = [
-        ("/etc/sudoers", "main"),
-        ("etc/sudoers", "main"),
-        ("//etc/.//sudoers", "main"),
-        ("/etc/d/../sudoers", "main"),
-        ("/dot.", "dot"),
-        ("/../etc/sudoers", "!out of /r"),
-        ("/etc/../../r/etc/sudoers", "!out of /r"),
-        ("/none", "none"),
-        ("/none/../etc/sudoers", "none"),
-        ("", "none"),
-    ];
-    assert!(rt; are_files(rt.alloc(), &rows)?);
-    Ok(())
-}
-
-#[test]
-fn links_stay_below_the_folder(rt: HostRuntime) -> Result<(), Fail> {
-    let rows = [
-        ("/etc/absolute", "main"),
-        ("/etc/relative", "main"),
-        ("/etc/above", "main"),
-        ("/etc/twice", "main"),
-        ("/conf/sudoers", "main"),
-        ("/conf/../conf/d/web", "web"),
-        ("/down/web", "web"),
-        ("/down/../absolute", "main"),
-        ("/etc/top", "!out of /r"),
-        ("/etc/out", "!out of /r"),
-        ("/etc/d/up/d/up/sudoers", "main"),
-        ("/etc/loop", "!links"),
-        ("/etc/nowhere", "none"),
-    ];
-    assert!(rt; are_files(rt.alloc(), &rows)?);
+fn paths_and_links_begin_at_the_folder(rt: HostRuntime) -> Result<(), Fail> {
+    let table = "\
+/etc/sudoers => main
+etc/sudoers => main
+//etc/.//sudoers => main
+/etc/d/../sudoers => main
+/dot. => dot
+/../etc/sudoers => !out of /r
+/etc/../../r/etc/sudoers => !out of /r
+/none => none
+/none/../etc/sudoers => none
+ => none
+/etc/absolute => main
+/etc/relative => main
+/etc/above => main
+/etc/twice => main
+/conf/sudoers => main
+/conf/../conf/d/web => web
+/down/web => web
+/down/../absolute => main
+/etc/top => !out of /r
+/etc/out => !out of /r
+/etc/d/up/d/up/sudoers => main
+/etc/loop => !links
+/etc/nowhere => none";
+    assert!(rt; are_shown(rt.alloc(), table, false)?);
     Ok(())
 }
 
 #[test]
 fn regular_files_alone_are_read(rt: HostRuntime) -> Result<(), Fail> {
-    let rows = [
-        ("/", "!folder"),
-        ("/etc", "!folder"),
-        ("/conf", "!folder"),
-        ("/etc/sudoers/", "!no folder"),
-        ("/etc/absolute/", "!no folder"),
-        ("/etc/sudoers/x", "!no folder"),
-        ("/etc/sudoers/..", "!no folder"),
-        ("/etc/d/pipe", "!no file"),
-        ("/etc/d/denied", "!denied"),
-        ("/etc/d/denied/x", "!denied"),
-    ];
-    assert!(rt; are_files(rt.alloc(), &rows)?);
+    let table = "\
+/ => !folder
+/etc => !folder
+/conf => !folder
+/etc/sudoers/ => !no folder
+/etc/absolute/ => !no folder
+/etc/sudoers/x => !no folder
+/etc/sudoers/.. => !no folder
+/etc/d/pipe => !no file
+/etc/d/denied => !denied
+/etc/d/denied/x => !denied";
+    assert!(rt; are_shown(rt.alloc(), table, false)?);
     Ok(())
 }
 
 #[test]
 fn folders_list_what_may_be_files(rt: HostRuntime) -> Result<(), Fail> {
-    let rows = [
-        ("/etc/d", "web linked out denied "),
-        ("/etc/d/", "web linked out denied "),
-        ("conf/d", "web linked out denied "),
-        ("/", "dot. "),
-        ("/none", ""),
-        ("/etc/sudoers", "!no folder"),
-        ("/etc/d/pipe", "!no folder"),
-        ("/etc/d/out", "!out of /r"),
-        ("/etc/loop", "!links"),
-    ];
-    assert!(rt; are_folders(rt.alloc(), &rows)?);
+    let table = "\
+/etc/d => web linked out denied
+/etc/d/ => web linked out denied
+conf/d => web linked out denied
+/ => dot.
+/none =>
+/etc/sudoers => !no folder
+/etc/d/pipe => !no folder
+/etc/d/out => !out of /r
+/etc/loop => !links";
+    assert!(rt; are_shown(rt.alloc(), table, true)?);
     Ok(())
 }
 
@@ -273,12 +270,12 @@ fn long_path(alloc: Global, len: usize) -> Result<Seq<u8>, AllocError> {
 fn links_and_lengths_have_limits(rt: HostRuntime) -> Result<(), Fail> {
     let alloc = rt.alloc();
     let linked = file_shown(alloc, linked_path(alloc, 20)?.as_slice())?;
-    assert!(rt; linked.as_slice() == b"main".as_slice());
+    assert!(rt; linked.as_slice() == b" main".as_slice());
     let over = file_shown(alloc, linked_path(alloc, 21)?.as_slice())?;
-    assert!(rt; over.as_slice() == b"!links".as_slice());
+    assert!(rt; over.as_slice() == b" !links".as_slice());
     let long = file_shown(alloc, long_path(alloc, 4096)?.as_slice())?;
-    assert!(rt; long.as_slice() == b"main".as_slice());
+    assert!(rt; long.as_slice() == b" main".as_slice());
     let longer = file_shown(alloc, long_path(alloc, 4097)?.as_slice())?;
-    assert!(rt; longer.as_slice() == b"!other".as_slice());
+    assert!(rt; longer.as_slice() == b" !other".as_slice());
     Ok(())
 }
