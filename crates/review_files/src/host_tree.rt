@@ -1,5 +1,5 @@
 //! The tree of this machine.
-ghost use Rattle.std.specs.Prelude.{◌≡◌, ◌≢◌, ⊤, IfErr, IfOk};
+ghost use Rattle.std.specs.Prelude.{◌≢◌, ⊤};
 
 use crate::{Entry, Kind, Tree};
 use run_base::{Disk, Files, FilesFault, Obstacle};

@@ -1,6 +1,5 @@
 //! The names of a path.
-ghost use Rattle.std.specs.Prelude.{◌≡◌, ◌==◌, ◌≤◌, IfOk, length, not};
-ghost use Rattle.std.specs.List.{take_while};
+ghost use Rattle.std.specs.Prelude.{◌≡◌, ◌≤◌, IfOk, length};
 ghost use Rattle.review_files.specs.Paths as spec;
 
 use std::alloc::{AllocError, Global};
