@@ -167,9 +167,10 @@ class Hints(Reviewed):
     def test_hints(self) -> None:
         self.write("i", "@includ /etc/x\n")
         for policy, shown in (
-            ("alice fd00::2 = ALL\n", "p:1:11: syntax error, expected =\nsudo_review: hint: "),
+            ("alice fd00::2 = ALL\n", "p:1:11: syntax error, expected =\nsudo_review: hint: IPv6 addresses are not supported\n"),
             ("\ufeffalice ALL = ALL\n", "p:1:1: not printable\nsudo_review: hint: the file begins with a byte order mark"),
-            ("a ALL = NOPASWD: ALL\n", "p:1:9: not a command\nsudo_review: hint: did you mean NOPASSWD?"),
+            ("a ALL = NOPASWD: /bin/x\n", "p:1:18: syntax error, expected member\nsudo_review: hint: did you mean NOPASSWD?"),
+            ("a ALL = nopasswd: /bin/x\n", "p:1:9: not a command\nsudo_review: hint: did you mean NOPASSWD?"),
             ("User_alias A = bob\n", "p:1:16: not a command\nsudo_review: hint: did you mean User_Alias?"),
             ("@include i\n", "i:1:1: syntax error, expected "),
         ):
@@ -177,7 +178,6 @@ class Hints(Reviewed):
                 self.write("p", policy)
                 status, out, err = self.ran("cautions", "p")
                 self.assertEqual((status, out), (1, ""))
-                print(repr(err))
                 self.assertIn("sudo_review: hint: ", err)
                 self.assertTrue(err.startswith(f"sudo_review: {shown}"), err)
 
