@@ -1,0 +1,17 @@
+pub mod AddressTexts
+pub mod AliasLemmas
+pub mod CommandLemmas
+pub mod DecisionLemmas
+pub mod LastLemmas
+pub mod MemberTexts
+pub mod OneSpelling
+pub mod PassLemmas
+pub mod PatternTexts
+pub mod Refusals
+pub mod ReplacedLemmas
+pub mod ReplacedOnce
+pub mod ReportLemmas
+pub mod SpelledLemmas
+pub mod TestLemmas
+pub mod VerdictLemmas
+pub mod WildcardLemmas

@@ -1,0 +1,7 @@
+pub mod InForce
+pub mod Longer
+pub mod Replaced
+pub mod Slashes
+pub mod SoundAliases
+pub mod Spelled
+pub mod WrittenOut
