@@ -192,14 +192,11 @@ impl<'r, 'a> HostSteps<'r, 'a> {
         ensures { result ≡ with_rows given (spec.part_at (λ i b. stands) self.now.blocks.now
             index) }
     {
+        if !stands {
+            return given;
+        }
         match self.blocks.get(index) {
-            Some(block) => {
-                if stands {
-                    given.with_block(block)
-                } else {
-                    given
-                }
-            }
+            Some(block) => given.with_block(block),
             None => given,
         }
     }
