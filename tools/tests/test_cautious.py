@@ -1,5 +1,6 @@
 """Tests of dev/differential --cautions: how it measures the cautions of sudo_review."""
 
+import itertools
 import os
 import re
 import tomllib
@@ -10,6 +11,7 @@ from test_differential import PEER
 from test_documents import CODE, rows_of
 
 from differ import ask, cautious, world
+from differ.aimed import DRAWN, drawn
 from differ.alone import alone_with, requests_for
 from differ.assumed import EDIT, unmet
 from differ.classes import NAMES, ROWS, WAYS
@@ -52,6 +54,13 @@ class Classes(unittest.TestCase):
             classes = list(tomllib.load(file)["classes"])
         self.assertEqual(NAMES, [name for name in classes if name not in LEFT_OUT])
         self.assertEqual(list(WAYS), NAMES)
+
+    def test_each_class_is_drawn(self) -> None:
+        self.assertEqual(list(DRAWN), NAMES)
+        for name, number in itertools.product(NAMES, range(20)):
+            case, requests = drawn(name, f"seed.{number}")
+            self.assertEqual((case, requests), drawn(name, f"seed.{number}"))
+            self.assertTrue(requests, name)
 
     def test_the_rows_of_a_class_are_those_that_the_profile_gives_it(self) -> None:
         known = classes_of_cells()
