@@ -255,15 +255,16 @@ class Completions(unittest.TestCase):
     def test_words_of_commands(self) -> None:
         for program, command in (("sudo_audit", "audit"), ("sudo_review", "report"), ("sudo_review", "rules")):
             with self.subTest(program=program, command=command):
-                options = ["--users", "--hosts", "--workers", "--help"]
+                root = ["--root"] if program == "sudo_review" else []
+                options = [*root, "--users", "--hosts", "--workers", "--help"]
                 self.assertEqual(self.proposed(program, command, "p", "-"), options)
                 self.assertEqual(self.proposed(program, command, "p", "--workers", "16"), ["16"])
                 self.assertEqual(self.proposed(program, command, "p", "s=di"), ["a file for di"])
-        self.assertEqual(self.proposed("sudo_review", "cautions", "-"), ["--without", "--help"])
+        self.assertEqual(self.proposed("sudo_review", "cautions", "-"), ["--root", "--links", "--without", "--help"])
         self.assertEqual(self.proposed("sudo_review", "cautions", "--without", ""), list(read_table("cautions")["classes"]))
-        self.assertEqual(self.proposed("sudo_review", "grants", "p", "-"), ["--users", "--hosts", "--user", "--host", "--help"])
-        self.assertEqual(self.proposed("sudo_review", "roots", "p", "-"), ["--users", "--hosts", "--all", "--help"])
-        self.assertEqual(self.proposed("sudo_review", "subjects", "p", "-"), ["--users", "--hosts", "--help"])
+        self.assertEqual(self.proposed("sudo_review", "grants", "p", "-"), ["--root", "--users", "--hosts", "--user", "--host", "--help"])
+        self.assertEqual(self.proposed("sudo_review", "roots", "p", "-"), ["--root", "--users", "--hosts", "--all", "--help"])
+        self.assertEqual(self.proposed("sudo_review", "subjects", "p", "-"), ["--root", "--users", "--hosts", "--help"])
         self.assertEqual(self.proposed("sudo_review", "subjects", "p", "--users", "d"), ["a file for d"])
         self.assertEqual(self.proposed("sudo_audit", "expand", "p", "h"), ["host"])
 

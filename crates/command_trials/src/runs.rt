@@ -7,6 +7,7 @@
 use audit_commands::{Work, audit_into, check_run};
 use audit_files::Script;
 use audit_run::Source;
+use review_cautions::usual_links;
 use review_commands::{
     Form, ScopeNames, cautions_run, grants_run, report_into, roots_run, subjects_run,
 };
@@ -231,7 +232,8 @@ pub(crate) fn cautions_shown<F: Files>(
     mut out: Script,
 ) -> Result<String, AllocError> {
     let mut err = Script::of(alloc, b"", 1000)?;
-    let status = cautions_run(alloc, b"p", files, &[], &mut out, &mut err);
+    let links = usual_links(alloc)?;
+    let status = cautions_run(alloc, b"p", files, &links, &[], &mut out, &mut err);
     shown(alloc, status, &out, &err)
 }
 
