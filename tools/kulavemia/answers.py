@@ -12,9 +12,13 @@ from kulavemia.shown import shown_records
 # The header of a report as the program prints it, and as these tools write it, with foreign text as it is shown.
 REPORT_HEADER = ("sender", "number", "verdict", "line", "tags")
 SHOWN_HEADER = ("sender", "number", "verdict", "place", "tags")
+# The header of a report of the second program, which has the requests too.
+REVIEWED_HEADER = ("sender", "number", *HEADER[1:], "verdict", "place", "tags", "depends")
 ALLOW = "allow"
 DENY = "deny"
 NO_MATCH = "nomatch"
+# In place of a verdict that depends on what the program does not judge.
+DEPENDS = "depends"
 
 _Numbered = tuple[int, Sequence[str]]
 _OfSender = tuple[Iterator[_Numbered], Iterator[_Numbered] | None]

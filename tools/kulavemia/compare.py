@@ -6,7 +6,7 @@ from collections.abc import Iterator, Sequence
 from typing import IO, NamedTuple
 
 from kulavemia import outputs
-from kulavemia.answers import ALLOW, Answer, Verdict, answers, verdicts
+from kulavemia.answers import ALLOW, DEPENDS, Answer, Verdict, answers, verdicts
 from kulavemia.command import Fault
 from kulavemia.requests import HEADER, Source
 from kulavemia.rows import as_text
@@ -46,9 +46,15 @@ def _freedoms(tags: str) -> frozenset[str]:
 
 
 def kind_of(old: Verdict, new: Verdict) -> str | None:
-    """Returns which change there is, or `None` if verdict and tags are the same."""
+    """Returns which change there is, or `None` if verdict and tags are the same.
+
+    An answer that depends may be to allow where it comes, and to deny where it was.
+    """
     if (old.verdict, old.tags) == (new.verdict, new.tags):
         return None
+    if DEPENDS in (old.verdict, new.verdict):
+        # It may be a change for the worse.
+        return "gained" if new.verdict == ALLOW or new.verdict == DEPENDS and old.verdict != ALLOW else "lost"
     if old.verdict != ALLOW and new.verdict != ALLOW:
         return "other"
     if old.verdict != ALLOW or new.verdict != ALLOW:

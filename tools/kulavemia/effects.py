@@ -6,7 +6,8 @@ from typing import NamedTuple
 
 from kulavemia.review import Caution
 
-# Who can become root may be otherwise for sudo; whether a password is asked; which commands a rule has; none of these.
+# Who can become root may be otherwise for sudo; whether a password is asked; which commands a rule has, or what one of them is
+# worth; none of these.
 WHO = "who"
 PASSWORD = "password"
 COMMANDS = "commands"
@@ -27,6 +28,10 @@ class Effect(NamedTuple):
 _LINE = "For sudo this line may be another rule, or none: each answer on this page may differ."
 _NAMES = "For sudo the line may name further users, groups or hosts, or others: each answer on this page may differ."
 _LISTED = "Which commands the rule lists may differ for sudo; who can become root by any command does not."
+_ENVIRONMENT = (
+    "Whether a user may set environment variables may differ for sudo. With one, a listed command may be worth any command;"
+    " who has a way to root does not differ."
+)
 _CLASSES = {
     "return": Effect(WHO, _LINE),
     "blank-after-backslash": Effect(WHO, _LINE),
@@ -44,7 +49,7 @@ _CLASSES = {
     "sudoedit": Effect(COMMANDS, _LISTED),
     "network": Effect(WHO, _NAMES),
     "bracket": Effect(WHO, _NAMES),
-    "setenv": Effect(OTHER, "Whether a user may set environment variables may differ for sudo; who can become root does not."),
+    "setenv": Effect(COMMANDS, _ENVIRONMENT),
     "group-form": Effect(OTHER, "Answers to requests of logs that ask for no group may differ; who can become root does not."),
 }
 _PASSWORDS = Effect(PASSWORD, "Whether a password is asked, and whose, is not told on this page: it shows a question mark there.")
@@ -53,15 +58,19 @@ _DEFAULTS = {
     **dict.fromkeys(("authenticate", "targetpw", "rootpw", "runaspw", "exempt_group"), _PASSWORDS),
     "runas_default": Effect(WHO, _TARGET),
     **dict.fromkeys(
-        ("root_sudo", "requiretty", "runas_allow_unknown_id", "runas_check_shell", "noexec", "intercept"),
+        ("root_sudo", "requiretty", "runas_check_shell", "noexec", "intercept"),
         Effect(OTHER, "sudo may refuse, or hold back, what this page shows as allowed; it allows no further user."),
     ),
-    **dict.fromkeys(
-        ("setenv", "runchroot"),
-        Effect(OTHER, "Under which environment or folder a command runs may differ for sudo; who can become root does not."),
+    "runas_allow_unknown_id": Effect(OTHER, "sudo allows targets without a name too; who can become root does not differ."),
+    "setenv": Effect(COMMANDS, _ENVIRONMENT),
+    "runchroot": Effect(
+        COMMANDS,
+        "sudo runs commands below another root folder, or below one that the user chooses: a listed command may be worth any"
+        " command there. Who has a way to root does not differ.",
     ),
     **dict.fromkeys(("fast_glob", "sudoers_locale"), Effect(COMMANDS, _LISTED)),
 }
+CLASSES = (*_CLASSES, "defaults")
 _UNKNOWN = Effect(WHO, "Each answer on this page may differ for sudo.")
 
 

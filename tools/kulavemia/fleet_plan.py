@@ -12,6 +12,7 @@ from kulavemia import foreign, limits
 from kulavemia.command import Fault, line_of
 from kulavemia.fleet_handed import CODE, PACKAGE, PROGRAM_FILE, Handed, packed
 from kulavemia.fleet_work import HOSTS, REQUESTS, ROOT, TREE, USERS, Job
+from kulavemia.program import Judge
 from kulavemia.sums import digest_of
 from kulavemia.tree import POLICY, Tree, files_of_tree, main_of, read_tree
 
@@ -90,10 +91,11 @@ def cut(files: Sequence[Requests], senders: int) -> list[list[Requests]]:
 class Fleet:
     """A folder of hosts. What a host's folder lacks of policy, users and hosts is the fleet's own."""
 
-    def __init__(self, folder: str, program: str, asked: Asked) -> None:
+    def __init__(self, folder: str, judge: Judge, asked: Asked) -> None:
         self.folder = folder
         self.asked = asked
-        with open(program, "rb") as file:
+        self.judge = judge.name
+        with open(judge.path, "rb") as file:
             self.program = file.read()
         self.program_sum = digest_of([self.program])
         self.shared: dict[str, bytes] = {}
@@ -227,8 +229,8 @@ class Fleet:
     ) -> Job:
         read = dict(own)
         read.update((file, text) for file, text in self.shared.items() if file.split("/")[0] in shared)
-        words = [name, main, *(word for source in sources for word in source)]
-        parts = [b"shard 3", self.program_sum.encode(), b"%d" % len(words), *map(os.fsencode, words)]
+        words = [name, main, self.judge, *(word for source in sources for word in source)]
+        parts = [b"shard 4", self.program_sum.encode(), b"%d" % len(words), *map(os.fsencode, words)]
         parts += [part for file in sorted(read) for part in (os.fsencode(file), read[file])]
         return Job(
             name=name,
@@ -239,6 +241,7 @@ class Fleet:
             sources=sources,
             threads=self.asked.threads,
             limit=self.asked.limit,
+            judge=self.judge,
         )
 
 

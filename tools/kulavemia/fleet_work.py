@@ -9,7 +9,7 @@ from typing import IO, NamedTuple
 
 from kulavemia.command import Fault
 from kulavemia.fleet_handed import PROGRAM_FILE, packed, write_below
-from kulavemia.program import Policy, Rows, audit_words
+from kulavemia.program import NAME, Judge, Policy, Rows
 from kulavemia.requests import Source
 from kulavemia.shown import Form
 
@@ -30,7 +30,10 @@ _REFUSING = (1, 2, 3)
 
 
 class Job(NamedTuple):
-    """A shard with all that its audit reads: its own files, and the names of those that are shared."""
+    """A shard with all that its audit reads: its own files, and the names of those that are shared.
+
+    The judge is the name of the program that is handed over.
+    """
 
     name: str
     digest: str
@@ -40,6 +43,7 @@ class Job(NamedTuple):
     sources: Sequence[tuple[str, str]]
     threads: int
     limit: float
+    judge: str = NAME
 
 
 class Answer(NamedTuple):
@@ -81,10 +85,10 @@ def _asked(job: Job, shared: str, folder: str, report: IO[bytes]) -> Answer:
     def place(name: str) -> str:
         return os.path.join(shared if name in job.shared else folder, name)
 
-    program = os.path.join(shared, PROGRAM_FILE)
+    judge = Judge(os.path.join(shared, PROGRAM_FILE), job.judge)
     policy = Policy(ROOT + job.main, place(USERS), place(HOSTS))
     sources = [Source(sender, sender, 0, os.path.join(folder, file), None) for sender, file in job.sources]
-    words = audit_words(program, policy, sources, job.threads)
+    words = judge.words(policy, sources, job.threads)
     running = subprocess.Popen(
         words, stdin=subprocess.DEVNULL, stdout=report, stderr=subprocess.PIPE, cwd=place(TREE), start_new_session=True
     )
@@ -96,7 +100,7 @@ def _asked(job: Job, shared: str, folder: str, report: IO[bytes]) -> Answer:
         _end(running)
     report.seek(0)
     if running.returncode == 0:
-        return _report_of(report, folder, f"{host_of(job.name)}/")
+        return _report_of(report, folder, f"{host_of(job.name)}/", judge)
     status = REFUSED if running.returncode in _REFUSING else UNFIT
     said = said or _first_error(os.fsdecode(report.read()))
     ended = f"the program ended with status {running.returncode}"
@@ -118,11 +122,11 @@ def _first_error(text: str) -> str:
     return f"{errors[0]} (and {len(errors) - 1} more)"
 
 
-def _report_of(report: IO[bytes], folder: str, before: str) -> Answer:
+def _report_of(report: IO[bytes], folder: str, before: str, judge: Judge) -> Answer:
     """Returns the answer of a report, its senders behind a text."""
     with open(os.path.join(folder, "rows"), "w+b") as rows:
         try:
-            Rows(rows, Form(), ROOT, before).copy(report, "sudo_audit")
+            Rows(rows, Form(), ROOT, before, judge.header()).copy(report, judge.name)
         except Fault as fault:
             return Answer(FAILED, str(fault))
         rows.seek(0)

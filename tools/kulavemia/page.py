@@ -42,6 +42,7 @@ VERDICTS = {
     "unknown-host": "unknown host",
     "unknown-target": "unknown target",
     "unknown-group": "unknown group",
+    "depends": "depends on what is not judged",
 }
 
 
@@ -231,6 +232,7 @@ class Page:
             found += sentences.of_fleet(self.fleet) if self.fleet is not None else ()
             found += sentences.of_subjects(unknown)
             found += sentences.of_cautions(len(self.cautions), self.roots.is_doubtful())
+            found += sentences.of_missing(len(self.fleet.missing) if self.fleet is not None else bool(self.evidence.missing))
         if self.changes is not None:
             found += sentences.of_changes({changed.kind: changed.count for changed in self.changes})
         if self.uses is not None:

@@ -4,6 +4,7 @@ import csv
 import hashlib
 import io
 import itertools
+import operator
 import os
 import shutil
 import subprocess
@@ -14,7 +15,7 @@ from collections.abc import Iterable, Sequence
 from typing import IO, NamedTuple
 
 from kulavemia import foreign, limits, outputs
-from kulavemia.answers import REPORT_HEADER, SHOWN_HEADER
+from kulavemia.answers import DEPENDS, REPORT_HEADER, REVIEWED_HEADER, SHOWN_HEADER
 from kulavemia.command import FAILED, PROGRAM, Fault, as_word
 from kulavemia.progress import Progress
 from kulavemia.requests import Source, batches
@@ -24,11 +25,16 @@ from kulavemia.shown import Form
 NAME = "sudo_audit"
 REVIEW = "sudo_review"
 _OPTIONS = {NAME: "--program", REVIEW: "--review"}
+_COMMANDS = {NAME: "audit", REVIEW: "report"}
+_HEADERS = {NAME: REPORT_HEADER, REVIEW: REVIEWED_HEADER}
 REPOSITORY = os.path.dirname(os.path.dirname(os.path.dirname(os.path.realpath(__file__))))
 _WRITE_FAILED = b"write failed"
 _PIECE = 1 << 20
 # Bytes of rows that are shown as they are; a quote is none of them, since its field may end in another piece.
 _PLAIN = bytes({*b"\n", *range(0x20, 0x7F)} - {*b'"'})
+# The fields of the second program's report that a report of these tools has.
+_VERDICT, _PLACE, _TAGS, _DEPENDS = range(len(REVIEWED_HEADER) - 4, len(REVIEWED_HEADER))
+_KEPT = operator.itemgetter(0, 1, _VERDICT, _PLACE, _TAGS)
 MEANING = {PROGRAM: "the program sudo_audit is not there, or refuses; its own line is shown"}
 
 
@@ -39,6 +45,23 @@ class Policy(NamedTuple):
     users: str
     hosts: str
     root: str = ""
+
+
+class Judge(NamedTuple):
+    """The program that judges requests: its path, and which of the two it is."""
+
+    path: str
+    name: str = NAME
+
+    def words(self, policy: Policy, sources: Iterable[Source], workers: int) -> list[str]:
+        """Returns the words of the command line that judges the sources; no option is read behind `--`."""
+        directory = ["--users", as_word(policy.users), "--hosts", as_word(policy.hosts)]
+        named = [f"{source.sender}={source.file}" for source in sources]
+        return [self.path, _COMMANDS[self.name], *directory, "--workers", str(workers), "--", policy.file, *named]
+
+    def header(self) -> Sequence[str]:
+        """Returns the header of its report."""
+        return _HEADERS[self.name]
 
 
 def add_options(words: ArgumentParser) -> None:
@@ -73,6 +96,22 @@ def find(given: str | None, name: str = NAME) -> str:
     if named:
         raise Fault(f"{named}: no program", PROGRAM)
     raise Fault(f"no program {name}: build it, or name it by {_OPTIONS[name]} or ${variable}", PROGRAM)
+
+
+def find_judge(given: str | None, review: str | None) -> Judge:
+    """Returns the program that judges requests: the second one, which reads more, or the first where that is not there.
+
+    A program that the command line or the environment names comes before one that is found. Raises `Fault` if there is
+    none.
+    """
+    named = (review, REVIEW), (given, NAME), (os.environ.get(REVIEW.upper()), REVIEW), (os.environ.get(NAME.upper()), NAME)
+    name = next((name for path, name in named if path), None)
+    if name is not None:
+        return Judge(find(review if name == REVIEW else given, name), name)
+    try:
+        return Judge(find(None, REVIEW), REVIEW)
+    except Fault:
+        return Judge(find(None))
 
 
 def sum_of(program: str) -> str:
@@ -115,7 +154,7 @@ def check(program: str, policy: str, root: str = "") -> str:
 
 
 def audit(
-    program: str, policy: Policy, sources: Sequence[Source], out: str, workers: int = 2, form: Form = Form()
+    judge: Judge, policy: Policy, sources: Sequence[Source], out: str, workers: int = 2, form: Form = Form()
 ) -> None:
     """Writes the report of all sources, in runs that the program takes. Raises `Fault` if it refuses."""
     want_plain(policy.file, foreign.POLICY_CAP)
@@ -126,16 +165,9 @@ def audit(
     with outputs.written(out) as report, Progress("judging", total) as progress:
         report.write(form.head(SHOWN_HEADER).encode())
         for batch in batches(sources):
-            _audit_batch(program, policy, batch, Rows(report, form, policy.root), workers)
+            _audit_batch(judge, policy, batch, Rows(report, form, policy.root, header=judge.header()), workers)
             done += len(batch)
             progress.at(done)
-
-
-def audit_words(program: str, policy: Policy, sources: Iterable[Source], workers: int) -> list[str]:
-    """Returns the words of the command line that audits the sources; no option is read behind `--`."""
-    directory = ["--users", as_word(policy.users), "--hosts", as_word(policy.hosts)]
-    named = [f"{source.sender}={source.file}" for source in sources]
-    return [program, "audit", *directory, "--workers", str(workers), "--", policy.file, *named]
 
 
 def want_plain(path: str, cap: int) -> None:
@@ -150,21 +182,22 @@ def want_written(done: subprocess.CompletedProcess[bytes]) -> None:
         raise Fault(f"{tempfile.gettempdir()}: {os.fsdecode(done.stderr).strip()}", FAILED)
 
 
-def _audit_batch(program: str, policy: Policy, batch: Iterable[Source], rows: "Rows", workers: int) -> None:
-    words = audit_words(program, policy, batch, workers)
+def _audit_batch(judge: Judge, policy: Policy, batch: Iterable[Source], rows: "Rows", workers: int) -> None:
+    words = judge.words(policy, batch, workers)
     with outputs.scratch() as part:
         done = subprocess.run(words, stdout=part, stderr=subprocess.PIPE, check=False)
         part.seek(0)
         want_written(done)
         if done.returncode != 0:
-            raise named_by(said_by(program, done, part.read(), policy.root), policy)
-        rows.copy(part, program)
+            raise named_by(said_by(judge.path, done, part.read(), policy.root), policy)
+        rows.copy(part, judge.path)
 
 
 class Rows:
     """Copies rows of a program's tables, with foreign text as it is shown.
 
-    Places are without a root folder, and senders stand behind a text.
+    Places are without a root folder, and senders stand behind a text. Of a report of the second program the fields are
+    copied that a report of the first has, with `depends` as the verdict where it depends.
     """
 
     def __init__(
@@ -175,6 +208,7 @@ class Rows:
         self.root = root
         self.before = before
         self.header = header
+        self.is_reviewed = header == REVIEWED_HEADER
         self.count = 0
 
     def copy(self, part: IO[bytes], program: str) -> None:
@@ -190,15 +224,35 @@ class Rows:
         while piece := part.read(_PIECE) + part.readline():
             if piece.translate(None, _PLAIN):
                 return piece
-            self.out.write(piece)
+            self.out.write(_kept_of(piece) if self.is_reviewed else piece)
             self.count += piece.count(b"\n")
         return b""
 
     def _copy_shown(self, lines: Iterable[bytes]) -> None:
-        place = next(at for at, name in enumerate(self.header) if name in ("line", "place"))
+        header = SHOWN_HEADER if self.is_reviewed else self.header
+        place = next(at for at, name in enumerate(header) if name in ("line", "place"))
         for fields in csv.reader(line.decode("utf-8", "surrogateescape") for line in lines):
+            if self.is_reviewed:
+                fields = _kept(fields)
             if self.before:
                 fields[0] = self.before + fields[0]
             fields[place] = fields[place].removeprefix(self.root)
             self.out.write(self.form.row(fields).encode())
             self.count += 1
+
+
+def _kept(fields: list[str]) -> list[str]:
+    """Returns the fields of a row of the second program's report that a report of these tools has."""
+    sender, number, verdict, place, tags = _KEPT(fields)
+    return [sender, number, DEPENDS if fields[_DEPENDS] else verdict, place, tags]
+
+
+def _kept_of(piece: bytes) -> bytes:
+    """Returns the rows of a piece of the second program's report, none of which has a quoted field, as `_kept` does."""
+    found = []
+    for line in piece.splitlines():
+        fields = line.split(b",")
+        if fields[_DEPENDS]:
+            fields[_VERDICT] = DEPENDS.encode()
+        found.append(b",".join(_KEPT(fields)))
+    return b"".join(row + b"\n" for row in found)

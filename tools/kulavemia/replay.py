@@ -216,6 +216,7 @@ class Replay:
         self.say = say
         self.program = program.find(given.program)
         self.second = program.find(given.review, program.REVIEW)
+        self.judge = program.Judge(self.second, program.REVIEW)
         self.requests = ""
         self.probe = ""
         self.changes = ""
@@ -321,7 +322,7 @@ class Replay:
         path = os.path.join(folder, report)
         if not foreign.exists(path, self.given.out):
             form = Form(self.given.sorting.spreadsheet)
-            program.audit(self.program, self._judged_by(policy), sources_of(folder), path, self.given.workers, form)
+            program.audit(self.judge, self._judged_by(policy), sources_of(folder), path, self.given.workers, form)
         return path
 
     def _compare(self, old: Prepared) -> None:

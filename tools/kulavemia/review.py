@@ -72,7 +72,7 @@ class Asked(NamedTuple):
         files = files_of(self.policy.file)
         lines = {f"{path}:{line.number}": shown_line(line) for path, lines in files.items() for line in lines}
         with self._printed(CAUTIONS, ["--", self.policy.file]) as part:
-            found = _cautions(part.read().decode("utf-8", "surrogateescape"), list(files), self.program)
+            found = cautions_of(part.read().decode("utf-8", "surrogateescape"), list(files), self.program)
         root = self.policy.root
         return [
             caution._replace(place=caution.place.removeprefix(root), line=without(root, lines.get(caution.place, "")))
@@ -123,7 +123,7 @@ class Asked(NamedTuple):
             yield part
 
 
-def _cautions(text: str, paths: Sequence[str], program: str) -> list[Caution]:
+def cautions_of(text: str, paths: Sequence[str], program: str) -> list[Caution]:
     """Returns the cautions that a text lists. A path may have any text, so lines are told by the paths of the policy."""
     longest = sorted(paths, key=len, reverse=True)
     caution = re.compile(_CAUTION.format("|".join(map(re.escape, longest))))

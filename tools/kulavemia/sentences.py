@@ -173,6 +173,13 @@ def of_cautions(count: int, is_doubtful: bool) -> Iterator[str]:
         yield f"sudo reads or judges {counted(count, 'construct')} of the policy otherwise than this page: {changes}."
 
 
+def of_missing(hosts: int) -> Iterator[str]:
+    """Yields that something could not be gathered, of so many hosts."""
+    if hosts:
+        of_hosts = f"Of {counted(hosts, 'host')} something" if hosts > 1 else "Something"
+        yield f"{of_hosts} could not be gathered, and rules may be among it that no answer here looks at: the evidence lists it."
+
+
 def of_changes(counts: Mapping[str, int]) -> Iterator[str]:
     """Yields what the new policy changes."""
     gained = sum(count for kind, count in counts.items() if kind.startswith("gained"))

@@ -6,7 +6,7 @@ from collections.abc import Iterable, Iterator
 from dataclasses import dataclass, field
 from typing import IO, NamedTuple
 
-from kulavemia.answers import ALLOW, Answer, Verdict
+from kulavemia.answers import ALLOW, DEPENDS, Answer, Verdict
 from kulavemia.command import Fault
 from kulavemia.logs import FOLD, LINE_LIMIT, UNREADABLE, opened
 from kulavemia.messages import ACCEPTED, AS_EDIT, FAILED, MAY_BE_EDIT, REFUSED
@@ -122,7 +122,7 @@ class Uses:
             self.same += 1
 
     def _kind(self, verdict: str, outcome: str) -> Kind | None:
-        if verdict.startswith("unknown"):
+        if verdict.startswith("unknown") or verdict == DEPENDS:
             return self.unknown
         if outcome == ACCEPTED and verdict != ALLOW:
             return self.denied

@@ -8,7 +8,7 @@ from collections.abc import Callable, Sequence
 
 from support import TESTS, TOOLS, Case
 
-from kulavemia.program import Policy, audit
+from kulavemia.program import Judge, Policy, audit
 from kulavemia.requests import Source
 from kulavemia.tree import of_tree
 
@@ -113,6 +113,6 @@ class FleetCase(Case):
             policy = of_tree(os.path.join(place, "tree"), "/etc/sudoers", root)
             users, hosts = os.path.join(place, "users.csv"), os.path.join(place, "hosts.csv")
             out = os.path.join(root, "report.csv")
-            audit(self.program, Policy(policy.file(), users, hosts, policy.root), sources, out)
+            audit(Judge(self.program), Policy(policy.file(), users, hosts, policy.root), sources, out)
             with open(out, encoding="utf-8", newline="") as file:
                 return "".join(f"{name}/{row}" for row in file.readlines()[1:])

@@ -140,8 +140,7 @@ class Command(Case):
                 "gained,web,8,steve,mail.example.org,operator,,/usr/local/op_commands/rotate,,nomatch,allow,,SETENV,,new:51"
             ],
         )
-        self.assertIn(
-            "sudo_audit: bad:1:",
+        self.assertRegex(
             self.run_tool(
                 "compare",
                 self.write("bad", "x y z\n").rpartition("/")[2],
@@ -153,6 +152,7 @@ class Command(Case):
                 *sources,
                 status=5,
             )[1],
+            "sudo_(audit|review): bad:1:",
         )
 
 

@@ -80,6 +80,7 @@ class Evidence(FleetRoots):
             self.assertIn(sentence, text)
         told = " ".join(record["sentences"])
         self.assertIn("The policy names one user, group or host that the directory lacks: gus.", told)
+        self.assertIn("Something could not be gathered, and rules may be among it that no answer here looks at", told)
         self.assertIn("of the policies of one host otherwise than this page: none changes who can become root.", told)
         self.host("a", "Ann ALL = ALL\n")
         self.fleet(status=1)

@@ -8,7 +8,7 @@ import unittest
 
 from support import DATA, REQUESTS_HEADER, TOOLS, Case, needs_program
 
-from kulavemia.program import Policy, audit, find
+from kulavemia.program import Judge, Policy, audit, find
 from kulavemia.requests import named_sources
 from kulavemia.tree import of_tree
 
@@ -55,7 +55,7 @@ class Rules(Case):
         hosts = self.write("hosts.csv", "host,interfaces\nshop1.example.org,\n")
         policy = of_tree(self.path("hosts", "web1", "tree"), "/etc/sudoers", self.path("copy"))
         out = self.path("report.csv")
-        audit(find(None), Policy(policy.file(), users, hosts, policy.root), named_sources([f"s={asked}"]), out)
+        audit(Judge(find(None)), Policy(policy.file(), users, hosts, policy.root), named_sources([f"s={asked}"]), out)
         self.assertEqual(
             [row.split(",")[2:] for row in self.rows("report.csv")[1:]],
             [

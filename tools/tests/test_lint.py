@@ -55,7 +55,8 @@ class Folder(unittest.TestCase):
         """Runs the tool in the folder, and returns its status and what it prints."""
         environment = {**os.environ, "LINT_ANSWERS": self.answers}
         done = subprocess.run(
-            [LINT, "--program", program, *words], cwd=self.folder, capture_output=True, check=False, env=environment)
+            [LINT, "--program", program, "--no-cautions", *words],
+            cwd=self.folder, capture_output=True, check=False, env=environment)
         return done.returncode, done.stdout.decode(), done.stderr.decode()
 
     def lint_case(self, case: LintCase, *words: str) -> tuple[int, str, str]:

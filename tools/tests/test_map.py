@@ -142,7 +142,23 @@ class Effects(unittest.TestCase):
             self.assertEqual(self.effect("defaults", text=f"{name}: decides"), effects.PASSWORD)
         for name in ("runas_default", "fqdn", "case_insensitive_user", "group_plugin", "one of tomorrow"):
             self.assertEqual(self.effect("defaults", text=f"{name}: decides"), effects.WHO)
-        self.assertEqual(self.effect("defaults", text="noexec: decides"), effects.OTHER)
+        for name in ("noexec", "root_sudo", "requiretty", "runas_check_shell", "intercept", "runas_allow_unknown_id"):
+            self.assertEqual(self.effect("defaults", text=f"{name}: decides"), effects.OTHER)
+        for name in ("setenv", "runchroot", "fast_glob", "sudoers_locale"):
+            self.assertEqual(self.effect("defaults", text=f"{name}: decides"), effects.COMMANDS)
+
+    def test_each_class_that_may_change_a_cell_says_so(self) -> None:
+        # By the rows of docs/PROFILE.md: these lines have another rule, or name others, for sudo.
+        changing = "return blank-after-backslash join torn-mark include-escape include-indent escape case quoted-host"
+        for name in f"{changing} quoted-escape network one-of-tomorrow".split():
+            self.assertEqual(self.effect(name, "alice ALL = /bin/ls"), effects.WHO, name)
+        for name in ("linked", "sudoedit", "setenv"):
+            self.assertEqual(self.effect(name, "alice ALL = /bin/ls"), effects.COMMANDS, name)
+        for name in ("unknown-parameter", "group-form"):
+            self.assertEqual(self.effect(name, "alice ALL = /bin/ls"), effects.OTHER, name)
+        for name in ("setenv", "runchroot"):
+            meaning = effects.effect_of(Caution("p:1", "defaults", f"{name}: decides")).meaning
+            self.assertIn("a listed command may be worth any command", meaning)
 
     def test_brackets(self) -> None:
         for line, answers in (

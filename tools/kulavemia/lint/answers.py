@@ -7,8 +7,10 @@ from dataclasses import dataclass
 
 from kulavemia import foreign, limits
 from kulavemia.command import Fault, as_word
+from kulavemia.effects import CLASSES
 
 ERROR, WARNING, NOTE = "error", "warning", "note"
+CAUTION = "caution"
 OK, REFUSED, FAILED = 0, 1, 4
 
 # Each rule's name, and its subject.
@@ -36,6 +38,8 @@ RULES = {
     "passed-over": "A file of a folder that sudo passes over, so it is not in force.",
     "leads-out": "A link or an include leads out of the folders that are named, and is not followed.",
     "no-answer": "The program gave no answer that can be read.",
+    CAUTION: "sudo reads or judges this construct otherwise.",
+    **{f"{CAUTION}-{name}": f"sudo reads or judges a construct of the class {name} otherwise." for name in CLASSES},
 }
 
 COLUMN_TEXT = re.compile(
