@@ -262,7 +262,8 @@ class Completions(unittest.TestCase):
                 self.assertEqual(self.proposed(program, command, "p", "s=di"), ["a file for di"])
         self.assertEqual(self.proposed("sudo_review", "cautions", "-"), ["--root", "--links", "--without", "--help"])
         self.assertEqual(self.proposed("sudo_review", "cautions", "--without", ""), list(read_table("cautions")["classes"]))
-        self.assertEqual(self.proposed("sudo_review", "grants", "p", "-"), ["--root", "--users", "--hosts", "--user", "--host", "--help"])
+        options = ["--root", "--users", "--hosts", "--user", "--host", "--help"]
+        self.assertEqual(self.proposed("sudo_review", "grants", "p", "-"), options)
         self.assertEqual(self.proposed("sudo_review", "roots", "p", "-"), ["--root", "--users", "--hosts", "--all", "--help"])
         self.assertEqual(self.proposed("sudo_review", "subjects", "p", "-"), ["--root", "--users", "--hosts", "--help"])
         self.assertEqual(self.proposed("sudo_review", "subjects", "p", "--users", "d"), ["a file for d"])

@@ -168,7 +168,10 @@ class Hints(Reviewed):
         self.write("i", "@includ /etc/x\n")
         for policy, shown in (
             ("alice fd00::2 = ALL\n", "p:1:11: syntax error, expected =\nsudo_review: hint: IPv6 addresses are not supported\n"),
-            ("\ufeffDefaults env_reset\n", "p:1:22: syntax error, expected =\nsudo_review: hint: the file begins with a byte order mark"),
+            (
+                "\ufeffDefaults env_reset\n",
+                "p:1:22: syntax error, expected =\nsudo_review: hint: the file begins with a byte order mark",
+            ),
             ("a ALL = NOPASWD: /bin/x\n", "p:1:18: syntax error, expected member\nsudo_review: hint: did you mean NOPASSWD?"),
             ("a ALL = nopasswd: /bin/x\n", "p:1:9: not a command\nsudo_review: hint: did you mean NOPASSWD?"),
             ("User_alias A = bob\n", "p:1:16: not a command\nsudo_review: hint: did you mean User_Alias?"),
