@@ -216,7 +216,7 @@ class Replay:
         self.say = say
         self.program = program.find(given.program)
         self.second = program.find(given.review, program.REVIEW)
-        self.judge = program.Judge(self.second, program.REVIEW)
+        self.judge = program.find_judge(given.program, given.review)
         self.requests = ""
         self.probe = ""
         self.changes = ""
