@@ -144,7 +144,7 @@ class Installed(unittest.TestCase):
                 file.write(text)
         environment = {"PATH": "/usr/bin:/bin", "LINT_ANSWERS": answers}
         lint = self.at("/opt/k/bin/kulavemia-lint")
-        self.assertEqual(run(lint, "a", env=environment), "a: ok\n")
+        self.assertEqual(run(lint, "--no-cautions", "a", env=environment), "a: ok\n")
         self.assertEqual(run(lint, "--version", env=environment), f"kulavemia-lint {text_of('VERSION')}")
 
     def test_installed_help_names_the_installed_commands(self) -> None:
