@@ -1,5 +1,7 @@
 //! Runs in which what cannot be read is not reached, and files that are told beforehand.
 
+ghost use Rattle.std.specs.Prelude.{◌≢◌};
+
 use crate::runs::{Item, Shelf};
 use audit_commands::{check_run, unread};
 use audit_files::Script;
@@ -35,6 +37,16 @@ fn fault_of(refusal: Refusal) -> FilesFault {
     }
 }
 
+// Returns the fault of a refusal of a folder, which is never too long.
+fn folder_fault(refusal: Refusal) -> FilesFault
+    ensures { result ≢ FilesFault.TooLong }
+{
+    match refusal {
+        Refusal::Denied | Refusal::TooLong => FilesFault::Failed(Obstacle::PermissionDenied),
+        Refusal::Memory => FilesFault::Memory,
+    }
+}
+
 impl Files for Locked<'_> {
     ghost use Rattle.std.specs.Prelude.{None};
 
@@ -49,11 +61,7 @@ impl Files for Locked<'_> {
 
     fn folder(&mut self, alloc: Global, path: &[u8]) -> Result<Seq<Seq<u8>>, FilesFault> {
         if path == self.path {
-            // A folder is never too long.
-            return Err(match self.refusal {
-                Refusal::Denied | Refusal::TooLong => fault_of(Refusal::Denied),
-                Refusal::Memory => FilesFault::Memory,
-            });
+            return Err(folder_fault(self.refusal));
         }
         self.shelf.folder(alloc, path)
     }
