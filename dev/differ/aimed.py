@@ -139,6 +139,13 @@ def _include_indent(aim: Aim) -> Aimed:
     return Aimed(f"{blank}#include more\n", (aim.ask(),), (("more", aim.rule(aim.command)),))
 
 
+def _comment(aim: Aim) -> Aimed:
+    number = aim.pick("5", "-1", "42 note", "7,8", "-")
+    if aim.chance(0.3):
+        return Aimed(f"User_Alias A = {aim.user}{aim.pick('', ' ')}#{number}\n" + aim.rule(aim.command, "A"), (aim.ask(),))
+    return Aimed(aim.rule(f"{aim.pick(aim.command, 'ALL')}{aim.pick('', ' ')}#{number}"), (aim.ask(),))
+
+
 def _caret(aim: Aim) -> Aimed:
     kind = aim.pick("arguments", "arguments", "path", "host")
     if kind == "path":
@@ -151,7 +158,8 @@ def _caret(aim: Aim) -> Aimed:
 
 
 def _escape(aim: Aim) -> Aimed:
-    return aim.random.choice((_escape_in_arguments, _escape_in_host, _escaped_id, _escape_in_path))(aim)
+    ways = (_escape_in_arguments, _escape_in_host, _escaped_id, _escape_in_path, _refused_escape, _refused_escape)
+    return aim.random.choice(ways)(aim)
 
 
 def _escape_in_arguments(aim: Aim) -> Aimed:
@@ -186,6 +194,19 @@ def _escape_in_path(aim: Aim) -> Aimed:
         return Aimed(aim.rule(f"{command}\\{mark}"), (aim.ask(mark, command=command),))
     said = aim.pick("!x", '"a"', "(b", ")")
     return Aimed(aim.rule(f"sudoedit{said}"), (aim.ask(said, command="sudoedit"),))
+
+
+def _refused_escape(aim: Aim) -> Aimed:
+    """Returns a policy with an escape that sudo refuses."""
+    kind = aim.pick("path", "path", "arguments", "user")
+    if kind == "path":
+        front, last = aim.command[:-1], aim.command[-1]
+        return Aimed(aim.rule(f"{front}\\{last}"), (aim.ask(),))
+    if kind == "arguments":
+        said = aim.pick("-l", "ab", "xyz", '"a"')
+        return Aimed(aim.rule(f"{aim.command} \\{said}"), (aim.ask(said),))
+    number = str(aim.known().number)
+    return _named(aim, f"#{number[:-1]}\\{number[-1]}")
 
 
 def _capital(aim: Aim, name: str) -> str:
@@ -280,6 +301,16 @@ def _group_form(aim: Aim) -> Aimed:
     return Aimed(aim.rule(f"({aim.pick('', ' ')}:{group}) {aim.command}"), (aim.ask(), aim.ask(target=aim.user)))
 
 
+def _reserved(aim: Aim) -> Aimed:
+    name = aim.pick("CWD", "CHROOT", "TIMEOUT", "NOTBEFORE", "NOTAFTER", "ROLE", "TYPE")
+    texts = (
+        f"User_Alias {name} = {aim.user}\n" + aim.rule(aim.command, name),
+        f"Host_Alias {name} = {aim.short()}\n" + aim.rule(aim.command, host=name),
+        f"Cmnd_Alias {name} = {aim.command}\n" + aim.rule(name),
+    )
+    return Aimed(aim.pick(*texts), (aim.ask(),))
+
+
 DRAWN: dict[str, Callable[[Aim], Aimed]] = {
     "return": _return,
     "blank-after-backslash": _blank_after_backslash,
@@ -287,6 +318,7 @@ DRAWN: dict[str, Callable[[Aim], Aimed]] = {
     "torn-mark": _torn_mark,
     "include-escape": _include_escape,
     "include-indent": _include_indent,
+    "comment": _comment,
     "caret": _caret,
     "escape": _escape,
     "case": _case,
@@ -298,6 +330,7 @@ DRAWN: dict[str, Callable[[Aim], Aimed]] = {
     "bracket": _bracket,
     "setenv": _setenv,
     "group-form": _group_form,
+    "reserved": _reserved,
 }
 
 

@@ -14,8 +14,8 @@ from differ.world import lower
 
 # The classes in their order, but for that of linked folders.
 NAMES = (
-    "return blank-after-backslash join torn-mark include-escape include-indent caret escape case quoted-host quoted-escape"
-    " defaults sudoedit network bracket setenv group-form"
+    "return blank-after-backslash join torn-mark include-escape include-indent comment caret escape case quoted-host"
+    " quoted-escape defaults sudoedit network bracket setenv group-form reserved"
 ).split()
 ALIAS = re.compile(r"[A-Z][A-Z0-9_]*")
 JOIN = rf"{EVEN}\\\r?\n[ \t]*"
@@ -93,6 +93,7 @@ ROWS = {
     "join": ("alice ALL = /bin/ls\\",),
     "include-escape": ("@include /x/a\\x62", '@include "/x/a\\x62"'),
     "include-indent": (" #include /etc/x",),
+    "comment": ("#-1 ALL = ALL", "alice ALL = /bin/ls #5", "#-"),
     "caret": ("alice ALL = /usr/bin/passwd [^-]*",),
     "escape": (
         "alice ALL = /bin/ls a\\\\b",
@@ -100,6 +101,11 @@ ROWS = {
         "alice ALL = sudoedit!x",
         "alice web\\* = ALL",
         "\\#1000 ALL = ALL",
+        'alice ALL = /bin/ls a\\"b',
+        "alice ALL = /bin/l\\s",
+        "bo\\<TAB>b ALL = ALL",
+        "#5\\4 ALL = ALL",
+        "%#\\5 ALL = ALL",
     ),
     "case": ("Alice ALL = ALL", "%ADM ALL = ALL"),
     "quoted-host": ('alice "web?" = ALL',),
@@ -117,6 +123,7 @@ ROWS = {
     ),
     "setenv": ("alice ALL = NOSETENV: /bin/ls, ALL, /bin/cat", "Cmnd_Alias X = ALL"),
     "group-form": ("alice ALL = (:operator) /bin/id",),
+    "reserved": ("Cmnd_Alias CWD = /bin/ls",),
 }
 FURTHER: dict[str, Change] = {
     "return": in_turn(replaced(r"\r$", ""), _lines_without(r"\r(?:\n|\Z)")),

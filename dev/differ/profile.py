@@ -538,7 +538,7 @@ FILES = (
     Row('Defaults "env_reset"', swapped("parameter", "quoted", r"^.*$", "insults")),
     Row('alice ALL = /bin/ls a\\"b', swapped("cmnd", "argument", r"(\\[*?\[\]!^:\\,= \t#])|\\", r"\1")),
     Row("alice ALL = /bin/l\\s", swapped("cmnd", "path", r"\\(?![,:= \t#])", "z")),
-    Row("a tab behind a backslash, in a name", swapped("*", "word", r"\\\t", "z")),
+    Row("bo\\<TAB>b ALL = ALL", swapped("*", "word", r"\\\t", "z")),
     Row("alice ALL = /bin/ls #5", swapped("*", "comment", r"^#(?=-?[0-9])", "# ")),
     Row("#-", replaced("#-$", "#")),
     Row("a>b ALL = ALL", swapped(LISTS, "word", ">", "z")),

@@ -39,6 +39,7 @@ _CLASSES = {
     "torn-mark": Effect(WHO, _LINE),
     "include-escape": Effect(WHO, "sudo may read another file here, or none: each answer on this page may differ."),
     "include-indent": Effect(WHO, "sudo does not read this file: each answer on this page may differ."),
+    "comment": Effect(WHO, _LINE),
     "caret": Effect(WHO, _NAMES),
     "escape": Effect(WHO, _NAMES),
     "case": Effect(WHO, "For sudo the name is also that of a user or group with small letters: each answer may differ."),
@@ -51,6 +52,7 @@ _CLASSES = {
     "bracket": Effect(WHO, _NAMES),
     "setenv": Effect(COMMANDS, _ENVIRONMENT),
     "group-form": Effect(OTHER, "Answers to requests of logs that ask for no group may differ; who can become root does not."),
+    "reserved": Effect(WHO, "sudo skips this line, and each rule that has the alias: each answer on this page may differ."),
 }
 _PASSWORDS = Effect(PASSWORD, "Whether a password is asked, and whose, is not told on this page: it shows a question mark there.")
 _TARGET = "A rule that names no target is not for root, but for the user that this line names: each answer may differ."

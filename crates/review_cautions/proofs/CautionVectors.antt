@@ -21,9 +21,9 @@ use Rattle.sudo_grammar.specs.declared.policy.EntryBody.TheVariants as entries
 use Rattle.sudo_grammar.specs.declared.policy.Entry.{Entry}
 use Rattle.sudo_policy.specs.Definitions.{MemberList, granting_list}
 use Rattle.review_cautions.specs.declared.class.CautionClass.TheVariants.{Return, BlankAfterBackslash, Join, TornMark}
-use Rattle.review_cautions.specs.declared.class.CautionClass.TheVariants.{IncludeEscape, IncludeIndent}
+use Rattle.review_cautions.specs.declared.class.CautionClass.TheVariants.{IncludeEscape, IncludeIndent, Comment}
 use Rattle.review_cautions.specs.declared.class.CautionClass.TheVariants.{Caret, Escape, Case, QuotedHost, QuotedEscape, Linked, Defaults}
-use Rattle.review_cautions.specs.declared.class.CautionClass.TheVariants.{Sudoedit, Network, Bracket, Setenv, GroupForm}
+use Rattle.review_cautions.specs.declared.class.CautionClass.TheVariants.{Sudoedit, Network, Bracket, Setenv, GroupForm, Reserved}
 use Rattle.review_cautions.specs.ListTests.{linking, usual_links}
 use Rattle.review_cautions.specs.Cautions.{caution_at, text_cautions, list_cautions, linked_cautions, parameter_cautions}
 use Rattle.review_cautions.specs.Cautions.{entry_cautions}
@@ -87,6 +87,18 @@ include_indent = refl
 include_continued : text_cautions IncludeIndent ((codes "alice ALL = ALL, \\" ++ 10 ∷ codes "  #include /x/a") ∷ []) ≡ []
 include_continued = refl
 
+-- `#5` behind `ALL`, `#-1` and `#-` at the front of a line; not `# #5`, nor `#-x`, nor an ID behind a comma
+comment : text_cautions Comment ((codes "alice ALL = ALL#5" ++ 10 ∷ codes "#-1 ALL = ALL" ++ 10 ∷ codes "#-" ++ 10
+    ∷ codes "alice ALL = ALL # #5" ++ 10 ∷ codes "#-x" ++ 10 ∷ codes "alice, #5 ALL = ALL" ++ 10 ∷ codes "#5 ALL = ALL #-7") ∷ [])
+    ≡ caution_at Comment (place 0 1) ∷ caution_at Comment (place 0 2) ∷ caution_at Comment (place 0 3)
+    ∷ caution_at Comment (place 0 7) ∷ []
+comment = refl
+
+-- no escaped `#` begins a comment, none between double quotes, and none in the path of an include line
+no_comment : text_cautions Comment ((codes "a\\#5 ALL = ALL" ++ 10 ∷ codes "\"a #5\" ALL = ALL" ++ 10 ∷ codes "@include /x#5" ++ 10
+    ∷ codes "%#5 ALL = (#6 : #7) ALL") ∷ []) ≡ []
+no_comment = refl
+
 -- a member with this atom
 member : Atom → Member
 member atom = record { bangs = 0; token = record { kind = tokens.Word false []; start = 0; end = 0 }; atom = atom }
@@ -118,17 +130,37 @@ escape : list_cautions Escape (list kinds.Cmnd 1 (command (map plain (codes "/bi
 unfolding list member command
 escape = refl
 
--- `/bin/[!l]s` and `/bin/l!s` have no escape, `sudoedit` has no arguments, and a tab or a parenthesis ends a word as `!` does
+-- `/bin/l\s` and `/bin/l!\*`, and not `/bin/[!l]s`, `/bin/l\,s` and `/bin/l\` with a tab; `sudoedit` has no arguments
 path_escape : list_cautions Escape (list kinds.Cmnd 1 (atoms.Command (map plain (codes "/bin/[!l]s")) None)
-    ∷ list kinds.Cmnd 2 (atoms.Command (map plain (codes "/bin/l!s")) None)
-    ∷ list kinds.Cmnd 3 (atoms.Command (escaped 42 ∷ map plain (codes "!ls")) None)
+    ∷ list kinds.Cmnd 2 (atoms.Command (map plain (codes "/bin/l") ++ escaped 115 ∷ []) None)
+    ∷ list kinds.Cmnd 3 (atoms.Command (map plain (codes "/bin/l") ++ escaped 44 ∷ plain 115 ∷ []) None)
     ∷ list kinds.Cmnd 4 (atoms.Command (map plain (codes "sudoedit")) None)
     ∷ list kinds.Cmnd 5 (atoms.Command (map plain (codes "sudoedit\"a\"")) None)
-    ∷ list kinds.Cmnd 6 (atoms.Command (map plain (codes "/bin/l(") ++ escaped 63 ∷ []) None)
-    ∷ list kinds.Cmnd 7 (atoms.Command (map plain (codes "/bin/l") ++ escaped 9 ∷ escaped 63 ∷ []) None) ∷ [])
-    ≡ caution_at Escape (place 0 5) ∷ caution_at Escape (place 0 6) ∷ caution_at Escape (place 0 7) ∷ []
+    ∷ list kinds.Cmnd 6 (atoms.Command (map plain (codes "/bin/l!") ++ escaped 42 ∷ []) None)
+    ∷ list kinds.Cmnd 7 (atoms.Command (map plain (codes "/bin/l") ++ escaped 9 ∷ []) None) ∷ [])
+    ≡ caution_at Escape (place 0 2) ∷ caution_at Escape (place 0 5) ∷ caution_at Escape (place 0 6) ∷ []
 unfolding list member
 path_escape = refl
+
+-- `/bin/ls \-l`, and not `/bin/ls \*` and `/bin/ls a\ b`
+argument_escape : list_cautions Escape
+    (list kinds.Cmnd 1 (command (map plain (codes "/bin/ls")) (escaped 45 ∷ plain 108 ∷ []))
+    ∷ list kinds.Cmnd 2 (command (map plain (codes "/bin/ls")) (escaped 42 ∷ []))
+    ∷ list kinds.Cmnd 3 (command (map plain (codes "/bin/ls")) (plain 97 ∷ escaped 32 ∷ plain 98 ∷ [])) ∷ [])
+    ≡ caution_at Escape (place 0 1) ∷ []
+unfolding list member command
+argument_escape = refl
+
+-- `#5\4` and `%#\5`, and not `%\#5`; a name with an escaped tab, and not one with an escaped letter
+word_escape : list_cautions Escape
+    (granting_list kinds.User (place 0 1) (word false (plain 35 ∷ plain 53 ∷ escaped 52 ∷ []) (atoms.Uid 54) ∷ [])
+    ∷ granting_list kinds.User (place 0 2) (word false (plain 37 ∷ plain 35 ∷ escaped 53 ∷ []) (atoms.Gid 5) ∷ [])
+    ∷ granting_list kinds.User (place 0 3) (word false (plain 37 ∷ escaped 35 ∷ plain 53 ∷ []) (atoms.Gid 5) ∷ [])
+    ∷ granting_list kinds.User (place 0 4) (word false (plain 97 ∷ escaped 9 ∷ []) (atoms.Name (97 ∷ 9 ∷ [])) ∷ [])
+    ∷ granting_list kinds.User (place 0 5) (word false (plain 97 ∷ escaped 98 ∷ []) (atoms.Name (codes "ab")) ∷ []) ∷ [])
+    ≡ caution_at Escape (place 0 1) ∷ caution_at Escape (place 0 2) ∷ caution_at Escape (place 0 4) ∷ []
+unfolding word
+word_escape = refl
 
 -- `web\*`, and not `web*` and `web\ 1`
 host_escape : list_cautions Escape (list kinds.Host 1 (atoms.Host (map plain (codes "web") ++ escaped 42 ∷ []) false)
@@ -311,6 +343,18 @@ group_form : entry_cautions GroupForm
     ∷ rule 4 (granted None [] atoms.All ∷ []) ∷ []) ≡ caution_at GroupForm (place 0 1) ∷ []
 unfolding rule granted member
 group_form = refl
+
+-- the definition of an alias of this name
+alias_named : List ℕ → ℕ → Entry
+alias_named name line = record {
+  place = place 0 line;
+  body = entries.Aliases kinds.Host (record { name = name; members = member atoms.All ∷ [] } ∷ []);
+}
+
+-- `CWD` is the name of an option, `CWDS` is not
+reserved : entry_cautions Reserved (alias_named (codes "CWD") 1 ∷ alias_named (codes "CWDS") 2 ∷ []) ≡ caution_at Reserved (place 0 1) ∷ []
+unfolding alias_named member
+reserved = refl
 
 -- `/usr/bin/[l/]s`, and not `/usr/[bs]bin/ls`
 bracket_slash : list_cautions Bracket (list kinds.Cmnd 1 (atoms.Command (map plain (codes "/usr/bin/[l/]s")) None)

@@ -2,3 +2,4 @@ pub mod Naming
 pub mod LineSteps
 pub mod CautionVectors
 pub mod MarkLaws
+pub mod CommentLaws

@@ -12,19 +12,19 @@ use Rattle.sudo_policy.specs.Definitions.{MemberList}
 use Rattle.review_cautions.specs.Brackets.{has_caret, has_slash_inside, has_other_class}
 use Rattle.review_cautions.specs.Brackets.{opens_bracket, arguments_have_caret, begins_other_class}
 use Rattle.review_cautions.specs.Brackets.{arguments_have_other_class, atom_has_caret, atom_has_other_bracket}
-use Rattle.review_cautions.specs.Escapes.{has_argument_inside, begins_argument, ends_word}
-use Rattle.review_cautions.specs.Escapes.{is_escaped_backslash, arguments_have_backslash, has_escape}
+use Rattle.review_cautions.specs.Escapes.{is_path_escape, is_argument_escape, arguments_have_escape, has_escape}
+use Rattle.review_cautions.specs.Escapes.{is_escaped, is_escaped_tab, unquoted, name_has_escape, group_id_has_escape}
 use Rattle.review_cautions.specs.Escapes.{is_escaped_mark, is_escaped_bracket_mark, may_have_bracket, host_has_escape}
-use Rattle.review_cautions.specs.Escapes.{begins_as_id, word_begins_as_id, has_quoted_mark}
+use Rattle.review_cautions.specs.Escapes.{begins_as_id, has_quoted_mark}
 use Rattle.review_cautions.specs.Escapes.{has_quoted_escape, is_escaped_byte, is_long_sudoedit}
 use Rattle.review_cautions.specs.Cautions.{list_cautions, caution_at, distinct_places}
 use Rattle.review_cautions.specs.ListTests.{list_holds, member_holds, concerns}
 use Rattle.review_cautions.specs.declared.class.CautionClass.TheVariants.{Return, BlankAfterBackslash, Join, TornMark}
-use Rattle.review_cautions.specs.declared.class.CautionClass.TheVariants.{IncludeEscape, IncludeIndent}
+use Rattle.review_cautions.specs.declared.class.CautionClass.TheVariants.{IncludeEscape, IncludeIndent, Comment}
 use Rattle.review_cautions.specs.declared.class.CautionClass.TheVariants.{Caret, Escape, Case}
 use Rattle.review_cautions.specs.declared.class.CautionClass.TheVariants.{QuotedHost, QuotedEscape, Linked, Defaults}
 use Rattle.review_cautions.specs.declared.class.CautionClass.TheVariants.{UnknownParameter, Sudoedit, Network}
-use Rattle.review_cautions.specs.declared.class.CautionClass.TheVariants.{Bracket, Setenv, GroupForm}
+use Rattle.review_cautions.specs.declared.class.CautionClass.TheVariants.{Bracket, Setenv, GroupForm, Reserved}
 use Rattle.review_cautions.specs.declared.class.CautionClass.{CautionClass}
 use Rattle.review_cautions.specs.Marks.{is_plain, arguments_are_plain, atom_is_plain}
 use Rattle.review_cautions.specs.Marks.{token_is_plain, is_marked, list_is_marked, needs_mark}
@@ -87,15 +87,6 @@ no_other_class host (c ∷ cs) h = either (opens_bracket c && begins_other_class
     (neither (opens_bracket c) (begins_other_class host cs) (no_opening c (first (is_plain c) (list_all is_plain cs) h)))
     (no_other_class host cs (second (is_plain c) (list_all is_plain cs) h))
 
-no_begin : (c : Ch) → is_plain c ≡ true → begins_argument c ≡ false
-no_begin c h = grind (arith, no_escape c h)
-
-no_argument : (ended : Bool) (cs : List Ch) → list_all is_plain cs ≡ true → has_argument_inside ended cs ≡ false
-no_argument ended [] h = refl
-no_argument true (c ∷ cs) h = either (begins_argument c) (has_argument_inside true cs)
-    (no_begin c (first (is_plain c) (list_all is_plain cs) h)) (no_argument true cs (second (is_plain c) (list_all is_plain cs) h))
-no_argument false (c ∷ cs) h = no_argument (ends_word c) cs (second (is_plain c) (list_all is_plain cs) h)
-
 no_caret_in : (args : Option (List Ch)) → arguments_are_plain args ≡ true → arguments_have_caret args ≡ false
 no_caret_in None h = refl
 no_caret_in (Some args) h = no_caret args h
@@ -104,12 +95,18 @@ no_class_in : (args : Option (List Ch)) → arguments_are_plain args ≡ true �
 no_class_in None h = refl
 no_class_in (Some args) h = no_other_class false args h
 
-no_backslash : (c : Ch) → is_plain c ≡ true → is_escaped_backslash c ≡ false
-no_backslash c h = grind (arith, no_escape c h)
+no_path_escape : (c : Ch) → is_plain c ≡ true → is_path_escape c ≡ false
+no_path_escape c h = grind (arith, no_escape c h)
 
-no_backslash_in : (args : Option (List Ch)) → arguments_are_plain args ≡ true → arguments_have_backslash args ≡ false
-no_backslash_in None h = refl
-no_backslash_in (Some args) h = none_of is_escaped_backslash no_backslash args h
+no_argument_escape : (c : Ch) → is_plain c ≡ true → is_argument_escape c ≡ false
+no_argument_escape c h = grind (arith, no_escape c h)
+
+no_escape_in : (args : Option (List Ch)) → arguments_are_plain args ≡ true → arguments_have_escape args ≡ false
+no_escape_in None h = refl
+no_escape_in (Some args) h = none_of is_argument_escape no_argument_escape args h
+
+no_tab : (c : Ch) → is_plain c ≡ true → is_escaped_tab c ≡ false
+no_tab c h = grind (arith, no_escape c h)
 
 no_mark : (c : Ch) → is_plain c ≡ true → is_escaped_mark c ≡ false
 no_mark c h = grind (arith, no_escape c h)
@@ -121,9 +118,11 @@ no_byte : (c : Ch) → is_plain c ≡ true → is_escaped_byte c ≡ false
 no_byte c h = grind (arith, no_escape c h)
 
 no_host_escape : (cs : List Ch) → list_all is_plain cs ≡ true → host_has_escape cs ≡ false
-no_host_escape cs h = either (list_any is_escaped_mark cs) (list_any is_escaped_bracket_mark cs && may_have_bracket cs)
-    (none_of is_escaped_mark no_mark cs h)
-    (ap (λ any. any && may_have_bracket cs) (none_of is_escaped_bracket_mark no_bracket_mark cs h))
+no_host_escape cs h =
+    let mark : list_any is_escaped_mark cs ≡ false = none_of is_escaped_mark no_mark cs h in
+    let bracket : list_any is_escaped_bracket_mark cs ≡ false = none_of is_escaped_bracket_mark no_bracket_mark cs h in
+    let tab : list_any is_escaped_tab cs ≡ false = none_of is_escaped_tab no_tab cs h in
+    grind (arith, mark, bracket, tab)
 
 no_id : (cs : List Ch) → list_all is_plain cs ≡ true → begins_as_id cs ≡ false
 no_id [] h = refl
@@ -172,30 +171,43 @@ plain_bracket (atoms.Gid id) h = refl
 plain_bracket (atoms.Address addr) h = refl
 plain_bracket (atoms.Net addr mask) h = refl
 
--- a plain word does not begin with an escaped `#`
-plain_id : (t : TokenKind) → token_is_plain t ≡ true → word_begins_as_id t ≡ false
-plain_id (tokens.Word quoted chars) h = both (not quoted) (begins_as_id chars) (no_id chars h)
-plain_id (tokens.Command path args) h = refl
-plain_id (tokens.Mark mark) h = refl
-plain_id (tokens.Include folder hash path) h = refl
+-- a plain word has plain characters, and no other token has any
+plain_unquoted : (t : TokenKind) → token_is_plain t ≡ true → list_all is_plain (unquoted t) ≡ true
+plain_unquoted (tokens.Word true chars) h = refl
+plain_unquoted (tokens.Word false chars) h = h
+plain_unquoted (tokens.Command path args) h = refl
+plain_unquoted (tokens.Mark mark) h = refl
+plain_unquoted (tokens.Include folder hash path) h = refl
+
+-- a plain name has no escape that sudo reads otherwise
+plain_name : (word : List Ch) → list_all is_plain word ≡ true → name_has_escape word ≡ false
+plain_name word h = either (begins_as_id word) (list_any is_escaped_tab word) (no_id word h) (none_of is_escaped_tab no_tab word h)
+
+-- nor has a plain ID
+plain_group_id : (word : List Ch) → list_all is_plain word ≡ true → group_id_has_escape word ≡ false
+plain_group_id [] h = refl
+plain_group_id (percent ∷ []) h = refl
+plain_group_id (percent ∷ sign ∷ digits) h = both (not sign.escaped) (list_any is_escaped digits)
+    (none_of is_escaped no_escape digits (second (is_plain sign) (list_all is_plain digits)
+    (second (is_plain percent) (is_plain sign && list_all is_plain digits) h)))
 
 -- a plain atom has no escape that sudo reads otherwise
-plain_escape : (a : Atom) (t : TokenKind) → atom_is_plain a ≡ true → token_is_plain t ≡ true → has_escape a t ≡ false
-plain_escape (atoms.Host chars quoted) t h k =
+plain_escape : (a : Atom) (word : List Ch) → atom_is_plain a ≡ true → list_all is_plain word ≡ true → has_escape a word ≡ false
+plain_escape (atoms.Host chars quoted) word h k =
     both (not quoted) (host_has_escape chars) (no_host_escape chars (second (not quoted) (list_all is_plain chars) h))
-plain_escape (atoms.Command path args) t h k =
-    let inside : has_argument_inside false path ≡ false = no_argument false path (plain_path path args h) in
+plain_escape (atoms.Command path args) word h k =
+    let known : list_any is_path_escape path ≡ false = none_of is_path_escape no_path_escape path (plain_path path args h) in
     let short : is_long_sudoedit path ≡ false = short_path path args h in
-    let none : arguments_have_backslash args ≡ false = no_backslash_in args (plain_args path args h) in
-    grind (arith, inside, short, none)
-plain_escape atoms.All t h k = refl
-plain_escape (atoms.Alias name) t h k = refl
-plain_escape (atoms.Name name) t h k = plain_id t k
-plain_escape (atoms.Uid id) t h k = refl
-plain_escape (atoms.Group name) t h k = refl
-plain_escape (atoms.Gid id) t h k = refl
-plain_escape (atoms.Address addr) t h k = refl
-plain_escape (atoms.Net addr mask) t h k = refl
+    let none : arguments_have_escape args ≡ false = no_escape_in args (plain_args path args h) in
+    grind (arith, known, short, none)
+plain_escape atoms.All word h k = refl
+plain_escape (atoms.Alias name) word h k = refl
+plain_escape (atoms.Name name) word h k = plain_name word k
+plain_escape (atoms.Uid id) word h k = none_of is_escaped no_escape word k
+plain_escape (atoms.Group name) word h k = none_of is_escaped_tab no_tab word k
+plain_escape (atoms.Gid id) word h k = plain_group_id word k
+plain_escape (atoms.Address addr) word h k = refl
+plain_escape (atoms.Net addr mask) word h k = refl
 
 -- a plain host is not quoted
 plain_quote : (a : Atom) → atom_is_plain a ≡ true → has_quoted_mark a ≡ false
@@ -228,8 +240,9 @@ plain_token a b h = grind arith
 -- a member without marks has the construct of no class that needs one
 unmarked : (class : CautionClass) → needs_mark class ≡ true → (m : Member) → is_marked m ≡ false → member_holds class m ≡ false
 unmarked Caret n m h = plain_caret m.atom (plain_atom (atom_is_plain m.atom) (token_is_plain m.token.kind) h)
-unmarked Escape n m h = plain_escape m.atom m.token.kind (plain_atom (atom_is_plain m.atom) (token_is_plain m.token.kind) h)
-    (plain_token (atom_is_plain m.atom) (token_is_plain m.token.kind) h)
+unmarked Escape n m h = plain_escape m.atom (unquoted m.token.kind)
+    (plain_atom (atom_is_plain m.atom) (token_is_plain m.token.kind) h)
+    (plain_unquoted m.token.kind (plain_token (atom_is_plain m.atom) (token_is_plain m.token.kind) h))
 unmarked QuotedHost n m h = plain_quote m.atom (plain_atom (atom_is_plain m.atom) (token_is_plain m.token.kind) h)
 unmarked QuotedEscape n m h = plain_word m.token.kind (plain_token (atom_is_plain m.atom) (token_is_plain m.token.kind) h)
 unmarked Bracket n m h = plain_bracket m.atom (plain_atom (atom_is_plain m.atom) (token_is_plain m.token.kind) h)
@@ -239,6 +252,7 @@ unmarked Join n m h = refl
 unmarked TornMark n m h = refl
 unmarked IncludeEscape n m h = refl
 unmarked IncludeIndent n m h = refl
+unmarked Comment n m h = refl
 unmarked Case n m h = grind arith
 unmarked Linked n m h = refl
 unmarked Defaults n m h = refl
@@ -247,6 +261,7 @@ unmarked Sudoedit n m h = grind arith
 unmarked Network n m h = grind arith
 unmarked Setenv n m h = refl
 unmarked GroupForm n m h = refl
+unmarked Reserved n m h = refl
 
 -- where no member passes one test, none passes the other
 none_passes : (p q : Member → Bool) → ((m : Member) → q m ≡ false → p m ≡ false) → (ms : List Member) → list_any q ms ≡ false

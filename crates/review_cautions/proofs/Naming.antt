@@ -6,9 +6,9 @@ use Rattle.sudo_base.proofs.Lists.{find-holds}
 use Rattle.sudo_base.proofs.IndexLemmas.{bytes_eq-is}
 use Rattle.review_cautions.specs.declared.class.CautionClass.{CautionClass}
 use Rattle.review_cautions.specs.declared.class.CautionClass.TheVariants.{Return, BlankAfterBackslash, Join, TornMark}
-use Rattle.review_cautions.specs.declared.class.CautionClass.TheVariants.{IncludeEscape, IncludeIndent}
+use Rattle.review_cautions.specs.declared.class.CautionClass.TheVariants.{IncludeEscape, IncludeIndent, Comment}
 use Rattle.review_cautions.specs.declared.class.CautionClass.TheVariants.{Caret, Escape, Case, QuotedHost, QuotedEscape, Linked, Defaults}
-use Rattle.review_cautions.specs.declared.class.CautionClass.TheVariants.{UnknownParameter, Sudoedit, Network, Bracket, Setenv, GroupForm}
+use Rattle.review_cautions.specs.declared.class.CautionClass.TheVariants.{UnknownParameter, Sudoedit, Network, Bracket, Setenv, GroupForm, Reserved}
 use Rattle.review_cautions.specs.Classes.{classes, class_name}
 
 -- the class is the first of its own name
@@ -19,6 +19,7 @@ own_name Join = refl
 own_name TornMark = refl
 own_name IncludeEscape = refl
 own_name IncludeIndent = refl
+own_name Comment = refl
 own_name Caret = refl
 own_name Escape = refl
 own_name Case = refl
@@ -32,6 +33,7 @@ own_name Network = refl
 own_name Bracket = refl
 own_name Setenv = refl
 own_name GroupForm = refl
+own_name Reserved = refl
 
 -- what the search finds for a name is a class exactly if the name is that of the class
 pub found_by_name : (name : List ℕ) (found : Option CautionClass) → found ≡ find (λ c. bytes_eq (class_name c) name) classes

@@ -13,9 +13,9 @@ use Rattle.sudo_policy.specs.Definitions.{MemberList, lists}
 use Rattle.review_cautions.specs.declared.caution.Caution.{Caution}
 use Rattle.review_cautions.specs.declared.class.CautionClass.{CautionClass}
 use Rattle.review_cautions.specs.declared.class.CautionClass.TheVariants.{Return, BlankAfterBackslash, Join, TornMark}
-use Rattle.review_cautions.specs.declared.class.CautionClass.TheVariants.{IncludeEscape, IncludeIndent}
+use Rattle.review_cautions.specs.declared.class.CautionClass.TheVariants.{IncludeEscape, IncludeIndent, Comment}
 use Rattle.review_cautions.specs.declared.class.CautionClass.TheVariants.{Caret, Escape, Case, QuotedHost, QuotedEscape, Linked, Defaults}
-use Rattle.review_cautions.specs.declared.class.CautionClass.TheVariants.{UnknownParameter, Sudoedit, Network, Bracket, Setenv, GroupForm}
+use Rattle.review_cautions.specs.declared.class.CautionClass.TheVariants.{UnknownParameter, Sudoedit, Network, Bracket, Setenv, GroupForm, Reserved}
 use Rattle.review_cautions.specs.PhysicalLines.{numbers_of}
 use Rattle.review_cautions.specs.declared.link.Link.{Link}
 use Rattle.review_cautions.specs.ListTests.{list_holds, list_is_linked, usual_links}
@@ -115,11 +115,12 @@ abbrev pub cautions_by_links : List Link → List (List ℕ) → Policy → List
 cautions_by_links links texts policy =
     text_cautions Return texts ++ text_cautions BlankAfterBackslash texts ++ text_cautions Join texts
     ++ text_cautions TornMark texts ++ text_cautions IncludeEscape texts ++ text_cautions IncludeIndent texts
+    ++ text_cautions Comment texts
     ++ list_cautions Caret (lists policy) ++ list_cautions Escape (lists policy) ++ list_cautions Case (lists policy)
     ++ list_cautions QuotedHost (lists policy) ++ list_cautions QuotedEscape (lists policy) ++ linked_cautions links (lists policy)
     ++ defaults_cautions policy.entries ++ unknown_cautions policy.entries
     ++ list_cautions Sudoedit (lists policy) ++ list_cautions Network (lists policy) ++ list_cautions Bracket (lists policy)
-    ++ entry_cautions Setenv policy.entries ++ entry_cautions GroupForm policy.entries
+    ++ entry_cautions Setenv policy.entries ++ entry_cautions GroupForm policy.entries ++ entry_cautions Reserved policy.entries
 
 -- the same where the machine has the usual links
 abbrev pub policy_cautions : List (List ℕ) → Policy → List Caution

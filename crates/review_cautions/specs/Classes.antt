@@ -2,14 +2,15 @@
 use Rattle.std.specs.Prelude.{ℕ, List, [], ◌∷◌, codes}
 use Rattle.review_cautions.specs.declared.class.CautionClass.{CautionClass}
 use Rattle.review_cautions.specs.declared.class.CautionClass.TheVariants.{Return, BlankAfterBackslash, Join, TornMark}
-use Rattle.review_cautions.specs.declared.class.CautionClass.TheVariants.{IncludeEscape, IncludeIndent}
+use Rattle.review_cautions.specs.declared.class.CautionClass.TheVariants.{IncludeEscape, IncludeIndent, Comment}
 use Rattle.review_cautions.specs.declared.class.CautionClass.TheVariants.{Caret, Escape, Case, QuotedHost, QuotedEscape, Linked, Defaults}
-use Rattle.review_cautions.specs.declared.class.CautionClass.TheVariants.{UnknownParameter, Sudoedit, Network, Bracket, Setenv, GroupForm}
+use Rattle.review_cautions.specs.declared.class.CautionClass.TheVariants.{UnknownParameter, Sudoedit, Network, Bracket, Setenv, GroupForm, Reserved}
 
 -- the classes, in the order in which they are listed
 abbrev pub classes : List CautionClass
-classes = Return ∷ BlankAfterBackslash ∷ Join ∷ TornMark ∷ IncludeEscape ∷ IncludeIndent ∷ Caret ∷ Escape ∷ Case ∷ QuotedHost
-    ∷ QuotedEscape ∷ Linked ∷ Defaults ∷ UnknownParameter ∷ Sudoedit ∷ Network ∷ Bracket ∷ Setenv ∷ GroupForm ∷ []
+classes = Return ∷ BlankAfterBackslash ∷ Join ∷ TornMark ∷ IncludeEscape ∷ IncludeIndent ∷ Comment ∷ Caret ∷ Escape ∷ Case
+    ∷ QuotedHost ∷ QuotedEscape ∷ Linked ∷ Defaults ∷ UnknownParameter ∷ Sudoedit ∷ Network ∷ Bracket ∷ Setenv ∷ GroupForm
+    ∷ Reserved ∷ []
 
 -- the name of a class
 abbrev pub class_name : CautionClass → List ℕ
@@ -19,6 +20,7 @@ class_name Join = codes "join"
 class_name TornMark = codes "torn-mark"
 class_name IncludeEscape = codes "include-escape"
 class_name IncludeIndent = codes "include-indent"
+class_name Comment = codes "comment"
 class_name Caret = codes "caret"
 class_name Escape = codes "escape"
 class_name Case = codes "case"
@@ -32,6 +34,7 @@ class_name Network = codes "network"
 class_name Bracket = codes "bracket"
 class_name Setenv = codes "setenv"
 class_name GroupForm = codes "group-form"
+class_name Reserved = codes "reserved"
 
 -- what the reader does with the construct, and what sudo does
 abbrev pub class_text : CautionClass → List ℕ
@@ -43,8 +46,9 @@ class_text TornMark = codes "lines are joined where sudo does not join them: rea
 class_text IncludeEscape =
     codes "an include line has a backslash: read here as everywhere, for sudo a part of the path"
 class_text IncludeIndent = codes "blanks stand before #include: the file is read here, for sudo the line is a comment"
+class_text Comment = codes "a number stands behind the # of a comment: a comment here, for sudo an ID, which it mostly refuses there"
 class_text Caret = codes "`[^` begins a bracket: `^` is one of its characters here, for sudo a complement"
-class_text Escape = codes "an escape is read otherwise by sudo: as a wildcard, as an ID, or as two characters"
+class_text Escape = codes "an escape is read otherwise by sudo: as a wildcard, as an ID, as two characters, or refused"
 class_text Case = codes "a name has a capital letter: letter case counts here, not for sudo"
 class_text QuotedHost = codes "a quoted host has a wildcard: it stands for itself here, for sudo it is a pattern"
 class_text QuotedEscape =
@@ -62,3 +66,5 @@ class_text Setenv =
     codes "SETENV is given otherwise: ALL has it for sudo whatever the tag, an alias of ALL has it here alone"
 class_text GroupForm =
     codes "a runas names no user: allowed here also where no group is asked for, for sudo only with a group"
+class_text Reserved =
+    codes "an alias has the name of an option: an alias here, for sudo a reserved word, and the line is refused"

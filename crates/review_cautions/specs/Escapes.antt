@@ -2,7 +2,7 @@
 use Rattle.std.specs.Prelude.{ℕ, Bool, false, not, ◌&&◌, ◌||◌, ◌==◌, nat_lt, nat_le, if◌then◌else◌, List, [], ◌∷◌, length}
 use Rattle.std.specs.Prelude.{Option, None, Some}
 use Rattle.std.specs.List.{list_any}
-use Rattle.sudo_text.specs.Bytes.{is_digit}
+use Rattle.sudo_text.specs.Bytes.{is_blank, is_digit}
 use Rattle.sudo_text.specs.declared.token.Ch.{Ch}
 use Rattle.sudo_text.specs.declared.token.TokenKind.{TokenKind}
 use Rattle.sudo_text.specs.declared.token.TokenKind.TheVariants as tokens
@@ -10,32 +10,25 @@ use Rattle.sudo_grammar.specs.declared.kind.Atom.{Atom}
 use Rattle.sudo_grammar.specs.declared.kind.Atom.TheVariants as atoms
 use Rattle.sudo_grammar.specs.declared.kind.Member.{Member}
 
--- a backslash that an escape yields: in arguments `\\` is a backslash here, and sudo takes it for an escape once more
-abbrev pub is_escaped_backslash : Ch → Bool
-is_escaped_backslash c = c.escaped && (c.byte == 92)
+-- an escape that sudo does not know in a path: it knows those of `, : = #` and of blanks. Any other ends the path, and the
+-- line is refused, or arguments begin
+abbrev pub is_path_escape : Ch → Bool
+is_path_escape c =
+    c.escaped && not ((c.byte == 44) || (c.byte == 58) || (c.byte == 61) || (c.byte == 35) || is_blank c.byte)
 
--- arguments, if any are given, have such a backslash
-abbrev pub arguments_have_backslash : Option (List Ch) → Bool
-arguments_have_backslash None = false
-arguments_have_backslash (Some args) = list_any is_escaped_backslash args
+-- the bytes that arguments may escape for sudo and here alike: `* ? [ ] ! ^ : , = #` and blanks
+abbrev pub is_argument_byte : ℕ → Bool
+is_argument_byte b = (b == 42) || (b == 63) || (b == 91) || (b == 93) || (b == 33) || (b == 94)
+    || (b == 58) || (b == 44) || (b == 61) || (b == 35) || is_blank b
 
--- one of `! > ( ) "` that no escape yields, or an escaped tab: for sudo a word ends before it and a path does not, so
--- that it takes what begins with a slash for a path even if an escape stands behind it
-abbrev pub ends_word : Ch → Bool
-ends_word c = if c.escaped then c.byte == 9
-    else (c.byte == 33) || (c.byte == 62) || (c.byte == 40) || (c.byte == 41) || (c.byte == 34)
+-- another escape in arguments: `\\` is a backslash here, and sudo takes it for an escape once more; the others it refuses
+abbrev pub is_argument_escape : Ch → Bool
+is_argument_escape c = c.escaped && not (is_argument_byte c.byte)
 
--- one of `* ? [ ] ! ^ \` that an escape yields: for sudo it ends a path, and arguments may begin with it
-abbrev pub begins_argument : Ch → Bool
-begins_argument c = c.escaped && ((c.byte == 42) || (c.byte == 63) || (c.byte == 91) || (c.byte == 93)
-    || (c.byte == 33) || (c.byte == 94) || (c.byte == 92))
-
--- such an escape stands behind a character of the first kind: arguments begin there for sudo; `ended`: such a character
--- stands before the characters
-abbrev pub has_argument_inside : Bool → List Ch → Bool
-has_argument_inside ended [] = false
-has_argument_inside ended (c ∷ cs) =
-    (ended && begins_argument c) || has_argument_inside (ended || ends_word c) cs
+-- arguments, if any are given, have such an escape
+abbrev pub arguments_have_escape : Option (List Ch) → Bool
+arguments_have_escape None = false
+arguments_have_escape (Some args) = list_any is_argument_escape args
 
 -- the first character is this byte
 abbrev pub begins_with : ℕ → List Ch → Bool
@@ -60,10 +53,14 @@ is_escaped_bracket_mark c =
 abbrev pub may_have_bracket : List Ch → Bool
 may_have_bracket chars = list_any (λ (c : Ch). c.byte == 91) chars && list_any (λ (c : Ch). c.byte == 93) chars
 
--- a host has an escape that sudo takes for a mark of its pattern
+-- an escaped tab, which ends a word for sudo
+abbrev pub is_escaped_tab : Ch → Bool
+is_escaped_tab c = c.escaped && (c.byte == 9)
+
+-- a host has an escape that sudo takes for a mark of its pattern, or an escaped tab
 abbrev pub host_has_escape : List Ch → Bool
-host_has_escape chars =
-    list_any is_escaped_mark chars || (list_any is_escaped_bracket_mark chars && may_have_bracket chars)
+host_has_escape chars = list_any is_escaped_mark chars
+    || (list_any is_escaped_bracket_mark chars && may_have_bracket chars) || list_any is_escaped_tab chars
 
 -- the characters begin as a number may for sudo: with a digit, a sign, or a blank or a control byte, which it passes over
 abbrev pub begins_number : List Ch → Bool
@@ -75,22 +72,38 @@ abbrev pub begins_as_id : List Ch → Bool
 begins_as_id [] = false
 begins_as_id (c ∷ cs) = c.escaped && (c.byte == 35) && begins_number cs
 
--- the token is an unquoted word that begins with such a `#`
-abbrev pub word_begins_as_id : TokenKind → Bool
-word_begins_as_id (tokens.Word quoted chars) = not quoted && begins_as_id chars
-word_begins_as_id _ = false
+-- an escape yields the character
+abbrev pub is_escaped : Ch → Bool
+is_escaped c = c.escaped
 
--- an atom, and the token that spells it, have an escape that sudo reads otherwise
-abbrev pub has_escape : Atom → TokenKind → Bool
-has_escape (atoms.Name name) token = word_begins_as_id token
-has_escape (atoms.Host chars quoted) token = not quoted && host_has_escape chars
-has_escape (atoms.Command path args) token =
-    has_argument_inside false path || is_long_sudoedit path || arguments_have_backslash args
-has_escape _ token = false
+-- the characters of an unquoted word, and none of another token
+abbrev pub unquoted : TokenKind → List Ch
+unquoted (tokens.Word quoted chars) = if quoted then [] else chars
+unquoted _ = []
+
+-- a name begins with an escaped `#`, or has an escaped tab
+abbrev pub name_has_escape : List Ch → Bool
+name_has_escape chars = begins_as_id chars || list_any is_escaped_tab chars
+
+-- the digits of a group ID, behind `%#`, have an escape; behind `%\#` sudo reads them as here
+abbrev pub group_id_has_escape : List Ch → Bool
+group_id_has_escape (percent ∷ sign ∷ digits) = not sign.escaped && list_any is_escaped digits
+group_id_has_escape _ = false
+
+-- an atom, and the characters of the unquoted word that spells it, have an escape that sudo reads otherwise
+abbrev pub has_escape : Atom → List Ch → Bool
+has_escape (atoms.Name name) word = name_has_escape word
+has_escape (atoms.Group name) word = list_any is_escaped_tab word
+has_escape (atoms.Uid id) word = list_any is_escaped word
+has_escape (atoms.Gid id) word = group_id_has_escape word
+has_escape (atoms.Host chars quoted) word = not quoted && host_has_escape chars
+has_escape (atoms.Command path args) word =
+    list_any is_path_escape path || is_long_sudoedit path || arguments_have_escape args
+has_escape _ word = false
 
 -- the member has an escape that sudo reads otherwise
 abbrev pub has_other_escape : Member → Bool
-has_other_escape m = has_escape m.atom m.token.kind
+has_other_escape m = has_escape m.atom (unquoted m.token.kind)
 
 -- one of `*`, `?`, `[` and `\`, escaped or not
 abbrev pub is_mark : Ch → Bool

@@ -1,14 +1,14 @@
 -- Constructs of physical lines: what ends them, and what their joins to the next line tear apart. sudoers(5), "Other
 -- special characters and reserved words".
-use Rattle.std.specs.Prelude.{ℕ, Bool, false, not, ◌&&◌, ◌||◌, ◌==◌, nat_lt, nat_le, if◌then◌else◌, List, [], ◌∷◌, ◌++◌}
+use Rattle.std.specs.Prelude.{ℕ, Bool, true, false, not, ◌&&◌, ◌||◌, ◌==◌, nat_lt, nat_le, if◌then◌else◌, List, [], ◌∷◌, ◌++◌}
 use Rattle.std.specs.Prelude.{reverse, length, take, slice_index, codes, nat_eq, ◌+◌, ◌-◌}
 use Rattle.std.specs.List.{list_any, take_while, starts_with}
 use Rattle.std.specs.Str.{bytes_eq}
-use Rattle.sudo_text.specs.Bytes.{is_blank, is_include}
+use Rattle.sudo_text.specs.Bytes.{is_blank, is_digit, is_include}
 use Rattle.sudo_text.specs.Lines.{without_return, without_indent, without_escape, is_comment, ends_in_escape, is_continued}
 use Rattle.review_cautions.specs.declared.class.CautionClass.{CautionClass}
 use Rattle.review_cautions.specs.declared.class.CautionClass.TheVariants.{Return, BlankAfterBackslash, Join, TornMark}
-use Rattle.review_cautions.specs.declared.class.CautionClass.TheVariants.{IncludeEscape, IncludeIndent}
+use Rattle.review_cautions.specs.declared.class.CautionClass.TheVariants.{IncludeEscape, IncludeIndent, Comment}
 
 -- the last byte of a line, and 0 if it has none
 abbrev pub last_byte : List ℕ → ℕ
@@ -117,6 +117,36 @@ abbrev pub is_indented_include : Bool → List ℕ → Bool
 is_indented_include continuing line =
     not continuing && is_blank (slice_index line 0) && (slice_index (stripped line) 0 == 35) && is_include (stripped line)
 
+-- one of `! , ( : = @ > %`, behind which an ID may stand
+abbrev pub admits_id : ℕ → Bool
+admits_id b =
+    (b == 33) || (b == 44) || (b == 40) || (b == 58) || (b == 61) || (b == 64) || (b == 62) || (b == 37)
+
+-- a digit is the first byte, or there is none
+abbrev pub is_empty_or_number : List ℕ → Bool
+is_empty_or_number [] = true
+is_empty_or_number (b ∷ bs) = is_digit b
+
+-- for sudo no comment begins with a `#` and these bytes: a digit, or a minus sign and then a digit or nothing
+abbrev pub begins_no_comment : List ℕ → Bool
+begins_no_comment [] = false
+begins_no_comment (b ∷ bs) = is_digit b || ((b == 45) && is_empty_or_number bs)
+
+-- the first byte is a digit
+abbrev pub begins_with_digit : List ℕ → Bool
+begins_with_digit bs = is_digit (slice_index bs 0)
+
+-- the first `#` that begins a comment here begins none for sudo. `escaped`: an odd number of backslashes stands directly
+-- before the bytes; `quoted`: they stand between double quotes; `admitted`: an ID may stand here
+abbrev pub has_other_comment : Bool → Bool → Bool → List ℕ → Bool
+has_other_comment escaped quoted admitted [] = false
+has_other_comment escaped quoted admitted (b ∷ bs) =
+    if escaped then has_other_comment false quoted false bs
+    else if b == 92 then has_other_comment true quoted false bs
+    else if b == 34 then has_other_comment false (not quoted) false bs
+    else if (b == 35) && not quoted && not (admitted && begins_with_digit bs) then begins_no_comment bs
+    else has_other_comment false quoted (admits_id b || (admitted && is_blank b)) bs
+
 -- the line has the construct of the class; `continuing`: it continues another; `next`: the line after it
 abbrev pub line_holds : CautionClass → Bool → List ℕ → List ℕ → Bool
 line_holds Return continuing line next = ends_in_return continuing line
@@ -125,15 +155,22 @@ line_holds Join continuing line next = tears_word (stripped line) (stripped next
 line_holds TornMark continuing line next = tears_mark (stripped line) (stripped next)
 line_holds IncludeEscape continuing line next = is_escaped_include continuing (stripped line)
 line_holds IncludeIndent continuing line next = is_indented_include continuing line
+line_holds Comment continuing line next = not (is_include (stripped line)) && has_other_comment false false true (stripped line)
 line_holds _ continuing line next = false
 
 -- the line is a comment; a continuation line never is
 abbrev pub is_remark : Bool → List ℕ → Bool
 is_remark continuing line = not continuing && is_comment (stripped line)
 
--- the line has the construct of the class and is no comment; `continuing`: it continues another
+-- the class is of comments, which no other class looks at
+abbrev pub is_of_comments : CautionClass → Bool
+is_of_comments Comment = true
+is_of_comments _ = false
+
+-- the line has the construct of the class, and is no comment but for the class of these; `continuing`: it continues another
 abbrev pub is_marked : CautionClass → Bool → List ℕ → List ℕ → Bool
-is_marked class continuing line next = not (is_remark continuing line) && line_holds class continuing line next
+is_marked class continuing line next =
+    (is_of_comments class || not (is_remark continuing line)) && line_holds class continuing line next
 
 -- the first line, or an empty line if the list is empty
 abbrev pub first_line : List (List ℕ) → List ℕ

@@ -1,6 +1,6 @@
 //! Texts, and the reader's rules for bytes and physical lines: blanks, comments, backslashes at the end of a line.
 ghost use Rattle.std.specs.Prelude.{◌≡◌, ◌≤◌, ◌<◌, ◌∷◌, length, reverse, slice_index, ◌==◌, not, bytes_eq};
-ghost use Rattle.std.specs.List.{take_while};
+ghost use Rattle.std.specs.List.{list_any, take_while};
 ghost use Rattle.sudo_text.specs.Bytes as bytes;
 ghost use Rattle.sudo_text.specs.Lines as lines;
 ghost use Rattle.sudo_text.specs.Lines.{cut};
@@ -71,6 +71,13 @@ pub(crate) fn is_comment(line: &[u8]) -> bool
     ensures { result ≡ lines.is_comment line.now }
 {
     peek(line, 0) == b'#' && !is_include(line) && !is_digit(peek(line, 1))
+}
+
+/// Whether a byte stands in a line.
+pub(crate) fn has_byte(byte: u8, line: &[u8]) -> bool
+    ensures { result ≡ list_any (λ b. b == byte) line.now }
+{
+    line.iter().any(|other| *other == byte)
 }
 
 // Returns the number of backslashes at the end of a line.

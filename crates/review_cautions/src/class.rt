@@ -17,9 +17,11 @@ pub enum CautionClass {
     IncludeEscape,
     /// An include line that begins with `#` behind blanks.
     IncludeIndent,
+    /// A comment whose `#` stands before a number.
+    Comment,
     /// A bracket of a pattern that begins with `^`.
     Caret,
-    /// An escape that sudo reads as a wildcard, as the mark of an ID, or as two characters.
+    /// An escape that sudo reads as a wildcard, as the mark of an ID, as two characters, or not at all.
     Escape,
     /// A name of a user or a group with a capital letter.
     Case,
@@ -43,6 +45,8 @@ pub enum CautionClass {
     Setenv,
     /// A runas that names no user.
     GroupForm,
+    /// An alias with the name of an option.
+    Reserved,
 }
 
 impl CautionClass {
@@ -57,6 +61,7 @@ impl CautionClass {
             CautionClass::TornMark => b"torn-mark",
             CautionClass::IncludeEscape => b"include-escape",
             CautionClass::IncludeIndent => b"include-indent",
+            CautionClass::Comment => b"comment",
             CautionClass::Caret => b"caret",
             CautionClass::Escape => b"escape",
             CautionClass::Case => b"case",
@@ -70,6 +75,7 @@ impl CautionClass {
             CautionClass::Bracket => b"bracket",
             CautionClass::Setenv => b"setenv",
             CautionClass::GroupForm => b"group-form",
+            CautionClass::Reserved => b"reserved",
         }
     }
 
@@ -96,11 +102,14 @@ impl CautionClass {
             CautionClass::IncludeIndent => {
                 b"blanks stand before #include: the file is read here, for sudo the line is a comment"
             }
+            CautionClass::Comment => {
+                b"a number stands behind the # of a comment: a comment here, for sudo an ID, which it mostly refuses there"
+            }
             CautionClass::Caret => {
                 b"`[^` begins a bracket: `^` is one of its characters here, for sudo a complement"
             }
             CautionClass::Escape => {
-                b"an escape is read otherwise by sudo: as a wildcard, as an ID, or as two characters"
+                b"an escape is read otherwise by sudo: as a wildcard, as an ID, as two characters, or refused"
             }
             CautionClass::Case => {
                 b"a name has a capital letter: letter case counts here, not for sudo"
@@ -133,18 +142,22 @@ impl CautionClass {
             CautionClass::GroupForm => {
                 b"a runas names no user: allowed here also where no group is asked for, for sudo only with a group"
             }
+            CautionClass::Reserved => {
+                b"an alias has the name of an option: an alias here, for sudo a reserved word, and the line is refused"
+            }
         }
     }
 }
 
 /// The classes, in the order in which they are listed.
-pub const CAUTION_CLASSES: [CautionClass; 19] = [
+pub const CAUTION_CLASSES: [CautionClass; 21] = [
     CautionClass::Return,
     CautionClass::BlankAfterBackslash,
     CautionClass::Join,
     CautionClass::TornMark,
     CautionClass::IncludeEscape,
     CautionClass::IncludeIndent,
+    CautionClass::Comment,
     CautionClass::Caret,
     CautionClass::Escape,
     CautionClass::Case,
@@ -158,6 +171,7 @@ pub const CAUTION_CLASSES: [CautionClass; 19] = [
     CautionClass::Bracket,
     CautionClass::Setenv,
     CautionClass::GroupForm,
+    CautionClass::Reserved,
 ];
 
 // Returns the first class of a name.

@@ -48,6 +48,7 @@ pub fn cautions_by_links(
     push_texts(alloc, CautionClass::TornMark, texts, &mut found)?;
     push_texts(alloc, CautionClass::IncludeEscape, texts, &mut found)?;
     push_texts(alloc, CautionClass::IncludeIndent, texts, &mut found)?;
+    push_texts(alloc, CautionClass::Comment, texts, &mut found)?;
     push_class(alloc, CautionClass::Caret, lists, &marked, &mut found)?;
     push_class(alloc, CautionClass::Escape, lists, &marked, &mut found)?;
     push_class(alloc, CautionClass::Case, lists, &marked, &mut found)?;
@@ -67,5 +68,6 @@ pub fn cautions_by_links(
     push_class(alloc, CautionClass::Bracket, lists, &marked, &mut found)?;
     push_entries(alloc, CautionClass::Setenv, entries, &mut found)?;
     push_entries(alloc, CautionClass::GroupForm, entries, &mut found)?;
+    push_entries(alloc, CautionClass::Reserved, entries, &mut found)?;
     Ok(found)
 }

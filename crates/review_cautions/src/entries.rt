@@ -4,6 +4,7 @@ ghost use Rattle.std.specs.List.{list_any};
 ghost use Rattle.review_cautions.specs.EntryTests as spec;
 ghost use Rattle.review_cautions.specs.Cautions.{caution_at, entry_cautions};
 
+use crate::reserved::body_names_option;
 use crate::{Caution, CautionClass};
 use std::alloc::{AllocError, Global};
 use sudo_policy::{
@@ -233,6 +234,7 @@ fn body_holds(class: CautionClass, used: bool, body: &EntryBody) -> bool
     match class {
         CautionClass::Setenv => body_has_environment(used, body),
         CautionClass::GroupForm => body_has_group_form(body),
+        CautionClass::Reserved => body_names_option(body),
         _ => false,
     }
 }

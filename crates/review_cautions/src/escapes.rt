@@ -1,75 +1,66 @@
 //! Escapes that sudo reads otherwise.
-ghost use Rattle.std.specs.Prelude.{◌≡◌, ◌==◌, false};
+ghost use Rattle.std.specs.Prelude.{◌≡◌, ◌==◌};
 ghost use Rattle.std.specs.List.{list_any};
 ghost use Rattle.review_cautions.specs.Escapes as spec;
 
-use crate::bytes::is_digit;
+use crate::bytes::{is_blank, is_digit};
 use sudo_policy::{Atom, Member};
 use sudo_text::{Ch, Seq, TokenKind};
 
-// Whether a character is a backslash that an escape yields.
-fn is_escaped_backslash(ch: Ch) -> bool
-    ensures { result ≡ spec.is_escaped_backslash ch }
+// Whether an escape yields a character, and sudo knows no such escape in a path.
+fn is_path_escape(ch: Ch) -> bool
+    ensures { result ≡ spec.is_path_escape ch }
 {
-    ch.escaped && ch.byte == b'\\'
+    let byte = ch.byte;
+    ch.escaped && !(byte == b',' || byte == b':' || byte == b'=' || byte == b'#' || is_blank(byte))
 }
 
-// Whether characters have such a backslash.
-fn has_escaped_backslash(chars: &[Ch]) -> bool
-    ensures { result ≡ list_any spec.is_escaped_backslash chars.now }
+// Whether a path has such a character.
+fn has_path_escape(path: &[Ch]) -> bool
+    ensures { result ≡ list_any spec.is_path_escape path.now }
 {
-    chars.iter().any(|ch| is_escaped_backslash(*ch))
+    path.iter().any(|ch| is_path_escape(*ch))
 }
 
-// Whether arguments, if any are given, have such a backslash.
-fn arguments_have_backslash(arguments: &Option<Seq<Ch>>) -> bool
-    ensures { result ≡ spec.arguments_have_backslash arguments.now }
+// Whether arguments may escape a byte, for sudo and here alike.
+fn is_argument_byte(byte: u8) -> bool
+    ensures { result ≡ spec.is_argument_byte byte }
+{
+    byte == b'*'
+        || byte == b'?'
+        || byte == b'['
+        || byte == b']'
+        || byte == b'!'
+        || byte == b'^'
+        || byte == b':'
+        || byte == b','
+        || byte == b'='
+        || byte == b'#'
+        || is_blank(byte)
+}
+
+// Whether an escape yields a character, and sudo reads it otherwise in arguments.
+fn is_argument_escape(ch: Ch) -> bool
+    ensures { result ≡ spec.is_argument_escape ch }
+{
+    ch.escaped && !is_argument_byte(ch.byte)
+}
+
+// Whether characters of arguments have such a character.
+fn has_argument_escape(chars: &[Ch]) -> bool
+    ensures { result ≡ list_any spec.is_argument_escape chars.now }
+{
+    chars.iter().any(|ch| is_argument_escape(*ch))
+}
+
+// Whether arguments, if any are given, have such a character.
+fn arguments_have_escape(arguments: &Option<Seq<Ch>>) -> bool
+    ensures { result ≡ spec.arguments_have_escape arguments.now }
 {
     match arguments {
-        Some(arguments) => has_escaped_backslash(arguments.as_slice()),
+        Some(arguments) => has_argument_escape(arguments.as_slice()),
         None => false,
     }
-}
-
-// Whether a character ends a word for sudo, and no path.
-fn ends_word(ch: Ch) -> bool
-    ensures { result ≡ spec.ends_word ch }
-{
-    let byte = ch.byte;
-    if ch.escaped {
-        byte == b'\t'
-    } else {
-        byte == b'!' || byte == b'>' || byte == b'(' || byte == b')' || byte == b'"'
-    }
-}
-
-// Whether an escape yields a character and ends a path for sudo, so that arguments may begin with it.
-fn begins_argument(ch: Ch) -> bool
-    ensures { result ≡ spec.begins_argument ch }
-{
-    let byte = ch.byte;
-    ch.escaped
-        && (byte == b'*'
-            || byte == b'?'
-            || byte == b'['
-            || byte == b']'
-            || byte == b'!'
-            || byte == b'^'
-            || byte == b'\\')
-}
-
-// Whether such a character stands behind one that ends a word.
-fn has_argument_inside(path: &[Ch]) -> bool
-    ensures { result ≡ spec.has_argument_inside false path.now }
-{
-    let mut ended = false;
-    for ch in path {
-        if ended && begins_argument(*ch) {
-            return true;
-        }
-        ended = ended || ends_word(*ch);
-    }
-    false
 }
 
 // Whether the first character is this byte.
@@ -132,11 +123,13 @@ fn may_have_bracket(chars: &[Ch]) -> bool
     has_byte(b'[', chars) && has_byte(b']', chars)
 }
 
-// Whether a host has an escape that sudo takes for a mark of its pattern.
+// Whether a host has an escape that sudo takes for a mark of its pattern, or an escaped tab.
 fn host_has_escape(chars: &[Ch]) -> bool
     ensures { result ≡ spec.host_has_escape chars.now }
 {
-    has_escaped_mark(chars) || (has_escaped_bracket_mark(chars) && may_have_bracket(chars))
+    has_escaped_mark(chars)
+        || (has_escaped_bracket_mark(chars) && may_have_bracket(chars))
+        || has_escaped_tab(chars)
 }
 
 // Whether characters begin as a number may for sudo.
@@ -162,13 +155,44 @@ fn begins_as_id(chars: &[Ch]) -> bool
     }
 }
 
-// Whether a token is an unquoted word that begins with such a `#`.
-fn word_begins_as_id(token: &TokenKind) -> bool
-    ensures { result ≡ spec.word_begins_as_id token.now }
+// Whether characters have an escaped tab.
+fn has_escaped_tab(chars: &[Ch]) -> bool
+    ensures { result ≡ list_any spec.is_escaped_tab chars.now }
+{
+    chars.iter().any(|ch| ch.escaped && ch.byte == b'\t')
+}
+
+// Whether an escape yields one of the characters.
+fn has_escaped(chars: &[Ch]) -> bool
+    ensures { result ≡ list_any spec.is_escaped chars.now }
+{
+    chars.iter().any(|ch| ch.escaped)
+}
+
+// Whether a name begins with an escaped `#` that a number may follow, or has an escaped tab.
+fn name_has_escape(chars: &[Ch]) -> bool
+    ensures { result ≡ spec.name_has_escape chars.now }
+{
+    begins_as_id(chars) || has_escaped_tab(chars)
+}
+
+// Whether the digits of a group ID have an escape, and its `#` none.
+fn group_id_has_escape(chars: &[Ch]) -> bool
+    ensures { result ≡ spec.group_id_has_escape chars.now }
+{
+    match chars {
+        [_, sign, digits @ ..] => !sign.escaped && has_escaped(digits),
+        _ => false,
+    }
+}
+
+// Returns the characters of an unquoted word, and none of another token.
+fn unquoted(token: &TokenKind) -> &[Ch]
+    ensures { result.now ≡ spec.unquoted token.now }
 {
     match token {
-        TokenKind::Word { quoted, chars } => !*quoted && begins_as_id(chars.as_slice()),
-        _ => false,
+        TokenKind::Word { quoted, chars } if !*quoted => chars.as_slice(),
+        _ => &[],
     }
 }
 
@@ -176,12 +200,16 @@ fn word_begins_as_id(token: &TokenKind) -> bool
 pub(crate) fn has_other_escape(member: &Member) -> bool
     ensures { result ≡ spec.has_other_escape member.now }
 {
+    let word = unquoted(&member.token.kind);
     match &member.atom {
-        Atom::Name(_) => word_begins_as_id(&member.token.kind),
+        Atom::Name(_) => name_has_escape(word),
+        Atom::Group(_) => has_escaped_tab(word),
+        Atom::Uid(_) => has_escaped(word),
+        Atom::Gid(_) => group_id_has_escape(word),
         Atom::Host { chars, quoted } => !*quoted && host_has_escape(chars.as_slice()),
         Atom::Command { path, args } => {
             let path = path.as_slice();
-            has_argument_inside(path) || is_long_sudoedit(path) || arguments_have_backslash(args)
+            has_path_escape(path) || is_long_sudoedit(path) || arguments_have_escape(args)
         }
         _ => false,
     }

@@ -9,6 +9,7 @@ mod bytes;
 mod caution;
 mod class;
 mod collecting;
+mod comments;
 mod defaults;
 mod entries;
 mod escapes;
@@ -18,6 +19,7 @@ mod link;
 mod lists;
 mod marks;
 mod passwords;
+mod reserved;
 mod unknown;
 
 pub use caution::Caution;

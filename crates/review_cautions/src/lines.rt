@@ -1,6 +1,5 @@
 //! Cautions on physical lines.
 ghost use Rattle.std.specs.Prelude.{◌≡◌, ◌==◌, ◌++◌, ◌≤◌, ◌∷◌, [], length, map, OnOk, false, if◌then◌else◌};
-ghost use Rattle.std.specs.List.{list_any};
 ghost use Rattle.sudo_text.specs.Lines as text;
 ghost use Rattle.sudo_text.specs.Lines.{cut, place};
 ghost use Rattle.review_cautions.specs.PhysicalLines as spec;
@@ -9,9 +8,10 @@ ghost use Rattle.review_cautions.specs.Cautions as cautions;
 ghost use Rattle.review_cautions.specs.Cautions.{caution_at};
 
 use crate::bytes::{
-    cut_first, end_blank_count, ends_in_escape, is_blank, is_comment, is_include, peek, strip,
-    without_return,
+    cut_first, end_blank_count, ends_in_escape, has_byte, is_blank, is_comment, is_include, peek,
+    strip, without_return,
 };
+use crate::comments::has_other_comment;
 use crate::joins::{has_slash, tears_mark, tears_word};
 use crate::{Caution, CautionClass};
 use std::alloc::{AllocError, Global};
@@ -78,13 +78,6 @@ fn ends_in_escaped_blanks(line: &[u8]) -> bool
     blanks > 0 && ends_in_escape(&line[..line.len() - blanks])
 }
 
-// Whether a byte stands in a line.
-fn has_byte(byte: u8, line: &[u8]) -> bool
-    ensures { result ≡ list_any (λ b. b == byte) line.now }
-{
-    line.iter().any(|other| *other == byte)
-}
-
 // Whether a backslash stands directly before a byte in a line.
 fn has_escape_of(byte: u8, line: &[u8]) -> bool
     ensures { result ≡ spec.has_escape_of byte false line.now }
@@ -145,20 +138,21 @@ fn line_holds(class: CautionClass, continuing: bool, line: &[u8], after: &[u8]) 
         CautionClass::TornMark => tears_mark(strip(line), strip(first_of(after))),
         CautionClass::IncludeEscape => is_escaped_include(continuing, strip(line)),
         CautionClass::IncludeIndent => is_indented_include(continuing, line),
+        CautionClass::Comment => !is_include(strip(line)) && has_other_comment(strip(line)),
         _ => false,
     }
 }
 
-// Whether a physical line has the construct of a class and is no comment.
+// Whether a physical line has the construct of a class, and is no comment but for the class of these.
 fn is_marked(class: CautionClass, line: &PhysicalLine<'_>) -> bool
     ensures { result ≡ spec.is_marked class line.now.continuing line.now.bytes.now
         (first_line (cut line.now.after.now)) }
 {
-    !is_comment_line(line.continuing, line.bytes)
+    (matches!(class, CautionClass::Comment) || !is_comment_line(line.continuing, line.bytes))
         && line_holds(class, line.continuing, line.bytes, line.after)
 }
 
-// Appends the caution on a physical line, if it has the construct of the class and is no comment.
+// Appends the caution on a physical line, if it has the construct of the class.
 fn push_line(
     alloc: Global,
     class: CautionClass,

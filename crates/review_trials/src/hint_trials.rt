@@ -5,6 +5,7 @@
 use review_hints::hint;
 use std::alloc::{AllocError, Global};
 use std::test::Fail;
+use sudo_grammar::ParseFault;
 use sudo_load::{LoadFault, load};
 use sudo_text::Seq;
 
@@ -17,14 +18,18 @@ fn policy(alloc: Global, shown: &str) -> Result<Seq<u8>, AllocError> {
     Ok(text)
 }
 
-// Returns the hint at the fault of a policy, and nothing if there is no hint or no fault.
-fn hint_at(alloc: Global, text: &[u8]) -> Result<Seq<u8>, AllocError> {
-    if let Err((_, LoadFault::Parse(fault))) = load(alloc, b"p", text, &[])
-        && let Some(hint) = hint(alloc, text, &fault)?
-    {
-        return Ok(hint);
+/// Returns the hint at the fault of a policy, and nothing if there is no hint or no fault.
+pub(crate) fn hint_at(alloc: Global, text: &[u8]) -> Result<Seq<u8>, AllocError> {
+    match load(alloc, b"p", text, &[]) {
+        Err((_, LoadFault::Parse(ParseFault::Memory))) | Err((_, LoadFault::Memory)) => Err(
+            AllocError,
+        ),
+        Err((_, LoadFault::Parse(fault))) => {
+            let found = hint(alloc, text, &fault)?;
+            Ok(found.unwrap_or(Seq::new(alloc)))
+        }
+        _ => Ok(Seq::new(alloc)),
     }
-    Ok(Seq::new(alloc))
 }
 
 // Whether the policy of a line of a table has the hint of the line.

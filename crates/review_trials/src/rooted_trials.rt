@@ -47,9 +47,9 @@ const NODES: [(&str, Node); 24] = [
     ("/r/dot.", Node::File("dot")),
 ];
 
-// The tree of these nodes.
+/// The tree of these nodes.
 #[derive(Drop)]
-struct Grove;
+pub(crate) struct Grove;
 
 // Returns the node at a path.
 fn node_at(path: &[u8]) -> Option<Node> {
@@ -109,8 +109,8 @@ impl Tree for Grove {
     }
 }
 
-// Returns the files below `/r`.
-fn files(alloc: Global) -> Result<Rooted<Grove>, AllocError> {
+/// Returns the files below `/r`.
+pub(crate) fn files(alloc: Global) -> Result<Rooted<Grove>, AllocError> {
     Ok(Rooted::new(Grove, Seq::from_slice(alloc, b"/r")?))
 }
 

@@ -1,0 +1,35 @@
+-- A line without a `#` has no comment.
+use Rattle.std.proofs.Common.{◌≡◌, ℕ, Bool, true, false, List, [], ◌∷◌, refl, arith}
+use Rattle.std.specs.Prelude.{not, ◌&&◌, ◌||◌, ◌==◌, if◌then◌else◌}
+use Rattle.std.specs.List.{list_any}
+use Rattle.sudo_text.specs.Bytes.{is_blank}
+use Rattle.review_cautions.specs.PhysicalLines.{has_other_comment, admits_id, begins_with_digit, begins_no_comment}
+
+no_left : (a b : Bool) → (a || b) ≡ false → a ≡ false
+no_left a b h = grind arith
+
+no_right : (a b : Bool) → (a || b) ≡ false → b ≡ false
+no_right a b h = grind arith
+
+-- which of the ways is taken: the first byte is escaped, a backslash, a quote, or any other but a `#`
+taken : (e bs q h v w : Bool) (a b c d f : Bool) → h ≡ false → a ≡ false → b ≡ false → c ≡ false → d ≡ false
+    → (if e then a else if bs then b else if q then c else if h && v && w then f else d) ≡ false
+taken true bs q h v w a b c d f none is-a is-b is-c is-d = is-a
+taken false true q h v w a b c d f none is-a is-b is-c is-d = is-b
+taken false false true h v w a b c d f none is-a is-b is-c is-d = is-c
+taken false false false true v w a b c d f none is-a is-b is-c is-d = grind arith
+taken false false false false v w a b c d f none is-a is-b is-c is-d = is-d
+
+pub no_comment : (escaped quoted admitted : Bool) (line : List ℕ) → list_any (λ b. b == 35) line ≡ false
+    → has_other_comment escaped quoted admitted line ≡ false
+no_comment escaped quoted admitted [] h = refl
+no_comment escaped quoted admitted (b ∷ bs) h =
+    let none : (b == 35) ≡ false = no_left (b == 35) (list_any (λ c. c == 35) bs) h in
+    let rest : list_any (λ c. c == 35) bs ≡ false = no_right (b == 35) (list_any (λ c. c == 35) bs) h in
+    taken escaped (b == 92) (b == 34) (b == 35) (not quoted) (not (admitted && begins_with_digit bs))
+    (has_other_comment false quoted false bs) (has_other_comment true quoted false bs)
+    (has_other_comment false (not quoted) false bs)
+    (has_other_comment false quoted (admits_id b || (admitted && is_blank b)) bs) (begins_no_comment bs)
+    none (no_comment false quoted false bs rest) (no_comment true quoted false bs rest)
+    (no_comment false (not quoted) false bs rest)
+    (no_comment false quoted (admits_id b || (admitted && is_blank b)) bs rest)
