@@ -133,7 +133,7 @@ def _asides(roots: Table, rest: _Users) -> Iterator[str]:
     none = len(rest.names) - len(reaching.names)
     if none:
         subject = f"The other {counted(none, 'known user')}" if none > 1 else "The other known user"
-        sure = "; but sudo may read the policy otherwise" if roots.is_doubtful() else ": that is proved"
+        sure = "; but sudo may decide otherwise" if roots.is_doubtful() else ": that is proved"
         yield f"{subject} {'have' if none > 1 else 'has'} no way to root by sudo, whatever command is asked for{sure}."
 
 

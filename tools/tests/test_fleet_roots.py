@@ -54,6 +54,14 @@ class Command(FleetRoots):
         self.assertIn(("user", "gus", ["b"]), [(note.kind, note.text, note.hosts) for note in found.subjects])
         self.assertEqual([(note.kind, note.hosts) for note in found.cautions], [("case", ["c"])])
 
+    def test_rules_that_could_not_be_gathered_leave_no_cell_of_the_host_sure(self) -> None:
+        for name in ("a", "b"):
+            self.host(name, "ann ALL = ALL\n")
+        self.write("fleet/a/missing", "/var/log/auth.log: cannot be read\n")
+        self.write("fleet/b/missing", "/etc/nsswitch.conf: sudoers: files sss\n")
+        self.fleet()
+        self.assertEqual(self.marks(), {"ann": "A ?A", "bob": "· ?", "root": "R R"})
+
     def test_a_host_that_is_refused_stops_no_other(self) -> None:
         self.host("a", "ann ALL = ALL\n")
         self.host("b", "what\n")

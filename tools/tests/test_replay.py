@@ -112,6 +112,25 @@ class Replay(Case):
             self.assertEqual(files["/etc/sudoers"], hashlib.sha256(file.read()).hexdigest())
         self.assertIn("web1/passwd", files)
 
+    def test_rules_that_could_not_be_gathered_leave_no_cell_sure(self) -> None:
+        self.write("web1/policy", "/etc/sudoers\n")
+        self.write("web1/tree/etc/sudoers", "root ALL = ALL\njen ALL = ALL\n")
+        self.write("web1/passwd", "".join(f"{name}:x:{at}:{at}::/:/bin/sh\n" for at, name in enumerate(("root", "jen", "kim"))))
+        self.write("web1/group", "root:x:0:\njen:x:1:\nkim:x:2:\n")
+        self.write("web1/addr.json", "[]")
+        for lacks, wanted in (
+            ("/etc/nsswitch.conf: sudoers: files sss: not gathered\n", "R ?A ?"),
+            ("/etc/sudoers.d/20-web: cannot be read\n", "R ?A ?"),
+            ("/var/log/auth.log: cannot be read\n", "R A ·"),
+        ):
+            self.write("web1/missing", lacks)
+            shutil.rmtree(self.path("out"), ignore_errors=True)
+            self.run_tool("replay", "--collected", "web1", "--out", "out", "--no-probe")
+            self.assertEqual(" ".join(self.marks_shown().values()), wanted, lacks)
+            sentences = " ".join(json.loads(self.read("out", "review.json"))["sentences"])
+            self.assertEqual("but sudo may decide otherwise" in sentences, "?" in wanted)
+            self.assertIn("Something could not be gathered", sentences)
+
     def test_lines_without_a_host_are_of_the_only_host(self) -> None:
         self.write("directory/users.csv", "user,uid,groups\nroot,0,root:0\nguest,1,guest:1\n")
         self.write("directory/hosts.csv", "host,interfaces\nweb1,\n")
@@ -215,6 +234,10 @@ class Replay(Case):
         """Returns the mark of each user on the only host, under rules and that for root."""
         self.write("policy", "root ALL = (ALL) ALL\n" + "".join(f"{rule}\n" for rule in rules))
         self.run_tool("replay", "--out", "out", "--policy", "policy", "--directory", "d", "--no-probe")
+        return self.marks_shown()
+
+    def marks_shown(self) -> dict[str, str]:
+        """Returns the mark of each user on the only host of the page."""
         data = json.loads(re.findall('id="data">(.*?)</script>', self.read("out", "page.html"))[0])["roots"]
         marks = [data["cells"][data["rows"][row][0]][1] for row in data["rowOf"]]
         return dict(zip(data["users"], marks))
