@@ -207,7 +207,9 @@ class Roots(Table):
     def _lesser(self, here: dict[int, list[Way]], grants: dict[int, tuple[int, ...]]) -> set[str]:
         """Returns the users who may have a lesser chain without a password on a host."""
         free = {
-            self.users[user]: [self.grants[number] for number in numbers if self.free[number]] for user, numbers in grants.items()
+            self.users[user]: [self.grants[number] for number in numbers if self.free[number]]
+            for user, numbers in grants.items()
+            if any(way.may_hide() for way in here[user])
         }
         return may_go_unasked({self.users[user]: ways for user, ways in here.items()}, free)
 

@@ -126,10 +126,22 @@ class Sentences(unittest.TestCase):
             "One user can run listed commands as root on one or more of the 2 hosts: dora. Whether one of these gives more, a"
             " reader has to judge.",
             "Of these, one gets there through another user or group: bob.",
-            "The other known user has no way to root by sudo, whatever command is asked for: that is proved.",
+            "The other known user has no way to root by sudo on either host, whatever command is asked for: that is proved.",
         ]
         self.assertEqual(self.said(rows), wanted)
         self.assertTrue(self.said(rows, is_doubtful=True)[-1].endswith("; but sudo may decide otherwise."))
+
+    def test_who_needs_no_password_on_some_hosts(self) -> None:
+        partly = [way("bob", "h1", "all", "none"), way("bob", "h2", "all")]
+        start, end = "users can run any command as root on both hosts", "on some of the hosts: "
+        for rows, said in (
+            ([*on_all("ann", "all"), *partly], f"Two {start}, one of them without a password {end}bob and ann."),
+            (
+                [*on_all("ann", "all", "none"), *partly, *on_all("cid", "all")],
+                f"Three {start}, one of them without a password, and one without one {end}ann, bob and cid.",
+            ),
+        ):
+            self.assertEqual(self.said(rows)[0], said)
 
     def test_changes(self) -> None:
         start = "Against the policy before, of the requests of the logs and the probes "

@@ -119,9 +119,9 @@ class Replay(Case):
         self.write("web1/group", "root:x:0:\njen:x:1:\nkim:x:2:\n")
         self.write("web1/addr.json", "[]")
         for lacks, wanted in (
-            ("/etc/nsswitch.conf: sudoers: files sss: not gathered\n", "R ?A ?"),
-            ("/etc/sudoers.d/20-web: cannot be read\n", "R ?A ?"),
-            ("/var/log/auth.log: cannot be read\n", "R A ·"),
+            ("/etc/nsswitch.conf: sudoers: files sss: not gathered\n", "?A ? R"),
+            ("/etc/sudoers.d/20-web: cannot be read\n", "?A ? R"),
+            ("/var/log/auth.log: cannot be read\n", "A · R"),
         ):
             self.write("web1/missing", lacks)
             shutil.rmtree(self.path("out"), ignore_errors=True)
