@@ -10,6 +10,8 @@ from kulavemia.numbering import Numbering
 ALL = "ALL"
 NO_PASSWORD = "NOPASSWD"
 ROOT = "root"
+# The targets of a command that runs as the user who asks.
+OWN = "()"
 # A name as it would stand in a policy: between quotes, or with escapes.
 _NAME = re.compile(r'(?:"([^"]*)"|((?:\\.|[^\\",])+))(?:, |$)', re.DOTALL)
 _ESCAPE = re.compile(r"\\(?:x([0-9a-f]{2})|(.))", re.DOTALL)
@@ -36,12 +38,12 @@ class Grant(NamedTuple):
         return ":" in self.runas
 
     def may_be(self, user: str) -> bool:
-        """Returns whether the command may run as a user: yes where the targets are not listed by their names alone."""
+        """Returns whether the command may run as another user: yes where the targets are not listed by their names alone."""
         if not self.runas:
             return user == ROOT
         listed = _USERS.fullmatch(self.runas)
         names = listed[1].split(", ") if listed else [ALL]
-        return user in names or ALL in names
+        return self.runas != OWN and (user in names or ALL in names)
 
 
 def names_of(text: str) -> list[str]:

@@ -60,6 +60,7 @@ class Inputs(NamedTuple):
     probe: str = ""
     requests: str = ""
     changes: str = ""
+    unlike: Sequence[str] = ()
     fleet: str = ""
     rows: int = 1000
     facts: Sequence[tuple[str, str]] = ()
@@ -244,6 +245,7 @@ class Page:
             found += sentences.of_missing(len(self.fleet.missing) if self.fleet is not None else bool(self.evidence.missing))
         if self.changes is not None:
             found += sentences.of_changes({changed.kind: changed.count for changed in self.changes})
+            found += sentences.of_unlike(len(self.inputs.unlike))
         if self.uses is not None:
             found += sentences.of_logs(self.uses)
             if self.rules is not None:

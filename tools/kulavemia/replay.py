@@ -220,6 +220,7 @@ class Replay:
         self.requests = ""
         self.probe = ""
         self.changes = ""
+        self.unlike: Sequence[str] = ()
         self.gained = False
         self.unread = False
 
@@ -331,6 +332,9 @@ class Replay:
             self.steps.end(CHANGES, self._write_changes(old))
         counts = Counter(self.steps.result(CHANGES))
         self.gained = any(counts[kind] for kind in compare.GAINS)
+        self.unlike = review.unlike(review.Asked(self.second, self._judged_by(old)), self._asked())
+        for warning in compare.warnings(self.unlike):
+            warn(warning)
         self.say("changes: " + ", ".join(f"{counts[kind]} {kind}" for kind in compare.CHANGES))
 
     def _write_changes(self, old: Prepared) -> Counter[str]:
@@ -361,6 +365,7 @@ class Replay:
             probe=self.probe,
             requests=self.requests,
             changes=self.changes,
+            unlike=self.unlike,
             rows=self.given.rows,
             collected=self.found.below or "",
         )

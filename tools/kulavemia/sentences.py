@@ -209,6 +209,13 @@ def of_changes(counts: Mapping[str, int]) -> Iterator[str]:
         yield "Against the policy before, no request of the logs and no probe gains or loses anything."
 
 
+def of_unlike(count: int) -> Iterator[str]:
+    """Yields that only one of the two policies has constructs that sudo reads otherwise."""
+    if count:
+        what = counted(count, "construct that sudo reads or judges", "constructs that sudo reads or judges")
+        yield f"Only one of the two policies has {what} otherwise: no change that is listed shows what sudo makes of that."
+
+
 def _or_none(count: int) -> str:
     return number_of(count) if count else "none"
 

@@ -36,6 +36,7 @@ class Targets(unittest.TestCase):
             ('("eve")', True, True),
             ("(eve : adm)", True, True),
             ("(eves)", False, False),
+            ("()", False, False),
         ):
             grant = Grant("p:1", runas, "", "/a", "NOPASSWD", "")
             self.assertEqual((grant.may_be("eve"), grant.may_be("root")), (eve, root), runas)

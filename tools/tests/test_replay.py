@@ -86,6 +86,18 @@ class Replay(Case):
         self.assertIn("changes: 11 gained, 0 gained and lost, 0 lost, 0 other", out)
         self.assertTrue(all(row.startswith("gained,") for row in self.rows("out", "changes.csv")[1:]))
 
+    def test_what_sudo_reads_otherwise_may_change_too(self) -> None:
+        self.write("d/users.csv", "user,uid,groups\nroot,0,root:0\nann,1,ann:1\nkim,2,kim:2\n")
+        self.write("d/hosts.csv", "host,interfaces\nweb1,\n")
+        self.write("old", "ann ALL = ALL\n")
+        self.write("new", "Defaults !authenticate\nann ALL = ALL\n")
+        words = ("replay", "--policy", "new", "--old-policy", "old", "--directory", "d", "--out", "out", "--no-probe")
+        err = self.run_tool(*words)[1]
+        self.assertIn("replay: warning: new:1: defaults: authenticate: decides for sudo, has no effect here: only one of", err)
+        said = "Only one of the two policies has one construct that sudo reads or judges otherwise: no change that is listed"
+        self.assertIn(said, " ".join(json.loads(self.read("out", "review.json"))["sentences"]))
+        self.assertTrue("<li>new:1: defaults: authenticate: decides for sudo" in self.read("out", "page.html"))
+
     def test_what_was_collected(self) -> None:
         self.write("web1/policy", "/etc/sudoers\n")
         self.write("web1/tree/etc/sudoers", "root ALL = ALL\n@includedir /etc/sudoers.d\n")
