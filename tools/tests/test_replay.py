@@ -98,6 +98,18 @@ class Replay(Case):
         self.assertIn(said, " ".join(json.loads(self.read("out", "review.json"))["sentences"]))
         self.assertTrue("<li>new:1: defaults: authenticate: decides for sudo" in self.read("out", "page.html"))
 
+    def test_too_many_probes(self) -> None:
+        self.write("d/users.csv", "user,uid,groups\nroot,0,root:0\n" + "".join(f"u{at},{at + 1},u:1\n" for at in range(999)))
+        self.write("d/hosts.csv", "host,interfaces\nweb1,\n")
+        self.write("policy", "u1 ALL = ALL\n")
+        self.write("programs.csv", "kind,command,arguments\n" + "".join(f"shell,/bin/sh{at},\n" for at in range(1001)))
+        words = ("replay", "--policy", "policy", "--directory", "d", "--programs", "programs.csv", "--out", "out")
+        out, err = self.run_tool(*words)
+        self.assertIn("1,001,000 probes are left out: they only illustrate, and --at-most 1001000 makes them\n", err)
+        self.assertNotIn("probes", out)
+        self.assertFalse(os.path.exists(self.path("out", "probe")))
+        self.assertIn("1001000 probes, and --at-most is 1002; name", self.run_tool(*words, "--at-most", "1002", status=2)[1])
+
     def test_what_was_collected(self) -> None:
         self.write("web1/policy", "/etc/sudoers\n")
         self.write("web1/tree/etc/sudoers", "root ALL = ALL\n@includedir /etc/sudoers.d\n")
@@ -369,7 +381,8 @@ class Continued(Case):
         self.write("program", f"#!/bin/sh\n: >here\nwhile [ ! -e go ]; do sleep 0.05; done\nexec {named} \"$@\"\n")
         os.chmod(program, 0o755)
         words = [os.path.join(TOOLS, "replay"), "--out", "out", *self.given, "--program", program]
-        with subprocess.Popen(words, cwd=self.folder, stdout=subprocess.DEVNULL) as running:
+        quiet = subprocess.DEVNULL
+        with subprocess.Popen(words, cwd=self.folder, stdout=quiet, stderr=quiet) as running:
             end = time.monotonic() + 30
             while not os.path.exists(self.path("here")):
                 self.assertLess(time.monotonic(), end)
