@@ -29,6 +29,12 @@ class Noted(NamedTuple):
     hosts: Sequence[str]
 
 
+def first_alike(notes: Sequence[Noted]) -> list[int]:
+    """Returns for each note the number of the first one that stands on the same hosts."""
+    first: dict[Sequence[str], int] = {}
+    return [first.setdefault(tuple(note.hosts), number) for number, note in enumerate(notes)]
+
+
 class FleetTable(NamedTuple):
     """The table of a fleet, what was reviewed, what is to be noted, and of each host what its tables were made of."""
 

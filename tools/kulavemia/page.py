@@ -18,7 +18,7 @@ from kulavemia.compare import CHANGE_HEADER, CHANGES
 from kulavemia.directory import hosts_in, users_in
 from kulavemia.effects import Effect, effect_of, is_doubtful
 from kulavemia.evidence import Evidence, Program, age, at, made_now
-from kulavemia.fleet_table import FleetTable, table_of
+from kulavemia.fleet_table import FleetTable, first_alike, table_of
 from kulavemia.grants import Grant, Grants
 from kulavemia.numbering import Numbering
 from kulavemia.probes import Probes
@@ -344,6 +344,7 @@ def rendered(page: Page) -> str:
         page=page,
         inputs=page.inputs,
         levels=LEVELS,
+        first_alike=first_alike,
         words=VERDICTS,
         script=markupsafe.Markup(script),
         style=markupsafe.Markup(style),

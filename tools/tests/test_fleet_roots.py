@@ -174,6 +174,17 @@ class OfTables(FleetRoots):
         targets = set(re.findall('id="([^"]+)"', text))
         self.assertFalse({link for link in re.findall('href="#([^"]+)"', text)} - targets)
 
+    def test_hosts_that_stand_in_several_rows_are_listed_once(self) -> None:
+        self.tables(12, 1, True)
+        text = rendered(self.page())
+        table = re.findall('id="subjects-table".*?</table>', text, re.DOTALL)[0]
+        rows = re.findall('<tr id="(subjects-table-[0-9]+)">(.*?)</tr>', table, re.DOTALL)
+        self.assertEqual(len(rows), 300)
+        listed = [name for name, row in rows if "<details>" in row]
+        self.assertEqual(len(listed), 3)
+        links = re.findall('<a href="#([^"]+)">the same 4 hosts as of user <bdi>gone0of', table)
+        self.assertEqual((len(links), set(links)), (297, set(listed)))
+
     def test_names_with_many_ids(self) -> None:
         self.tables(5, 1, True)
         (said,) = [sentence for sentence in self.page().sentences() if "several IDs" in sentence]
