@@ -27,6 +27,9 @@ CHANGE_HEADER = (
     "new_place",
 )
 
+# What is said of a caution that only one of two policies has.
+UNLIKE = "only one of the policies has this, and no change that is listed shows what sudo makes of it"
+UNLIKE_SHOWN = 20
 # Tags that free a grant, and tags that bind it.
 _FREEING = frozenset(("NOPASSWD", "SETENV", "FOLLOW"))
 _BINDING = frozenset(("NOEXEC", "INTERCEPT"))
@@ -100,6 +103,13 @@ def _fields(change: Change) -> tuple[str, ...]:
         old.place,
         new.place,
     )
+
+
+def warnings(unlike: Sequence[str]) -> list[str]:
+    """Returns warnings of cautions that only one of two policies has, the first of them alone where there are many."""
+    left = len(unlike) - UNLIKE_SHOWN
+    more = [f"{left} more constructs are in one of the policies alone"] if left > 0 else []
+    return [f"{line}: {UNLIKE}" for line in unlike[:UNLIKE_SHOWN]] + more
 
 
 def write(found: Iterator[Change], out: IO[str], form: Form = Form()) -> Counter[str]:

@@ -4,7 +4,7 @@ import os
 from collections.abc import Mapping, Sequence
 from typing import NamedTuple
 
-from kulavemia import fleet_evidence, review
+from kulavemia import fleet_evidence, missing, review
 from kulavemia.command import Fault
 from kulavemia.directory import hosts_in, users_in
 from kulavemia.effects import Effect, effect_of, is_doubtful
@@ -27,6 +27,12 @@ class Noted(NamedTuple):
     meaning: str
     answers: str
     hosts: Sequence[str]
+
+
+def first_alike(notes: Sequence[Noted]) -> list[int]:
+    """Returns for each note the number of the first one that stands on the same hosts."""
+    first: dict[Sequence[str], int] = {}
+    return [first.setdefault(tuple(note.hosts), number) for number, note in enumerate(notes)]
 
 
 class FleetTable(NamedTuple):
@@ -95,13 +101,14 @@ def table_of(out: str) -> FleetTable:
     numbers = {user: number for number, user in enumerate(users)}
     table.fill(Cell(is_absent=True))
     column = 0
+    lacks = {host.name: found for host in hosts if (found := fleet_evidence.missing_in(host.folder))}
     for host in hosts:
-        _put(host, table, numbers, column, _cautions_of(host, cautions))
+        doubtful = _cautions_of(host, cautions) or missing.may_hide_rules(lacks.get(host.name, ()))
+        _put(host, table, numbers, column, doubtful)
         _note_subjects(host, subjects)
         column += len(host.names)
     several = {user: list(found) for user, found in ids.items() if len(found) > 1}
     inputs = {host.name: fleet_evidence.inputs_in(host.folder) for host in hosts}
-    lacks = {host.name: found for host in hosts if (found := fleet_evidence.missing_in(host.folder))}
     return FleetTable(table, reviewed, cautions.list(), subjects.list(), several, inputs, lacks)
 
 

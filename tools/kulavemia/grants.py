@@ -9,9 +9,14 @@ from kulavemia.numbering import Numbering
 
 ALL = "ALL"
 NO_PASSWORD = "NOPASSWD"
+ROOT = "root"
+# The targets of a command that runs as the user who asks.
+OWN = "()"
 # A name as it would stand in a policy: between quotes, or with escapes.
 _NAME = re.compile(r'(?:"([^"]*)"|((?:\\.|[^\\",])+))(?:, |$)', re.DOTALL)
 _ESCAPE = re.compile(r"\\(?:x([0-9a-f]{2})|(.))", re.DOTALL)
+# Targets that are users by their names alone.
+_USERS = re.compile(r"\(([A-Za-z0-9_][A-Za-z0-9_.-]*(?:, [A-Za-z0-9_][A-Za-z0-9_.-]*)*)\)")
 
 
 class Grant(NamedTuple):
@@ -27,6 +32,18 @@ class Grant(NamedTuple):
     def is_free(self) -> bool:
         """Returns whether the command is allowed without a password."""
         return not self.sign and NO_PASSWORD in self.tags.split()
+
+    def has_group(self) -> bool:
+        """Returns whether a group to run with may be asked for."""
+        return ":" in self.runas
+
+    def may_be(self, user: str) -> bool:
+        """Returns whether the command may run as another user: yes where the targets are not listed by their names alone."""
+        if not self.runas:
+            return user == ROOT
+        listed = _USERS.fullmatch(self.runas)
+        names = listed[1].split(", ") if listed else [ALL]
+        return self.runas != OWN and (user in names or ALL in names)
 
 
 def names_of(text: str) -> list[str]:

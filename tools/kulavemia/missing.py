@@ -8,6 +8,8 @@ from kulavemia import foreign
 from kulavemia.command import Fault, line_of
 
 NAME = "missing"
+# What lines begin with that are about no rule, address or known user: those of logs, and of a user whom the host does not know.
+_ASIDE = (*(f"/var/log/{name}" for name in ("auth.log", "secure", "sudo.log", "sudo/")), "the journal ", "user ")
 SHOWN = 20
 _WIDTH = 200
 
@@ -28,6 +30,11 @@ def lines_of(folder: str, below: str) -> list[str]:
         return [line_of(error)]
     more = [f"the file {NAME} has further lines"] if len(found) > SHOWN else []
     return found[:SHOWN] + more
+
+
+def may_hide_rules(lines: Iterable[str]) -> bool:
+    """Returns whether rules, users or addresses may be among what such lines name."""
+    return any(not line.startswith(_ASIDE) for line in lines)
 
 
 def _lines(folder: str, below: str) -> Iterator[str]:

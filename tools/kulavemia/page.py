@@ -11,14 +11,14 @@ from collections.abc import Sequence
 from dataclasses import dataclass, field
 from typing import Any, NamedTuple
 
-from kulavemia import foreign, outputs, review, sentences
+from kulavemia import foreign, missing, outputs, review, sentences
 from kulavemia.answers import ALLOW, DENY, answers
 from kulavemia.command import FAILED, Fault
 from kulavemia.compare import CHANGE_HEADER, CHANGES
 from kulavemia.directory import hosts_in, users_in
 from kulavemia.effects import Effect, effect_of, is_doubtful
 from kulavemia.evidence import Evidence, Program, age, at, made_now
-from kulavemia.fleet_table import FleetTable, table_of
+from kulavemia.fleet_table import FleetTable, first_alike, table_of
 from kulavemia.grants import Grant, Grants
 from kulavemia.numbering import Numbering
 from kulavemia.probes import Probes
@@ -60,6 +60,7 @@ class Inputs(NamedTuple):
     probe: str = ""
     requests: str = ""
     changes: str = ""
+    unlike: Sequence[str] = ()
     fleet: str = ""
     rows: int = 1000
     facts: Sequence[tuple[str, str]] = ()
@@ -167,9 +168,18 @@ class Page:
     def _roots(self) -> Table:
         users, hosts = list(users_in(self.inputs.users)), hosts_in(self.inputs.hosts)
         grants = Grants(review.rows_of(self.inputs.review, review.GRANTS), users, hosts)
-        roots = Roots(users, hosts, grants, is_doubtful(caution.effect for caution in self.cautions))
+        roots = Roots(users, hosts, grants, self._is_doubtful() or self._lacks_rules())
         roots.take_all(review.rows_of(self.inputs.review, review.ROOTS))
         return roots
+
+    def _is_doubtful(self) -> bool:
+        """Returns whether a caution of the policy is about who may do what."""
+        return is_doubtful(caution.effect for caution in self.cautions)
+
+    def _lacks_rules(self) -> bool:
+        """Returns whether rules may be among what could not be gathered; its lines begin with the path of their file."""
+        start = f"{os.path.join(self.inputs.collected, missing.NAME)}: "
+        return missing.may_hide_rules(line.removeprefix(start) for line in self.evidence.missing)
 
     def _probes(self) -> Probes:
         probes = Probes(self.places)
@@ -231,10 +241,11 @@ class Page:
             found += sentences.of_roots(self.roots)
             found += sentences.of_fleet(self.fleet) if self.fleet is not None else ()
             found += sentences.of_subjects(unknown)
-            found += sentences.of_cautions(len(self.cautions), self.roots.is_doubtful())
+            found += sentences.of_cautions(len(self.cautions), self._is_doubtful())
             found += sentences.of_missing(len(self.fleet.missing) if self.fleet is not None else bool(self.evidence.missing))
         if self.changes is not None:
             found += sentences.of_changes({changed.kind: changed.count for changed in self.changes})
+            found += sentences.of_unlike(len(self.inputs.unlike))
         if self.uses is not None:
             found += sentences.of_logs(self.uses)
             if self.rules is not None:
@@ -333,6 +344,7 @@ def rendered(page: Page) -> str:
         page=page,
         inputs=page.inputs,
         levels=LEVELS,
+        first_alike=first_alike,
         words=VERDICTS,
         script=markupsafe.Markup(script),
         style=markupsafe.Markup(style),

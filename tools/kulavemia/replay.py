@@ -23,6 +23,8 @@ DIRECTORY = "directory"
 REVIEW = "review"
 CHANGES = "changes.csv"
 PAGE = "page.html"
+# More probes are made only where the command line says so.
+PROBES = 1_000_000
 # The files of a collected host that its directory is made of.
 COLLECTED = ("passwd", "group", "addr.json", "hostname")
 RECORD = "review.json"
@@ -47,7 +49,7 @@ class Options(NamedTuple):
     directory: str | None
     programs: str
     no_probe: bool
-    at_most: int
+    at_most: int | None
     title: str
     rows: int
     program: str | None
@@ -220,6 +222,7 @@ class Replay:
         self.requests = ""
         self.probe = ""
         self.changes = ""
+        self.unlike: Sequence[str] = ()
         self.gained = False
         self.unread = False
 
@@ -295,27 +298,27 @@ class Replay:
         self.say(f"review: {told}")
 
     def _probe(self) -> None:
+        """Has the probes judged, unless they are too many for an illustration."""
+        if self.steps.result("probe") is None and not self._write_probe():
+            return
         self.probe = self._folder("probe")
-        if self.steps.result("probe") is None:
-            self.steps.end("probe", self._write_probe())
         self.say(f"probes: {self.steps.result('probe')}")
         self._audit(self.probe, self.found.policy.prepared, REPORT)
 
-    def _write_probe(self) -> int:
-        """Writes the probes, and returns how many there are. Raises `Fault` at more than the command line allows."""
+    def _write_probe(self) -> bool:
+        """Writes the probes, and returns whether it did. Raises `Fault` at more than the command line allows."""
         programs = probe.programs_of(self.given.programs)
         users = list(directory.users_in(self.found.directory.users))
         hosts = directory.hosts_in(self.found.directory.hosts)
         total = len(users) * len(hosts) * len(programs)
-        if total > self.given.at_most:
-            raise Fault(
-                (
-                    f"{total} probes, and --at-most is {self.given.at_most}; name fewer programs by --programs, or say"
-                    " --no-probe"
-                ),
-                WORDS,
-            )
-        return probe.write(self.steps.begin("probe"), users, hosts, programs)
+        if self.given.at_most is None and total > PROBES:
+            warn(f"{total:,} probes are left out: they only illustrate, and --at-most {total} makes them")
+            return False
+        if self.given.at_most is not None and total > self.given.at_most:
+            said = f"{total} probes, and --at-most is {self.given.at_most}; name fewer programs by --programs, or say --no-probe"
+            raise Fault(said, WORDS)
+        self.steps.end("probe", probe.write(self.steps.begin("probe"), users, hosts, programs))
+        return True
 
     def _audit(self, folder: str, policy: Prepared, report: str) -> str:
         """Returns the path of a report, which is made where it is still to do; it has its name once it is whole."""
@@ -331,6 +334,9 @@ class Replay:
             self.steps.end(CHANGES, self._write_changes(old))
         counts = Counter(self.steps.result(CHANGES))
         self.gained = any(counts[kind] for kind in compare.GAINS)
+        self.unlike = review.unlike(review.Asked(self.second, self._judged_by(old)), self._asked())
+        for warning in compare.warnings(self.unlike):
+            warn(warning)
         self.say("changes: " + ", ".join(f"{counts[kind]} {kind}" for kind in compare.CHANGES))
 
     def _write_changes(self, old: Prepared) -> Counter[str]:
@@ -361,6 +367,7 @@ class Replay:
             probe=self.probe,
             requests=self.requests,
             changes=self.changes,
+            unlike=self.unlike,
             rows=self.given.rows,
             collected=self.found.below or "",
         )

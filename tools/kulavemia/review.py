@@ -7,7 +7,8 @@ import contextlib
 import os
 import re
 import subprocess
-from collections.abc import Iterator, Mapping, Sequence
+from collections import Counter
+from collections.abc import Iterable, Iterator, Mapping, Sequence
 from typing import BinaryIO, NamedTuple
 
 from kulavemia import foreign, outputs
@@ -37,6 +38,8 @@ _FOUND = 5
 _STATUSES: Mapping[str, Sequence[int]] = {CAUTIONS: (DONE, _FOUND), SUBJECTS: (DONE, _FOUND)}
 _CAUTION = r"({}):([0-9]+): caution: ([a-z-]+): ([^\n]*)\n"
 _COUNT = re.compile(r"cautions: ([0-9]+)\n")
+# One caution of this class stands for a whole policy, at whichever line is the first.
+_OF_POLICY = "linked"
 
 
 class Caution(NamedTuple):
@@ -135,6 +138,30 @@ def cautions_of(text: str, paths: Sequence[str], program: str) -> list[Caution]:
     if count is None or int(count[1]) != len(found):
         raise Fault(f"{program}: its cautions cannot be read: {text[at:][:200]}", PROGRAM)
     return found
+
+
+def only_in(these: Iterable[Caution], others: Iterable[Caution]) -> list[Caution]:
+    """Returns those of some cautions whose construct is not among that of others, wherever it stands."""
+    left = Counter(map(_construct, others))
+    found = []
+    for caution in these:
+        if left[_construct(caution)]:
+            left[_construct(caution)] -= 1
+        else:
+            found.append(caution)
+    return found
+
+
+def _construct(caution: Caution) -> Caution:
+    return caution._replace(place="", line="" if caution.kind == _OF_POLICY else caution.line)
+
+
+def unlike(old: Asked, new: Asked) -> list[str]:
+    """Returns lines on the cautions that only one of two policies has."""
+    before, now = old.cautions(), new.cautions()
+    come = [f"{caution.place}: {caution.kind}: {caution.text}" for caution in only_in(now, before)]
+    gone = [f"{caution.place}: {caution.kind}: {caution.text}, in the policy before" for caution in only_in(before, now)]
+    return come + gone
 
 
 def without(root: str, text: str) -> str:

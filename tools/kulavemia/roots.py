@@ -6,6 +6,7 @@ from typing import Any, NamedTuple
 
 from kulavemia.command import Fault
 from kulavemia.grants import Grant, Grants
+from kulavemia.lesser import ASKED, Way, may_go_unasked
 from kulavemia.numbering import Numbering, runs
 from kulavemia.text import visible
 
@@ -22,7 +23,7 @@ class Level(NamedTuple):
 
 LEVELS = (
     Level("none", "·", "no way to root"),
-    Level("unsure", "?", "no way to root as this page reads the policy; sudo may read it otherwise"),
+    Level("unsure", "?", "no way to root as this page reads the policy; sudo may decide otherwise"),
     Level("listed", "L", "listed commands as root"),
     Level("all-but", "B", "any command as root but listed ones"),
     Level("all", "A", "any command as root"),
@@ -30,35 +31,22 @@ LEVELS = (
     Level("root", "R", "is root: the user has the ID 0"),
 )
 ABSENT = "no user of this name there"
-DOUBT = "sudo may read the policy otherwise"
+DOUBT = "sudo may decide otherwise"
 UNASKED = "some of the commands may need no password"
 _OF_PROGRAM = {"listed": LISTED, "all-but": ALL_BUT, "all": ALL, "root": ROOT}
-_ASKED = ("own", "other")
 _FREE = "none"
-
-
-class Way(NamedTuple):
-    """A row of the program's table: how a user becomes a target."""
-
-    target: str
-    level: str
-    password: str
-    place: str
-    tags: str
-    via: str
-    depends: str
 
 
 class Cell(NamedTuple):
     """How a user becomes root on a host: the ways, and the numbers of the grants there.
 
-    Beside these whether one of the grants needs no password, whether sudo may read the policy otherwise, and whether the
-    host has no such user.
+    Beside these whether a lesser chain may need no password, whether sudo may decide otherwise, and whether the host has no
+    such user.
     """
 
     ways: tuple[Way, ...] = ()
     grants: tuple[int, ...] = ()
-    is_free: bool = False
+    has_lesser: bool = False
     is_doubtful: bool = False
     is_absent: bool = False
 
@@ -71,7 +59,9 @@ class Cell(NamedTuple):
     def is_unasked(self) -> bool:
         """Returns whether some of the commands may need no password, where the level does not say so."""
         best = self.best()
-        return best is not None and best[0] < ALL_FREE and (best[1].password not in _ASKED or self.is_free)
+        if best is None or best[0] >= ALL_FREE:
+            return False
+        return self.has_lesser or any(way.password not in ASKED for way in self.ways)
 
 
 class Answer(NamedTuple):
@@ -99,7 +89,7 @@ def _level_of(way: Way) -> int:
 
 
 def answer_of(cell: Cell) -> Answer:
-    """Returns what is shown of a cell. Where sudo may read the policy otherwise, no cell but root's own is sure."""
+    """Returns what is shown of a cell. Where sudo may decide otherwise, no cell but root's own is sure."""
     best = cell.best()
     if cell.is_absent:
         return Answer(NONE, "", ABSENT, False, False)
@@ -135,7 +125,7 @@ class Table:
         return number
 
     def is_doubtful(self) -> bool:
-        """Returns whether sudo may read a policy otherwise."""
+        """Returns whether sudo may decide otherwise anywhere."""
         return any(cell.is_doubtful for cell in self.cells.list())
 
     def answers(self) -> list[Answer]:
@@ -206,13 +196,22 @@ class Roots(Table):
 
     def _end(self, host: str, here: dict[int, list[Way]]) -> None:
         at = self.host_numbers.get(host, 0)
+        grants = {user: self.grants_of(user, at) for user in here}
+        lesser = self._lesser(here, grants)
         for user, ways in here.items():
             if self.rows[user][at] != self.nobody:
                 raise Fault(f"the rows of {host} in the table of roots do not stand together")
-            grants = self.grants_of(user, at)
-            # The first step of each way is by one of these, so that without a free one a password is asked.
-            is_free = any(self.free[number] for number in grants)
-            self.rows[user][at] = self.cells.of(Cell(tuple(ways), grants, is_free, self.doubtful))
+            cell = Cell(tuple(ways), grants[user], self.users[user] in lesser, self.doubtful)
+            self.rows[user][at] = self.cells.of(cell)
+
+    def _lesser(self, here: dict[int, list[Way]], grants: dict[int, tuple[int, ...]]) -> set[str]:
+        """Returns the users who may have a lesser chain without a password on a host."""
+        free = {
+            self.users[user]: [self.grants[number] for number in numbers if self.free[number]]
+            for user, numbers in grants.items()
+            if any(way.may_hide() for way in here[user])
+        }
+        return may_go_unasked({self.users[user]: ways for user, ways in here.items()}, free)
 
 
 def _ways(cell: Cell, places: Numbering[str]) -> list[list[Any]]:

@@ -12,6 +12,7 @@ from kulavemia.uses import Uses
 
 _NUMBERS = "no one two three four five six seven eight nine ten eleven twelve".split()
 _NAMED = 8
+_IDS = 3
 
 
 def number_of(count: int) -> str:
@@ -76,11 +77,14 @@ class _Users:
     def free(self) -> str:
         """Returns how many of the users who run any command need no password, as a part of a sentence."""
         free = len(self.those(lambda reach: not reach.hosts[ALL]).names)
-        if not free:
-            return ""
+        partly = len(self.those(lambda reach: bool(reach.hosts[ALL] and reach.hosts[ALL_FREE])).names)
         if free == len(self.names):
             return ", without a password"
-        return f", {number_of(free)} of them without a password"
+        said = f", {number_of(free)} of them without a password" if free else ""
+        if partly:
+            one = "and {} without one" if free else "{} of them without a password"
+            said += f", {one.format(number_of(partly))} on some of the hosts"
+        return said
 
 
 def on_all(hosts: Sequence[str]) -> str:
@@ -93,6 +97,13 @@ def on_all(hosts: Sequence[str]) -> str:
 def on_some(hosts: Sequence[str]) -> str:
     """Returns some of the hosts, as a part of a sentence."""
     return f"on {hosts[0]}" if len(hosts) == 1 else f"on one or more of the {len(hosts):,} hosts"
+
+
+def on_none(hosts: Sequence[str]) -> str:
+    """Returns none of the hosts, as a part of a sentence that says no."""
+    if len(hosts) == 2:
+        return "on either host"
+    return f"on {hosts[0]}" if len(hosts) == 1 else f"on any of the {len(hosts):,} hosts"
 
 
 def of_roots(roots: Table) -> Iterator[str]:
@@ -132,9 +143,9 @@ def _asides(roots: Table, rest: _Users) -> Iterator[str]:
         yield f"For {number_of(len(unasked))} of these some of the commands may need no password: {listed(unasked)}."
     none = len(rest.names) - len(reaching.names)
     if none:
-        subject = f"The other {counted(none, 'known user')}" if none > 1 else "The other known user"
-        sure = "; but sudo may read the policy otherwise" if roots.is_doubtful() else ": that is proved"
-        yield f"{subject} {'have' if none > 1 else 'has'} no way to root by sudo, whatever command is asked for{sure}."
+        subject = f"The other {counted(none, 'known user')} have" if none > 1 else "The other known user has"
+        sure = "; but sudo may decide otherwise" if roots.is_doubtful() else ": that is proved"
+        yield f"{subject} no way to root by sudo {on_none(roots.hosts)}, whatever command is asked for{sure}."
 
 
 def of_fleet(fleet: FleetTable) -> Iterator[str]:
@@ -145,7 +156,7 @@ def of_fleet(fleet: FleetTable) -> Iterator[str]:
         yield f"{begun(counted(len(left), 'host'))} of {len(fleet.reviewed):,} {is_left} not on this page: {listed(left)}."
     if fleet.ids:
         has = "name has" if len(fleet.ids) == 1 else "names have"
-        names = [f"{user} ({', '.join(found)})" for user, found in fleet.ids.items()]
+        names = [f"{user} ({_some(found)})" for user, found in fleet.ids.items()]
         yield f"{begun(number_of(len(names)))} {has} several IDs, and may be several people: {listed(names)}."
     if fleet.cautions:
         hosts = {host for note in fleet.cautions for host in note.hosts}
@@ -154,6 +165,12 @@ def of_fleet(fleet: FleetTable) -> Iterator[str]:
         of_hosts = f"of the policies of {counted(len(hosts), 'host')}"
         differs = some if who else "none changes who can become root"
         yield f"sudo reads or judges constructs {of_hosts} otherwise than this page: {differs}."
+
+
+def _some(ids: Sequence[str]) -> str:
+    """Returns the first of some IDs, and how many more there are."""
+    more = [f"{len(ids) - _IDS:,} more"] if len(ids) > _IDS else []
+    return ", ".join([*ids[:_IDS], *more])
 
 
 def of_subjects(unknown: Sequence[str]) -> Iterator[str]:
@@ -190,6 +207,13 @@ def of_changes(counts: Mapping[str, int]) -> Iterator[str]:
         yield f"Against the policy before, {of_them} {parts[0]} something and {parts[1]} something."
     elif counts:
         yield "Against the policy before, no request of the logs and no probe gains or loses anything."
+
+
+def of_unlike(count: int) -> Iterator[str]:
+    """Yields that only one of the two policies has constructs that sudo reads otherwise."""
+    if count:
+        what = counted(count, "construct that sudo reads or judges", "constructs that sudo reads or judges")
+        yield f"Only one of the two policies has {what} otherwise: no change that is listed shows what sudo makes of that."
 
 
 def _or_none(count: int) -> str:

@@ -30,9 +30,11 @@ def on_all(user: str, level: str, password: str = "own", **more: str) -> list[li
     return [way(user, host, level, password, **more) for host in HOSTS]
 
 
-def grant(users: str, command: str, tags: str = "", sign: str = "", hosts: str = "ALL", place: str = "p:1") -> list[str]:
+def grant(
+    users: str, command: str, tags: str = "", sign: str = "", hosts: str = "ALL", place: str = "p:1", runas: str = ""
+) -> list[str]:
     """Returns a row of the table of grants."""
-    return [place, users, hosts, "", sign, command, tags, ""]
+    return [place, users, hosts, runas, sign, command, tags, ""]
 
 
 def by_host(rows: Iterable[Sequence[str]]) -> list[Sequence[str]]:

@@ -3,9 +3,9 @@
 import os
 import unittest
 
-from support import EXAMPLES, Case, needs_program
+from support import EXAMPLES, REQUESTS_HEADER, REVIEW, Case, needs_program, needs_review
 from kulavemia.answers import REPORT_HEADER, Verdict
-from kulavemia.compare import kind_of
+from kulavemia.compare import kind_of, warnings
 from kulavemia.requests import HEADER
 
 REQUESTS = ",".join(HEADER) + "\n1,a,h,,,/x,\n2,b,h,root,,/y,-z\n3,c,h,,,/x,\n4,d,h,,,/x,\nclose,4,,,,,\n"
@@ -113,6 +113,33 @@ class Command(Case):
                 "compare", "a", "b", "--users", "u", "--hosts", "h", "--program", "/gone", "s=r.csv", status=5
             )[1],
         )
+
+    @needs_review
+    def test_cautions_of_one_policy_alone(self) -> None:
+        self.write("users", "user,uid,groups\nroot,0,root:0\nann,1,ann:1\n")
+        self.write("hosts", "host,interfaces\nweb1,\n")
+        self.write("r.csv", f"{REQUESTS_HEADER}1,ann,web1,,,/opt/x,\nclose,1,,,,,\n")
+        counts = "compare: 0 gained, 0 gained and lost, 0 lost, 0 other\n"
+        end = "has no effect here: only one of the policies has this, and no change that is listed shows what sudo makes of it\n"
+        first = "Defaults targetpw\nann ALL = /bin/x, /opt/x\n"
+        for old, new, said in (
+            (first, first, ""),
+            (first, f"# moved\n{first.replace('/bin/x', '/sbin/x')}", ""),
+            (first, f"Defaults !authenticate\n{first}", "new:1: defaults: authenticate: decides for sudo, "),
+            (first, f"{first}Defaults targetpw\n", "new:3: defaults: targetpw: decides for sudo, "),
+            (first, "ann ALL = /bin/x, /opt/x\n", "old:1: defaults: targetpw: decides for sudo, "),
+        ):
+            self.write("old", old)
+            self.write("new", new)
+            words = ("old", "new", "--users", "users", "--hosts", "hosts", "--review", REVIEW, "s=r.csv")
+            found = self.run_tool("compare", *words)[1]
+            rest = end.replace("here:", "here, in the policy before:") if said.startswith("old") else end
+            self.assertEqual(found, (f"compare: warning: {said}{rest}" if said else "") + counts)
+
+    def test_many_warnings_are_cut(self) -> None:
+        found = warnings([f"p:{at}: x" for at in range(25)])
+        self.assertEqual((len(found), found[-1]), (21, "5 more constructs are in one of the policies alone"))
+        self.assertEqual(len(warnings([f"p:{at}: x" for at in range(20)])), 20)
 
     @needs_program
     def test_two_policies(self) -> None:

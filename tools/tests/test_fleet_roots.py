@@ -4,6 +4,7 @@ import json
 import os
 import re
 import unittest
+from collections.abc import Sequence
 
 from browsing import Browser
 from support import Case, needs_driver, needs_jinja, needs_review
@@ -54,6 +55,14 @@ class Command(FleetRoots):
         self.assertIn(("user", "gus", ["b"]), [(note.kind, note.text, note.hosts) for note in found.subjects])
         self.assertEqual([(note.kind, note.hosts) for note in found.cautions], [("case", ["c"])])
 
+    def test_rules_that_could_not_be_gathered_leave_no_cell_of_the_host_sure(self) -> None:
+        for name in ("a", "b"):
+            self.host(name, "ann ALL = ALL\n")
+        self.write("fleet/a/missing", "/var/log/auth.log: cannot be read\n")
+        self.write("fleet/b/missing", "/etc/nsswitch.conf: sudoers: files sss\n")
+        self.fleet()
+        self.assertEqual(self.marks(), {"ann": "A ?A", "bob": "· ?", "root": "R R"})
+
     def test_a_host_that_is_refused_stops_no_other(self) -> None:
         self.host("a", "ann ALL = ALL\n")
         self.host("b", "what\n")
@@ -100,14 +109,29 @@ class Command(FleetRoots):
         self.fleet("--review", "/gone", status=5)
 
 
+def further_rows(names: Sequence[str]) -> dict[str, str]:
+    """Returns rows of cautions, unknown subjects and grants for many users; each may have a number of the host in braces."""
+    place = "/etc/sudoers.d/10-own"
+    grants = []
+    for at in range(60):
+        listed = ", ".join(names[at * 20 : at * 20 + 20])
+        grants.append(f'/etc/sudoers:{at % 30 + 1},"{listed}",ALL,(root),,/opt/app{at}/run,{"" if at % 3 else "NOPASSWD"},\n')
+    return {
+        "cautions": f"{place}:1,linked,a command is below one,x ALL = /bin/ls\n{place}:2,case,a name has one,Ann{{}} ALL = /x\n",
+        "subjects": "".join(f"{place}:{at},user,gone{at}of{{}},unknown\n" for at in range(100)),
+        "grants": "".join(grants),
+    }
+
+
 @needs_jinja
 class OfTables(FleetRoots):
     """Pages of tables that are written by hand."""
 
-    def tables(self, hosts: int, users: int) -> None:
+    def tables(self, hosts: int, users: int, is_full: bool = False) -> None:
         """Writes the tables of many hosts with many users, some of whom reach something."""
         names = [f"user{user:04}" for user in range(users)]
         people = "user,uid,groups\nroot,0,root:0\n" + "".join(f"{name},{1000 + at},\n" for at, name in enumerate(names))
+        further = further_rows(names) if is_full else {}
         reviewed = [",".join(REVIEWED_HEADER) + "\n"]
         for number in range(hosts):
             host = f"host{number:03}.example.org"
@@ -115,10 +139,15 @@ class OfTables(FleetRoots):
             for at, name in enumerate(names):
                 if at < 20 or (at * 7 + number) % 40 == 0 and at < 1200:
                     rows.append(f"{name},{host},root,{'all' if at < 20 else 'listed'},own,/etc/sudoers:{at % 30 + 1},,,\n")
+            bodies = {**{name: text.replace("{}", str(number % 3)) for name, text in further.items()}, "roots": "".join(rows)}
             for name, header in HEADERS.items():
-                self.write(f"out/roots/{host}/{name}.csv", ",".join(header) + "\n" + ("".join(rows) if name == "roots" else ""))
+                self.write(f"out/roots/{host}/{name}.csv", ",".join(header) + "\n" + bodies.get(name, ""))
             inputs = [f"policy,/etc/sudoers.d/{number},90,{number:064}", f"users,{host}/users.csv,70,{number + 1:064}"]
             files = {"users": people, "hosts": f"host,interfaces\n{host},\n", "missing": "what\n"}
+            if is_full:
+                inputs += [f"policy,/etc/sudoers,700,{number % 4:064}", f"hosts,{host}/hosts.csv,70,{number + 2:064}"]
+                files["users"] += "".join(f"local{at},{2000 + number % 7},\n" for at in range(10))
+                files["missing"] += "" if number % 10 else "/etc/nsswitch.conf: sudoers: files sss\n"
             files["files"] = "\n".join([",".join(FILES_HEADER), f"program,sudo_review 0.1.0,9,{'2' * 64}", *inputs, ""])
             for name, text in files.items():
                 self.write(f"out/roots/{host}/{name}.csv", text)
@@ -145,6 +174,23 @@ class OfTables(FleetRoots):
         targets = set(re.findall('id="([^"]+)"', text))
         self.assertFalse({link for link in re.findall('href="#([^"]+)"', text)} - targets)
 
+    def test_hosts_that_stand_in_several_rows_are_listed_once(self) -> None:
+        self.tables(12, 1, True)
+        text = rendered(self.page())
+        table = re.findall('id="subjects-table".*?</table>', text, re.DOTALL)[0]
+        rows = re.findall('<tr id="(subjects-table-[0-9]+)">(.*?)</tr>', table, re.DOTALL)
+        self.assertEqual(len(rows), 300)
+        listed = [name for name, row in rows if "<details>" in row]
+        self.assertEqual(len(listed), 3)
+        links = re.findall('<a href="#([^"]+)">the same 4 hosts as of user <bdi>gone0of', table)
+        self.assertEqual((len(links), set(links)), (297, set(listed)))
+
+    def test_names_with_many_ids(self) -> None:
+        self.tables(5, 1, True)
+        (said,) = [sentence for sentence in self.page().sentences() if "several IDs" in sentence]
+        self.assertIn("be several people: local0 (2000, 2001, 2002, 2 more), local1", said)
+        self.assertTrue(said.endswith(" and 2 more."))
+
     def test_words(self) -> None:
         self.tables(1, 1)
         self.run_tool("page", "--fleet", "out", "--out", "page.html")
@@ -153,7 +199,7 @@ class OfTables(FleetRoots):
 
     @needs_driver
     def test_a_large_fleet(self) -> None:
-        self.tables(500, 5000)
+        self.tables(500, 5000, True)
         path = self.path("page.html")
         write_page(self.page(), path)
         self.assertLess(os.path.getsize(path), 5_000_000)

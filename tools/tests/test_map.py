@@ -51,15 +51,36 @@ class Cells(unittest.TestCase):
             *on_all("dora", "listed"),
         ]
         self.assertEqual(self.marks(rows), "R A! A B L ·")
-        # Nobody but root is sure where sudo may read the policy otherwise.
+        # Nobody but root is sure where sudo may decide otherwise.
         self.assertEqual(self.marks(rows, is_doubtful=True), "R ?A! ?A ?B ?L ?")
 
-    def test_no_cell_says_less_of_passwords_than_the_policy_gives(self) -> None:
-        rows = [*on_all("ann", "all", "?"), *on_all("bob", "all"), *on_all("cid", "all-but"), *on_all("dora", "listed")]
+    def test_passwords_are_those_of_the_table_of_roots(self) -> None:
+        rows = [*on_all("ann", "all", "?"), *on_all("bob", "all"), *on_all("cid", "all-but", "?"), *on_all("dora", "listed")]
+        # The row of a step to the target says of all its commands whether one asks for no password.
         free = [grant("bob, cid, dora", "/a", "NOPASSWD")]
-        self.assertEqual(self.marks(rows, free), "· A? A? B? L? ·")
-        self.assertEqual(self.marks(rows, [grant("bob, cid, dora", "/a", "NOPASSWD", "!")]), "· A? A B L ·")
-        self.assertEqual(self.marks(rows, [grant("bob, cid, dora", "/a", "NOPASSWD", hosts="h2")]), "· A? A B L ·")
+        self.assertEqual(self.marks(rows, free), "· A? A B? L ·")
+        # A row of a chain says nothing of a lesser one, as that by the step to the target.
+        rows = [*on_all("ann", "all"), *on_all("bob", "all", via="ann"), *on_all("cid", "all-but", via="ann")]
+        rows += on_all("dora", "listed", "other", via="ann")
+        self.assertEqual(self.marks(rows, free), "· A A? B? L ·")
+        self.assertEqual(self.marks(rows, [grant("bob, cid, dora", "/a", "NOPASSWD", "!")]), "· A A B L ·")
+        self.assertEqual(self.marks(rows, [grant("bob, cid, dora", "/a", "NOPASSWD", hosts="h2")]), "· A A B L ·")
+
+    def test_a_lesser_chain_through_another_user(self) -> None:
+        rows = [*on_all("ann", "all"), *on_all("bob", "all"), *on_all("cid", "listed", "?"), *on_all("dora", "listed")]
+        for runas, marks in (
+            ("(cid)", "· A? A? L? L ·"),
+            ("(ALL)", "· A? A? L? L ·"),
+            ("(: adm)", "· A? A? L? L ·"),
+            ("(dora)", "· A A L? L ·"),
+            ("(eve)", "· A A L? L ·"),
+        ):
+            free = [grant("ann", "/a", "NOPASSWD", runas=runas), grant("bob", "/a", "NOPASSWD", runas="(ann)")]
+            self.assertEqual(self.marks(rows, free), marks, runas)
+
+    def test_each_target_counts(self) -> None:
+        rows = [*on_all("ann", "all"), *on_all("ann", "listed", "?", target="toor")]
+        self.assertEqual(self.marks(rows), "· A? · · · ·")
 
     def test_a_row_that_depends_is_doubtful(self) -> None:
         self.assertEqual(self.marks(on_all("ann", "all", depends="a digest")), "· ?A · · · ·")
@@ -105,10 +126,22 @@ class Sentences(unittest.TestCase):
             "One user can run listed commands as root on one or more of the 2 hosts: dora. Whether one of these gives more, a"
             " reader has to judge.",
             "Of these, one gets there through another user or group: bob.",
-            "The other known user has no way to root by sudo, whatever command is asked for: that is proved.",
+            "The other known user has no way to root by sudo on either host, whatever command is asked for: that is proved.",
         ]
         self.assertEqual(self.said(rows), wanted)
-        self.assertTrue(self.said(rows, is_doubtful=True)[-1].endswith("; but sudo may read the policy otherwise."))
+        self.assertTrue(self.said(rows, is_doubtful=True)[-1].endswith("; but sudo may decide otherwise."))
+
+    def test_who_needs_no_password_on_some_hosts(self) -> None:
+        partly = [way("bob", "h1", "all", "none"), way("bob", "h2", "all")]
+        start, end = "users can run any command as root on both hosts", "on some of the hosts: "
+        for rows, said in (
+            ([*on_all("ann", "all"), *partly], f"Two {start}, one of them without a password {end}bob and ann."),
+            (
+                [*on_all("ann", "all", "none"), *partly, *on_all("cid", "all")],
+                f"Three {start}, one of them without a password, and one without one {end}ann, bob and cid.",
+            ),
+        ):
+            self.assertEqual(self.said(rows)[0], said)
 
     def test_changes(self) -> None:
         start = "Against the policy before, of the requests of the logs and the probes "

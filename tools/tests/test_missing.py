@@ -4,7 +4,7 @@ import os
 import unittest
 
 from support import Case
-from kulavemia.missing import SHOWN, warnings
+from kulavemia.missing import SHOWN, may_hide_rules, warnings
 
 LINE = "/etc/nsswitch.conf: sudoers: files sss: the rules of other sources than files are not gathered"
 
@@ -19,6 +19,22 @@ class Missing(Case):
             [f"{path}: {LINE}", f"{path}: /etc/sudoers.d/x: cannot be read"],
         )
         self.assertEqual(warnings([self.path("web2/")], self.path("web2/")), [])
+
+    def test_which_lines_are_about_rules(self) -> None:
+        for line, may in (
+            (LINE, True),
+            ("/etc/sudoers.d/x: cannot be read", True),
+            ("the users cannot be listed", True),
+            ("ip -j addr: cannot be run", True),
+            (f"the file missing of {SHOWN} folders has further lines", True),
+            ("/var/log/sudoers: cannot be read", True),
+            ("/var/log/auth.log.7: more than 4294967296 bytes, and no more are read", False),
+            ("/var/log/sudo/x.log: not a plain file", False),
+            ("the journal cannot be read", False),
+            ("user zoe: not known", False),
+        ):
+            self.assertEqual(may_hide_rules([line]), may, line)
+        self.assertFalse(may_hide_rules([]))
 
     def test_many_lines_are_cut(self) -> None:
         for host in range(SHOWN + 5):

@@ -86,6 +86,30 @@ class Replay(Case):
         self.assertIn("changes: 11 gained, 0 gained and lost, 0 lost, 0 other", out)
         self.assertTrue(all(row.startswith("gained,") for row in self.rows("out", "changes.csv")[1:]))
 
+    def test_what_sudo_reads_otherwise_may_change_too(self) -> None:
+        self.write("d/users.csv", "user,uid,groups\nroot,0,root:0\nann,1,ann:1\nkim,2,kim:2\n")
+        self.write("d/hosts.csv", "host,interfaces\nweb1,\n")
+        self.write("old", "ann ALL = ALL\n")
+        self.write("new", "Defaults !authenticate\nann ALL = ALL\n")
+        words = ("replay", "--policy", "new", "--old-policy", "old", "--directory", "d", "--out", "out", "--no-probe")
+        err = self.run_tool(*words)[1]
+        self.assertIn("replay: warning: new:1: defaults: authenticate: decides for sudo, has no effect here: only one of", err)
+        said = "Only one of the two policies has one construct that sudo reads or judges otherwise: no change that is listed"
+        self.assertIn(said, " ".join(json.loads(self.read("out", "review.json"))["sentences"]))
+        self.assertTrue("<li>new:1: defaults: authenticate: decides for sudo" in self.read("out", "page.html"))
+
+    def test_too_many_probes(self) -> None:
+        self.write("d/users.csv", "user,uid,groups\nroot,0,root:0\n" + "".join(f"u{at},{at + 1},u:1\n" for at in range(999)))
+        self.write("d/hosts.csv", "host,interfaces\nweb1,\n")
+        self.write("policy", "u1 ALL = ALL\n")
+        self.write("programs.csv", "kind,command,arguments\n" + "".join(f"shell,/bin/sh{at},\n" for at in range(1001)))
+        words = ("replay", "--policy", "policy", "--directory", "d", "--programs", "programs.csv", "--out", "out")
+        out, err = self.run_tool(*words)
+        self.assertIn("1,001,000 probes are left out: they only illustrate, and --at-most 1001000 makes them\n", err)
+        self.assertNotIn("probes", out)
+        self.assertFalse(os.path.exists(self.path("out", "probe")))
+        self.assertIn("1001000 probes, and --at-most is 1002; name", self.run_tool(*words, "--at-most", "1002", status=2)[1])
+
     def test_what_was_collected(self) -> None:
         self.write("web1/policy", "/etc/sudoers\n")
         self.write("web1/tree/etc/sudoers", "root ALL = ALL\n@includedir /etc/sudoers.d\n")
@@ -111,6 +135,25 @@ class Replay(Case):
         with open(self.path("web1", "tree", "etc", "sudoers"), "rb") as file:
             self.assertEqual(files["/etc/sudoers"], hashlib.sha256(file.read()).hexdigest())
         self.assertIn("web1/passwd", files)
+
+    def test_rules_that_could_not_be_gathered_leave_no_cell_sure(self) -> None:
+        self.write("web1/policy", "/etc/sudoers\n")
+        self.write("web1/tree/etc/sudoers", "root ALL = ALL\njen ALL = ALL\n")
+        self.write("web1/passwd", "".join(f"{name}:x:{at}:{at}::/:/bin/sh\n" for at, name in enumerate(("root", "jen", "kim"))))
+        self.write("web1/group", "root:x:0:\njen:x:1:\nkim:x:2:\n")
+        self.write("web1/addr.json", "[]")
+        for lacks, wanted in (
+            ("/etc/nsswitch.conf: sudoers: files sss: not gathered\n", "?A ? R"),
+            ("/etc/sudoers.d/20-web: cannot be read\n", "?A ? R"),
+            ("/var/log/auth.log: cannot be read\n", "A · R"),
+        ):
+            self.write("web1/missing", lacks)
+            shutil.rmtree(self.path("out"), ignore_errors=True)
+            self.run_tool("replay", "--collected", "web1", "--out", "out", "--no-probe")
+            self.assertEqual(" ".join(self.marks_shown().values()), wanted, lacks)
+            sentences = " ".join(json.loads(self.read("out", "review.json"))["sentences"])
+            self.assertEqual("but sudo may decide otherwise" in sentences, "?" in wanted)
+            self.assertIn("Something could not be gathered", sentences)
 
     def test_lines_without_a_host_are_of_the_only_host(self) -> None:
         self.write("directory/users.csv", "user,uid,groups\nroot,0,root:0\nguest,1,guest:1\n")
@@ -215,6 +258,10 @@ class Replay(Case):
         """Returns the mark of each user on the only host, under rules and that for root."""
         self.write("policy", "root ALL = (ALL) ALL\n" + "".join(f"{rule}\n" for rule in rules))
         self.run_tool("replay", "--out", "out", "--policy", "policy", "--directory", "d", "--no-probe")
+        return self.marks_shown()
+
+    def marks_shown(self) -> dict[str, str]:
+        """Returns the mark of each user on the only host of the page."""
         data = json.loads(re.findall('id="data">(.*?)</script>', self.read("out", "page.html"))[0])["roots"]
         marks = [data["cells"][data["rows"][row][0]][1] for row in data["rowOf"]]
         return dict(zip(data["users"], marks))
@@ -334,7 +381,8 @@ class Continued(Case):
         self.write("program", f"#!/bin/sh\n: >here\nwhile [ ! -e go ]; do sleep 0.05; done\nexec {named} \"$@\"\n")
         os.chmod(program, 0o755)
         words = [os.path.join(TOOLS, "replay"), "--out", "out", *self.given, "--program", program]
-        with subprocess.Popen(words, cwd=self.folder, stdout=subprocess.DEVNULL) as running:
+        quiet = subprocess.DEVNULL
+        with subprocess.Popen(words, cwd=self.folder, stdout=quiet, stderr=quiet) as running:
             end = time.monotonic() + 30
             while not os.path.exists(self.path("here")):
                 self.assertLess(time.monotonic(), end)

@@ -332,7 +332,10 @@
     title.append(make("bdi", names(group, users)), " on ", make("bdi", names(hostGroup, hosts)));
     const said = make("p");
     said.append(make("strong", `${meaning[0].toUpperCase()}${meaning.slice(1)}.`));
-    const parts = [title, said, ...ways.map((way) => wayText(way, mark.endsWith("?")))];
+    const parts = [title, said, ...ways.map(wayText)];
+    if (mark.endsWith("?") && ways.length && ways.every(([, , password]) => password !== "?")) {
+      parts.push(make("p", "Another chain, by fewer commands, may need no password."));
+    }
     if (!ways.length && mark) parts.push(make("p", "No chain of runs of sudo, of any length, leads to a user with the ID 0: so the program has found, for every command."));
     if (rests.length) parts.push(...grantParts(rests));
     else if (data.fleet && ways.some(([, level]) => level !== "root")) parts.push(make("p", "The commands there are in roots/HOST/grants.csv, with the users and hosts of each."));
@@ -365,13 +368,13 @@
     return rule;
   };
 
-  const wayText = ([target, level, password, place, tags, via], isUnasked) => {
+  const wayText = ([target, level, password, place, tags, via]) => {
     const line = make("p");
     if (level === "root") {
       line.append(make("bdi", target), " has the ID 0.");
       return line;
     }
-    line.append("As ", make("bdi", target), `: ${PASSWORDS[isUnasked ? "?" : password] || password}`);
+    line.append("As ", make("bdi", target), `: ${PASSWORDS[password] || password}`);
     if (via) line.append("; through ", make("bdi", via));
     if (place >= 0) line.append(via ? ". The first step is by " : ". By ", ruleOf(place));
     return line;
