@@ -8,6 +8,32 @@ use std::alloc::Global;
 use std::sync::Wait;
 use std::test::Fail;
 use std::thread::Threads;
+use sudo_text::Seq;
+
+/// Returns how a call ended that returned a fault.
+fn end_of_fault(fault: &FilesFault) -> End {
+    match fault {
+        FilesFault::Memory => End::Refused,
+        _ => End::Wrong,
+    }
+}
+
+/// Returns how a read ended, by whether the text is `main`.
+fn end_of_reading(read: Result<Option<Seq<u8>>, FilesFault>) -> End {
+    match read {
+        Ok(Some(text)) => End::of(text.as_slice() == b"main".as_slice()),
+        Ok(None) => End::Wrong,
+        Err(fault) => end_of_fault(&fault),
+    }
+}
+
+/// Returns how a listing ended, by whether it has four names.
+fn end_of_listing(listed: Result<Seq<Seq<u8>>, FilesFault>) -> End {
+    match listed {
+        Ok(names) => End::of(names.len() == 4),
+        Err(fault) => end_of_fault(&fault),
+    }
+}
 
 /// A file below the folder, behind two links, read.
 #[derive(Drop)]
@@ -21,11 +47,7 @@ impl Trial for Reading {
         memory.take();
         let text = files.file(self.alloc, b"/conf/twice");
         memory.give_back();
-        Ok(match text {
-            Ok(Some(text)) => End::of(text.as_slice() == b"main".as_slice()),
-            Err(FilesFault::Memory) => End::Refused,
-            _ => End::Wrong,
-        })
+        Ok(end_of_reading(text))
     }
 }
 
@@ -41,11 +63,7 @@ impl Trial for Listing {
         memory.take();
         let names = files.folder(self.alloc, b"/down");
         memory.give_back();
-        Ok(match names {
-            Ok(names) => End::of(names.len() == 3),
-            Err(FilesFault::Memory) => End::Refused,
-            Err(_) => End::Wrong,
-        })
+        Ok(end_of_listing(names))
     }
 }
 
