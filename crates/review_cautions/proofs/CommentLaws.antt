@@ -1,7 +1,8 @@
 -- A line without a `#` has no comment.
-use Rattle.std.proofs.Common.{◌≡◌, ℕ, Bool, true, false, List, [], ◌∷◌, refl, arith}
+use Rattle.std.proofs.Common.{◌≡◌, ℕ, suc, ◌<◌, ◌≤◌, Bool, true, false, List, [], ◌∷◌, length, refl, arith}
 use Rattle.std.specs.Prelude.{not, ◌&&◌, ◌||◌, ◌==◌, if◌then◌else◌}
 use Rattle.std.specs.List.{list_any}
+use Rattle.memchr.specs.Find.{Nowhere, Passes, is_byte}
 use Rattle.sudo_text.specs.Bytes.{is_blank}
 use Rattle.review_cautions.specs.PhysicalLines.{has_other_comment, admits_id, begins_with_digit, begins_no_comment}
 
@@ -10,6 +11,9 @@ no_left a b h = grind arith
 
 no_right : (a b : Bool) → (a || b) ≡ false → b ≡ false
 no_right a b h = grind arith
+
+neither : (a b : Bool) → a ≡ false → b ≡ false → (a || b) ≡ false
+neither a b h k = grind arith
 
 -- which of the ways is taken: the first byte is escaped, a backslash, a quote, or any other but a `#`
 taken : (e bs q h v w : Bool) (a b c d f : Bool) → h ≡ false → a ≡ false → b ≡ false → c ≡ false → d ≡ false
@@ -20,7 +24,7 @@ taken false false true h v w a b c d f none is-a is-b is-c is-d = is-c
 taken false false false true v w a b c d f none is-a is-b is-c is-d = grind arith
 taken false false false false v w a b c d f none is-a is-b is-c is-d = is-d
 
-pub no_comment : (escaped quoted admitted : Bool) (line : List ℕ) → list_any (λ b. b == 35) line ≡ false
+no_comment : (escaped quoted admitted : Bool) (line : List ℕ) → list_any (λ b. b == 35) line ≡ false
     → has_other_comment escaped quoted admitted line ≡ false
 no_comment escaped quoted admitted [] h = refl
 no_comment escaped quoted admitted (b ∷ bs) h =
@@ -33,3 +37,16 @@ no_comment escaped quoted admitted (b ∷ bs) h =
     none (no_comment false quoted false bs rest) (no_comment true quoted false bs rest)
     (no_comment false (not quoted) false bs rest)
     (no_comment false quoted (admits_id b || (admitted && is_blank b)) bs rest)
+
+not_there : (t : Bool) → (t ≡ true → ⊥) → t ≡ false
+not_there true h = absurd (h refl)
+not_there false h = refl
+
+-- no byte of the line is a `#`, by a search for it
+nowhere : (line : List ℕ) → Nowhere (Passes (is_byte 35) line) 0 (length line) → list_any (λ b. b == 35) line ≡ false
+nowhere [] none = refl
+nowhere (b ∷ bs) none = neither (b == 35) (list_any (λ c. c == 35) bs) (not_there (b == 35) (none 0 (omega arith) (omega arith)))
+    (nowhere bs (λ k low high. none (suc k) (omega arith) (omega (arith, high))))
+
+pub no_sign : (line : List ℕ) → Nowhere (Passes (is_byte 35) line) 0 (length line) → has_other_comment false false true line ≡ false
+no_sign line none = no_comment false false true line (nowhere line none)

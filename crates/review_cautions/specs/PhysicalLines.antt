@@ -155,7 +155,7 @@ line_holds Join continuing line next = tears_word (stripped line) (stripped next
 line_holds TornMark continuing line next = tears_mark (stripped line) (stripped next)
 line_holds IncludeEscape continuing line next = is_escaped_include continuing (stripped line)
 line_holds IncludeIndent continuing line next = is_indented_include continuing line
-line_holds Comment continuing line next = not (is_include (stripped line)) && has_other_comment false false true (stripped line)
+line_holds Comment continuing line next = has_other_comment false false true (stripped line) && not (is_include (stripped line))
 line_holds _ continuing line next = false
 
 -- the line is a comment; a continuation line never is

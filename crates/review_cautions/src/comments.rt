@@ -2,7 +2,8 @@
 ghost use Rattle.std.specs.Prelude.{◌≡◌, false, true};
 ghost use Rattle.review_cautions.specs.PhysicalLines as spec;
 
-use crate::bytes::{has_byte, is_blank, is_digit, peek};
+use crate::bytes::{is_blank, is_digit, peek};
+use memchr::memchr;
 
 // Whether an ID may stand behind a byte.
 fn admits_id(byte: u8) -> bool
@@ -52,9 +53,12 @@ fn first_comment_is_other(line: &[u8]) -> bool
 }
 
 /// Whether the first `#` that begins a comment here begins none for sudo.
-#[tactic(auto, using(crate::proofs::CommentLaws::no_comment))]
+#[tactic(auto, using(crate::proofs::CommentLaws::no_sign))]
 pub(crate) fn has_other_comment(line: &[u8]) -> bool
     ensures { result ≡ spec.has_other_comment false false true line.now }
 {
-    has_byte(b'#', line) && first_comment_is_other(line)
+    match memchr(b'#', line) {
+        Some(_) => first_comment_is_other(line),
+        None => false,
+    }
 }

@@ -138,7 +138,7 @@ fn line_holds(class: CautionClass, continuing: bool, line: &[u8], after: &[u8]) 
         CautionClass::TornMark => tears_mark(strip(line), strip(first_of(after))),
         CautionClass::IncludeEscape => is_escaped_include(continuing, strip(line)),
         CautionClass::IncludeIndent => is_indented_include(continuing, line),
-        CautionClass::Comment => !is_include(strip(line)) && has_other_comment(strip(line)),
+        CautionClass::Comment => has_other_comment(strip(line)) && !is_include(strip(line)),
         _ => false,
     }
 }
