@@ -141,8 +141,6 @@ def _include_indent(aim: Aim) -> Aimed:
 
 def _comment(aim: Aim) -> Aimed:
     number = aim.pick("5", "-1", "42 note", "7,8", "-")
-    if aim.chance(0.3):
-        return Aimed(f"User_Alias A = {aim.user}{aim.pick('', ' ')}#{number}\n" + aim.rule(aim.command, "A"), (aim.ask(),))
     return Aimed(aim.rule(f"{aim.pick(aim.command, 'ALL')}{aim.pick('', ' ')}#{number}"), (aim.ask(),))
 
 
@@ -302,7 +300,7 @@ def _group_form(aim: Aim) -> Aimed:
 
 
 def _reserved(aim: Aim) -> Aimed:
-    name = aim.pick("CWD", "CHROOT", "TIMEOUT", "NOTBEFORE", "NOTAFTER", "ROLE", "TYPE")
+    name = aim.pick("CWD", "CHROOT", "TIMEOUT", "NOTBEFORE", "NOTAFTER")
     texts = (
         f"User_Alias {name} = {aim.user}\n" + aim.rule(aim.command, name),
         f"Host_Alias {name} = {aim.short()}\n" + aim.rule(aim.command, host=name),
