@@ -93,8 +93,13 @@ class Reports(Case):
             self.run_tool("compare", *words, option, path, *SOURCES, status=1)
             for option, path in (("--program", PROGRAM), ("--review", REVIEW))
         ]
-        self.assertEqual(found[0], found[1])
-        self.assertIn("gained,", found[0][0])
+        (by_audit, said), (by_review, told) = found
+        self.assertEqual(by_audit, by_review)
+        self.assertIn("gained,", by_audit)
+        # The second program alone has cautions, which are told of where only one of the policies has them.
+        lines = told.splitlines()
+        self.assertEqual(said.splitlines(), [line for line in lines if not line.startswith("compare: warning: ")])
+        self.assertEqual([": defaults: noexec: " in line for line in lines], [False, True, False])
 
 
 @needs_program
