@@ -1,4 +1,4 @@
-//! Tests of what the reviewer reads and explains: files below a folder, over memory; the hints at faults of a policy; and both with little memory.
+//! Tests of what the reviewer reads and explains: files below a folder, over memory; hints at faults of a policy; both with little memory.
 #![tactic(auto)]
 
 #[cfg(test)]
