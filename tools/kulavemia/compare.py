@@ -27,7 +27,7 @@ CHANGE_HEADER = (
     "new_place",
 )
 
-# What is said of a caution that only one of two policies has.
+# The warning about a caution on one of the two policies alone.
 UNLIKE = "only one of the policies has this, and no change that is listed shows what sudo makes of it"
 UNLIKE_SHOWN = 20
 # Tags that free a grant, and tags that bind it.
@@ -106,7 +106,7 @@ def _fields(change: Change) -> tuple[str, ...]:
 
 
 def warnings(unlike: Sequence[str]) -> list[str]:
-    """Returns warnings of cautions that only one of two policies has, the first of them alone where there are many."""
+    """Returns the warnings about cautions on one of the two policies alone: the first twenty, and the number of the others."""
     left = len(unlike) - UNLIKE_SHOWN
     more = [f"{left} more constructs are in one of the policies alone"] if left > 0 else []
     return [f"{line}: {UNLIKE}" for line in unlike[:UNLIKE_SHOWN]] + more

@@ -96,7 +96,7 @@ class Reports(Case):
         (by_audit, said), (by_review, told) = found
         self.assertEqual(by_audit, by_review)
         self.assertIn("gained,", by_audit)
-        # The second program alone has cautions, which are told of where only one of the policies has them.
+        # sudo_review alone names cautions, and compare warns of those on one of the two policies.
         lines = told.splitlines()
         self.assertEqual(said.splitlines(), [line for line in lines if not line.startswith("compare: warning: ")])
         self.assertEqual([": defaults: noexec: " in line for line in lines], [False, True, False])

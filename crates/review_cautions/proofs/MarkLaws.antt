@@ -179,11 +179,11 @@ plain_unquoted (tokens.Command path args) h = refl
 plain_unquoted (tokens.Mark mark) h = refl
 plain_unquoted (tokens.Include folder hash path) h = refl
 
--- a plain name has no escape that sudo reads otherwise
+-- no test of escapes finds one in a plain name
 plain_name : (word : List Ch) → list_all is_plain word ≡ true → name_has_escape word ≡ false
 plain_name word h = either (begins_as_id word) (list_any is_escaped_tab word) (no_id word h) (none_of is_escaped_tab no_tab word h)
 
--- nor has a plain ID
+-- nor in a plain ID
 plain_group_id : (word : List Ch) → list_all is_plain word ≡ true → group_id_has_escape word ≡ false
 plain_group_id [] h = refl
 plain_group_id (percent ∷ []) h = refl

@@ -122,7 +122,7 @@ abbrev pub admits_id : ℕ → Bool
 admits_id b =
     (b == 33) || (b == 44) || (b == 40) || (b == 58) || (b == 61) || (b == 64) || (b == 62) || (b == 37)
 
--- a digit is the first byte, or there is none
+-- the bytes are empty, or begin with a digit
 abbrev pub is_empty_or_number : List ℕ → Bool
 is_empty_or_number [] = true
 is_empty_or_number (b ∷ bs) = is_digit b
