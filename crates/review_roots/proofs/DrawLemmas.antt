@@ -12,9 +12,8 @@ use Rattle.review_roots.specs.declared.search.Aim.{Aim}
 use Rattle.review_roots.specs.declared.search.Found.{Found}
 use Rattle.review_roots.specs.declared.search.Sought.{Sought}
 use Rattle.review_roots.specs.Body.Candidates.{states_of}
-use Rattle.review_roots.specs.Sought.{steps_of}
 use Rattle.review_roots.specs.States.{steps_to}
-use Rattle.review_roots.specs.Body.Found.{IsCandidate, IsSearch, IsDrawn, found_by, reaches}
+use Rattle.review_roots.specs.Body.Found.{found_by, IsCandidate, IsDrawn, IsSearch, kept_steps, reaches}
 use Rattle.review_roots.proofs.ListSteps.{take-more, filter-mapped, map-twice}
 use Rattle.review_roots.proofs.SearchLemmas.{drawn_to, new_found, drawn-search, drawn-more, parted-length}
 
@@ -90,27 +89,27 @@ module _
     abbrev aim : Aim
     aim = record { index = n; state = t.state; level = l; counted = q.counted }
 
-    finds_states : new ≡ found ++ map (new_found l n) (filter (drawn_to (steps_of h q) l t.state) (states_of cs))
+    finds_states : new ≡ found ++ map (new_found l n) (filter (drawn_to (kept_steps h q) l t.state) (states_of cs))
     finds_states = finds ∙ ap (λ (xs : List Found). found ++ xs) (draw-found h q.target aim cs)
 
-    keeps_states : states_of kept ≡ filter (λ s. not (drawn_to (steps_of h q) l t.state s)) (states_of cs)
+    keeps_states : states_of kept ≡ filter (λ s. not (drawn_to (kept_steps h q) l t.state s)) (states_of cs)
     keeps_states = ap states_of keeps ∙ draw-kept h q.target aim cs
 
-    pub spread-search : IsSearch (steps_of h q) h.least l found (states_of cs) → IsSearch (steps_of h q) h.least l new (states_of kept)
+    pub spread-search : IsSearch (kept_steps h q) h.least l found (states_of cs) → IsSearch (kept_steps h q) h.least l new (states_of kept)
     spread-search search =
-        subst (λ xs. IsSearch (steps_of h q) h.least l xs (states_of kept)) (sym finds_states)
-        (subst (IsSearch (steps_of h q) h.least l
-        (found ++ map (new_found l n) (filter (drawn_to (steps_of h q) l t.state) (states_of cs))))
+        subst (λ xs. IsSearch (kept_steps h q) h.least l xs (states_of kept)) (sym finds_states)
+        (subst (IsSearch (kept_steps h q) h.least l
+        (found ++ map (new_found l n) (filter (drawn_to (kept_steps h q) l t.state) (states_of cs))))
         (sym keeps_states)
-        (drawn-search (steps_of h q) h.least l n t found (states_of cs) search there))
+        (drawn-search (kept_steps h q) h.least l n t found (states_of cs) search there))
 
-    pub spread-drawn : IsSearch (steps_of h q) h.least l found (states_of cs) → IsDrawn (steps_of h q) l n found (states_of cs)
-        → IsDrawn (steps_of h q) l (n + 1) new (states_of kept)
+    pub spread-drawn : IsSearch (kept_steps h q) h.least l found (states_of cs) → IsDrawn (kept_steps h q) l n found (states_of cs)
+        → IsDrawn (kept_steps h q) l (n + 1) new (states_of kept)
     spread-drawn search drawn =
-        subst (λ xs. IsDrawn (steps_of h q) l (n + 1) xs (states_of kept)) (sym finds_states)
-        (subst (IsDrawn (steps_of h q) l (n + 1)
-        (found ++ map (new_found l n) (filter (drawn_to (steps_of h q) l t.state) (states_of cs)))) (sym keeps_states)
-        (drawn-more (steps_of h q) h.least l n t found (states_of cs) search there drawn))
+        subst (λ xs. IsDrawn (kept_steps h q) l (n + 1) xs (states_of kept)) (sym finds_states)
+        (subst (IsDrawn (kept_steps h q) l (n + 1)
+        (found ++ map (new_found l n) (filter (drawn_to (kept_steps h q) l t.state) (states_of cs)))) (sym keeps_states)
+        (drawn-more (kept_steps h q) h.least l n t found (states_of cs) search there drawn))
 
     pub spread-candidates : All (IsCandidate h) cs → All (IsCandidate h) kept
     spread-candidates all = subst (All (IsCandidate h)) (sym keeps) (All-filter (λ c. not (reaches h aim c)) (IsCandidate h) cs all)

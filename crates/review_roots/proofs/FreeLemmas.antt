@@ -1,5 +1,5 @@
 -- Chains whose steps ask for no password, or may go without one.
-use Rattle.std.proofs.Common.{◌≡◌, ◌∙◌, ◌==◌, ℕ, Bool, true, false, cond, List, [], ◌∷◌, ap, refl, get_or, subst, sym}
+use Rattle.std.proofs.Common.{◌≡◌, ◌∙◌, ◌==◌, ℕ, Bool, true, false, cond, List, [], ◌∷◌, ap, refl, get_or, length, subst, sym}
 use Rattle.std.proofs.Common.{Some, None, inl, inr}
 use Rattle.std.specs.Prelude.{slice_get}
 use Rattle.std.specs.List.{Contains}
@@ -24,6 +24,7 @@ use Rattle.review_roots.specs.Body.Found.{AreFound, ChainsLead, IsAsked, IsFound
 use Rattle.review_roots.specs.Ranks.{is_at_least}
 use Rattle.review_roots.specs.States.{level_for, state_with, steps_to}
 use Rattle.review_roots.specs.Ways.{IsChain, IsUnasked, IsWay, password_along, step_on, step_password, worse}
+use Rattle.review_roots.proofs.KeptLemmas.{host-keeps, state-parts}
 use Rattle.review_roots.proofs.LoopLemmas.{there}
 use Rattle.review_roots.proofs.RootLemmas.{not-found, start-is}
 use Rattle.review_roots.proofs.SearchLemmas.{at-contains, at-least-trans, path-weaker}
@@ -101,11 +102,11 @@ module _ (h : HostSteps) (target : ℕ) (least : Level) (chains : Chains) (lead 
 
   -- no chain of the level, where none that is found has it
   none-at :
-      (g : Steps State) (xs : List Found) (k l : Level) → AreFound g least xs → is_at_least k l ≡ true → is_at_least least l ≡ true →
-      Contains g.states start → IsGoodAt xs user k None → HasNoPath g l start
-  none-at g xs k l are good enough inside (inl nowhere) = λ n p.
-      not-found g least xs user are inside nowhere n (path-weaker g least l enough n start p)
-  none-at g xs k l are good enough inside (inr (i, (e, (at, (begins, worse))))) = λ n p.
+      (g : Steps State) (states : List State) (xs : List Found) (k l : Level) → AreFound g states least xs → is_at_least k l ≡ true →
+      is_at_least least l ≡ true → Contains states start → IsGoodAt xs user k None → HasNoPath g l start
+  none-at g states xs k l are good enough inside (inl nowhere) = λ n p.
+      not-found g states least xs user are inside nowhere n (path-weaker g least l enough n start p)
+  none-at g states xs k l are good enough inside (inr (i, (e, (at, (begins, worse))))) = λ n p.
       let right : IsFound g e = All-contains (IsFound g) xs e are.right (at-contains xs e i at) in
       let better : is_at_least k e.level ≡ true =
       at-least-trans k l e.level good (right.best l (subst (HasPath g l) (sym (start-is user e.state begins)) (n, p))) in
@@ -135,7 +136,7 @@ module _ (h : HostSteps) (target : ℕ) (least : Level) (chains : Chains) (lead 
   -- a chain whose steps may go without, where no chain without passwords has its level
   way-unasked :
       (f : Found) (w : Way) → ((m : Level) → HasPath (any_steps h target) m start → is_at_least m f.level ≡ true) →
-      is_at_least f.level w.level ≡ true → Contains (free_steps h target).states start →
+      is_at_least f.level w.level ≡ true → Contains h.states.now start →
       IsGoodAt chains.free.items user f.level None →
       IsChain h (record { target = target; counted = counted.Unasked }) least start w → IsWay h target least start w
   way-unasked f w best good inside none is =
@@ -147,13 +148,13 @@ module _ (h : HostSteps) (target : ℕ) (least : Level) (chains : Chains) (lead 
         enough = is.enough;
         by = is.by;
         password = is.password;
-        free = inr (none-at (free_steps h target) chains.free.items f.level w.level lead.free good is.enough inside none);
+        free = inr (none-at (free_steps h target) h.states.now chains.free.items f.level w.level lead.free good is.enough inside none);
         unasked = inl (subst IsUnasked (sym is.password) (unasked-unasked h target w.level listed user start w.chain.items is.leads));
       }
 
   -- another chain, where none without passwords and none whose steps may go without has its level
   way-any :
-      (f : Found) (w : Way) → is_at_least f.level w.level ≡ true → Contains (free_steps h target).states start →
+      (f : Found) (w : Way) → is_at_least f.level w.level ≡ true → Contains h.states.now start →
       IsGoodAt chains.free.items user f.level None → IsGoodAt chains.unasked.items user f.level None →
       IsChain h (record { target = target; counted = counted.Any }) least start w → IsWay h target least start w
   way-any f w good inside none asks is = record {
@@ -163,8 +164,8 @@ module _ (h : HostSteps) (target : ℕ) (least : Level) (chains : Chains) (lead 
     enough = is.enough;
     by = is.by;
     password = is.password;
-    free = inr (none-at (free_steps h target) chains.free.items f.level w.level lead.free good is.enough inside none);
-    unasked = inr (none-at (unasked_steps h target) chains.unasked.items f.level w.level lead.unasked good is.enough inside asks);
+    free = inr (none-at (free_steps h target) h.states.now chains.free.items f.level w.level lead.free good is.enough inside none);
+    unasked = inr (none-at (unasked_steps h target) h.states.now chains.unasked.items f.level w.level lead.unasked good is.enough inside asks);
   }
 
   -- ---- The chain that is chosen, of the found state at an index among those of any steps
@@ -194,6 +195,11 @@ module _ (h : HostSteps) (target : ℕ) (least : Level) (chains : Chains) (lead 
     unfolding f
     at_index = begin.1.0
 
+    kept-start : Contains h.states.now start
+    kept-start =
+        (host-keeps h).starts user (state-parts (length h.directory.now.people) (length h.groups.now) start
+        (subst (Contains (any_steps h target).states) begins right.inside)).0
+
     best : (m : Level) → HasPath (any_steps h target) m start → is_at_least m a.level ≡ true
     best m p =
         ap (λ (e : Found). is_at_least m e.level) (sym f_is)
@@ -210,14 +216,14 @@ module _ (h : HostSteps) (target : ℕ) (least : Level) (chains : Chains) (lead 
 
     module _
         (w : Way) (xs : List Found) (k : ℕ)
-        (is : (q : Sought) (l : Level) (f : Found) → AreFound (steps_of h q) l xs → slice_get xs k ≡ Some f → IsChain h q l f.state w)
+        (is : (q : Sought) (l : Level) (f : Found) → AreFound (steps_of h q) h.states.now l xs → slice_get xs k ≡ Some f → IsChain h q l f.state w)
       where
         chosen :
-            (q : Sought) (ys : List Found) → AreFound (steps_of h q) least ys → xs ≡ ys → IsGoodAt ys user a.level (Some k) →
+            (q : Sought) (ys : List Found) → AreFound (steps_of h q) h.states.now least ys → xs ≡ ys → IsGoodAt ys user a.level (Some k) →
             IsChain h q least start w × (is_at_least a.level w.level ≡ true)
         chosen q ys are same (e, (at, (first, good))) =
             let chain = subst (λ s. IsChain h q least s w) (start-is user e.state first)
-            (is q least e (subst (AreFound (steps_of h q) least) (sym same) are) (ap (λ (zs : List Found). slice_get zs k) same ∙ at)) in
+            (is q least e (subst (AreFound (steps_of h q) h.states.now least) (sym same) are) (ap (λ (zs : List Found). slice_get zs k) same ∙ at)) in
             let found : IsFound (steps_of h q) e = All-contains (IsFound (steps_of h q)) ys e are.right (at-contains ys e k at) in (
               chain,
               at-least-trans a.level e.level w.level good
@@ -233,16 +239,16 @@ module _ (h : HostSteps) (target : ℕ) (least : Level) (chains : Chains) (lead 
             → IsWay h target least start w
         best-unasked asked same good =
             let c = chosen (record { target = target; counted = counted.Unasked }) chains.unasked.items lead.unasked same good in
-            way-unasked a w best c.1 (subst (Contains (free_steps h target).states) begins right.inside) (asked-there asked) c.0
+            way-unasked a w best c.1 kept-start (asked-there asked) c.0
 
         pub best-any : IsAsked chains user index → k ≡ index → xs ≡ chains.any.items → IsGoodAt chains.unasked.items user a.level None
             → IsWay h target least start w
         best-any asked this same asks =
             let q : Sought = record { target = target; counted = counted.Any } in
             let chain = subst (λ s. IsChain h q least s w) begins
-            (is q least f (subst (AreFound (any_steps h target) least) (sym same) lead.any)
+            (is q least f (subst (AreFound (any_steps h target) h.states.now least) (sym same) lead.any)
             (ap (λ (ys : List Found). slice_get ys k) same ∙ ap (slice_get chains.any.items) this ∙ at_index)) in
             way-any a w
             (ap (λ (e : Found). is_at_least e.level w.level) (sym f_is)
             ∙ chain.best f.level (subst (HasPath (any_steps h target) f.level) begins right.path))
-            (subst (Contains (free_steps h target).states) begins right.inside) (asked-there asked) asks chain
+            kept-start (asked-there asked) asks chain

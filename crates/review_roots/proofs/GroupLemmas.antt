@@ -25,7 +25,7 @@ neither : (a b : Bool) → (a || b) ≡ false → (a ≡ false) × (b ≡ false)
 neither true b e = cc
 neither false b e = (refl, e)
 
-or-false : (a : Bool) → (a || false) ≡ a
+pub or-false : (a : Bool) → (a || false) ≡ a
 or-false true = refl
 or-false false = refl
 
@@ -43,7 +43,7 @@ same-fit (atom.Name name) u g e = refl
 same-fit (atom.Uid uid) u g e = refl
 same-fit _ u g e = refl
 
-same-last :
+pub same-last :
     (ws : List Signed) (u : Person) (g : Group) → list_names g ws ≡ false →
     last_that (λ w. user_fits w.atom (with_added u (Some g))) ws ≡ last_that (λ w. user_fits w.atom u) ws
 same-last [] u g e = refl

@@ -21,3 +21,9 @@ pub mod TowardLemmas
 pub mod IndexLemmas
 pub mod WeakLemmas
 pub mod CandidateLemmas
+pub mod MemberLemmas
+pub mod UnnamedLemmas
+pub mod AlikeLemmas
+pub mod UserLemmas
+pub mod KeptLemmas
+pub mod PathLemmas

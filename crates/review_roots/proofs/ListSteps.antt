@@ -92,7 +92,7 @@ pub index-there : {X : Type 0} (xs : List X) (at : ℕ) (other : X) → at < len
     → get_or xs at other ≡ get_or xs at (get_or xs at other)
 index-there xs at other within = get_or_default xs at other (get_or xs at other) within
 
-range-more : (a n : ℕ) → range_with_len a (suc n) ≡ range_with_len a n ++ (a + n) ∷ []
+pub range-more : (a n : ℕ) → range_with_len a (suc n) ≡ range_with_len a n ++ (a + n) ∷ []
 range-more a zero = ap (λ k. k ∷ []) (let e : a ≡ a + 0 = omega arith in e)
 range-more a (suc n) =
     ap (λ (ks : List ℕ). a ∷ ks)

@@ -127,7 +127,7 @@ states-inside g found right s c =
 pub way-is :
     (h : HostSteps) (q : Sought) (least : Level) (found : List Found) (index : ℕ) (d f : Found) (chain : Vec State Global)
     (by : Option AllowingRow) (password : Password)
-    (states same : List State) → AreFound (steps_of h q) least found → index < length found → slice_get found index ≡ Some f →
+    (states same : List State) → AreFound (steps_of h q) h.states.now least found → index < length found → slice_get found index ≡ Some f →
     LeadsWhole found index chain.items → All (Contains (found_states found)) chain.items → states ≡ chain.items → by
     ≡ first_row h (get_or found index d).state states → same ≡ chain.items →
     password ≡ password_along h (get_or found index d).state.user (get_or found index d).state same →

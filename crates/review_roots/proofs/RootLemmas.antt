@@ -14,7 +14,6 @@ use Rattle.review_roots.specs.declared.level.Level.{Level}
 use Rattle.review_roots.specs.declared.roots.Root.{Root}
 use Rattle.review_roots.specs.declared.search.Found.{Found}
 use Rattle.review_roots.specs.declared.state.State.{State}
-use Rattle.review_roots.specs.Sought.{any_steps}
 use Rattle.review_roots.specs.Chains.{HasNoPath, Steps}
 use Rattle.review_roots.specs.Body.Found.{AreFound, found_states, is_start}
 use Rattle.review_roots.specs.States.{all_states, states_with, state_with}
@@ -36,7 +35,7 @@ start-is user s e =
 pub starts : (user : ℕ) → is_start user (state_with None user) ≡ true
 starts user = ap (λ b. b && true) (eq-eqb user user refl)
 
-range-has : (n i : ℕ) → i < n → Contains (range_with_len 0 n) i
+pub range-has : (n i : ℕ) → i < n → Contains (range_with_len 0 n) i
 range-has n i l =
     let here : get_or (range_with_len 0 n) i i ≡ i = get_or-range_with_len 0 n i i l ∙ (let e : 0 + i ≡ i = omega arith in e) in
     subst (Contains (range_with_len 0 n)) here (Contains-get_or (range_with_len 0 n) i i (omega (arith, l, length-range_with_len 0 n)))
@@ -49,9 +48,10 @@ states-have users groups user less =
 
 -- a user that is not found without an added group has no chain
 pub not-found :
-    (g : Steps State) (least : Level) (found : List Found) (user : ℕ) → AreFound g least found → Contains g.states (state_with None user) →
+    (g : Steps State) (states : List State) (least : Level) (found : List Found) (user : ℕ) → AreFound g states least found →
+    Contains states (state_with None user) →
     All (λ f. is_start user f.state ≡ false) found → HasNoPath g least (state_with None user)
-not-found g least found user are inside none = go (are.complete (state_with None user) inside)
+not-found g states least found user are inside none = go (are.complete (state_with None user) inside)
   where
     go : Contains (found_states found) (state_with None user) ⊎ HasNoPath g least (state_with None user)
         → HasNoPath g least (state_with None user)
@@ -61,13 +61,6 @@ not-found g least found user are inside none = go (are.complete (state_with None
         let near : is_start user f.0.state ≡ true = ap (is_start user) f.2 ∙ starts user in
         let far : is_start user f.0.state ≡ false = All-contains (λ f. is_start user f.state ≡ false) found f.0 none f.1 in
         absurd (let bad : true ≡ false = sym near ∙ far in cc)
-
-pub no-root :
-    (h : HostSteps) (target : ℕ) (least : Level) (found : List Found) (user : ℕ) → AreFound (any_steps h target) least found →
-    user < length h.directory.now.people → All (λ f. is_start user f.state ≡ false) found
-    → HasNoPath (any_steps h target) least (state_with None user)
-no-root h target least found user are less none =
-    not-found (any_steps h target) least found user are (states-have (length h.directory.now.people) (length h.groups.now) user less) none
 
 -- ---- The list of users
 

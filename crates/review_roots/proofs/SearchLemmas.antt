@@ -136,7 +136,7 @@ module _ (g : Steps State) (least l : Level) (found : List Found) (left : List S
   none-left k all drawn = All-weaker (Contains left) (HasNoPath g l) (λ s c n p. nowhere k all drawn p c) left (All-contains_itself left)
 
   -- what is found at the end is all that there is
-  pub all-found : HaveNoPath g l left → AreFound g l found
+  pub all-found : HaveNoPath g l left → AreFound g g.states l found
   all-found none = record {
     right = search.right;
     linked = search.linked;

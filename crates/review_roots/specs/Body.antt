@@ -6,4 +6,6 @@ pub mod Rows
 pub mod Candidates
 pub mod Towards
 pub mod Found
+pub mod Unnamed
+pub mod Kept
 pub mod Passing

@@ -54,8 +54,8 @@ pub fn known_groups(alloc: Global, directory: &Directory) -> Result<Vec<Group>, 
     Ok(groups)
 }
 
-// Whether the atom is the group, by its name or by its ID.
-fn names_group(group: &Group, atom: &Atom) -> bool
+/// Whether the atom is the group, by its name or by its ID.
+pub(crate) fn names_group(group: &Group, atom: &Atom) -> bool
     ensures { result ≡ known.names_group group.now atom.now }
 {
     match atom {

@@ -1,17 +1,20 @@
 //! A policy on one host.
-ghost use Rattle.std.specs.Prelude.{◌≡◌, IfOk, IsTrue, length, map};
+ghost use Rattle.std.specs.Prelude.{◌≡◌, IfOk, IsTrue, None, map};
 ghost use Rattle.std.specs.List.{list_all};
+ghost use Rattle.sudo_match.specs.KnownRows.{directory_fault};
 ghost use Rattle.review_roots.specs.Blocks.{AreBlocks, block_resolves, is_for};
 ghost use Rattle.review_roots.specs.Body.Candidates.{AreCandidates};
+ghost use Rattle.review_roots.specs.Body.Kept.{kept_states};
 ghost use Rattle.review_roots.specs.Body.Raising.{block_raises, indices};
+ghost use Rattle.review_roots.specs.Body.Unnamed.{AreIds};
 ghost use Rattle.review_roots.specs.Ranks.{is_at_least};
-ghost use Rattle.review_roots.specs.States.{all_states};
 ghost use Rattle.review_roots.specs.declared.level.Level.TheVariants as level;
 
 use crate::Level;
 use crate::block::Block;
 use crate::candidate::Candidate;
 use crate::rules::Rules;
+use crate::state::State;
 use std::alloc::{AllocError, Global};
 use sudo_match::{Directory, Group, Machine};
 use sudo_policy::Checked;
@@ -32,6 +35,10 @@ pub struct HostSteps<'r, 'a> {
     pub(crate) blocks: &'r [Block<'a>],
     // The indices of the blocks that raise.
     pub(crate) raising: &'r [usize],
+    // The IDs of the groups that a list names.
+    pub(crate) ids: &'r [u32],
+    // The states that stand for all.
+    pub(crate) states: &'r [State],
     pub(crate) candidates: &'r [Candidate],
     pub(crate) places: &'r [Option<usize>],
     // For each block, whether it is for the host.
@@ -42,7 +49,10 @@ pub struct HostSteps<'r, 'a> {
     ghost resolve: { IsTrue (list_all (block_resolves checked.now) blocks.now) },
     ghost here: { on.items ≡ map (is_for checked.now host.now) blocks.now },
     ghost covered: { AreCandidates checked.now directory.now groups.now least blocks.now
-        (all_states (length directory.now.people) (length groups.now)) candidates.now },
+        states.now candidates.now },
+    ghost unnamed: { AreIds checked.now groups.now ids.now },
+    ghost kept: { states.now ≡ kept_states directory.now groups.now ids.now },
+    ghost faultless: { directory_fault directory.now.people directory.now.machines ≡ None },
 }
 
 // Returns for each block whether it is for the host.
@@ -85,6 +95,8 @@ impl<'r, 'a> HostSteps<'r, 'a> {
             least: rules.least,
             blocks,
             raising: rules.raising.as_slice(),
+            ids: rules.ids.as_slice(),
+            states: rules.states.as_slice(),
             candidates: rules.candidates.as_slice(),
             places: rules.places.as_slice(),
             on,

@@ -13,6 +13,7 @@ mod given;
 mod ground;
 mod groups;
 mod host;
+mod kept;
 mod laws;
 mod level;
 mod raising;
@@ -23,6 +24,7 @@ mod starts;
 mod state;
 mod steps;
 mod toward;
+mod unnamed;
 mod way;
 
 pub use addable::addable_groups;

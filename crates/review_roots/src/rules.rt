@@ -1,11 +1,13 @@
 //! The rows of a policy, with the users that may take steps, on all hosts.
-ghost use Rattle.std.specs.Prelude.{◌≡◌, ◌++◌, ◌∷◌, [], List, IfOk, IsTrue, OnOk, length};
+ghost use Rattle.std.specs.Prelude.{◌≡◌, ◌++◌, ◌∷◌, [], List, IfOk, IsTrue, None, OnOk};
 ghost use Rattle.std.specs.List.{list_all};
+ghost use Rattle.sudo_match.specs.KnownRows.{directory_fault};
 ghost use Rattle.review_roots.specs.Blocks.{AreBlocks, block_resolves};
 ghost use Rattle.review_roots.specs.Body.Candidates.{AreCandidates};
+ghost use Rattle.review_roots.specs.Body.Kept.{kept_states};
 ghost use Rattle.review_roots.specs.Body.Raising.{block_raises, indices};
+ghost use Rattle.review_roots.specs.Body.Unnamed.{AreIds};
 ghost use Rattle.review_roots.specs.Ranks.{is_at_least};
-ghost use Rattle.review_roots.specs.States.{all_states};
 ghost use Rattle.review_roots.specs.declared.level.Level.TheVariants as level;
 ghost use Rattle.review_roots.specs.declared.state.State.{State as TheState};
 
@@ -14,8 +16,10 @@ use crate::block::Block;
 use crate::blocks::blocks_of;
 use crate::candidate::{Candidate, hopeful};
 use crate::ground::Ground;
+use crate::kept::kept_states;
 use crate::raising::raising_of;
-use crate::state::{State, all_states};
+use crate::state::State;
+use crate::unnamed::named_ids;
 use std::alloc::{AllocError, Global};
 use sudo_match::{Directory, Group};
 use sudo_policy::Checked;
@@ -36,6 +40,10 @@ pub struct Rules<'a> {
     pub(crate) blocks: Vec<Block<'a>>,
     // The indices of the blocks that raise.
     pub(crate) raising: Vec<usize>,
+    // The IDs of the groups that a list names.
+    pub(crate) ids: Vec<u32>,
+    // The states that stand for all.
+    pub(crate) states: Vec<State>,
     pub(crate) candidates: Vec<Candidate>,
     // For each user, the index of its candidate without an added group, if any.
     pub(crate) places: Vec<Option<usize>>,
@@ -44,7 +52,10 @@ pub struct Rules<'a> {
     ghost raised: { raising.items ≡ indices (block_raises least) blocks.items },
     ghost resolve: { IsTrue (list_all (block_resolves checked.now) blocks.items) },
     ghost covered: { AreCandidates checked.now directory.now groups.now least blocks.items
-        (all_states (length directory.now.people) (length groups.now)) candidates.items },
+        states.items candidates.items },
+    ghost unnamed: { AreIds checked.now groups.now ids.items },
+    ghost kept: { states.items ≡ kept_states directory.now groups.now ids.items },
+    ghost faultless: { directory_fault directory.now.people directory.now.machines ≡ None },
 }
 
 // The candidates of the states so far, and for each user the index of its candidate without an added group, if any.
@@ -78,19 +89,17 @@ fn gather_state(
     Ok(())
 }
 
-// Returns the candidates of all states.
-fn gather(alloc: Global, ground: Ground<'_, '_>) -> Result<Gathered, AllocError>
+// Returns the candidates of the states.
+fn gather(alloc: Global, ground: Ground<'_, '_>, states: &[State]) -> Result<Gathered, AllocError>
     ensures { IfOk result (λ gathered. AreCandidates ground.entry.checked.now
         ground.entry.directory.now ground.entry.groups.now ground.entry.least
-        ground.entry.blocks.now (all_states (length ground.entry.directory.now.people)
-        (length ground.entry.groups.now)) gathered.candidates.items) }
+        ground.entry.blocks.now states.now gathered.candidates.items) }
 {
-    let users = ground.directory.people().len();
     let mut gathered = Gathered {
         candidates: Vec::new(alloc),
         places: Vec::new(alloc),
     };
-    for state in &all_states(alloc, users, ground.groups.len())? {
+    for state in states {
         gather_state(alloc, ground, *state, &mut gathered)?;
     }
     Ok(gathered)
@@ -122,7 +131,10 @@ impl<'a> Rules<'a> {
             blocks: blocks.as_slice(),
             raising: raising.as_slice(),
         };
-        let Gathered { candidates, places } = gather(alloc, ground)?;
+        directory.has_no_fault();
+        let ids = named_ids(alloc, checked, &blocks, groups)?;
+        let states = kept_states(alloc, directory, groups, &ids)?;
+        let Gathered { candidates, places } = gather(alloc, ground, &states)?;
         Ok(Rules {
             checked,
             directory,
@@ -130,6 +142,8 @@ impl<'a> Rules<'a> {
             least,
             blocks,
             raising,
+            ids,
+            states,
             candidates,
             places,
         })

@@ -1,9 +1,9 @@
 //! The search for the states that lead to a target: back from the target, level by level.
 ghost use Rattle.std.specs.Prelude.{◌≡◌, ◌++◌, ◌==◌, IfOk, OnOk, IsTrue, All, filter, length, map, not};
-ghost use Rattle.review_roots.specs.Sought.{any_steps, free_steps, unasked_steps, steps_of};
+ghost use Rattle.review_roots.specs.Sought.{any_steps, free_steps, steps_of, unasked_steps};
 ghost use Rattle.review_roots.specs.Body.Candidates.{is_heard, states_of};
 ghost use Rattle.review_roots.specs.Body.Found.{AreChains, AreFound, HaveNoPath, IsCandidate, IsSearch, IsStartOf};
-ghost use Rattle.review_roots.specs.Body.Found.{found_by, found_there, reaches};
+ghost use Rattle.review_roots.specs.Body.Found.{found_by, found_there, kept_steps, reaches};
 ghost use Rattle.review_roots.specs.Body.Towards.{IsToward};
 ghost use Rattle.review_roots.specs.Ranks.{is_at_least};
 
@@ -12,7 +12,7 @@ use crate::candidate::Candidate;
 use crate::given::Counted;
 use crate::host::HostSteps;
 use crate::starts::starts_of;
-use crate::state::{State, all_states};
+use crate::state::State;
 use crate::toward::Toward;
 use std::alloc::{AllocError, Global};
 
@@ -137,13 +137,13 @@ fn spread<'c>(
     found: &mut Vec<Found>,
 ) -> Result<Vec<&'c Candidate>, AllocError>
     requires candidates { All (IsCandidate steps.now) (map (λ c. c.now) left.items) }
-    requires search { IsSearch (steps_of steps.now sought) steps.now.least level
+    requires search { IsSearch (kept_steps steps.now sought) steps.now.least level
         found.old.items (states_of (map (λ c. c.now) left.items)) }
     ensures candidates { IfOk result (λ rest. All (IsCandidate steps.now)
         (map (λ c. c.now) rest.items)) }
-    ensures search { IfOk result (λ rest. IsSearch (steps_of steps.now sought)
+    ensures search { IfOk result (λ rest. IsSearch (kept_steps steps.now sought)
         steps.now.least level found.new.items (states_of (map (λ c. c.now) rest.items))) }
-    ensures done { IfOk result (λ rest. HaveNoPath (steps_of steps.now sought) level
+    ensures done { IfOk result (λ rest. HaveNoPath (kept_steps steps.now sought) level
         (states_of (map (λ c. c.now) rest.items))) }
 {
     let mut left = left;
@@ -161,18 +161,17 @@ fn spread<'c>(
     Ok(left)
 }
 
-// Returns the states at the target.
+// Returns the kept states at the target.
 fn found_at(
     alloc: Global,
     steps: &HostSteps<'_, '_>,
     target: usize,
 ) -> Result<Vec<Found>, AllocError>
     ensures { IfOk result (λ found. found.items ≡ map found_there
-        (filter (λ s. s.user == target) (any_steps steps.now target).states)) }
+        (filter (λ s. s.user == target) steps.now.states.now)) }
 {
-    let users = steps.directory.people().len();
     let mut found = Vec::new(alloc);
-    for state in &all_states(alloc, users, steps.groups.len())? {
+    for state in steps.states {
         if state.user == target {
             found.push(Found {
                 state: *state,
@@ -211,7 +210,8 @@ fn search_levels(
     found: &mut Vec<Found>,
 ) -> Result<(), AllocError>
     requires { IsStartOf steps.now sought found.old.items (map (λ c. c.now) left.items) }
-    ensures { OnOk result (AreFound (steps_of steps.now sought) steps.now.least found.new.items) }
+    ensures { OnOk result (AreFound (kept_steps steps.now sought) steps.now.states.now
+        steps.now.least found.new.items) }
 {
     let left = spread(alloc, steps, sought, Level::All, left, found)?;
     match steps.least {
@@ -235,8 +235,8 @@ fn found_of(
     steps: &HostSteps<'_, '_>,
     sought: Sought,
 ) -> Result<Vec<Found>, AllocError>
-    ensures { IfOk result (λ found. AreFound (steps_of steps.now sought) steps.now.least
-        found.items) }
+    ensures { IfOk result (λ found. AreFound (steps_of steps.now sought) steps.now.states.now
+        steps.now.least found.items) }
 {
     let mut found = found_at(alloc, steps, sought.target)?;
     let left = heard(alloc, steps, sought.target)?;
@@ -253,12 +253,12 @@ pub(crate) fn search(
     steps: &HostSteps<'_, '_>,
     target: usize,
 ) -> Result<Chains, AllocError>
-    ensures any { IfOk result (λ chains. AreFound (any_steps steps.now target) steps.now.least
-        chains.any.items) }
+    ensures any { IfOk result (λ chains. AreFound (any_steps steps.now target)
+        steps.now.states.now steps.now.least chains.any.items) }
     ensures unasked { IfOk result (λ chains. AreFound (unasked_steps steps.now target)
-        steps.now.least chains.unasked.items) }
+        steps.now.states.now steps.now.least chains.unasked.items) }
     ensures free { IfOk result (λ chains. AreFound (free_steps steps.now target)
-        steps.now.least chains.free.items) }
+        steps.now.states.now steps.now.least chains.free.items) }
     ensures chains { IfOk result (λ chains. AreChains (length steps.now.directory.now.people)
         chains) }
 {

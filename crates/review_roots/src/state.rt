@@ -1,6 +1,6 @@
 //! Who a user can be on the way to a target.
 ghost use Rattle.std.specs.Prelude.{◌≡◌, ◌++◌, IfOk, OnOk, length, option_copied};
-ghost use Rattle.review_roots.specs.States.{all_states, group_at, states_with, with_added};
+ghost use Rattle.review_roots.specs.States.{group_at, states_with, with_added};
 
 use std::alloc::{AllocError, Global};
 use sudo_match::{Group, Person};
@@ -65,8 +65,8 @@ pub(crate) fn with_added(
     })
 }
 
-// Appends each user with this added group, if any.
-fn push_states(
+/// Appends each user with this added group, if any. Returns `AllocError` if allocation fails.
+pub(crate) fn push_states(
     users: usize,
     added: Option<usize>,
     states: &mut Vec<State>,
@@ -77,20 +77,4 @@ fn push_states(
         states.push(State { user, added })?;
     }
     Ok(())
-}
-
-/// Returns each user without an added group, and with each of the groups. Returns `AllocError` if allocation fails.
-pub(crate) fn all_states(
-    alloc: Global,
-    users: usize,
-    groups: usize,
-) -> Result<Vec<State>, AllocError>
-    ensures { IfOk result (λ states. states.items ≡ all_states users groups) }
-{
-    let mut states = Vec::new(alloc);
-    push_states(users, None, &mut states)?;
-    for group in 0..groups {
-        push_states(users, Some(group), &mut states)?;
-    }
-    Ok(states)
 }

@@ -178,7 +178,8 @@ pub(crate) fn way_of(
     requires back { PointBack found.now }
     requires inside { index < length found.now }
     ensures { IfOk result (λ way. (q : TheSought) (least : TheLevel) (f : TheFound)
-        → AreFound (steps_of steps.now q) least found.now → slice_get found.now index ≡ Some f
+        → AreFound (steps_of steps.now q) steps.now.states.now least found.now
+        → slice_get found.now index ≡ Some f
         → IsChain steps.now q least f.state way) }
 {
     let Found {

@@ -12,10 +12,14 @@ use Rattle.review_roots.specs.declared.search.Found.{Found}
 use Rattle.review_roots.specs.declared.search.Sought.{Sought}
 use Rattle.review_roots.specs.declared.state.State.{State}
 use Rattle.review_roots.specs.Body.Candidates.{Qualifies, states_of}
-use Rattle.review_roots.specs.Sought.{any_steps, free_steps, unasked_steps, steps_of}
+use Rattle.review_roots.specs.Sought.{any_steps, free_steps, steps_of, unasked_steps}
 use Rattle.review_roots.specs.Chains.{Steps, HasPath, HasNoPath}
 use Rattle.review_roots.specs.Ranks.{rank, is_at_least}
 use Rattle.review_roots.specs.States.{level_for, step_given}
+
+-- the steps on the host that are sought, between the states that are kept
+abbrev pub kept_steps : HostSteps → Sought → Steps State
+kept_steps h q = record { states = h.states.now; level = (steps_of h q).level; goal = (steps_of h q).goal }
 
 -- the found state leads to the goal by a chain of its level, and by none of a better level
 pub record IsFound (g : Steps State) (f : Found) : Type 0 where
@@ -45,16 +49,16 @@ PointBack found = (i next : ℕ) (f : Found) → slice_get found i ≡ Some f �
 abbrev pub found_states : List Found → List State
 found_states found = map (λ f. f.state) found
 
--- whoever is not found has no chain of the level
-abbrev pub IsComplete : Steps State → Level → List Found → Type 0
-IsComplete g l found = (s : State) → Contains g.states s → Contains (found_states found) s ⊎ HasNoPath g l s
+-- whoever of these states is not found has no chain of the level
+abbrev pub IsComplete : Steps State → List State → Level → List Found → Type 0
+IsComplete g states l found = (s : State) → Contains states s → Contains (found_states found) s ⊎ HasNoPath g l s
 
--- the states that lead to the goal by chains of the level or a better one
-pub record AreFound (g : Steps State) (l : Level) (found : List Found) : Type 0 where
+-- states that lead to the goal by chains of the level or a better one: of these states, all that do
+pub record AreFound (g : Steps State) (states : List State) (l : Level) (found : List Found) : Type 0 where
   pub right : All (IsFound g) found
   pub linked : AreLinked g found
   pub levels : All (λ f. is_at_least l f.level ≡ true) found
-  pub complete : IsComplete g l found
+  pub complete : IsComplete g states l found
 
 -- the user without an added group
 abbrev pub is_start : ℕ → State → Bool
@@ -96,9 +100,9 @@ pub record AreChains (users : ℕ) (c : Chains) : Type 0 where
 -- the chains to a target, by any steps, by steps that may go without a password, and by steps that ask for none
 pub record ChainsLead (h : HostSteps) (target : ℕ) (l : Level) (c : Chains) : Type 0 where
   pub level : is_at_least level.Listed l ≡ true
-  pub any : AreFound (any_steps h target) l c.any.items
-  pub unasked : AreFound (unasked_steps h target) l c.unasked.items
-  pub free : AreFound (free_steps h target) l c.free.items
+  pub any : AreFound (any_steps h target) h.states.now l c.any.items
+  pub unasked : AreFound (unasked_steps h target) h.states.now l c.unasked.items
+  pub free : AreFound (free_steps h target) h.states.now l c.free.items
 
 -- the same of a found state with the level or a better one; without an index, one without an added group has a worse level
 abbrev pub IsGoodAt : List Found → ℕ → Level → Option ℕ → Type 0
@@ -158,12 +162,12 @@ IsMute g least s =
 abbrev pub found_there : State → Found
 found_there s = record { state = s; level = level.All; next = None }
 
--- what the search begins with, among all states: those at the goal, and those that are left
+-- what the search begins with, among the kept states: those at the goal, and those that are left
 pub record IsStartOf (h : HostSteps) (q : Sought) (found : List Found) (left : List Candidate) : Type 0 where
-  pub goals : All (λ f. (f.level ≡ level.All) × ((f.next ≡ None) × ((steps_of h q).goal f.state ≡ true))) found
-  pub found_inside : All (λ f. Contains (steps_of h q).states f.state) found
+  pub goals : All (λ f. (f.level ≡ level.All) × ((f.next ≡ None) × ((kept_steps h q).goal f.state ≡ true))) found
+  pub found_inside : All (λ f. Contains (kept_steps h q).states f.state) found
   pub candidates : All (IsCandidate h) left
-  pub inside : All (λ c. Contains (steps_of h q).states c.state) left
-  pub away : All (λ c. (steps_of h q).goal c.state ≡ false) left
-  pub covered : All (λ s. Contains (found_states found) s ⊎ (Contains (states_of left) s ⊎ IsMute (steps_of h q) h.least s))
-      (steps_of h q).states
+  pub inside : All (λ c. Contains (kept_steps h q).states c.state) left
+  pub away : All (λ c. (kept_steps h q).goal c.state ≡ false) left
+  pub covered : All (λ s. Contains (found_states found) s ⊎ (Contains (states_of left) s ⊎ IsMute (kept_steps h q) h.least s))
+      (kept_steps h q).states

@@ -1,6 +1,7 @@
 use Rattle.std.proofs.Common.{refl, subst, sym}
 use Rattle.review_roots.specs.Body.Found.{AreStarts}
-use Rattle.review_roots.proofs.RootLemmas.{no-root, not-itself}
+use Rattle.review_roots.proofs.PathLemmas.{no-root}
+use Rattle.review_roots.proofs.RootLemmas.{not-itself}
 use Rattle.review_roots.proofs.RowLemmas.{way-allows}
 use Rattle.review_roots.proofs.roots.root_of.Goals as goal
 

@@ -1,8 +1,6 @@
 use Rattle.std.proofs.Common.{◌∙◌, List, ap, arith, length, subst, sym, take}
 use Rattle.std.proofs.lemmas.List.{take_all, take_more}
-use Rattle.sudo_match.specs.declared.people.Person.{Person}
 use Rattle.review_roots.specs.Body.Candidates.{AreCandidates}
-use Rattle.review_roots.specs.States.{all_states}
 use Rattle.review_roots.proofs.rules.gather.Goals as goal
 
 pub loop-state-preserved : goal.loop-state-preserved
@@ -10,15 +8,13 @@ loop-state-preserved c =
     let ground = c.args.ground in
     subst (λ xs. AreCandidates ground.checked.now ground.directory.now ground.groups.now ground.least ground.blocks.now xs
     c.gather_state.new.gathered.candidates.items)
-    (sym (take_more c.deref-state-items.result.now c.loop-state.state-index _ c.loop-state-test.true))
-    (c.in_ok-gather_state.ensures (take c.loop-state.state-index c.deref-state-items.result.now) c.loop-state.invariant)
+    (sym (take_more c.args.states.now c.loop-state.state-index _ c.loop-state-test.true))
+    (c.in_ok-gather_state.ensures (take c.loop-state.state-index c.args.states.now) c.loop-state.invariant)
 
 pub returns : goal.returns
 returns c =
     let ground = c.args.ground in
     subst (λ xs. AreCandidates ground.checked.now ground.directory.now ground.groups.now ground.least ground.blocks.now xs
     c.loop-state.gathered.candidates.items)
-    (take_all c.loop-state.state-index c.deref-state-items.result.now (omega arith) ∙ c.deref-state-items.ensures.value
-    ∙ c.in_ok-all_states.ensures
-    ∙ ap (λ (ps : List Person). all_states (length ps) (length ground.groups.now)) c.people-users.ensures)
+    (take_all c.loop-state.state-index c.args.states.now (omega arith))
     c.loop-state.invariant

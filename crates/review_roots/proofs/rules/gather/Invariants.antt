@@ -5,4 +5,4 @@ use Rattle.review_roots.proofs.rules.gather.Given as goal
 abbrev pub invariant-loop-state : goal.invariant-loop-state
 invariant-loop-state l =
     AreCandidates l.ground.checked.now l.ground.directory.now l.ground.groups.now l.ground.least l.ground.blocks.now
-    (take l.state-index l.state-items) l.gathered.candidates.items
+    (take l.state-index l.states) l.gathered.candidates.items

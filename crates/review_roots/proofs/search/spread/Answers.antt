@@ -3,8 +3,7 @@ use Rattle.std.specs.Prelude.{All, slice_get}
 use Rattle.std.proofs.lemmas.List.{length-map}
 use Rattle.review_roots.specs.declared.candidate.Candidate.{Candidate}
 use Rattle.review_roots.specs.Body.Candidates.{states_of}
-use Rattle.review_roots.specs.Sought.{steps_of}
-use Rattle.review_roots.specs.Body.Found.{IsCandidate, IsDrawn, IsSearch}
+use Rattle.review_roots.specs.Body.Found.{IsCandidate, IsDrawn, IsSearch, kept_steps}
 use Rattle.review_roots.proofs.DrawLemmas.{spread-search, spread-drawn, spread-candidates, spread-length}
 use Rattle.review_roots.proofs.LoopLemmas.{there}
 use Rattle.review_roots.proofs.SearchLemmas.{none-left}
@@ -13,7 +12,7 @@ use Rattle.review_roots.proofs.search.spread.Goals as goal
 pub loop-index-preserved : goal.loop-index-preserved
 loop-index-preserved c =
     let h = c.args.steps.now in
-    let g = steps_of h c.args.sought in
+    let g = kept_steps h c.args.sought in
     let n = c.loop-index.index in
     let t = c.index.result.now in
     let found = c.loop-index.found.items in
@@ -57,6 +56,6 @@ loop-index-smaller c =
 
 pub returns-clause-done : goal.returns-clause-done
 returns-clause-done c =
-    none-left (steps_of c.args.steps.now c.args.sought) c.args.steps.now.least c.args.level c.loop-index.found.items
+    none-left (kept_steps c.args.steps.now c.args.sought) c.args.steps.now.least c.args.level c.loop-index.found.items
     (states_of (map (λ c. c.now) c.loop-index.left.items))
     c.loop-index.invariant.search c.loop-index.index (omega (arith, c.loop-index-test.false, c.len.ensures)) c.loop-index.invariant.drawn

@@ -1,0 +1,310 @@
+-- The states that are kept stand for all: a chain from a state is one, through kept states, from each kept state that is alike.
+use Rattle.std.proofs.Common.{◌≡◌, ◌<◌, ◌≤◌, ◌+◌, ◌∙◌, ℕ, zero, suc, Bool, true, false, not, cond, ◌||◌, ◌==◌, List, [], ◌∷◌, ◌++◌, ap, arith}
+use Rattle.std.proofs.Common.{append_assoc, flat_map, length, map, refl, subst, sym, Option, Some, None, inl, inr, ◌⊎◌}
+use Rattle.std.specs.Prelude.{All, bytes_eq, filter, find, is_some, slice_get}
+use Rattle.std.specs.List.{Contains, list_any, range_with_len}
+use Rattle.std.proofs.lemmas.Bool.{eqb-true, not-true}
+use Rattle.std.proofs.lemmas.List.{map-append}
+use Rattle.std.proofs.lemmas.List.Elements.{All-contains, All-weaker, Contains-append_left, Contains-append_right}
+use Rattle.std.proofs.lemmas.Option.{slice_get_within}
+use Rattle.sudo_grammar.specs.declared.policy.Policy.{Policy}
+use Rattle.sudo_match.specs.declared.people.Group.{Group}
+use Rattle.sudo_match.specs.declared.people.Machine.{Machine}
+use Rattle.sudo_match.specs.declared.people.Person.{Person}
+use Rattle.sudo_match.specs.KnownRows.{KnownRows, directory_fault}
+use Rattle.sudo_verdict.specs.RunasForms.{has_asked, has_group, is_same_user}
+use Rattle.review_roots.specs.declared.host.HostSteps.{HostSteps}
+use Rattle.review_roots.specs.declared.level.Level.{Level}
+use Rattle.review_roots.specs.declared.search.Found.{Found}
+use Rattle.review_roots.specs.declared.search.Sought.{Sought}
+use Rattle.review_roots.specs.declared.state.State.{State}
+use Rattle.review_roots.specs.Asked.{nothing}
+use Rattle.review_roots.specs.Body.Found.{AreFound, IsFound, found_states, kept_steps}
+use Rattle.review_roots.specs.Body.Kept.{AreAlike, AreBothUnnamed, AreKept, IsAlike, has_at, has_if, if_any, kept_at, kept_by, kept_groups}
+use Rattle.review_roots.specs.Body.Kept.{kept_if, states_by}
+use Rattle.review_roots.specs.Body.Unnamed.{AreIds, is_unnamed, named_indices, unnamed_at, unnamed_if, unnamed_indices}
+use Rattle.review_roots.specs.Ranks.{is_at_least}
+use Rattle.review_roots.specs.Sought.{steps_of}
+use Rattle.review_roots.specs.States.{all_states, given_between, group_at, level_for, person_of, state_with, states_with, step_given, with_added}
+use Rattle.review_roots.proofs.AlikeLemmas.{IsWithin, asked-same, has-more, towards-same}
+use Rattle.review_roots.proofs.ListSteps.{flat-range}
+use Rattle.review_roots.proofs.MemberLemmas.{all-of, find-none, find-there, from-append, from-filter, from-flat, in-range, to-flat}
+use Rattle.review_roots.proofs.RootLemmas.{range-has, states-have}
+use Rattle.review_roots.proofs.SearchLemmas.{at-contains, contains-at, contains-head, from-map, in-filter, path-state, to-map}
+use Rattle.review_roots.proofs.UserLemmas.{one-row}
+
+-- ---- States by their user and their added group
+
+-- the user of a state is known, and its added group, if any
+pub state-parts : (n m : ℕ) (s : State) → Contains (all_states n m) s
+    → (s.user < n) × ((s.added ≡ None) ⊎ ((i : ℕ) × ((i < m) × (s.added ≡ Some i))))
+state-parts n m s inside =
+    go (from-append (states_with n None) (flat_map (λ i. states_with n (Some i)) (range_with_len 0 m)) s inside)
+  where
+    go : Contains (states_with n None) s ⊎ Contains (flat_map (λ i. states_with n (Some i)) (range_with_len 0 m)) s
+        → (s.user < n) × ((s.added ≡ None) ⊎ ((i : ℕ) × ((i < m) × (s.added ≡ Some i))))
+    go (inl alone) =
+        let k = from-map (state_with None) (range_with_len 0 n) s alone in
+        let less = in-range n k.0 k.1 in
+        let same : k.0 ≡ s.user = ap (λ (t : State). t.user) k.2 in
+        (omega (arith, less, same), inl (sym (ap (λ (t : State). t.added) k.2)))
+    go (inr added) =
+        let i = from-flat (λ i. states_with n (Some i)) (range_with_len 0 m) s added in
+        let k = from-map (state_with (Some i.0)) (range_with_len 0 n) s i.1.1 in
+        let less = in-range n k.0 k.1 in
+        let same : k.0 ≡ s.user = ap (λ (t : State). t.user) k.2 in
+        (omega (arith, less, same), inr (i.0, (in-range m i.0 i.1.0, sym (ap (λ (t : State). t.added) k.2))))
+
+pub added-inside : (n m user i : ℕ) → user < n → i < m → Contains (all_states n m) (state_with (Some i) user)
+added-inside n m user i less within =
+    Contains-append_right (states_with n None) (flat_map (λ i. states_with n (Some i)) (range_with_len 0 m)) (state_with (Some i) user)
+    (to-flat (λ i. states_with n (Some i)) (range_with_len 0 m) i (state_with (Some i) user) (range-has m i within)
+    (to-map (state_with (Some i)) (range_with_len 0 n) user (range-has n user less)))
+
+state-is : (s : State) (added : Option ℕ) → s.added ≡ added → s ≡ state_with added s.user
+state-is s added e = ap (λ a. state_with a s.user) e
+
+there : {X : Type 0} (xs : List X) (k : ℕ) → k < length xs → (x : X) × (slice_get xs k ≡ Some x)
+there [] k l = absurd (omega (arith, l))
+there (x ∷ xs) zero l = (x, refl)
+there (x ∷ xs) (suc k) l = there xs k (omega (arith, l))
+
+of-if : (o : Option ℕ) (i : ℕ) → o ≡ Some i → Contains (if_any o) i
+of-if o i e = subst (λ o. Contains (if_any o) i) (sym e) (contains-head i [] i refl)
+
+-- ---- Each state is alike to one that is kept
+
+module _ (d : KnownRows) (groups : List Group) (ids : List ℕ) where
+  abbrev n : ℕ
+  n = length d.people
+
+  abbrev m : ℕ
+  m = length groups
+
+  abbrev named : List ℕ
+  named = named_indices ids groups m
+
+  abbrev others : List ℕ
+  others = unnamed_indices ids groups m
+
+  abbrev kept : List State
+  kept = kept_by d groups named others
+
+  alone-kept : (user : ℕ) → user < n → Contains kept (state_with None user)
+  alone-kept user less =
+      Contains-append_left (states_with n None) (flat_map (kept_at d groups named others) (range_with_len 0 n)) (state_with None user)
+      (to-map (state_with None) (range_with_len 0 n) user (range-has n user less))
+
+  added-kept : (user i : ℕ) (u : Person) → user < n → slice_get d.people user ≡ Some u → Contains (kept_groups u groups named others) i
+      → Contains kept (state_with (Some i) user)
+  added-kept user i u less is inside =
+      Contains-append_right (states_with n None) (flat_map (kept_at d groups named others) (range_with_len 0 n)) (state_with (Some i) user)
+      (to-flat (kept_at d groups named others) (range_with_len 0 n) user (state_with (Some i) user) (range-has n user less)
+      (subst (λ o. Contains (kept_if groups named others user o) (state_with (Some i) user)) (sym is)
+      (to-map (λ i. state_with (Some i) user) (kept_groups u groups named others) i inside)))
+
+  -- an unnamed group of a user has one that is kept, and that the user has, or lacks, too
+  module _ (user i : ℕ) (u : Person) (g : Group) (less : user < n) (is : slice_get d.people user ≡ Some u) (within : i < m)
+      (at : slice_get groups i ≡ Some g) (none : is_unnamed ids g ≡ true) where
+    unnamed-there : (j : ℕ) → Contains others j → (h : Group) × ((slice_get groups j ≡ Some h) × (is_unnamed ids h ≡ true))
+    unnamed-there j inside =
+        let k = from-filter (unnamed_at ids groups) (range_with_len 0 m) j inside in
+        let h = there groups j (in-range m j k.0) in
+        (h.0, (h.1, sym (ap (unnamed_if ids) h.1) ∙ k.1))
+
+    itself : Contains others i
+    itself = in-filter (unnamed_at ids groups) (range_with_len 0 m) i (range-has m i within) (ap (unnamed_if ids) at ∙ none)
+
+    stands : (j : ℕ) → Contains others j → has_at u groups j ≡ has_group u g → AreAlike d groups ids (state_with (Some i) user)
+        (state_with (Some j) user)
+    stands j inside same =
+        let h = unnamed-there j inside in (
+          refl,
+          λ v is_v.
+              let one : u ≡ v = let e : Some u ≡ Some v = sym is ∙ is_v in cc in
+              inr (record {
+                one = g;
+                other = h.0;
+                is_one = at;
+                is_other = h.1.0;
+                one_unnamed = none;
+                other_unnamed = h.1.1;
+                has = subst (λ w. has_group w g ≡ has_group w h.0) one (sym same ∙ ap (has_if u) h.1.0);
+              }),
+        )
+
+    abbrev Stand : Type 0
+    Stand = (t : State) × (Contains kept t × AreAlike d groups ids (state_with (Some i) user) t)
+
+    had : has_group u g ≡ true → Stand
+    had has = go (find (has_at u groups) others) refl
+      where
+        go : (o : Option ℕ) → find (has_at u groups) others ≡ o → Stand
+        go None e =
+            let lacks = find-none (has_at u groups) others i e itself in
+            absurd (let bad : true ≡ false = sym (ap (has_if u) at ∙ has) ∙ lacks in cc)
+        go (Some j) e =
+            let k = find-there (has_at u groups) others j e in (
+              state_with (Some j) user,
+              (
+                added-kept user j u less is
+                    (Contains-append_right named
+                    (if_any (find (has_at u groups) others) ++ if_any (find (λ i. not (has_at u groups i)) others)) j
+                    (Contains-append_left (if_any (find (has_at u groups) others))
+                    (if_any (find (λ i. not (has_at u groups i)) others)) j (of-if (find (has_at u groups) others) j e))),
+                stands j k.0 (k.1 ∙ sym has),
+              ),
+            )
+
+    lacked : has_group u g ≡ false → Stand
+    lacked has = go (find (λ i. not (has_at u groups i)) others) refl
+      where
+        go : (o : Option ℕ) → find (λ i. not (has_at u groups i)) others ≡ o → Stand
+        go None e =
+            let passes = find-none (λ i. not (has_at u groups i)) others i e itself in
+            absurd (let bad : true ≡ false = sym (ap not (ap (has_if u) at ∙ has)) ∙ passes in cc)
+        go (Some j) e =
+            let k = find-there (λ i. not (has_at u groups i)) others j e in (
+              state_with (Some j) user,
+              (
+                added-kept user j u less is
+                    (Contains-append_right named
+                    (if_any (find (has_at u groups) others) ++ if_any (find (λ i. not (has_at u groups i)) others)) j
+                    (Contains-append_right (if_any (find (has_at u groups) others))
+                    (if_any (find (λ i. not (has_at u groups i)) others)) j
+                    (of-if (find (λ i. not (has_at u groups i)) others) j e))),
+                stands j k.0 (not-true (has_at u groups j) k.1 ∙ sym has),
+              ),
+            )
+
+    unnamed-kept : Stand
+    unnamed-kept = go (has_group u g) refl
+      where
+        go : (b : Bool) → has_group u g ≡ b → Stand
+        go true e = had e
+        go false e = lacked e
+
+  alike-itself : (s : State) → AreAlike d groups ids s s
+  alike-itself s = (refl, λ u is. inl refl)
+
+  named-kept : (user i : ℕ) (u : Person) (g : Group) → user < n → slice_get d.people user ≡ Some u → i < m → slice_get groups i ≡ Some g
+      → is_unnamed ids g ≡ false → Contains kept (state_with (Some i) user)
+  named-kept user i u g less is within at some =
+      added-kept user i u less is
+      (Contains-append_left named (if_any (find (has_at u groups) others) ++ if_any (find (λ i. not (has_at u groups i)) others)) i
+      (in-filter (λ i. not (unnamed_at ids groups i)) (range_with_len 0 m) i (range-has m i within)
+      (ap not (ap (unnamed_if ids) at ∙ some))))
+
+  covers-all : (s : State) → Contains (all_states n m) s → (t : State) × (Contains kept t × AreAlike d groups ids s t)
+  covers-all s inside = let parts = state-parts n m s inside in go parts.0 parts.1
+    where
+      go : s.user < n → (s.added ≡ None) ⊎ ((i : ℕ) × ((i < m) × (s.added ≡ Some i)))
+          → (t : State) × (Contains kept t × AreAlike d groups ids s t)
+      go less (inl alone) =
+          (s, (subst (Contains kept) (sym (state-is s None alone)) (alone-kept s.user less), alike-itself s))
+      go less (inr added) =
+          let i = added.0 in
+          let u = there d.people s.user less in
+          let g = there groups i added.1.0 in
+          at i u.0 g.0 u.1 added.1.0 g.1 (state-is s (Some i) added.1.1) (is_unnamed ids g.0) refl
+        where
+          at : (i : ℕ) (u : Person) (g : Group) → slice_get d.people s.user ≡ Some u → i < m → slice_get groups i ≡ Some g
+              → s ≡ state_with (Some i) s.user → (b : Bool) → is_unnamed ids g ≡ b
+              → (t : State) × (Contains kept t × AreAlike d groups ids s t)
+          at i u g is within at_i same true none =
+              let t = unnamed-kept s.user i u g less is within at_i none in
+              (t.0, (t.1.0, subst (λ s. AreAlike d groups ids s t.0) (sym same) t.1.1))
+          at i u g is within at_i same false some =
+              (s, (subst (Contains kept) (sym same) (named-kept s.user i u g less is within at_i some), alike-itself s))
+
+  -- ---- What is kept is among all
+
+  listed-inside : (u : Person) (i : ℕ) → Contains (kept_groups u groups named others) i → i < m
+  listed-inside u i inside = go (from-append named rest i inside)
+    where
+      first : Option ℕ
+      first = find (has_at u groups) others
+
+      second : Option ℕ
+      second = find (λ i. not (has_at u groups i)) others
+
+      rest : List ℕ
+      rest = if_any first ++ if_any second
+
+      only : (o : Option ℕ) → Contains (if_any o) i → o ≡ Some i
+      only None h = absurd (omega (arith, h.1))
+      only (Some k) h = let e = contains-at (k ∷ []) i h in at e.0 e.1
+        where
+          at : (j : ℕ) → slice_get (k ∷ []) j ≡ Some i → Some k ≡ Some i
+          at zero e = e
+          at (suc j) e = cc
+
+      other : Contains others i → i < m
+      other h = in-range m i (from-filter (unnamed_at ids groups) (range_with_len 0 m) i h).0
+
+      behind : Contains (if_any first) i ⊎ Contains (if_any second) i → i < m
+      behind (inl h) = other (find-there (has_at u groups) others i (only first h)).0
+      behind (inr h) = other (find-there (λ i. not (has_at u groups i)) others i (only second h)).0
+
+      go : Contains named i ⊎ Contains rest i → i < m
+      go (inl h) = in-range m i (from-filter (λ i. not (unnamed_at ids groups i)) (range_with_len 0 m) i h).0
+      go (inr h) = behind (from-append (if_any first) (if_any second) i h)
+
+  kept-inside : (s : State) → Contains kept s → Contains (all_states n m) s
+  kept-inside s inside = go (from-append (states_with n None) (flat_map (kept_at d groups named others) (range_with_len 0 n)) s inside)
+    where
+      added : (user : ℕ) → user < n → (o : Option Person) → Contains (kept_if groups named others user o) s → Contains (all_states n m) s
+      added user less None h = absurd (omega (arith, h.1))
+      added user less (Some u) h =
+          let i = from-map (λ i. state_with (Some i) user) (kept_groups u groups named others) s h in
+          subst (Contains (all_states n m)) i.2 (added-inside n m user i.0 less (listed-inside u i.0 i.1))
+
+      go : Contains (states_with n None) s ⊎ Contains (flat_map (kept_at d groups named others) (range_with_len 0 n)) s
+          → Contains (all_states n m) s
+      go (inl alone) =
+          Contains-append_left (states_with n None) (flat_map (λ i. states_with n (Some i)) (range_with_len 0 m)) s alone
+      go (inr h) =
+          let user = from-flat (kept_at d groups named others) (range_with_len 0 n) s h in
+          added user.0 (in-range n user.0 user.1.0) (slice_get d.people user.0) user.1.1
+
+  pub are-kept : (p : Policy) → AreIds p groups ids → AreKept p d groups kept
+  are-kept p unnamed = record {
+    ids = ids;
+    unnamed = unnamed;
+    inside = all-of (Contains (all_states n m)) kept kept-inside;
+    covers = covers-all;
+    starts = alone-kept;
+  }
+
+pub host-keeps : (h : HostSteps) → AreKept h.checked.now h.directory.now h.groups.now h.states.now
+host-keeps h =
+    subst (AreKept h.checked.now h.directory.now h.groups.now) (sym h.kept)
+    (are-kept h.directory.now h.groups.now h.ids.now h.checked.now h.unnamed)
+
+-- ---- The states of one user more
+
+pub kept-pushed :
+    (old one two three : List State) (user : ℕ) (named had lacked : List ℕ) → one ≡ old ++ states_by user named →
+    two ≡ one ++ states_by user had → three ≡ two ++ states_by user lacked → three ≡ old ++ states_by user (named ++ (had ++ lacked))
+kept-pushed old one two three user named had lacked first second third =
+    third ∙ ap (λ (xs : List State). xs ++ states_by user lacked) (second ∙ ap (λ (xs : List State). xs ++ states_by user had) first)
+    ∙ append_assoc (old ++ states_by user named) (states_by user had) (states_by user lacked)
+    ∙ append_assoc old (states_by user named) (states_by user had ++ states_by user lacked)
+    ∙ ap (λ (xs : List State). old ++ xs)
+    (sym (map-append (λ i. state_with (Some i) user) named (had ++ lacked)
+    ∙ ap (λ (xs : List State). states_by user named ++ xs) (map-append (λ i. state_with (Some i) user) had lacked)))
+
+pub kept-more :
+    (d : KnownRows) (groups : List Group) (named others : List ℕ) (user : ℕ) (u : Person) (old new : List State) →
+    slice_get d.people user ≡ Some u →
+    old ≡ states_with (length d.people) None ++ flat_map (kept_at d groups named others) (range_with_len 0 user) →
+    new ≡ old ++ states_by user (kept_groups u groups named others) →
+    new ≡ states_with (length d.people) None ++ flat_map (kept_at d groups named others) (range_with_len 0 (user + 1))
+kept-more d groups named others user u old new is so_far grown =
+    grown ∙ ap (λ (xs : List State). xs ++ states_by user (kept_groups u groups named others)) so_far
+    ∙ append_assoc (states_with (length d.people) None) (flat_map (kept_at d groups named others) (range_with_len 0 user))
+    (states_by user (kept_groups u groups named others))
+    ∙ ap (λ (xs : List State). states_with (length d.people) None ++ xs)
+    (ap (λ (xs : List State). flat_map (kept_at d groups named others) (range_with_len 0 user) ++ xs)
+    (sym (ap (kept_if groups named others user) is))
+    ∙ sym (flat-range (kept_at d groups named others) user))

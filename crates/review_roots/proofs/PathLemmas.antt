@@ -1,0 +1,327 @@
+-- A chain from a state is one, through the states that are kept, from each kept state that is alike.
+use Rattle.std.proofs.Common.{◌≡◌, ◌<◌, ◌∙◌, ℕ, zero, suc, Bool, true, false, not, ◌||◌, ◌==◌, List, [], ◌∷◌, ap, arith, length, refl, subst, sym}
+use Rattle.std.proofs.Common.{Option, Some, None, inl, inr, ◌⊎◌}
+use Rattle.std.specs.Prelude.{All, option_map, slice_get}
+use Rattle.std.specs.List.{Contains, list_any}
+use Rattle.std.proofs.lemmas.Bool.{eqb-true}
+use Rattle.std.proofs.lemmas.List.Elements.{All-contains, All-weaker}
+use Rattle.sudo_grammar.specs.declared.policy.Policy.{Policy}
+use Rattle.sudo_match.specs.declared.people.Group.{Group}
+use Rattle.sudo_match.specs.declared.people.Person.{Person}
+use Rattle.sudo_match.specs.KnownRows.{directory_fault}
+use Rattle.sudo_verdict.specs.RunasForms.{has_asked, has_group, is_same_user}
+use Rattle.review_roots.specs.declared.host.HostSteps.{HostSteps}
+use Rattle.review_roots.specs.declared.level.Level.{Level}
+use Rattle.review_roots.specs.declared.search.Found.{Found}
+use Rattle.review_roots.specs.declared.search.Sought.{Sought}
+use Rattle.review_roots.specs.declared.state.State.{State}
+use Rattle.review_roots.specs.Asked.{given_towards, nothing}
+use Rattle.review_roots.specs.Body.Found.{AreFound, IsFound, IsLinked, found_states, is_start, kept_steps}
+use Rattle.review_roots.specs.Body.Kept.{AreAlike, AreBothUnnamed, AreKept, IsAlike}
+use Rattle.review_roots.specs.Body.Unnamed.{is_unnamed}
+use Rattle.review_roots.specs.Chains.{Steps, Path, here, more, HasPath, HasNoPath}
+use Rattle.review_roots.specs.Ranks.{is_at_least}
+use Rattle.review_roots.specs.Sought.{any_steps, steps_of}
+use Rattle.review_roots.specs.States.{given_between, group_at, level_for, state_with, with_added}
+use Rattle.review_roots.proofs.AlikeLemmas.{IsWithin, has-more, towards-same}
+use Rattle.review_roots.proofs.KeptLemmas.{host-keeps}
+use Rattle.review_roots.proofs.RootLemmas.{not-found}
+use Rattle.review_roots.proofs.SearchLemmas.{at-contains, path-state}
+use Rattle.review_roots.proofs.UserLemmas.{one-row}
+
+-- ---- Alike is an equivalence
+
+module _ (ids : List ℕ) (u : Person) where
+  pub alike-swap : (a b : Option Group) → IsAlike ids u a b → IsAlike ids u b a
+  alike-swap a b (inl e) = inl (sym e)
+  alike-swap a b (inr two) = inr (record {
+    one = two.other;
+    other = two.one;
+    is_one = two.is_other;
+    is_other = two.is_one;
+    one_unnamed = two.other_unnamed;
+    other_unnamed = two.one_unnamed;
+    has = sym two.has;
+  })
+
+  pub alike-trans : (a b c : Option Group) → IsAlike ids u a b → IsAlike ids u b c → IsAlike ids u a c
+  alike-trans a b c (inl e) k = subst (λ o. IsAlike ids u o c) (sym e) k
+  alike-trans a b c (inr two) (inl e) = subst (IsAlike ids u a) e (inr two)
+  alike-trans a b c (inr two) (inr after) =
+      let middle : two.other ≡ after.one = let e : Some two.other ≡ Some after.one = sym two.is_other ∙ after.is_one in cc in
+      inr (record {
+        one = two.one;
+        other = after.other;
+        is_one = two.is_one;
+        is_other = after.is_other;
+        one_unnamed = two.one_unnamed;
+        other_unnamed = after.other_unnamed;
+        has = two.has ∙ ap (has_group u) middle ∙ after.has;
+      })
+
+-- ---- A user with an added group, and a group that it asks for
+
+-- a group of the ID of an unnamed one is unnamed, and the user has both or neither
+id-alike : (ids : List ℕ) (u : Person) (g h : Group) → (g.gid == h.gid) ≡ true → (is_unnamed ids g ≡ is_unnamed ids h)
+    × (has_group u g ≡ has_group u h)
+id-alike ids u g h e =
+    let same = eqb-true g.gid h.gid e in
+    (ap (λ i. not (list_any (λ j. j == i) ids)) same, ap (λ i. list_any (λ (x : Group). x.gid == i) u.groups) same)
+
+-- both are unnamed, and the user has both or neither; or their IDs differ
+either-alike : (ids : List ℕ) (u : Person) (g h : Group) → (is_unnamed ids g ≡ true) ⊎ (is_unnamed ids h ≡ true)
+    → IsAlike ids u (Some g) (Some h) ⊎ ((g.gid == h.gid) ≡ false)
+either-alike ids u g h none = go (g.gid == h.gid) refl
+  where
+    both : (is_unnamed ids g ≡ is_unnamed ids h) × (has_group u g ≡ has_group u h)
+        → (is_unnamed ids g ≡ true) ⊎ (is_unnamed ids h ≡ true) → IsAlike ids u (Some g) (Some h)
+    both k (inl e) = inr (record {
+      one = g;
+      other = h;
+      is_one = refl;
+      is_other = refl;
+      one_unnamed = e;
+      other_unnamed = sym k.0 ∙ e;
+      has = k.1;
+    })
+    both k (inr e) = inr (record {
+      one = g;
+      other = h;
+      is_one = refl;
+      is_other = refl;
+      one_unnamed = k.0 ∙ e;
+      other_unnamed = e;
+      has = k.1;
+    })
+
+    go : (b : Bool) → (g.gid == h.gid) ≡ b → IsAlike ids u (Some g) (Some h) ⊎ ((g.gid == h.gid) ≡ false)
+    go true e = inl (both (id-alike ids u g h e) none)
+    go false e = inr e
+
+module _ (ids : List ℕ) (u : Person) where
+  -- the user with one group has what is asked for if and only if it has it with the other; or what it has is alike to that
+  abbrev Fits : Option Group → Option Group → Option Group → Option Group → Type 0
+  Fits a a' b b' = IsAlike ids u a b ⊎ (has_asked (with_added u a) b ≡ has_asked (with_added u a') b')
+
+  apart-fits :
+      (g g' h h' : Group) → has_group u h ≡ has_group u h' → (g.gid == h.gid) ≡ false → (g'.gid == h'.gid) ≡ false
+      → has_group (with_added u (Some g)) h ≡ has_group (with_added u (Some g')) h'
+  apart-fits g g' h h' has far far' =
+      has-more u g h ∙ ap (λ b. has_group u h || b) far ∙ ap (λ b. b || false) has
+      ∙ sym (has-more u g' h' ∙ ap (λ b. has_group u h' || b) far')
+
+  both-fit :
+      (g g' h h' : Group) → IsAlike ids u (Some g) (Some g') → IsAlike ids u (Some h) (Some h') → has_group u h ≡ has_group u h' →
+      (is_unnamed ids g ≡ true) ⊎ (is_unnamed ids h ≡ true) → (is_unnamed ids g' ≡ true) ⊎ (is_unnamed ids h' ≡ true) →
+      Fits (Some g) (Some g') (Some h) (Some h')
+  both-fit g g' h h' from to has none none' = go (either-alike ids u g h none) (either-alike ids u g' h' none')
+    where
+      go : IsAlike ids u (Some g) (Some h) ⊎ ((g.gid == h.gid) ≡ false)
+          → IsAlike ids u (Some g') (Some h') ⊎ ((g'.gid == h'.gid) ≡ false) → Fits (Some g) (Some g') (Some h) (Some h')
+      go (inl alike) k = inl alike
+      go (inr far) (inl alike) =
+          inl (alike-trans ids u (Some g) (Some g') (Some h) from
+          (alike-trans ids u (Some g') (Some h') (Some h) alike (alike-swap ids u (Some h) (Some h') to)))
+      go (inr far) (inr far') = inr (apart-fits g g' h h' has far far')
+
+  pub own-fits : (a a' b b' : Option Group) → IsAlike ids u a a' → IsAlike ids u b b' → Fits a a' b b'
+  own-fits a a' b b' (inl e) (inl f) =
+      inr (ap (λ o. has_asked (with_added u o) b) e ∙ ap (has_asked (with_added u a')) f)
+  own-fits a a' b b' (inl e) (inr two) = go a refl
+    where
+      two-plain : AreBothUnnamed ids u (Some two.one) (Some two.other)
+      two-plain = record {
+        one = two.one;
+        other = two.other;
+        is_one = refl;
+        is_other = refl;
+        one_unnamed = two.one_unnamed;
+        other_unnamed = two.other_unnamed;
+        has = two.has;
+      }
+
+      named : (o o' : Option Group) → o ≡ o' → Fits o o' (Some two.one) (Some two.other)
+      named None o' e =
+          inr (two.has ∙ ap (λ o. has_asked (with_added u o) (Some two.other)) e)
+      named (Some g) o' e =
+          subst (λ o. Fits (Some g) o (Some two.one) (Some two.other)) e
+          (both-fit g g two.one two.other (inl refl) (inr two-plain) two.has (inr two.one_unnamed) (inr two.other_unnamed))
+
+      go : (o : Option Group) → a ≡ o → Fits a a' b b'
+      go o is =
+          subst (λ x. Fits a a' x b') (sym two.is_one) (subst (Fits a a' (Some two.one)) (sym two.is_other) (named a a' e))
+  own-fits a a' b b' (inr one) to = go b b' refl refl to
+    where
+      one-plain : IsAlike ids u (Some one.one) (Some one.other)
+      one-plain = inr (record {
+        one = one.one;
+        other = one.other;
+        is_one = refl;
+        is_other = refl;
+        one_unnamed = one.one_unnamed;
+        other_unnamed = one.other_unnamed;
+        has = one.has;
+      })
+
+      plain : (o o' : Option Group) → IsAlike ids u o o' → Fits (Some one.one) (Some one.other) o o'
+      plain None None to = inr refl
+      plain None (Some h) (inl e) = cc
+      plain None (Some h) (inr two) = let bad = two.is_one in cc
+      plain (Some h) None (inl e) = cc
+      plain (Some h) None (inr two) = let bad = two.is_other in cc
+      plain (Some h) (Some h') (inl e) =
+          let same : h ≡ h' = cc in
+          both-fit one.one one.other h h' one-plain (inl e) (ap (has_group u) same) (inl one.one_unnamed) (inl one.other_unnamed)
+      plain (Some h) (Some h') (inr two) =
+          let first : two.one ≡ h = let e : Some two.one ≡ Some h = sym two.is_one in cc in
+          let second : two.other ≡ h' = let e : Some two.other ≡ Some h' = sym two.is_other in cc in
+          both-fit one.one one.other h h' one-plain (inr two)
+          (ap (has_group u) (sym first) ∙ two.has ∙ ap (has_group u) second) (inl one.one_unnamed) (inl one.other_unnamed)
+
+      go : (o o' : Option Group) → b ≡ o → b' ≡ o' → IsAlike ids u b b' → Fits a a' b b'
+      go o o' is is' to =
+          subst (λ x. Fits x a' b b') (sym one.is_one) (subst (λ x. Fits (Some one.one) x b b') (sym one.is_other) (plain b b' to))
+
+-- ---- Steps and chains on a host
+
+module _ (h : HostSteps) (q : Sought) (known : directory_fault h.directory.now.people h.directory.now.machines ≡ None)
+    (keeps : AreKept h.checked.now h.directory.now h.groups.now h.states.now) where
+  abbrev g : Steps State
+  g = steps_of h q
+
+  abbrev k : Steps State
+  k = kept_steps h q
+
+  abbrev Alike : State → State → Type 0
+  Alike s t = AreAlike h.directory.now h.groups.now keeps.ids s t
+
+  within : (o : Option ℕ) → IsWithin h.groups.now (group_at h.groups.now o)
+  within None x e = cc
+  within (Some i) x e = at-contains h.groups.now x i e
+
+  abbrev people : List Person
+  people = h.directory.now.people
+
+  abbrev added : State → Option Group
+  added s = group_at h.groups.now s.added
+
+  -- the level of the step of one user to another, with the added groups of these states
+  abbrev level-with : State → State → Option Person → Option Person → Level
+  level-with s t u v =
+      level_for q.counted
+      (given_between h.checked.now h.directory.now h.host.now (option_map (λ x. with_added x (added s)) u) v (added t))
+
+  -- steps between states that are alike are the same, but for one between two that are alike to one another
+  step-same : (s s' t t' : State) → Alike s s' → Alike t t' → Alike s t ⊎ (g.level s t ≡ g.level s' t')
+  step-same s s' t t' from to = go (slice_get people s.user) refl (slice_get people t.user) refl
+    where
+      carried : (u v : Option Person) → slice_get people s.user ≡ u → slice_get people t.user ≡ v
+          → level-with s t u v ≡ level-with s' t' u v → g.level s t ≡ g.level s' t'
+      carried u v is at given =
+          let f : slice_get people s'.user ≡ u = ap (slice_get people) (sym from.0) ∙ is in
+          let j : slice_get people t'.user ≡ v = ap (slice_get people) (sym to.0) ∙ at in
+          ap (λ o. level-with s t o (slice_get people t.user)) is ∙ ap (level-with s t u) at ∙ given
+          ∙ sym (ap (λ o. level-with s' t' o (slice_get people t'.user)) f ∙ ap (level-with s' t' u) j)
+
+      given :
+          (u v : Person) → slice_get people s.user ≡ Some u → slice_get people t.user ≡ Some v →
+          (is_same_user v u ≡ true → has_asked (with_added u (added s)) (added t) ≡ has_asked (with_added u (added s')) (added t')) →
+          level-with s t (Some u) (Some v) ≡ level-with s' t' (Some u) (Some v)
+      given u v is at own =
+          ap (level_for q.counted)
+          (towards-same h.checked.now h.directory.now h.host.now h.groups.now keeps.ids keeps.unnamed u v (added s) (added s') (added t)
+          (added t') (from.1 u is) (to.1 v at) (within s.added) (within s'.added) (within t.added) (within t'.added) own)
+
+      both : (u v : Person) → slice_get people s.user ≡ Some u → slice_get people t.user ≡ Some v
+          → Alike s t ⊎ (g.level s t ≡ g.level s' t')
+      both u v is at = itself (is_same_user v u) refl
+        where
+          fits : (v ≡ u) → IsAlike keeps.ids u (added s) (added t) ⊎ (has_asked (with_added u (added s)) (added t)
+              ≡ has_asked (with_added u (added s')) (added t')) → s.user ≡ t.user → Alike s t ⊎ (g.level s t ≡ g.level s' t')
+          fits same (inl alike) user =
+              inl (
+                user,
+                λ w is_w. let e : u ≡ w = let f : Some u ≡ Some w = sym is ∙ is_w in cc in
+                    subst (λ w. IsAlike keeps.ids w (added s) (added t)) e alike,
+              )
+          fits same (inr has) user = inr (carried (Some u) (Some v) is at (given u v is at (λ yes. has)))
+
+          itself : (b : Bool) → is_same_user v u ≡ b → Alike s t ⊎ (g.level s t ≡ g.level s' t')
+          itself false e =
+              inr (carried (Some u) (Some v) is at
+              (given u v is at (λ yes. absurd (let bad : true ≡ false = sym yes ∙ e in cc))))
+          itself true e =
+              let row = one-row people h.directory.now.machines known s.user t.user u v is at e in
+              fits (sym row.0)
+              (own-fits keeps.ids u (added s) (added s') (added t) (added t') (from.1 u is)
+              (subst (λ w. IsAlike keeps.ids w (added t) (added t')) (sym row.0) (to.1 v at))) row.1
+
+      go : (u : Option Person) → slice_get people s.user ≡ u → (v : Option Person) → slice_get people t.user ≡ v
+          → Alike s t ⊎ (g.level s t ≡ g.level s' t')
+      go None is v at = inr (carried None v is at refl)
+      go (Some u) is None at = inr (carried (Some u) None is at refl)
+      go (Some u) is (Some v) at = both u v is at
+
+  alike-turn : (s t t' : State) → Alike s t → Alike s t' → Alike t t'
+  alike-turn s t t' one other = (
+    sym one.0 ∙ other.0,
+    λ u is.
+        let is_s = ap (slice_get h.directory.now.people) one.0 ∙ is in
+        alike-trans keeps.ids u (group_at h.groups.now t.added) (group_at h.groups.now s.added) (group_at h.groups.now t'.added)
+        (alike-swap keeps.ids u (group_at h.groups.now s.added) (group_at h.groups.now t.added) (one.1 u is_s)) (other.1 u is_s),
+  )
+
+  -- a chain from a state is one, through kept states, from each kept state that is alike
+  pub kept-path : (l : Level) {n : ℕ} {s : State} → Path g l n s → (s' : State) → Contains k.states s' → Alike s s' → HasPath k l s'
+  kept-path l (here {s} c at) s' inside alike = (zero, here inside (ap (λ u. u == q.target) (sym alike.0) ∙ at))
+  kept-path l (more {n} {s} {t} c step rest) s' inside alike =
+      go (keeps.covers t (path-state g l rest)) (λ u there like. kept-path l rest u there like)
+    where
+      go : (t' : State) × (Contains h.states.now t' × Alike t t')
+          → ((u : State) → Contains k.states u → Alike t u → HasPath k l u) → HasPath k l s'
+      go found behind = next (step-same s s' t found.0 alike found.1.1)
+        where
+          next : Alike s t ⊎ (g.level s t ≡ g.level s' found.0) → HasPath k l s'
+          next (inl same) = behind s' inside (alike-turn s t s' same alike)
+          next (inr level) =
+              let b = behind found.0 found.1.0 found.1.1 in
+              (suc b.0, more inside (ap (is_at_least l) (sym level) ∙ step) b.1)
+
+  -- a chain through kept states is one
+  pub plain-path : (l : Level) {n : ℕ} {s : State} → Path k l n s → Path g l n s
+  plain-path l (here {s} c at) = here (All-contains (Contains g.states) k.states s keeps.inside c) at
+  plain-path l (more {n} {s} {t} c step rest) =
+      more (All-contains (Contains g.states) k.states s keeps.inside c) step (plain-path l rest)
+
+  itself : (s : State) → Alike s s
+  itself s = (refl, λ u is. inl refl)
+
+  linked-among : (found : List Found) (i : ℕ) (f : Found) (next : Option ℕ) → IsLinked k found i f next → IsLinked g found i f next
+  linked-among found i f None at = at
+  linked-among found i f (Some next) (t, is) = (t, record { there = is.there; before = is.before; step = is.step; level = is.level })
+
+  -- what is found among the kept states is so among all
+  pub found-among : (l : Level) (found : List Found) → AreFound k k.states l found → AreFound g h.states.now l found
+  found-among l found are = record {
+    right = All-weaker (IsFound k) (IsFound g) (λ f is. record {
+      inside = All-contains (Contains g.states) k.states f.state keeps.inside is.inside;
+      path = (is.path.0, plain-path f.level is.path.1);
+      best = λ m path. is.best m (kept-path m path.1 f.state is.inside (itself f.state));
+    }) found are.right;
+    linked = λ i f at. linked-among found i f f.next (are.linked i f at);
+    levels = are.levels;
+    complete = λ s inside. go s inside (are.complete s inside);
+  }
+    where
+      go : (s : State) → Contains h.states.now s → Contains (found_states found) s ⊎ HasNoPath k l s
+          → Contains (found_states found) s ⊎ HasNoPath g l s
+      go s inside (inl there) = inl there
+      go s inside (inr none) = inr (λ n path. let p = kept-path l path s inside (itself s) in none p.0 p.1)
+
+-- a user that is not found among the kept states has no chain
+pub no-root :
+    (h : HostSteps) (target : ℕ) (least : Level) (found : List Found) (user : ℕ) → AreFound (any_steps h target) h.states.now least found →
+    user < length h.directory.now.people → All (λ f. is_start user f.state ≡ false) found
+    → HasNoPath (any_steps h target) least (state_with None user)
+no-root h target least found user are less none =
+    not-found (any_steps h target) h.states.now least found user are ((host-keeps h).starts user less) none

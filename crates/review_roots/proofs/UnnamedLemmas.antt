@@ -1,0 +1,63 @@
+-- Groups that no list of the blocks names are named by no list of the policy.
+use Rattle.std.proofs.Common.{◌≡◌, ◌∙◌, ℕ, Bool, true, false, not, ◌||◌, ◌==◌, List, [], ◌∷◌, ◌++◌, ap, flat_map, map, refl, subst, sym}
+use Rattle.std.specs.Prelude.{filter}
+use Rattle.std.specs.List.{Contains, list_any}
+use Rattle.std.proofs.lemmas.Bool.{eq-eqb, not-true}
+use Rattle.sudo_grammar.specs.declared.policy.Policy.{Policy}
+use Rattle.sudo_match.specs.declared.people.Group.{Group}
+use Rattle.sudo_grammar.specs.declared.kind.Signed.{Signed}
+use Rattle.sudo_verdict.specs.Grants.{Grant, grants}
+use Rattle.review_roots.specs.declared.block.Block.{Block}
+use Rattle.review_roots.specs.declared.block.Sign.{Sign}
+use Rattle.review_roots.specs.Blocks.{AreBlocks, Row, block_row, block_rows, row_of}
+use Rattle.review_roots.specs.Body.Unnamed.{AreIds, IsAbsent, IsUnnamed, block_groups, block_users, fits_by_name, is_named, is_unnamed}
+use Rattle.review_roots.specs.Body.Unnamed.{named_ids}
+use Rattle.review_roots.specs.KnownGroups.{names_group}
+use Rattle.review_roots.proofs.MemberLemmas.{from-flat, none-in, none-there}
+use Rattle.review_roots.proofs.SearchLemmas.{from-map, in-filter, to-map}
+
+neither : (a b : Bool) → (a || b) ≡ false → (a ≡ false) × (b ≡ false)
+neither true b e = cc
+neither false b e = (refl, e)
+
+-- a group that no atom of the blocks names is unnamed
+pub unnamed-by :
+    (p : Policy) (bs : List Block) (g : Group) → AreBlocks p bs →
+    is_named (flat_map (block_users p) bs) (flat_map (block_groups p) bs) g ≡ false → IsUnnamed p g
+unnamed-by p bs g tied none x inside =
+    let parts = neither (list_any (λ (w : Signed). names_group g w.atom) (flat_map (block_users p) bs))
+    (list_any (λ (w : Signed). fits_by_name g w.atom) (flat_map (block_groups p) bs)) none in
+    let row : Contains (flat_map block_rows bs) (row_of x) =
+    subst (λ rows. Contains rows (row_of x)) (sym tied) (to-map row_of (grants p) x inside) in
+    let b = from-flat block_rows bs (row_of x) row in
+    let s = from-map (block_row b.0) b.0.signs.items (row_of x) b.1.1 in
+    let absent : IsAbsent p g (block_row b.0 s.0).users (block_row b.0 s.0).runas = (
+      none-in (λ (w : Signed). names_group g w.atom) (block_users p) bs b.0 parts.0 b.1.0,
+      none-in (λ (w : Signed). fits_by_name g w.atom) (block_groups p) bs b.0 parts.1 b.1.0,
+    ) in
+    subst (λ (r : Row). IsAbsent p g r.users r.runas) s.2 absent
+
+-- groups with the ID of no named one are unnamed
+pub ids-are :
+    (p : Policy) (bs : List Block) (groups : List Group) → AreBlocks p bs →
+    AreIds p groups (named_ids (flat_map (block_users p) bs) (flat_map (block_groups p) bs) groups)
+ids-are p bs groups tied g inside none = unnamed-by p bs g tied (go (named g) refl)
+  where
+    users : List Signed
+    users = flat_map (block_users p) bs
+
+    lists : List Signed
+    lists = flat_map (block_groups p) bs
+
+    named : Group → Bool
+    named g = is_named users lists g
+
+    go : (b : Bool) → named g ≡ b → named g ≡ false
+    go false is = is
+    go true is =
+        let there : Contains (named_ids users lists groups) g.gid =
+        to-map (λ (h : Group). h.gid) (filter named groups) g (in-filter named groups g inside is) in
+        let other : (g.gid == g.gid) ≡ false =
+        none-there (λ i. i == g.gid) (named_ids users lists groups) g.gid
+        (not-true (list_any (λ i. i == g.gid) (named_ids users lists groups)) none) there in
+        absurd (let bad : true ≡ false = sym (eq-eqb g.gid g.gid refl) ∙ other in cc)
