@@ -14,7 +14,7 @@ use Rattle.review_cautions.specs.Brackets.{opens_bracket, arguments_have_caret, 
 use Rattle.review_cautions.specs.Brackets.{arguments_have_other_class, atom_has_caret, atom_has_other_bracket}
 use Rattle.review_cautions.specs.Escapes.{is_path_escape, is_argument_escape, arguments_have_escape, has_escape}
 use Rattle.review_cautions.specs.Escapes.{is_escaped, is_escaped_tab, unquoted, name_has_escape, group_id_has_escape}
-use Rattle.review_cautions.specs.Escapes.{is_escaped_mark, is_escaped_bracket_mark, may_have_bracket, host_has_escape}
+use Rattle.review_cautions.specs.Escapes.{is_escaped_mark, is_escaped_bracket_mark, host_has_escape}
 use Rattle.review_cautions.specs.Escapes.{begins_as_id, has_quoted_mark}
 use Rattle.review_cautions.specs.Escapes.{has_quoted_escape, is_escaped_byte, is_long_sudoedit}
 use Rattle.review_cautions.specs.Cautions.{list_cautions, caution_at, distinct_places}

@@ -6,7 +6,9 @@ pub mod Addresses
 pub mod Marks
 pub mod ListTests
 pub mod EntryTests
+pub mod Uses
 pub mod Parameters
 pub mod KnownParameters
 pub mod Cautions
 pub mod PasswordDefaults
+pub mod Body

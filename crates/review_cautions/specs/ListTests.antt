@@ -16,7 +16,7 @@ use Rattle.review_cautions.specs.Brackets.{atom_has_caret, atom_has_other_bracke
 use Rattle.review_cautions.specs.declared.link.Link.{Link}
 use Rattle.review_cautions.specs.Escapes.{has_other_escape, has_quoted_mark, has_quoted_escape}
 use Rattle.review_cautions.specs.declared.class.CautionClass.{CautionClass}
-use Rattle.review_cautions.specs.declared.class.CautionClass.TheVariants.{Caret, Escape, Case, QuotedHost, QuotedEscape}
+use Rattle.review_cautions.specs.declared.class.CautionClass.TheVariants.{Caret, Escape, Case, QuotedHost, QuotedEscape, Linked}
 use Rattle.review_cautions.specs.declared.class.CautionClass.TheVariants.{Sudoedit, Network, Bracket}
 
 -- a wildcard that no escape yields: `*`, `?` or `[`
@@ -99,6 +99,17 @@ member_holds _ m = false
 -- a member of the list has the construct of the class
 abbrev pub list_holds : CautionClass → MemberList → Bool
 list_holds class list = concerns class list.kind && list_any (member_holds class) list.members
+
+-- a construct of the class changes what a list matches, and nothing else: sudo reads it, and a list that decides nothing may
+-- match what it will. Those of `Escape`, `QuotedEscape` and `Sudoedit` it refuses in part, wherever they stand
+abbrev pub is_of_matching : CautionClass → Bool
+is_of_matching Caret = true
+is_of_matching Case = true
+is_of_matching QuotedHost = true
+is_of_matching Linked = true
+is_of_matching Network = true
+is_of_matching Bracket = true
+is_of_matching _ = false
 
 -- commands
 abbrev pub is_of_commands : Kind → Bool

@@ -21,6 +21,7 @@ mod marks;
 mod passwords;
 mod reserved;
 mod unknown;
+mod uses;
 
 pub use caution::Caution;
 pub use class::{CAUTION_CLASSES, CautionClass, class_named};

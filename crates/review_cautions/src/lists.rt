@@ -147,6 +147,21 @@ fn list_holds(class: CautionClass, list: &MemberList<'_>) -> bool
     concerns(class, list.kind) && members_hold(class, list.members)
 }
 
+/// Whether a construct of a class changes what a list matches, and nothing else.
+pub(crate) fn is_of_matching(class: CautionClass) -> bool
+    ensures { result ≡ spec.is_of_matching class }
+{
+    matches!(
+        class,
+        CautionClass::Caret
+            | CautionClass::Case
+            | CautionClass::QuotedHost
+            | CautionClass::Linked
+            | CautionClass::Network
+            | CautionClass::Bracket
+    )
+}
+
 // Whether one of the members is a linked command.
 fn members_are_linked(links: &[Link], members: &[Member]) -> bool
     ensures { result ≡ list_any (λ m. spec.atom_is_linked links.now m.atom) members.now }
