@@ -24,7 +24,7 @@ use Rattle.review_cautions.specs.declared.class.CautionClass.TheVariants.{Includ
 use Rattle.review_cautions.specs.declared.class.CautionClass.TheVariants.{Caret, Escape, Case}
 use Rattle.review_cautions.specs.declared.class.CautionClass.TheVariants.{QuotedHost, QuotedEscape, Linked, Defaults}
 use Rattle.review_cautions.specs.declared.class.CautionClass.TheVariants.{UnknownParameter, Sudoedit, Network}
-use Rattle.review_cautions.specs.declared.class.CautionClass.TheVariants.{Bracket, Setenv, GroupForm, Reserved}
+use Rattle.review_cautions.specs.declared.class.CautionClass.TheVariants.{Bracket, Setenv, GroupForm, Reserved, Arguments}
 use Rattle.review_cautions.specs.declared.class.CautionClass.{CautionClass}
 use Rattle.review_cautions.specs.Marks.{is_plain, arguments_are_plain, atom_is_plain}
 use Rattle.review_cautions.specs.Marks.{token_is_plain, is_marked, list_is_marked, needs_mark}
@@ -262,6 +262,7 @@ unmarked Network n m h = grind arith
 unmarked Setenv n m h = refl
 unmarked GroupForm n m h = refl
 unmarked Reserved n m h = refl
+unmarked Arguments n m h = grind arith
 
 -- where no member passes one test, none passes the other
 none_passes : (p q : Member → Bool) → ((m : Member) → q m ≡ false → p m ≡ false) → (ms : List Member) → list_any q ms ≡ false

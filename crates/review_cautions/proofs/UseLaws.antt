@@ -117,7 +117,8 @@ left_defined kind place test marks (d ∷ ds) rest = by (test d.name) refl (left
 
 both_granting : (ls ms : List MemberList) → list_all (λ (l : MemberList). l.granting) ls ≡ true
     → list_all (λ (l : MemberList). l.granting) ms ≡ true → list_all (λ (l : MemberList). l.granting) (ls ++ ms) ≡ true
-both_granting ls ms h k = list_all-append (λ (l : MemberList). l.granting) ls ms ∙ ap (λ b. b && list_all (λ (l : MemberList). l.granting) ms) h ∙ k
+both_granting ls ms h k = list_all-append (λ (l : MemberList). l.granting) ls ms
+    ∙ ap (λ b. b && list_all (λ (l : MemberList). l.granting) ms) h ∙ k
 
 all_granting : {X : Type 0} (f : X → List MemberList) → ((x : X) → list_all (λ (l : MemberList). l.granting) (f x) ≡ true)
     → (xs : List X) → list_all (λ (l : MemberList). l.granting) (flat_map f xs) ≡ true

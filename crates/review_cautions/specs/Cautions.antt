@@ -16,7 +16,7 @@ use Rattle.review_cautions.specs.declared.class.CautionClass.TheVariants.{Return
 use Rattle.review_cautions.specs.declared.class.CautionClass.TheVariants.{IncludeEscape, IncludeIndent, Comment}
 use Rattle.review_cautions.specs.declared.class.CautionClass.TheVariants.{Caret, Escape, Case, QuotedHost, QuotedEscape, Linked, Defaults}
 use Rattle.review_cautions.specs.declared.class.CautionClass.TheVariants.{UnknownParameter, Sudoedit, Network, Bracket}
-use Rattle.review_cautions.specs.declared.class.CautionClass.TheVariants.{Setenv, GroupForm, Reserved}
+use Rattle.review_cautions.specs.declared.class.CautionClass.TheVariants.{Setenv, GroupForm, Reserved, Arguments}
 use Rattle.review_cautions.specs.PhysicalLines.{numbers_of}
 use Rattle.review_cautions.specs.declared.link.Link.{Link}
 use Rattle.review_cautions.specs.ListTests.{is_of_matching, list_holds, list_is_linked}
@@ -138,6 +138,7 @@ cautions_by links texts policy deciding =
     ++ class_cautions Sudoedit (lists policy) deciding ++ class_cautions Network (lists policy) deciding
     ++ class_cautions Bracket (lists policy) deciding
     ++ entry_cautions Setenv policy.entries ++ entry_cautions GroupForm policy.entries ++ entry_cautions Reserved policy.entries
+    ++ class_cautions Arguments (lists policy) deciding
 
 -- these are the cautions on a policy whose files have these texts, where the machine has these links
 pub record AreCautionsOn (links : List Link) (texts : List (List ℕ)) (policy : Policy) (found : List Caution) : Type 0 where

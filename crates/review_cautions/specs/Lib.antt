@@ -3,8 +3,10 @@ pub mod PhysicalLines
 pub mod Brackets
 pub mod Escapes
 pub mod Addresses
+pub mod Arguments
 pub mod Marks
 pub mod ListTests
+pub mod ReservedNames
 pub mod EntryTests
 pub mod Uses
 pub mod Parameters

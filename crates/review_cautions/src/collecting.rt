@@ -121,5 +121,6 @@ pub fn cautions_by_links(
     push_entries(alloc, CautionClass::Setenv, entries, &mut found)?;
     push_entries(alloc, CautionClass::GroupForm, entries, &mut found)?;
     push_entries(alloc, CautionClass::Reserved, entries, &mut found)?;
+    push_looked(alloc, CautionClass::Arguments, &all, &deciding, &mut found)?;
     Ok(found)
 }

@@ -4,6 +4,7 @@
 #![tactic(auto)]
 
 mod addresses;
+mod arguments;
 mod brackets;
 mod bytes;
 mod caution;

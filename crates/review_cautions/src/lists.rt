@@ -8,6 +8,7 @@ ghost use Rattle.review_cautions.specs.ListTests as spec;
 ghost use Rattle.review_cautions.specs.Cautions as cautions;
 
 use crate::addresses::has_other_address;
+use crate::arguments::atom_has_refused_arguments;
 use crate::brackets::{atom_has_caret, atom_has_other_bracket};
 use crate::bytes::spells;
 use crate::escapes::{has_other_escape, has_quoted_escape, has_quoted_mark};
@@ -112,6 +113,7 @@ fn concerns(class: CautionClass, kind: Kind) -> bool
         CautionClass::Sudoedit => matches!(kind, Kind::Cmnd),
         CautionClass::Network => matches!(kind, Kind::Host),
         CautionClass::Bracket => matches!(kind, Kind::Host | Kind::Cmnd),
+        CautionClass::Arguments => matches!(kind, Kind::Cmnd),
         _ => false,
     }
 }
@@ -129,6 +131,7 @@ fn member_holds(class: CautionClass, member: &Member) -> bool
         CautionClass::Sudoedit => atom_is_sudoedit(&member.atom),
         CautionClass::Network => has_other_address(member),
         CautionClass::Bracket => atom_has_other_bracket(&member.atom),
+        CautionClass::Arguments => atom_has_refused_arguments(&member.atom),
         _ => false,
     }
 }
