@@ -295,18 +295,30 @@ def _setenv(aim: Aim) -> Aimed:
 
 
 def _group_form(aim: Aim) -> Aimed:
+    if aim.chance(0.25):
+        target = aim.pick("operator", "postgres")
+        return Aimed(aim.rule(f"({target} : {aim.pick('%adm', 'adm, !%#4')}) {aim.command}"), (aim.ask(target=target),))
     group = aim.pick("operator", "adm", "ALL", "#4", "!adm", "adm, operator")
     return Aimed(aim.rule(f"({aim.pick('', ' ')}:{group}) {aim.command}"), (aim.ask(), aim.ask(target=aim.user)))
 
 
 def _reserved(aim: Aim) -> Aimed:
     name = aim.pick("CWD", "CHROOT", "TIMEOUT", "NOTBEFORE", "NOTAFTER")
+    tag = aim.pick("", "NO") + aim.pick("EXEC", "FOLLOW", "INTERCEPT", "LOG_INPUT", "LOG_OUTPUT", "MAIL", "PASSWD", "SETENV")
     texts = (
+        f"Host_Alias {tag} = {aim.short()}\nHost_Alias X = {tag} : Y = nowhere\n" + aim.rule(aim.command, host="X"),
+        f"User_Alias X = {tag} : {tag} = {aim.user}\n" + aim.rule(aim.command, "X"),
         f"User_Alias {name} = {aim.user}\n" + aim.rule(aim.command, name),
         f"Host_Alias {name} = {aim.short()}\n" + aim.rule(aim.command, host=name),
         f"Cmnd_Alias {name} = {aim.command}\n" + aim.rule(name),
     )
     return Aimed(aim.pick(*texts), (aim.ask(),))
+
+
+def _arguments(aim: Aim) -> Aimed:
+    argument = aim.pick("=", "^a", "^-l b", "a = b", "^", "-l =")
+    texts = (aim.rule(f"{aim.command} {argument}"), aim.rule(f"ALL, !{TOP}/b/ {aim.pick('-l', 'a b')}"))
+    return Aimed(aim.pick(*texts), (aim.ask(argument),))
 
 
 DRAWN: dict[str, Callable[[Aim], Aimed]] = {
@@ -329,6 +341,7 @@ DRAWN: dict[str, Callable[[Aim], Aimed]] = {
     "setenv": _setenv,
     "group-form": _group_form,
     "reserved": _reserved,
+    "arguments": _arguments,
 }
 
 

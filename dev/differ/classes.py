@@ -15,7 +15,7 @@ from differ.world import lower
 # The classes in their order, but for that of linked folders.
 NAMES = (
     "return blank-after-backslash join torn-mark include-escape include-indent comment caret escape case quoted-host"
-    " quoted-escape defaults sudoedit network bracket setenv group-form reserved"
+    " quoted-escape defaults sudoedit network bracket setenv group-form reserved arguments"
 ).split()
 ALIAS = re.compile(r"[A-Z][A-Z0-9_]*")
 JOIN = rf"{EVEN}\\\r?\n[ \t]*"
@@ -122,8 +122,14 @@ ROWS = {
         "alice [[\\:upper\\:]]* = ALL",
     ),
     "setenv": ("alice ALL = NOSETENV: /bin/ls, ALL, /bin/cat", "Cmnd_Alias X = ALL"),
-    "group-form": ("alice ALL = (:operator) /bin/id",),
-    "reserved": ("Cmnd_Alias CWD = /bin/ls",),
+    "group-form": ("alice ALL = (:operator) /bin/id", "alice ALL = (root : %adm) /bin/ls"),
+    "reserved": ("Cmnd_Alias CWD = /bin/ls", "Host_Alias MAIL = web1"),
+    "arguments": (
+        "alice ALL = /bin/ls ^a, /bin/cat b$",
+        "alice ALL = /bin/ls ^-l",
+        "alice ALL = /bin/ -l",
+        "alice ALL = /bin/ls =",
+    ),
 }
 FURTHER: dict[str, Change] = {
     "return": in_turn(replaced(r"\r$", ""), _lines_without(r"\r(?:\n|\Z)")),

@@ -53,6 +53,7 @@ _CLASSES = {
     "setenv": Effect(COMMANDS, _ENVIRONMENT),
     "group-form": Effect(OTHER, "Answers to requests of logs that ask for no group may differ; who can become root does not."),
     "reserved": Effect(WHO, "sudo skips this line, and each rule that has the alias: each answer on this page may differ."),
+    "arguments": Effect(WHO, _LINE),
 }
 _PASSWORDS = Effect(PASSWORD, "Whether a password is asked, and whose, is not told on this page: it shows a question mark there.")
 _TARGET = "A rule that names no target is not for root, but for the user that this line names: each answer may differ."

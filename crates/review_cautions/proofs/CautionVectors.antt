@@ -19,14 +19,16 @@ use Rattle.sudo_grammar.specs.declared.policy.Runas.{Runas}
 use Rattle.sudo_grammar.specs.declared.policy.CommandSpec.{CommandSpec}
 use Rattle.sudo_grammar.specs.declared.policy.EntryBody.TheVariants as entries
 use Rattle.sudo_grammar.specs.declared.policy.Entry.{Entry}
-use Rattle.sudo_policy.specs.Definitions.{MemberList, granting_list}
+use Rattle.sudo_policy.specs.Definitions.{MemberList, granting_list, definition_in}
 use Rattle.review_cautions.specs.declared.class.CautionClass.TheVariants.{Return, BlankAfterBackslash, Join, TornMark}
 use Rattle.review_cautions.specs.declared.class.CautionClass.TheVariants.{IncludeEscape, IncludeIndent, Comment}
 use Rattle.review_cautions.specs.declared.class.CautionClass.TheVariants.{Caret, Escape, Case, QuotedHost, QuotedEscape, Linked, Defaults}
-use Rattle.review_cautions.specs.declared.class.CautionClass.TheVariants.{Sudoedit, Network, Bracket, Setenv, GroupForm, Reserved}
+use Rattle.review_cautions.specs.declared.class.CautionClass.TheVariants.{Sudoedit, Network, Bracket, Setenv}
+use Rattle.review_cautions.specs.declared.class.CautionClass.TheVariants.{GroupForm, Reserved, Arguments}
 use Rattle.review_cautions.specs.ListTests.{linking, usual_links}
 use Rattle.review_cautions.specs.Cautions.{caution_at, text_cautions, list_cautions, linked_cautions, parameter_cautions}
 use Rattle.review_cautions.specs.Cautions.{entry_cautions}
+use Rattle.review_cautions.specs.Uses.{deciding_in}
 
 -- the carriage return behind a command is dropped; that of a comment means nothing, nor does one behind `ALL`
 return : text_cautions Return ((codes "alice ALL = /bin/ls" ++ 13 ∷ 10 ∷ codes "# /bin/ls" ++ 13 ∷ 10
@@ -383,3 +385,59 @@ bracket_host : list_cautions Bracket
     ∷ list kinds.Host 3 (atoms.Host (map plain (codes "[[:upper:]]")) true) ∷ []) ≡ caution_at Bracket (place 0 1) ∷ []
 unfolding list member class
 bracket_host = refl
+
+-- `/opt/ -a`, `/opt/x ^a` and `/opt/x a =`, and not `/opt/`, `/opt/x \^a` and `/opt/x a=b`
+arguments : list_cautions Arguments
+    (list kinds.Cmnd 1 (command (map plain (codes "/opt/")) (map plain (codes "-a")))
+    ∷ list kinds.Cmnd 2 (command (map plain (codes "/opt/x")) (map plain (codes "^a")))
+    ∷ list kinds.Cmnd 3 (command (map plain (codes "/opt/x")) (map plain (codes "a =")))
+    ∷ list kinds.Cmnd 4 (atoms.Command (map plain (codes "/opt/")) None)
+    ∷ list kinds.Cmnd 5 (command (map plain (codes "/opt/x")) (escaped 94 ∷ plain 97 ∷ []))
+    ∷ list kinds.Cmnd 6 (command (map plain (codes "/opt/x")) (map plain (codes "a=b"))) ∷ [])
+    ≡ caution_at Arguments (place 0 1) ∷ caution_at Arguments (place 0 2) ∷ caution_at Arguments (place 0 3) ∷ []
+unfolding list member command
+arguments = refl
+
+-- an escape parts the pieces of arguments: `/opt/x a\,=` is read as two, and `/opt/x a\,=b` too
+escaped_equals : list_cautions Arguments
+    (list kinds.Cmnd 1 (command (map plain (codes "/opt/x")) (plain 97 ∷ escaped 44 ∷ plain 61 ∷ []))
+    ∷ list kinds.Cmnd 2 (command (map plain (codes "/opt/x")) (plain 97 ∷ escaped 44 ∷ plain 61 ∷ plain 98 ∷ [])) ∷ [])
+    ≡ caution_at Arguments (place 0 1) ∷ []
+unfolding list member command
+escaped_equals = refl
+
+-- `(root : %adm) ALL`, and not `(%adm : adm) ALL`
+group_of_users : entry_cautions GroupForm
+    (rule 1 (granted (Some (record {
+      users = Some (member (atoms.Name (codes "root")) ∷ []);
+      groups = Some (member (atoms.Group (codes "adm")) ∷ []);
+    })) [] atoms.All ∷ [])
+    ∷ rule 2 (granted (Some (record {
+      users = Some (member (atoms.Group (codes "adm")) ∷ []);
+      groups = Some (member (atoms.Name (codes "adm")) ∷ []);
+    })) [] atoms.All ∷ []) ∷ []) ≡ caution_at GroupForm (place 0 1) ∷ []
+unfolding rule granted member
+group_of_users = refl
+
+-- two definitions of hosts on a line, each with this member
+two_aliases : ℕ → Atom → Entry
+two_aliases line atom = record {
+  place = place 0 line;
+  body = entries.Aliases kinds.Host
+      (record { name = codes "X"; members = member atom ∷ [] } ∷ record { name = codes "Y"; members = member atom ∷ [] } ∷ []);
+}
+
+-- `Host_Alias X = MAIL : Y = MAIL`, and not `Host_Alias X = MAILS : Y = MAILS` and `Host_Alias X = MAIL`
+tag : entry_cautions Reserved (two_aliases 1 (atoms.Alias (codes "MAIL")) ∷ two_aliases 2 (atoms.Alias (codes "MAILS"))
+    ∷ alias kinds.Host 3 (atoms.Alias (codes "MAIL")) ∷ []) ≡ caution_at Reserved (place 0 1) ∷ []
+unfolding two_aliases alias member
+tag = refl
+
+-- where the alias of hosts `X` is unused, of `Host_Alias X = ALL : Y = ALL` the list of `Y` decides, and the alias of users `X` does too
+deciding : (deciding_in (definition_in kinds.Host (place 0 1) (record { name = codes "X"; members = [] }) ∷ []) (place 0 1)
+    (entries.Aliases kinds.Host (record { name = codes "X"; members = [] } ∷ record { name = codes "Y"; members = [] } ∷ []))
+    ≡ record { kind = kinds.Host; place = place 0 1; granting = false; members = [] } ∷ [])
+    × (deciding_in (definition_in kinds.Host (place 0 1) (record { name = codes "X"; members = [] }) ∷ []) (place 0 1)
+    (entries.Aliases kinds.User (record { name = codes "X"; members = [] } ∷ []))
+    ≡ record { kind = kinds.User; place = place 0 1; granting = false; members = [] } ∷ [])
+deciding = (refl, refl)

@@ -3,3 +3,4 @@ pub mod LineSteps
 pub mod CautionVectors
 pub mod MarkLaws
 pub mod CommentLaws
+pub mod UseLaws

@@ -14,7 +14,7 @@ use Rattle.review_cautions.specs.Brackets.{opens_bracket, arguments_have_caret, 
 use Rattle.review_cautions.specs.Brackets.{arguments_have_other_class, atom_has_caret, atom_has_other_bracket}
 use Rattle.review_cautions.specs.Escapes.{is_path_escape, is_argument_escape, arguments_have_escape, has_escape}
 use Rattle.review_cautions.specs.Escapes.{is_escaped, is_escaped_tab, unquoted, name_has_escape, group_id_has_escape}
-use Rattle.review_cautions.specs.Escapes.{is_escaped_mark, is_escaped_bracket_mark, may_have_bracket, host_has_escape}
+use Rattle.review_cautions.specs.Escapes.{is_escaped_mark, is_escaped_bracket_mark, host_has_escape}
 use Rattle.review_cautions.specs.Escapes.{begins_as_id, has_quoted_mark}
 use Rattle.review_cautions.specs.Escapes.{has_quoted_escape, is_escaped_byte, is_long_sudoedit}
 use Rattle.review_cautions.specs.Cautions.{list_cautions, caution_at, distinct_places}
@@ -24,7 +24,7 @@ use Rattle.review_cautions.specs.declared.class.CautionClass.TheVariants.{Includ
 use Rattle.review_cautions.specs.declared.class.CautionClass.TheVariants.{Caret, Escape, Case}
 use Rattle.review_cautions.specs.declared.class.CautionClass.TheVariants.{QuotedHost, QuotedEscape, Linked, Defaults}
 use Rattle.review_cautions.specs.declared.class.CautionClass.TheVariants.{UnknownParameter, Sudoedit, Network}
-use Rattle.review_cautions.specs.declared.class.CautionClass.TheVariants.{Bracket, Setenv, GroupForm, Reserved}
+use Rattle.review_cautions.specs.declared.class.CautionClass.TheVariants.{Bracket, Setenv, GroupForm, Reserved, Arguments}
 use Rattle.review_cautions.specs.declared.class.CautionClass.{CautionClass}
 use Rattle.review_cautions.specs.Marks.{is_plain, arguments_are_plain, atom_is_plain}
 use Rattle.review_cautions.specs.Marks.{token_is_plain, is_marked, list_is_marked, needs_mark}
@@ -262,6 +262,7 @@ unmarked Network n m h = grind arith
 unmarked Setenv n m h = refl
 unmarked GroupForm n m h = refl
 unmarked Reserved n m h = refl
+unmarked Arguments n m h = grind arith
 
 -- where no member passes one test, none passes the other
 none_passes : (p q : Member → Bool) → ((m : Member) → q m ≡ false → p m ≡ false) → (ms : List Member) → list_any q ms ≡ false

@@ -1,5 +1,5 @@
 -- The cautions on a policy, class by class.
-use Rattle.std.specs.Prelude.{ℕ, Bool, false, ◌&&◌, ◌==◌, nat_lt, nat_le, if◌then◌else◌, List, [], ◌∷◌, ◌++◌}
+use Rattle.std.specs.Prelude.{◌≡◌, ℕ, Bool, false, ◌&&◌, ◌==◌, nat_lt, nat_le, if◌then◌else◌, List, [], ◌∷◌, ◌++◌}
 use Rattle.std.specs.Prelude.{map, filter, find, flat_map, length, option_to_list, ◌^◌, Option, None, Some}
 use Rattle.std.specs.List.{enumerate_from}
 use Rattle.sudo_text.specs.Lines.{cut, place, text_limit}
@@ -16,10 +16,11 @@ use Rattle.review_cautions.specs.declared.class.CautionClass.TheVariants.{Return
 use Rattle.review_cautions.specs.declared.class.CautionClass.TheVariants.{IncludeEscape, IncludeIndent, Comment}
 use Rattle.review_cautions.specs.declared.class.CautionClass.TheVariants.{Caret, Escape, Case, QuotedHost, QuotedEscape, Linked, Defaults}
 use Rattle.review_cautions.specs.declared.class.CautionClass.TheVariants.{UnknownParameter, Sudoedit, Network, Bracket}
-use Rattle.review_cautions.specs.declared.class.CautionClass.TheVariants.{Setenv, GroupForm, Reserved}
+use Rattle.review_cautions.specs.declared.class.CautionClass.TheVariants.{Setenv, GroupForm, Reserved, Arguments}
 use Rattle.review_cautions.specs.PhysicalLines.{numbers_of}
 use Rattle.review_cautions.specs.declared.link.Link.{Link}
-use Rattle.review_cautions.specs.ListTests.{list_holds, list_is_linked, usual_links}
+use Rattle.review_cautions.specs.ListTests.{is_of_matching, list_holds, list_is_linked}
+use Rattle.review_cautions.specs.Uses.{AreDeciding}
 use Rattle.review_cautions.specs.Parameters.{decides, name_of}
 use Rattle.review_cautions.specs.KnownParameters.{is_unknown, shown_name}
 use Rattle.review_cautions.specs.EntryTests.{body_holds, rules_have_alias}
@@ -60,6 +61,14 @@ distinct_places before (at ∷ rest) =
 abbrev pub list_cautions : CautionClass → List MemberList → List Caution
 list_cautions class lists =
     map (caution_at class) (distinct_places None (map (λ (l : MemberList). l.place) (filter (list_holds class) lists)))
+
+-- the lists that are looked at for the class, of all and of those that decide
+abbrev pub looked_at : CautionClass → List MemberList → List MemberList → List MemberList
+looked_at class all deciding = if is_of_matching class then deciding else all
+
+-- the cautions of the class on the lists that are looked at for it
+abbrev pub class_cautions : CautionClass → List MemberList → List MemberList → List Caution
+class_cautions class all deciding = list_cautions class (looked_at class all deciding)
 
 -- the first list of commands that has a linked one, one caution for the whole policy
 abbrev pub linked_cautions : List Link → List MemberList → List Caution
@@ -110,19 +119,29 @@ cautions_among class used es =
 abbrev pub entry_cautions : CautionClass → List Entry → List Caution
 entry_cautions class es = cautions_among class (rules_have_alias es) es
 
--- the cautions on a policy whose files have these texts: the classes one after the other, in the order of `CautionClass`;
--- the machine has these links
-abbrev pub cautions_by_links : List Link → List (List ℕ) → Policy → List Caution
-cautions_by_links links texts policy =
+-- the cautions on the physical lines of a policy's files, class by class
+abbrev pub all_text_cautions : List (List ℕ) → List Caution
+all_text_cautions texts =
     text_cautions Return texts ++ text_cautions BlankAfterBackslash texts ++ text_cautions Join texts
     ++ text_cautions TornMark texts ++ text_cautions IncludeEscape texts ++ text_cautions IncludeIndent texts
     ++ text_cautions Comment texts
-    ++ list_cautions Caret (lists policy) ++ list_cautions Escape (lists policy) ++ list_cautions Case (lists policy)
-    ++ list_cautions QuotedHost (lists policy) ++ list_cautions QuotedEscape (lists policy) ++ linked_cautions links (lists policy)
-    ++ defaults_cautions policy.entries ++ unknown_cautions policy.entries
-    ++ list_cautions Sudoedit (lists policy) ++ list_cautions Network (lists policy) ++ list_cautions Bracket (lists policy)
-    ++ entry_cautions Setenv policy.entries ++ entry_cautions GroupForm policy.entries ++ entry_cautions Reserved policy.entries
 
--- the same where the machine has the usual links
-abbrev pub policy_cautions : List (List ℕ) → Policy → List Caution
-policy_cautions texts policy = cautions_by_links usual_links texts policy
+-- the cautions on a policy whose files have these texts, of whose lists these decide: the classes one after the other, in the
+-- order of `CautionClass`; the machine has these links
+abbrev pub cautions_by : List Link → List (List ℕ) → Policy → List MemberList → List Caution
+cautions_by links texts policy deciding =
+    all_text_cautions texts
+    ++ class_cautions Caret (lists policy) deciding ++ class_cautions Escape (lists policy) deciding
+    ++ class_cautions Case (lists policy) deciding ++ class_cautions QuotedHost (lists policy) deciding
+    ++ class_cautions QuotedEscape (lists policy) deciding ++ linked_cautions links (looked_at Linked (lists policy) deciding)
+    ++ defaults_cautions policy.entries ++ unknown_cautions policy.entries
+    ++ class_cautions Sudoedit (lists policy) deciding ++ class_cautions Network (lists policy) deciding
+    ++ class_cautions Bracket (lists policy) deciding
+    ++ entry_cautions Setenv policy.entries ++ entry_cautions GroupForm policy.entries ++ entry_cautions Reserved policy.entries
+    ++ class_cautions Arguments (lists policy) deciding
+
+-- these are the cautions on a policy whose files have these texts, where the machine has these links
+pub record AreCautionsOn (links : List Link) (texts : List (List ℕ)) (policy : Policy) (found : List Caution) : Type 0 where
+  pub deciding : List MemberList
+  pub are_deciding : AreDeciding policy deciding
+  pub found_are : found ≡ cautions_by links texts policy deciding

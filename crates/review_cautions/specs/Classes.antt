@@ -5,13 +5,13 @@ use Rattle.review_cautions.specs.declared.class.CautionClass.TheVariants.{Return
 use Rattle.review_cautions.specs.declared.class.CautionClass.TheVariants.{IncludeEscape, IncludeIndent, Comment}
 use Rattle.review_cautions.specs.declared.class.CautionClass.TheVariants.{Caret, Escape, Case, QuotedHost, QuotedEscape, Linked, Defaults}
 use Rattle.review_cautions.specs.declared.class.CautionClass.TheVariants.{UnknownParameter, Sudoedit, Network, Bracket}
-use Rattle.review_cautions.specs.declared.class.CautionClass.TheVariants.{Setenv, GroupForm, Reserved}
+use Rattle.review_cautions.specs.declared.class.CautionClass.TheVariants.{Setenv, GroupForm, Reserved, Arguments}
 
 -- the classes, in the order in which they are listed
 abbrev pub classes : List CautionClass
 classes = Return ∷ BlankAfterBackslash ∷ Join ∷ TornMark ∷ IncludeEscape ∷ IncludeIndent ∷ Comment ∷ Caret ∷ Escape ∷ Case
     ∷ QuotedHost ∷ QuotedEscape ∷ Linked ∷ Defaults ∷ UnknownParameter ∷ Sudoedit ∷ Network ∷ Bracket ∷ Setenv ∷ GroupForm
-    ∷ Reserved ∷ []
+    ∷ Reserved ∷ Arguments ∷ []
 
 -- the name of a class
 abbrev pub class_name : CautionClass → List ℕ
@@ -36,6 +36,7 @@ class_name Bracket = codes "bracket"
 class_name Setenv = codes "setenv"
 class_name GroupForm = codes "group-form"
 class_name Reserved = codes "reserved"
+class_name Arguments = codes "arguments"
 
 -- what the reader does with the construct, and what sudo does
 abbrev pub class_text : CautionClass → List ℕ
@@ -66,6 +67,8 @@ class_text Bracket = codes "a bracket is read otherwise by sudo: a slash, a clas
 class_text Setenv =
     codes "SETENV is given otherwise: ALL has it for sudo whatever the tag, an alias of ALL has it here alone"
 class_text GroupForm =
-    codes "a runas names no user: allowed here also where no group is asked for, for sudo only with a group"
+    codes "a runas names no user, which sudo allows only where a group is asked for, or a group by %, which it refuses"
 class_text Reserved =
-    codes "an alias has the name of an option: an alias here, for sudo a reserved word, and the line is refused"
+    codes "an alias has the name of an option, or of a tag before a colon: read here, reserved for sudo, which refuses the line"
+class_text Arguments =
+    codes "arguments stand behind a folder, begin with ^, or one is = alone: arguments here, mostly refused by sudo"

@@ -1,8 +1,7 @@
 -- What the rules and the definitions of a policy contain. sudoers(5), "Runas_Spec", "Tag_Spec" and "SETENV and NOSETENV".
-use Rattle.std.specs.Prelude.{ℕ, Bool, true, false, not, ◌&&◌, ◌||◌, ◌==◌, ◌%◌, if◌then◌else◌, List, [], ◌∷◌, fold, codes}
+use Rattle.std.specs.Prelude.{Bool, true, false, not, ◌&&◌, ◌||◌, ◌==◌, ◌%◌, if◌then◌else◌, List, [], ◌∷◌, fold}
 use Rattle.std.specs.Prelude.{Option, None, Some, is_some}
 use Rattle.std.specs.List.{list_any}
-use Rattle.std.specs.Str.{bytes_eq}
 use Rattle.sudo_grammar.specs.declared.kind.Atom.{Atom}
 use Rattle.sudo_grammar.specs.declared.kind.Atom.TheVariants as atoms
 use Rattle.sudo_grammar.specs.declared.kind.Member.{Member}
@@ -17,6 +16,7 @@ use Rattle.sudo_grammar.specs.declared.policy.EntryBody.{EntryBody}
 use Rattle.sudo_grammar.specs.declared.policy.EntryBody.TheVariants as entries
 use Rattle.sudo_grammar.specs.declared.policy.Entry.{Entry}
 use Rattle.review_cautions.specs.ListTests.{is_of_commands}
+use Rattle.review_cautions.specs.ReservedNames.{body_is_reserved}
 use Rattle.review_cautions.specs.declared.class.CautionClass.{CautionClass}
 use Rattle.review_cautions.specs.declared.class.CautionClass.TheVariants.{Setenv, GroupForm, Reserved}
 
@@ -25,9 +25,26 @@ abbrev pub names_groups_alone : Option Runas → Bool
 names_groups_alone None = false
 names_groups_alone (Some part) = not (is_some part.users) && is_some part.groups
 
--- a command of the section has such a runas
+-- `%group` or `%#gid`, which names users for sudo, and no group
+abbrev pub is_group_of_users : Atom → Bool
+is_group_of_users (atoms.Group name) = true
+is_group_of_users (atoms.Gid id) = true
+is_group_of_users _ = false
+
+-- such a member stands in a list of groups, if there is one
+abbrev pub has_group_of_users : Option (List Member) → Bool
+has_group_of_users None = false
+has_group_of_users (Some groups) = list_any (λ (m : Member). is_group_of_users m.atom) groups
+
+-- a command's own runas, if it has one, has such a member among its groups, where sudo refuses it
+abbrev pub names_users_as_groups : Option Runas → Bool
+names_users_as_groups None = false
+names_users_as_groups (Some part) = has_group_of_users part.groups
+
+-- a command of the section has a runas of one of the two kinds
 abbrev pub has_group_form : Section → Bool
-has_group_form section = list_any (λ (c : CommandSpec). names_groups_alone c.runas) section.commands
+has_group_form section =
+    list_any (λ (c : CommandSpec). names_groups_alone c.runas || names_users_as_groups c.runas) section.commands
 
 -- a rule with such a section
 abbrev pub body_has_group_form : EntryBody → Bool
@@ -120,20 +137,9 @@ body_has_environment used (entries.Aliases kind definitions) =
     used && is_of_commands kind && list_any defines_all definitions
 body_has_environment used _ = false
 
--- the name of an option, which no alias has for sudo: it reserves the names. sudoers(5), "Option_Spec"
-abbrev pub is_option : List ℕ → Bool
-is_option name = bytes_eq name (codes "TIMEOUT") || bytes_eq name (codes "NOTBEFORE") || bytes_eq name (codes "NOTAFTER")
-    || bytes_eq name (codes "CWD") || bytes_eq name (codes "CHROOT") || bytes_eq name (codes "ROLE") || bytes_eq name (codes "TYPE")
-    || bytes_eq name (codes "APPARMOR_PROFILE") || bytes_eq name (codes "PRIVS") || bytes_eq name (codes "LIMITPRIVS")
-
--- definitions, one of them under such a name
-abbrev pub body_names_option : EntryBody → Bool
-body_names_option (entries.Aliases kind definitions) = list_any (λ (d : Definition). is_option d.name) definitions
-body_names_option _ = false
-
 -- an entry with this content has the construct of the class; `used`: a rule has an alias among its commands
 abbrev pub body_holds : CautionClass → Bool → EntryBody → Bool
 body_holds Setenv used body = body_has_environment used body
 body_holds GroupForm used body = body_has_group_form body
-body_holds Reserved used body = body_names_option body
+body_holds Reserved used body = body_is_reserved body
 body_holds _ used body = false

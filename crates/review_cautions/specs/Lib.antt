@@ -3,10 +3,14 @@ pub mod PhysicalLines
 pub mod Brackets
 pub mod Escapes
 pub mod Addresses
+pub mod Arguments
 pub mod Marks
 pub mod ListTests
+pub mod ReservedNames
 pub mod EntryTests
+pub mod Uses
 pub mod Parameters
 pub mod KnownParameters
 pub mod Cautions
 pub mod PasswordDefaults
+pub mod Body

@@ -12,12 +12,13 @@ use Rattle.sudo_grammar.specs.declared.kind.Member.{Member}
 use Rattle.sudo_grammar.specs.Words.{is_upper, bytes_of}
 use Rattle.sudo_policy.specs.Definitions.{MemberList}
 use Rattle.review_cautions.specs.Addresses.{has_other_address}
+use Rattle.review_cautions.specs.Arguments.{atom_has_refused_arguments}
 use Rattle.review_cautions.specs.Brackets.{atom_has_caret, atom_has_other_bracket}
 use Rattle.review_cautions.specs.declared.link.Link.{Link}
 use Rattle.review_cautions.specs.Escapes.{has_other_escape, has_quoted_mark, has_quoted_escape}
 use Rattle.review_cautions.specs.declared.class.CautionClass.{CautionClass}
-use Rattle.review_cautions.specs.declared.class.CautionClass.TheVariants.{Caret, Escape, Case, QuotedHost, QuotedEscape}
-use Rattle.review_cautions.specs.declared.class.CautionClass.TheVariants.{Sudoedit, Network, Bracket}
+use Rattle.review_cautions.specs.declared.class.CautionClass.TheVariants.{Caret, Escape, Case, QuotedHost, QuotedEscape, Linked}
+use Rattle.review_cautions.specs.declared.class.CautionClass.TheVariants.{Sudoedit, Network, Bracket, Arguments}
 
 -- a wildcard that no escape yields: `*`, `?` or `[`
 abbrev pub is_wildcard : Ch → Bool
@@ -82,6 +83,7 @@ concerns Sudoedit kinds.Cmnd = true
 concerns Network kinds.Host = true
 concerns Bracket kinds.Host = true
 concerns Bracket kinds.Cmnd = true
+concerns Arguments kinds.Cmnd = true
 concerns _ _ = false
 
 -- the member has the construct of the class
@@ -94,11 +96,23 @@ member_holds QuotedEscape m = has_quoted_escape m.token.kind
 member_holds Sudoedit m = atom_is_sudoedit m.atom
 member_holds Network m = has_other_address m
 member_holds Bracket m = atom_has_other_bracket m.atom
+member_holds Arguments m = atom_has_refused_arguments m.atom
 member_holds _ m = false
 
 -- a member of the list has the construct of the class
 abbrev pub list_holds : CautionClass → MemberList → Bool
 list_holds class list = concerns class list.kind && list_any (member_holds class) list.members
+
+-- a construct of the class changes what a list matches, and nothing else: sudo reads it, and a list that decides nothing may
+-- match what it will. Those of `Escape`, `QuotedEscape`, `Sudoedit` and `Arguments` it refuses, all or in part, wherever they stand
+abbrev pub is_of_matching : CautionClass → Bool
+is_of_matching Caret = true
+is_of_matching Case = true
+is_of_matching QuotedHost = true
+is_of_matching Linked = true
+is_of_matching Network = true
+is_of_matching Bracket = true
+is_of_matching _ = false
 
 -- commands
 abbrev pub is_of_commands : Kind → Bool

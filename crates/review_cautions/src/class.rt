@@ -43,10 +43,12 @@ pub enum CautionClass {
     Bracket,
     /// `ALL` among commands, where SETENV is given or an alias stands for it.
     Setenv,
-    /// A runas that names no user.
+    /// A runas that names no user, or `%group` as a group.
     GroupForm,
-    /// An alias with the name of an option.
+    /// An alias with the name of an option, or one with that of a tag before a colon.
     Reserved,
+    /// Arguments behind a folder, that begin with `^`, or of which one is `=` alone.
+    Arguments,
 }
 
 impl CautionClass {
@@ -76,6 +78,7 @@ impl CautionClass {
             CautionClass::Setenv => b"setenv",
             CautionClass::GroupForm => b"group-form",
             CautionClass::Reserved => b"reserved",
+            CautionClass::Arguments => b"arguments",
         }
     }
 
@@ -140,17 +143,20 @@ impl CautionClass {
                 b"SETENV is given otherwise: ALL has it for sudo whatever the tag, an alias of ALL has it here alone"
             }
             CautionClass::GroupForm => {
-                b"a runas names no user: allowed here also where no group is asked for, for sudo only with a group"
+                b"a runas names no user, which sudo allows only where a group is asked for, or a group by %, which it refuses"
             }
             CautionClass::Reserved => {
-                b"an alias has the name of an option: an alias here, for sudo a reserved word, and the line is refused"
+                b"an alias has the name of an option, or of a tag before a colon: read here, reserved for sudo, which refuses the line"
+            }
+            CautionClass::Arguments => {
+                b"arguments stand behind a folder, begin with ^, or one is = alone: arguments here, mostly refused by sudo"
             }
         }
     }
 }
 
 /// The classes, in the order in which they are listed.
-pub const CAUTION_CLASSES: [CautionClass; 21] = [
+pub const CAUTION_CLASSES: [CautionClass; 22] = [
     CautionClass::Return,
     CautionClass::BlankAfterBackslash,
     CautionClass::Join,
@@ -172,6 +178,7 @@ pub const CAUTION_CLASSES: [CautionClass; 21] = [
     CautionClass::Setenv,
     CautionClass::GroupForm,
     CautionClass::Reserved,
+    CautionClass::Arguments,
 ];
 
 // Returns the first class of a name.

@@ -4,12 +4,13 @@ ghost use Rattle.std.specs.List.{list_any};
 ghost use Rattle.review_cautions.specs.EntryTests as spec;
 ghost use Rattle.review_cautions.specs.Cautions.{caution_at, entry_cautions};
 
-use crate::reserved::body_names_option;
+use crate::reserved::body_is_reserved;
 use crate::{Caution, CautionClass};
 use std::alloc::{AllocError, Global};
 use sudo_policy::{
     Atom, CommandSpec, Definition, Entry, EntryBody, Kind, Member, Runas, Section, Tag, TagPair,
 };
+use sudo_text::Seq;
 
 // Whether a runas, if there is one, has a list of groups alone.
 fn names_groups_alone(runas: &Option<Runas>) -> bool
@@ -21,14 +22,48 @@ fn names_groups_alone(runas: &Option<Runas>) -> bool
     }
 }
 
-// Whether a command of a section has such a runas.
+// Whether an atom is `%group` or `%#gid`.
+fn is_group_of_users(atom: &Atom) -> bool
+    ensures { result ≡ spec.is_group_of_users atom.now }
+{
+    matches!(atom, Atom::Group(_) | Atom::Gid(_))
+}
+
+// Whether such a member stands in a list of groups, if there is one.
+fn has_group_of_users(groups: &Option<Seq<Member>>) -> bool
+    ensures { result ≡ spec.has_group_of_users groups.now }
+{
+    match groups {
+        Some(groups) => are_groups_of_users(groups.as_slice()),
+        None => false,
+    }
+}
+
+// Whether one of some members is such.
+fn are_groups_of_users(members: &[Member]) -> bool
+    ensures { result ≡ list_any (λ m. spec.is_group_of_users m.atom) members.now }
+{
+    members.iter().any(|member| is_group_of_users(&member.atom))
+}
+
+// Whether a runas, if there is one, has such a member among its groups.
+fn names_users_as_groups(runas: &Option<Runas>) -> bool
+    ensures { result ≡ spec.names_users_as_groups runas.now }
+{
+    match runas {
+        Some(runas) => has_group_of_users(&runas.groups),
+        None => false,
+    }
+}
+
+// Whether a command of a section has a runas of one of the two kinds.
 fn has_group_form(section: &Section) -> bool
     ensures { result ≡ spec.has_group_form section.now }
 {
     let commands = section.commands.as_slice();
-    commands
-        .iter()
-        .any(|command| names_groups_alone(&command.runas))
+    commands.iter().any(|command| {
+        names_groups_alone(&command.runas) || names_users_as_groups(&command.runas)
+    })
 }
 
 // Whether one of the sections is such.
@@ -234,7 +269,7 @@ fn body_holds(class: CautionClass, used: bool, body: &EntryBody) -> bool
     match class {
         CautionClass::Setenv => body_has_environment(used, body),
         CautionClass::GroupForm => body_has_group_form(body),
-        CautionClass::Reserved => body_names_option(body),
+        CautionClass::Reserved => body_is_reserved(body),
         _ => false,
     }
 }

@@ -4,6 +4,7 @@
 #![tactic(auto)]
 
 mod addresses;
+mod arguments;
 mod brackets;
 mod bytes;
 mod caution;
@@ -21,6 +22,7 @@ mod marks;
 mod passwords;
 mod reserved;
 mod unknown;
+mod uses;
 
 pub use caution::Caution;
 pub use class::{CAUTION_CLASSES, CautionClass, class_named};

@@ -8,6 +8,7 @@ ghost use Rattle.review_cautions.specs.ListTests as spec;
 ghost use Rattle.review_cautions.specs.Cautions as cautions;
 
 use crate::addresses::has_other_address;
+use crate::arguments::atom_has_refused_arguments;
 use crate::brackets::{atom_has_caret, atom_has_other_bracket};
 use crate::bytes::spells;
 use crate::escapes::{has_other_escape, has_quoted_escape, has_quoted_mark};
@@ -112,6 +113,7 @@ fn concerns(class: CautionClass, kind: Kind) -> bool
         CautionClass::Sudoedit => matches!(kind, Kind::Cmnd),
         CautionClass::Network => matches!(kind, Kind::Host),
         CautionClass::Bracket => matches!(kind, Kind::Host | Kind::Cmnd),
+        CautionClass::Arguments => matches!(kind, Kind::Cmnd),
         _ => false,
     }
 }
@@ -129,6 +131,7 @@ fn member_holds(class: CautionClass, member: &Member) -> bool
         CautionClass::Sudoedit => atom_is_sudoedit(&member.atom),
         CautionClass::Network => has_other_address(member),
         CautionClass::Bracket => atom_has_other_bracket(&member.atom),
+        CautionClass::Arguments => atom_has_refused_arguments(&member.atom),
         _ => false,
     }
 }
@@ -145,6 +148,21 @@ fn list_holds(class: CautionClass, list: &MemberList<'_>) -> bool
     ensures { result ≡ spec.list_holds class (list_view list.now) }
 {
     concerns(class, list.kind) && members_hold(class, list.members)
+}
+
+/// Whether a construct of a class changes what a list matches, and nothing else.
+pub(crate) fn is_of_matching(class: CautionClass) -> bool
+    ensures { result ≡ spec.is_of_matching class }
+{
+    matches!(
+        class,
+        CautionClass::Caret
+            | CautionClass::Case
+            | CautionClass::QuotedHost
+            | CautionClass::Linked
+            | CautionClass::Network
+            | CautionClass::Bracket
+    )
 }
 
 // Whether one of the members is a linked command.

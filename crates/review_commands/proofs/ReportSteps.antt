@@ -10,9 +10,7 @@ use Rattle.run_base.specs.Loading.{IsChecked, IsLoadedFrom}
 use Rattle.sudo_grammar.specs.declared.policy.Policy.{Policy}
 use Rattle.sudo_load.specs.declared.supply.Supply.{Supply}
 use Rattle.sudo_policy.specs.Checking.{Passes}
-use Rattle.review_cautions.specs.Cautions.{policy_cautions}
-use Rattle.review_commands.specs.Body.Reviewing.{IsPrintedReview}
-use Rattle.review_commands.specs.CautionLines.{notice_text}
+use Rattle.review_commands.specs.Body.Reviewing.{IsNoticeOn, IsPrintedReview}
 use Rattle.review_commands.specs.FileTexts.{texts_of}
 use Rattle.review_commands.specs.Reviewing.{IsReviewed}
 use Rattle.review_commands.specs.declared.report.Form.{Form}
@@ -27,7 +25,7 @@ pub reviewed_of : (given : Given) (form : Form) (main : List ℕ) (handed : List
     ReportFault)
     (notice : List ℕ) (r : Result NotedOutput ReportFault)
     → IsLoadedFrom given.held given.path main handed policy
-    → notice ≡ notice_text (policy_cautions (texts_of main handed policy.files) policy)
+    → IsNoticeOn (texts_of main handed policy.files) policy notice
     → IfOk answered (λ report. IsAnswer given policy (Ok report))
     → IfOk r (λ p. IsPrintedReview policy form answered p.text.items)
     → IfOk r (λ p. (p.notice.items ≡ notice) × (p.status ≡ 0))
@@ -35,11 +33,11 @@ pub reviewed_of : (given : Given) (form : Form) (main : List ℕ) (handed : List
 reviewed_of given form main handed policy answered notice (Ok p) loaded is answer h same = record {
   policy = policy;
   report = h.report;
-  found = policy_cautions (texts_of main handed policy.files) policy;
+  found = is.found;
   answer = subst (λ a. IfOk a (λ report. IsAnswer given policy (Ok report))) h.is_report answer;
-  are = record { main = main; handed = handed; loaded = loaded; found_are = refl };
+  are = record { main = main; handed = handed; loaded = loaded; found_are = is.are };
   text_is = h.text_is;
-  notice_is = same.0 ∙ is;
+  notice_is = same.0 ∙ is.line_is;
   status_is = same.1;
 }
 reviewed_of given form main handed policy answered notice (Err fault) loaded is answer h same = tt

@@ -6,7 +6,7 @@ use Rattle.audit_collect.specs.declared.report.Report.{Report}
 use Rattle.audit_commands.specs.Auditing.{Given, IsAnswer}
 use Rattle.run_base.specs.Holding.{Holdings}
 use Rattle.run_base.specs.Loading.{IsLoadedFrom}
-use Rattle.review_cautions.specs.Cautions.{cautions_by_links}
+use Rattle.review_cautions.specs.Cautions.{AreCautionsOn}
 use Rattle.review_cautions.specs.ListTests.{usual_links}
 use Rattle.review_cautions.specs.declared.caution.Caution.{Caution}
 use Rattle.review_cautions.specs.declared.class.CautionClass.{CautionClass}
@@ -26,7 +26,7 @@ pub record AreCautionsBy (links : List Link) (held : Option Holdings) (path : Li
   pub main : List ℕ
   pub handed : List Supply
   pub loaded : IsLoadedFrom held path main handed policy
-  pub found_are : found ≡ cautions_by_links links (texts_of main handed policy.files) policy
+  pub found_are : AreCautionsOn links (texts_of main handed policy.files) policy found
 
 -- the same on a machine that has the usual links
 abbrev pub AreCautions : Option Holdings → List ℕ → Policy → List Caution → Type 0

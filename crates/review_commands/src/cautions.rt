@@ -2,7 +2,8 @@
 ghost use Rattle.std.specs.Prelude.{◌≡◌, IfErr, IfOk};
 ghost use Rattle.run_base.specs.Endings.{writer_states as sent, Ends};
 ghost use Rattle.run_base.specs.Loading.{IsNoPolicy};
-ghost use Rattle.review_cautions.specs.Cautions.{cautions_by_links as spec_by_links, policy_cautions};
+ghost use Rattle.review_cautions.specs.Cautions.{AreCautionsOn};
+ghost use Rattle.review_cautions.specs.ListTests as lists_spec;
 ghost use Rattle.review_commands.specs.CautionLines.{cautions_notices, is_without, kept_cautions};
 ghost use Rattle.review_commands.specs.Reviewing.{IsCautioned};
 ghost use Rattle.review_commands.specs.FileTexts.{texts_of};
@@ -44,8 +45,7 @@ fn found_by_links(
     policy: &Policy,
 ) -> Result<Vec<Caution>, AllocError>
     ensures { let texts = texts_of main.now supplies.now policy.now.files in
-        IfOk result (λ found. found.items
-        ≡ spec_by_links links.now texts policy.now) }
+        IfOk result (λ found. AreCautionsOn links.now texts policy.now found.items) }
 {
     let texts = file_texts(
         alloc,
@@ -66,7 +66,7 @@ pub(crate) fn found_in(
     policy: &Policy,
 ) -> Result<Vec<Caution>, AllocError>
     ensures { let texts = texts_of main.now supplies.now policy.now.files in
-        IfOk result (λ found. found.items ≡ policy_cautions texts policy.now) }
+        IfOk result (λ found. AreCautionsOn lists_spec.usual_links texts policy.now found.items) }
 {
     let links = usual_links(alloc)?;
     found_by_links(alloc, &links, main, supplies, policy)

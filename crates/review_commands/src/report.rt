@@ -2,10 +2,9 @@
 ghost use Rattle.std.specs.Prelude.{◌≡◌, ◌≤◌, ◌⊎◌, ℕ, List, Ok, Err, IfErr, IfOk, map};
 ghost use Rattle.run_base.specs.Endings.{writer_states as sent};
 ghost use Rattle.audit_commands.specs.Auditing.{Given, given_by, IsNotAudited};
-ghost use Rattle.review_commands.specs.Body.Reviewing.{IsPrintedReview};
-ghost use Rattle.review_commands.specs.CautionLines.{notice_text, report_notices};
+ghost use Rattle.review_commands.specs.Body.Reviewing.{IsNoticeOn, IsPrintedReview};
+ghost use Rattle.review_commands.specs.CautionLines.{report_notices};
 ghost use Rattle.review_commands.specs.Endings.{EndsNoted};
-ghost use Rattle.review_cautions.specs.Cautions.{policy_cautions};
 ghost use Rattle.review_commands.specs.FileTexts.{texts_of};
 ghost use Rattle.review_commands.specs.Reviewing.{IsReviewed, text_in};
 
@@ -30,8 +29,7 @@ use sudo_policy::Checked;
 pub(crate) fn notice_on(alloc: Global, checked: &CheckedFiles) -> Result<Vec<u8>, AllocError>
     ensures { let files = checked.now.policy.files in
         let texts = texts_of checked.now.text checked.now.supplies files in
-        IfOk result (λ line. line.items
-        ≡ notice_text (policy_cautions texts checked.now.policy)) }
+        IfOk result (λ line. IsNoticeOn texts checked.now.policy line.items) }
 {
     let policy = checked.policy.policy();
     let found = found_in(alloc, &checked.text, &checked.supplies, policy)?;

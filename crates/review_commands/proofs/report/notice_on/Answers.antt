@@ -1,8 +1,8 @@
-use Rattle.std.proofs.Common.{◌≡◌, ◌∙◌, List, ap, subst}
-use Rattle.std.specs.Prelude.{IfOk}
+use Rattle.std.proofs.Common.{◌≡◌, ◌∙◌, ap, subst}
+use Rattle.std.proofs.lemmas.Result.{IfOk-weaker}
 use Rattle.sudo_grammar.specs.declared.policy.Policy.{Policy}
-use Rattle.review_cautions.specs.Cautions.{policy_cautions}
-use Rattle.review_cautions.specs.declared.caution.Caution.{Caution}
+use Rattle.review_cautions.specs.Cautions.{AreCautionsOn}
+use Rattle.review_cautions.specs.ListTests.{usual_links}
 use Rattle.review_commands.specs.CautionLines.{notice_text}
 use Rattle.review_commands.specs.FileTexts.{texts_of}
 use Rattle.review_commands.proofs.report.notice_on.Goals as goal
@@ -10,7 +10,10 @@ use Rattle.review_commands.proofs.report.notice_on.Goals as goal
 pub returns : goal.returns
 returns c =
     let checked = c.args.checked.now in
-    let found : c.in_ok-found.found.items ≡ policy_cautions (texts_of checked.text checked.supplies checked.policy.files) checked.policy =
-    c.in_ok-found.ensures
-    ∙ ap (λ (p : Policy). policy_cautions (texts_of checked.text checked.supplies p.files) p) c.policy-policy.ensures.value in
-    subst (λ (f : List Caution). IfOk c.notice.result (λ line. line.items ≡ notice_text f)) (c.deref.ensures.value ∙ found) c.notice.ensures
+    let found : AreCautionsOn usual_links (texts_of checked.text checked.supplies checked.policy.files) checked.policy
+    c.in_ok-found.found.items =
+    subst (λ (p : Policy). AreCautionsOn usual_links (texts_of checked.text checked.supplies p.files) p c.in_ok-found.found.items)
+    c.policy-policy.ensures.value c.in_ok-found.ensures in
+    IfOk-weaker c.notice.result _ _
+    (λ line is. record { found = c.in_ok-found.found.items; are = found; line_is = is ∙ ap notice_text c.deref.ensures.value })
+    c.notice.ensures
