@@ -199,7 +199,7 @@ class Draw(listing.Draw):
     def runas(self) -> listing.Runas:
         """Draws whom to run as: a user, a group or both."""
         users = self.one("alice", "operator", "#11", "%#37", "root") if self.random.random() < 0.7 else None
-        return listing.Runas(users, self.one("adm", "operator", "#37") if users is None or self.random.random() < 0.2 else None)
+        return listing.Runas(users, self.one("adm", "operator", "#37", "ALL") if users is None or self.random.random() < 0.2 else None)
 
     def commands(self) -> list[listing.Command]:
         """Draws the commands of a rule: most are `ALL`, some of them but for others."""
