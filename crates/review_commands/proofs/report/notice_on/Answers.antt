@@ -1,4 +1,4 @@
-use Rattle.std.proofs.Common.{◌≡◌, ◌∙◌, ap, subst}
+use Rattle.std.proofs.Common.{◌∙◌, ap, subst}
 use Rattle.std.proofs.lemmas.Result.{IfOk-weaker}
 use Rattle.sudo_grammar.specs.declared.policy.Policy.{Policy}
 use Rattle.review_cautions.specs.Cautions.{AreCautionsOn}
