@@ -27,8 +27,10 @@ tools-test:
 
 # Builds the programs, checks the example policy, writes two of its aliases out, audits the example's requests, and shows what
 # sudo reads or judges otherwise there, the requests beside their answers, who can become root, the grants of a user on a host,
-# what reaches nobody, and how many requests each rule decides. Status 5 says that something was found.
-KNOWN := ../../examples/sudoers --users ../../examples/users.csv --hosts ../../examples/hosts.csv
+# what reaches nobody, how many requests each rule decides, and what a change of the policy does for a user. Status 5 says that
+# something was found.
+DIRECTORY := --users ../../examples/users.csv --hosts ../../examples/hosts.csv
+KNOWN := ../../examples/sudoers $(DIRECTORY)
 AUDITED := $(KNOWN) web=../../examples/web.csv ops=../../examples/ops-odd.csv ops=../../examples/ops-even.csv
 run:
 	cd crates/sudo_audit && rt run -- check ../../examples/sudoers
@@ -41,5 +43,6 @@ run:
 	cd crates/sudo_review && rt run -- grants $(KNOWN) --user wim --host web1.example.org
 	cd crates/sudo_review && rt run -- subjects $(KNOWN) || [ $$? -eq 5 ]
 	cd crates/sudo_review && rt run -- rules $(AUDITED)
+	cd crates/sudo_review && rt run -- compare ../../examples/sudoers ../../examples/sudoers-next $(DIRECTORY) --user wim || [ $$? -eq 5 ]
 
 include packaging/install.mk

@@ -129,7 +129,7 @@ class Contracts(unittest.TestCase):
 
     def test_the_readme(self) -> None:
         rows = list(rows_of("README.md", ["Guarantee", "Function", "Clauses", "Definitions"]))
-        self.assertEqual(len(rows), 19)
+        self.assertEqual(len(rows), 21)
         for _, (_, functions, clauses, definitions) in rows:
             self.holds("", functions, clauses, definitions)
 
@@ -239,13 +239,13 @@ class Examples(unittest.TestCase):
 
     @needs_review
     def test_the_review(self) -> None:
-        self.assertEqual(self.shows(text_of("docs/REVIEW.md").splitlines()), 10)
+        self.assertEqual(self.shows(text_of("docs/REVIEW.md").splitlines()), 11)
 
     @needs_review
     def test_the_manual_page_of_the_review(self) -> None:
         page = "\n".join(lines_of_manual("docs/sudo_review.1"))
         block = page.partition("\n.SH EXAMPLES\n.nf\n")[2].partition("\n.fi\n")[0]
-        self.assertEqual(self.shows([f"    {line}" for line in block.splitlines()]), 5)
+        self.assertEqual(self.shows([f"    {line}" for line in block.splitlines()]), 6)
 
 
 if __name__ == "__main__":

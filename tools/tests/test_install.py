@@ -250,7 +250,7 @@ class Completions(unittest.TestCase):
                 self.assertGreater(len(commands), 1)
                 self.assertEqual(self.proposed(program, ""), [*commands, "help", "--help", "--version"])
                 self.assertEqual(self.proposed(program, "help", ""), commands)
-                self.assertEqual(self.proposed(program, "help", commands[0][:1]), commands[:1])
+                self.assertEqual(self.proposed(program, "help", commands[0][:3]), commands[:1])
 
     def test_words_of_commands(self) -> None:
         for program, command in (("sudo_audit", "audit"), ("sudo_review", "report"), ("sudo_review", "rules")):
@@ -266,6 +266,8 @@ class Completions(unittest.TestCase):
         self.assertEqual(self.proposed("sudo_review", "grants", "p", "-"), options)
         self.assertEqual(self.proposed("sudo_review", "roots", "p", "-"), ["--root", "--users", "--hosts", "--all", "--help"])
         self.assertEqual(self.proposed("sudo_review", "subjects", "p", "-"), ["--root", "--users", "--hosts", "--help"])
+        options = ["--users", "--hosts", "--user", "--host", "--help"]
+        self.assertEqual(self.proposed("sudo_review", "compare", "p", "q", "-"), options)
         self.assertEqual(self.proposed("sudo_review", "subjects", "p", "--users", "d"), ["a file for d"])
         self.assertEqual(self.proposed("sudo_audit", "expand", "p", "h"), ["host"])
 

@@ -59,6 +59,7 @@ RULES = AUDIT.replace("audit", "rules")
 GRANTS = "grants p --users users --hosts hosts"
 SUBJECTS = GRANTS.replace("grants", "subjects")
 ROOTS = GRANTS.replace("grants", "roots")
+COMPARE = GRANTS.replace("grants p", "compare i p")
 STEPS = "%adm ALL = (ALL) ALL\noperator ALL = (: adm) ALL\nbob ALL = (operator) /opt/sh\n"
 MANY = "Defaults targetpw\nAlice ALL = /bin/ls [^-]*\\\n-l, /bin/cat a\\ \n #include \\i\n"
 MANY += '"al\\ice" web\\*, "web?", 0.0.0.0/0 = (:adm) SETENV: /opt/sudoedit, /opt/x [[.a.]], ALL\n'
@@ -82,6 +83,11 @@ OF_REVIEW = {
     "subjects with cautions": (MANY + "User_Alias NONE = carol, !%adm\nNONE 10.9.0.0/16 = (dan : #9) ALL\n", SUBJECTS, 5),
     "subjects of errors": (CYCLES, SUBJECTS, 1),
     "subjects of a user twice": (TAGS, SUBJECTS.replace("users users", "users twice"), 3),
+    "a comparison": (TAGS, COMPARE, 5),
+    "a comparison with cautions": (MANY + "alice ALL = /opt/[a-z], (bob) NOPASSWD: /opt/b*\n", f"{COMPARE} --user alice", 5),
+    "a comparison without a difference": ("Cmnd_Alias K = /bin/kill\n", COMPARE, 0),
+    "a comparison with errors": (CYCLES, COMPARE, 1),
+    "a comparison for a host that is not known": (TAGS, f"{COMPARE} --host db", 3),
     "rules": (SIGNS + TAGS.replace("bin", "opt"), RULES, 0),
     "rules with cautions": (MANY + TAGS, RULES, 0),
     "rules of errors": (CYCLES, RULES, 1),

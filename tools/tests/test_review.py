@@ -32,6 +32,9 @@ class Tables(TableCase):
     def test_table_cautions(self) -> None:
         self.check_table("cautions")
 
+    def test_table_compare(self) -> None:
+        self.check_table("compare")
+
     def test_table_grants(self) -> None:
         self.check_table("grants")
 
@@ -245,6 +248,8 @@ class Streams(Shown):
         words = ("p", "--users", "users", "--hosts", "hosts")
         self.runs = {("cautions", "p"): 5, ("grants", *words): 0, ("roots", *words): 0, ("subjects", *words): 5}
         self.runs |= {(command, *words, "s=requests"): 0 for command in ("report", "rules")}
+        self.write("old", "Alice ALL = /bin/ls\n")
+        self.runs |= {("compare", "old", *words): 0}
 
     def ended(self, redirected: str, *words: str) -> tuple[int, str, str]:
         """Returns how a run ends, some of whose streams the shell directs elsewhere."""

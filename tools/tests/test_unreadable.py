@@ -166,6 +166,7 @@ class Reviewed(Unreadable):
         words = ["--users", "gone", "--hosts", "hosts"]
         for command in ("grants", "roots", "subjects", "rules", "report"):
             self.assert_cannot_read("gone", command, "p", *words, reason=": no such file")
+        self.assert_cannot_read("gone", "compare", "p", "p", *words, reason=": no such file")
 
     def test_a_folder_that_can_be_listed_and_not_searched(self) -> None:
         self.write("p", "alice ALL = ALL\n@includedir d\n")
@@ -177,16 +178,22 @@ class Reviewed(Unreadable):
             self.assert_cannot_read("d/a", command, "p", *words)
         for command in ("grants", "roots", "subjects"):
             self.assert_cannot_read("d/a", command, "p", *words[:4])
+        self.write("q", "alice ALL = ALL\n")
+        for pair in (("p", "q"), ("q", "p")):
+            self.assert_cannot_read("d/a", "compare", *pair, *words[:4])
 
     def test_files_without_leave(self) -> None:
         words = self.write_directory()
         self.write("p", "alice ALL = ALL\n")
+        self.write("q", "alice ALL = ALL\n")
         for path in ("requests", "hosts", "users", "p"):
             os.chmod(self.path(path), 0o000)
             for command in ("report", "rules"):
                 self.assert_cannot_read(path, command, "p", *words)
             for command in ("grants", "roots", "subjects") if path != "requests" else ():
                 self.assert_cannot_read(path, command, "p", *words[:4])
+            for pair in (("p", "q"), ("q", "p")) if path != "requests" else ():
+                self.assert_cannot_read(path, "compare", *pair, *words[:4])
             os.chmod(self.path(path), 0o644)
         os.chmod(self.path("p"), 0o000)
         self.assert_cannot_read("p", "cautions", "p")

@@ -8,3 +8,5 @@ pub mod TextSteps
 pub mod TableSteps
 pub mod WrittenSteps
 pub mod RootSteps
+pub mod PairSteps
+pub mod QuietSteps

@@ -6,10 +6,11 @@ use Rattle.clap.specs.Words.{Row, Text, all_of, first_of}
 use Rattle.run_base.specs.Arguments.{HasNoWorkers}
 use Rattle.review_cautions.specs.Classes.{class_name}
 use Rattle.review_cautions.specs.declared.class.CautionClass.{CautionClass}
+use Rattle.review_commands.specs.declared.request.PairPaths.{PairPaths}
 use Rattle.review_commands.specs.declared.request.Paths.{Paths}
-use Rattle.review_commands.specs.declared.request.Asked.TheVariants.{Cautions, Grants, Report, Roots, Rules, Subjects}
-use Rattle.review_commands.specs.Body.Paths.{LackPaths}
-use Rattle.review_commands.specs.Words.{AsksNothing, HavePaths}
+use Rattle.review_commands.specs.declared.request.Asked.TheVariants.{Cautions, Compare, Grants, Report, Roots, Rules, Subjects}
+use Rattle.review_commands.specs.Body.Paths.{LackPair, LackPaths}
+use Rattle.review_commands.specs.Words.{AsksNothing, HavePair, HavePaths}
 
 -- names that differ at a place
 differ_at : (at : ℕ) (a b : Text) (m n : ℕ) → get_or a at 0 ≡ m → get_or b at 0 ≡ n → m < n → a ≡ b → ⊥
@@ -63,22 +64,42 @@ rules_is_roots = differ_at 2 (codes "rules") (codes "roots") 108 111 refl refl (
 subjects_is_rules : codes "subjects" ≡ codes "rules" → ⊥
 subjects_is_rules = differ_at 2 (codes "subjects") (codes "rules") 98 108 refl refl (omega arith)
 
+compare_is_cautions : codes "compare" ≡ codes "cautions" → ⊥
+compare_is_cautions = differ_at 2 (codes "compare") (codes "cautions") 109 117 refl refl (omega arith)
+
+compare_is_report : codes "compare" ≡ codes "report" → ⊥
+compare_is_report = differ_at 2 (codes "compare") (codes "report") 109 112 refl refl (omega arith)
+
+grants_is_compare : codes "grants" ≡ codes "compare" → ⊥
+grants_is_compare = differ_at 2 (codes "grants") (codes "compare") 97 109 refl refl (omega arith)
+
+compare_is_roots : codes "compare" ≡ codes "roots" → ⊥
+compare_is_roots = differ_at 2 (codes "compare") (codes "roots") 109 111 refl refl (omega arith)
+
+subjects_is_compare : codes "subjects" ≡ codes "compare" → ⊥
+subjects_is_compare = differ_at 2 (codes "subjects") (codes "compare") 98 109 refl refl (omega arith)
+
+rules_is_compare : codes "rules" ≡ codes "compare" → ⊥
+rules_is_compare = differ_at 2 (codes "rules") (codes "compare") 108 109 refl refl (omega arith)
+
 none_there : (o : Option Text) (text : Text) → o ≡ None → o ≡ Some text → ⊥
 none_there o text none there = cc
 
 pub no_name : (name : Text) (rows : List Row) → name ≢ codes "cautions" → name ≢ codes "report" → name ≢ codes "grants"
-    → name ≢ codes "roots" → name ≢ codes "subjects" → name ≢ codes "rules" → AsksNothing (name, rows)
-no_name name rows cautions report grants roots subjects rules (Cautions policy links without) stated fit = cautions stated.0
-no_name name rows cautions report grants roots subjects rules (Report paths workers senders) stated fit = report stated.0
-no_name name rows cautions report grants roots subjects rules (Grants paths user host) stated fit = grants stated.0
-no_name name rows cautions report grants roots subjects rules (Roots paths all) stated fit = roots stated.0
-no_name name rows cautions report grants roots subjects rules (Subjects paths) stated fit = subjects stated.0
-no_name name rows cautions report grants roots subjects rules (Rules paths workers senders) stated fit = rules stated.0
+    → name ≢ codes "compare" → name ≢ codes "roots" → name ≢ codes "subjects" → name ≢ codes "rules" → AsksNothing (name, rows)
+no_name name rows cautions report grants compare roots subjects rules (Cautions policy links without) stated fit = cautions stated.0
+no_name name rows cautions report grants compare roots subjects rules (Report paths workers senders) stated fit = report stated.0
+no_name name rows cautions report grants compare roots subjects rules (Grants paths user host) stated fit = grants stated.0
+no_name name rows cautions report grants compare roots subjects rules (Compare paths user host) stated fit = compare stated.0
+no_name name rows cautions report grants compare roots subjects rules (Roots paths all) stated fit = roots stated.0
+no_name name rows cautions report grants compare roots subjects rules (Subjects paths) stated fit = subjects stated.0
+no_name name rows cautions report grants compare roots subjects rules (Rules paths workers senders) stated fit = rules stated.0
 
 pub cautions_without_file : (rows : List Row) → first_of (codes "file") rows ≡ None → AsksNothing (codes "cautions", rows)
 cautions_without_file rows none (Cautions policy links without) stated fit = none_there _ _ none stated.1.file_is
 cautions_without_file rows none (Report paths workers senders) stated fit = report_is_cautions (sym stated.0)
 cautions_without_file rows none (Grants paths user host) stated fit = grants_is_cautions (sym stated.0)
+cautions_without_file rows none (Compare paths user host) stated fit = compare_is_cautions (sym stated.0)
 cautions_without_file rows none (Roots paths all) stated fit = roots_is_cautions (sym stated.0)
 cautions_without_file rows none (Subjects paths) stated fit = subjects_is_cautions (sym stated.0)
 cautions_without_file rows none (Rules paths workers senders) stated fit = rules_is_cautions (sym stated.0)
@@ -96,6 +117,7 @@ pub report_without_paths : (rows : List Row) → LackPaths rows → AsksNothing 
 report_without_paths rows lack (Cautions policy links without) stated fit = report_is_cautions stated.0
 report_without_paths rows lack (Report paths workers senders) stated fit = have_or_lack _ _ lack stated.1
 report_without_paths rows lack (Grants paths user host) stated fit = grants_is_report (sym stated.0)
+report_without_paths rows lack (Compare paths user host) stated fit = compare_is_report (sym stated.0)
 report_without_paths rows lack (Roots paths all) stated fit = roots_is_report (sym stated.0)
 report_without_paths rows lack (Subjects paths) stated fit = subjects_is_report (sym stated.0)
 report_without_paths rows lack (Rules paths workers senders) stated fit = rules_is_report (sym stated.0)
@@ -104,6 +126,7 @@ pub grants_without_paths : (rows : List Row) → LackPaths rows → AsksNothing 
 grants_without_paths rows lack (Cautions policy links without) stated fit = grants_is_cautions stated.0
 grants_without_paths rows lack (Report paths workers senders) stated fit = grants_is_report stated.0
 grants_without_paths rows lack (Grants paths user host) stated fit = have_or_lack _ _ lack stated.1
+grants_without_paths rows lack (Compare paths user host) stated fit = grants_is_compare stated.0
 grants_without_paths rows lack (Roots paths all) stated fit = grants_is_roots stated.0
 grants_without_paths rows lack (Subjects paths) stated fit = grants_is_subjects stated.0
 grants_without_paths rows lack (Rules paths workers senders) stated fit = grants_is_rules stated.0
@@ -112,6 +135,7 @@ pub roots_without_paths : (rows : List Row) → LackPaths rows → AsksNothing (
 roots_without_paths rows lack (Cautions policy links without) stated fit = roots_is_cautions stated.0
 roots_without_paths rows lack (Report paths workers senders) stated fit = roots_is_report stated.0
 roots_without_paths rows lack (Grants paths user host) stated fit = grants_is_roots (sym stated.0)
+roots_without_paths rows lack (Compare paths user host) stated fit = compare_is_roots (sym stated.0)
 roots_without_paths rows lack (Roots paths all) stated fit = have_or_lack _ _ lack stated.1
 roots_without_paths rows lack (Subjects paths) stated fit = subjects_is_roots (sym stated.0)
 roots_without_paths rows lack (Rules paths workers senders) stated fit = rules_is_roots (sym stated.0)
@@ -120,6 +144,7 @@ pub subjects_without_paths : (rows : List Row) → LackPaths rows → AsksNothin
 subjects_without_paths rows lack (Cautions policy links without) stated fit = subjects_is_cautions stated.0
 subjects_without_paths rows lack (Report paths workers senders) stated fit = subjects_is_report stated.0
 subjects_without_paths rows lack (Grants paths user host) stated fit = grants_is_subjects (sym stated.0)
+subjects_without_paths rows lack (Compare paths user host) stated fit = subjects_is_compare stated.0
 subjects_without_paths rows lack (Roots paths all) stated fit = subjects_is_roots stated.0
 subjects_without_paths rows lack (Subjects paths) stated fit = have_or_lack _ _ lack stated.1
 subjects_without_paths rows lack (Rules paths workers senders) stated fit = subjects_is_rules stated.0
@@ -128,14 +153,37 @@ pub rules_without_paths : (rows : List Row) → LackPaths rows → AsksNothing (
 rules_without_paths rows lack (Cautions policy links without) stated fit = rules_is_cautions stated.0
 rules_without_paths rows lack (Report paths workers senders) stated fit = rules_is_report stated.0
 rules_without_paths rows lack (Grants paths user host) stated fit = grants_is_rules (sym stated.0)
+rules_without_paths rows lack (Compare paths user host) stated fit = rules_is_compare stated.0
 rules_without_paths rows lack (Roots paths all) stated fit = rules_is_roots stated.0
 rules_without_paths rows lack (Subjects paths) stated fit = subjects_is_rules (sym stated.0)
 rules_without_paths rows lack (Rules paths workers senders) stated fit = have_or_lack _ _ lack stated.1
+
+have_or_lack_pair : (rows : List Row) (paths : PairPaths) → LackPair rows → HavePair rows paths → ⊥
+have_or_lack_pair rows paths lack have = elim lack [
+  | inl none ↦ none_there _ _ none have.old_is
+  | inr rest ↦ elim rest [
+    | inl none ↦ none_there _ _ none have.new_is
+    | inr more ↦ elim more [
+      | inl none ↦ none_there _ _ none have.users_is
+      | inr none ↦ none_there _ _ none have.hosts_is
+    ]
+  ]
+]
+
+pub compare_without_paths : (rows : List Row) → LackPair rows → AsksNothing (codes "compare", rows)
+compare_without_paths rows lack (Cautions policy links without) stated fit = compare_is_cautions stated.0
+compare_without_paths rows lack (Report paths workers senders) stated fit = compare_is_report stated.0
+compare_without_paths rows lack (Grants paths user host) stated fit = grants_is_compare (sym stated.0)
+compare_without_paths rows lack (Compare paths user host) stated fit = have_or_lack_pair _ _ lack stated.1
+compare_without_paths rows lack (Roots paths all) stated fit = compare_is_roots stated.0
+compare_without_paths rows lack (Subjects paths) stated fit = subjects_is_compare (sym stated.0)
+compare_without_paths rows lack (Rules paths workers senders) stated fit = rules_is_compare (sym stated.0)
 
 pub rules_without_workers : (rows : List Row) → HasNoWorkers rows → AsksNothing (codes "rules", rows)
 rules_without_workers rows none (Cautions policy links without) stated fit = rules_is_cautions stated.0
 rules_without_workers rows none (Report paths workers senders) stated fit = rules_is_report stated.0
 rules_without_workers rows none (Grants paths user host) stated fit = grants_is_rules (sym stated.0)
+rules_without_workers rows none (Compare paths user host) stated fit = rules_is_compare stated.0
 rules_without_workers rows none (Roots paths all) stated fit = rules_is_roots stated.0
 rules_without_workers rows none (Subjects paths) stated fit = subjects_is_rules (sym stated.0)
 rules_without_workers rows none (Rules paths workers senders) stated fit = none workers stated.2 fit.0 fit.1
@@ -144,6 +192,7 @@ pub report_without_workers : (rows : List Row) → HasNoWorkers rows → AsksNot
 report_without_workers rows none (Cautions policy links without) stated fit = report_is_cautions stated.0
 report_without_workers rows none (Report paths workers senders) stated fit = none workers stated.2 fit.0 fit.1
 report_without_workers rows none (Grants paths user host) stated fit = grants_is_report (sym stated.0)
+report_without_workers rows none (Compare paths user host) stated fit = compare_is_report (sym stated.0)
 report_without_workers rows none (Roots paths all) stated fit = roots_is_report (sym stated.0)
 report_without_workers rows none (Subjects paths) stated fit = subjects_is_report (sym stated.0)
 report_without_workers rows none (Rules paths workers senders) stated fit = rules_is_report (sym stated.0)
@@ -154,6 +203,7 @@ pub cautions_of_bad_class : (rows : List Row) (words : List Text) → unwrap_or 
 cautions_of_bad_class rows words are bad (Cautions policy links without) stated fit = bad without.items (sym stated.3 ∙ are)
 cautions_of_bad_class rows words are bad (Report paths workers senders) stated fit = report_is_cautions (sym stated.0)
 cautions_of_bad_class rows words are bad (Grants paths user host) stated fit = grants_is_cautions (sym stated.0)
+cautions_of_bad_class rows words are bad (Compare paths user host) stated fit = compare_is_cautions (sym stated.0)
 cautions_of_bad_class rows words are bad (Roots paths all) stated fit = roots_is_cautions (sym stated.0)
 cautions_of_bad_class rows words are bad (Subjects paths) stated fit = subjects_is_cautions (sym stated.0)
 cautions_of_bad_class rows words are bad (Rules paths workers senders) stated fit = rules_is_cautions (sym stated.0)

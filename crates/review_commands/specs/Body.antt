@@ -1,3 +1,5 @@
 pub mod Reviewing
 pub mod Surveying
+pub mod Comparing
+pub mod Knowing
 pub mod Paths

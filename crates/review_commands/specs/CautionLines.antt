@@ -86,6 +86,20 @@ abbrev pub notice_text : List Caution → List ℕ
 notice_text found = if length found == 0 then []
     else (program_name ++ codes ": ") ++ counted_classes (length found) (listed_classes found)
 
+-- how a line of one policy of two begins: `sudo_review: PATH: `
+abbrev pub path_beginning : List ℕ → List ℕ
+path_beginning path = (program_name ++ codes ": ") ++ (path ++ codes ": ")
+
+-- the line for one policy of two, by the path of its main file: `sudo_review: PATH: N cautions (CLASS, ..)`; nothing if there is
+-- no caution
+abbrev pub path_notice : List ℕ → List Caution → List ℕ
+path_notice path found = if length found == 0 then []
+    else path_beginning path ++ counted_classes (length found) (listed_classes found)
+
+-- the lines for both policies
+abbrev pub pair_notice : List ℕ → List Caution → List ℕ → List Caution → List ℕ
+pair_notice old_path old_found new_path new_found = path_notice old_path old_found ++ path_notice new_path new_found
+
 -- what each command prints for its faults
 abbrev pub cautions_notices : Notices PolicyFault
 cautions_notices = notices policy_status policy_explained program_name

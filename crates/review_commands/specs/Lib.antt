@@ -7,5 +7,6 @@ pub mod SubjectRows
 pub mod RootRows
 pub mod Reviewing
 pub mod Surveying
+pub mod Comparing
 pub mod Words
 pub mod Body

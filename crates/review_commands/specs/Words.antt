@@ -7,9 +7,10 @@ use Rattle.clap.specs.declared.builder.action.ArgAction.TheVariants.{Append, Set
 use Rattle.review_cautions.specs.Classes.{class_name}
 use Rattle.run_base.specs.Arguments.{IsErrorFor, IsNumberIn, required_option, required_word, senders_rule, workers_rule}
 use Rattle.review_commands.specs.declared.request.Asked.{Asked}
+use Rattle.review_commands.specs.declared.request.PairPaths.{PairPaths}
 use Rattle.review_commands.specs.declared.request.Paths.{Paths}
 use Rattle.review_commands.specs.declared.request.PolicyPath.{PolicyPath}
-use Rattle.review_commands.specs.declared.request.Asked.TheVariants.{Cautions, Grants, Report, Roots, Rules, Subjects}
+use Rattle.review_commands.specs.declared.request.Asked.TheVariants.{Cautions, Compare, Grants, Report, Roots, Rules, Subjects}
 
 -- --without CLASS, any number of times
 abbrev pub without_rule : Rule
@@ -39,6 +40,15 @@ paths_app name = with_rule (with_rule (policy_app name) (required_option (codes 
 abbrev pub grants_app : App
 grants_app = with_rule (with_rule (paths_app (codes "grants")) (name_rule (codes "user"))) (name_rule (codes "host"))
 
+-- compare OLD NEW --users F --hosts F
+abbrev pub pair_app : App
+pair_app = with_rule (with_rule (with_rule (with_rule (new_app (codes "compare")) (required_word (codes "old")))
+    (required_word (codes "new"))) (required_option (codes "users"))) (required_option (codes "hosts"))
+
+-- compare OLD NEW --users F --hosts F [--user NAME] [--host NAME]
+abbrev pub compare_app : App
+compare_app = with_rule (with_rule pair_app (name_rule (codes "user"))) (name_rule (codes "host"))
+
 -- --all
 abbrev pub all_rule : Rule
 all_rule = record (new_rule (codes "all")) { long = Some (codes "all"); action = Some SetTrue }
@@ -57,9 +67,9 @@ named_app = on_top (λ s. record s { has_version = true; subcommand_required = t
 
 -- the program's command, with its subcommands
 abbrev pub program_app : App
-program_app = with_subcommand (with_subcommand (with_subcommand (with_subcommand (with_subcommand (with_subcommand named_app
-    cautions_app.top) (judging_app (codes "report")).top) grants_app.top) roots_app.top) (paths_app (codes "subjects")).top)
-    (judging_app (codes "rules")).top
+program_app = with_subcommand (with_subcommand (with_subcommand (with_subcommand (with_subcommand (with_subcommand (with_subcommand
+    named_app cautions_app.top) (judging_app (codes "report")).top) grants_app.top) roots_app.top) (paths_app (codes "subjects")).top)
+    (judging_app (codes "rules")).top) compare_app.top
 
 -- the rows hold the main file of a policy, and the folder below which its files are, if one is given
 pub record HavePolicy (rows : List Row) (policy : PolicyPath) : Type 0 where
@@ -69,6 +79,13 @@ pub record HavePolicy (rows : List Row) (policy : PolicyPath) : Type 0 where
 -- the rows hold the paths of a policy, of the known users and of the known hosts
 pub record HavePaths (rows : List Row) (paths : Paths) : Type 0 where
   pub policy_is : HavePolicy rows paths.policy
+  pub users_is : first_of (codes "users") rows ≡ Some paths.users.now
+  pub hosts_is : first_of (codes "hosts") rows ≡ Some paths.hosts.now
+
+-- the rows hold the paths of two policies, of the known users and of the known hosts
+pub record HavePair (rows : List Row) (paths : PairPaths) : Type 0 where
+  pub old_is : first_of (codes "old") rows ≡ Some paths.old.now
+  pub new_is : first_of (codes "new") rows ≡ Some paths.new.now
   pub users_is : first_of (codes "users") rows ≡ Some paths.users.now
   pub hosts_is : first_of (codes "hosts") rows ≡ Some paths.hosts.now
 
@@ -85,6 +102,9 @@ HoldsCommand (Cautions policy links without) p =
 HoldsCommand (Grants paths user host) p =
     (p.0 ≡ codes "grants") × HavePaths p.1 paths
     × (first_of (codes "user") p.1 ≡ option_map (λ s. s.now) user) × (first_of (codes "host") p.1 ≡ option_map (λ s. s.now) host)
+HoldsCommand (Compare paths user host) p =
+    (p.0 ≡ codes "compare") × HavePair p.1 paths
+    × (first_of (codes "user") p.1 ≡ option_map (λ s. s.now) user) × (first_of (codes "host") p.1 ≡ option_map (λ s. s.now) host)
 HoldsCommand (Roots paths all) p =
     (p.0 ≡ codes "roots") × HavePaths p.1 paths × IsFlag all (one_of (codes "all") p.1)
 HoldsCommand (Subjects paths) p = (p.0 ≡ codes "subjects") × HavePaths p.1 paths
@@ -99,6 +119,7 @@ HoldsCommand (Report paths workers senders) p =
 abbrev pub WorkersFit : Asked → Type 0
 WorkersFit (Cautions policy links without) = ⊤
 WorkersFit (Grants paths user host) = ⊤
+WorkersFit (Compare paths user host) = ⊤
 WorkersFit (Roots paths all) = ⊤
 WorkersFit (Subjects paths) = ⊤
 WorkersFit (Rules paths workers senders) = (1 ≤ workers) × (workers ≤ 16)

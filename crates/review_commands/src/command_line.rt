@@ -2,11 +2,11 @@
 ghost use Rattle.std.specs.Prelude.{◌≡◌, IfOk, codes, false};
 ghost use Rattle.clap.specs.Words.{app_of, rule_of};
 ghost use Rattle.clap.specs.declared.builder.command.Command.TheViews.{out-Command as fields_of};
-ghost use Rattle.review_commands.specs.Words.{all_rule, cautions_app, grants_app, judging_app, name_rule};
-ghost use Rattle.review_commands.specs.Words.{named_app, paths_app, program_app, root_rule, roots_app, without_rule};
+ghost use Rattle.review_commands.specs.Words.{all_rule, cautions_app, compare_app, grants_app, judging_app, name_rule};
+ghost use Rattle.review_commands.specs.Words.{named_app, pair_app, paths_app, program_app, root_rule, roots_app, without_rule};
 
 use clap::{Arg, ArgAction, Command};
-use run_base::{file, path_option, senders_words, with_subcommand, workers_option};
+use run_base::{file, path_option, senders_words, with_subcommand, word, workers_option};
 use std::alloc::{AllocError, Global};
 
 // Returns `--without CLASS`, any number of times.
@@ -132,6 +132,29 @@ fn report<'a>(alloc: Global) -> Result<Command<'a>, AllocError>
         .arg(senders_words(alloc))
 }
 
+// Returns `compare OLD NEW --users F --hosts F`.
+fn pair<'a>(alloc: Global) -> Result<Command<'a>, AllocError>
+    ensures app { IfOk result (λ c. app_of c ≡ pair_app) }
+    ensures local { IfOk result (λ c. (fields_of c).has_globals ≡ false) }
+{
+    Command::new(alloc, "compare")
+        .about("Lists what a change of a policy does, for every command")
+        .arg(word(alloc, "old", "The main file of the policy before"))?
+        .arg(word(alloc, "new", "The main file of the policy after"))?
+        .arg(path_option(alloc, "users", "The known users, as CSV"))?
+        .arg(path_option(alloc, "hosts", "The known hosts, as CSV"))
+}
+
+// Returns `compare OLD NEW --users F --hosts F [--user NAME] [--host NAME]`.
+fn compare<'a>(alloc: Global) -> Result<Command<'a>, AllocError>
+    ensures app { IfOk result (λ c. app_of c ≡ compare_app) }
+    ensures local { IfOk result (λ c. (fields_of c).has_globals ≡ false) }
+{
+    pair(alloc)?
+        .arg(name_option(alloc, "user", "Only what this user may run"))?
+        .arg(name_option(alloc, "host", "Only what may be run on this host"))
+}
+
 // Returns the program's name and version, without a subcommand.
 fn named<'a>(alloc: Global) -> Command<'a>
     ensures app { app_of result ≡ named_app }
@@ -151,5 +174,6 @@ pub(crate) fn program<'a>(alloc: Global) -> Result<Command<'a>, AllocError>
     let with_grants = with_subcommand(with_report, grants(alloc))?;
     let with_roots = with_subcommand(with_grants, roots(alloc))?;
     let with_subjects = with_subcommand(with_roots, subjects(alloc))?;
-    with_subcommand(with_subjects, rules(alloc))
+    let with_rules = with_subcommand(with_subjects, rules(alloc))?;
+    with_subcommand(with_rules, compare(alloc))
 }

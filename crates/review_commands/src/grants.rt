@@ -27,9 +27,9 @@ pub struct ScopeNames<'a> {
     pub host: Option<&'a [u8]>,
 }
 
-// Returns the known user and host of these names, where one is given. Returns `NoSuchUser` or `NoSuchHost` with a name that
-// no known one has, that of the user first, and `Memory` if allocation failed.
-fn scope_of<'a>(
+/// Returns the known user and host of these names, where one is given. Returns `NoSuchUser` or `NoSuchHost` with a name that
+/// no known one has, that of the user first, and `Memory` if allocation failed.
+pub(crate) fn scope_of<'a>(
     alloc: Global,
     directory: &'a Directory,
     names: ScopeNames<'_>,

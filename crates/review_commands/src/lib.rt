@@ -3,12 +3,14 @@
 
 mod cautions;
 mod command_line;
+mod compare;
 mod ending;
 mod fault;
 mod file_texts;
 mod grants;
 mod lines;
 mod links;
+mod pair;
 mod policy_files;
 mod program;
 mod program_name;
@@ -23,12 +25,13 @@ mod survey;
 mod words;
 
 pub use cautions::cautions_run;
+pub use compare::{compare_run, quiet_comparisons_say_same};
 pub use fault::TableFault;
 pub use grants::{ScopeNames, grants_run};
 pub use links::{LinksFault, machine_links};
 pub use program::run_program;
 pub use report::{Form, report_into};
-pub use request::{Asked, Paths, PolicyPath};
+pub use request::{Asked, PairPaths, Paths, PolicyPath};
 pub use roots::roots_run;
 pub use subjects::subjects_run;
 pub use words::{asked, unread};

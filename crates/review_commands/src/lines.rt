@@ -2,12 +2,13 @@
 ghost use Rattle.std.specs.Prelude.{◌≡◌, ◌++◌, [], IfOk, OnOk, flat_map, fold};
 ghost use Rattle.review_commands.specs.CautionLines.{caution_line, cautions_status, cautions_text, counted_classes};
 ghost use Rattle.review_commands.specs.CautionLines.{counted_line, explanation, heading, in_parentheses};
-ghost use Rattle.review_commands.specs.CautionLines.{has_class, notice_text, subject_text, with_class, with_found};
+ghost use Rattle.review_commands.specs.CautionLines.{has_class, notice_text, path_beginning, path_notice};
+ghost use Rattle.review_commands.specs.CautionLines.{subject_text, with_class, with_found};
 
 use crate::program_name::PROGRAM;
 use audit_files::push_place;
 use review_cautions::{CAUTION_CLASSES, Caution, CautionClass};
-use run_base::{RunOutput, begin_line, push, push_number};
+use run_base::{RunOutput, begin_line, push, push_both, push_number};
 use std::alloc::{AllocError, Global};
 use sudo_text::Seq;
 
@@ -157,6 +158,33 @@ pub(crate) fn notice(alloc: Global, found: &[Caution]) -> Result<Vec<u8>, AllocE
     }
     let names = class_names(alloc, found, &CAUTION_CLASSES)?;
     let mut line = begin_line(alloc, PROGRAM)?;
+    push_counted(&mut line, found.len(), &names)?;
+    Ok(line)
+}
+
+// Returns how a line of the policy of this path begins.
+fn begin_at(alloc: Global, path: &[u8]) -> Result<Vec<u8>, AllocError>
+    ensures { IfOk result (λ line. line.items ≡ path_beginning path.now) }
+{
+    let mut line = begin_line(alloc, PROGRAM)?;
+    push_both(&mut line, path, b": ")?;
+    Ok(line)
+}
+
+/// Returns the line that tells the cautions on the policy of this path, one of two: the path, their number and their classes.
+/// Returns nothing if there is no caution, and `AllocError` if allocation failed.
+pub(crate) fn notice_at(
+    alloc: Global,
+    path: &[u8],
+    found: &[Caution],
+) -> Result<Vec<u8>, AllocError>
+    ensures { IfOk result (λ line. line.items ≡ path_notice path.now found.now) }
+{
+    if found.is_empty() {
+        return Ok(Vec::new(alloc));
+    }
+    let names = class_names(alloc, found, &CAUTION_CLASSES)?;
+    let mut line = begin_at(alloc, path)?;
     push_counted(&mut line, found.len(), &names)?;
     Ok(line)
 }

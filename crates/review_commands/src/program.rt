@@ -3,12 +3,13 @@ ghost use Rattle.std.specs.Prelude.{◌≤◌};
 ghost use Rattle.review_commands.specs.Words.{WorkersFit};
 
 use crate::cautions::cautions_run;
+use crate::compare::compare_run;
 use crate::grants::{ScopeNames, grants_run};
 use crate::links::{LinksFault, machine_links};
 use crate::policy_files::policy_files;
 use crate::program_name::PROGRAM;
 use crate::report::{Form, report_into};
-use crate::request::{Asked, Paths, PolicyPath};
+use crate::request::{Asked, PairPaths, Paths, PolicyPath};
 use crate::roots::roots_run;
 use crate::subjects::subjects_run;
 use crate::words::{asked, unread};
@@ -17,7 +18,7 @@ use audit_files::Device;
 use clap::Error;
 use clap::error::ErrorKind;
 use review_cautions::{CautionClass, Link, usual_links};
-use run_base::{OpenFault, SystemOpener, open, report_explained};
+use run_base::{Disk, OpenFault, SystemOpener, open, report_explained};
 use std::alloc::AllocError;
 use std::env;
 use std::sync::Wait;
@@ -207,6 +208,35 @@ fn run_subjects(rt: &HostRuntime, paths: Paths<'_>) -> u8 {
     }
 }
 
+// Lists what a change of a policy does, and returns the exit status.
+fn run_compare(rt: &HostRuntime, paths: PairPaths<'_>, names: ScopeNames<'_>) -> u8 {
+    let alloc = rt.alloc();
+    let mut out = Device::new(rt.stdout());
+    let mut err = Device::new(rt.stderr());
+    match open_all(alloc, &SystemOpener::new(rt), paths.users, paths.hosts, &[]) {
+        Ok(opened) => {
+            let OpenedFiles {
+                mut users,
+                mut hosts,
+                ..
+            } = opened;
+            compare_run(
+                alloc,
+                paths.old.as_bytes(),
+                &mut Disk::new(rt),
+                paths.new.as_bytes(),
+                &mut Disk::new(rt),
+                &mut users,
+                &mut hosts,
+                names,
+                &mut out,
+                &mut err,
+            )
+        }
+        Err(fault) => report_explained(alloc, PROGRAM, fault, &mut err),
+    }
+}
+
 // Returns the bytes of a text, where one is given.
 fn bytes_of<'a>(text: Option<&'a str>) -> Option<&'a [u8]> {
     match text {
@@ -244,6 +274,13 @@ fn run<T: Threads + Wait + Sync>(rt: &HostRuntime, threads: &T, asked: Asked<'_>
             workers,
             senders,
         } => run_report(rt, threads, paths, workers, &senders, Form::Requests),
+        Asked::Compare { paths, user, host } => {
+            let names = ScopeNames {
+                user: bytes_of(user),
+                host: bytes_of(host),
+            };
+            run_compare(rt, paths, names)
+        }
     }
 }
 

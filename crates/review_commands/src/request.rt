@@ -17,6 +17,15 @@ pub struct Paths<'a> {
     pub hosts: &'a str,
 }
 
+/// The paths of two policies, of the known users and of the known hosts.
+#[derive(Clone, Copy, Debug)]
+pub struct PairPaths<'a> {
+    pub old: &'a str,
+    pub new: &'a str,
+    pub users: &'a str,
+    pub hosts: &'a str,
+}
+
 /// A command that the command line asks for, with its texts as given.
 #[derive(Debug, Drop)]
 pub enum Asked<'a> {
@@ -56,5 +65,11 @@ pub enum Asked<'a> {
         workers: u32,
         /// The words `NAME=PATH`, as given.
         senders: Vec<&'a str>,
+    },
+    /// `compare OLD NEW --users F --hosts F [--user NAME] [--host NAME]`: lists what a change of a policy does, for every command.
+    Compare {
+        paths: PairPaths<'a>,
+        user: Option<&'a str>,
+        host: Option<&'a str>,
     },
 }

@@ -6,12 +6,12 @@ ghost use Rattle.run_base.specs.Arguments.{IsUnaskedKind, IsUnreadableWord};
 ghost use Rattle.review_cautions.specs.Classes.{class_name};
 ghost use Rattle.review_cautions.specs.declared.class.CautionClass.{CautionClass};
 ghost use Rattle.review_commands.specs.Words.{AsksNothing, IsErrorOfWords};
-ghost use Rattle.review_commands.specs.Body.Paths.{LackPaths};
-ghost use Rattle.review_commands.specs.Words.{HavePaths, HavePolicy, HoldsCommand, IsFlag};
+ghost use Rattle.review_commands.specs.Body.Paths.{LackPair, LackPaths};
+ghost use Rattle.review_commands.specs.Words.{HavePair, HavePaths, HavePolicy, HoldsCommand, IsFlag};
 ghost use Rattle.review_commands.specs.Words.{WorkersFit, program_app};
 
 use crate::command_line::program;
-use crate::request::{Asked, Paths, PolicyPath};
+use crate::request::{Asked, PairPaths, Paths, PolicyPath};
 use clap::error::ErrorKind;
 use clap::{ArgMatches, Command, Error};
 use review_cautions::{CautionClass, class_named};
@@ -133,6 +133,41 @@ fn asked_grants<'a>(given: &ArgMatches<'a>) -> Result<Asked<'a>, Unasked>
     })
 }
 
+// Returns the paths that a comparison takes, or `None` if one has no value.
+fn pair_of<'a>(given: &ArgMatches<'a>) -> Option<PairPaths<'a>>
+    ensures stated { IfSome result (HavePair (rows_of (found_of given.now))) }
+    ensures none { result ≡ None → LackPair (rows_of (found_of given.now)) }
+{
+    let old = value(given, "old")?;
+    let new = value(given, "new")?;
+    let users = value(given, "users")?;
+    let hosts = value(given, "hosts")?;
+    Some(PairPaths {
+        old,
+        new,
+        users,
+        hosts,
+    })
+}
+
+// Returns the command of the values of `compare`.
+fn asked_compare<'a>(given: &ArgMatches<'a>) -> Result<Asked<'a>, Unasked>
+    ensures stated { IfOk result
+        (λ a. HoldsCommand a (codes "compare", rows_of (found_of given.now))) }
+    ensures workers { IfOk result WorkersFit }
+    ensures nothing { IfErr result (λ e. e ≢ Unasked.Memory
+        → AsksNothing (codes "compare", rows_of (found_of given.now))) }
+{
+    let Some(paths) = pair_of(given) else {
+        return Err(Unasked::Missing);
+    };
+    Ok(Asked::Compare {
+        paths,
+        user: value(given, "user"),
+        host: value(given, "host"),
+    })
+}
+
 // Whether a flag is given.
 fn flag(given: &ArgMatches<'_>, id: &str) -> bool
     ensures { IsFlag result (one_of id.now (rows_of (found_of given.now))) }
@@ -225,6 +260,9 @@ fn asked_by<'a>(alloc: Global, name: &str, given: &ArgMatches<'a>) -> Result<Ask
     if name == "cautions" {
         return asked_cautions(alloc, given);
     }
+    if name == "compare" {
+        return asked_compare(given);
+    }
     if name == "grants" {
         return asked_grants(given);
     }
@@ -299,9 +337,10 @@ fn asked_of<'a, S: AsStr>(
 /// Returns the command that the words ask for, the program's own name first, as `clap` reads them:
 /// `cautions FILE [--links F] [--without CLASS]...`, `report FILE --users F --hosts F [--workers N] [NAME=PATH]...`,
 /// `grants FILE --users F --hosts F [--user NAME] [--host NAME]`, `roots FILE --users F --hosts F [--all]`,
-/// `subjects FILE --users F --hosts F`, or
-/// `rules FILE --users F --hosts F [--workers N] [NAME=PATH]...`, where N is 1 to 16, by default 2; each takes `--root DIR`
-/// behind its name.
+/// `subjects FILE --users F --hosts F`,
+/// `rules FILE --users F --hosts F [--workers N] [NAME=PATH]...`, or
+/// `compare OLD NEW --users F --hosts F [--user NAME] [--host NAME]`, where N is 1 to 16, by default 2; each but `compare`
+/// takes `--root DIR` behind its name.
 ///
 /// Returns `clap`'s error, apart from allocation failure, exactly if `clap` does not accept the
 /// words (they are no such command, or ask for help or for the version), or a CLASS is no class of cautions.

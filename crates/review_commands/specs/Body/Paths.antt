@@ -5,3 +5,8 @@ use Rattle.clap.specs.Words.{Row, first_of}
 -- the rows have no path of a policy, of users or of hosts
 abbrev pub LackPaths : List Row → Type 0
 LackPaths rows = (first_of (codes "file") rows ≡ None) ⊎ ((first_of (codes "users") rows ≡ None) ⊎ (first_of (codes "hosts") rows ≡ None))
+
+-- the rows have no path of the old policy, of the new one, of users or of hosts
+abbrev pub LackPair : List Row → Type 0
+LackPair rows = (first_of (codes "old") rows ≡ None) ⊎ ((first_of (codes "new") rows ≡ None)
+    ⊎ ((first_of (codes "users") rows ≡ None) ⊎ (first_of (codes "hosts") rows ≡ None)))

@@ -3,7 +3,7 @@ use Rattle.std.specs.declared.alloc.AllocError.{AllocError}
 use Rattle.clap.specs.Words.{AddsSubcommand, App, app_of, with_subcommand}
 use Rattle.clap.specs.declared.builder.command.Command.{Command}
 use Rattle.clap.specs.declared.builder.command.Command.TheViews.{out-Command}
-use Rattle.review_commands.specs.Words.{cautions_app, grants_app, judging_app, named_app, paths_app, roots_app}
+use Rattle.review_commands.specs.Words.{cautions_app, compare_app, grants_app, judging_app, named_app, paths_app, roots_app}
 use Rattle.review_commands.proofs.command_line.program.Goals as goal
 
 -- a command to which a subcommand is added
@@ -29,7 +29,9 @@ returns c =
     c.roots.ensures.app c.roots.ensures.local c.in_ok-with_roots.ensures in
     let subjects = added (Ok c.in_ok-with_subjects.with_subjects) c.subjects.result c.in_ok-with_roots.with_roots _
     (paths_app (codes "subjects")) roots c.subjects.ensures.app c.subjects.ensures.local c.in_ok-with_subjects.ensures in
+    let rules = added (Ok c.in_ok-with_rules.with_rules) c.rules.result c.in_ok-with_subjects.with_subjects _
+    (judging_app (codes "rules")) subjects c.rules.ensures.app c.rules.ensures.local c.in_ok-with_rules.ensures in
     record {
-      app = added c.with_subcommand-6.result c.rules.result c.in_ok-with_subjects.with_subjects _ (judging_app (codes "rules"))
-          subjects c.rules.ensures.app c.rules.ensures.local c.with_subcommand-6.ensures;
+      app = added c.with_subcommand-7.result c.compare.result c.in_ok-with_rules.with_rules _ compare_app rules
+          c.compare.ensures.app c.compare.ensures.local c.with_subcommand-7.ensures;
     }
