@@ -2,12 +2,10 @@
 ghost use Rattle.std.specs.Prelude.{◌≡◌, Err, IfErr, IfOk};
 ghost use Rattle.run_base.specs.Loading.{IsLoadedFrom};
 ghost use Rattle.sudo_policy.specs.Checking.{Passes};
-ghost use Rattle.review_cautions.specs.Cautions.{policy_cautions};
 ghost use Rattle.audit_commands.specs.Auditing.{IsDirectory};
-ghost use Rattle.review_commands.specs.Body.Comparing.{IsNotPassing};
+ghost use Rattle.review_commands.specs.Body.Comparing.{ArePathNotices, IsNotPassing, IsPathNotice};
 ghost use Rattle.review_commands.specs.Body.Knowing.{IsNotKnown};
 ghost use Rattle.review_commands.specs.Body.Surveying.{IsNotedTable};
-ghost use Rattle.review_commands.specs.CautionLines.{pair_notice as pair_notice_of, path_notice};
 ghost use Rattle.review_commands.specs.Comparing.{IsNotPaired, IsPaired, PairInputs, pair_by};
 ghost use Rattle.review_commands.specs.FileTexts.{texts_of};
 
@@ -67,8 +65,7 @@ fn known<U: Feed, H: Feed>(
 fn notice_for(alloc: Global, path: &[u8], checked: &CheckedFiles) -> Result<Vec<u8>, AllocError>
     ensures { let files = checked.now.policy.files in
         let texts = texts_of checked.now.text checked.now.supplies files in
-        IfOk result (λ line. line.items
-        ≡ path_notice path.now (policy_cautions texts checked.now.policy)) }
+        IfOk result (λ line. IsPathNotice path.now texts checked.now.policy line.items) }
 {
     let policy = checked.policy.policy();
     let found = found_in(alloc, &checked.text, &checked.supplies, policy)?;
@@ -85,9 +82,8 @@ fn pair_notice(
 ) -> Result<Vec<u8>, AllocError>
     ensures { let old_texts = texts_of old.now.text old.now.supplies old.now.policy.files in
         let new_texts = texts_of new.now.text new.now.supplies new.now.policy.files in
-        IfOk result (λ lines. lines.items
-        ≡ pair_notice_of old_path.now (policy_cautions old_texts old.now.policy)
-        new_path.now (policy_cautions new_texts new.now.policy)) }
+        IfOk result (λ lines. ArePathNotices old_path.now old_texts old.now.policy
+        new_path.now new_texts new.now.policy lines.items) }
 {
     let mut lines = notice_for(alloc, old_path, old)?;
     let more = notice_for(alloc, new_path, new)?;

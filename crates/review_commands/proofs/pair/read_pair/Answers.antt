@@ -1,7 +1,4 @@
-use Rattle.std.proofs.Common.{refl}
-use Rattle.review_cautions.specs.Cautions.{policy_cautions}
 use Rattle.review_commands.specs.Comparing.{PairInputs, pair_by}
-use Rattle.review_commands.specs.FileTexts.{texts_of}
 use Rattle.review_commands.proofs.PairSteps.{not-known, not-new}
 use Rattle.review_commands.proofs.ReportSteps.{checked_of}
 use Rattle.review_commands.proofs.pair.read_pair.Goals as goal
@@ -17,15 +14,16 @@ pub returns-in-Ok-known-clause-paired : goal.returns-in-Ok-known-clause-paired
 returns-in-Ok-known-clause-paired g c =
     let old = c.in-Ok.checked in
     let new = c.in-Ok-passing.checked in
+    let lines = c.in-Ok-pair_notice.ensures in
     record {
-      old_found = policy_cautions (texts_of old.text old.supplies old.policy.files) old.policy;
-      new_found = policy_cautions (texts_of new.text new.supplies new.policy.files) new.policy;
-      old_are = record { main = old.text; handed = old.supplies; loaded = c.in-Ok.ensures.loaded; found_are = refl };
-      new_are = record { main = new.text; handed = new.supplies; loaded = c.in-Ok-passing.ensures.loaded; found_are = refl };
+      old_found = lines.old_found;
+      new_found = lines.new_found;
+      old_are = record { main = old.text; handed = old.supplies; loaded = c.in-Ok.ensures.loaded; found_are = lines.old_are };
+      new_are = record { main = new.text; handed = new.supplies; loaded = c.in-Ok-passing.ensures.loaded; found_are = lines.new_are };
       old_passes = c.in-Ok.ensures.passes;
       new_passes = c.in-Ok-passing.ensures.passes;
       is_directory = c.in-Ok-known.ensures.directory;
-      notice_is = c.in-Ok-pair_notice.ensures;
+      notice_is = lines.lines_are;
     }
 
 pub returns-in-Err-known-clause-fault : goal.returns-in-Err-known-clause-fault
