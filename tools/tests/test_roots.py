@@ -199,7 +199,8 @@ class Draw(listing.Draw):
     def runas(self) -> listing.Runas:
         """Draws whom to run as: a user, a group or both."""
         users = self.one("alice", "operator", "#11", "%#37", "root") if self.random.random() < 0.7 else None
-        return listing.Runas(users, self.one("adm", "operator", "#37", "ALL") if users is None or self.random.random() < 0.2 else None)
+        has_groups = users is None or self.random.random() < 0.2
+        return listing.Runas(users, self.one("adm", "operator", "#37", "ALL") if has_groups else None)
 
     def commands(self) -> list[listing.Command]:
         """Draws the commands of a rule: most are `ALL`, some of them but for others."""

@@ -311,7 +311,8 @@ module _
 
     rows-same : rows p one m ≡ rows p other m
     rows-same =
-        filter-same (λ x. user_allowed p x.users one && host_allowed p x.hosts m) (λ x. user_allowed p x.users other && host_allowed p x.hosts m)
+        filter-same (λ x. user_allowed p x.users one && host_allowed p x.hosts m)
+        (λ x. user_allowed p x.users other && host_allowed p x.hosts m)
         (grants p) (λ x inside. ap (λ c. c && host_allowed p x.hosts m) (listed-same x inside))
 
     row-granted : (x : Grant) → Contains (rows p other m) x → Contains (grants p) x

@@ -165,7 +165,8 @@ module _ (h : HostSteps) (target : ℕ) (least : Level) (chains : Chains) (lead 
     by = is.by;
     password = is.password;
     free = inr (none-at (free_steps h target) h.states.now chains.free.items f.level w.level lead.free good is.enough inside none);
-    unasked = inr (none-at (unasked_steps h target) h.states.now chains.unasked.items f.level w.level lead.unasked good is.enough inside asks);
+    unasked = inr (none-at (unasked_steps h target) h.states.now chains.unasked.items f.level w.level lead.unasked good is.enough inside
+        asks);
   }
 
   -- ---- The chain that is chosen, of the found state at an index among those of any steps
@@ -216,14 +217,16 @@ module _ (h : HostSteps) (target : ℕ) (least : Level) (chains : Chains) (lead 
 
     module _
         (w : Way) (xs : List Found) (k : ℕ)
-        (is : (q : Sought) (l : Level) (f : Found) → AreFound (steps_of h q) h.states.now l xs → slice_get xs k ≡ Some f → IsChain h q l f.state w)
+        (is : (q : Sought) (l : Level) (f : Found) → AreFound (steps_of h q) h.states.now l xs → slice_get xs k ≡ Some f →
+        IsChain h q l f.state w)
       where
         chosen :
             (q : Sought) (ys : List Found) → AreFound (steps_of h q) h.states.now least ys → xs ≡ ys → IsGoodAt ys user a.level (Some k) →
             IsChain h q least start w × (is_at_least a.level w.level ≡ true)
         chosen q ys are same (e, (at, (first, good))) =
             let chain = subst (λ s. IsChain h q least s w) (start-is user e.state first)
-            (is q least e (subst (AreFound (steps_of h q) h.states.now least) (sym same) are) (ap (λ (zs : List Found). slice_get zs k) same ∙ at)) in
+            (is q least e (subst (AreFound (steps_of h q) h.states.now least) (sym same) are)
+            (ap (λ (zs : List Found). slice_get zs k) same ∙ at)) in
             let found : IsFound (steps_of h q) e = All-contains (IsFound (steps_of h q)) ys e are.right (at-contains ys e k at) in (
               chain,
               at-least-trans a.level e.level w.level good

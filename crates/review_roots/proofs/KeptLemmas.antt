@@ -1,6 +1,6 @@
 -- The states that are kept stand for all: a chain from a state is one, through kept states, from each kept state that is alike.
-use Rattle.std.proofs.Common.{◌≡◌, ◌<◌, ◌≤◌, ◌+◌, ◌∙◌, ℕ, zero, suc, Bool, true, false, not, cond, ◌||◌, ◌==◌, List, [], ◌∷◌, ◌++◌, ap, arith}
-use Rattle.std.proofs.Common.{append_assoc, flat_map, length, map, refl, subst, sym, Option, Some, None, inl, inr, ◌⊎◌}
+use Rattle.std.proofs.Common.{◌≡◌, ◌<◌, ◌≤◌, ◌+◌, ◌∙◌, ℕ, zero, suc, Bool, true, false, not, cond, ◌||◌, ◌==◌, List, [], ◌∷◌, ◌++◌, ap}
+use Rattle.std.proofs.Common.{append_assoc, arith, flat_map, length, map, refl, subst, sym, Option, Some, None, inl, inr, ◌⊎◌}
 use Rattle.std.specs.Prelude.{All, bytes_eq, filter, find, is_some, slice_get}
 use Rattle.std.specs.List.{Contains, list_any, range_with_len}
 use Rattle.std.proofs.lemmas.Bool.{eqb-true, not-true}
@@ -25,7 +25,7 @@ use Rattle.review_roots.specs.Body.Kept.{kept_if, states_by}
 use Rattle.review_roots.specs.Body.Unnamed.{AreIds, is_unnamed, named_indices, unnamed_at, unnamed_if, unnamed_indices}
 use Rattle.review_roots.specs.Ranks.{is_at_least}
 use Rattle.review_roots.specs.Sought.{steps_of}
-use Rattle.review_roots.specs.States.{all_states, given_between, group_at, level_for, person_of, state_with, states_with, step_given, with_added}
+use Rattle.review_roots.specs.States.{all_states, group_at, state_with, states_with}
 use Rattle.review_roots.proofs.AlikeLemmas.{IsWithin, asked-same, has-more, towards-same}
 use Rattle.review_roots.proofs.ListSteps.{flat-range}
 use Rattle.review_roots.proofs.MemberLemmas.{all-of, find-none, find-there, from-append, from-filter, from-flat, in-range, to-flat}

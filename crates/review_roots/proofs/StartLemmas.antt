@@ -15,7 +15,8 @@ use Rattle.review_roots.specs.declared.search.Sought.{Sought}
 use Rattle.review_roots.specs.declared.state.State.{State}
 use Rattle.review_roots.specs.Blocks.{is_for}
 use Rattle.review_roots.specs.Body.Candidates.{IsSilent, has_state, is_heard, raises_for, states_of}
-use Rattle.review_roots.specs.Body.Found.{found_states, found_there, IsCandidate, IsFound, IsLinked, IsMute, IsSearch, IsStartOf, IsStuck, kept_steps}
+use Rattle.review_roots.specs.Body.Found.{found_states, found_there, IsCandidate, IsFound, IsLinked, IsMute, IsSearch, IsStartOf}
+use Rattle.review_roots.specs.Body.Found.{IsStuck, kept_steps}
 use Rattle.review_roots.specs.Chains.{Steps, Path, here, more}
 use Rattle.review_roots.specs.Ranks.{rank, is_at_least}
 use Rattle.review_roots.specs.States.{given_between, person_of, group_at, level_for}

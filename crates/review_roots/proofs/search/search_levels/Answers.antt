@@ -12,14 +12,16 @@ spread-requires-clause-search c =
 
 pub returns-in-All : goal.returns-in-All
 returns-in-All c =
-    subst (λ l. AreFound (kept_steps c.args.steps.now c.args.sought) c.args.steps.now.states.now l c.spread.new.found.items) (sym c.in-All.is)
+    subst (λ l. AreFound (kept_steps c.args.steps.now c.args.sought) c.args.steps.now.states.now l c.spread.new.found.items)
+    (sym c.in-All.is)
     (all-found (kept_steps c.args.steps.now c.args.sought) c.args.steps.now.least level.All c.spread.new.found.items
     (states_of (map (λ k. k.now) c.in_ok-left.left.items))
     c.in_ok-left.ensures.search c.in_ok-left.ensures.done)
 
 pub returns-in_ok-spread-in-AllBut : goal.returns-in_ok-spread-in-AllBut
 returns-in_ok-spread-in-AllBut c =
-    subst (λ l. AreFound (kept_steps c.args.steps.now c.args.sought) c.args.steps.now.states.now l c.spread-in-AllBut.new.found.items) (sym c.in-AllBut.is)
+    subst (λ l. AreFound (kept_steps c.args.steps.now c.args.sought) c.args.steps.now.states.now l c.spread-in-AllBut.new.found.items)
+    (sym c.in-AllBut.is)
     (all-found (kept_steps c.args.steps.now c.args.sought) c.args.steps.now.least level.AllBut c.spread-in-AllBut.new.found.items
     (states_of (map (λ k. k.now) c.in_ok-spread-in-AllBut.field-0.items))
     c.in_ok-spread-in-AllBut.ensures.search c.in_ok-spread-in-AllBut.ensures.done)
