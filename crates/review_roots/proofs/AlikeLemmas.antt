@@ -1,10 +1,10 @@
 -- What a user is given on the way to another one is the same with either of two groups that no list names, where the user that has
 -- them, or is asked for with them, has both or neither.
-use Rattle.std.proofs.Common.{◌≡◌, ◌∙◌, ℕ, Bool, true, false, not, cond, ◌&&◌, ◌||◌, ◌==◌, List, [], ◌∷◌, ◌++◌, ap, refl, subst, sym}
-use Rattle.std.proofs.Common.{Option, Some, None, inl, inr, ◌⊎◌}
+use Rattle.std.proofs.Common.{◌≡◌, ◌∙◌, ℕ, Bool, true, false, not, cond, ◌&&◌, ◌||◌, ◌==◌, List, [], ◌∷◌, ap, refl, sym}
+use Rattle.std.proofs.Common.{Option, Some, None, inl, inr}
 use Rattle.std.specs.Prelude.{bytes_eq, codes, filter, is_some, option_map, unwrap_or}
 use Rattle.std.specs.Option.{option_or}
-use Rattle.std.specs.List.{Contains, list_any}
+use Rattle.std.specs.List.{Contains}
 use Rattle.std.proofs.lemmas.List.Elements.{All-contains, All-contains_itself, All-filter}
 use Rattle.std.proofs.lemmas.List.Folds.{list_any-append}
 use Rattle.sudo_grammar.specs.declared.kind.Atom.{Atom}
@@ -28,11 +28,10 @@ use Rattle.sudo_verdict.specs.RunasForms.{form_allows, group_allowed, has_asked,
 use Rattle.sudo_verdict.specs.Values.{allows, host_allowed, is_all, user_allowed, value}
 use Rattle.review_grants.specs.Rows.{rows}
 use Rattle.review_roots.specs.Asked.{better, given_alone, given_asked, given_by, given_towards, nothing}
-use Rattle.review_roots.specs.Body.Kept.{AreBothUnnamed, IsAlike}
-use Rattle.review_roots.specs.Body.Unnamed.{AreIds, IsAbsent, IsUnnamed, fits_by_name, is_unnamed, lists_group, runas_groups}
+use Rattle.review_roots.specs.Body.Kept.{IsAlike}
+use Rattle.review_roots.specs.Body.Unnamed.{AreIds, IsAbsent, fits_by_name, is_unnamed, lists_group, runas_groups}
 use Rattle.review_roots.specs.Body.Unnamed.{runas_list, runas_users}
 use Rattle.review_roots.specs.KnownGroups.{list_names, names_group}
-use Rattle.review_roots.specs.Levels.{target_rows}
 use Rattle.review_roots.specs.States.{with_added}
 use Rattle.review_roots.proofs.GroupLemmas.{or-false, same-last}
 use Rattle.review_roots.proofs.MemberLemmas.{filter-same}

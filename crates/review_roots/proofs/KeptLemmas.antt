@@ -1,37 +1,26 @@
 -- The states that are kept stand for all: a chain from a state is one, through kept states, from each kept state that is alike.
-use Rattle.std.proofs.Common.{◌≡◌, ◌<◌, ◌≤◌, ◌+◌, ◌∙◌, ℕ, zero, suc, Bool, true, false, not, cond, ◌||◌, ◌==◌, List, [], ◌∷◌, ◌++◌, ap}
-use Rattle.std.proofs.Common.{append_assoc, arith, flat_map, length, map, refl, subst, sym, Option, Some, None, inl, inr, ◌⊎◌}
-use Rattle.std.specs.Prelude.{All, bytes_eq, filter, find, is_some, slice_get}
-use Rattle.std.specs.List.{Contains, list_any, range_with_len}
-use Rattle.std.proofs.lemmas.Bool.{eqb-true, not-true}
+use Rattle.std.proofs.Common.{◌≡◌, ◌<◌, ◌+◌, ◌∙◌, ℕ, zero, suc, Bool, true, false, not, List, [], ◌∷◌, ◌++◌, ap}
+use Rattle.std.proofs.Common.{append_assoc, arith, flat_map, length, refl, subst, sym, Option, Some, None, inl, inr, ◌⊎◌}
+use Rattle.std.specs.Prelude.{find, slice_get}
+use Rattle.std.specs.List.{Contains, range_with_len}
+use Rattle.std.proofs.lemmas.Bool.{not-true}
 use Rattle.std.proofs.lemmas.List.{map-append}
-use Rattle.std.proofs.lemmas.List.Elements.{All-contains, All-weaker, Contains-append_left, Contains-append_right}
-use Rattle.std.proofs.lemmas.Option.{slice_get_within}
+use Rattle.std.proofs.lemmas.List.Elements.{Contains-append_left, Contains-append_right}
 use Rattle.sudo_grammar.specs.declared.policy.Policy.{Policy}
 use Rattle.sudo_match.specs.declared.people.Group.{Group}
-use Rattle.sudo_match.specs.declared.people.Machine.{Machine}
 use Rattle.sudo_match.specs.declared.people.Person.{Person}
-use Rattle.sudo_match.specs.KnownRows.{KnownRows, directory_fault}
-use Rattle.sudo_verdict.specs.RunasForms.{has_asked, has_group, is_same_user}
+use Rattle.sudo_match.specs.KnownRows.{KnownRows}
+use Rattle.sudo_verdict.specs.RunasForms.{has_group}
 use Rattle.review_roots.specs.declared.host.HostSteps.{HostSteps}
-use Rattle.review_roots.specs.declared.level.Level.{Level}
-use Rattle.review_roots.specs.declared.search.Found.{Found}
-use Rattle.review_roots.specs.declared.search.Sought.{Sought}
 use Rattle.review_roots.specs.declared.state.State.{State}
-use Rattle.review_roots.specs.Asked.{nothing}
-use Rattle.review_roots.specs.Body.Found.{AreFound, IsFound, found_states, kept_steps}
-use Rattle.review_roots.specs.Body.Kept.{AreAlike, AreBothUnnamed, AreKept, IsAlike, has_at, has_if, if_any, kept_at, kept_by, kept_groups}
+use Rattle.review_roots.specs.Body.Kept.{AreAlike, AreKept, has_at, has_if, if_any, kept_at, kept_by, kept_groups}
 use Rattle.review_roots.specs.Body.Kept.{kept_if, states_by}
 use Rattle.review_roots.specs.Body.Unnamed.{AreIds, is_unnamed, named_indices, unnamed_at, unnamed_if, unnamed_indices}
-use Rattle.review_roots.specs.Ranks.{is_at_least}
-use Rattle.review_roots.specs.Sought.{steps_of}
-use Rattle.review_roots.specs.States.{all_states, group_at, state_with, states_with}
-use Rattle.review_roots.proofs.AlikeLemmas.{IsWithin, asked-same, has-more, towards-same}
+use Rattle.review_roots.specs.States.{all_states, state_with, states_with}
 use Rattle.review_roots.proofs.ListSteps.{flat-range}
 use Rattle.review_roots.proofs.MemberLemmas.{all-of, find-none, find-there, from-append, from-filter, from-flat, in-range, to-flat}
-use Rattle.review_roots.proofs.RootLemmas.{range-has, states-have}
-use Rattle.review_roots.proofs.SearchLemmas.{at-contains, contains-at, contains-head, from-map, in-filter, path-state, to-map}
-use Rattle.review_roots.proofs.UserLemmas.{one-row}
+use Rattle.review_roots.proofs.RootLemmas.{range-has}
+use Rattle.review_roots.proofs.SearchLemmas.{contains-at, contains-head, from-map, in-filter, to-map}
 
 -- ---- States by their user and their added group
 

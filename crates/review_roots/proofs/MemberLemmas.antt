@@ -1,13 +1,13 @@
 -- Items of lists: of those that are mapped and joined, of those that are filtered, and the first of a kind.
-use Rattle.std.proofs.Common.{◌≡◌, ◌<◌, ◌≤◌, ◌+◌, ◌∙◌, ℕ, zero, suc, Bool, true, false, not, cond, ◌||◌, List, [], ◌∷◌, ◌++◌, ap, arith}
-use Rattle.std.proofs.Common.{flat_map, length, map, refl, subst, sym, Option, Some, None, inl, inr, ◌⊎◌}
+use Rattle.std.proofs.Common.{◌≡◌, ◌<◌, ◌+◌, ◌∙◌, ℕ, zero, suc, Bool, true, false, cond, ◌||◌, List, [], ◌∷◌, ◌++◌, ap, arith}
+use Rattle.std.proofs.Common.{flat_map, refl, subst, sym, Some, None, inl, inr, ◌⊎◌}
 use Rattle.std.specs.Prelude.{All, filter, find, slice_get}
 use Rattle.std.specs.List.{Contains, list_any, range_with_len}
-use Rattle.std.proofs.lemmas.List.Elements.{All-contains, All-contains_itself, All-filter, All-weaker}
+use Rattle.std.proofs.lemmas.List.Elements.{All-contains_itself, All-weaker}
 use Rattle.std.proofs.lemmas.List.Elements.{Contains-append_left, Contains-append_right, filter-append}
 use Rattle.std.proofs.lemmas.List.Folds.{list_any-append}
 use Rattle.review_roots.proofs.ListSteps.{range-more}
-use Rattle.review_roots.proofs.SearchLemmas.{at-contains, contains-at, contains-cons, contains-head, from-map, get-append-cases, in-filter}
+use Rattle.review_roots.proofs.SearchLemmas.{at-contains, contains-at, contains-cons, contains-head, get-append-cases}
 
 -- what holds of each item holds of all
 pub all-of : {X : Type 0} (P : X → Type 0) (xs : List X) → ((x : X) → Contains xs x → P x) → All P xs

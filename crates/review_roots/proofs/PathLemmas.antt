@@ -1,11 +1,10 @@
 -- A chain from a state is one, through the states that are kept, from each kept state that is alike.
-use Rattle.std.proofs.Common.{◌≡◌, ◌<◌, ◌∙◌, ℕ, zero, suc, Bool, true, false, not, ◌||◌, ◌==◌, List, [], ◌∷◌, ap, arith, length}
+use Rattle.std.proofs.Common.{◌≡◌, ◌<◌, ◌∙◌, ℕ, zero, suc, Bool, true, false, not, ◌||◌, ◌==◌, List, ap, length}
 use Rattle.std.proofs.Common.{refl, subst, sym, Option, Some, None, inl, inr, ◌⊎◌}
 use Rattle.std.specs.Prelude.{All, option_map, slice_get}
 use Rattle.std.specs.List.{Contains, list_any}
 use Rattle.std.proofs.lemmas.Bool.{eqb-true}
 use Rattle.std.proofs.lemmas.List.Elements.{All-contains, All-weaker}
-use Rattle.sudo_grammar.specs.declared.policy.Policy.{Policy}
 use Rattle.sudo_match.specs.declared.people.Group.{Group}
 use Rattle.sudo_match.specs.declared.people.Person.{Person}
 use Rattle.sudo_match.specs.KnownRows.{directory_fault}
@@ -15,7 +14,6 @@ use Rattle.review_roots.specs.declared.level.Level.{Level}
 use Rattle.review_roots.specs.declared.search.Found.{Found}
 use Rattle.review_roots.specs.declared.search.Sought.{Sought}
 use Rattle.review_roots.specs.declared.state.State.{State}
-use Rattle.review_roots.specs.Asked.{given_towards, nothing}
 use Rattle.review_roots.specs.Body.Found.{AreFound, IsFound, IsLinked, found_states, is_start, kept_steps}
 use Rattle.review_roots.specs.Body.Kept.{AreAlike, AreBothUnnamed, AreKept, IsAlike}
 use Rattle.review_roots.specs.Body.Unnamed.{is_unnamed}

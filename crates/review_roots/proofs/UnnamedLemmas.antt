@@ -1,16 +1,15 @@
 -- Groups that no list of the blocks names are named by no list of the policy.
-use Rattle.std.proofs.Common.{◌≡◌, ◌∙◌, ℕ, Bool, true, false, not, ◌||◌, ◌==◌, List, [], ◌∷◌, ◌++◌, ap, flat_map, map, refl, subst, sym}
+use Rattle.std.proofs.Common.{◌≡◌, ◌∙◌, Bool, true, false, ◌||◌, ◌==◌, List, flat_map, refl, subst, sym}
 use Rattle.std.specs.Prelude.{filter}
 use Rattle.std.specs.List.{Contains, list_any}
 use Rattle.std.proofs.lemmas.Bool.{eq-eqb, not-true}
 use Rattle.sudo_grammar.specs.declared.policy.Policy.{Policy}
 use Rattle.sudo_match.specs.declared.people.Group.{Group}
 use Rattle.sudo_grammar.specs.declared.kind.Signed.{Signed}
-use Rattle.sudo_verdict.specs.Grants.{Grant, grants}
+use Rattle.sudo_verdict.specs.Grants.{grants}
 use Rattle.review_roots.specs.declared.block.Block.{Block}
-use Rattle.review_roots.specs.declared.block.Sign.{Sign}
 use Rattle.review_roots.specs.Blocks.{AreBlocks, Row, block_row, block_rows, row_of}
-use Rattle.review_roots.specs.Body.Unnamed.{AreIds, IsAbsent, IsUnnamed, block_groups, block_users, fits_by_name, is_named, is_unnamed}
+use Rattle.review_roots.specs.Body.Unnamed.{AreIds, IsAbsent, IsUnnamed, block_groups, block_users, fits_by_name, is_named}
 use Rattle.review_roots.specs.Body.Unnamed.{named_ids}
 use Rattle.review_roots.specs.KnownGroups.{names_group}
 use Rattle.review_roots.proofs.MemberLemmas.{from-flat, none-in, none-there}

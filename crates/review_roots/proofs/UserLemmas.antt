@@ -1,8 +1,8 @@
 -- A directory has each user once: two of its rows of one name are one row.
-use Rattle.std.proofs.Common.{◌≡◌, ◌<◌, ◌≤◌, ◌∙◌, ℕ, zero, suc, Bool, true, false, List, [], ◌∷◌, ap, arith, length, subst, sym, take}
+use Rattle.std.proofs.Common.{◌≡◌, ◌<◌, ◌≤◌, ◌∙◌, ℕ, zero, suc, true, false, List, [], ◌∷◌, ap, arith, length, sym, take}
 use Rattle.std.proofs.Common.{Option, Some, None, inl, inr, ◌⊎◌, refl}
 use Rattle.std.specs.Prelude.{bytes_eq, find, option_and_then, option_map, slice_get}
-use Rattle.std.specs.List.{Contains, list_any, range_with_len}
+use Rattle.std.specs.List.{list_any, range_with_len}
 use Rattle.std.proofs.lemmas.Bool.{cases_lt}
 use Rattle.std.proofs.lemmas.Option.{slice_get_within}
 use Rattle.sudo_base.proofs.IndexLemmas.{bytes_eq-swap}

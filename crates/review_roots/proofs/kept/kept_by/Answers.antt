@@ -1,4 +1,4 @@
-use Rattle.std.proofs.Common.{◌<◌, ◌∙◌, List, Some, ap, length, subst, sym}
+use Rattle.std.proofs.Common.{◌∙◌, List, Some, ap, sym}
 use Rattle.std.specs.Prelude.{slice_get}
 use Rattle.sudo_match.specs.declared.people.Person.{Person}
 use Rattle.review_roots.proofs.KeptLemmas.{kept-more}

@@ -1,7 +1,6 @@
 use Rattle.std.proofs.Common.{◌++◌, ◌∙◌, List, Option, ap, not, ℕ}
 use Rattle.std.specs.Prelude.{find}
 use Rattle.sudo_base.proofs.Options.{on_ok}
-use Rattle.review_roots.specs.declared.state.State.{State}
 use Rattle.review_roots.specs.Body.Kept.{has_at, if_any, states_by}
 use Rattle.review_roots.proofs.KeptLemmas.{kept-pushed}
 use Rattle.review_roots.proofs.kept.push_kept.Goals as goal

@@ -1,4 +1,4 @@
-use Rattle.std.proofs.Common.{◌∙◌, List, ap, arith, length, subst, sym, take}
+use Rattle.std.proofs.Common.{arith, subst, sym, take}
 use Rattle.std.proofs.lemmas.List.{take_all, take_more}
 use Rattle.review_roots.specs.Body.Candidates.{AreCandidates}
 use Rattle.review_roots.proofs.rules.gather.Goals as goal
