@@ -93,8 +93,8 @@ fn pair_notice(
 
 /// Loads two policies, and reads the known users and hosts.
 ///
-/// Returns `Policy` if the old policy, or else the new one, is refused or has errors, `Directory` if the users, the hosts or
-/// both together are refused, and `Memory` if allocation failed.
+/// Returns `Policy` if the old policy is refused or has errors, and otherwise if the new one is or has; `Directory` if the users,
+/// the hosts or both together are refused; and `Memory` if allocation failed.
 pub(crate) fn read_pair<F: Files, G: Files, U: Feed, H: Feed>(
     alloc: Global,
     old_path: &[u8],

@@ -28,7 +28,7 @@ pub(crate) struct SplitGroups {
     pub(crate) unnamed: Vec<usize>,
 }
 
-// Appends a list of a runas, written out: nothing, if there is none.
+// Appends the written form of a list of a runas, if the runas has that list.
 fn push_list(
     alloc: Global,
     checked: &Checked,

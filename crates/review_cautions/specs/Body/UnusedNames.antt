@@ -47,7 +47,7 @@ marks_in unused body = []
 abbrev pub marks_of : UnusedNames → List Entry → List Bool
 marks_of unused es = flat_map (λ (e : Entry). marks_in unused e.body) es
 
--- the first mark, and false if there is none
+-- there are marks, and the first is true
 abbrev pub first_mark : List Bool → Bool
 first_mark [] = false
 first_mark (mark ∷ marks) = mark

@@ -26,7 +26,7 @@ fits_by_name g _ = false
 abbrev pub lists_group : Group → List Signed → Bool
 lists_group g ws = list_any (λ w. fits_by_name g w.atom) ws
 
--- a list of a runas, written out: nothing, if there is none
+-- the written form of a list of a runas; without that list, no atoms
 abbrev pub runas_list : Policy → Option (List Member) → List Signed
 runas_list p None = []
 runas_list p (Some members) = written_form kind.Runas p members
