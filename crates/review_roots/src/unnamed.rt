@@ -36,7 +36,8 @@ fn push_list(
     atoms: &mut Vec<Signed>,
 ) -> Result<(), AllocError>
     requires { IsTrue (list_resolves checked.now list.now) }
-    ensures { OnOk result (atoms.new.items ≡ atoms.old.items ++ spec.runas_list checked.now list.now) }
+    ensures { OnOk result (atoms.new.items
+        ≡ atoms.old.items ++ spec.runas_list checked.now list.now) }
 {
     match list {
         Some(members) => {
