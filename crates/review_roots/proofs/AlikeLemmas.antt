@@ -34,11 +34,7 @@ use Rattle.review_roots.specs.Body.Unnamed.{runas_list, runas_users}
 use Rattle.review_roots.specs.KnownGroups.{list_names, names_group}
 use Rattle.review_roots.specs.States.{with_added}
 use Rattle.review_roots.proofs.GroupLemmas.{or-false, same-last}
-use Rattle.review_roots.proofs.MemberLemmas.{filter-same}
-
-neither : (a b : Bool) → (a || b) ≡ false → (a ≡ false) × (b ≡ false)
-neither true b e = cc
-neither false b e = (refl, e)
+use Rattle.review_roots.proofs.MemberLemmas.{filter-same, neither}
 
 -- ---- A list of groups that does not name a group says of it what it says by ALL
 

@@ -1,8 +1,8 @@
 -- Groups that no list names change no list.
-use Rattle.std.proofs.Common.{◌≡◌, ◌∙◌, ℕ, zero, suc, Bool, true, false, not, cond, ◌||◌, ◌==◌, List, [], ◌∷◌, ◌++◌, ap, flat_map, refl}
+use Rattle.std.proofs.Common.{◌≡◌, ◌∙◌, Bool, true, false, not, cond, ◌||◌, ◌==◌, List, [], ◌∷◌, ◌++◌, ap, refl}
 use Rattle.std.proofs.Common.{sym}
 use Rattle.std.proofs.Common.{Some, None}
-use Rattle.std.specs.Prelude.{bytes_eq, option_map, slice_get}
+use Rattle.std.specs.Prelude.{bytes_eq, option_map}
 use Rattle.std.specs.Option.{option_or}
 use Rattle.std.specs.List.{list_any}
 use Rattle.std.proofs.lemmas.List.Folds.{list_any-append}
@@ -19,11 +19,7 @@ use Rattle.sudo_verdict.specs.Last.{last_that}
 use Rattle.sudo_verdict.specs.Values.{allows, value}
 use Rattle.review_roots.specs.KnownGroups.{names_group, list_names, body_users, OtherGroupsChangeNoList}
 use Rattle.review_roots.specs.States.{with_added}
-use Rattle.review_roots.proofs.SearchLemmas.{contains-at}
-
-neither : (a b : Bool) → (a || b) ≡ false → (a ≡ false) × (b ≡ false)
-neither true b e = cc
-neither false b e = (refl, e)
+use Rattle.review_roots.proofs.MemberLemmas.{neither, none-in}
 
 pub or-false : (a : Bool) → (a || false) ≡ a
 or-false true = refl
@@ -52,25 +48,10 @@ same-last (w ∷ ws) u g e =
     ap (λ o. option_or o (cond (user_fits w.atom (with_added u (Some g))) (Some w) None)) (same-last ws u g both.1)
     ∙ ap (λ b. option_or (last_that (λ w. user_fits w.atom u) ws) (cond b (Some w) None)) (same-fit w.atom u g both.0)
 
--- what no item of lists end to end passes, no item of each passes
-none-of-each : {X Y : Type 0} (t : Y → Bool) (f : X → List Y) (xs : List X) (k : ℕ) (x : X) → list_any t (flat_map f xs) ≡ false
-    → slice_get xs k ≡ Some x → list_any t (f x) ≡ false
-none-of-each t f [] k x e at = cc
-none-of-each t f (y ∷ xs) k x e at =
-    go k at (neither (list_any t (f y)) (list_any t (flat_map f xs)) (sym (list_any-append t (f y) (flat_map f xs)) ∙ e))
-    (λ i is none. none-of-each t f xs i x none)
-  where
-    go : (k : ℕ) → slice_get (y ∷ xs) k ≡ Some x → (list_any t (f y) ≡ false) × (list_any t (flat_map f xs) ≡ false)
-        → ((i : ℕ) → slice_get xs i ≡ Some x → list_any t (flat_map f xs) ≡ false → slice_get xs i ≡ Some x → list_any t (f x) ≡ false)
-        → list_any t (f x) ≡ false
-    go zero at both rest = let same : y ≡ x = cc in ap (λ v. list_any t (f v)) (sym same) ∙ both.0
-    go (suc i) at both rest = rest i at both.1 at
-
 pub other_groups : OtherGroupsChangeNoList
 unfolding value
 other_groups p g unnamed e users sections inside is u =
-    let k = contains-at p.entries e inside in
     let none : list_names g (written_form kind.User p users) ≡ false =
     ap (λ b. list_names g (body_users p b)) (sym is)
-    ∙ none-of-each (λ (w : Signed). names_group g w.atom) (λ (e : Entry). body_users p e.body) p.entries k.0 e unnamed k.1 in
+    ∙ none-in (λ (w : Signed). names_group g w.atom) (λ (e : Entry). body_users p e.body) p.entries e unnamed inside in
     ap (λ o. allows (option_map (λ (w : Signed). not w.negated) o)) (same-last (written_form kind.User p users) u g none)

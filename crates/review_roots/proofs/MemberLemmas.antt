@@ -9,6 +9,11 @@ use Rattle.std.proofs.lemmas.List.Folds.{list_any-append}
 use Rattle.review_roots.proofs.ListSteps.{range-more}
 use Rattle.review_roots.proofs.SearchLemmas.{at-contains, contains-at, contains-cons, contains-head, get-append-cases}
 
+-- neither of two tests passes
+pub neither : (a b : Bool) → (a || b) ≡ false → (a ≡ false) × (b ≡ false)
+neither true b e = cc
+neither false b e = (refl, e)
+
 -- what holds of each item holds of all
 pub all-of : {X : Type 0} (P : X → Type 0) (xs : List X) → ((x : X) → Contains xs x → P x) → All P xs
 all-of P xs each = All-weaker (Contains xs) P each xs (All-contains_itself xs)
@@ -85,10 +90,6 @@ pub none-in : {X Y : Type 0} (t : Y → Bool) (f : X → List Y) (xs : List X) (
     → Contains xs x → list_any t (f x) ≡ false
 none-in t f xs x none inside = let k = contains-at xs x inside in at xs k.0 k.1 none
   where
-    neither : (a b : Bool) → (a || b) ≡ false → (a ≡ false) × (b ≡ false)
-    neither true b e = cc
-    neither false b e = (refl, e)
-
     at : (xs : List _) (k : ℕ) → slice_get xs k ≡ Some x → list_any t (flat_map f xs) ≡ false → list_any t (f x) ≡ false
     at [] k e none = cc
     at (y ∷ ys) zero e none =
@@ -102,10 +103,6 @@ none-in t f xs x none inside = let k = contains-at xs x inside in at xs k.0 k.1 
 pub none-there : {X : Type 0} (t : X → Bool) (xs : List X) (x : X) → list_any t xs ≡ false → Contains xs x → t x ≡ false
 none-there t xs x none inside = let k = contains-at xs x inside in at xs k.0 k.1 none
   where
-    neither : (a b : Bool) → (a || b) ≡ false → (a ≡ false) × (b ≡ false)
-    neither true b e = cc
-    neither false b e = (refl, e)
-
     at : (xs : List _) (k : ℕ) → slice_get xs k ≡ Some x → list_any t xs ≡ false → t x ≡ false
     at [] k e none = cc
     at (y ∷ ys) zero e none = let same : y ≡ x = cc in ap t (sym same) ∙ (neither (t y) (list_any t ys) none).0

@@ -1,5 +1,5 @@
 -- Groups that no list of the blocks names are named by no list of the policy.
-use Rattle.std.proofs.Common.{◌≡◌, ◌∙◌, Bool, true, false, ◌||◌, ◌==◌, List, flat_map, refl, subst, sym}
+use Rattle.std.proofs.Common.{◌≡◌, ◌∙◌, Bool, true, false, ◌==◌, List, flat_map, refl, subst, sym}
 use Rattle.std.specs.Prelude.{filter}
 use Rattle.std.specs.List.{Contains, list_any}
 use Rattle.std.proofs.lemmas.Bool.{eq-eqb, not-true}
@@ -12,12 +12,8 @@ use Rattle.review_roots.specs.Blocks.{AreBlocks, Row, block_row, block_rows, row
 use Rattle.review_roots.specs.Body.Unnamed.{AreIds, IsAbsent, IsUnnamed, block_groups, block_users, fits_by_name, is_named}
 use Rattle.review_roots.specs.Body.Unnamed.{named_ids}
 use Rattle.review_roots.specs.KnownGroups.{names_group}
-use Rattle.review_roots.proofs.MemberLemmas.{from-flat, none-in, none-there}
+use Rattle.review_roots.proofs.MemberLemmas.{from-flat, neither, none-in, none-there}
 use Rattle.review_roots.proofs.SearchLemmas.{from-map, in-filter, to-map}
-
-neither : (a b : Bool) → (a || b) ≡ false → (a ≡ false) × (b ≡ false)
-neither true b e = cc
-neither false b e = (refl, e)
 
 -- a group that no atom of the blocks names is unnamed
 pub unnamed-by :

@@ -29,6 +29,7 @@ use Rattle.review_roots.specs.Passwords.{free_after, nopasswd}
 use Rattle.review_roots.specs.Ranks.{rank, is_at_least}
 use Rattle.review_roots.specs.States.{given_between, level_for}
 use Rattle.review_roots.proofs.GivenLemmas.{blocks_give}
+use Rattle.review_roots.proofs.MemberLemmas.{neither}
 
 -- ---- Ranks
 
@@ -85,10 +86,6 @@ free-weak free false false x t is e = go (nopasswd t)
     go : (b : Bool) → cond b (false || free) false ≡ false
     go true = is
     go false = refl
-
-neither : (a b : Bool) → (a || b) ≡ false → (a ≡ false) × (b ≡ false)
-neither true b e = cc
-neither false b e = (refl, e)
 
 weak-signs :
     (least : Level) (b : Block) (ss : List Sign) (a : Given) → IsWeak least a → list_any (raises least) ss ≡ false →
