@@ -6,13 +6,13 @@ use Rattle.memchr.specs.Find.{Nowhere, Passes, is_byte}
 use Rattle.sudo_text.specs.Bytes.{is_blank}
 use Rattle.review_cautions.specs.PhysicalLines.{has_other_comment, admits_id, begins_with_digit, begins_no_comment}
 
-no_left : (a b : Bool) → (a || b) ≡ false → a ≡ false
+pub no_left : (a b : Bool) → (a || b) ≡ false → a ≡ false
 no_left a b h = grind arith
 
-no_right : (a b : Bool) → (a || b) ≡ false → b ≡ false
+pub no_right : (a b : Bool) → (a || b) ≡ false → b ≡ false
 no_right a b h = grind arith
 
-neither : (a b : Bool) → a ≡ false → b ≡ false → (a || b) ≡ false
+pub neither : (a b : Bool) → a ≡ false → b ≡ false → (a || b) ≡ false
 neither a b h k = grind arith
 
 -- which of the ways is taken: the first byte is escaped, a backslash, a quote, or any other but a `#`
@@ -24,7 +24,7 @@ taken false false true h v w a b c d f none is-a is-b is-c is-d = is-c
 taken false false false true v w a b c d f none is-a is-b is-c is-d = grind arith
 taken false false false false v w a b c d f none is-a is-b is-c is-d = is-d
 
-no_comment : (escaped quoted admitted : Bool) (line : List ℕ) → list_any (λ b. b == 35) line ≡ false
+pub no_comment : (escaped quoted admitted : Bool) (line : List ℕ) → list_any (λ b. b == 35) line ≡ false
     → has_other_comment escaped quoted admitted line ≡ false
 no_comment escaped quoted admitted [] h = refl
 no_comment escaped quoted admitted (b ∷ bs) h =

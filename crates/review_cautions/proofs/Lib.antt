@@ -4,3 +4,4 @@ pub mod CautionVectors
 pub mod MarkLaws
 pub mod CommentLaws
 pub mod UseLaws
+pub mod SignLaws

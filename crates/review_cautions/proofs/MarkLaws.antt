@@ -1,7 +1,7 @@
 -- A list without marks has no construct of a class that needs one.
-use Rattle.std.proofs.Common.{◌≡◌, ℕ, Bool, true, false, List, [], ◌∷◌, Option, None, Some, map, refl, ◌∙◌, ap, arith}
-use Rattle.std.specs.Prelude.{not, ◌&&◌, ◌||◌, if◌then◌else◌}
-use Rattle.std.specs.List.{list_all, list_any, filter}
+use Rattle.std.proofs.Common.{◌≡◌, ℕ, Bool, true, false, List, [], ◌∷◌, Option, None, Some, refl, ◌∙◌, ap, arith}
+use Rattle.std.specs.Prelude.{not, ◌&&◌, ◌||◌}
+use Rattle.std.specs.List.{list_all, list_any}
 use Rattle.sudo_text.specs.declared.token.Ch.{Ch}
 use Rattle.sudo_text.specs.declared.token.TokenKind.{TokenKind}
 use Rattle.sudo_text.specs.declared.token.TokenKind.TheVariants as tokens
@@ -17,7 +17,6 @@ use Rattle.review_cautions.specs.Escapes.{is_escaped, is_escaped_tab, unquoted, 
 use Rattle.review_cautions.specs.Escapes.{is_escaped_mark, is_escaped_bracket_mark, host_has_escape}
 use Rattle.review_cautions.specs.Escapes.{begins_as_id, has_quoted_mark}
 use Rattle.review_cautions.specs.Escapes.{has_quoted_escape, is_escaped_byte, is_long_sudoedit}
-use Rattle.review_cautions.specs.Cautions.{list_cautions, caution_at, distinct_places}
 use Rattle.review_cautions.specs.ListTests.{list_holds, member_holds, concerns}
 use Rattle.review_cautions.specs.declared.class.CautionClass.TheVariants.{Return, BlankAfterBackslash, Join, TornMark}
 use Rattle.review_cautions.specs.declared.class.CautionClass.TheVariants.{IncludeEscape, IncludeIndent, Comment}
@@ -55,12 +54,6 @@ no_left a b h = grind arith
 
 no_right : (a b : Bool) → (a || b) ≡ false → b ≡ false
 no_right a b h = grind arith
-
--- one element more
-kept_by : (p q : MemberList → Bool) (l : MemberList) (ls : List MemberList) (passes : Bool) → q l ≡ passes
-    → (q l ≡ false → p l ≡ false) → filter p (filter q ls) ≡ filter p ls → filter p (filter q (l ∷ ls)) ≡ filter p (l ∷ ls)
-kept_by p q l ls true is h rest = rw is (ap (λ more. if p l then l ∷ more else more) rest)
-kept_by p q l ls false is h rest = rw is (rw (h is) rest)
 
 -- no character of such a list passes a test that none of them does
 none_of : (p : Ch → Bool) → ((c : Ch) → is_plain c ≡ true → p c ≡ false) → (cs : List Ch) → list_all is_plain cs ≡ true
@@ -272,19 +265,7 @@ none_passes p q h (m ∷ ms) k = either (p m) (list_any p ms) (h m (no_left (q m
     (none_passes p q h ms (no_right (q m) (list_any q ms) k))
 
 -- a list without marks has no construct of such a class
-unmarked_list : (class : CautionClass) → needs_mark class ≡ true → (l : MemberList) → list_is_marked l ≡ false
+pub unmarked_list : (class : CautionClass) → needs_mark class ≡ true → (l : MemberList) → list_is_marked l ≡ false
     → list_holds class l ≡ false
 unmarked_list class n l h = both (concerns class l.kind) (list_any (member_holds class) l.members)
     (none_passes (member_holds class) is_marked (unmarked class n) l.members h)
-
--- of the elements that pass one test, those that pass another are all that do, where no other element does
-kept : (p q : MemberList → Bool) → ((l : MemberList) → q l ≡ false → p l ≡ false) → (ls : List MemberList)
-    → filter p (filter q ls) ≡ filter p ls
-kept p q h [] = refl
-kept p q h (l ∷ ls) = kept_by p q l ls (q l) refl (h l) (kept p q h ls)
-
-pub marked_cautions : (class : CautionClass) (ls ms : List MemberList) → needs_mark class ≡ true → ms ≡ filter list_is_marked ls
-    → list_cautions class ms ≡ list_cautions class ls
-marked_cautions class ls ms needs is =
-    ap (λ found. map (caution_at class) (distinct_places None (map (λ (l : MemberList). l.place) found)))
-    (ap (filter (list_holds class)) is ∙ kept (list_holds class) list_is_marked (unmarked_list class needs) ls)

@@ -1,55 +1,39 @@
 //! The cautions on a policy.
 ghost use Rattle.std.specs.Prelude.{◌≡◌, ◌++◌, IfOk, OnOk, map};
-ghost use Rattle.sudo_policy.specs.Definitions.{list_view};
 ghost use Rattle.review_cautions.specs.Cautions as spec;
 ghost use Rattle.review_cautions.specs.Cautions.{AreCautionsOn};
 ghost use Rattle.review_cautions.specs.ListTests as lists_spec;
-ghost use Rattle.review_cautions.specs.Body.Looking.{AreLooked};
+ghost use Rattle.review_cautions.specs.Body.Looking.{scanned_view};
 
 use crate::defaults::push_defaults;
 use crate::entries::push_entries;
-use crate::lines::push_texts;
+use crate::lines::push_lines;
 use crate::link::usual_links;
-use crate::lists::{is_of_matching, push_class, push_linked};
-use crate::marks::marked_lists;
+use crate::lists::{is_of_matching, push_linked, push_lists};
+use crate::marks::scanned_lists;
+use crate::scanned::ScannedList;
+use crate::signs::signed_lines;
 use crate::unknown::push_unknown;
 use crate::uses::deciding_lists;
 use crate::{Caution, CautionClass, Link};
 use std::alloc::{AllocError, Global};
-use sudo_policy::{MemberList, Policy, lists};
-
-// Lists, and those with marks among them.
-#[derive(Drop)]
-struct Looked<'a> {
-    lists: Vec<MemberList<'a>>,
-    marked: Vec<MemberList<'a>>,
-}
-
-// Returns lists with those with marks among them.
-fn with_marked<'a>(alloc: Global, lists: Vec<MemberList<'a>>) -> Result<Looked<'a>, AllocError>
-    ensures lists { IfOk result (λ looked. looked.lists ≡ lists.entry) }
-    ensures looked { IfOk result AreLooked }
-{
-    let marked = marked_lists(alloc, &lists)?;
-    Ok(Looked { lists, marked })
-}
+use sudo_policy::{Policy, lists};
 
 // Appends the cautions of a class on the lists that are looked at for it, of all and of those that decide.
 fn push_looked(
     alloc: Global,
     class: CautionClass,
-    all: &Looked<'_>,
-    deciding: &Looked<'_>,
+    all: &[ScannedList<'_>],
+    deciding: &[ScannedList<'_>],
     found: &mut Vec<Caution>,
 ) -> Result<(), AllocError>
-    requires { AreLooked all.now × AreLooked deciding.now }
     ensures { OnOk result (found.new.items ≡ found.old.items ++ spec.class_cautions class
-        (map list_view all.now.lists.items) (map list_view deciding.now.lists.items)) }
+        (map scanned_view all.now) (map scanned_view deciding.now)) }
 {
     if is_of_matching(class) {
-        push_class(alloc, class, &deciding.lists, &deciding.marked, found)
+        push_lists(alloc, class, deciding, found)
     } else {
-        push_class(alloc, class, &all.lists, &all.marked, found)
+        push_lists(alloc, class, all, found)
     }
 }
 
@@ -62,13 +46,14 @@ fn push_all_texts(
     ensures { OnOk result (found.new.items ≡ found.old.items
         ++ spec.all_text_cautions (map (λ t. t.now) texts.now)) }
 {
-    push_texts(alloc, CautionClass::Return, texts, found)?;
-    push_texts(alloc, CautionClass::BlankAfterBackslash, texts, found)?;
-    push_texts(alloc, CautionClass::Join, texts, found)?;
-    push_texts(alloc, CautionClass::TornMark, texts, found)?;
-    push_texts(alloc, CautionClass::IncludeEscape, texts, found)?;
-    push_texts(alloc, CautionClass::IncludeIndent, texts, found)?;
-    push_texts(alloc, CautionClass::Comment, texts, found)
+    let lines = signed_lines(alloc, texts)?;
+    push_lines(alloc, CautionClass::Return, &lines, found)?;
+    push_lines(alloc, CautionClass::BlankAfterBackslash, &lines, found)?;
+    push_lines(alloc, CautionClass::Join, &lines, found)?;
+    push_lines(alloc, CautionClass::TornMark, &lines, found)?;
+    push_lines(alloc, CautionClass::IncludeEscape, &lines, found)?;
+    push_lines(alloc, CautionClass::IncludeIndent, &lines, found)?;
+    push_lines(alloc, CautionClass::Comment, &lines, found)
 }
 
 /// Returns the cautions on a policy: class by class, and within a class in the order of the files and of their lines,
@@ -95,9 +80,8 @@ pub fn cautions_by_links(
     ensures { IfOk result (λ found. AreCautionsOn links.now
         (map (λ t. t.now) texts.now) policy.now found.items) }
 {
-    let written = lists(alloc, policy)?;
-    let deciding = with_marked(alloc, deciding_lists(alloc, policy, &written)?)?;
-    let all = with_marked(alloc, written)?;
+    let all = scanned_lists(alloc, lists(alloc, policy)?)?;
+    let deciding = deciding_lists(alloc, policy, &all)?;
     let entries = policy.entries.as_slice();
     let mut found = Vec::new(alloc);
     push_all_texts(alloc, texts, &mut found)?;
@@ -112,7 +96,7 @@ pub fn cautions_by_links(
         &deciding,
         &mut found,
     )?;
-    push_linked(alloc, links, &deciding.lists, &mut found)?;
+    push_linked(alloc, links, &deciding, &mut found)?;
     push_defaults(alloc, entries, &mut found)?;
     push_unknown(alloc, entries, &mut found)?;
     push_looked(alloc, CautionClass::Sudoedit, &all, &deciding, &mut found)?;

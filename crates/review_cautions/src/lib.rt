@@ -21,6 +21,8 @@ mod lists;
 mod marks;
 mod passwords;
 mod reserved;
+mod scanned;
+mod signs;
 mod unknown;
 mod uses;
 

@@ -1,11 +1,10 @@
 //! Cautions on physical lines.
-ghost use Rattle.std.specs.Prelude.{◌≡◌, ◌==◌, ◌++◌, ◌≤◌, ◌∷◌, [], length, map, OnOk, false, if◌then◌else◌};
+ghost use Rattle.std.specs.Prelude.{◌≡◌, ◌++◌, OnOk, false};
 ghost use Rattle.sudo_text.specs.Lines as text;
-ghost use Rattle.sudo_text.specs.Lines.{cut, place};
+ghost use Rattle.sudo_text.specs.Lines.{cut};
 ghost use Rattle.review_cautions.specs.PhysicalLines as spec;
-ghost use Rattle.review_cautions.specs.PhysicalLines.{numbers_of, is_remark, stripped, first_line};
-ghost use Rattle.review_cautions.specs.Cautions as cautions;
-ghost use Rattle.review_cautions.specs.Cautions.{caution_at};
+ghost use Rattle.review_cautions.specs.PhysicalLines.{is_remark, stripped, first_line};
+ghost use Rattle.review_cautions.specs.Body.Signs as body;
 
 use crate::bytes::{
     cut_first, end_blank_count, ends_in_escape, has_byte, is_blank, is_comment, is_include, peek,
@@ -15,19 +14,19 @@ use crate::comments::has_other_comment;
 use crate::joins::{has_slash, tears_mark, tears_word};
 use crate::{Caution, CautionClass};
 use std::alloc::{AllocError, Global};
-use sudo_text::{Place, TEXT_LIMIT};
+use sudo_text::Place;
 
-// A physical line: its place, whether it continues another line, its bytes, and the text after it.
+/// A physical line: its place, whether it continues another line, its bytes, and the text after it.
 #[derive(Clone, Copy)]
-struct PhysicalLine<'a> {
-    place: Place,
-    continuing: bool,
-    bytes: &'a [u8],
-    after: &'a [u8],
+pub(crate) struct PhysicalLine<'a> {
+    pub(crate) place: Place,
+    pub(crate) continuing: bool,
+    pub(crate) bytes: &'a [u8],
+    pub(crate) after: &'a [u8],
 }
 
-// Whether the next line continues a physical line, which continues another one or not.
-fn is_continued(continuing: bool, line: &[u8]) -> bool
+/// Whether the next line continues a physical line, which continues another one or not.
+pub(crate) fn is_continued(continuing: bool, line: &[u8]) -> bool
     ensures { result ≡ text.is_continued continuing (stripped line.now) }
 {
     let line = strip(line);
@@ -159,9 +158,7 @@ fn push_line(
     line: &PhysicalLine<'_>,
     found: &mut Vec<Caution>,
 ) -> Result<(), AllocError>
-    ensures { OnOk result (found.new.items ≡ found.old.items
-        ++ (if spec.is_marked class line.now.continuing line.now.bytes.now
-        (first_line (cut line.now.after.now)) then caution_at class line.now.place ∷ [] else [])) }
+    ensures { OnOk result (found.new.items ≡ found.old.items ++ body.line_cautions class line.now) }
 {
     if is_marked(class, line) {
         found.push(Caution::on_line(alloc, class, line.place))?;
@@ -169,68 +166,17 @@ fn push_line(
     Ok(())
 }
 
-// Appends the cautions of a class on the physical lines of a file.
-fn push_lines(
+/// Appends the cautions of a class on physical lines.
+pub(crate) fn push_lines(
     alloc: Global,
     class: CautionClass,
-    file: u32,
-    text: &[u8],
+    lines: &[PhysicalLine<'_>],
     found: &mut Vec<Caution>,
 ) -> Result<(), AllocError>
-    requires { length text.now ≤ TEXT_LIMIT }
-    ensures { OnOk result (found.new.items ≡ found.old.items
-        ++ map (λ number. caution_at class (place file number))
-        (numbers_of class false 1 (cut text.now))) }
+    ensures { OnOk result (found.new.items ≡ found.old.items ++ body.cautions_on class lines.now) }
 {
-    let mut rest = text;
-    let mut number = 1;
-    let mut continuing = false;
-    while !rest.is_empty() {
-        let (bytes, after) = cut_first(rest);
-        let line = PhysicalLine {
-            place: Place { file, line: number },
-            continuing,
-            bytes,
-            after,
-        };
-        push_line(alloc, class, &line, found)?;
-        continuing = is_continued(continuing, bytes);
-        rest = after;
-        number += 1;
-    }
-    Ok(())
-}
-
-// Appends the cautions of a class on a file, if it can be a file of a policy.
-fn push_file(
-    alloc: Global,
-    class: CautionClass,
-    file: usize,
-    text: &[u8],
-    found: &mut Vec<Caution>,
-) -> Result<(), AllocError>
-    ensures { OnOk result (found.new.items ≡ found.old.items
-        ++ cautions.file_cautions class file text.now) }
-{
-    if file <= u32::MAX as usize && text.len() <= TEXT_LIMIT {
-        push_lines(alloc, class, file as u32, text, found)
-    } else {
-        Ok(())
-    }
-}
-
-/// Appends the cautions of a class on the physical lines of files.
-pub(crate) fn push_texts(
-    alloc: Global,
-    class: CautionClass,
-    texts: &[&[u8]],
-    found: &mut Vec<Caution>,
-) -> Result<(), AllocError>
-    ensures { OnOk result (found.new.items ≡ found.old.items
-        ++ cautions.text_cautions class (map (λ t. t.now) texts.now)) }
-{
-    for (file, text) in texts.iter().enumerate() {
-        push_file(alloc, class, file, text, found)?;
+    for line in lines {
+        push_line(alloc, class, line, found)?;
     }
     Ok(())
 }

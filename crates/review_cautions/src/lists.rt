@@ -1,7 +1,7 @@
 //! Cautions on the lists of a policy.
 ghost use Rattle.std.specs.Prelude.{◌≡◌, ◌++◌, ◌∷◌, [], OnOk, map, false};
-ghost use Rattle.std.specs.List.{filter, list_any};
-ghost use Rattle.review_cautions.specs.Marks.{list_is_marked};
+ghost use Rattle.std.specs.List.{list_any};
+ghost use Rattle.review_cautions.specs.Body.Looking.{scanned_view};
 ghost use Rattle.sudo_grammar.specs.Words.{is_upper};
 ghost use Rattle.sudo_policy.specs.Definitions.{list_view};
 ghost use Rattle.review_cautions.specs.ListTests as spec;
@@ -13,6 +13,7 @@ use crate::brackets::{atom_has_caret, atom_has_other_bracket};
 use crate::bytes::spells;
 use crate::escapes::{has_other_escape, has_quoted_escape, has_quoted_mark};
 use crate::marks::needs_mark;
+use crate::scanned::ScannedList;
 use crate::{Caution, CautionClass, Link};
 use std::alloc::{AllocError, Global};
 use sudo_policy::{Atom, Kind, Member, MemberList};
@@ -143,11 +144,21 @@ fn members_hold(class: CautionClass, members: &[Member]) -> bool
     members.iter().any(|member| member_holds(class, member))
 }
 
-// Whether a list has the construct of a class.
+// Whether a list that may have the construct of a class has it.
 fn list_holds(class: CautionClass, list: &MemberList<'_>) -> bool
     ensures { result ≡ spec.list_holds class (list_view list.now) }
 {
     concerns(class, list.kind) && members_hold(class, list.members)
+}
+
+// Whether a list has the construct of a class.
+fn scanned_holds(class: CautionClass, list: &ScannedList<'_>) -> bool
+    ensures { result ≡ spec.list_holds class (scanned_view list.now) }
+{
+    if needs_mark(class) && !list.marked {
+        return false;
+    }
+    list_holds(class, &list.list)
 }
 
 /// Whether a construct of a class changes what a list matches, and nothing else.
@@ -212,42 +223,24 @@ fn push_caution(
     Ok(())
 }
 
-/// Appends the cautions of a class on lists, one for each line, where `marked` are those with marks among them.
-pub(crate) fn push_class(
+/// Appends the cautions of a class on lists, one for each line.
+pub(crate) fn push_lists(
     alloc: Global,
     class: CautionClass,
-    lists: &[MemberList<'_>],
-    marked: &[MemberList<'_>],
-    found: &mut Vec<Caution>,
-) -> Result<(), AllocError>
-    requires { map list_view marked.now ≡ filter list_is_marked (map list_view lists.now) }
-    ensures { OnOk result (found.new.items ≡ found.old.items
-        ++ cautions.list_cautions class (map list_view lists.now)) }
-{
-    if needs_mark(class) {
-        push_lists(alloc, class, marked, found)
-    } else {
-        push_lists(alloc, class, lists, found)
-    }
-}
-
-// Appends the cautions of a class on lists, one for each line.
-fn push_lists(
-    alloc: Global,
-    class: CautionClass,
-    lists: &[MemberList<'_>],
+    lists: &[ScannedList<'_>],
     found: &mut Vec<Caution>,
 ) -> Result<(), AllocError>
     ensures { OnOk result (found.new.items ≡ found.old.items
-        ++ cautions.list_cautions class (map list_view lists.now)) }
+        ++ cautions.list_cautions class (map scanned_view lists.now)) }
 {
     let mut before = None;
     for list in lists {
-        if list_holds(class, list) {
-            if !is_at(before, list.place) {
-                push_caution(alloc, class, list.place, found)?;
+        if scanned_holds(class, list) {
+            let place = list.list.place;
+            if !is_at(before, place) {
+                push_caution(alloc, class, place, found)?;
             }
-            before = Some(list.place);
+            before = Some(place);
         }
     }
     Ok(())
@@ -257,15 +250,15 @@ fn push_lists(
 pub(crate) fn push_linked(
     alloc: Global,
     links: &[Link],
-    lists: &[MemberList<'_>],
+    lists: &[ScannedList<'_>],
     found: &mut Vec<Caution>,
 ) -> Result<(), AllocError>
     ensures { OnOk result (found.new.items ≡ found.old.items
-        ++ cautions.linked_cautions links.now (map list_view lists.now)) }
+        ++ cautions.linked_cautions links.now (map scanned_view lists.now)) }
 {
     for list in lists {
-        if list_is_linked(links, list) {
-            return push_caution(alloc, CautionClass::Linked, list.place, found);
+        if list_is_linked(links, &list.list) {
+            return push_caution(alloc, CautionClass::Linked, list.list.place, found);
         }
     }
     Ok(())

@@ -1,11 +1,13 @@
-//! Lists with characters that most classes of lists look for.
+//! Whether a list has characters that most classes of lists look for.
 ghost use Rattle.std.specs.Prelude.{◌≡◌, IfOk, map};
-ghost use Rattle.std.specs.List.{filter, list_all, list_any};
+ghost use Rattle.std.specs.List.{list_all, list_any};
 ghost use Rattle.sudo_policy.specs.Definitions.{list_view};
+ghost use Rattle.review_cautions.specs.Body.Looking.{scanned_view};
 ghost use Rattle.review_cautions.specs.Marks as spec;
 
 use crate::CautionClass;
 use crate::escapes::is_long_sudoedit;
+use crate::scanned::ScannedList;
 use std::alloc::{AllocError, Global};
 use sudo_policy::{Atom, Member, MemberList};
 use sudo_text::{Ch, Seq, TokenKind};
@@ -72,24 +74,23 @@ fn members_are_marked(members: &[Member]) -> bool
     members.iter().any(|member| is_marked(member))
 }
 
-/// Returns the lists with a member that has other characters: those alone can have the construct of most classes.
-pub(crate) fn marked_lists<'a>(
+/// Returns the lists, each with whether one of its members has other characters.
+pub(crate) fn scanned_lists<'a>(
     alloc: Global,
-    lists: &[MemberList<'a>],
-) -> Result<Vec<MemberList<'a>>, AllocError>
-    ensures { IfOk result (λ marked. map list_view marked.items
-        ≡ filter spec.list_is_marked (map list_view lists.now)) }
+    lists: Vec<MemberList<'a>>,
+) -> Result<Vec<ScannedList<'a>>, AllocError>
+    ensures { IfOk result (λ scanned. map scanned_view scanned.items
+        ≡ map list_view lists.entry.items) }
 {
-    let mut marked = Vec::new(alloc);
+    let mut scanned = Vec::new(alloc);
     for list in lists {
-        if members_are_marked(list.members) {
-            marked.push(*list)?;
-        }
+        let marked = members_are_marked(list.members);
+        scanned.push(ScannedList { list, marked })?;
     }
-    Ok(marked)
+    Ok(scanned)
 }
 
-/// Whether only such lists can have the construct of a class.
+/// Whether only marked lists can have the construct of a class.
 pub(crate) fn needs_mark(class: CautionClass) -> bool
     ensures { result ≡ spec.needs_mark class }
 {

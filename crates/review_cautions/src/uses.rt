@@ -7,8 +7,10 @@ ghost use Rattle.sudo_grammar.specs.declared.kind.Kind.{Kind};
 ghost use Rattle.sudo_policy.specs.Definitions as policies;
 ghost use Rattle.sudo_policy.specs.Definitions.{list_view};
 ghost use Rattle.review_cautions.specs.Uses.{AreDeciding};
+ghost use Rattle.review_cautions.specs.Body.Looking.{scanned_view};
 ghost use Rattle.review_cautions.specs.Body.UnusedNames as body;
 
+use crate::scanned::ScannedList;
 use std::alloc::{AllocError, Global};
 use sudo_base::Names;
 use sudo_policy::{
@@ -169,19 +171,19 @@ fn marks_behind<'a>(marks: &'a [bool], list: &MemberList<'_>) -> &'a [bool]
 // Returns the lists but for those of definitions whose mark is true.
 fn left_by<'a>(
     alloc: Global,
-    lists: &[MemberList<'a>],
+    lists: &[ScannedList<'a>],
     marks: &[bool],
-) -> Result<Vec<MemberList<'a>>, AllocError>
-    ensures { IfOk result (λ left. map list_view left.items
-        ≡ body.left_by marks.now (map list_view lists.now)) }
+) -> Result<Vec<ScannedList<'a>>, AllocError>
+    ensures { IfOk result (λ left. map scanned_view left.items
+        ≡ body.left_by marks.now (map scanned_view lists.now)) }
 {
     let mut left = Vec::new(alloc);
     let mut ahead = marks;
     for list in lists {
-        if !is_left_out(ahead, list) {
+        if !is_left_out(ahead, &list.list) {
             left.push(*list)?;
         }
-        ahead = marks_behind(ahead, list);
+        ahead = marks_behind(ahead, &list.list);
     }
     Ok(left)
 }
@@ -190,10 +192,10 @@ fn left_by<'a>(
 pub(crate) fn deciding_lists<'a>(
     alloc: Global,
     policy: &Policy,
-    lists: &[MemberList<'a>],
-) -> Result<Vec<MemberList<'a>>, AllocError>
-    requires { map list_view lists.now ≡ policies.lists policy.now }
-    ensures { IfOk result (λ deciding. AreDeciding policy.now (map list_view deciding.items)) }
+    lists: &[ScannedList<'a>],
+) -> Result<Vec<ScannedList<'a>>, AllocError>
+    requires { map scanned_view lists.now ≡ policies.lists policy.now }
+    ensures { IfOk result (λ deciding. AreDeciding policy.now (map scanned_view deciding.items)) }
 {
     let found = findings(alloc, policy)?;
     let unused = unused_names(alloc, &found)?;

@@ -1,17 +1,7 @@
-use Rattle.std.proofs.Common.{◌≡◌, ◌+◌, ◌≤◌, ◌++◌, length, map, false}
-use Rattle.sudo_text.specs.Lines.{cut, place}
-use Rattle.review_cautions.specs.PhysicalLines.{numbers_of}
-use Rattle.review_cautions.specs.Cautions.{caution_at}
+use Rattle.std.proofs.Common.{◌≡◌, ◌++◌, drop}
+use Rattle.review_cautions.specs.Body.Signs.{cautions_on}
 use Rattle.review_cautions.proofs.lines.push_lines.Given as goal
 
-abbrev pub invariant-loop-rest : goal.invariant-loop-rest
-invariant-loop-rest l = record {
-  cautions : l.found.items ++ map (λ number. caution_at l.class (place l.file number))
-      (numbers_of l.class l.continuing l.number (cut l.rest)) ≡ l.initial.found.items
-      ++ map (λ number. caution_at l.class (place l.file number)) (numbers_of l.class false 1 (cut l.text));
-  within : length l.rest ≤ 16777216;
-  numbers : l.number + length l.rest ≤ 1 + length l.text;
-}
-
-abbrev pub decreases-loop-rest : goal.decreases-loop-rest
-decreases-loop-rest l = length l.rest
+abbrev pub invariant-loop-line : goal.invariant-loop-line
+invariant-loop-line l = l.found.items ++ cautions_on l.class (drop l.line-index l.lines)
+    ≡ l.initial.found.items ++ cautions_on l.class l.lines
