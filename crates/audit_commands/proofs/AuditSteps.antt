@@ -17,7 +17,8 @@ use Rattle.sudo_grammar.specs.declared.policy.Policy.{Policy}
 use Rattle.run_base.specs.declared.run_output.RunOutput.{RunOutput}
 use Rattle.run_base.specs.Loading.{IsChecked}
 use Rattle.audit_commands.specs.Auditing.{Answers, Given, IsAnswer, IsAudited, IsDirectory, IsNotAudited}
-use Rattle.audit_commands.specs.Body.Auditing.{IsFaultNamed, IsPrintedReport, IsUnreported}
+use Rattle.audit_commands.specs.Auditing.{IsUnreported}
+use Rattle.audit_commands.specs.Body.Auditing.{IsFaultNamed, IsPrintedReport}
 use Rattle.audit_commands.specs.declared.fault.ReportFault.{ReportFault}
 use Rattle.audit_commands.specs.declared.fault.ReportFault.TheVariants as reports
 

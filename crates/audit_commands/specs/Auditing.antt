@@ -79,6 +79,14 @@ pub record Answers (policy : Policy) (directory : KnownRows) (sources : List (Li
   pub after : PassView
   pub audited : IsAuditResult (names_under policy directory) sources readable_bytes workers before after result
 
+-- why an audit under a policy and a directory has no report
+abbrev pub IsUnreported : Policy → KnownRows → List (List ℕ) → List (Option Ahead) → ℕ → ReportFault → Type 0
+IsUnreported policy directory sources readable_bytes workers (reports.Requests named) =
+    (fault : AuditFault) × Answers policy directory sources readable_bytes workers (Err fault) × (fault_named sources fault ≡ Some named)
+IsUnreported policy directory sources readable_bytes workers reports.Memory = ⊤
+IsUnreported policy directory sources readable_bytes workers (reports.Policy fault) = ⊥
+IsUnreported policy directory sources readable_bytes workers (reports.Directory fault) = ⊥
+
 -- the result of an audit under the policy, which passes the check, and the directory that the files
 -- state
 pub record IsAnswer (given : Given) (policy : Policy) (result : Result Report AuditFault) : Type 0 where

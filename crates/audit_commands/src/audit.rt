@@ -4,8 +4,8 @@ ghost use Rattle.run_base.specs.Endings.{writer_states as sent, Ends};
 ghost use Rattle.run_base.specs.Holding.{Holdings};
 ghost use Rattle.run_base.specs.Loading.{IsChecked};
 ghost use Rattle.audit_commands.specs.Auditing.{Answers, Given, given_by, IsAnswer, IsAudited, IsDirectory};
-ghost use Rattle.audit_commands.specs.Auditing.{IsNoDirectory, IsNotAudited};
-ghost use Rattle.audit_commands.specs.Body.Auditing.{IsFaultNamed, IsPrintedReport, IsUnreported};
+ghost use Rattle.audit_commands.specs.Auditing.{IsNoDirectory, IsNotAudited, IsUnreported};
+ghost use Rattle.audit_commands.specs.Body.Auditing.{IsFaultNamed, IsPrintedReport};
 ghost use Rattle.audit_commands.specs.FaultLines.{audit_notices};
 ghost use Rattle.audit_commands.specs.NamedFaults.{fault_named};
 
@@ -84,8 +84,10 @@ pub struct Work<R> {
     pub workers: u32,
 }
 
-// Returns the report on the sources, under a policy and a directory.
-fn report_under<T: Threads + Wait + Sync, R: Feed + Drop + Send>(
+/// Returns the report on the requests of the sources, under a policy and a directory.
+///
+/// Returns `Requests` if the requests are refused, or a thread could not be started, and `Memory` if allocation failed.
+pub fn report_under<T: Threads + Wait + Sync, R: Feed + Drop + Send>(
     alloc: Global,
     rt: &T,
     policy: &Checked,

@@ -14,7 +14,7 @@ mod sender;
 mod sources;
 mod words;
 
-pub use audit::{Work, answer_requests, audit_into, directory_of};
+pub use audit::{Work, answer_requests, audit_into, directory_of, report_under};
 pub use check::check_run;
 pub use expand::expand_run;
 pub use fault::{DirectoryFault, ExpansionFault, ReportFault, SourcesFault, file_status};

@@ -1,10 +1,10 @@
 -- The cells that are done.
 use Rattle.std.proofs.Common.{◌≡◌, ◌<◌, ◌≤◌, ◌+◌, ◌∙◌, ◌⊎◌, inl, inr, ℕ, zero, suc, Bool, true, false, ◌&&◌, List, [], ◌∷◌, ◌++◌, map}
-use Rattle.std.proofs.Common.{flat_map, ap, arith, refl, sym, subst, Option, None, Some, length, take, get_or}
+use Rattle.std.proofs.Common.{cond, flat_map, ap, arith, refl, sym, subst, Option, None, Some, length, take, get_or}
 use Rattle.std.specs.Prelude.{◌==◌, slice_get}
 use Rattle.std.specs.List.{range_with_len, Contains}
 use Rattle.std.proofs.lemmas.Bool.{and_parts, eqb-true}
-use Rattle.std.proofs.lemmas.List.Elements.{Contains-push_cases}
+use Rattle.std.proofs.lemmas.List.Elements.{Contains-append_left, Contains-push, Contains-push_cases}
 use Rattle.sudo_grammar.specs.declared.policy.Policy.{Policy}
 use Rattle.sudo_match.specs.declared.people.Machine.{Machine}
 use Rattle.sudo_match.specs.declared.people.Person.{Person}
@@ -13,25 +13,26 @@ use Rattle.review_compare.specs.declared.cell.Ask.{Ask}
 use Rattle.review_compare.specs.declared.cell.Cell.{Cell}
 use Rattle.review_compare.specs.declared.compared.Compared.{Compared}
 use Rattle.review_compare.specs.declared.compared.Compared.TheVariants as compared
-use Rattle.review_compare.specs.declared.differences.Pair.{Pair}
+use Rattle.review_compare.specs.declared.pair.Pair.{Pair}
 use Rattle.review_compare.specs.declared.differences.Spot.{Spot}
 use Rattle.review_compare.specs.declared.row.Row.{Row}
-use Rattle.review_compare.specs.Differences.{Finds, IsFound, IsDone, SameIf, question_at, question_if, has_cell, same_number, is_this_host}
+use Rattle.review_compare.specs.Differences.{Finds, IsFound, IsDone, SameIf, question_at, question_if, has_cell, known_at, same_number, is_this_host}
 use Rattle.review_compare.specs.Differences.{is_this_user, is_host_if, is_user_if, all_asks, AreDifferences}
-use Rattle.sudo_verdict.specs.Questions.{Question}
+use Rattle.sudo_verdict.specs.Questions.{Question, question_as}
 use Rattle.review_compare.specs.declared.block.Block.{Block}
 use Rattle.review_compare.specs.declared.differences.Listed.{Listed}
 use Rattle.review_compare.specs.Blocks.{AreBlocks}
 use Rattle.review_compare.specs.Compared.{said}
 use Rattle.review_compare.specs.Body.Chosen.{AreListed, standing_among}
 use Rattle.review_compare.proofs.ChosenLemmas.{all-stand, blocks-decide}
+use Rattle.review_compare.proofs.UnchangedLemmas.{less-or}
 use Rattle.review_compare.specs.Cells.{Decider, SaySame, deciders, verdict_among}
 use Rattle.review_compare.specs.Witnesses.{IsCompared}
 use Rattle.review_compare.proofs.CellLemmas.{rows_say_same}
 use Rattle.review_compare.specs.Body.Merged.{same_cell, same_numbers, Absorbs, AbsorbsAll}
 use Rattle.review_compare.specs.Body.Progress.{Progress, AddsFound, IsSpot, IsOn, AreListedIn, IsOnAsked, IsBefore, IsForAsked, IsForUser}
 use Rattle.review_compare.specs.Body.Progress.{IsUserBefore}
-use Rattle.review_compare.specs.Body.Progress.{IsAsked, cell_at, question_of}
+use Rattle.review_compare.specs.Body.Progress.{AreLeft, IsAsked, ask_of, cell_at, question_of}
 
 -- ---- Numbers
 
@@ -268,16 +269,6 @@ pub on-host : (p : Pair) (rows new : List Row) (s : Spot) (scope : Option Machin
     Progress p rows new (IsOn s.user s.host asks) → Progress p rows new (IsOnAsked p scope s.user s.host asks)
 on-host p rows new s scope asks on = record { kept = on.kept; right = on.right; done = λ c at. on.done c at.0 }
 
-less-or : (i n : ℕ) → i < n + 1 → (i < n) ⊎ (i ≡ n)
-less-or zero zero e = inr refl
-less-or (suc i) zero e = absurd (omega (arith, e))
-less-or zero (suc n) e = inl (omega arith)
-less-or (suc i) (suc n) e = go (less-or i n (omega (arith, e)))
-  where
-    go : (i < n) ⊎ (i ≡ n) → (suc i < suc n) ⊎ (suc i ≡ suc n)
-    go (inl e) = inl (omega (arith, e))
-    go (inr e) = inr (ap suc e)
-
 pub host-more : (p : Pair) (rows new : List Row) (user host : ℕ) (scope : Option Machine) (asks : List Ask) →
     Progress p [] rows (IsBefore p scope user host asks) → Progress p rows new (IsOnAsked p scope user host asks) →
     Progress p [] new (IsBefore p scope user (host + 1) asks)
@@ -370,3 +361,84 @@ all-differences p rows about scope asks are all = record {
     asked = subst (λ (xs : List Ask). Contains xs c.ask) (sym are) at.is_ask;
   });
 }
+
+-- ---- Users, hosts and asks for which nothing changes
+
+-- both policies say the same to the user on each host
+pub same-for-user : (p : Pair) (rows : List Row) (user : ℕ) (u : Person) (about : Option Person) (scope : Option Machine) (asks : List Ask) →
+    slice_get p.directory.now.people user ≡ Some u →
+    ((q : Question) → q.user ≡ u → SaySame p.old.checked.now p.new.checked.now q) → Progress p rows rows (IsForUser p about scope user asks)
+same-for-user p rows user u about scope asks there same =
+    nothing-added p rows (IsForUser p about scope user asks) (λ c at. at-host c at.own (slice_get p.directory.now.machines c.host) refl)
+  where
+    at-host : (c : Cell) → c.user ≡ user → (o : Option Machine) → slice_get p.directory.now.machines c.host ≡ o →
+        SameIf p.old.checked.now p.new.checked.now (question_at p.directory.now p.groups.now c)
+    at-host c own None on =
+        let person : slice_get p.directory.now.people c.user ≡ Some u = ap (slice_get p.directory.now.people) own ∙ there in
+        rw (person, on) tt
+    at-host c own (Some m) on =
+        let person : slice_get p.directory.now.people c.user ≡ Some u = ap (slice_get p.directory.now.people) own ∙ there in
+        rw (person, on) (same (question_as p.directory.now u m (known_at p.directory.now.people c.ask.target)
+        (known_at p.groups.now c.ask.group)) refl)
+
+-- both policies say the same to the user on the host
+pub same-on-host : (p : Pair) (rows : List Row) (s : Spot) (scope : Option Machine) (asks : List Ask) → IsSpot p s →
+    ((q : Question) → q.user ≡ s.person.now → q.host ≡ s.machine.now → SaySame p.old.checked.now p.new.checked.now q) →
+    Progress p rows rows (IsOnAsked p scope s.user s.host asks)
+same-on-host p rows s scope asks at same =
+    nothing-added p rows (IsOnAsked p scope s.user s.host asks) (λ c on. here c on.0.0 on.0.1)
+  where
+    here : (c : Cell) → c.user ≡ s.user → c.host ≡ s.host →
+        SameIf p.old.checked.now p.new.checked.now (question_at p.directory.now p.groups.now c)
+    here c own on =
+        let is : c ≡ cell_at s c.ask = rw (sym own, sym on) refl in
+        let asked = ap (question_at p.directory.now p.groups.now) is ∙ spot-question p s c.ask at in
+        subst (λ (o : Option Question). SameIf p.old.checked.now p.new.checked.now o) (sym asked)
+        (same (question_of p s c.ask) refl refl)
+
+-- one ask more, which is left unless both policies say the same to it
+pub left-more : (p : Pair) (u : Person) (asks : List Ask) (k : ℕ) (a : Ask) (b : Bool) (left new : List Ask) → k < length asks →
+    a ≡ get_or asks k a → AreLeft p u (take k asks) left → new ≡ left ++ cond b (a ∷ []) [] →
+    (b ≡ false → (m : Machine) → SaySame p.old.checked.now p.new.checked.now (ask_of p u m a)) → AreLeft p u (take (k + 1) asks) new
+left-more p u asks k a b left new less is so_far more same x at =
+    by b more same
+    (Contains-push_cases (take k asks) a x (subst (λ (xs : List Ask). Contains xs x) (take-more asks k a less is) at))
+  where
+    Same : Ask → Type 0
+    Same y = (m : Machine) → SaySame p.old.checked.now p.new.checked.now (ask_of p u m y)
+
+    held : Contains left x ⊎ Same x → (rest : List Ask) → Contains (left ++ rest) x ⊎ Same x
+    held (inl there) rest = inl (Contains-append_left left rest x there)
+    held (inr same) rest = inr same
+
+    by : (b : Bool) → new ≡ left ++ cond b (a ∷ []) [] → (b ≡ false → Same a) → Contains (take k asks) x ⊎ (a ≡ x) →
+        Contains new x ⊎ Same x
+    by b is-new same (inl before) = rw is-new (held (so_far x before) (cond b (a ∷ []) []))
+    by true is-new same (inr here) = rw (is-new, sym here) (inl (Contains-push left a))
+    by false is-new same (inr here) = inr (subst Same here (same refl))
+
+-- where both policies say the same but to these asks, those are enough
+pub asks-left : (p : Pair) (rows : List Row) (user : ℕ) (u : Person) (scope : Option Machine) (asks left : List Ask) →
+    slice_get p.directory.now.people user ≡ Some u → AreLeft p u asks left →
+    Progress p [] rows (IsForAsked p scope user left) → Progress p [] rows (IsForAsked p scope user asks)
+asks-left p rows user u scope asks left there are so_far = record {
+  kept = so_far.kept;
+  right = so_far.right;
+  done = λ c at. by c at (are c.ask at.asked);
+}
+  where
+    at-host : (c : Cell) → c.user ≡ user → (o : Option Machine) → slice_get p.directory.now.machines c.host ≡ o →
+        ((m : Machine) → SaySame p.old.checked.now p.new.checked.now (ask_of p u m c.ask)) →
+        SameIf p.old.checked.now p.new.checked.now (question_at p.directory.now p.groups.now c)
+    at-host c own None on same =
+        let person : slice_get p.directory.now.people c.user ≡ Some u = ap (slice_get p.directory.now.people) own ∙ there in
+        rw (person, on) tt
+    at-host c own (Some m) on same =
+        let person : slice_get p.directory.now.people c.user ≡ Some u = ap (slice_get p.directory.now.people) own ∙ there in
+        rw (person, on) (same m)
+
+    by : (c : Cell) → IsForAsked p scope user asks c →
+        Contains left c.ask ⊎ ((m : Machine) → SaySame p.old.checked.now p.new.checked.now (ask_of p u m c.ask)) →
+        IsDone p.old.checked.now p.new.checked.now p.directory.now p.groups.now rows c
+    by c at (inl asked) = so_far.done c (record { own = at.own; on = at.on; asked = asked })
+    by c at (inr same) = inl (at-host c at.own (slice_get p.directory.now.machines c.host) refl same)

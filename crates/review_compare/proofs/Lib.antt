@@ -11,3 +11,4 @@ pub mod MergeLemmas
 pub mod DifferenceLemmas
 pub mod RowLemmas
 pub mod TextLemmas
+pub mod UnchangedLemmas

@@ -5,3 +5,4 @@ pub mod Chosen
 pub mod Merged
 pub mod Progress
 pub mod Lines
+pub mod Unchanged

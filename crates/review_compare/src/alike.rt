@@ -8,7 +8,7 @@ use crate::shape::are_same_arguments;
 use crate::witness::Witness;
 use sudo_grammar::Atom;
 use sudo_match::{Tags, Verdict};
-use sudo_text::{Place, Seq};
+use sudo_text::{Ch, Place, Seq};
 
 fn are_same_bytes(text: &Seq<u8>, other: &Seq<u8>) -> bool
     ensures { result ≡ true → text.now ≡ other.now }
@@ -97,12 +97,43 @@ fn are_same_witnesses(witnesses: &[Witness], others: &[Witness]) -> bool
     }
 }
 
-/// Whether two commands are written alike.
+// Whether two patterns of hosts have the same characters.
+fn are_same_patterns(chars: &Seq<Ch>, other: &Seq<Ch>) -> bool
+    ensures { result ≡ true → chars.now ≡ other.now }
+{
+    same_chars(chars.as_slice(), other.as_slice())
+}
+
+/// Whether two atoms are the same. Aliases count as different: no list that is written out has one.
 pub(crate) fn is_same_atom(atom: &Atom, other: &Atom) -> bool
     ensures { result ≡ true → atom.now ≡ other.now }
 {
     match (atom, other) {
         (Atom::All, Atom::All) => true,
+        (Atom::Name(name), Atom::Name(other)) => are_same_bytes(name, other),
+        (Atom::Uid(id), Atom::Uid(other)) => *id == *other,
+        (Atom::Group(name), Atom::Group(other)) => are_same_bytes(name, other),
+        (Atom::Gid(id), Atom::Gid(other)) => *id == *other,
+        (
+            Atom::Host { chars, quoted },
+            Atom::Host {
+                chars: other_chars,
+                quoted: other_quoted,
+            },
+        ) => {
+            if *quoted != *other_quoted {
+                return false;
+            }
+            are_same_patterns(chars, other_chars)
+        }
+        (Atom::Address(address), Atom::Address(other)) => *address == *other,
+        (
+            Atom::Net { addr, mask },
+            Atom::Net {
+                addr: other_addr,
+                mask: other_mask,
+            },
+        ) => *addr == *other_addr && *mask == *other_mask,
         (
             Atom::Command { path, args },
             Atom::Command {

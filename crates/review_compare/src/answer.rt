@@ -94,7 +94,7 @@ fn is_allowed(verdict: &Verdict) -> bool
 }
 
 /// Returns what the change of a verdict does, or `None` if both say the same.
-pub(crate) fn answer_between(old: &Verdict, new: &Verdict) -> Option<Answer>
+pub fn answer_between(old: &Verdict, new: &Verdict) -> Option<Answer>
     ensures { result ≡ cells.answer_between old.now new.now }
 {
     if says_same(old, new) {

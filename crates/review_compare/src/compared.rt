@@ -132,8 +132,8 @@ fn is_same_ruling(row: &Ruled<'_>, other: &Ruled<'_>) -> bool
     is_same_atom(&row.shape.atom, &other.shape.atom)
 }
 
-// Whether the rows answer the same, one by one.
-fn have_same_rulings(rows: &[Ruled<'_>], others: &[Ruled<'_>]) -> bool
+/// Whether the rows answer the same, one by one.
+pub(crate) fn have_same_rulings(rows: &[Ruled<'_>], others: &[Ruled<'_>]) -> bool
     ensures { result ≡ true → map body.ruling_of rows.now ≡ map body.ruling_of others.now }
 {
     if rows.len() != others.len() {

@@ -1,5 +1,5 @@
 //! The differences of two policies, cell by cell.
-ghost use Rattle.std.specs.Prelude.{◌≡◌, [], IfOk, length, OnOk, Some, option_copied, slice_get, true};
+ghost use Rattle.std.specs.Prelude.{◌≡◌, ◌++◌, ◌∷◌, [], if◌then◌else◌, IfOk, length, OnOk, Some, option_copied, slice_get, true};
 ghost use Rattle.review_compare.specs.Cells.{deciders};
 ghost use Rattle.review_compare.specs.Differences as differences;
 ghost use Rattle.review_compare.specs.Witnesses.{IsCompared};
@@ -9,22 +9,14 @@ ghost use Rattle.review_compare.specs.Body.Progress as body;
 use crate::asks::{all_asks, group_at, person_at};
 use crate::cell::{Ask, Cell};
 use crate::compared::{Compared, compared_rows};
+use crate::pair::Pair;
 use crate::row::{Dimension, Row, absorb, absorb_all};
-use crate::side::{Side, rows_at};
+use crate::side::rows_at;
 use review_grants::Scope;
 use std::alloc::{AllocError, Global};
 use sudo_match::{Directory, Group, Machine, Person};
 use sudo_policy::Checked;
 use sudo_verdict::Asker;
-
-/// Two policies, with the known users, hosts and groups.
-#[derive(Drop)]
-pub(crate) struct Pair<'a> {
-    pub(crate) old: Side<'a>,
-    pub(crate) new: Side<'a>,
-    pub(crate) directory: &'a Directory,
-    pub(crate) groups: &'a [Group],
-}
 
 // The indices of blocks of both policies.
 #[derive(Drop)]
@@ -242,12 +234,43 @@ fn add_host(
     if !is_this_host(scope, spot.machine) {
         return Ok(());
     }
+    if !pair.may_differ_on(spot.person, spot.machine) {
+        return Ok(());
+    }
     let on = listed_on(alloc, pair, spot, listed)?;
     add_spot(alloc, pair, spot, &on, asks, rows)
 }
 
-// Returns what is found for the user on the hosts that are asked about.
-fn rows_for(
+// Appends what is asked, if it is kept.
+fn push_if(asks: &mut Vec<Ask>, ask: Ask, keep: bool) -> Result<(), AllocError>
+    ensures { OnOk result (asks.new.items
+        ≡ asks.old.items ++ (if keep then ask ∷ [] else [])) }
+{
+    if keep {
+        asks.push(ask)?;
+    }
+    Ok(())
+}
+
+// Returns what is asked but for that to which both policies say the same to the user, on each host.
+fn asks_left(
+    alloc: Global,
+    pair: &Pair<'_>,
+    person: &Person,
+    machine: &Machine,
+    asks: &[Ask],
+) -> Result<Vec<Ask>, AllocError>
+    ensures { IfOk result (λ left. body.AreLeft pair.now person.now asks.now left.items) }
+{
+    let mut left = Vec::new(alloc);
+    for ask in asks {
+        push_if(&mut left, *ask, pair.may_differ_at(person, machine, *ask))?;
+    }
+    Ok(left)
+}
+
+// Returns what is found for the user on the hosts that are asked about, where this is asked.
+fn rows_for_asks(
     alloc: Global,
     pair: &Pair<'_>,
     user: usize,
@@ -274,6 +297,28 @@ fn rows_for(
     Ok(rows)
 }
 
+// Returns what is found for the user on the hosts that are asked about.
+fn rows_for(
+    alloc: Global,
+    pair: &Pair<'_>,
+    user: usize,
+    person: &Person,
+    scope: Option<&Machine>,
+    asks: &[Ask],
+) -> Result<Vec<Row>, AllocError>
+    requires { slice_get pair.now.directory.now.people user ≡ Some person.now }
+    ensures { IfOk result (λ rows. body.Progress pair.now [] rows.items
+        (body.IsForAsked pair.now (option_copied scope.entry) user asks.now)) }
+{
+    match pair.directory.machines().first() {
+        None => rows_for_asks(alloc, pair, user, person, scope, asks),
+        Some(machine) => {
+            let left = asks_left(alloc, pair, person, machine, asks)?;
+            rows_for_asks(alloc, pair, user, person, scope, &left)
+        }
+    }
+}
+
 // Adds what is found for the user, if it is asked about; rows that differ in the user alone become one.
 fn add_user(
     alloc: Global,
@@ -290,6 +335,9 @@ fn add_user(
         (option_copied scope.entry.host) user asks.entry.now)) }
 {
     if !is_this_user(scope.user, person) {
+        return Ok(());
+    }
+    if !pair.may_differ_for(person) {
         return Ok(());
     }
     let more = rows_for(alloc, pair, user, person, scope.host, asks)?;
@@ -334,11 +382,6 @@ pub fn compared_policies(
         rows.items) }
 {
     let asks = all_asks(alloc, directory, groups)?;
-    let pair = Pair {
-        old: Side::of(alloc, old)?,
-        new: Side::of(alloc, new)?,
-        directory,
-        groups,
-    };
+    let pair = Pair::of(alloc, old, new, directory, groups)?;
     all_rows(alloc, &pair, scope, &asks)
 }

@@ -1,14 +1,17 @@
 //! A policy with its grants in blocks, and which of them stand for a question.
 ghost use Rattle.std.specs.Prelude.{◌≡◌, IfOk, IsTrue, OnOk, option_copied, true};
 ghost use Rattle.std.specs.List.{list_all};
-ghost use Rattle.sudo_verdict.specs.Questions.{question_as};
+ghost use Rattle.sudo_verdict.specs.Questions.{Question, question_as};
 ghost use Rattle.review_compare.specs.Blocks.{AreBlocks, block_resolves};
 ghost use Rattle.review_compare.specs.Body.Chosen as body;
 ghost use Rattle.review_compare.specs.Body.Shown.{all_shown};
-ghost use Rattle.std.specs.Prelude.{◌++◌, ◌∷◌, [], if◌then◌else◌};
+ghost use Rattle.review_compare.specs.Body.Unchanged.{IsQuiet};
+ghost use Rattle.std.specs.Prelude.{◌++◌, ◌∷◌, ◌&&◌, [], false, if◌then◌else◌};
+ghost use Rattle.sudo_match.specs.declared.people.Machine.{Machine as TheMachine};
 ghost use Rattle.review_compare.specs.Cells as cells;
 
 use crate::block::{Block, blocks_of};
+use crate::common::Common;
 use crate::ruling::Ruled;
 use std::alloc::{AllocError, Global};
 use sudo_match::{Directory, Machine, Person};
@@ -78,6 +81,72 @@ impl Side<'_> {
             None => false,
             Some(block) => allows_runas(self.checked, directory, asker, block.runas),
         }
+    }
+
+    /// Whether the user list of a block between those in common allows the user.
+    pub(crate) fn is_for_user(&self, common: Common, user: &Person) -> bool
+        ensures { result ≡ false → (q : Question) → q.user ≡ user.now
+            → IsQuiet self.now.checked.now self.now.blocks.items common q }
+    {
+        for index in common.front..self.blocks.len().saturating_sub(common.back) {
+            if self.lists_user_at(index, user) {
+                return true;
+            }
+        }
+        false
+    }
+
+    // Whether the lists of the block at an index allow the user and the host.
+    fn lists_spot_at(&self, index: usize, user: &Person, host: &Machine) -> bool
+        ensures { result ≡ (body.user_at self.now.checked.now self.now.blocks.items user.now index
+            && body.host_at self.now.checked.now self.now.blocks.items host.now index) }
+    {
+        self.lists_user_at(index, user) && self.lists_host_at(index, host)
+    }
+
+    /// Whether the lists of a block between those in common allow the user and the host.
+    pub(crate) fn is_for_spot(&self, common: Common, user: &Person, host: &Machine) -> bool
+        ensures { result ≡ false → (q : Question) → q.user ≡ user.now → q.host ≡ host.now
+            → IsQuiet self.now.checked.now self.now.blocks.items common q }
+    {
+        for index in common.front..self.blocks.len().saturating_sub(common.back) {
+            if self.lists_spot_at(index, user, host) {
+                return true;
+            }
+        }
+        false
+    }
+
+    // Whether the runas of the block at an index allows the target and the group, and its user list the user.
+    fn lists_asker_at(&self, index: usize, directory: &Directory, asker: Asker<'_>) -> bool
+        ensures { result ≡ (body.runas_at self.now.checked.now self.now.blocks.items
+            (question_as directory.now asker.entry.user.now asker.entry.host.now
+            (option_copied asker.entry.target) (option_copied asker.entry.group)) index
+            && body.user_at self.now.checked.now self.now.blocks.items
+            asker.entry.user.now index) }
+    {
+        self.allows_at(index, directory, asker) && self.lists_user_at(index, asker.user)
+    }
+
+    /// Whether the runas of a block between those in common allows the target and the group, and its user list the user; the
+    /// host may be any.
+    pub(crate) fn is_for_asker(
+        &self,
+        common: Common,
+        directory: &Directory,
+        asker: Asker<'_>,
+    ) -> bool
+        ensures { result ≡ false → (m : TheMachine)
+            → IsQuiet self.now.checked.now self.now.blocks.items common
+            (question_as directory.now asker.entry.user.now m
+            (option_copied asker.entry.target) (option_copied asker.entry.group)) }
+    {
+        for index in common.front..self.blocks.len().saturating_sub(common.back) {
+            if self.lists_asker_at(index, directory, asker) {
+                return true;
+            }
+        }
+        false
     }
 
     /// Returns the indices of the blocks whose user list allows the user. Returns `AllocError` if allocation fails.

@@ -7,11 +7,12 @@ use Rattle.sudo_verdict.specs.Questions.{Question, question_as}
 use Rattle.review_compare.specs.declared.cell.Ask.{Ask}
 use Rattle.review_compare.specs.declared.cell.Cell.{Cell}
 use Rattle.review_compare.specs.declared.compared.Compared.{Compared}
-use Rattle.review_compare.specs.declared.differences.Pair.{Pair}
+use Rattle.review_compare.specs.declared.pair.Pair.{Pair}
 use Rattle.review_compare.specs.declared.differences.Listed.{Listed}
 use Rattle.review_compare.specs.declared.differences.Spot.{Spot}
 use Rattle.review_compare.specs.declared.row.Row.{Row}
 use Rattle.review_compare.specs.Differences.{Finds, IsFound, IsDone, is_host_if, is_user_if, known_at}
+use Rattle.review_compare.specs.Cells.{SaySame}
 use Rattle.review_compare.specs.Body.Chosen.{AreListed, HaveAllOf, user_at}
 use Rattle.review_compare.specs.Body.Merged.{same_cell}
 
@@ -38,6 +39,15 @@ pub record AreListedIn (p : Pair) (s : Spot) (l : Listed) : Type 0 where
 abbrev pub question_of : Pair → Spot → Ask → Question
 question_of p s a = question_as p.directory.now s.person.now s.machine.now (known_at p.directory.now.people a.target)
     (known_at p.groups.now a.group)
+
+-- what the user on the host asks for
+abbrev pub ask_of : Pair → Person → Machine → Ask → Question
+ask_of p u m a = question_as p.directory.now u m (known_at p.directory.now.people a.target) (known_at p.groups.now a.group)
+
+-- of what is asked all is left but that to which both policies say the same, on each host
+abbrev pub AreLeft : Pair → Person → List Ask → List Ask → Type 0
+AreLeft p u asks left = (a : Ask) → Contains asks a →
+    Contains left a ⊎ ((m : Machine) → SaySame p.old.checked.now p.new.checked.now (ask_of p u m a))
 
 -- the user and the host have these indices
 abbrev pub IsSpot : Pair → Spot → Type 0

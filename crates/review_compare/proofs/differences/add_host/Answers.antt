@@ -1,6 +1,6 @@
 use Rattle.std.proofs.Common.{◌∙◌, option_copied, sym}
 use Rattle.sudo_base.proofs.Options.{on_ok}
-use Rattle.review_compare.proofs.DifferenceLemmas.{on-host, other-host}
+use Rattle.review_compare.proofs.DifferenceLemmas.{on-host, other-host, same-on-host}
 use Rattle.review_compare.proofs.differences.add_host.Goals as goal
 
 pub returns-then-not-is_this_host : goal.returns-then-not-is_this_host
@@ -13,3 +13,8 @@ returns c =
     on_ok c.add_spot.result
     (on-host c.args.pair.now c.args.rows.now.items c.add_spot.new.rows.items c.args.spot (option_copied c.args.scope) c.args.asks.now)
     c.add_spot.ensures
+
+pub returns-then-not-may_differ_on : goal.returns-then-not-may_differ_on
+returns-then-not-may_differ_on c =
+    same-on-host c.args.pair.now c.args.rows.now.items c.args.spot (option_copied c.args.scope) c.args.asks.now c.requires.spot
+    (c.may_differ_on.ensures c.if-not-may_differ_on.true)

@@ -1,6 +1,6 @@
 use Rattle.std.proofs.Common.{◌∙◌, option_copied, sym}
 use Rattle.sudo_base.proofs.Options.{on_ok}
-use Rattle.review_compare.proofs.DifferenceLemmas.{for-user, other-user}
+use Rattle.review_compare.proofs.DifferenceLemmas.{for-user, other-user, same-for-user}
 use Rattle.review_compare.proofs.differences.add_user.Goals as goal
 
 pub returns-then-not-is_this_user : goal.returns-then-not-is_this_user
@@ -14,3 +14,8 @@ returns c =
     (for-user c.args.pair.now c.args.rows.now.items c.in_ok-more.more.items c.absorb_all.new.rows.items (option_copied c.args.scope.user)
     (option_copied c.args.scope.host) c.args.user c.args.asks.now c.in_ok-more.ensures)
     c.absorb_all.ensures
+
+pub returns-then-not-may_differ_for : goal.returns-then-not-may_differ_for
+returns-then-not-may_differ_for c =
+    same-for-user c.args.pair.now c.args.rows.now.items c.args.user c.args.person.now (option_copied c.args.scope.user)
+    (option_copied c.args.scope.host) c.args.asks.now c.requires (c.may_differ_for.ensures c.if-not-may_differ_for.true)

@@ -1,6 +1,6 @@
 use Rattle.std.proofs.Common.{[], option_copied}
 use Rattle.review_compare.specs.Body.Progress.{Progress, IsBefore}
-use Rattle.review_compare.proofs.differences.rows_for.Given as goal
+use Rattle.review_compare.proofs.differences.rows_for_asks.Given as goal
 
 abbrev pub invariant-loop-host : goal.invariant-loop-host
 invariant-loop-host l = Progress l.pair [] l.rows.items (IsBefore l.pair (option_copied l.scope) l.fn.user l.host l.asks)

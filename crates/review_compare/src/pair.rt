@@ -1,0 +1,91 @@
+//! Two policies that are compared, and where they may differ.
+ghost use Rattle.std.specs.Prelude.{◌≡◌, false, IfOk};
+ghost use Rattle.sudo_match.specs.declared.people.Machine.{Machine as TheMachine};
+ghost use Rattle.sudo_verdict.specs.Questions.{Question, question_as};
+ghost use Rattle.review_compare.specs.Cells.{SaySame};
+ghost use Rattle.review_compare.specs.Differences.{known_at};
+ghost use Rattle.review_compare.specs.Body.Unchanged.{AreCommon};
+
+use crate::asks::{group_at, person_at};
+use crate::cell::Ask;
+use crate::common::{Common, common_of};
+use crate::side::Side;
+use std::alloc::{AllocError, Global};
+use sudo_match::{Directory, Group, Machine, Person};
+use sudo_policy::Checked;
+use sudo_verdict::Asker;
+
+/// Two policies, with the known users, hosts and groups.
+#[derive(Drop)]
+pub(crate) struct Pair<'a> {
+    pub(crate) old: Side<'a>,
+    pub(crate) new: Side<'a>,
+    pub(crate) directory: &'a Directory,
+    pub(crate) groups: &'a [Group],
+    pub(crate) common: Common,
+    ghost are_common: { AreCommon old.checked.now old.blocks.items new.checked.now
+        new.blocks.items common },
+}
+
+impl<'a> Pair<'a> {
+    /// Returns two policies with what they have in common. Returns `AllocError` if allocation fails.
+    pub(crate) fn of(
+        alloc: Global,
+        old: &'a Checked,
+        new: &'a Checked,
+        directory: &'a Directory,
+        groups: &'a [Group],
+    ) -> Result<Pair<'a>, AllocError>
+        ensures { IfOk result (λ pair. (pair.old.checked.now ≡ old.now)
+            × (pair.new.checked.now ≡ new.now) × (pair.directory.now ≡ directory.now)
+            × (pair.groups.now ≡ groups.now)) }
+    {
+        let old = Side::of(alloc, old)?;
+        let new = Side::of(alloc, new)?;
+        let common = common_of(alloc, &old, &new)?;
+        Ok(Pair {
+            old,
+            new,
+            directory,
+            groups,
+            common,
+        })
+    }
+}
+
+impl Pair<'_> {
+    /// Whether the policies may differ for the user: a block that they do not have in common is for the user.
+    pub(crate) fn may_differ_for(&self, person: &Person) -> bool
+        ensures { result ≡ false → (q : Question) → q.user ≡ person.now
+            → SaySame self.now.old.checked.now self.now.new.checked.now q }
+    {
+        self.old.is_for_user(self.common, person) || self.new.is_for_user(self.common, person)
+    }
+
+    /// Whether the policies may differ for the user on the host.
+    pub(crate) fn may_differ_on(&self, person: &Person, machine: &Machine) -> bool
+        ensures { result ≡ false → (q : Question) → q.user ≡ person.now → q.host ≡ machine.now
+            → SaySame self.now.old.checked.now self.now.new.checked.now q }
+    {
+        self.old.is_for_spot(self.common, person, machine)
+            || self.new.is_for_spot(self.common, person, machine)
+    }
+
+    /// Whether the policies may differ for the user who asks for a target and a group, on any host.
+    pub(crate) fn may_differ_at(&self, person: &Person, machine: &Machine, ask: Ask) -> bool
+        ensures { result ≡ false → (m : TheMachine)
+            → SaySame self.now.old.checked.now self.now.new.checked.now
+            (question_as self.now.directory.now person.now m
+            (known_at self.now.directory.now.people ask.target)
+            (known_at self.now.groups.now ask.group)) }
+    {
+        let asker = Asker {
+            user: person,
+            host: machine,
+            target: person_at(self.directory, ask.target),
+            group: group_at(self.groups, ask.group),
+        };
+        self.old.is_for_asker(self.common, self.directory, asker)
+            || self.new.is_for_asker(self.common, self.directory, asker)
+    }
+}
