@@ -16,7 +16,8 @@ use Rattle.review_compare.specs.declared.compared.Compared.TheVariants as compar
 use Rattle.review_compare.specs.declared.pair.Pair.{Pair}
 use Rattle.review_compare.specs.declared.differences.Spot.{Spot}
 use Rattle.review_compare.specs.declared.row.Row.{Row}
-use Rattle.review_compare.specs.Differences.{Finds, IsFound, IsDone, SameIf, question_at, question_if, has_cell, known_at, same_number, is_this_host}
+use Rattle.review_compare.specs.Differences.{Finds, IsFound, IsDone, SameIf, question_at, question_if, has_cell, known_at}
+use Rattle.review_compare.specs.Differences.{same_number, is_this_host}
 use Rattle.review_compare.specs.Differences.{is_this_user, is_host_if, is_user_if, all_asks, AreDifferences}
 use Rattle.sudo_verdict.specs.Questions.{Question, question_as}
 use Rattle.review_compare.specs.declared.block.Block.{Block}
@@ -365,7 +366,8 @@ all-differences p rows about scope asks are all = record {
 -- ---- Users, hosts and asks for which nothing changes
 
 -- both policies say the same to the user on each host
-pub same-for-user : (p : Pair) (rows : List Row) (user : ℕ) (u : Person) (about : Option Person) (scope : Option Machine) (asks : List Ask) →
+pub same-for-user : (p : Pair) (rows : List Row) (user : ℕ) (u : Person) (about : Option Person) (scope : Option Machine)
+    (asks : List Ask) →
     slice_get p.directory.now.people user ≡ Some u →
     ((q : Question) → q.user ≡ u → SaySame p.old.checked.now p.new.checked.now q) → Progress p rows rows (IsForUser p about scope user asks)
 same-for-user p rows user u about scope asks there same =

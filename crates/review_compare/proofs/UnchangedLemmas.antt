@@ -28,7 +28,8 @@ use Rattle.review_compare.specs.declared.common.Common.{Common}
 use Rattle.review_compare.specs.Agreement.{Ruling}
 use Rattle.review_compare.specs.Blocks.{AreBlocks, block_decider, block_stands, standing}
 use Rattle.review_compare.specs.Cells.{Decider, SaySame, deciders, ruling_by}
-use Rattle.review_compare.specs.Body.Chosen.{deciders_at, deciders_if, deciders_of, host_at, runas_at, runas_if, standing_at, standing_if, user_at}
+use Rattle.review_compare.specs.Body.Chosen.{deciders_at, deciders_if, deciders_of, host_at, runas_at, runas_if, standing_at}
+use Rattle.review_compare.specs.Body.Chosen.{standing_if, user_at}
 use Rattle.review_compare.specs.Body.Unchanged.{AreAlikeAt, AreCommon, ArePartsAlike, IsQuiet, StandAlike, rulings_at, written_if}
 use Rattle.review_compare.proofs.CellLemmas.{rows_say_same, rulings-say-same}
 use Rattle.review_compare.proofs.ChosenLemmas.{all-stand, blocks-decide, no-host, no-user}
@@ -138,7 +139,8 @@ joined f a zero n =
 joined f a (suc m) n =
     ap (λ k. flat_map f (range_with_len a k)) (let e : suc m + n ≡ suc (m + n) = omega arith in e)
     ∙ ap (λ (xs : List _). f a ++ xs) (joined f (a + 1) m n
-    ∙ ap (λ k. flat_map f (range_with_len (a + 1) m) ++ flat_map f (range_with_len k n)) (let e : (a + 1) + m ≡ a + suc m = omega arith in e))
+    ∙ ap (λ k. flat_map f (range_with_len (a + 1) m) ++ flat_map f (range_with_len k n))
+    (let e : (a + 1) + m ≡ a + suc m = omega arith in e))
     ∙ sym (append_assoc (f a) (flat_map f (range_with_len (a + 1) m)) (flat_map f (range_with_len (a + suc m) n)))
 
 silent : {X : Type 0} (f : ℕ → List X) (a n : ℕ) → ((i : ℕ) → a ≤ i → i < a + n → f i ≡ []) → flat_map f (range_with_len a n) ≡ []
@@ -272,8 +274,8 @@ same-runas p q s None own asked group target = ap (root_allowed q) target ∙ by
     by None = refl
     by (Some t) = rw group refl
 
-other-host-runas : (p : Policy) (bs : List Block) (d : KnownRows) (u : Person) (m n : Machine) (t : Option Person) (g : Option Group) (i : ℕ) →
-    runas_at p bs (question_as d u m t g) i ≡ runas_at p bs (question_as d u n t g) i
+other-host-runas : (p : Policy) (bs : List Block) (d : KnownRows) (u : Person) (m n : Machine) (t : Option Person) (g : Option Group)
+    (i : ℕ) → runas_at p bs (question_as d u m t g) i ≡ runas_at p bs (question_as d u n t g) i
 other-host-runas p bs d u m n t g i = by (slice_get bs i)
   where
     by : (o : Option Block) → runas_if p (question_as d u m t g) o ≡ runas_if p (question_as d u n t g) o
@@ -281,8 +283,8 @@ other-host-runas p bs d u m n t g i = by (slice_get bs i)
     by (Some b) = same-runas p (question_as d u m t g) (question_as d u n t g) (option_copied b.runas) refl refl refl refl
 
 -- of the user who asks for a target and a group, on every host
-pub ask-quiet : (p : Policy) (bs : List Block) (c : Common) (d : KnownRows) (u : Person) (m : Machine) (t : Option Person) (g : Option Group)
-    (n : ℕ) → length bs ≤ n + c.back →
+pub ask-quiet : (p : Policy) (bs : List Block) (c : Common) (d : KnownRows) (u : Person) (m : Machine) (t : Option Person)
+    (g : Option Group) (n : ℕ) → length bs ≤ n + c.back →
     ((i : ℕ) → c.front ≤ i → i < n → (runas_at p bs (question_as d u m t g) i && user_at p bs u i) ≡ false) →
     (k : Machine) → IsQuiet p bs c (question_as d u k t g)
 ask-quiet p bs c d u m t g n all none k i low high =

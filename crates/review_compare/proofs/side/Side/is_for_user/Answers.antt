@@ -9,5 +9,5 @@ loop-index-preserved c =
     c.loop-index.invariant (sym c.lists_user_at.ensures ∙ c.if-lists_user_at.false)
 
 pub returns : goal.returns
-returns c = λ e. user-quiet c.args.self.now.checked.now c.args.self.now.blocks.items c.args.common c.args.user.now c.loop-index.index (omega (arith, c.loop-index-test.false))
-    c.loop-index.invariant
+returns c = λ e. user-quiet c.args.self.now.checked.now c.args.self.now.blocks.items c.args.common c.args.user.now c.loop-index.index
+    (omega (arith, c.loop-index-test.false)) c.loop-index.invariant
