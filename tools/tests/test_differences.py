@@ -1,7 +1,7 @@
 """Comparisons of policies drawn at random with one edit: each row is so, and without a row nothing is answered otherwise.
 
-The variable POLICIES says how many policies there are, and PROBES how many requests of each cell without a row: with 4000 and
-100 there are some 100,000,000 requests.
+The variable POLICIES says how many policies there are, FIRST the number of the first one, and PROBES how many requests of each
+cell without a row: with 4000 policies and 100 probes there are some 100,000,000 requests.
 """
 
 import csv
@@ -16,9 +16,12 @@ from typing import NamedTuple
 import listing
 import test_grants
 from drawn import Drawn
+from kulavemia.answers import Verdict
+from kulavemia.compare import CHANGE_HEADER, kind_of
 from support import PROGRAM, REQUESTS_HEADER, REVIEW, needs_program, needs_review
 
 POLICIES = int(os.environ.get("POLICIES", "30"))
+FIRST = int(os.environ.get("FIRST", "0"))
 PROBES = int(os.environ.get("PROBES", "12"))
 HEADER = "users,hosts,runas_user,runas_group,answer,command,arguments,old,old_place,old_tags,new,new_place,new_tags"
 # The lines that count the cautions on the policies, where there are some.
@@ -156,6 +159,11 @@ class Draw(test_grants.Draw):
         return [(command, arguments) for command, _, arguments in (word.partition(",") for word in drawn)]
 
 
+def paired(old: Said, new: Said) -> tuple[str, ...]:
+    """Returns both verdicts, both tags and both places."""
+    return old.verdict, new.verdict, old.tags, new.tags, old.place, new.place
+
+
 @needs_program
 @needs_review
 class Comparisons(Drawn):
@@ -185,7 +193,7 @@ class Comparisons(Drawn):
 
     def test_rows_are_so_and_nothing_else_differs(self) -> None:
         seen: Counter[str] = Counter()
-        for seed in range(POLICIES):
+        for seed in range(FIRST, FIRST + POLICIES):
             draw = Draw(seed)
             old, new = str(draw.policy), draw.edited()
             with self.subTest(seed=seed, old=old, new=new):
@@ -209,7 +217,7 @@ class Comparisons(Drawn):
         self.assertLessEqual(seen["may"] * 50, sum(seen.values()) - seen["same"], seen)
 
     def test_rows_of_a_user_on_a_host(self) -> None:
-        for seed in range(0, POLICIES, 3):
+        for seed in range(FIRST, FIRST + POLICIES, 3):
             draw = Draw(seed)
             old, new = str(draw.policy), draw.edited()
             user, host = draw.random.choice([*listing.GROUPS]), draw.random.choice(sorted(listing.KNOWN_HOSTS))
@@ -218,6 +226,35 @@ class Comparisons(Drawn):
                 self.assertEqual(self.found(self.compared(old, new, f"--user={user}", f"--host={host}"), user, host), wanted)
                 for row in self.compared(old, new, f"--user={user}", f"--host={host}"):
                     self.assertEqual({(cell.user, cell.host) for cell in row.cells}, {(user, host)})
+
+    def test_requests_that_are_answered_otherwise(self) -> None:
+        seen: Counter[str] = Counter()
+        for seed in range(FIRST, FIRST + POLICIES):
+            draw = Draw(seed)
+            old, new = str(draw.policy), draw.edited()
+            cells = draw.random.sample(all_cells(), 40)
+            requests = [Request(cell, *probe) for cell in cells for probe in draw.probes()]
+            with self.subTest(seed=seed, old=old, new=new):
+                before, after = self.said(old, "old", requests), self.said(new, "new", requests)
+                wanted = [
+                    [kind, "s", str(number), *request.cell, *request[1:], *paired(was, now)]
+                    for number, (request, was, now) in enumerate(zip(requests, before, after), 1)
+                    if (kind := kind_of(Verdict(*was), Verdict(*now)))
+                ]
+                self.assertEqual(self.changed(old, new), wanted)
+                seen.update(row[0] for row in wanted)
+        self.assertLessEqual({"gained", "lost", "other"}, set(seen))
+
+    def changed(self, old: str, new: str) -> list[list[str]]:
+        """Returns the rows of a comparison of two policies by the requests of the last audit."""
+        self.write("old", old)
+        self.write("new", new)
+        line = [REVIEW, "compare", "old", "new", "--users", "users", "--hosts", "hosts", "--requests", "s=requests"]
+        done = subprocess.run(line, cwd=self.folder, capture_output=True, check=False, timeout=60)
+        self.assertEqual(NOTICES.sub("", os.fsdecode(done.stderr), count=1), "")
+        header, *rows = csv.reader(io.StringIO(os.fsdecode(done.stdout), newline=""))
+        self.assertEqual((tuple(header), done.returncode), (CHANGE_HEADER, 5 if rows else 0))
+        return rows
 
     def found(self, rows: list[Row], user: str, host: str) -> set[tuple[Cell, Row]]:
         """Returns what rows find in the cells of a user on a host."""

@@ -266,8 +266,9 @@ class Completions(unittest.TestCase):
         self.assertEqual(self.proposed("sudo_review", "grants", "p", "-"), options)
         self.assertEqual(self.proposed("sudo_review", "roots", "p", "-"), ["--root", "--users", "--hosts", "--all", "--help"])
         self.assertEqual(self.proposed("sudo_review", "subjects", "p", "-"), ["--root", "--users", "--hosts", "--help"])
-        options = ["--users", "--hosts", "--user", "--host", "--help"]
+        options = ["--users", "--hosts", "--user", "--host", "--requests", "--help"]
         self.assertEqual(self.proposed("sudo_review", "compare", "p", "q", "-"), options)
+        self.assertEqual(self.proposed("sudo_review", "compare", "p", "q", "--requests", "s=di"), ["a file for di"])
         self.assertEqual(self.proposed("sudo_review", "subjects", "p", "--users", "d"), ["a file for d"])
         self.assertEqual(self.proposed("sudo_audit", "expand", "p", "h"), ["host"])
 

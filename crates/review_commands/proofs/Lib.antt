@@ -10,3 +10,4 @@ pub mod WrittenSteps
 pub mod RootSteps
 pub mod PairSteps
 pub mod QuietSteps
+pub mod ChangeSteps

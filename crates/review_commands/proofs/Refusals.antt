@@ -8,7 +8,8 @@ use Rattle.review_cautions.specs.Classes.{class_name}
 use Rattle.review_cautions.specs.declared.class.CautionClass.{CautionClass}
 use Rattle.review_commands.specs.declared.request.PairPaths.{PairPaths}
 use Rattle.review_commands.specs.declared.request.Paths.{Paths}
-use Rattle.review_commands.specs.declared.request.Asked.TheVariants.{Cautions, Compare, Grants, Report, Roots, Rules, Subjects}
+use Rattle.review_commands.specs.declared.request.Asked.TheVariants.{Cautions, Changes, Compare, Grants, Report, Roots, Rules}
+use Rattle.review_commands.specs.declared.request.Asked.TheVariants.{Subjects}
 use Rattle.review_commands.specs.Body.Paths.{LackPair, LackPaths}
 use Rattle.review_commands.specs.Words.{AsksNothing, HavePair, HavePaths}
 
@@ -91,6 +92,7 @@ no_name name rows cautions report grants compare roots subjects rules (Cautions 
 no_name name rows cautions report grants compare roots subjects rules (Report paths workers senders) stated fit = report stated.0
 no_name name rows cautions report grants compare roots subjects rules (Grants paths user host) stated fit = grants stated.0
 no_name name rows cautions report grants compare roots subjects rules (Compare paths user host) stated fit = compare stated.0
+no_name name rows cautions report grants compare roots subjects rules (Changes paths senders) stated fit = compare stated.0
 no_name name rows cautions report grants compare roots subjects rules (Roots paths all) stated fit = roots stated.0
 no_name name rows cautions report grants compare roots subjects rules (Subjects paths) stated fit = subjects stated.0
 no_name name rows cautions report grants compare roots subjects rules (Rules paths workers senders) stated fit = rules stated.0
@@ -100,6 +102,7 @@ cautions_without_file rows none (Cautions policy links without) stated fit = non
 cautions_without_file rows none (Report paths workers senders) stated fit = report_is_cautions (sym stated.0)
 cautions_without_file rows none (Grants paths user host) stated fit = grants_is_cautions (sym stated.0)
 cautions_without_file rows none (Compare paths user host) stated fit = compare_is_cautions (sym stated.0)
+cautions_without_file rows none (Changes paths senders) stated fit = compare_is_cautions (sym stated.0)
 cautions_without_file rows none (Roots paths all) stated fit = roots_is_cautions (sym stated.0)
 cautions_without_file rows none (Subjects paths) stated fit = subjects_is_cautions (sym stated.0)
 cautions_without_file rows none (Rules paths workers senders) stated fit = rules_is_cautions (sym stated.0)
@@ -118,6 +121,7 @@ report_without_paths rows lack (Cautions policy links without) stated fit = repo
 report_without_paths rows lack (Report paths workers senders) stated fit = have_or_lack _ _ lack stated.1
 report_without_paths rows lack (Grants paths user host) stated fit = grants_is_report (sym stated.0)
 report_without_paths rows lack (Compare paths user host) stated fit = compare_is_report (sym stated.0)
+report_without_paths rows lack (Changes paths senders) stated fit = compare_is_report (sym stated.0)
 report_without_paths rows lack (Roots paths all) stated fit = roots_is_report (sym stated.0)
 report_without_paths rows lack (Subjects paths) stated fit = subjects_is_report (sym stated.0)
 report_without_paths rows lack (Rules paths workers senders) stated fit = rules_is_report (sym stated.0)
@@ -127,6 +131,7 @@ grants_without_paths rows lack (Cautions policy links without) stated fit = gran
 grants_without_paths rows lack (Report paths workers senders) stated fit = grants_is_report stated.0
 grants_without_paths rows lack (Grants paths user host) stated fit = have_or_lack _ _ lack stated.1
 grants_without_paths rows lack (Compare paths user host) stated fit = grants_is_compare stated.0
+grants_without_paths rows lack (Changes paths senders) stated fit = grants_is_compare stated.0
 grants_without_paths rows lack (Roots paths all) stated fit = grants_is_roots stated.0
 grants_without_paths rows lack (Subjects paths) stated fit = grants_is_subjects stated.0
 grants_without_paths rows lack (Rules paths workers senders) stated fit = grants_is_rules stated.0
@@ -136,6 +141,7 @@ roots_without_paths rows lack (Cautions policy links without) stated fit = roots
 roots_without_paths rows lack (Report paths workers senders) stated fit = roots_is_report stated.0
 roots_without_paths rows lack (Grants paths user host) stated fit = grants_is_roots (sym stated.0)
 roots_without_paths rows lack (Compare paths user host) stated fit = compare_is_roots (sym stated.0)
+roots_without_paths rows lack (Changes paths senders) stated fit = compare_is_roots (sym stated.0)
 roots_without_paths rows lack (Roots paths all) stated fit = have_or_lack _ _ lack stated.1
 roots_without_paths rows lack (Subjects paths) stated fit = subjects_is_roots (sym stated.0)
 roots_without_paths rows lack (Rules paths workers senders) stated fit = rules_is_roots (sym stated.0)
@@ -145,6 +151,7 @@ subjects_without_paths rows lack (Cautions policy links without) stated fit = su
 subjects_without_paths rows lack (Report paths workers senders) stated fit = subjects_is_report stated.0
 subjects_without_paths rows lack (Grants paths user host) stated fit = grants_is_subjects (sym stated.0)
 subjects_without_paths rows lack (Compare paths user host) stated fit = subjects_is_compare stated.0
+subjects_without_paths rows lack (Changes paths senders) stated fit = subjects_is_compare stated.0
 subjects_without_paths rows lack (Roots paths all) stated fit = subjects_is_roots stated.0
 subjects_without_paths rows lack (Subjects paths) stated fit = have_or_lack _ _ lack stated.1
 subjects_without_paths rows lack (Rules paths workers senders) stated fit = subjects_is_rules stated.0
@@ -154,6 +161,7 @@ rules_without_paths rows lack (Cautions policy links without) stated fit = rules
 rules_without_paths rows lack (Report paths workers senders) stated fit = rules_is_report stated.0
 rules_without_paths rows lack (Grants paths user host) stated fit = grants_is_rules (sym stated.0)
 rules_without_paths rows lack (Compare paths user host) stated fit = rules_is_compare stated.0
+rules_without_paths rows lack (Changes paths senders) stated fit = rules_is_compare stated.0
 rules_without_paths rows lack (Roots paths all) stated fit = rules_is_roots stated.0
 rules_without_paths rows lack (Subjects paths) stated fit = subjects_is_rules (sym stated.0)
 rules_without_paths rows lack (Rules paths workers senders) stated fit = have_or_lack _ _ lack stated.1
@@ -175,15 +183,34 @@ compare_without_paths rows lack (Cautions policy links without) stated fit = com
 compare_without_paths rows lack (Report paths workers senders) stated fit = compare_is_report stated.0
 compare_without_paths rows lack (Grants paths user host) stated fit = grants_is_compare (sym stated.0)
 compare_without_paths rows lack (Compare paths user host) stated fit = have_or_lack_pair _ _ lack stated.1
+compare_without_paths rows lack (Changes paths senders) stated fit = have_or_lack_pair _ _ lack stated.1
 compare_without_paths rows lack (Roots paths all) stated fit = compare_is_roots stated.0
 compare_without_paths rows lack (Subjects paths) stated fit = subjects_is_compare (sym stated.0)
 compare_without_paths rows lack (Rules paths workers senders) stated fit = rules_is_compare (sym stated.0)
+
+no_words : (words : List (Bor (List ℕ))) → map (λ b. b.now) words ≡ [] → words ≡ []
+no_words [] e = refl
+no_words (w ∷ ws) e = cc
+
+-- a user or a host is named beside requests
+pub requests_in_scope : (rows : List Row) (words : List (Bor (List ℕ)))
+    → unwrap_or (all_of (codes "requests") rows) [] ≡ map (λ b. b.now) words → words ≢ []
+    → (first_of (codes "user") rows ≡ None → first_of (codes "host") rows ≡ None → ⊥) → AsksNothing (codes "compare", rows)
+requests_in_scope rows words are some scoped (Cautions policy links without) stated fit = compare_is_cautions stated.0
+requests_in_scope rows words are some scoped (Report paths workers senders) stated fit = compare_is_report stated.0
+requests_in_scope rows words are some scoped (Grants paths user host) stated fit = grants_is_compare (sym stated.0)
+requests_in_scope rows words are some scoped (Compare paths user host) stated fit = some (no_words words (sym are ∙ stated.4))
+requests_in_scope rows words are some scoped (Changes paths senders) stated fit = scoped stated.2 stated.3
+requests_in_scope rows words are some scoped (Roots paths all) stated fit = compare_is_roots stated.0
+requests_in_scope rows words are some scoped (Subjects paths) stated fit = subjects_is_compare (sym stated.0)
+requests_in_scope rows words are some scoped (Rules paths workers senders) stated fit = rules_is_compare (sym stated.0)
 
 pub rules_without_workers : (rows : List Row) → HasNoWorkers rows → AsksNothing (codes "rules", rows)
 rules_without_workers rows none (Cautions policy links without) stated fit = rules_is_cautions stated.0
 rules_without_workers rows none (Report paths workers senders) stated fit = rules_is_report stated.0
 rules_without_workers rows none (Grants paths user host) stated fit = grants_is_rules (sym stated.0)
 rules_without_workers rows none (Compare paths user host) stated fit = rules_is_compare stated.0
+rules_without_workers rows none (Changes paths senders) stated fit = rules_is_compare stated.0
 rules_without_workers rows none (Roots paths all) stated fit = rules_is_roots stated.0
 rules_without_workers rows none (Subjects paths) stated fit = subjects_is_rules (sym stated.0)
 rules_without_workers rows none (Rules paths workers senders) stated fit = none workers stated.2 fit.0 fit.1
@@ -193,6 +220,7 @@ report_without_workers rows none (Cautions policy links without) stated fit = re
 report_without_workers rows none (Report paths workers senders) stated fit = none workers stated.2 fit.0 fit.1
 report_without_workers rows none (Grants paths user host) stated fit = grants_is_report (sym stated.0)
 report_without_workers rows none (Compare paths user host) stated fit = compare_is_report (sym stated.0)
+report_without_workers rows none (Changes paths senders) stated fit = compare_is_report (sym stated.0)
 report_without_workers rows none (Roots paths all) stated fit = roots_is_report (sym stated.0)
 report_without_workers rows none (Subjects paths) stated fit = subjects_is_report (sym stated.0)
 report_without_workers rows none (Rules paths workers senders) stated fit = rules_is_report (sym stated.0)
@@ -204,6 +232,7 @@ cautions_of_bad_class rows words are bad (Cautions policy links without) stated 
 cautions_of_bad_class rows words are bad (Report paths workers senders) stated fit = report_is_cautions (sym stated.0)
 cautions_of_bad_class rows words are bad (Grants paths user host) stated fit = grants_is_cautions (sym stated.0)
 cautions_of_bad_class rows words are bad (Compare paths user host) stated fit = compare_is_cautions (sym stated.0)
+cautions_of_bad_class rows words are bad (Changes paths senders) stated fit = compare_is_cautions (sym stated.0)
 cautions_of_bad_class rows words are bad (Roots paths all) stated fit = roots_is_cautions (sym stated.0)
 cautions_of_bad_class rows words are bad (Subjects paths) stated fit = subjects_is_cautions (sym stated.0)
 cautions_of_bad_class rows words are bad (Rules paths workers senders) stated fit = rules_is_cautions (sym stated.0)

@@ -3,3 +3,4 @@ pub mod Surveying
 pub mod Comparing
 pub mod Knowing
 pub mod Paths
+pub mod Changing

@@ -8,5 +8,6 @@ pub mod RootRows
 pub mod Reviewing
 pub mod Surveying
 pub mod Comparing
+pub mod Changes
 pub mod Words
 pub mod Body

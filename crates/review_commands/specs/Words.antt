@@ -1,5 +1,5 @@
 -- The commands that the words of the command line ask for, by `clap`'s meaning of a simple command.
-use Rattle.std.specs.Prelude.{◌≡◌, ◌≤◌, Bool, true, false, List, [], map, codes, ⊤, Option, None, Some, option_map, unwrap_or}
+use Rattle.std.specs.Prelude.{◌≡◌, ◌≢◌, ◌≤◌, Bool, true, false, List, [], map, codes, ⊤, Option, None, Some, option_map, unwrap_or}
 use Rattle.clap.specs.Words.{App, Row, Rule, Text, all_of, first_of, one_of, new_app, new_rule, with_rule, with_subcommand}
 use Rattle.clap.specs.Simple.{on_top}
 use Rattle.clap.specs.declared.error.Error.{Error}
@@ -10,7 +10,7 @@ use Rattle.review_commands.specs.declared.request.Asked.{Asked}
 use Rattle.review_commands.specs.declared.request.PairPaths.{PairPaths}
 use Rattle.review_commands.specs.declared.request.Paths.{Paths}
 use Rattle.review_commands.specs.declared.request.PolicyPath.{PolicyPath}
-use Rattle.review_commands.specs.declared.request.Asked.TheVariants.{Cautions, Compare, Grants, Report, Roots, Rules, Subjects}
+use Rattle.review_commands.specs.declared.request.Asked.TheVariants.{Cautions, Changes, Compare, Grants, Report, Roots, Rules, Subjects}
 
 -- --without CLASS, any number of times
 abbrev pub without_rule : Rule
@@ -45,9 +45,13 @@ abbrev pub pair_app : App
 pair_app = with_rule (with_rule (with_rule (with_rule (new_app (codes "compare")) (required_word (codes "old")))
     (required_word (codes "new"))) (required_option (codes "users"))) (required_option (codes "hosts"))
 
--- compare OLD NEW --users F --hosts F [--user NAME] [--host NAME]
+-- --requests NAME=PATH, any number of times
+abbrev pub requests_rule : Rule
+requests_rule = record (new_rule (codes "requests")) { long = Some (codes "requests"); action = Some Append }
+
+-- compare OLD NEW --users F --hosts F [--user NAME] [--host NAME] [--requests NAME=PATH]...
 abbrev pub compare_app : App
-compare_app = with_rule (with_rule pair_app (name_rule (codes "user"))) (name_rule (codes "host"))
+compare_app = with_rule (with_rule (with_rule pair_app (name_rule (codes "user"))) (name_rule (codes "host"))) requests_rule
 
 -- --all
 abbrev pub all_rule : Rule
@@ -105,6 +109,11 @@ HoldsCommand (Grants paths user host) p =
 HoldsCommand (Compare paths user host) p =
     (p.0 ≡ codes "compare") × HavePair p.1 paths
     × (first_of (codes "user") p.1 ≡ option_map (λ s. s.now) user) × (first_of (codes "host") p.1 ≡ option_map (λ s. s.now) host)
+    × (unwrap_or (all_of (codes "requests") p.1) [] ≡ [])
+HoldsCommand (Changes paths senders) p =
+    (p.0 ≡ codes "compare") × HavePair p.1 paths
+    × (first_of (codes "user") p.1 ≡ None) × (first_of (codes "host") p.1 ≡ None)
+    × (unwrap_or (all_of (codes "requests") p.1) [] ≡ map (λ s. s.now) senders.items) × (senders.items ≢ [])
 HoldsCommand (Roots paths all) p =
     (p.0 ≡ codes "roots") × HavePaths p.1 paths × IsFlag all (one_of (codes "all") p.1)
 HoldsCommand (Subjects paths) p = (p.0 ≡ codes "subjects") × HavePaths p.1 paths
@@ -120,13 +129,14 @@ abbrev pub WorkersFit : Asked → Type 0
 WorkersFit (Cautions policy links without) = ⊤
 WorkersFit (Grants paths user host) = ⊤
 WorkersFit (Compare paths user host) = ⊤
+WorkersFit (Changes paths senders) = ⊤
 WorkersFit (Roots paths all) = ⊤
 WorkersFit (Subjects paths) = ⊤
 WorkersFit (Rules paths workers senders) = (1 ≤ workers) × (workers ≤ 16)
 WorkersFit (Report paths workers senders) = (1 ≤ workers) × (workers ≤ 16)
 
 -- a subcommand with these rows asks for no command: its name is another, a word is missing, a CLASS is no class of
--- cautions, or its number of workers is outside the range that an audit accepts
+-- cautions, its number of workers is outside the range that an audit accepts, or a user or a host is named beside requests
 abbrev pub AsksNothing : Text × List Row → Type 0
 AsksNothing p = (asked : Asked) → HoldsCommand asked p → WorkersFit asked → ⊥
 

@@ -3,7 +3,8 @@ ghost use Rattle.std.specs.Prelude.{◌≡◌, IfOk, codes, false};
 ghost use Rattle.clap.specs.Words.{app_of, rule_of};
 ghost use Rattle.clap.specs.declared.builder.command.Command.TheViews.{out-Command as fields_of};
 ghost use Rattle.review_commands.specs.Words.{all_rule, cautions_app, compare_app, grants_app, judging_app, name_rule};
-ghost use Rattle.review_commands.specs.Words.{named_app, pair_app, paths_app, program_app, root_rule, roots_app, without_rule};
+ghost use Rattle.review_commands.specs.Words.{named_app, pair_app, paths_app, program_app, requests_rule, root_rule, roots_app};
+ghost use Rattle.review_commands.specs.Words.{without_rule};
 
 use clap::{Arg, ArgAction, Command};
 use run_base::{file, path_option, senders_words, with_subcommand, word, workers_option};
@@ -145,14 +146,26 @@ fn pair<'a>(alloc: Global) -> Result<Command<'a>, AllocError>
         .arg(path_option(alloc, "hosts", "The known hosts, as CSV"))
 }
 
-// Returns `compare OLD NEW --users F --hosts F [--user NAME] [--host NAME]`.
+// Returns `--requests NAME=PATH`, any number of times.
+fn requests<'a>(alloc: Global) -> Arg<'a>
+    ensures rule { rule_of result ≡ requests_rule }
+    ensures local { result.global ≡ false }
+{
+    Arg::new(alloc, "requests")
+        .long("requests")
+        .action(ArgAction::Append)
+        .help("In place of all commands, the requests of a sender's file, as NAME=PATH")
+}
+
+// Returns `compare OLD NEW --users F --hosts F [--user NAME] [--host NAME] [--requests NAME=PATH]...`.
 fn compare<'a>(alloc: Global) -> Result<Command<'a>, AllocError>
     ensures app { IfOk result (λ c. app_of c ≡ compare_app) }
     ensures local { IfOk result (λ c. (fields_of c).has_globals ≡ false) }
 {
     pair(alloc)?
         .arg(name_option(alloc, "user", "Only what this user may run"))?
-        .arg(name_option(alloc, "host", "Only what may be run on this host"))
+        .arg(name_option(alloc, "host", "Only what may be run on this host"))?
+        .arg(requests(alloc))
 }
 
 // Returns the program's name and version, without a subcommand.

@@ -2,6 +2,9 @@
 #![tactic(auto)]
 
 mod cautions;
+mod change;
+mod change_rows;
+mod changes;
 mod command_line;
 mod compare;
 mod ending;
@@ -25,6 +28,7 @@ mod survey;
 mod words;
 
 pub use cautions::cautions_run;
+pub use changes::changes_run;
 pub use compare::{compare_run, quiet_comparisons_say_same};
 pub use fault::TableFault;
 pub use grants::{ScopeNames, grants_run};

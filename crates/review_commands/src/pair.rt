@@ -137,10 +137,7 @@ pub(crate) fn read_pair<F: Files, G: Files, U: Feed, H: Feed>(
 
 /// Returns a table with the notice that is printed behind it, or the fault in place of the table. Forgets the policies: the run
 /// ends here.
-pub(crate) fn noted_pair(
-    pair: Pair,
-    table: Result<RunOutput, TableFault>,
-) -> Result<NotedOutput, TableFault>
+pub(crate) fn noted_pair<F>(pair: Pair, table: Result<RunOutput, F>) -> Result<NotedOutput, F>
     ensures noted { IfOk result (λ p. IsNotedTable table pair.notice.items p) }
     ensures fault { IfErr result (λ fault. table ≡ Err fault) }
 {

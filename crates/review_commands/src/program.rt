@@ -3,6 +3,7 @@ ghost use Rattle.std.specs.Prelude.{◌≤◌};
 ghost use Rattle.review_commands.specs.Words.{WorkersFit};
 
 use crate::cautions::cautions_run;
+use crate::changes::changes_run;
 use crate::compare::compare_run;
 use crate::grants::{ScopeNames, grants_run};
 use crate::links::{LinksFault, machine_links};
@@ -237,6 +238,48 @@ fn run_compare(rt: &HostRuntime, paths: PairPaths<'_>, names: ScopeNames<'_>) ->
     }
 }
 
+// Lists the requests that a change of a policy answers otherwise, and returns the exit status. `threads` is the runtime, if it
+// can start threads.
+fn run_changes<T: Threads + Wait + Sync>(
+    rt: &HostRuntime,
+    threads: &T,
+    paths: PairPaths<'_>,
+    words: &[&str],
+) -> u8 {
+    let alloc = rt.alloc();
+    let mut out = Device::new(rt.stdout());
+    let mut err = Device::new(rt.stderr());
+    match open_all(
+        alloc,
+        &SystemOpener::new(rt),
+        paths.users,
+        paths.hosts,
+        words,
+    ) {
+        Ok(opened) => {
+            let OpenedFiles {
+                mut users,
+                mut hosts,
+                sources,
+            } = opened;
+            changes_run(
+                alloc,
+                threads,
+                paths.old.as_bytes(),
+                &mut Disk::new(rt),
+                paths.new.as_bytes(),
+                &mut Disk::new(rt),
+                &mut users,
+                &mut hosts,
+                sources,
+                &mut out,
+                &mut err,
+            )
+        }
+        Err(fault) => report_explained(alloc, PROGRAM, fault, &mut err),
+    }
+}
+
 // Returns the bytes of a text, where one is given.
 fn bytes_of<'a>(text: Option<&'a str>) -> Option<&'a [u8]> {
     match text {
@@ -281,6 +324,7 @@ fn run<T: Threads + Wait + Sync>(rt: &HostRuntime, threads: &T, asked: Asked<'_>
             };
             run_compare(rt, paths, names)
         }
+        Asked::Changes { paths, senders } => run_changes(rt, threads, paths, &senders),
     }
 }
 

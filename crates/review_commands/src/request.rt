@@ -72,4 +72,10 @@ pub enum Asked<'a> {
         user: Option<&'a str>,
         host: Option<&'a str>,
     },
+    /// `compare OLD NEW --users F --hosts F --requests NAME=PATH...`: lists the requests that a change of a policy answers otherwise.
+    Changes {
+        paths: PairPaths<'a>,
+        /// The words `NAME=PATH`, as given: at least one.
+        senders: Vec<&'a str>,
+    },
 }

@@ -1,6 +1,6 @@
 //! The words of the command line.
-ghost use Rattle.std.specs.Prelude.{◌≡◌, ◌≢◌, None, Some, IfErr, IfOk, IfSome, List, codes, map};
-ghost use Rattle.clap.specs.Words.{Row, Text, app_of, first_of, found_of, kind_of as error_kind, one_of, rows_of};
+ghost use Rattle.std.specs.Prelude.{◌≡◌, ◌≢◌, [], None, Some, IfErr, IfOk, IfSome, List, codes, map, unwrap_or};
+ghost use Rattle.clap.specs.Words.{Row, Text, all_of, app_of, first_of, found_of, kind_of as error_kind, one_of, rows_of};
 ghost use Rattle.clap.specs.Words.{subcommand_of, subcommand_rows_of};
 ghost use Rattle.run_base.specs.Arguments.{IsUnaskedKind, IsUnreadableWord};
 ghost use Rattle.review_cautions.specs.Classes.{class_name};
@@ -27,6 +27,8 @@ enum Unasked {
     Missing,
     // A word names no class of cautions.
     BadClass,
+    // A user or a host is named beside requests.
+    Scoped,
     // Out of memory.
     Memory,
 }
@@ -150,8 +152,33 @@ fn pair_of<'a>(given: &ArgMatches<'a>) -> Option<PairPaths<'a>>
     })
 }
 
+// Returns the command of a comparison by requests, of which there are some, unless a user or a host is named.
+fn asked_changes<'a>(
+    given: &ArgMatches<'a>,
+    paths: PairPaths<'a>,
+    senders: Vec<&'a str>,
+) -> Result<Asked<'a>, Unasked>
+    requires pair { HavePair (rows_of (found_of given.now)) paths }
+    requires senders { unwrap_or (all_of (codes "requests") (rows_of (found_of given.now))) []
+        ≡ map (λ s. s.now) senders.items }
+    requires some { senders.items ≢ [] }
+    ensures stated { IfOk result
+        (λ a. HoldsCommand a (codes "compare", rows_of (found_of given.now))) }
+    ensures workers { IfOk result WorkersFit }
+    ensures nothing { IfErr result (λ e. e ≢ Unasked.Memory
+        → AsksNothing (codes "compare", rows_of (found_of given.now))) }
+{
+    if value(given, "user").is_some() {
+        return Err(Unasked::Scoped);
+    }
+    if value(given, "host").is_some() {
+        return Err(Unasked::Scoped);
+    }
+    Ok(Asked::Changes { paths, senders })
+}
+
 // Returns the command of the values of `compare`.
-fn asked_compare<'a>(given: &ArgMatches<'a>) -> Result<Asked<'a>, Unasked>
+fn asked_compare<'a>(alloc: Global, given: &ArgMatches<'a>) -> Result<Asked<'a>, Unasked>
     ensures stated { IfOk result
         (λ a. HoldsCommand a (codes "compare", rows_of (found_of given.now))) }
     ensures workers { IfOk result WorkersFit }
@@ -161,6 +188,10 @@ fn asked_compare<'a>(given: &ArgMatches<'a>) -> Result<Asked<'a>, Unasked>
     let Some(paths) = pair_of(given) else {
         return Err(Unasked::Missing);
     };
+    let senders = values(alloc, given, "requests")?;
+    if !senders.is_empty() {
+        return asked_changes(given, paths, senders);
+    }
     Ok(Asked::Compare {
         paths,
         user: value(given, "user"),
@@ -261,7 +292,7 @@ fn asked_by<'a>(alloc: Global, name: &str, given: &ArgMatches<'a>) -> Result<Ask
         return asked_cautions(alloc, given);
     }
     if name == "compare" {
-        return asked_compare(given);
+        return asked_compare(alloc, given);
     }
     if name == "grants" {
         return asked_grants(given);
@@ -311,6 +342,10 @@ fn unasked_error(command: &mut Command<'_>, unasked: Unasked) -> Result<Error, A
             ErrorKind::InvalidValue,
             "CLASS is none of the classes of cautions",
         ),
+        Unasked::Scoped => command.error(
+            ErrorKind::InvalidValue,
+            "--user and --host cannot be used with --requests",
+        ),
         Unasked::Memory => Ok(Error::from(AllocError)),
     }
 }
@@ -338,12 +373,14 @@ fn asked_of<'a, S: AsStr>(
 /// `cautions FILE [--links F] [--without CLASS]...`, `report FILE --users F --hosts F [--workers N] [NAME=PATH]...`,
 /// `grants FILE --users F --hosts F [--user NAME] [--host NAME]`, `roots FILE --users F --hosts F [--all]`,
 /// `subjects FILE --users F --hosts F`,
-/// `rules FILE --users F --hosts F [--workers N] [NAME=PATH]...`, or
-/// `compare OLD NEW --users F --hosts F [--user NAME] [--host NAME]`, where N is 1 to 16, by default 2; each but `compare`
+/// `rules FILE --users F --hosts F [--workers N] [NAME=PATH]...`,
+/// `compare OLD NEW --users F --hosts F [--user NAME] [--host NAME]`, or
+/// `compare OLD NEW --users F --hosts F --requests NAME=PATH...`, where N is 1 to 16, by default 2; each but `compare`
 /// takes `--root DIR` behind its name.
 ///
 /// Returns `clap`'s error, apart from allocation failure, exactly if `clap` does not accept the
-/// words (they are no such command, or ask for help or for the version), or a CLASS is no class of cautions.
+/// words (they are no such command, or ask for help or for the version), a CLASS is no class of cautions, or a user or a host is
+/// named beside requests.
 pub fn asked<'a, S: AsStr>(alloc: Global, words: &'a [S]) -> Result<Asked<'a>, Error>
     ensures stated { IfOk result (λ a. (p : Text × List Row)
         × (subcommand_of program_app (map S.text words.entry.now) ≡ Some p) × HoldsCommand a p) }

@@ -39,7 +39,7 @@ abbrev pub IsMemory : TableFault → Type 0
 IsMemory fault = fault ≡ tables.Memory
 
 -- this is a table, printed with a notice
-pub record IsNotedTable (table : Result RunOutput TableFault) (notice : List ℕ) (p : NotedOutput) : Type 0 where
+pub record IsNotedTable {F : Type 0} (table : Result RunOutput F) (notice : List ℕ) (p : NotedOutput) : Type 0 where
   pub output : RunOutput
   pub is_output : table ≡ Ok output
   pub text_is : p.text.items ≡ output.text.items

@@ -1,0 +1,16 @@
+-- The requests to which a pair of policies answers differently. Only proofs of bodies use these.
+use Rattle.std.specs.Prelude.{◌≡◌, ℕ, List, Option, Ok}
+use Rattle.audit_collect.specs.declared.report.Report.{Report}
+use Rattle.audit_commands.specs.Auditing.{Answers}
+use Rattle.audit_files.specs.Feeding.{Ahead}
+use Rattle.sudo_grammar.specs.declared.policy.Policy.{Policy}
+use Rattle.sudo_match.specs.KnownRows.{KnownRows}
+use Rattle.review_commands.specs.Changes.{change_workers, changes_status, changes_text}
+
+-- the table of the requests of these sources, and its status
+pub record AreJudged (old new : Policy) (d : KnownRows) (sources : List (List ℕ)) (readable_bytes : List (Option Ahead))
+    (text : List ℕ) (status : ℕ) : Type 0 where
+  pub report : Report
+  pub answers : Answers old d sources readable_bytes change_workers (Ok report)
+  pub text_is : text ≡ changes_text old new d report
+  pub status_is : status ≡ changes_status new d report
