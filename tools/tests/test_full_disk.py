@@ -153,6 +153,9 @@ class FullDisk(FleetCase):
         self.write("users", USERS + self.many_users(30))
         self.write("policy", "".join(f"user{at:05} ALL = /opt/{'c' * 500}{at}\n" for at in range(30)))
         self.fill(REVIEW, "sudo_review", "compare", "old", "policy", "--users", "users", *words[3:-1])
+        self.write("policy", "ALL ALL = ALL\n")
+        self.write("hosts", "host,interfaces\nweb1,10.1.2.3/16\n")
+        self.fill(REVIEW, "sudo_review", "compare", "old", "policy", "--users", "users", "--hosts", "hosts", "--requests", words[-1])
 
     def test_standard_output(self) -> None:
         self.write("policy", "root ALL = ALL\n")

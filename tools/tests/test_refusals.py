@@ -60,6 +60,7 @@ GRANTS = "grants p --users users --hosts hosts"
 SUBJECTS = GRANTS.replace("grants", "subjects")
 ROOTS = GRANTS.replace("grants", "roots")
 COMPARE = GRANTS.replace("grants p", "compare i p")
+CHANGES = f"{COMPARE} --requests s=requests"
 STEPS = "%adm ALL = (ALL) ALL\noperator ALL = (: adm) ALL\nbob ALL = (operator) /opt/sh\n"
 MANY = "Defaults targetpw\nAlice ALL = /bin/ls [^-]*\\\n-l, /bin/cat a\\ \n #include \\i\n"
 MANY += '"al\\ice" web\\*, "web?", 0.0.0.0/0 = (:adm) SETENV: /opt/sudoedit, /opt/x [[.a.]], ALL\n'
@@ -88,6 +89,11 @@ OF_REVIEW = {
     "a comparison without a difference": ("Cmnd_Alias K = /bin/kill\n", COMPARE, 0),
     "a comparison with errors": (CYCLES, COMPARE, 1),
     "a comparison for a host that is not known": (TAGS, f"{COMPARE} --host db", 3),
+    "a comparison by requests": (TAGS, CHANGES, 5),
+    "a comparison by requests with cautions": (MANY + "alice ALL = NOPASSWD: NOEXEC: /bin/kill -9*\n", CHANGES, 5),
+    "a comparison by requests without a difference": ("alice ALL = /bin/ls\n", CHANGES, 0),
+    "a comparison by requests with errors": (CYCLES, CHANGES, 1),
+    "a comparison by requests of a sender without a close row": (TAGS, CHANGES.replace("=requests", "=open"), 3),
     "rules": (SIGNS + TAGS.replace("bin", "opt"), RULES, 0),
     "rules with cautions": (MANY + TAGS, RULES, 0),
     "rules of errors": (CYCLES, RULES, 1),

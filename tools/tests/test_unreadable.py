@@ -194,6 +194,8 @@ class Reviewed(Unreadable):
                 self.assert_cannot_read(path, command, "p", *words[:4])
             for pair in (("p", "q"), ("q", "p")) if path != "requests" else ():
                 self.assert_cannot_read(path, "compare", *pair, *words[:4])
+            for pair in (("p", "q"), ("q", "p")):
+                self.assert_cannot_read(path, "compare", *pair, *words[:4], "--requests", words[4])
             os.chmod(self.path(path), 0o644)
         os.chmod(self.path("p"), 0o000)
         self.assert_cannot_read("p", "cautions", "p")
