@@ -155,7 +155,8 @@ class FullDisk(FleetCase):
         self.fill(REVIEW, "sudo_review", "compare", "old", "policy", "--users", "users", *words[3:-1])
         self.write("policy", "ALL ALL = ALL\n")
         self.write("hosts", "host,interfaces\nweb1,10.1.2.3/16\n")
-        self.fill(REVIEW, "sudo_review", "compare", "old", "policy", "--users", "users", "--hosts", "hosts", "--requests", words[-1])
+        known = ("--users", "users", "--hosts", "hosts")
+        self.fill(REVIEW, "sudo_review", "compare", "old", "policy", *known, "--requests", words[-1])
 
     def test_standard_output(self) -> None:
         self.write("policy", "root ALL = ALL\n")
