@@ -166,7 +166,7 @@ fn push_line(
     Ok(())
 }
 
-/// Appends the cautions of a class on physical lines.
+/// Appends the cautions of a class on physical lines. Returns `AllocError` if allocation fails.
 pub(crate) fn push_lines(
     alloc: Global,
     class: CautionClass,

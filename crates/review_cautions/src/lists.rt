@@ -223,7 +223,7 @@ fn push_caution(
     Ok(())
 }
 
-/// Appends the cautions of a class on lists, one for each line.
+/// Appends the cautions of a class on lists, one for each line. Returns `AllocError` if allocation fails.
 pub(crate) fn push_lists(
     alloc: Global,
     class: CautionClass,

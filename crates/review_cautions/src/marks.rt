@@ -74,7 +74,7 @@ fn members_are_marked(members: &[Member]) -> bool
     members.iter().any(|member| is_marked(member))
 }
 
-/// Returns the lists, each with whether one of its members has other characters.
+/// Returns the lists, each with whether one of its members has other characters. Returns `AllocError` if allocation fails.
 pub(crate) fn scanned_lists<'a>(
     alloc: Global,
     lists: Vec<MemberList<'a>>,

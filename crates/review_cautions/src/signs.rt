@@ -1,4 +1,4 @@
-//! The physical lines that have a sign: a carriage return, a backslash or a `#`. All others have no construct of any class.
+//! The physical lines with a sign: a carriage return, a backslash or a `#`. No other line has the construct of a class.
 ghost use Rattle.std.specs.Prelude.{◌≡◌, ◌++◌, ◌≤◌, length, map, IfOk, OnOk, false};
 ghost use Rattle.std.specs.List.{list_any};
 ghost use Rattle.sudo_text.specs.Lines.{cut, place};
@@ -72,7 +72,7 @@ fn push_signed_lines<'a>(
     Ok(())
 }
 
-// Appends those of a file, if it can be a file of a policy.
+// Appends the physical lines of a file with a sign, if it can be a file of a policy.
 fn push_file<'a>(
     file: usize,
     text: &'a [u8],
@@ -88,7 +88,7 @@ fn push_file<'a>(
     }
 }
 
-/// Returns the physical lines of files that have a sign: they have all cautions on the lines of these files.
+/// Returns the physical lines of files with a sign: no other line has a caution. Returns `AllocError` if allocation fails.
 pub(crate) fn signed_lines<'a>(
     alloc: Global,
     texts: &[&'a [u8]],

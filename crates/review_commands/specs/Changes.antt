@@ -41,11 +41,11 @@ is_free pair.Intercept (Some true) = false
 is_free pair.Intercept choice = true
 is_free _ choice = false
 
--- by a choice of a pair the user is free, and was not by an earlier one
+-- a choice of a pair leaves the user free, and an earlier one did not
 abbrev pub is_freer : TagPair → Option Bool → Option Bool → Bool
 is_freer p before after = is_free p after && not (is_free p before)
 
--- the choice of the pair at a position in the order of all pairs
+-- the choice of the pair at a position in `pairs`: Exec is 0, Follow 1, Intercept 2, Passwd 6, SetEnv 7
 abbrev pub choice_at : Tags → ℕ → Option Bool
 choice_at t i = get_or t.choices i None
 
@@ -125,7 +125,7 @@ changes_text old new d r = line change_header ++ flat_map (sender_changes old ne
 abbrev pub is_changed : Policy → KnownRows → Answer → Bool
 is_changed new d a = is_some (change_between a.verdict (verdict_of new d a.request))
 
--- 5 if a request is answered otherwise, else 0
+-- 5 if a request has another answer under the new policy, otherwise 0
 abbrev pub changes_status : Policy → KnownRows → Report → ℕ
 changes_status new d r = if list_any (λ (s : SenderReport). list_any (is_changed new d) s.answers) r.senders then 5 else 0
 
@@ -156,7 +156,7 @@ pub record AreChanges (given : ChangeInputs) (text notice : List ℕ) (status : 
   pub text_is : text ≡ changes_text old new directory report
   pub status_is : status ≡ changes_status new directory report
 
--- the requests are refused, under a pair of policies; or memory failed
+-- the requests are refused under the pair of policies
 pub record AreNotAnswered (given : ChangeInputs) (fault : ReportFault) : Type 0 where
   pub old : Policy
   pub new : Policy

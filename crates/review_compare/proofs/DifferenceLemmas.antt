@@ -398,7 +398,7 @@ same-on-host p rows s scope asks at same =
         subst (λ (o : Option Question). SameIf p.old.checked.now p.new.checked.now o) (sym asked)
         (same (question_of p s c.ask) refl refl)
 
--- one ask more, which is left unless both policies say the same to it
+-- one more ask, which is left unless both policies say the same to it
 pub left-more : (p : Pair) (u : Person) (asks : List Ask) (k : ℕ) (a : Ask) (b : Bool) (left new : List Ask) → k < length asks →
     a ≡ get_or asks k a → AreLeft p u (take k asks) left → new ≡ left ++ cond b (a ∷ []) [] →
     (b ≡ false → (m : Machine) → SaySame p.old.checked.now p.new.checked.now (ask_of p u m a)) → AreLeft p u (take (k + 1) asks) new
@@ -419,7 +419,7 @@ left-more p u asks k a b left new less is so_far more same x at =
     by true is-new same (inr here) = rw (is-new, sym here) (inl (Contains-push left a))
     by false is-new same (inr here) = inr (subst Same here (same refl))
 
--- where both policies say the same but to these asks, those are enough
+-- the asks that are left decide all rows
 pub asks-left : (p : Pair) (rows : List Row) (user : ℕ) (u : Person) (scope : Option Machine) (asks left : List Ask) →
     slice_get p.directory.now.people user ≡ Some u → AreLeft p u asks left →
     Progress p [] rows (IsForAsked p scope user left) → Progress p [] rows (IsForAsked p scope user asks)

@@ -1,4 +1,4 @@
--- Where no block stands but those that two policies have in common, both say the same.
+-- Where no block between the common prefix and suffix stands, both policies say the same.
 use Rattle.std.proofs.Common.{◌≡◌, ◌<◌, ◌≤◌, ◌+◌, ◌-◌, ◌∙◌, ◌⊎◌, inl, inr, ℕ, zero, suc, Bool, true, false, cond, ◌&&◌, List, [], ◌∷◌, ◌++◌}
 use Rattle.std.proofs.Common.{ap, arith, refl, subst, sym, flat_map, length, map, append_assoc, Option, None, Some, option_copied}
 use Rattle.std.specs.Prelude.{not, slice_get, is_some, option_map, unwrap_or}
@@ -191,7 +191,7 @@ rulings-all p bs q are =
 none-ruled : (p : Policy) (bs : List Block) (q : Question) (i : ℕ) → standing_if p q (slice_get bs i) ≡ [] → rulings_at p bs q i ≡ []
 none-ruled p bs q i e = ap (map ruling_by) e
 
--- where no block between those in common stands, both policies say the same
+-- where no block between the common prefix and suffix stands, both policies say the same
 pub quiet-same : (p r : Policy) (bs cs : List Block) (c : Common) (q : Question) → AreBlocks p bs → AreBlocks r cs →
     AreCommon p bs r cs c → IsQuiet p bs c q → IsQuiet r cs c q → SaySame p r q
 quiet-same p r bs cs c q are also common own other =

@@ -1,5 +1,5 @@
-//! What two policies have in common: blocks at the fronts of both and at their backs that say the same to everyone. Where none
-//! of the blocks between stands for a question, both policies say the same to every command.
+//! The common prefix and suffix of two policies' blocks: blocks that answer the same to every question. Where no block between
+//! them stands for a question, both policies say the same to every command.
 ghost use Rattle.std.specs.Prelude.{◌≡◌, ◌≤◌, ◌+◌, ℕ, IfOk, IsTrue, length, map, option_copied, option_map, true};
 ghost use Rattle.sudo_grammar.specs.declared.kind.Kind.TheVariants as kind;
 ghost use Rattle.sudo_policy.specs.Resolving.{list_resolves, resolves, runas_resolves};
@@ -19,7 +19,7 @@ use std::alloc::{AllocError, Global};
 use sudo_policy::{Checked, Kind, Member, Runas, Signed, write_out};
 use sudo_text::Seq;
 
-/// How many blocks at the front and at the back of a policy it has in common with another one.
+/// The lengths of the common prefix and suffix of two policies' blocks.
 #[derive(Clone, Copy)]
 pub(crate) struct Common {
     pub(crate) front: usize,
@@ -89,7 +89,7 @@ fn are_written_alike(
     Ok(are_same_signed(&own, &others))
 }
 
-// The same of two lists of a runas, where one may be absent.
+// Whether two lists of a runas, either of which may be absent, are the same, written out.
 fn are_runas_alike(
     alloc: Global,
     old: &Checked,
@@ -192,7 +192,7 @@ fn have_same_rows(
     Ok(have_same_rulings(&own, &others))
 }
 
-// Whether the blocks at these indices say the same to everyone.
+// Whether the blocks at these indices answer the same to every question.
 fn are_alike_at(
     alloc: Global,
     old: &Side<'_>,
@@ -213,7 +213,7 @@ fn are_alike_at(
     have_same_rows(alloc, &old.blocks, index, &new.blocks, other)
 }
 
-// Returns how many blocks at the fronts of two policies say the same.
+// Returns the length of the common prefix.
 fn front_of(alloc: Global, old: &Side<'_>, new: &Side<'_>) -> Result<usize, AllocError>
     ensures alike { IfOk result (body.IsFront old.now.checked.now old.now.blocks.items
         new.now.checked.now new.now.blocks.items) }
@@ -229,7 +229,7 @@ fn front_of(alloc: Global, old: &Side<'_>, new: &Side<'_>) -> Result<usize, Allo
     Ok(most)
 }
 
-// Returns how many blocks at the backs of two policies, behind these at their fronts, say the same.
+// Returns the length of the common suffix of the blocks behind a common prefix of this length.
 fn back_of(alloc: Global, old: &Side<'_>, new: &Side<'_>, front: usize) -> Result<usize, AllocError>
     requires { (front ≤ length old.now.blocks.items) × (front ≤ length new.now.blocks.items) }
     ensures alike { IfOk result (body.IsBack old.now.checked.now old.now.blocks.items
@@ -248,7 +248,7 @@ fn back_of(alloc: Global, old: &Side<'_>, new: &Side<'_>, front: usize) -> Resul
     Ok(most)
 }
 
-/// Returns what two policies have in common. Returns `AllocError` if allocation fails.
+/// Returns the lengths of the common prefix and suffix. Returns `AllocError` if allocation fails.
 pub(crate) fn common_of(alloc: Global, old: &Side<'_>, new: &Side<'_>) -> Result<Common, AllocError>
     ensures { IfOk result (body.AreCommon old.now.checked.now old.now.blocks.items
         new.now.checked.now new.now.blocks.items) }

@@ -241,7 +241,7 @@ fn add_host(
     add_spot(alloc, pair, spot, &on, asks, rows)
 }
 
-// Appends what is asked, if it is kept.
+// Appends an ask, if it is kept.
 fn push_if(asks: &mut Vec<Ask>, ask: Ask, keep: bool) -> Result<(), AllocError>
     ensures { OnOk result (asks.new.items
         ≡ asks.old.items ++ (if keep then ask ∷ [] else [])) }
@@ -252,7 +252,7 @@ fn push_if(asks: &mut Vec<Ask>, ask: Ask, keep: bool) -> Result<(), AllocError>
     Ok(())
 }
 
-// Returns what is asked but for that to which both policies say the same to the user, on each host.
+// Returns the asks of the user to which the policies may say something else on some host.
 fn asks_left(
     alloc: Global,
     pair: &Pair<'_>,

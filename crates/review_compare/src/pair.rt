@@ -28,7 +28,7 @@ pub(crate) struct Pair<'a> {
 }
 
 impl<'a> Pair<'a> {
-    /// Returns two policies with what they have in common. Returns `AllocError` if allocation fails.
+    /// Returns two policies with their common prefix and suffix. Returns `AllocError` if allocation fails.
     pub(crate) fn of(
         alloc: Global,
         old: &'a Checked,
@@ -54,7 +54,7 @@ impl<'a> Pair<'a> {
 }
 
 impl Pair<'_> {
-    /// Whether the policies may differ for the user: a block that they do not have in common is for the user.
+    /// Whether the policies may differ for the user: a block between the common prefix and suffix lists the user.
     pub(crate) fn may_differ_for(&self, person: &Person) -> bool
         ensures { result ≡ false → (q : Question) → q.user ≡ person.now
             → SaySame self.now.old.checked.now self.now.new.checked.now q }

@@ -83,7 +83,7 @@ impl Side<'_> {
         }
     }
 
-    /// Whether the user list of a block between those in common allows the user.
+    /// Whether a block between the common prefix and suffix lists the user.
     pub(crate) fn is_for_user(&self, common: Common, user: &Person) -> bool
         ensures { result ≡ false → (q : Question) → q.user ≡ user.now
             → IsQuiet self.now.checked.now self.now.blocks.items common q }
@@ -104,7 +104,7 @@ impl Side<'_> {
         self.lists_user_at(index, user) && self.lists_host_at(index, host)
     }
 
-    /// Whether the lists of a block between those in common allow the user and the host.
+    /// Whether a block between the common prefix and suffix lists the user and the host.
     pub(crate) fn is_for_spot(&self, common: Common, user: &Person, host: &Machine) -> bool
         ensures { result ≡ false → (q : Question) → q.user ≡ user.now → q.host ≡ host.now
             → IsQuiet self.now.checked.now self.now.blocks.items common q }
@@ -128,8 +128,8 @@ impl Side<'_> {
         self.allows_at(index, directory, asker) && self.lists_user_at(index, asker.user)
     }
 
-    /// Whether the runas of a block between those in common allows the target and the group, and its user list the user; the
-    /// host may be any.
+    /// Whether a block between the common prefix and suffix lists the user, and its runas allows the target and the group. Its
+    /// host list is not asked.
     pub(crate) fn is_for_asker(
         &self,
         common: Common,

@@ -7,7 +7,7 @@ use Rattle.review_cautions.specs.declared.lines.PhysicalLine.{PhysicalLine}
 use Rattle.review_cautions.specs.PhysicalLines.{is_marked, first_line}
 use Rattle.review_cautions.specs.Cautions.{caution_at}
 
--- a carriage return, a backslash or a `#`, one of which each construct of a physical line has
+-- a carriage return, a backslash or a `#`: each construct of a physical line has one of them
 abbrev pub is_sign : ℕ → Bool
 is_sign b = (b == 13) || (b == 92) || (b == 35)
 

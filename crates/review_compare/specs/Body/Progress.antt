@@ -44,7 +44,7 @@ question_of p s a = question_as p.directory.now s.person.now s.machine.now (know
 abbrev pub ask_of : Pair → Person → Machine → Ask → Question
 ask_of p u m a = question_as p.directory.now u m (known_at p.directory.now.people a.target) (known_at p.groups.now a.group)
 
--- of what is asked all is left but that to which both policies say the same, on each host
+-- each ask is left, unless both policies say the same to it on every host
 abbrev pub AreLeft : Pair → Person → List Ask → List Ask → Type 0
 AreLeft p u asks left = (a : Ask) → Contains asks a →
     Contains left a ⊎ ((m : Machine) → SaySame p.old.checked.now p.new.checked.now (ask_of p u m a))

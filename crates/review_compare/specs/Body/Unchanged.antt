@@ -1,4 +1,4 @@
--- What two policies have in common, and the blocks between; only proofs of bodies need these definitions.
+-- The common prefix and suffix of two policies' blocks, and the blocks between; only proofs of bodies need these definitions.
 use Rattle.std.specs.Prelude.{◌≡◌, ◌<◌, ◌≤◌, ◌+◌, ◌-◌, ℕ, List, [], length, map, slice_get, Option, option_map}
 use Rattle.sudo_grammar.specs.declared.kind.Atom.{Atom}
 use Rattle.sudo_grammar.specs.declared.kind.Kind.TheVariants as kind
@@ -36,20 +36,21 @@ rulings_at p bs q i = map ruling_by (standing_if p q (slice_get bs i))
 abbrev pub AreAlikeAt : Policy → List Block → Policy → List Block → ℕ → ℕ → Type 0
 AreAlikeAt p bs r cs i j = (q : Question) → rulings_at p bs q i ≡ rulings_at r cs q j
 
--- so do the first blocks of both
+-- the blocks of the common prefix answer the same
 abbrev pub IsFront : Policy → List Block → Policy → List Block → ℕ → Type 0
 IsFront p bs r cs front = (i : ℕ) → i < front → AreAlikeAt p bs r cs i i
 
--- and the last ones
+-- the blocks of the common suffix answer the same
 abbrev pub IsBack : Policy → List Block → Policy → List Block → ℕ → Type 0
 IsBack p bs r cs back = (i : ℕ) → i < back → AreAlikeAt p bs r cs (length bs - i - 1) (length cs - i - 1)
 
+-- the lengths of the common prefix and suffix, which do not overlap
 pub record AreCommon (p : Policy) (bs : List Block) (r : Policy) (cs : List Block) (c : Common) : Type 0 where
   pub front : IsFront p bs r cs c.front
   pub back : IsBack p bs r cs c.back
   pub within_old : c.front + c.back ≤ length bs
   pub within_new : c.front + c.back ≤ length cs
 
--- no block between stands for the question
+-- no block between the common prefix and suffix stands for the question
 abbrev pub IsQuiet : Policy → List Block → Common → Question → Type 0
 IsQuiet p bs c q = (i : ℕ) → c.front ≤ i → i + c.back < length bs → standing_if p q (slice_get bs i) ≡ []
