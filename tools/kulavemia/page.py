@@ -11,7 +11,7 @@ from collections.abc import Sequence
 from dataclasses import dataclass, field
 from typing import Any, NamedTuple
 
-from kulavemia import foreign, missing, outputs, review, sentences
+from kulavemia import differences, foreign, missing, outputs, review, sentences
 from kulavemia.answers import ALLOW, DENY, answers
 from kulavemia.command import FAILED, Fault
 from kulavemia.compare import CHANGE_HEADER, CHANGES
@@ -60,6 +60,8 @@ class Inputs(NamedTuple):
     probe: str = ""
     requests: str = ""
     changes: str = ""
+    differences: str = ""
+    is_uncompared: bool = False
     unlike: Sequence[str] = ()
     fleet: str = ""
     rows: int = 1000
@@ -147,6 +149,7 @@ class Page:
         self.probes = self._probes() if inputs.probe else None
         self.uses = self._uses() if inputs.requests else None
         self.changes = self._changes() if inputs.changes else None
+        self.differences = differences.by_kind(inputs.differences, inputs.rows) if inputs.differences else None
         self.log_texts = self._log_texts()
 
     def _fleet(self) -> FleetTable:
@@ -243,6 +246,10 @@ class Page:
             found += sentences.of_subjects(unknown)
             found += sentences.of_cautions(len(self.cautions), self._is_doubtful())
             found += sentences.of_missing(len(self.fleet.missing) if self.fleet is not None else bool(self.evidence.missing))
+        if self.differences is not None:
+            found += sentences.of_differences({of_kind.kind: of_kind.count for of_kind in self.differences})
+        if self.inputs.is_uncompared:
+            found += sentences.of_uncompared()
         if self.changes is not None:
             found += sentences.of_changes({changed.kind: changed.count for changed in self.changes})
             found += sentences.of_unlike(len(self.inputs.unlike))

@@ -27,6 +27,7 @@ def record_of(page: Page) -> dict[str, Any]:
         "roots": roots_of(page),
         "subjects": list(map(_subject, page.subjects)),
         "changes": {changed.kind: changed.count for changed in page.changes} if page.changes is not None else None,
+        "differences": _differences(page),
         "requests": _uses(page.uses) if page.uses is not None else None,
         "rules": list(_rules(page)),
     }
@@ -75,6 +76,19 @@ def _evidence(evidence: Evidence) -> dict[str, Any]:
         "logs": [{"path": log.file.path, **log.tally._asdict()} for log in evidence.logs],
         "hosts": [host._asdict() for host in evidence.hosts],
         "missing": list(evidence.missing),
+    }
+
+
+def _differences(page: Page) -> dict[str, Any] | None:
+    if page.differences is None:
+        return None
+    return {
+        found.kind: {
+            "count": found.count,
+            "rows": [row._asdict() for row in found.rows],
+            "left_out": found.count - len(found.rows),
+        }
+        for found in page.differences
     }
 
 

@@ -6,8 +6,8 @@ from collections import Counter
 from collections.abc import Callable, Iterator, Mapping, Sequence
 from typing import NamedTuple
 
-from kulavemia import compare, directory, evidence, foreign, logs, missing, probe, program, record, review, signing, sorting
-from kulavemia import unknown, unread
+from kulavemia import compare, differences, directory, evidence, foreign, logs, missing, probe, program, record, review
+from kulavemia import signing, sorting, unknown, unread
 from kulavemia.command import WORDS, Fault, warn
 from kulavemia.page import REPORT, Inputs, Page, want_jinja
 from kulavemia.page import write as write_page
@@ -22,6 +22,7 @@ from kulavemia.tree import Prepared, main_of, of_this_machine, read_tree, write_
 DIRECTORY = "directory"
 REVIEW = "review"
 CHANGES = "changes.csv"
+DIFFERENCES = "differences.csv"
 PAGE = "page.html"
 # More probes are made only where the command line says so.
 PROBES = 1_000_000
@@ -222,6 +223,8 @@ class Replay:
         self.requests = ""
         self.probe = ""
         self.changes = ""
+        self.differences = ""
+        self.is_uncompared = False
         self.unlike: Sequence[str] = ()
         self.gained = False
         self.unread = False
@@ -250,6 +253,7 @@ class Replay:
             self._probe()
         if old:
             self._compare(old.prepared)
+            self._compare_all(old.prepared)
         self._write_page()
 
     def _write_copies(self) -> None:
@@ -286,8 +290,9 @@ class Replay:
         )
         return sorting.Sorted(Counter(counts), Counter(hosts), of_logs, of_hosts)
 
-    def _asked(self) -> review.Asked:
-        return review.Asked(self.second, self._judged_by(self.found.policy.prepared), Form(self.given.sorting.spreadsheet))
+    def _asked(self, policy: Prepared | None = None) -> review.Asked:
+        judged_by = self._judged_by(policy or self.found.policy.prepared)
+        return review.Asked(self.second, judged_by, Form(self.given.sorting.spreadsheet))
 
     def _review(self) -> None:
         """Has the second program say, for every command, who can become root, and what it rests on."""
@@ -334,10 +339,26 @@ class Replay:
             self.steps.end(CHANGES, self._write_changes(old))
         counts = Counter(self.steps.result(CHANGES))
         self.gained = any(counts[kind] for kind in compare.GAINS)
-        self.unlike = review.unlike(review.Asked(self.second, self._judged_by(old)), self._asked())
+        self.unlike = review.unlike(self._asked(old), self._asked())
         for warning in compare.warnings(self.unlike):
             warn(warning)
         self.say("changes: " + ", ".join(f"{counts[kind]} {kind}" for kind in compare.CHANGES))
+
+    def _compare_all(self, old: Prepared) -> None:
+        """Has the second program say, for every command, what changes since the policy before."""
+        path = self._folder(DIFFERENCES)
+        if self.steps.result(DIFFERENCES) is None:
+            found = differences.write(self._asked(old), self._asked(), path)
+            if found is None:
+                self.is_uncompared = True
+                minutes = f"{differences.LIMIT / 60:.0f} minutes"
+                warn(f"the policies are not compared for every command: that takes more than {minutes}")
+                return
+            self.steps.end(DIFFERENCES, found)
+        self.differences = path
+        counts = Counter(self.steps.result(DIFFERENCES))
+        self.gained = self.gained or any(counts[kind] for kind in differences.GAINS)
+        self.say("differences: " + ", ".join(f"{counts[kind]} {kind}" for kind in differences.KINDS))
 
     def _write_changes(self, old: Prepared) -> Counter[str]:
         """Writes the changes since the policy before, and returns how many of each kind there are."""
@@ -367,6 +388,8 @@ class Replay:
             probe=self.probe,
             requests=self.requests,
             changes=self.changes,
+            differences=self.differences,
+            is_uncompared=self.is_uncompared,
             unlike=self.unlike,
             rows=self.given.rows,
             collected=self.found.below or "",
@@ -381,7 +404,7 @@ class Replay:
         """Writes the sums of the page and of the tables behind it, and a signature on them where that is asked for."""
         tables = [review.table_of(REVIEW, name) for name in (review.CAUTIONS, review.GRANTS, review.ROOTS, review.SUBJECTS)]
         reports = [os.path.join(folder, REPORT) for folder in ("requests", "probe")]
-        names = [PAGE, RECORD, CHANGES, *tables, *reports, review.table_of("requests", review.RULES)]
+        names = [PAGE, RECORD, CHANGES, DIFFERENCES, *tables, *reports, review.table_of("requests", review.RULES)]
         there = [name for name in names if foreign.exists(self._folder(name), self.given.out)]
         sums = signing.write_sums(self.given.out, there)
         signing.write_signature(self.given.out, sums, self.given.sign)

@@ -25,17 +25,33 @@ GRANTS = "grants"
 ROOTS = "roots"
 SUBJECTS = "subjects"
 RULES = "rules"
+COMPARE = "compare"
 HEADERS: Mapping[str, Sequence[str]] = {
     CAUTIONS: ("place", "class", "text", "line"),
     GRANTS: ("place", "users", "hosts", "runas", "sign", "command", "tags", "depends"),
     ROOTS: ("user", "host", "target", "level", "password", "place", "tags", "via", "depends"),
     SUBJECTS: ("place", "kind", "name", "what"),
     RULES: ("place", "commands", "allowed", "denied"),
+    COMPARE: (
+        "users",
+        "hosts",
+        "runas_user",
+        "runas_group",
+        "answer",
+        "command",
+        "arguments",
+        "old",
+        "old_place",
+        "old_tags",
+        "new",
+        "new_place",
+        "new_tags",
+    ),
 }
 # The words of the command line behind the name of a table, and its statuses where it was printed whole.
 _WORDS: Mapping[str, Sequence[str]] = {ROOTS: ["--all"]}
 _FOUND = 5
-_STATUSES: Mapping[str, Sequence[int]] = {CAUTIONS: (DONE, _FOUND), SUBJECTS: (DONE, _FOUND)}
+_STATUSES: Mapping[str, Sequence[int]] = {name: (DONE, _FOUND) for name in (CAUTIONS, SUBJECTS, COMPARE)}
 _CAUTION = r"({}):([0-9]+): caution: ([a-z-]+): ([^\n]*)\n"
 _COUNT = re.compile(r"cautions: ([0-9]+)\n")
 # One caution of this class stands for a whole policy, at whichever line is the first.
@@ -98,6 +114,17 @@ class Asked(NamedTuple):
             for place, found in counts.items():
                 file.write(self.form.row([place.removeprefix(self.policy.root), *map(str, found)]))
 
+    def compared(self, old: "Asked", limit: float) -> Iterator[list[str]]:
+        """Yields the rows of what the policy changes since another one, for every command.
+
+        Raises `subprocess.TimeoutExpired` if the program needs more seconds than the limit.
+        """
+        words = [*self._directory(), "--", old.policy.file, self.policy.file]
+        want_plain(old.policy.file, foreign.POLICY_CAP)
+        with self._printed(COMPARE, words, limit) as part:
+            for _, fields in read_open(part, self.program, HEADERS[COMPARE]):
+                yield fields
+
     def _directory(self) -> list[str]:
         return ["--users", as_word(self.policy.users), "--hosts", as_word(self.policy.hosts)]
 
@@ -111,14 +138,15 @@ class Asked(NamedTuple):
         return rows.count
 
     @contextlib.contextmanager
-    def _printed(self, name: str, words: Sequence[str]) -> Iterator[BinaryIO]:
-        """Yields what a command of the program prints. Raises `Fault` if it refuses."""
+    def _printed(self, name: str, words: Sequence[str], limit: float | None = None) -> Iterator[BinaryIO]:
+        """Yields what a command of the program prints. Raises `Fault` if it refuses, and `TimeoutExpired` beyond a limit."""
         want_plain(self.policy.file, foreign.POLICY_CAP)
         for path in (self.policy.users, self.policy.hosts):
             want_plain(path, foreign.REQUESTS_CAP)
         with outputs.scratch() as part:
             line = [self.program, name, *words]
-            done = subprocess.run(line, stdin=subprocess.DEVNULL, stdout=part, stderr=subprocess.PIPE, check=False)
+            quiet = subprocess.DEVNULL
+            done = subprocess.run(line, stdin=quiet, stdout=part, stderr=subprocess.PIPE, check=False, timeout=limit)
             part.seek(0)
             want_written(done)
             if done.returncode not in _STATUSES.get(name, (DONE,)):

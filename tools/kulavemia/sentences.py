@@ -197,6 +197,26 @@ def of_missing(hosts: int) -> Iterator[str]:
         yield f"{of_hosts} could not be gathered, and rules may be among it that no answer here looks at: the evidence lists it."
 
 
+def of_differences(counts: Mapping[str, int]) -> Iterator[str]:
+    """Yields what the new policy changes for every command."""
+    start = "Against the policy before, "
+    if not any(counts.values()):
+        yield f"{start}every command is answered as it was, to each known user on each known host."
+        return
+    gained = sum(count for kind, count in counts.items() if kind.startswith("gained"))
+    lost, other = counts.get("lost", 0), counts.get("other", 0)
+    told = ((gained, "users gain something"), (lost, "users lose something"), (other, "the answer changes otherwise"))
+    parts = [f"in {counted(count, 'row')} {what}" for count, what in told if count]
+    if counts.get("may"):
+        parts.append(f"in {counted(counts['may'], 'row')} it may change")
+    yield f"{start}some commands are answered otherwise: {listed(parts)}."
+
+
+def of_uncompared() -> Iterator[str]:
+    """Yields that the policies were not compared for every command."""
+    yield "The policy before was not compared for every command: that would take too long."
+
+
 def of_changes(counts: Mapping[str, int]) -> Iterator[str]:
     """Yields what the new policy changes."""
     gained = sum(count for kind, count in counts.items() if kind.startswith("gained"))

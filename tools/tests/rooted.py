@@ -4,6 +4,7 @@ from collections.abc import Iterable, Sequence
 
 from support import EXAMPLES
 from kulavemia.answers import Answer, Verdict
+from kulavemia.differences import Difference, Differences
 from kulavemia.effects import Effect
 from kulavemia.evidence import Evidence, Host, Log, Made, Program
 from kulavemia.grants import Grants
@@ -84,6 +85,9 @@ def full_page() -> Page:
         page.uses.take_all([Answer("s", 1, request, Verdict(verdict, place if verdict == "allow" else "", "NOPASSWD"), key)])
     page.changes = [Changes("gained", 1, {}), Changes("lost", 0, {})]
     page.changes[0].steps[Step("ann", "root", "", "nomatch", "", "", "allow", "NOPASSWD", place)] = ({"h1": None}, {long: None})
+    row = Difference("ann, bob", "h1", "root", "adm", "gained", long, "-x", "nomatch", "", "", "allow", place, "NOPASSWD")
+    may = row._replace(answer="may", command="", arguments="", old="allow", old_place=place)
+    page.differences = [Differences("gained", 1, [row]), Differences("lost"), Differences("may", 1, [may])]
     file = File(long, 1234, "0" * 64, 1)
     tally = Tally(10, 2, 1, "2026-11-20T10:01:02.123456+01:00", "2026-11-21T10:01:02.123456+01:00")
     host = Host("web-1.example.org", True, "2026-11-27T10:00:00+00:00", "2 hours before", 10, tally.first, tally.last)

@@ -15,7 +15,9 @@ from kulavemia.grants import Grants
 from kulavemia.messages import AS_EDIT, MAY_BE_EDIT
 from kulavemia.page import Caution, Inputs, Page, Subject, as_json, rendered
 from kulavemia.page import write as write_page
+from kulavemia.record import record_of
 from kulavemia.requests import LOG_KEY, Request, Writer
+from kulavemia.review import COMPARE, HEADERS
 from kulavemia.roots import Roots
 from kulavemia.sorting import Tally
 from kulavemia.sums import File
@@ -190,6 +192,28 @@ class Made(Case):
         self.has(rendered(Page(Inputs("t", changes=path))), "5 hosts")
         with self.assertRaisesRegex(Fault, "c.csv:2: x is no change"):
             Page(Inputs("t", changes=self.write("c.csv", header + rows.replace("gained", "x", 1))))
+
+    def test_what_changes_for_every_command(self) -> None:
+        header = ",".join(HEADERS[COMPARE]) + "\n"
+        rows = '"ann, bob",ALL,root,,gained,/bin/x,-v,nomatch,,,allow,p:1,\n' * 3
+        rows += 'cid,ALL,root,,other,/bin/x,,allow,p:1,,allow,p:1,NOPASSWD\ndora,ALL,root,,may,,,allow,p:2,,deny,p:3,\n'
+        path = self.write("d.csv", header + rows)
+        page = Page(Inputs("t", differences=path, rows=2))
+        text = rendered(page)
+        for said in ("Gained: 4", "2 of 4 rows are shown.", "May change: 1", "<code>/bin/x -v</code>", "nor is it settled"):
+            self.has(text, said)
+        said = "some commands are answered otherwise: in four rows users gain something and in one row it may change."
+        self.has(" ".join(page.sentences()), said)
+        found = record_of(page)["differences"]
+        self.assertEqual((found["gained"]["count"], len(found["gained"]["rows"]), found["gained"]["left_out"]), (4, 2, 2))
+        page = Page(Inputs("t", differences=self.write("d.csv", header)))
+        self.has(rendered(page), "Nothing: both policies answer every command alike.")
+        self.has(" ".join(page.sentences()), "every command is answered as it was, to each known user on each known host.")
+
+    def test_a_comparison_that_was_given_up_is_told(self) -> None:
+        page = Page(Inputs("t", is_uncompared=True))
+        self.has(rendered(page), "The two policies were not compared for every command")
+        self.has(" ".join(page.sentences()), "was not compared for every command: that would take too long.")
 
     @needs_browser
     def test_hostile_text_runs_nothing_in_a_browser(self) -> None:

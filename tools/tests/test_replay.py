@@ -1,5 +1,6 @@
 """From logs to the page."""
 
+import csv
 import hashlib
 import html
 import json
@@ -14,6 +15,9 @@ from collections.abc import Iterable
 
 from recorded import faults_of
 from support import EXAMPLES, PROGRAM, TOOLS, Case, needs_jinja, needs_keygen, needs_program, needs_review, needs_schema
+from kulavemia import differences
+from kulavemia.program import Policy
+from kulavemia.review import Asked
 
 LOG = """Nov 20 10:01:02 web1 sudo[1]:    steve : TTY=pts/0 ; PWD=/ ; USER=operator ; COMMAND=/usr/local/op_commands/rotate
 Nov 20 10:02:02 web1 sudo[2]:    jen : TTY=pts/0 ; PWD=/ ; USER=root ; COMMAND=/usr/bin/id <script>alert(1)</script>
@@ -85,6 +89,28 @@ class Replay(Case):
         out, _ = self.replay("--policy", new, "--old-policy", old, "--directory", EXAMPLES, status=1)
         self.assertIn("changes: 11 gained, 0 gained and lost, 0 lost, 0 other", out)
         self.assertTrue(all(row.startswith("gained,") for row in self.rows("out", "changes.csv")[1:]))
+        self.assertRegex(out, r"differences: [1-9]\d* gained, 0 gained and lost, 0 lost, 0 other, 0 may\n")
+        table = list(csv.DictReader(self.rows("out", "differences.csv")))
+        self.assertEqual({(row["users"], row["answer"]) for row in table}, {("jen", "gained")})
+        self.assertIn("differences.csv", self.read("out", "review.sha256"))
+        self.assertIn("some commands are answered otherwise", " ".join(json.loads(self.read("out", "review.json"))["sentences"]))
+
+    def test_what_no_request_shows_may_change_too(self) -> None:
+        self.write("d/users.csv", "user,uid,groups\nroot,0,root:0\nann,1,ann:1\n")
+        self.write("d/hosts.csv", "host,interfaces\nweb1,\n")
+        self.write("old", "ann ALL = /bin/a\n")
+        self.write("new", "ann ALL = /bin/a, /opt/never/asked\n")
+        words = ("replay", "--policy", "new", "--old-policy", "old", "--directory", "d", "--out", "out", "--no-probe")
+        out = self.run_tool(*words, status=1)[0]
+        self.assertIn("changes: 0 gained, 0 gained and lost, 0 lost, 0 other\ndifferences: 3 gained,", out)
+        self.assertTrue(any(row.startswith("ann,ALL,root,") for row in self.rows("out", "differences.csv")))
+
+    def test_a_comparison_that_takes_too_long(self) -> None:
+        stub = self.write("stub", "#!/bin/sh\nexec sleep 60\n")
+        os.chmod(stub, 0o755)
+        asked = Asked(stub, Policy(self.write("p", ""), self.write("u", ""), self.write("h", "")))
+        self.assertIsNone(differences.write(asked, asked, self.path("table"), 0.1))
+        self.assertFalse(os.path.exists(self.path("table")))
 
     def test_what_sudo_reads_otherwise_may_change_too(self) -> None:
         self.write("d/users.csv", "user,uid,groups\nroot,0,root:0\nann,1,ann:1\nkim,2,kim:2\n")

@@ -1,0 +1,101 @@
+"""What a change of a policy does to every command: rows of `sudo_review compare`, as people open them.
+
+A row of the kind `may` is not settled: some command may be answered otherwise there.
+"""
+
+import subprocess
+from collections import Counter
+from collections.abc import Iterator
+from dataclasses import dataclass, field
+from typing import NamedTuple
+
+from kulavemia import outputs
+from kulavemia.answers import Verdict
+from kulavemia.command import Fault
+from kulavemia.compare import CHANGES, kind_of
+from kulavemia.review import COMPARE, HEADERS, Asked
+from kulavemia.shown import shown_records
+
+MAY = "may"
+KINDS = (*CHANGES, MAY)
+# More is allowed, or may be.
+GAINS = ("gained", "gained and lost", MAY)
+# Seconds after which a comparison is given up.
+LIMIT = 600.0
+
+
+class Difference(NamedTuple):
+    """What is answered otherwise to some users on some hosts: a command with both answers, or the rows that may differ."""
+
+    users: str
+    hosts: str
+    runas_user: str
+    runas_group: str
+    answer: str
+    command: str
+    arguments: str
+    old: str
+    old_place: str
+    old_tags: str
+    new: str
+    new_place: str
+    new_tags: str
+
+    def kind(self) -> str:
+        """Returns the kind of change: that of a request with these answers, or `may`."""
+        if self.answer == MAY:
+            return MAY
+        before = Verdict(self.old, self.old_place, self.old_tags)
+        found = kind_of(before, Verdict(self.new, self.new_place, self.new_tags))
+        if found is None:
+            raise Fault(f"the table of {COMPARE} has a row that changes nothing")
+        return found
+
+
+def write(old: Asked, new: Asked, path: str, limit: float = LIMIT) -> Counter[str] | None:
+    """Writes what a policy changes since another one, and returns how many rows of each kind there are.
+
+    Returns nothing if the program needs more seconds than the limit; then there is no table. Raises `Fault` if it refuses.
+    """
+    counts: Counter[str] = Counter()
+    try:
+        with outputs.written(path) as file:
+            file.write(new.form.head(HEADERS[COMPARE]).encode())
+            for row in map(Difference._make, new.compared(old, limit)):
+                counts[row.kind()] += 1
+                file.write(new.form.row(_without_roots(row, old, new)).encode())
+    except subprocess.TimeoutExpired:
+        return None
+    return counts
+
+
+def _without_roots(row: Difference, old: Asked, new: Asked) -> Difference:
+    return row._replace(
+        old_place=row.old_place.removeprefix(old.policy.root), new_place=row.new_place.removeprefix(new.policy.root)
+    )
+
+
+def read(path: str) -> Iterator[Difference]:
+    """Yields the rows of a table."""
+    for _, fields in shown_records(path, HEADERS[COMPARE]):
+        yield Difference(*fields)
+
+
+@dataclass
+class Differences:
+    """The rows of one kind: how many there are, and the first of them."""
+
+    kind: str
+    count: int = 0
+    rows: list[Difference] = field(default_factory=list)
+
+
+def by_kind(path: str, shown: int) -> list[Differences]:
+    """Returns the rows of a table by kind, of each kind so many."""
+    found = {kind: Differences(kind) for kind in KINDS}
+    for row in read(path):
+        of_kind = found[row.kind()]
+        of_kind.count += 1
+        if len(of_kind.rows) < shown:
+            of_kind.rows.append(row)
+    return list(found.values())
