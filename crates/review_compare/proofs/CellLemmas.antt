@@ -45,7 +45,7 @@ said-if_any : (o : Option Decider) → said (answered_if_any o) ≡ option_map (
 said-if_any None = refl
 said-if_any (Some d) = said-answered d.place d.answer
 
-said-among : (ds : List Decider) (c x : List ℕ) → said (verdict_among ds c x) ≡ answer_of (λ a. command_fits a c x) (map ruling_by ds)
+pub said-among : (ds : List Decider) (c x : List ℕ) → said (verdict_among ds c x) ≡ answer_of (λ a. command_fits a c x) (map ruling_by ds)
 said-among ds c x =
     said-if_any (last_that (λ d. command_fits d.atom c x) ds)
     ∙ ap (option_map (λ r. r.answer))

@@ -5,7 +5,6 @@ use Rattle.std.specs.Prelude.{◌==◌, slice_get}
 use Rattle.std.specs.List.{range_with_len, Contains}
 use Rattle.std.proofs.lemmas.Bool.{and_parts, eqb-true}
 use Rattle.std.proofs.lemmas.List.Elements.{Contains-append_left, Contains-push, Contains-push_cases}
-use Rattle.sudo_grammar.specs.declared.policy.Policy.{Policy}
 use Rattle.sudo_match.specs.declared.people.Machine.{Machine}
 use Rattle.sudo_match.specs.declared.people.Person.{Person}
 use Rattle.review_roots.proofs.ListSteps.{flat-range, take-more}
@@ -14,26 +13,20 @@ use Rattle.review_compare.specs.declared.cell.Cell.{Cell}
 use Rattle.review_compare.specs.declared.compared.Compared.{Compared}
 use Rattle.review_compare.specs.declared.compared.Compared.TheVariants as compared
 use Rattle.review_compare.specs.declared.pair.Pair.{Pair}
-use Rattle.review_compare.specs.declared.differences.Spot.{Spot}
+use Rattle.review_compare.specs.declared.spot.Spot.{Spot}
 use Rattle.review_compare.specs.declared.row.Row.{Row}
 use Rattle.review_compare.specs.Differences.{Finds, IsFound, IsDone, SameIf, question_at, question_if, has_cell, known_at}
 use Rattle.review_compare.specs.Differences.{same_number, is_this_host}
 use Rattle.review_compare.specs.Differences.{is_this_user, is_host_if, is_user_if, all_asks, AreDifferences}
 use Rattle.sudo_verdict.specs.Questions.{Question, question_as}
-use Rattle.review_compare.specs.declared.block.Block.{Block}
-use Rattle.review_compare.specs.declared.differences.Listed.{Listed}
-use Rattle.review_compare.specs.Blocks.{AreBlocks}
-use Rattle.review_compare.specs.Compared.{said}
-use Rattle.review_compare.specs.Body.Chosen.{AreListed, standing_among}
-use Rattle.review_compare.proofs.ChosenLemmas.{all-stand, blocks-decide}
 use Rattle.review_compare.proofs.UnchangedLemmas.{less-or}
-use Rattle.review_compare.specs.Cells.{Decider, SaySame, deciders, verdict_among}
+use Rattle.review_compare.specs.Cells.{SaySame, deciders}
 use Rattle.review_compare.specs.Witnesses.{IsCompared}
 use Rattle.review_compare.proofs.CellLemmas.{rows_say_same}
 use Rattle.review_compare.specs.Body.Merged.{same_cell, same_numbers, Absorbs, AbsorbsAll}
-use Rattle.review_compare.specs.Body.Progress.{Progress, AddsFound, IsSpot, IsOn, AreListedIn, IsOnAsked, IsBefore, IsForAsked, IsForUser}
+use Rattle.review_compare.specs.Body.Progress.{Progress, AddsFound, IsSpot, IsOn, IsOnAsked, IsBefore, IsForAsked, IsForUser}
 use Rattle.review_compare.specs.Body.Progress.{IsUserBefore}
-use Rattle.review_compare.specs.Body.Progress.{AreLeft, IsAsked, ask_of, cell_at, question_of}
+use Rattle.review_compare.specs.Body.Progress.{AreLeft, AreLeftForAll, AreLeftUnless, IsAsked, SayAllSame, ask_of, cell_at, question_of}
 
 -- ---- Numbers
 
@@ -196,39 +189,6 @@ ask-more p rows new s asks k less a is so_far one =
     either : (c : Cell) → IsOn s.user s.host (take (k + 1) asks) c → IsOn s.user s.host (take k asks) c ⊎ (c ≡ cell_at s a)
     either c on = split c on.0 on.1
         (Contains-push_cases (take k asks) a c.ask (subst (λ (xs : List Ask). Contains xs c.ask) (take-more asks k a less is) on.2))
-
-no-numbers : (xs : List ℕ) → length xs ≡ 0 → xs ≡ []
-no-numbers [] e = refl
-no-numbers (x ∷ xs) e = absurd (omega arith)
-
--- where no block is for the user on the host, there is no row for any target
-no-deciders :
-    (p : Policy) (bs : List Block) (u : Person) (m : Machine) (indices : List ℕ) → AreBlocks p bs → AreListed p bs u m indices →
-    length indices ≡ 0 → (q : Question) → q.user ≡ u → q.host ≡ m → deciders p q ≡ []
-no-deciders p bs u m indices are listed none q own on =
-    sym (blocks-decide p q bs are) ∙ sym (all-stand p bs q) ∙ sym (listed.all q (λ _. true) own on)
-    ∙ ap (standing_among p bs q (λ _. true)) (no-numbers indices none)
-
-pub none-listed :
-    (p : Pair) (rows : List Row) (s : Spot) (l : Listed) (asks : List Ask) → IsSpot p s → AreListedIn p s l →
-    length l.old.items ≡ 0 → length l.new.items ≡ 0 → Progress p rows rows (IsOn s.user s.host asks)
-none-listed p rows s l asks at listed old new = nothing-added p rows (IsOn s.user s.host asks) (λ c on. same c on.0 on.1)
-  where
-    says : (a : Ask) → SaySame p.old.checked.now p.new.checked.now (question_of p s a)
-    says a = rows_say_same p.old.checked.now p.new.checked.now (question_of p s a)
-        (λ command arguments.
-        ap (λ (ds : List Decider). said (verdict_among ds command arguments))
-        (no-deciders p.old.checked.now p.old.blocks.items s.person.now s.machine.now l.old.items p.old.are_blocks listed.old old
-        (question_of p s a) refl refl
-        ∙ sym (no-deciders p.new.checked.now p.new.blocks.items s.person.now s.machine.now l.new.items p.new.are_blocks listed.new new
-        (question_of p s a) refl refl)))
-
-    same : (c : Cell) → c.user ≡ s.user → c.host ≡ s.host →
-        SameIf p.old.checked.now p.new.checked.now (question_at p.directory.now p.groups.now c)
-    same c own on =
-        let is : c ≡ cell_at s c.ask = rw (sym own, sym on) refl in
-        let asked = ap (question_at p.directory.now p.groups.now) is ∙ spot-question p s c.ask at in
-        subst (λ (o : Option Question). SameIf p.old.checked.now p.new.checked.now o) (sym asked) (says c.ask)
 
 -- rows of their own are absorbed
 pub all-added : (p : Pair) (rows more new : List Row) (P : Cell → Type 0) → Progress p [] more P → AbsorbsAll rows more new →
@@ -398,17 +358,14 @@ same-on-host p rows s scope asks at same =
         subst (λ (o : Option Question). SameIf p.old.checked.now p.new.checked.now o) (sym asked)
         (same (question_of p s c.ask) refl refl)
 
--- one more ask, which is left unless both policies say the same to it
-pub left-more : (p : Pair) (u : Person) (asks : List Ask) (k : ℕ) (a : Ask) (b : Bool) (left new : List Ask) → k < length asks →
-    a ≡ get_or asks k a → AreLeft p u (take k asks) left → new ≡ left ++ cond b (a ∷ []) [] →
-    (b ≡ false → (m : Machine) → SaySame p.old.checked.now p.new.checked.now (ask_of p u m a)) → AreLeft p u (take (k + 1) asks) new
-left-more p u asks k a b left new less is so_far more same x at =
+-- one more ask, which is left unless this is so of it
+pub left-more : (Same : Ask → Type 0) (asks : List Ask) (k : ℕ) (a : Ask) (b : Bool) (left new : List Ask) → k < length asks →
+    a ≡ get_or asks k a → AreLeftUnless Same (take k asks) left → new ≡ left ++ cond b (a ∷ []) [] → (b ≡ false → Same a) →
+    AreLeftUnless Same (take (k + 1) asks) new
+left-more Same asks k a b left new less is so_far more same x at =
     by b more same
     (Contains-push_cases (take k asks) a x (subst (λ (xs : List Ask). Contains xs x) (take-more asks k a less is) at))
   where
-    Same : Ask → Type 0
-    Same y = (m : Machine) → SaySame p.old.checked.now p.new.checked.now (ask_of p u m y)
-
     held : Contains left x ⊎ Same x → (rest : List Ask) → Contains (left ++ rest) x ⊎ Same x
     held (inl there) rest = inl (Contains-append_left left rest x there)
     held (inr same) rest = inr same
@@ -444,3 +401,25 @@ asks-left p rows user u scope asks left there are so_far = record {
         IsDone p.old.checked.now p.new.checked.now p.directory.now p.groups.now rows c
     by c at (inl asked) = so_far.done c (record { own = at.own; on = at.on; asked = asked })
     by c at (inr same) = inl (at-host c at.own (slice_get p.directory.now.machines c.host) refl same)
+
+-- and those of all users
+pub all-asks-left : (p : Pair) (rows : List Row) (about : Option Person) (scope : Option Machine) (asks left : List Ask) →
+    AreLeftForAll p asks left → Progress p [] rows (IsAsked p about scope left) → Progress p [] rows (IsAsked p about scope asks)
+all-asks-left p rows about scope asks left are so_far = record {
+  kept = so_far.kept;
+  right = so_far.right;
+  done = λ c at. by c at (are c.ask at.asked);
+}
+  where
+    same-if : (c : Cell) → SayAllSame p c.ask → (u : Option Person) (m : Option Machine) → slice_get p.directory.now.people c.user ≡ u →
+        slice_get p.directory.now.machines c.host ≡ m →
+        SameIf p.old.checked.now p.new.checked.now (question_at p.directory.now p.groups.now c)
+    same-if c same None m person on = rw person tt
+    same-if c same (Some u) None person on = rw (person, on) tt
+    same-if c same (Some u) (Some m) person on = rw (person, on) (same u m)
+
+    by : (c : Cell) → IsAsked p about scope asks c → Contains left c.ask ⊎ SayAllSame p c.ask →
+        IsDone p.old.checked.now p.new.checked.now p.directory.now p.groups.now rows c
+    by c at (inl asked) = so_far.done c (record { is = at.is; on = at.on; asked = asked })
+    by c at (inr same) =
+        inl (same-if c same (slice_get p.directory.now.people c.user) (slice_get p.directory.now.machines c.host) refl refl)

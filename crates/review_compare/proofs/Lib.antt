@@ -12,3 +12,5 @@ pub mod DifferenceLemmas
 pub mod RowLemmas
 pub mod TextLemmas
 pub mod UnchangedLemmas
+pub mod ClassLemmas
+pub mod ChangedLemmas

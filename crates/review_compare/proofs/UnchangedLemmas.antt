@@ -1,7 +1,7 @@
 -- Where no block between the common prefix and suffix stands, both policies say the same.
 use Rattle.std.proofs.Common.{◌≡◌, ◌<◌, ◌≤◌, ◌+◌, ◌-◌, ◌∙◌, ◌⊎◌, inl, inr, ℕ, zero, suc, Bool, true, false, cond, ◌&&◌, List, [], ◌∷◌, ◌++◌}
 use Rattle.std.proofs.Common.{ap, arith, refl, subst, sym, flat_map, length, map, append_assoc, Option, None, Some, option_copied}
-use Rattle.std.specs.Prelude.{not, slice_get, is_some, option_map, unwrap_or}
+use Rattle.std.specs.Prelude.{◌||◌, not, slice_get, is_none, is_some, option_map, unwrap_or}
 use Rattle.std.specs.List.{range_with_len}
 use Rattle.std.proofs.lemmas.List.{map-append}
 use Rattle.sudo_grammar.specs.declared.kind.Atom.{Atom}
@@ -28,8 +28,8 @@ use Rattle.review_compare.specs.declared.common.Common.{Common}
 use Rattle.review_compare.specs.Agreement.{Ruling}
 use Rattle.review_compare.specs.Blocks.{AreBlocks, block_decider, block_stands, standing}
 use Rattle.review_compare.specs.Cells.{Decider, SaySame, deciders, ruling_by}
-use Rattle.review_compare.specs.Body.Chosen.{deciders_at, deciders_if, deciders_of, host_at, runas_at, runas_if, standing_at}
-use Rattle.review_compare.specs.Body.Chosen.{standing_if, user_at}
+use Rattle.review_compare.specs.Body.Chosen.{deciders_at, deciders_if, deciders_of, depends_on_user, host_at, runas_at, runas_if}
+use Rattle.review_compare.specs.Body.Chosen.{standing_at, standing_if, user_at}
 use Rattle.review_compare.specs.Body.Unchanged.{AreAlikeAt, AreCommon, ArePartsAlike, IsQuiet, StandAlike, rulings_at, written_if}
 use Rattle.review_compare.proofs.CellLemmas.{rows_say_same, rulings-say-same}
 use Rattle.review_compare.proofs.ChosenLemmas.{all-stand, blocks-decide, no-host, no-user}
@@ -274,7 +274,7 @@ same-runas p q s None own asked group target = ap (root_allowed q) target ∙ by
     by None = refl
     by (Some t) = rw group refl
 
-other-host-runas : (p : Policy) (bs : List Block) (d : KnownRows) (u : Person) (m n : Machine) (t : Option Person) (g : Option Group)
+pub other-host-runas : (p : Policy) (bs : List Block) (d : KnownRows) (u : Person) (m n : Machine) (t : Option Person) (g : Option Group)
     (i : ℕ) → runas_at p bs (question_as d u m t g) i ≡ runas_at p bs (question_as d u n t g) i
 other-host-runas p bs d u m n t g i = by (slice_get bs i)
   where
@@ -294,6 +294,34 @@ ask-quiet p bs c d u m t g n all none k i low high =
         standing_if p (question_as d u k t g) (slice_get bs i) ≡ []
     by false e f = no-runas p (question_as d u k t g) (slice_get bs i) (other-host-runas p bs d u k m t g i ∙ e)
     by true e f = no-user p bs u (question_as d u k t g) (λ _. true) i refl f
+
+-- a runas that depends on no user
+one-for-all : (p : Policy) (d : KnownRows) (u v : Person) (m n : Machine) (t : Option Person) (g : Option Group) (r : Option Runas) →
+    depends_on_user r t ≡ false → runas_allows p (question_as d u m t g) r ≡ runas_allows p (question_as d v n t g) r
+unfolding runas_allows form_allows
+one-for-all p d u v m n None g r e = cc
+one-for-all p d u v m n (Some t) g None e = refl
+one-for-all p d u v m n (Some t) g (Some r) e = by r.users r.groups e
+  where
+    by : (us gs : Option (List Member)) → (is_some gs || is_none us) ≡ false →
+        form_allows p (question_as d u m (Some t) g) us gs ≡ form_allows p (question_as d v n (Some t) g) us gs
+    by (Some us) None e = refl
+    by us (Some gs) e = cc
+    by None None e = cc
+
+-- a block allows no user what it does not allow this one, unless that depends on the user
+pub none-allowed : (p : Policy) (d : KnownRows) (v : Person) (n : Machine) (t : Option Person) (g : Option Group) (b : Block) →
+    depends_on_user (option_copied b.runas) t ≡ false → runas_allows p (question_as d v n t g) (option_copied b.runas) ≡ false →
+    (u : Person) (m : Machine) → runas_if p (question_as d u m t g) (Some b) ≡ false
+none-allowed p d v n t g b depends none u m = one-for-all p d u v m n t g (option_copied b.runas) depends ∙ none
+
+-- where no block between may allow this to any user
+pub allow-quiet : (p : Policy) (bs : List Block) (c : Common) (d : KnownRows) (t : Option Person) (g : Option Group) (n : ℕ) →
+    length bs ≤ n + c.back →
+    ((i : ℕ) → c.front ≤ i → i < n → (u : Person) (m : Machine) → runas_at p bs (question_as d u m t g) i ≡ false) →
+    (u : Person) (m : Machine) → IsQuiet p bs c (question_as d u m t g)
+allow-quiet p bs c d t g n all none u m i low high =
+    no-runas p (question_as d u m t g) (slice_get bs i) (none i low (omega (arith, all, high)) u m)
 
 -- ---- Indices
 
@@ -321,3 +349,10 @@ none-more front n t none one i low high = by (less-or i n high)
     by : (i < n) ⊎ (i ≡ n) → t i ≡ false
     by (inl less) = none i low less
     by (inr is) = ap t is ∙ one
+
+pub each-more : (front n : ℕ) (P : ℕ → Type 0) → ((i : ℕ) → front ≤ i → i < n → P i) → P n → (i : ℕ) → front ≤ i → i < n + 1 → P i
+each-more front n P each one i low high = by (less-or i n high)
+  where
+    by : (i < n) ⊎ (i ≡ n) → P i
+    by (inl less) = each i low less
+    by (inr is) = subst P (sym is) one

@@ -6,3 +6,6 @@ pub mod Merged
 pub mod Progress
 pub mod Lines
 pub mod Unchanged
+pub mod Comparisons
+pub mod Classes
+pub mod ChangedRows

@@ -84,17 +84,19 @@ fn is_same_witness(witness: &Witness, other: &Witness) -> bool
 fn are_same_witnesses(witnesses: &[Witness], others: &[Witness]) -> bool
     ensures { result ≡ true → witnesses.now ≡ others.now }
 {
-    match (witnesses, others) {
-        ([], []) => true,
-        ([witness], [other]) => is_same_witness(witness, other),
-        ([witness, second], [other, other_second]) => {
-            if !is_same_witness(witness, other) {
-                return false;
-            }
-            is_same_witness(second, other_second)
+    let mut own = witnesses;
+    let mut left = others;
+    while let [witness, rest @ ..] = own {
+        let [other, more @ ..] = left else {
+            return false;
+        };
+        if !is_same_witness(witness, other) {
+            return false;
         }
-        _ => false,
+        own = rest;
+        left = more;
     }
+    left.is_empty()
 }
 
 // Whether two patterns of hosts have the same characters.
@@ -172,7 +174,7 @@ fn is_same_row(row: &Option<Decider>, other: &Option<Decider>) -> bool
     }
 }
 
-/// Whether two findings are the same. Findings of three commands count as different.
+/// Whether two findings are the same.
 pub(crate) fn is_same_found(found: &Compared, other: &Compared) -> bool
     ensures { result ≡ true → found.now ≡ other.now }
 {

@@ -7,8 +7,9 @@ ghost use Rattle.review_compare.specs.Witnesses as witnesses;
 use crate::alike::is_same_atom;
 use crate::answer::{Answer, is_same_answer};
 use crate::candidates::{Candidate, candidates};
+use crate::changed::Changed;
 use crate::ruling::{Overlap, Ruled, first_overlap};
-use crate::witness::{Witness, witness_of};
+use crate::witness::Witness;
 use std::alloc::{AllocError, Global};
 use sudo_grammar::Atom;
 use sudo_match::Tags;
@@ -73,14 +74,14 @@ fn has_answer(found: &[Witness], answer: Answer) -> bool {
 
 // Appends the witness, unless one of the same answer is there.
 fn push_witness(
-    old: &[Ruled<'_>],
-    new: &[Ruled<'_>],
+    changed: &Changed<'_, '_>,
     witness: Witness,
     found: &mut Vec<Witness>,
 ) -> Result<(), AllocError>
-    requires { body.IsShownWitness old.now new.now witness }
-    ensures { OnOk result (All (body.IsShownWitness old.entry.now new.entry.now) found.old.items
-        → All (body.IsShownWitness old.entry.now new.entry.now) found.new.items) }
+    requires { body.IsShownWitness changed.now.all_old.now changed.now.all_new.now witness }
+    ensures { OnOk result (All (body.IsShownWitness changed.now.all_old.now
+        changed.now.all_new.now) found.old.items → All (body.IsShownWitness
+        changed.now.all_old.now changed.now.all_new.now) found.new.items) }
 {
     if !has_answer(found, witness.answer) {
         found.push(witness)?;
@@ -91,39 +92,35 @@ fn push_witness(
 // Appends the command as a witness, if it is one and none of the same answer is there.
 fn push_tried(
     alloc: Global,
-    old: &[Ruled<'_>],
-    new: &[Ruled<'_>],
+    changed: &Changed<'_, '_>,
     text: &Candidate,
     found: &mut Vec<Witness>,
 ) -> Result<(), AllocError>
-    ensures { OnOk result (All (body.IsShownWitness old.entry.now new.entry.now) found.old.items
-        → All (body.IsShownWitness old.entry.now new.entry.now) found.new.items) }
+    ensures { OnOk result (All (body.IsShownWitness changed.now.all_old.now
+        changed.now.all_new.now) found.old.items → All (body.IsShownWitness
+        changed.now.all_old.now changed.now.all_new.now) found.new.items) }
 {
-    let (command, arguments) = (text.command.as_slice(), text.arguments.as_slice());
-    match witness_of(alloc, old, new, command, arguments)? {
-        Some(witness) => push_witness(old, new, witness, found),
+    match changed.witness(alloc, text)? {
+        Some(witness) => push_witness(changed, witness, found),
         None => Ok(()),
     }
 }
 
-// Returns commands that the rows answer otherwise: at most one for each answer.
-fn witnesses(
-    alloc: Global,
-    old: &[Ruled<'_>],
-    new: &[Ruled<'_>],
-) -> Result<Vec<Witness>, AllocError>
-    ensures { IfOk result (λ found. All (body.IsShownWitness old.now new.now) found.items) }
+// Returns commands that are answered otherwise: at most one for each answer.
+fn witnesses(alloc: Global, changed: &Changed<'_, '_>) -> Result<Vec<Witness>, AllocError>
+    ensures { IfOk result (λ found. All (body.IsShownWitness changed.now.all_old.now
+        changed.now.all_new.now) found.items) }
 {
-    let texts = candidates(alloc, old, new)?;
+    let texts = candidates(alloc, &changed.old, &changed.new)?;
     let mut found = Vec::new(alloc);
     for text in &texts {
-        push_tried(alloc, old, new, text, &mut found)?;
+        push_tried(alloc, changed, text, &mut found)?;
     }
     Ok(found)
 }
 
-// Whether two rows answer the same to the same commands.
-fn is_same_ruling(row: &Ruled<'_>, other: &Ruled<'_>) -> bool
+/// Whether two rows answer the same to the same commands.
+pub(crate) fn is_same_ruling(row: &Ruled<'_>, other: &Ruled<'_>) -> bool
     ensures { result ≡ true → body.ruling_of row.now ≡ body.ruling_of other.now }
 {
     if !is_same_answer(&row.answer, &other.answer) {
@@ -147,8 +144,30 @@ pub(crate) fn have_same_rulings(rows: &[Ruled<'_>], others: &[Ruled<'_>]) -> boo
     true
 }
 
+// Compares rows that differ, by the rows near these.
+fn compared_changed(alloc: Global, changed: &Changed<'_, '_>) -> Result<Compared, AllocError>
+    ensures { IfOk result (witnesses.IsCompared (body.all_shown changed.now.all_old.now)
+        (body.all_shown changed.now.all_new.now)) }
+{
+    if changed.old.len() > MOST_ROWS || changed.new.len() > MOST_ROWS {
+        return may(Overlap {
+            old: changed.old.last().copied(),
+            new: changed.new.last().copied(),
+        });
+    }
+    let found = witnesses(alloc, changed)?;
+    if !found.is_empty() {
+        return Ok(Compared::Differs(Seq::from_vec(found)));
+    }
+    match first_overlap(&changed.old, &changed.new) {
+        None => Ok(Compared::Same),
+        Some(overlap) => may(overlap),
+    }
+}
+
 /// Compares the rows of two policies for a target: by commands that may be answered otherwise, and then by tests on pairs of
-/// rows. Beyond a thousand rows of one of the policies nothing is known. Returns `AllocError` if allocation fails.
+/// rows. Only rows that may fit a command of a row that differs are looked at; beyond a thousand such rows of one of the
+/// policies nothing is known. Returns `AllocError` if allocation fails.
 pub(crate) fn compared_rows(
     alloc: Global,
     old: &[Ruled<'_>],
@@ -159,18 +178,6 @@ pub(crate) fn compared_rows(
     if have_same_rulings(old, new) {
         return Ok(Compared::Same);
     }
-    if old.len() > MOST_ROWS || new.len() > MOST_ROWS {
-        return may(Overlap {
-            old: old.last().copied(),
-            new: new.last().copied(),
-        });
-    }
-    let found = witnesses(alloc, old, new)?;
-    if !found.is_empty() {
-        return Ok(Compared::Differs(Seq::from_vec(found)));
-    }
-    match first_overlap(old, new) {
-        None => Ok(Compared::Same),
-        Some(overlap) => may(overlap),
-    }
+    let changed = Changed::between(alloc, old, new)?;
+    compared_changed(alloc, &changed)
 }

@@ -1,171 +1,19 @@
 //! The differences of two policies, cell by cell.
-ghost use Rattle.std.specs.Prelude.{◌≡◌, ◌++◌, ◌∷◌, [], if◌then◌else◌, IfOk, length, OnOk, Some, option_copied, slice_get, true};
-ghost use Rattle.review_compare.specs.Cells.{deciders};
+ghost use Rattle.std.specs.Prelude.{◌≡◌, ◌++◌, ◌∷◌, [], All, if◌then◌else◌, IfOk, OnOk, Some, option_copied, slice_get};
 ghost use Rattle.review_compare.specs.Differences as differences;
-ghost use Rattle.review_compare.specs.Witnesses.{IsCompared};
-ghost use Rattle.review_compare.specs.Body.Chosen.{chosen};
+ghost use Rattle.review_compare.specs.Body.Classes.{IsClass};
 ghost use Rattle.review_compare.specs.Body.Progress as body;
 
-use crate::asks::{all_asks, group_at, person_at};
-use crate::cell::{Ask, Cell};
-use crate::compared::{Compared, compared_rows};
+use crate::asks::all_asks;
+use crate::cell::Ask;
+use crate::host_class::{HostClass, add_spot};
 use crate::pair::Pair;
-use crate::row::{Dimension, Row, absorb, absorb_all};
-use crate::side::rows_at;
+use crate::row::{Dimension, Row, absorb_all};
+use crate::spot::{Listed, Spot};
 use review_grants::Scope;
 use std::alloc::{AllocError, Global};
 use sudo_match::{Directory, Group, Machine, Person};
 use sudo_policy::Checked;
-use sudo_verdict::Asker;
-
-// The indices of blocks of both policies.
-#[derive(Drop)]
-struct Listed {
-    old: Vec<usize>,
-    new: Vec<usize>,
-}
-
-// A known user on a known host, by their indices.
-#[derive(Clone, Copy)]
-struct Spot<'a> {
-    user: usize,
-    host: usize,
-    person: &'a Person,
-    machine: &'a Machine,
-}
-
-// Compares the rows of the blocks at these indices.
-fn compared_blocks(
-    alloc: Global,
-    pair: &Pair<'_>,
-    old: &[usize],
-    new: &[usize],
-) -> Result<Compared, AllocError>
-    ensures { IfOk result (IsCompared (chosen pair.now.old.blocks.items old.now)
-        (chosen pair.now.new.blocks.items new.now)) }
-{
-    let old_rows = rows_at(alloc, &pair.old.blocks, old)?;
-    let new_rows = rows_at(alloc, &pair.new.blocks, new)?;
-    compared_rows(alloc, &old_rows, &new_rows)
-}
-
-// Compares what the policies answer to the user on the host who asks for a target and a group.
-fn compared_asked(
-    alloc: Global,
-    pair: &Pair<'_>,
-    spot: Spot<'_>,
-    listed: &Listed,
-    ask: Ask,
-) -> Result<Compared, AllocError>
-    requires { body.AreListedIn pair.now spot listed.now }
-    ensures { IfOk result (IsCompared (deciders pair.now.old.checked.now (body.question_of
-        pair.now spot.entry ask)) (deciders pair.now.new.checked.now (body.question_of
-        pair.now spot.entry ask))) }
-{
-    let asker = Asker {
-        user: spot.person,
-        host: spot.machine,
-        target: person_at(pair.directory, ask.target),
-        group: group_at(pair.groups, ask.group),
-    };
-    let old = pair
-        .old
-        .standing(alloc, pair.directory, asker, &listed.old)?;
-    let new = pair
-        .new
-        .standing(alloc, pair.directory, asker, &listed.new)?;
-    compared_blocks(alloc, pair, &old, &new)
-}
-
-// Adds what is found in a cell.
-fn add_found(
-    alloc: Global,
-    cell: Cell,
-    found: Compared,
-    rows: &mut Vec<Row>,
-) -> Result<(), AllocError>
-    ensures { OnOk result (body.AddsFound rows.old.items cell found rows.new.items) }
-{
-    let row = Row::of(alloc, cell, found)?;
-    absorb(rows, row, Dimension::Targets)
-}
-
-// Adds what is found where this is asked at the spot.
-fn add_ask(
-    alloc: Global,
-    pair: &Pair<'_>,
-    spot: Spot<'_>,
-    listed: &Listed,
-    ask: Ask,
-    rows: &mut Vec<Row>,
-) -> Result<(), AllocError>
-    requires spot { body.IsSpot pair.now spot }
-    requires listed { body.AreListedIn pair.now spot listed.now }
-    ensures { OnOk result (body.Progress pair.entry.now rows.old.items rows.new.items
-        (λ c. c ≡ body.cell_at spot.entry ask)) }
-{
-    let cell = Cell {
-        user: spot.user,
-        host: spot.host,
-        ask,
-    };
-    match compared_asked(alloc, pair, spot, listed, ask)? {
-        Compared::Same => Ok(()),
-        found => add_found(alloc, cell, found, rows),
-    }
-}
-
-// Returns what is found at the spot.
-fn rows_on(
-    alloc: Global,
-    pair: &Pair<'_>,
-    spot: Spot<'_>,
-    listed: &Listed,
-    asks: &[Ask],
-) -> Result<Vec<Row>, AllocError>
-    requires spot { body.IsSpot pair.now spot }
-    requires listed { body.AreListedIn pair.now spot listed.now }
-    ensures { IfOk result (λ rows. body.Progress pair.now [] rows.items
-        (body.IsOn spot.entry.user spot.entry.host asks.now)) }
-{
-    let mut rows = Vec::new(alloc);
-    for ask in asks {
-        add_ask(alloc, pair, spot, listed, *ask, &mut rows)?;
-    }
-    Ok(rows)
-}
-
-// Whether no block of either policy is for the user on the host.
-fn are_none(listed: &Listed) -> bool
-    ensures { result ≡ true → (length listed.now.old.items ≡ 0)
-        × (length listed.now.new.items ≡ 0) }
-{
-    if listed.old.as_slice().len() > 0 {
-        return false;
-    }
-    listed.new.as_slice().len() == 0
-}
-
-// Adds what is found at the spot; rows that differ in the host alone become one.
-fn add_spot(
-    alloc: Global,
-    pair: &Pair<'_>,
-    spot: Spot<'_>,
-    listed: &Listed,
-    asks: &[Ask],
-    rows: &mut Vec<Row>,
-) -> Result<(), AllocError>
-    requires spot { body.IsSpot pair.now spot }
-    requires listed { body.AreListedIn pair.now spot listed.now }
-    ensures { OnOk result (body.Progress pair.entry.now rows.old.items rows.new.items
-        (body.IsOn spot.entry.user spot.entry.host asks.entry.now)) }
-{
-    if are_none(listed) {
-        return Ok(());
-    }
-    let more = rows_on(alloc, pair, spot, listed, asks)?;
-    absorb_all(rows, more, Dimension::Hosts)
-}
 
 // Whether the user is the one that is asked about, if any.
 fn is_this_user(scope: Option<&Person>, person: &Person) -> bool
@@ -216,20 +64,25 @@ fn listed_on(
 }
 
 // Adds what is found for the user on the host, if it is asked about.
-fn add_host(
+fn add_host<'a>(
     alloc: Global,
     pair: &Pair<'_>,
-    spot: Spot<'_>,
+    spot: Spot<'a>,
     scope: Option<&Machine>,
     listed: &Listed,
     asks: &[Ask],
+    classes: &mut Vec<HostClass<'a>>,
     rows: &mut Vec<Row>,
 ) -> Result<(), AllocError>
     requires spot { body.IsSpot pair.now spot }
     requires listed { body.AreListedFor pair.now spot.person.now listed.now }
-    ensures { OnOk result (body.Progress pair.entry.now rows.old.items rows.new.items
+    requires classes { All (IsClass pair.now spot.user spot.person.now asks.now)
+        classes.old.items }
+    ensures added { OnOk result (body.Progress pair.entry.now rows.old.items rows.new.items
         (body.IsOnAsked pair.entry.now (option_copied scope.entry) spot.entry.user
         spot.entry.host asks.entry.now)) }
+    ensures classes { OnOk result (All (IsClass pair.entry.now spot.entry.user
+        spot.entry.person.now asks.entry.now) classes.new.items) }
 {
     if !is_this_host(scope, spot.machine) {
         return Ok(());
@@ -238,7 +91,7 @@ fn add_host(
         return Ok(());
     }
     let on = listed_on(alloc, pair, spot, listed)?;
-    add_spot(alloc, pair, spot, &on, asks, rows)
+    add_spot(alloc, pair, spot, on, asks, classes, rows)
 }
 
 // Appends an ask, if it is kept.
@@ -283,6 +136,7 @@ fn rows_for_asks(
         (body.IsForAsked pair.now (option_copied scope.entry) user asks.now)) }
 {
     let listed = listed_for(alloc, pair, person)?;
+    let mut classes = Vec::new(alloc);
     let mut rows = Vec::new(alloc);
     let machines = pair.directory.machines();
     for host in 0..machines.len() {
@@ -292,7 +146,16 @@ fn rows_for_asks(
             person,
             machine: &machines[host],
         };
-        add_host(alloc, pair, spot, scope, &listed, asks, &mut rows)?;
+        add_host(
+            alloc,
+            pair,
+            spot,
+            scope,
+            &listed,
+            asks,
+            &mut classes,
+            &mut rows,
+        )?;
     }
     Ok(rows)
 }
@@ -363,6 +226,50 @@ fn all_rows(
     Ok(rows)
 }
 
+// Returns the asks to which the policies may say something else, to some user on some host.
+fn asks_left_for_all(
+    alloc: Global,
+    pair: &Pair<'_>,
+    person: &Person,
+    machine: &Machine,
+    asks: &[Ask],
+) -> Result<Vec<Ask>, AllocError>
+    ensures { IfOk result (λ left. body.AreLeftForAll pair.now asks.now left.items) }
+{
+    let mut left = Vec::new(alloc);
+    for ask in asks {
+        push_if(
+            &mut left,
+            *ask,
+            pair.may_differ_asked(person, machine, *ask),
+        )?;
+    }
+    Ok(left)
+}
+
+// Returns what is found for the users on the hosts that are asked about, where one of these is asked.
+fn rows_where_asked(
+    alloc: Global,
+    pair: &Pair<'_>,
+    scope: Scope<'_>,
+    asks: &[Ask],
+) -> Result<Vec<Row>, AllocError>
+    ensures { IfOk result (λ rows. body.Progress pair.now [] rows.items
+        (body.IsAsked pair.now (option_copied scope.entry.user)
+        (option_copied scope.entry.host) asks.now)) }
+{
+    match (
+        pair.directory.people().first(),
+        pair.directory.machines().first(),
+    ) {
+        (Some(person), Some(machine)) => {
+            let left = asks_left_for_all(alloc, pair, person, machine, asks)?;
+            all_rows(alloc, pair, scope, &left)
+        }
+        _ => all_rows(alloc, pair, scope, asks),
+    }
+}
+
 /// Compares two policies in the cells of the users and hosts that are asked about: each target (none, and each known user) with
 /// each of the groups (none, and each of them). What a row says is so in each of its cells; in a cell without a row both
 /// policies say the same to every command.
@@ -383,5 +290,5 @@ pub fn compared_policies(
 {
     let asks = all_asks(alloc, directory, groups)?;
     let pair = Pair::of(alloc, old, new, directory, groups)?;
-    all_rows(alloc, &pair, scope, &asks)
+    rows_where_asked(alloc, &pair, scope, &asks)
 }

@@ -1,6 +1,7 @@
 //! Two policies that are compared, and where they may differ.
 ghost use Rattle.std.specs.Prelude.{◌≡◌, false, IfOk};
 ghost use Rattle.sudo_match.specs.declared.people.Machine.{Machine as TheMachine};
+ghost use Rattle.sudo_match.specs.declared.people.Person.{Person as ThePerson};
 ghost use Rattle.sudo_verdict.specs.Questions.{Question, question_as};
 ghost use Rattle.review_compare.specs.Cells.{SaySame};
 ghost use Rattle.review_compare.specs.Differences.{known_at};
@@ -87,5 +88,23 @@ impl Pair<'_> {
         };
         self.old.is_for_asker(self.common, self.directory, asker)
             || self.new.is_for_asker(self.common, self.directory, asker)
+    }
+    /// Whether the policies may differ for some user who asks for a target and a group, on some host. The user and the host are
+    /// any known ones.
+    pub(crate) fn may_differ_asked(&self, person: &Person, machine: &Machine, ask: Ask) -> bool
+        ensures { result ≡ false → (u : ThePerson) (m : TheMachine)
+            → SaySame self.now.old.checked.now self.now.new.checked.now
+            (question_as self.now.directory.now u m
+            (known_at self.now.directory.now.people ask.target)
+            (known_at self.now.groups.now ask.group)) }
+    {
+        let asker = Asker {
+            user: person,
+            host: machine,
+            target: person_at(self.directory, ask.target),
+            group: group_at(self.groups, ask.group),
+        };
+        self.old.may_allow(self.common, self.directory, asker)
+            || self.new.may_allow(self.common, self.directory, asker)
     }
 }

@@ -1,5 +1,5 @@
 //! Rows of the table: cells of which one thing is found.
-ghost use Rattle.std.specs.Prelude.{◌≡◌, ◌<◌, IfOk, IfSome, OnOk, get_or, length, true};
+ghost use Rattle.std.specs.Prelude.{◌≡◌, ◌<◌, ℕ, All, IfOk, IfSome, OnOk, get_or, length, true};
 ghost use Rattle.review_compare.specs.declared.cell.Cell.{Cell as TheCell};
 ghost use Rattle.review_compare.specs.declared.row.Row.{Row as TheRow};
 ghost use Rattle.review_compare.specs.Differences as differences;
@@ -80,8 +80,9 @@ fn are_same_asked(numbers: &Seq<Option<usize>>, others: &Seq<Option<usize>>) -> 
 impl Row {
     /// Returns the row of one cell. Returns `AllocError` if allocation fails.
     pub(crate) fn of(alloc: Global, cell: Cell, found: Compared) -> Result<Row, AllocError>
-        ensures { IfOk result (λ row. (row.found ≡ found) × ((c : TheCell)
+        ensures cells { IfOk result (λ row. (row.found ≡ found) × ((c : TheCell)
             → has_cell row c ≡ body.same_cell cell c)) }
+        ensures of_spot { IfOk result (body.IsOfSpot cell.user cell.host) }
     {
         let users = Seq::from_slice(alloc, &[cell.user])?;
         let hosts = Seq::from_slice(alloc, &[cell.host])?;
@@ -111,13 +112,13 @@ impl Row {
     fn is_like_but_users(&self, other: &Row) -> bool
         ensures { result ≡ true → body.AreLike Dimension.Users self.now other.now }
     {
+        if !are_same_asked(&self.groups, &other.groups) {
+            return false;
+        }
         if !are_same(&self.hosts, &other.hosts) {
             return false;
         }
         if !are_same_asked(&self.targets, &other.targets) {
-            return false;
-        }
-        if !are_same_asked(&self.groups, &other.groups) {
             return false;
         }
         is_same_found(&self.found, &other.found)
@@ -126,13 +127,13 @@ impl Row {
     fn is_like_but_hosts(&self, other: &Row) -> bool
         ensures { result ≡ true → body.AreLike Dimension.Hosts self.now other.now }
     {
+        if !are_same_asked(&self.groups, &other.groups) {
+            return false;
+        }
         if !are_same(&self.users, &other.users) {
             return false;
         }
         if !are_same_asked(&self.targets, &other.targets) {
-            return false;
-        }
-        if !are_same_asked(&self.groups, &other.groups) {
             return false;
         }
         is_same_found(&self.found, &other.found)
@@ -144,13 +145,13 @@ impl Row {
         if is_asked(&self.targets) != is_asked(&other.targets) {
             return false;
         }
+        if !are_same_asked(&self.groups, &other.groups) {
+            return false;
+        }
         if !are_same(&self.users, &other.users) {
             return false;
         }
         if !are_same(&self.hosts, &other.hosts) {
-            return false;
-        }
-        if !are_same_asked(&self.groups, &other.groups) {
             return false;
         }
         is_same_found(&self.found, &other.found)
@@ -177,7 +178,9 @@ impl Row {
     // Appends what the other has in this.
     fn extend(&mut self, other: &Row, dimension: Dimension) -> Result<(), AllocError>
         requires { body.AreLike dimension self.old other.now }
-        ensures { OnOk result (body.IsJoined self.old other.now self.new) }
+        ensures joined { OnOk result (body.IsJoined self.old other.now self.new) }
+        ensures of_spot { OnOk result (dimension ≡ Dimension.Targets
+            → (self.new.users ≡ self.old.users) × (self.new.hosts ≡ self.old.hosts)) }
     {
         match dimension {
             Dimension::Users => self.users.extend_from_slice(other.users.as_slice()),
@@ -204,7 +207,10 @@ fn like_index(rows: &[Row], row: &Row, dimension: Dimension) -> Option<usize>
 /// Merges a row into the first row that differs from it in this dimension alone; otherwise appends it. Returns `AllocError` if
 /// allocation fails.
 pub(crate) fn absorb(rows: &mut Vec<Row>, row: Row, dimension: Dimension) -> Result<(), AllocError>
-    ensures { OnOk result (body.Absorbs rows.old.items row rows.new.items) }
+    ensures absorbed { OnOk result (body.Absorbs rows.old.items row rows.new.items) }
+    ensures of_spot { OnOk result (dimension ≡ Dimension.Targets → (user host : ℕ)
+        → body.IsOfSpot user host row → All (body.IsOfSpot user host) rows.old.items
+        → All (body.IsOfSpot user host) rows.new.items) }
 {
     match like_index(rows, &row, dimension) {
         Some(index) => rows[index].extend(&row, dimension),

@@ -8,6 +8,7 @@ ghost use Rattle.review_compare.specs.Body.Shown.{all_shown};
 ghost use Rattle.review_compare.specs.Body.Unchanged.{IsQuiet};
 ghost use Rattle.std.specs.Prelude.{◌++◌, ◌∷◌, ◌&&◌, [], false, if◌then◌else◌};
 ghost use Rattle.sudo_match.specs.declared.people.Machine.{Machine as TheMachine};
+ghost use Rattle.sudo_match.specs.declared.people.Person.{Person as ThePerson};
 ghost use Rattle.review_compare.specs.Cells as cells;
 
 use crate::block::{Block, blocks_of};
@@ -15,7 +16,7 @@ use crate::common::Common;
 use crate::ruling::Ruled;
 use std::alloc::{AllocError, Global};
 use sudo_match::{Directory, Machine, Person};
-use sudo_policy::Checked;
+use sudo_policy::{Checked, Runas};
 use sudo_verdict::{Asker, allows_runas, lists_host, lists_user};
 
 /// A policy with its grants in blocks.
@@ -36,6 +37,19 @@ fn push_if(indices: &mut Vec<usize>, index: usize, keep: bool) -> Result<(), All
         indices.push(index)?;
     }
     Ok(())
+}
+
+// Whether the runas may allow the target to one user and not to another. It cannot without a list of groups, unless it has no
+// list at all.
+fn depends_on_user(runas: Option<&Runas>, target: Option<&Person>) -> bool
+    ensures { result ≡ body.depends_on_user (option_copied runas.entry)
+        (option_copied target.entry) }
+{
+    match (runas, target) {
+        (_, None) => true,
+        (None, Some(_)) => false,
+        (Some(runas), Some(_)) => runas.groups.is_some() || runas.users.is_none(),
+    }
 }
 
 impl<'a> Side<'a> {
@@ -143,6 +157,38 @@ impl Side<'_> {
     {
         for index in common.front..self.blocks.len().saturating_sub(common.back) {
             if self.lists_asker_at(index, directory, asker) {
+                return true;
+            }
+        }
+        false
+    }
+
+    // Whether the runas of the block at an index may allow the target and the group to some user. Where it is not the same for
+    // all users, it may.
+    fn may_allow_at(&self, index: usize, directory: &Directory, asker: Asker<'_>) -> bool
+        ensures { result ≡ false → (u : ThePerson) (m : TheMachine)
+            → body.runas_at self.now.checked.now self.now.blocks.items (question_as directory.now u m
+            (option_copied asker.entry.target) (option_copied asker.entry.group)) index ≡ false }
+    {
+        match self.blocks.get(index) {
+            None => false,
+            Some(block) => {
+                depends_on_user(block.runas, asker.target)
+                    || allows_runas(self.checked, directory, asker, block.runas)
+            }
+        }
+    }
+
+    /// Whether the runas of a block between the common prefix and suffix may allow the target and the group to some user. Its
+    /// lists are not asked.
+    pub(crate) fn may_allow(&self, common: Common, directory: &Directory, asker: Asker<'_>) -> bool
+        ensures { result ≡ false → (u : ThePerson) (m : TheMachine)
+            → IsQuiet self.now.checked.now self.now.blocks.items common
+            (question_as directory.now u m (option_copied asker.entry.target)
+            (option_copied asker.entry.group)) }
+    {
+        for index in common.front..self.blocks.len().saturating_sub(common.back) {
+            if self.may_allow_at(index, directory, asker) {
                 return true;
             }
         }

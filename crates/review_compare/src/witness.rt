@@ -62,7 +62,9 @@ pub(crate) fn witness_of(
     command: &[u8],
     arguments: &[u8],
 ) -> Result<Option<Witness>, AllocError>
-    ensures { IfOk result (λ found. IfSome found (body.IsShownWitness old.now new.now)) }
+    ensures is { IfOk result (λ found. IfSome found (body.IsShownWitness old.now new.now)) }
+    ensures of { IfOk result (λ found. IfSome found (λ w. (w.command ≡ command.now)
+        × (w.arguments ≡ arguments.now))) }
 {
     let (before, after) = (
         verdict_among(old, command, arguments),

@@ -1,6 +1,7 @@
 -- The blocks that stand for a question, by their indices; only proofs of bodies need these definitions.
 use Rattle.std.specs.Prelude.{◌≡◌, ℕ, Bool, true, false, ◌&&◌, if◌then◌else◌, List, [], flat_map, length, map, slice_get, Option, Some}
-use Rattle.std.specs.Prelude.{None, option_copied}
+use Rattle.std.specs.Prelude.{None, is_none, is_some, option_copied, ◌||◌}
+use Rattle.sudo_grammar.specs.declared.policy.Runas.{Runas}
 use Rattle.std.specs.List.{list_all, range_with_len}
 use Rattle.sudo_grammar.specs.declared.policy.Policy.{Policy}
 use Rattle.sudo_match.specs.declared.people.Machine.{Machine}
@@ -75,3 +76,9 @@ pub record AreListed (p : Policy) (bs : List Block) (u : Person) (m : Machine) (
   pub all : (q : Question) (on : ℕ → Bool) → q.user ≡ u → q.host ≡ m →
       standing_among p bs q on indices ≡ standing_among p bs q on (range_with_len 0 (length bs))
   pub each : list_all (listed_at p bs u m) indices ≡ true
+
+-- the runas may allow the target to one user and not to another: it has a list of groups, or no list at all
+abbrev pub depends_on_user : Option Runas → Option Person → Bool
+depends_on_user r None = true
+depends_on_user None (Some t) = false
+depends_on_user (Some r) (Some t) = is_some r.groups || is_none r.users

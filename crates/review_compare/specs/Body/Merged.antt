@@ -23,6 +23,10 @@ AreLike dimension.Hosts r s = (r.users ≡ s.users) × (r.targets ≡ s.targets)
 AreLike dimension.Targets r s = (r.users ≡ s.users) × (r.hosts ≡ s.hosts) × (r.groups ≡ s.groups) × (r.found ≡ s.found)
 AreLike dimension.Groups r s = (r.users ≡ s.users) × (r.hosts ≡ s.hosts) × (r.targets ≡ s.targets) × (r.found ≡ s.found)
 
+-- a row of the user on the host alone
+abbrev pub IsOfSpot : ℕ → ℕ → Row → Type 0
+IsOfSpot user host r = (r.users ≡ user ∷ []) × (r.hosts ≡ host ∷ [])
+
 -- the row has the cells of both, of which the same is found
 pub record IsJoined (r s t : Row) : Type 0 where
   pub cells : (c : Cell) → has_cell t c ≡ (has_cell r c || has_cell s c)

@@ -8,8 +8,8 @@ use Rattle.review_compare.specs.declared.cell.Ask.{Ask}
 use Rattle.review_compare.specs.declared.cell.Cell.{Cell}
 use Rattle.review_compare.specs.declared.compared.Compared.{Compared}
 use Rattle.review_compare.specs.declared.pair.Pair.{Pair}
-use Rattle.review_compare.specs.declared.differences.Listed.{Listed}
-use Rattle.review_compare.specs.declared.differences.Spot.{Spot}
+use Rattle.review_compare.specs.declared.spot.Listed.{Listed}
+use Rattle.review_compare.specs.declared.spot.Spot.{Spot}
 use Rattle.review_compare.specs.declared.row.Row.{Row}
 use Rattle.review_compare.specs.Differences.{Finds, IsFound, IsDone, is_host_if, is_user_if, known_at}
 use Rattle.review_compare.specs.Cells.{SaySame}
@@ -44,10 +44,23 @@ question_of p s a = question_as p.directory.now s.person.now s.machine.now (know
 abbrev pub ask_of : Pair → Person → Machine → Ask → Question
 ask_of p u m a = question_as p.directory.now u m (known_at p.directory.now.people a.target) (known_at p.groups.now a.group)
 
--- each ask is left, unless both policies say the same to it on every host
+-- each ask is left, unless this is so of it
+abbrev pub AreLeftUnless : (Ask → Type 0) → List Ask → List Ask → Type 0
+AreLeftUnless same asks left = (a : Ask) → Contains asks a → Contains left a ⊎ same a
+
+-- both policies say the same to what the user asks for on every host
+abbrev pub SayUserSame : Pair → Person → Ask → Type 0
+SayUserSame p u a = (m : Machine) → SaySame p.old.checked.now p.new.checked.now (ask_of p u m a)
+
+-- and to what each user asks for
+abbrev pub SayAllSame : Pair → Ask → Type 0
+SayAllSame p a = (u : Person) → SayUserSame p u a
+
 abbrev pub AreLeft : Pair → Person → List Ask → List Ask → Type 0
-AreLeft p u asks left = (a : Ask) → Contains asks a →
-    Contains left a ⊎ ((m : Machine) → SaySame p.old.checked.now p.new.checked.now (ask_of p u m a))
+AreLeft p u asks left = AreLeftUnless (SayUserSame p u) asks left
+
+abbrev pub AreLeftForAll : Pair → List Ask → List Ask → Type 0
+AreLeftForAll p asks left = AreLeftUnless (SayAllSame p) asks left
 
 -- the user and the host have these indices
 abbrev pub IsSpot : Pair → Spot → Type 0

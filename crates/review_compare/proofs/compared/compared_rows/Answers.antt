@@ -1,13 +1,21 @@
-use Rattle.std.proofs.Common.{ap}
-use Rattle.std.specs.Prelude.{is_some}
+use Rattle.std.proofs.Common.{List, subst}
+use Rattle.std.proofs.lemmas.Result.{IfOk-weaker}
+use Rattle.review_compare.specs.declared.compared.Compared.{Compared}
+use Rattle.review_compare.specs.declared.ruling.Ruled.{Ruled}
 use Rattle.review_compare.specs.Body.Shown.{all_shown}
-use Rattle.review_compare.proofs.CellLemmas.{same-where-none}
+use Rattle.review_compare.specs.Witnesses.{IsCompared}
 use Rattle.review_compare.proofs.RowLemmas.{same-rulings}
 use Rattle.review_compare.proofs.compared.compared_rows.Goals as goal
 
-pub returns-in-None : goal.returns-in-None
-returns-in-None c = same-where-none (all_shown c.args.old.now) (all_shown c.args.new.now) _ c.first_overlap.ensures
-    (ap is_some c.in-None.is)
-
 pub returns-then-have_same_rulings : goal.returns-then-have_same_rulings
 returns-then-have_same_rulings c = same-rulings c.args.old.now c.args.new.now (c.have_same_rulings.ensures c.if-have_same_rulings.true)
+
+pub returns : goal.returns
+returns c =
+    let k = c.in_ok-changed.changed in
+    let is = c.in_ok-changed.ensures in
+    IfOk-weaker c.compared_changed.result _ _
+    (λ (f : Compared) found.
+    subst (λ (rs : List Ruled). IsCompared (all_shown rs) (all_shown c.args.new.now) f) is.0
+    (subst (λ (rs : List Ruled). IsCompared (all_shown k.all_old.now) (all_shown rs) f) is.1 found))
+    c.compared_changed.ensures

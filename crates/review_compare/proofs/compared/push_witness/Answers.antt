@@ -6,5 +6,6 @@ use Rattle.review_compare.proofs.compared.push_witness.Goals as goal
 
 pub returns-in_ok-push : goal.returns-in_ok-push
 returns-in_ok-push c = λ all.
-    subst (λ (ws : List Witness). All (IsShownWitness c.args.old.now c.args.new.now) ws) (sym c.in_ok-push.ensures.items)
-    (All-push (IsShownWitness c.args.old.now c.args.new.now) c.args.found.now.items c.args.witness all c.requires)
+    let k = c.args.changed.now in
+    subst (λ (ws : List Witness). All (IsShownWitness k.all_old.now k.all_new.now) ws) (sym c.in_ok-push.ensures.items)
+    (All-push (IsShownWitness k.all_old.now k.all_new.now) c.args.found.now.items c.args.witness all c.requires)

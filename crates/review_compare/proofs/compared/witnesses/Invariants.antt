@@ -3,4 +3,4 @@ use Rattle.review_compare.specs.Body.Shown.{IsShownWitness}
 use Rattle.review_compare.proofs.compared.witnesses.Given as goal
 
 abbrev pub invariant-loop-text : goal.invariant-loop-text
-invariant-loop-text l = All (IsShownWitness l.old l.new) l.found.items
+invariant-loop-text l = All (IsShownWitness l.changed.all_old.now l.changed.all_new.now) l.found.items

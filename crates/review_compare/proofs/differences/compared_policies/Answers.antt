@@ -15,7 +15,7 @@ returns c =
     let about = option_copied c.args.scope.user in
     let scope = option_copied c.args.scope.host in
     let asks = c.deref.ensures.value ∙ c.in_ok-asks.ensures in
-    IfOk-weaker c.all_rows.result _ _
+    IfOk-weaker c.rows_where_asked.result _ _
     (λ (rows : Vec Row Global) made.
     subst (λ (o : Policy). AreDifferences o c.args.new.now c.args.directory.now c.args.groups.now about scope rows.items) is.0
     (subst (λ (n : Policy). AreDifferences p.old.checked.now n c.args.directory.now c.args.groups.now about scope rows.items) is.1
@@ -23,4 +23,4 @@ returns c =
     (subst (λ (gs : List Group). AreDifferences p.old.checked.now p.new.checked.now p.directory.now gs about scope rows.items) is.3
     (all-differences p rows.items about scope c.deref.result.now (asks ∙ ap (λ (d : KnownRows). all_asks d c.args.groups.now) (sym is.2)
     ∙ ap (all_asks p.directory.now) (sym is.3)) made)))))
-    c.all_rows.ensures
+    c.rows_where_asked.ensures

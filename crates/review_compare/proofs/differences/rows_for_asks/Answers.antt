@@ -3,12 +3,14 @@ use Rattle.review_compare.proofs.DifferenceLemmas.{host-more, hosts-all}
 use Rattle.review_compare.proofs.differences.rows_for_asks.Goals as goal
 
 pub loop-host-preserved : goal.loop-host-preserved
-loop-host-preserved c =
-    host-more c.args.pair.now c.loop-host.rows.items c.add_host.new.rows.items c.args.user c.loop-host.host (option_copied c.args.scope)
-    c.args.asks.now c.loop-host.invariant c.in_ok-add_host.ensures
+loop-host-preserved c = (
+  host-more c.args.pair.now c.loop-host.rows.items c.add_host.new.rows.items c.args.user c.loop-host.host (option_copied c.args.scope)
+      c.args.asks.now c.loop-host.invariant.0 c.in_ok-add_host.ensures.added,
+  c.in_ok-add_host.ensures.classes,
+)
 
 pub returns : goal.returns
 returns c =
     let long = ap length c.machines-machines.ensures in
     hosts-all c.args.pair.now c.loop-host.rows.items (option_copied c.args.scope) c.args.user c.loop-host.host c.args.asks.now
-    (omega (arith, long, c.loop-host-test.false)) c.loop-host.invariant
+    (omega (arith, long, c.loop-host-test.false)) c.loop-host.invariant.0

@@ -1,6 +1,0 @@
-use Rattle.review_compare.proofs.DifferenceLemmas.{spot-same}
-use Rattle.review_compare.proofs.differences.add_ask.Goals as goal
-
-pub returns-in-Same : goal.returns-in-Same
-returns-in-Same c =
-    spot-same c.args.pair.now c.args.rows.now.items c.args.spot c.args.ask _ c.requires.spot c.in_ok-found.ensures c.in-Same.is

@@ -1,0 +1,20 @@
+-- Comparisons of blocks that are kept; only proofs of bodies need these definitions.
+use Rattle.std.specs.Prelude.{◌≡◌, ℕ, List}
+use Rattle.review_compare.specs.declared.compared.Compared.{Compared}
+use Rattle.review_compare.specs.declared.comparison.Comparison.{Comparison}
+use Rattle.review_compare.specs.declared.pair.Pair.{Pair}
+use Rattle.review_compare.specs.Cells.{Decider}
+use Rattle.review_compare.specs.Witnesses.{IsCompared}
+use Rattle.review_compare.specs.Body.Chosen.{chosen}
+
+-- the comparison is of these blocks
+abbrev pub IsOf : Comparison → List ℕ → List ℕ → Type 0
+IsOf k old new = (k.old.items ≡ old) × (k.new.items ≡ new)
+
+-- what is found is right of the rows of the blocks
+abbrev pub IsRight : Pair → Comparison → Type 0
+IsRight p k = IsCompared (chosen p.old.blocks.items k.old.items) (chosen p.new.blocks.items k.new.items) k.found
+
+-- what is right of some rows is right of them after it was copied
+abbrev pub IsCopy : Compared → Compared → Type 0
+IsCopy f g = (ds es : List Decider) → IsCompared ds es f → IsCompared ds es g

@@ -1,0 +1,106 @@
+//! Comparisons of blocks, kept so that the same blocks are compared once.
+ghost use Rattle.std.specs.Prelude.{◌≡◌, ◌<◌, All, get_or, IfOk, IfSome, length, OnOk, true};
+ghost use Rattle.review_compare.specs.declared.comparison.Comparison.{Comparison as TheComparison};
+ghost use Rattle.review_compare.specs.Witnesses.{IsCompared};
+ghost use Rattle.review_compare.specs.Body.Chosen.{chosen};
+ghost use Rattle.review_compare.specs.Body.Comparisons as body;
+
+use crate::compared::{Compared, compared_rows};
+use crate::copied::copied;
+use crate::pair::Pair;
+use crate::side::rows_at;
+use std::alloc::{AllocError, Global};
+
+/// Blocks of both policies, by their indices, and what is found of their rows.
+#[derive(Drop)]
+pub(crate) struct Comparison {
+    old: Vec<usize>,
+    new: Vec<usize>,
+    found: Compared,
+}
+
+/// Whether the indices are the same.
+pub(crate) fn are_same_indices(indices: &[usize], others: &[usize]) -> bool
+    ensures { result ≡ true → indices.now ≡ others.now }
+{
+    indices == others
+}
+
+impl Comparison {
+    // Whether it is of these blocks.
+    fn is_of(&self, old: &[usize], new: &[usize]) -> bool
+        ensures { result ≡ true → body.IsOf self.now old.now new.now }
+    {
+        if !are_same_indices(&self.old, old) {
+            return false;
+        }
+        are_same_indices(&self.new, new)
+    }
+}
+
+// Returns the index of the comparison of these blocks, if there is one.
+fn index_of(comparisons: &[Comparison], old: &[usize], new: &[usize]) -> Option<usize>
+    ensures { IfSome result (λ i. (i < length comparisons.now) × ((d : TheComparison)
+        → body.IsOf (get_or comparisons.now i d) old.now new.now)) }
+{
+    for index in 0..comparisons.len() {
+        if comparisons[index].is_of(old, new) {
+            return Some(index);
+        }
+    }
+    None
+}
+
+// Compares the rows of the blocks at these indices.
+fn compared_blocks(
+    alloc: Global,
+    pair: &Pair<'_>,
+    old: &[usize],
+    new: &[usize],
+) -> Result<Compared, AllocError>
+    ensures { IfOk result (IsCompared (chosen pair.now.old.blocks.items old.now)
+        (chosen pair.now.new.blocks.items new.now)) }
+{
+    let old_rows = rows_at(alloc, &pair.old.blocks, old)?;
+    let new_rows = rows_at(alloc, &pair.new.blocks, new)?;
+    compared_rows(alloc, &old_rows, &new_rows)
+}
+
+// Compares the rows of the blocks at these indices, and keeps what is found.
+fn first_found(
+    alloc: Global,
+    pair: &Pair<'_>,
+    comparisons: &mut Vec<Comparison>,
+    old: Vec<usize>,
+    new: Vec<usize>,
+) -> Result<Compared, AllocError>
+    requires { All (body.IsRight pair.now) comparisons.old.items }
+    ensures found { IfOk result (IsCompared (chosen pair.entry.now.old.blocks.items
+        old.items) (chosen pair.entry.now.new.blocks.items new.items)) }
+    ensures right { OnOk result (All (body.IsRight pair.entry.now) comparisons.new.items) }
+{
+    let found = compared_blocks(alloc, pair, &old, &new)?;
+    let copy = copied(alloc, &found)?;
+    comparisons.push(Comparison { old, new, found })?;
+    Ok(copy)
+}
+
+/// Returns what is found of the rows of the blocks at these indices. They are compared unless that was done before. Returns
+/// `AllocError` if allocation fails.
+pub(crate) fn found_of(
+    alloc: Global,
+    pair: &Pair<'_>,
+    comparisons: &mut Vec<Comparison>,
+    old: Vec<usize>,
+    new: Vec<usize>,
+) -> Result<Compared, AllocError>
+    requires { All (body.IsRight pair.now) comparisons.old.items }
+    ensures found { IfOk result (IsCompared (chosen pair.entry.now.old.blocks.items
+        old.items) (chosen pair.entry.now.new.blocks.items new.items)) }
+    ensures right { OnOk result (All (body.IsRight pair.entry.now) comparisons.new.items) }
+{
+    match index_of(comparisons, &old, &new) {
+        Some(index) => copied(alloc, &comparisons[index].found),
+        None => first_found(alloc, pair, comparisons, old, new),
+    }
+}

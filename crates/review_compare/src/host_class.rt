@@ -1,0 +1,146 @@
+//! Hosts on which the same blocks stand for a user: what is found on one of them is found on each.
+ghost use Rattle.std.specs.Prelude.{◌≡◌, ◌<◌, [], All, get_or, IfOk, IfSome, length, OnOk, option_copied, true};
+ghost use Rattle.review_compare.specs.declared.host_class.HostClass.{HostClass as TheHostClass};
+ghost use Rattle.review_compare.specs.Body.Classes as of_hosts;
+ghost use Rattle.review_compare.specs.Body.Progress as body;
+
+use crate::cell::Ask;
+use crate::comparison::are_same_indices;
+use crate::copied::copied;
+use crate::pair::Pair;
+use crate::row::{Dimension, Row, absorb_all};
+use crate::spot::{Listed, Spot, rows_on};
+use std::alloc::{AllocError, Global};
+use sudo_text::Seq;
+
+/// The first of some hosts on which the same blocks stand for a user, and what is found on it.
+#[derive(Drop)]
+pub(crate) struct HostClass<'a> {
+    spot: Spot<'a>,
+    listed: Listed,
+    rows: Vec<Row>,
+}
+
+// Whether the blocks are the same.
+fn are_same_blocks(listed: &Listed, other: &Listed) -> bool
+    ensures { result ≡ true → of_hosts.AreSameBlocks listed.now other.now }
+{
+    if !are_same_indices(&listed.old, &other.old) {
+        return false;
+    }
+    are_same_indices(&listed.new, &other.new)
+}
+
+// Returns the index of the class of hosts on which these blocks stand, if there is one.
+fn class_index(classes: &[HostClass<'_>], listed: &Listed) -> Option<usize>
+    ensures { IfSome result (λ i. (i < length classes.now) × ((d : TheHostClass)
+        → of_hosts.AreSameBlocks (get_or classes.now i d).listed listed.now)) }
+{
+    for index in 0..classes.len() {
+        if are_same_blocks(&classes[index].listed, listed) {
+            return Some(index);
+        }
+    }
+    None
+}
+
+// Returns the row for another host.
+fn moved_row(alloc: Global, row: &Row, host: usize) -> Result<Row, AllocError>
+    ensures { IfOk result (of_hosts.IsMoved host row.now) }
+{
+    Ok(Row {
+        users: Seq::from_slice(alloc, row.users.as_slice())?,
+        hosts: Seq::from_slice(alloc, &[host])?,
+        targets: Seq::from_slice(alloc, row.targets.as_slice())?,
+        groups: Seq::from_slice(alloc, row.groups.as_slice())?,
+        found: copied(alloc, &row.found)?,
+    })
+}
+
+// Returns the rows for another host.
+fn moved_rows(alloc: Global, rows: &[Row], host: usize) -> Result<Vec<Row>, AllocError>
+    ensures { IfOk result (λ moved. of_hosts.AreMoved host rows.now moved.items) }
+{
+    let mut moved = Vec::new(alloc);
+    for row in rows {
+        moved.push(moved_row(alloc, row, host)?)?;
+    }
+    Ok(moved)
+}
+
+// Adds what is found on the first host of the class to the rows, for the spot.
+fn add_moved(
+    alloc: Global,
+    pair: &Pair<'_>,
+    spot: Spot<'_>,
+    listed: &Listed,
+    asks: &[Ask],
+    class: &HostClass<'_>,
+    rows: &mut Vec<Row>,
+) -> Result<(), AllocError>
+    requires spot { body.IsSpot pair.now spot }
+    requires listed { body.AreListedIn pair.now spot listed.now }
+    requires class { of_hosts.IsClass pair.now spot.user spot.person.now asks.now class.now }
+    requires same { of_hosts.AreSameBlocks class.now.listed listed.now }
+    ensures { OnOk result (body.Progress pair.now rows.old.items rows.new.items
+        (body.IsOn spot.entry.user spot.entry.host asks.now)) }
+{
+    let moved = moved_rows(alloc, &class.rows, spot.host)?;
+    absorb_all(rows, moved, Dimension::Hosts)
+}
+
+// Adds what is found at the spot to the rows, and the class of its host.
+fn add_class<'a>(
+    alloc: Global,
+    pair: &Pair<'_>,
+    spot: Spot<'a>,
+    listed: Listed,
+    asks: &[Ask],
+    classes: &mut Vec<HostClass<'a>>,
+    rows: &mut Vec<Row>,
+) -> Result<(), AllocError>
+    requires spot { body.IsSpot pair.now spot }
+    requires listed { body.AreListedIn pair.now spot listed }
+    requires classes { All (of_hosts.IsClass pair.now spot.user spot.person.now asks.now)
+        classes.old.items }
+    ensures added { OnOk result (body.Progress pair.entry.now rows.old.items rows.new.items
+        (body.IsOn spot.entry.user spot.entry.host asks.entry.now)) }
+    ensures classes { OnOk result (All (of_hosts.IsClass pair.entry.now spot.entry.user
+        spot.entry.person.now asks.entry.now) classes.new.items) }
+{
+    let found = rows_on(alloc, pair, spot, &listed, asks)?;
+    let more = moved_rows(alloc, &found, spot.host)?;
+    classes.push(HostClass {
+        spot,
+        listed,
+        rows: found,
+    })?;
+    absorb_all(rows, more, Dimension::Hosts)
+}
+
+/// Adds what is found at the spot to the rows. It is what was found on an earlier host, if the same blocks stand there;
+/// otherwise this host is the first of a class. Rows that differ in the host alone become one. Returns `AllocError` if
+/// allocation fails.
+pub(crate) fn add_spot<'a>(
+    alloc: Global,
+    pair: &Pair<'_>,
+    spot: Spot<'a>,
+    listed: Listed,
+    asks: &[Ask],
+    classes: &mut Vec<HostClass<'a>>,
+    rows: &mut Vec<Row>,
+) -> Result<(), AllocError>
+    requires spot { body.IsSpot pair.now spot }
+    requires listed { body.AreListedIn pair.now spot listed }
+    requires classes { All (of_hosts.IsClass pair.now spot.user spot.person.now asks.now)
+        classes.old.items }
+    ensures added { OnOk result (body.Progress pair.entry.now rows.old.items rows.new.items
+        (body.IsOn spot.entry.user spot.entry.host asks.entry.now)) }
+    ensures classes { OnOk result (All (of_hosts.IsClass pair.entry.now spot.entry.user
+        spot.entry.person.now asks.entry.now) classes.new.items) }
+{
+    match class_index(classes, &listed) {
+        Some(index) => add_moved(alloc, pair, spot, &listed, asks, &classes[index], rows),
+        None => add_class(alloc, pair, spot, listed, asks, classes, rows),
+    }
+}
