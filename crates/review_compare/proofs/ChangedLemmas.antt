@@ -24,12 +24,12 @@ use Rattle.review_roots.proofs.ListSteps.{map-twice}
 
 -- ---- Commands that a changed row fits
 
-or-parts : (a b : Bool) → (a || b) ≡ false → (a ≡ false) × (b ≡ false)
+pub or-parts : (a b : Bool) → (a || b) ≡ false → (a ≡ false) × (b ≡ false)
 or-parts true b e = cc
 or-parts false b e = (refl, e)
 
 -- a row that fits such a command is near
-near-fits : (changed : List Decider) (d : Decider) (c x : List ℕ) → is_fitted changed c x ≡ true → command_fits d.atom c x ≡ true →
+pub near-fits : (changed : List Decider) (d : Decider) (c x : List ℕ) → is_fitted changed c x ≡ true → command_fits d.atom c x ≡ true →
     is_near changed d ≡ true
 near-fits [] d c x e fits = cc
 near-fits (k ∷ changed) d c x e fits =
@@ -88,7 +88,7 @@ without-middle ps ms ss c x e =
     (last_that-append (λ r. command_fits r.atom c x) (map ruling_by ms) (map ruling_by ss)
     ∙ ap (λ o. option_or (T (map ruling_by ss)) o) (none-last ms c x e) ∙ option_or-none (T (map ruling_by ss)))
 
-unfitted : (ps ms ss qs ns ts : List Decider) → map ruling_by ps ≡ map ruling_by qs → map ruling_by ss ≡ map ruling_by ts →
+pub unfitted : (ps ms ss qs ns ts : List Decider) → map ruling_by ps ≡ map ruling_by qs → map ruling_by ss ≡ map ruling_by ts →
     (c x : List ℕ) → is_fitted (ms ++ ns) c x ≡ false →
     said (verdict_among (ps ++ (ms ++ ss)) c x) ≡ said (verdict_among (qs ++ (ns ++ ts)) c x)
 unfitted ps ms ss qs ns ts front back c x e =

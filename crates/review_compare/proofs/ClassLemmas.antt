@@ -14,6 +14,7 @@ use Rattle.review_compare.specs.declared.block.Block.{Block}
 use Rattle.review_compare.specs.declared.cell.Ask.{Ask}
 use Rattle.review_compare.specs.declared.cell.Cell.{Cell}
 use Rattle.review_compare.specs.declared.compared.Compared.{Compared}
+use Rattle.review_compare.specs.declared.compared.Compared.TheVariants as compared
 use Rattle.review_compare.specs.declared.pair.Pair.{Pair}
 use Rattle.review_compare.specs.declared.row.Row.{Row}
 use Rattle.review_compare.specs.declared.spot.Listed.{Listed}
@@ -24,44 +25,41 @@ use Rattle.review_compare.specs.Compared.{said}
 use Rattle.review_compare.specs.Differences.{Finds, FoundIf, IsDone, IsFound, SameIf, has_cell, known_at, question_at, same_number}
 use Rattle.review_compare.specs.Witnesses.{IsCompared}
 use Rattle.review_compare.specs.Body.Chosen.{AreListed, deciders_at, listed_at, runas_at, standing_among, standing_at}
+use Rattle.review_compare.specs.Body.ChangedRows.{AreChanged}
+use Rattle.review_compare.specs.Body.Near.{each_one, near_deciders}
 use Rattle.review_compare.specs.Body.Classes.{AreMoved, AreSameBlocks, IsMoved}
 use Rattle.review_compare.specs.Body.Comparisons.{IsCopy}
 use Rattle.review_compare.specs.Body.Merged.{IsOfSpot}
 use Rattle.review_compare.specs.Body.Progress.{AreListedIn, IsOn, IsSpot, Progress, cell_at, question_of}
 use Rattle.review_compare.proofs.CellLemmas.{rows_decide, rows_say_same}
-use Rattle.review_compare.proofs.ChosenLemmas.{all-stand, blocks-decide, stands-at}
+use Rattle.review_compare.proofs.ChosenLemmas.{stands-at}
 use Rattle.review_compare.proofs.DifferenceLemmas.{spot-question}
+use Rattle.review_compare.proofs.NearLemmas.{changed_by, compared-moved, near_new, near_old, pair-all}
 use Rattle.review_compare.proofs.UnchangedLemmas.{other-host-runas}
 
--- ---- The rows for the target on two hosts
+-- ---- The near blocks that stand on two hosts
 
-module _ (p : Policy) (bs : List Block) (d : KnownRows) (u : Person) (m n : Machine) (t : Option Person) (g : Option Group) where
-  abbrev one : ℕ → Bool
-  one i = true
-
+module _ (p : Policy) (bs : List Block) (near : List ℕ) (d : KnownRows) (u : Person) (m n : Machine) (t : Option Person)
+    (g : Option Group) where
   at-each : (is : List ℕ) → list_all (listed_at p bs u m) is ≡ true → list_all (listed_at p bs u n) is ≡ true →
-      standing_among p bs (question_as d u m t g) one is ≡ standing_among p bs (question_as d u n t g) one is
+      near_deciders p bs is (question_as d u m t g) ≡ near_deciders p bs is (question_as d u n t g)
   at-each [] on also = refl
   at-each (i ∷ is) on also =
       let own = and_parts (listed_at p bs u m i) (list_all (listed_at p bs u m) is) on in
       let its = and_parts (listed_at p bs u n i) (list_all (listed_at p bs u n) is) also in
       let q = question_as d u m t g in
       let r = question_as d u n t g in
-      ap (λ (ds : List Decider). ds ++ standing_among p bs q one is)
+      ap (λ (ds : List Decider). ds ++ near_deciders p bs is q)
       (stands-at p bs q i (runas_at p bs q i) own.0 refl
       ∙ ap (λ v. cond v (deciders_at bs i) []) (other-host-runas p bs d u m n t g i)
       ∙ sym (stands-at p bs r i (runas_at p bs r i) its.0 refl))
-      ∙ ap (λ (ds : List Decider). standing_at p bs r one i ++ ds) (at-each is own.1 its.1)
+      ∙ ap (λ (ds : List Decider). standing_at p bs r each_one i ++ ds) (at-each is own.1 its.1)
 
-  decided : (k : Machine) (is : List ℕ) → AreBlocks p bs → AreListed p bs u k is →
-      deciders p (question_as d u k t g) ≡ standing_among p bs (question_as d u k t g) one is
-  decided k is are listed =
-      sym (blocks-decide p (question_as d u k t g) bs are) ∙ sym (all-stand p bs (question_as d u k t g))
-      ∙ sym (listed.all (question_as d u k t g) one refl refl)
-
-  same-deciders : (is : List ℕ) → AreBlocks p bs → AreListed p bs u m is → AreListed p bs u n is →
-      deciders p (question_as d u m t g) ≡ deciders p (question_as d u n t g)
-  same-deciders is are own its = decided m is are own ∙ at-each is own.each its.each ∙ sym (decided n is are its)
+  same-near : (is : List ℕ) → AreListed p bs near u m is → AreListed p bs near u n is →
+      near_deciders p bs near (question_as d u m t g) ≡ near_deciders p bs near (question_as d u n t g)
+  same-near is own its =
+      sym (own.all (question_as d u m t g) each_one refl refl) ∙ at-each is own.each its.each
+      ∙ its.all (question_as d u n t g) each_one refl refl
 
 -- ---- Rows for another host
 
@@ -156,11 +154,24 @@ moved-more host (t ∷ rows) (v ∷ moved) r s are is = (are.0, moved-more host 
 
 -- ---- Classes
 
--- both policies have the same rows for what is asked at two spots
+-- both policies have the same near rows for what is asked at two spots
 abbrev HaveSameRows : Pair → Spot → Spot → Type 0
 HaveSameRows p s k = (a : Ask) →
-    (deciders p.old.checked.now (question_of p k a) ≡ deciders p.old.checked.now (question_of p s a))
-    × (deciders p.new.checked.now (question_of p k a) ≡ deciders p.new.checked.now (question_of p s a))
+    (near_old p (question_of p k a) ≡ near_old p (question_of p s a)) × (near_new p (question_of p k a) ≡ near_new p (question_of p s a))
+
+-- what is found at one spot is found at the other
+moved-there : (p : Pair) (s k : Spot) (a : Ask) → HaveSameRows p s k → (f : Compared) →
+    IsCompared (deciders p.old.checked.now (question_of p k a)) (deciders p.new.checked.now (question_of p k a)) f →
+    IsCompared (deciders p.old.checked.now (question_of p s a)) (deciders p.new.checked.now (question_of p s a)) f
+moved-there p s k a rows f is =
+    let q = question_of p k a in
+    let r = question_of p s a in
+    let ds = deciders p.old.checked.now q in
+    let es = deciders p.new.checked.now q in
+    compared-moved ds es (deciders p.old.checked.now r) (deciders p.new.checked.now r) (changed_by p) (near_old p r) (near_new p r)
+    (subst (λ (ns : List Decider). AreChanged ds es (changed_by p) ns (near_new p r)) (rows a).0
+    (subst (λ (ms : List Decider). AreChanged ds es (changed_by p) (near_old p q) ms) (rows a).1 (pair-all p q)))
+    (pair-all p r) f is
 
 -- where both say the same at one spot, they do at the other
 same-there : (p : Pair) (s k : Spot) (a : Ask) → HaveSameRows p s k → SaySame p.old.checked.now p.new.checked.now (question_of p k a) →
@@ -168,13 +179,9 @@ same-there : (p : Pair) (s k : Spot) (a : Ask) → HaveSameRows p s k → SaySam
 same-there p s k a rows same =
     let old = p.old.checked.now in
     let new = p.new.checked.now in
-    rows_say_same old new (question_of p s a)
-    (λ command arguments.
-    ap (λ (ds : List Decider). said (verdict_among ds command arguments)) (sym (rows a).0)
-    ∙ sym (ap said (rows_decide old (question_of p k a) command arguments))
-    ∙ same command arguments
-    ∙ ap said (rows_decide new (question_of p k a) command arguments)
-    ∙ ap (λ (ds : List Decider). said (verdict_among ds command arguments)) (rows a).1)
+    let there : IsCompared (deciders old (question_of p k a)) (deciders new (question_of p k a)) compared.Same =
+    λ c x. sym (ap said (rows_decide old (question_of p k a) c x)) ∙ same c x ∙ ap said (rows_decide new (question_of p k a) c x) in
+    rows_say_same old new (question_of p s a) (moved-there p s k a rows compared.Same there)
 
 -- rows of one spot, for another with the same rows of the policies
 pub moved-on : (p : Pair) (s k : Spot) (asks : List Ask) (rows moved : List Row) → IsSpot p s → IsSpot p k → s.user ≡ k.user →
@@ -200,10 +207,7 @@ moved-on p s k asks rows moved at from own same so_far of_spot are = record {
         let there : IsCompared (deciders p.old.checked.now (question_of p k c.ask)) (deciders p.new.checked.now (question_of p k c.ask))
         was.2.0 = subst (λ (o : Option Question). FoundIf p.old.checked.now p.new.checked.now o was.2.0)
         (asked-at k (at-host k.host c) from was.0 refl) first in
-        let here : IsCompared (deciders p.old.checked.now (question_of p s c.ask)) (deciders p.new.checked.now (question_of p s c.ask))
-        was.2.0 = subst (λ (ds : List Decider). IsCompared ds (deciders p.new.checked.now (question_of p s c.ask)) was.2.0)
-        (same c.ask).0 (subst (λ (es : List Decider). IsCompared (deciders p.old.checked.now (question_of p k c.ask)) es was.2.0)
-        (same c.ask).1 there) in
+        let here = moved-there p s k c.ask same was.2.0 there in
         subst (λ (o : Option Question). FoundIf p.old.checked.now p.new.checked.now o g)
         (sym (asked-at s c at (was.0 ∙ sym own) was.1))
         (was.2.2 (deciders p.old.checked.now (question_of p s c.ask)) (deciders p.new.checked.now (question_of p s c.ask)) here)
@@ -226,17 +230,15 @@ same-rows p s k l j own listed its same a =
     let d = p.directory.now in
     let t = known_at d.people a.target in
     let g = known_at p.groups.now a.group in
-    let user : (policy : Policy) → deciders policy (question_as d k.person.now k.machine.now t g)
-    ≡ deciders policy (question_as d s.person.now k.machine.now t g) =
-    λ policy. ap (λ (u : Person). deciders policy (question_as d u k.machine.now t g)) (sym own) in (
-      user p.old.checked.now
-          ∙ same-deciders p.old.checked.now p.old.blocks.items d s.person.now k.machine.now s.machine.now t g l.old.items p.old.are_blocks
-          (subst (λ (u : Person). AreListed p.old.checked.now p.old.blocks.items u k.machine.now l.old.items) (sym own)
-          (subst (AreListed p.old.checked.now p.old.blocks.items k.person.now k.machine.now) same.0 its.old)) listed.old,
-      user p.new.checked.now
-          ∙ same-deciders p.new.checked.now p.new.blocks.items d s.person.now k.machine.now s.machine.now t g l.new.items p.new.are_blocks
-          (subst (λ (u : Person). AreListed p.new.checked.now p.new.blocks.items u k.machine.now l.new.items) (sym own)
-          (subst (AreListed p.new.checked.now p.new.blocks.items k.person.now k.machine.now) same.1 its.new)) listed.new,
+    let asked : Person → Question = λ u. question_as d u k.machine.now t g in (
+      ap (λ (u : Person). near_old p (asked u)) (sym own)
+          ∙ same-near p.old.checked.now p.old.blocks.items p.near.old.items d s.person.now k.machine.now s.machine.now t g l.old.items
+          (subst (λ (u : Person). AreListed p.old.checked.now p.old.blocks.items p.near.old.items u k.machine.now l.old.items) (sym own)
+          (subst (AreListed p.old.checked.now p.old.blocks.items p.near.old.items k.person.now k.machine.now) same.0 its.old)) listed.old,
+      ap (λ (u : Person). near_new p (asked u)) (sym own)
+          ∙ same-near p.new.checked.now p.new.blocks.items p.near.new.items d s.person.now k.machine.now s.machine.now t g l.new.items
+          (subst (λ (u : Person). AreListed p.new.checked.now p.new.blocks.items p.near.new.items u k.machine.now l.new.items) (sym own)
+          (subst (AreListed p.new.checked.now p.new.blocks.items p.near.new.items k.person.now k.machine.now) same.1 its.new)) listed.new,
     )
 
 pub nothing-moved : (p : Pair) (s : Spot) → HaveSameRows p s s

@@ -14,3 +14,4 @@ pub mod TextLemmas
 pub mod UnchangedLemmas
 pub mod ClassLemmas
 pub mod ChangedLemmas
+pub mod NearLemmas

@@ -131,7 +131,7 @@ alike-at p bs r cs i j b c at on stand same q =
 
 -- ---- Parts of a range
 
-joined : {X : Type 0} (f : ℕ → List X) (a m n : ℕ) →
+pub joined : {X : Type 0} (f : ℕ → List X) (a m n : ℕ) →
     flat_map f (range_with_len a (m + n)) ≡ flat_map f (range_with_len a m) ++ flat_map f (range_with_len (a + m) n)
 joined f a zero n =
     ap (λ k. flat_map f (range_with_len a k)) (let e : 0 + n ≡ n = omega arith in e)
@@ -149,7 +149,7 @@ silent f a (suc n) h =
     ap (λ (xs : List _). xs ++ flat_map f (range_with_len (a + 1) n)) (h a (omega arith) (omega arith))
     ∙ silent f (a + 1) n (λ i low high. h i (omega (arith, low)) (omega (arith, high)))
 
-pairwise : {X : Type 0} (f g : ℕ → List X) (a b n : ℕ) → ((i : ℕ) → i < n → f (a + i) ≡ g (b + i)) →
+pub pairwise : {X : Type 0} (f g : ℕ → List X) (a b n : ℕ) → ((i : ℕ) → i < n → f (a + i) ≡ g (b + i)) →
     flat_map f (range_with_len a n) ≡ flat_map g (range_with_len b n)
 pairwise f g a b zero h = refl
 pairwise f g a b (suc n) h =
@@ -176,7 +176,7 @@ ends f n front back within none =
 
 -- ---- Policies
 
-mapped-flat : (f : ℕ → List Decider) (is : List ℕ) → map ruling_by (flat_map f is) ≡ flat_map (λ i. map ruling_by (f i)) is
+pub mapped-flat : (f : ℕ → List Decider) (is : List ℕ) → map ruling_by (flat_map f is) ≡ flat_map (λ i. map ruling_by (f i)) is
 mapped-flat f [] = refl
 mapped-flat f (i ∷ is) =
     map-append ruling_by (f i) (flat_map f is)

@@ -9,3 +9,4 @@ pub mod Unchanged
 pub mod Comparisons
 pub mod Classes
 pub mod ChangedRows
+pub mod Near

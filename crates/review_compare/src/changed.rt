@@ -54,8 +54,8 @@ fn same_back(old: &[Ruled<'_>], new: &[Ruled<'_>]) -> usize
     most
 }
 
-// Whether the row may fit a command that one of the changed rows fits.
-fn is_near(changed: &[Ruled<'_>], row: &Ruled<'_>) -> bool
+/// Whether the row may fit a command that one of the changed rows fits.
+pub(crate) fn is_near(changed: &[Ruled<'_>], row: &Ruled<'_>) -> bool
     ensures { result ≡ body.is_near (all_shown changed.now) (shown row.now) }
 {
     for other in changed {

@@ -39,8 +39,8 @@ fn is_this_host(scope: Option<&Machine>, machine: &Machine) -> bool
 fn listed_for(alloc: Global, pair: &Pair<'_>, person: &Person) -> Result<Listed, AllocError>
     ensures { IfOk result (body.AreListedFor pair.now person.now) }
 {
-    let old = pair.old.listed_for(alloc, person)?;
-    let new = pair.new.listed_for(alloc, person)?;
+    let old = pair.old.listed_for(alloc, person, &pair.near.old)?;
+    let new = pair.new.listed_for(alloc, person, &pair.near.new)?;
     Ok(Listed { old, new })
 }
 

@@ -18,6 +18,7 @@ mod copied;
 mod differences;
 mod host_class;
 mod laws;
+mod near;
 mod pair;
 mod row;
 mod ruling;

@@ -5,18 +5,21 @@ ghost use Rattle.sudo_match.specs.declared.people.Person.{Person as ThePerson};
 ghost use Rattle.sudo_verdict.specs.Questions.{Question, question_as};
 ghost use Rattle.review_compare.specs.Cells.{SaySame};
 ghost use Rattle.review_compare.specs.Differences.{known_at};
+ghost use Rattle.review_compare.specs.Body.Near.{AreNear};
 ghost use Rattle.review_compare.specs.Body.Unchanged.{AreCommon};
 
 use crate::asks::{group_at, person_at};
 use crate::cell::Ask;
 use crate::common::{Common, common_of};
+use crate::near::near_change;
 use crate::side::Side;
+use crate::spot::Listed;
 use std::alloc::{AllocError, Global};
 use sudo_match::{Directory, Group, Machine, Person};
 use sudo_policy::Checked;
 use sudo_verdict::Asker;
 
-/// Two policies, with the known users, hosts and groups.
+/// Two policies, with the known users, hosts and groups, and the blocks near what differs.
 #[derive(Drop)]
 pub(crate) struct Pair<'a> {
     pub(crate) old: Side<'a>,
@@ -24,12 +27,15 @@ pub(crate) struct Pair<'a> {
     pub(crate) directory: &'a Directory,
     pub(crate) groups: &'a [Group],
     pub(crate) common: Common,
+    pub(crate) near: Listed,
     ghost are_common: { AreCommon old.checked.now old.blocks.items new.checked.now
         new.blocks.items common },
+    ghost are_near: { AreNear common old.blocks.items new.blocks.items near },
 }
 
 impl<'a> Pair<'a> {
-    /// Returns two policies with their common prefix and suffix. Returns `AllocError` if allocation fails.
+    /// Returns two policies with their common prefix and suffix, and the blocks near what differs. Returns `AllocError` if
+    /// allocation fails.
     pub(crate) fn of(
         alloc: Global,
         old: &'a Checked,
@@ -44,12 +50,14 @@ impl<'a> Pair<'a> {
         let old = Side::of(alloc, old)?;
         let new = Side::of(alloc, new)?;
         let common = common_of(alloc, &old, &new)?;
+        let near = near_change(alloc, &old, &new, common)?;
         Ok(Pair {
             old,
             new,
             directory,
             groups,
             common,
+            near,
         })
     }
 }

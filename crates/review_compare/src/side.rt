@@ -9,7 +9,7 @@ ghost use Rattle.review_compare.specs.Body.Unchanged.{IsQuiet};
 ghost use Rattle.std.specs.Prelude.{◌++◌, ◌∷◌, ◌&&◌, [], false, if◌then◌else◌};
 ghost use Rattle.sudo_match.specs.declared.people.Machine.{Machine as TheMachine};
 ghost use Rattle.sudo_match.specs.declared.people.Person.{Person as ThePerson};
-ghost use Rattle.review_compare.specs.Cells as cells;
+ghost use Rattle.review_compare.specs.Body.Near as near;
 
 use crate::block::{Block, blocks_of};
 use crate::common::Common;
@@ -28,8 +28,8 @@ pub(crate) struct Side<'a> {
     ghost resolve: { IsTrue (list_all (block_resolves checked.now) blocks.items) },
 }
 
-// Appends the index, if it is kept.
-fn push_if(indices: &mut Vec<usize>, index: usize, keep: bool) -> Result<(), AllocError>
+/// Appends the index, if it is kept. Returns `AllocError` if allocation fails.
+pub(crate) fn push_if(indices: &mut Vec<usize>, index: usize, keep: bool) -> Result<(), AllocError>
     ensures { OnOk result (indices.new.items
         ≡ indices.old.items ++ (if keep then index ∷ [] else [])) }
 {
@@ -195,16 +195,21 @@ impl Side<'_> {
         false
     }
 
-    /// Returns the indices of the blocks whose user list allows the user. Returns `AllocError` if allocation fails.
-    pub(crate) fn listed_for(&self, alloc: Global, user: &Person) -> Result<Vec<usize>, AllocError>
+    /// Returns those of the indices whose blocks' user lists allow the user. Returns `AllocError` if allocation fails.
+    pub(crate) fn listed_for(
+        &self,
+        alloc: Global,
+        user: &Person,
+        near: &[usize],
+    ) -> Result<Vec<usize>, AllocError>
         ensures all { IfOk result (λ indices. body.HaveAllOf self.now.checked.now
-            self.now.blocks.items user.now indices.items) }
+            self.now.blocks.items near.now user.now indices.items) }
         ensures each { IfOk result (λ indices. list_all (body.user_at self.now.checked.now
             self.now.blocks.items user.now) indices.items ≡ true) }
     {
         let mut indices = Vec::new(alloc);
-        for index in 0..self.blocks.len() {
-            push_if(&mut indices, index, self.lists_user_at(index, user))?;
+        for index in near {
+            push_if(&mut indices, *index, self.lists_user_at(*index, user))?;
         }
         Ok(indices)
     }
@@ -217,12 +222,12 @@ impl Side<'_> {
         host: &Machine,
         listed: &[usize],
     ) -> Result<Vec<usize>, AllocError>
-        requires all { body.HaveAllOf self.now.checked.now self.now.blocks.items user.now
-            listed.now }
-        requires each { list_all (body.user_at self.now.checked.now self.now.blocks.items
+        requires { list_all (body.user_at self.now.checked.now self.now.blocks.items
             user.now) listed.now ≡ true }
-        ensures { IfOk result (λ indices. body.AreListed self.now.checked.now
-            self.now.blocks.items user.now host.now indices.items) }
+        ensures all { IfOk result (λ indices. body.HaveAllOn self.now.checked.now
+            self.now.blocks.items listed.now host.now indices.items) }
+        ensures each { IfOk result (λ indices. list_all (body.listed_at self.now.checked.now
+            self.now.blocks.items user.now host.now) indices.items ≡ true) }
     {
         let mut indices = Vec::new(alloc);
         for index in listed {
@@ -240,12 +245,12 @@ impl Side<'_> {
         asker: Asker<'_>,
         listed: &[usize],
     ) -> Result<Vec<usize>, AllocError>
-        requires { body.AreListed self.now.checked.now self.now.blocks.items
-            asker.user.now asker.host.now listed.now }
+        requires { list_all (body.listed_at self.now.checked.now self.now.blocks.items
+            asker.user.now asker.host.now) listed.now ≡ true }
         ensures { IfOk result (λ indices. body.chosen self.now.blocks.items indices.items
-            ≡ cells.deciders self.now.checked.now (question_as directory.now
-            asker.entry.user.now asker.entry.host.now (option_copied asker.entry.target)
-            (option_copied asker.entry.group))) }
+            ≡ near.near_deciders self.now.checked.now self.now.blocks.items listed.now
+            (question_as directory.now asker.entry.user.now asker.entry.host.now
+            (option_copied asker.entry.target) (option_copied asker.entry.group))) }
     {
         let mut indices = Vec::new(alloc);
         for index in listed {

@@ -1,8 +1,8 @@
 -- The blocks that stand for a question, by their indices; only proofs of bodies need these definitions.
-use Rattle.std.specs.Prelude.{◌≡◌, ℕ, Bool, true, false, ◌&&◌, if◌then◌else◌, List, [], flat_map, length, map, slice_get, Option, Some}
+use Rattle.std.specs.Prelude.{◌≡◌, ℕ, Bool, true, false, ◌&&◌, if◌then◌else◌, List, [], flat_map, map, slice_get, Option, Some}
 use Rattle.std.specs.Prelude.{None, is_none, is_some, option_copied, ◌||◌}
 use Rattle.sudo_grammar.specs.declared.policy.Runas.{Runas}
-use Rattle.std.specs.List.{list_all, range_with_len}
+use Rattle.std.specs.List.{list_all}
 use Rattle.sudo_grammar.specs.declared.policy.Policy.{Policy}
 use Rattle.sudo_match.specs.declared.people.Machine.{Machine}
 use Rattle.sudo_match.specs.declared.people.Person.{Person}
@@ -66,15 +66,20 @@ standing_at p bs q on i = if on i then standing_if p q (slice_get bs i) else []
 abbrev pub standing_among : Policy → List Block → Question → (ℕ → Bool) → List ℕ → List Decider
 standing_among p bs q on indices = flat_map (standing_at p bs q on) indices
 
--- all that stand for the user have these indices, whatever else is asked
-abbrev pub HaveAllOf : Policy → List Block → Person → List ℕ → Type 0
-HaveAllOf p bs u indices = (q : Question) (on : ℕ → Bool) → q.user ≡ u →
-    standing_among p bs q on indices ≡ standing_among p bs q on (range_with_len 0 (length bs))
+-- of the blocks at some indices, all that stand for the user have these, whatever else is asked
+abbrev pub HaveAllOf : Policy → List Block → List ℕ → Person → List ℕ → Type 0
+HaveAllOf p bs among u indices = (q : Question) (on : ℕ → Bool) → q.user ≡ u →
+    standing_among p bs q on indices ≡ standing_among p bs q on among
+
+-- and all that stand for the host
+abbrev pub HaveAllOn : Policy → List Block → List ℕ → Machine → List ℕ → Type 0
+HaveAllOn p bs among m indices = (q : Question) (on : ℕ → Bool) → q.host ≡ m →
+    standing_among p bs q on indices ≡ standing_among p bs q on among
 
 -- and for the user on the host, all of which allow both
-pub record AreListed (p : Policy) (bs : List Block) (u : Person) (m : Machine) (indices : List ℕ) : Type 0 where
+pub record AreListed (p : Policy) (bs : List Block) (among : List ℕ) (u : Person) (m : Machine) (indices : List ℕ) : Type 0 where
   pub all : (q : Question) (on : ℕ → Bool) → q.user ≡ u → q.host ≡ m →
-      standing_among p bs q on indices ≡ standing_among p bs q on (range_with_len 0 (length bs))
+      standing_among p bs q on indices ≡ standing_among p bs q on among
   pub each : list_all (listed_at p bs u m) indices ≡ true
 
 -- the runas may allow the target to one user and not to another: it has a list of groups, or no list at all

@@ -32,8 +32,8 @@ pub record AddsFound (old : List Row) (cell : Cell) (found : Compared) (new : Li
 
 -- the blocks of both policies for the user on the host
 pub record AreListedIn (p : Pair) (s : Spot) (l : Listed) : Type 0 where
-  pub old : AreListed p.old.checked.now p.old.blocks.items s.person.now s.machine.now l.old.items
-  pub new : AreListed p.new.checked.now p.new.blocks.items s.person.now s.machine.now l.new.items
+  pub old : AreListed p.old.checked.now p.old.blocks.items p.near.old.items s.person.now s.machine.now l.old.items
+  pub new : AreListed p.new.checked.now p.new.blocks.items p.near.new.items s.person.now s.machine.now l.new.items
 
 -- what is asked at the spot
 abbrev pub question_of : Pair → Spot → Ask → Question
@@ -88,9 +88,9 @@ cell_at s a = record { user = s.user; host = s.host; ask = a }
 
 -- the blocks of both policies for the user
 pub record AreListedFor (p : Pair) (u : Person) (l : Listed) : Type 0 where
-  pub old : HaveAllOf p.old.checked.now p.old.blocks.items u l.old.items
+  pub old : HaveAllOf p.old.checked.now p.old.blocks.items p.near.old.items u l.old.items
   pub old_each : list_all (user_at p.old.checked.now p.old.blocks.items u) l.old.items ≡ true
-  pub new : HaveAllOf p.new.checked.now p.new.blocks.items u l.new.items
+  pub new : HaveAllOf p.new.checked.now p.new.blocks.items p.near.new.items u l.new.items
   pub new_each : list_all (user_at p.new.checked.now p.new.blocks.items u) l.new.items ≡ true
 
 -- a cell of the user on a host that is asked about, with one of these asks

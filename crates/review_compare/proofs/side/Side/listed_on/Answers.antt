@@ -14,16 +14,16 @@ loop-index-preserved c =
     let k = c.loop-index.index-index in
     let i = get_or c.args.listed.now k 0 in
     record {
-      all = λ q on is at.
+      all = λ q on at.
           flat-more (standing_at p bs q on) (standing_at p bs q on) c.lists_host_at.result i c.loop-index.indices.items
           c.push_if.new.indices.items c.in_ok-push_if.ensures (λ keep. refl) (λ leave. no-host p bs m q on i at
           (sym c.lists_host_at.ensures ∙ leave))
-          ∙ ap (λ ds. ds ++ standing_at p bs q on i) (c.loop-index.invariant.all q on is at)
+          ∙ ap (λ ds. ds ++ standing_at p bs q on i) (c.loop-index.invariant.all q on at)
           ∙ sym (flat-take (standing_at p bs q on) c.args.listed.now k c.loop-index-test.true);
       each = all-more (listed_at p bs u m) c.lists_host_at.result i c.loop-index.indices.items c.push_if.new.indices.items
           c.in_ok-push_if.ensures
           (λ keep. and_from (user_at p bs u i) (host_at p bs m i)
-          (all-at (user_at p bs u) c.args.listed.now k c.loop-index-test.true c.requires.each) (sym c.lists_host_at.ensures ∙ keep))
+          (all-at (user_at p bs u) c.args.listed.now k c.loop-index-test.true c.requires) (sym c.lists_host_at.ensures ∙ keep))
           c.loop-index.invariant.each;
     }
 
@@ -32,9 +32,8 @@ returns c =
     let p = c.args.self.now.checked.now in
     let bs = c.args.self.now.blocks.items in
     record {
-      all = λ q on is at.
-          c.loop-index.invariant.all q on is at
-          ∙ ap (standing_among p bs q on) (take_all c.loop-index.index-index c.args.listed.now (omega (arith, c.loop-index-test.false)))
-          ∙ c.requires.all q on is;
+      all = λ q on at.
+          c.loop-index.invariant.all q on at
+          ∙ ap (standing_among p bs q on) (take_all c.loop-index.index-index c.args.listed.now (omega (arith, c.loop-index-test.false)));
       each = c.loop-index.invariant.each;
     }

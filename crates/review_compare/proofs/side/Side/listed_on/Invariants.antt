@@ -6,7 +6,7 @@ use Rattle.review_compare.proofs.side.Side.listed_on.Given as goal
 
 abbrev pub invariant-loop-index : goal.invariant-loop-index
 invariant-loop-index l = record {
-  all : (q : Question) (on : ℕ → Bool) → q.user ≡ l.user → q.host ≡ l.host →
+  all : (q : Question) (on : ℕ → Bool) → q.host ≡ l.host →
       standing_among l.self.checked.now l.self.blocks.items q on l.indices.items
       ≡ standing_among l.self.checked.now l.self.blocks.items q on (take l.index-index l.listed);
   each : list_all (listed_at l.self.checked.now l.self.blocks.items l.user l.host) l.indices.items ≡ true;
