@@ -5,3 +5,5 @@ pub mod MarkLaws
 pub mod CommentLaws
 pub mod UseLaws
 pub mod SignLaws
+pub mod LookLaws
+pub mod SignFinds

@@ -60,10 +60,11 @@ fn begins_word(text: &[u8], word: &[u8]) -> bool
 pub(crate) fn is_include(text: &[u8]) -> bool
     ensures { result ≡ bytes.is_include text.now }
 {
-    begins_word(text, b"@include")
-        || begins_word(text, b"@includedir")
-        || begins_word(text, b"#include")
-        || begins_word(text, b"#includedir")
+    let first = peek(text, 0);
+    if first == b'@' {
+        return begins_word(text, b"@include") || begins_word(text, b"@includedir");
+    }
+    first == b'#' && (begins_word(text, b"#include") || begins_word(text, b"#includedir"))
 }
 
 /// Whether a physical line begins with `#`, is no include directive, and has no digit directly after the `#`.

@@ -9,9 +9,9 @@ use crate::defaults::push_defaults;
 use crate::entries::push_entries;
 use crate::lines::push_lines;
 use crate::link::usual_links;
-use crate::lists::{is_of_matching, push_linked, push_lists};
+use crate::lists::{push_linked, push_lists};
+use crate::looked::LookedLists;
 use crate::marks::scanned_lists;
-use crate::scanned::ScannedList;
 use crate::signs::signed_lines;
 use crate::unknown::push_unknown;
 use crate::uses::deciding_lists;
@@ -19,22 +19,17 @@ use crate::{Caution, CautionClass, Link};
 use std::alloc::{AllocError, Global};
 use sudo_policy::{Policy, lists};
 
-// Appends the cautions of a class on the lists that are looked at for it, of all and of those that decide.
+// Appends the cautions of a class on the lists that are looked at for it.
 fn push_looked(
     alloc: Global,
     class: CautionClass,
-    all: &[ScannedList<'_>],
-    deciding: &[ScannedList<'_>],
+    looked: &LookedLists<'_>,
     found: &mut Vec<Caution>,
 ) -> Result<(), AllocError>
     ensures { OnOk result (found.new.items ≡ found.old.items ++ spec.class_cautions class
-        (map scanned_view all.now) (map scanned_view deciding.now)) }
+        (map scanned_view looked.now.all.items) (map scanned_view looked.now.deciding.items)) }
 {
-    if is_of_matching(class) {
-        push_lists(alloc, class, deciding, found)
-    } else {
-        push_lists(alloc, class, all, found)
-    }
+    push_lists(alloc, class, looked.lists(class), found)
 }
 
 // Appends the cautions on the physical lines of files.
@@ -82,29 +77,24 @@ pub fn cautions_by_links(
 {
     let all = scanned_lists(alloc, lists(alloc, policy)?)?;
     let deciding = deciding_lists(alloc, policy, &all)?;
+    let looked = LookedLists::of(alloc, all, deciding)?;
     let entries = policy.entries.as_slice();
     let mut found = Vec::new(alloc);
     push_all_texts(alloc, texts, &mut found)?;
-    push_looked(alloc, CautionClass::Caret, &all, &deciding, &mut found)?;
-    push_looked(alloc, CautionClass::Escape, &all, &deciding, &mut found)?;
-    push_looked(alloc, CautionClass::Case, &all, &deciding, &mut found)?;
-    push_looked(alloc, CautionClass::QuotedHost, &all, &deciding, &mut found)?;
-    push_looked(
-        alloc,
-        CautionClass::QuotedEscape,
-        &all,
-        &deciding,
-        &mut found,
-    )?;
-    push_linked(alloc, links, &deciding, &mut found)?;
+    push_looked(alloc, CautionClass::Caret, &looked, &mut found)?;
+    push_looked(alloc, CautionClass::Escape, &looked, &mut found)?;
+    push_looked(alloc, CautionClass::Case, &looked, &mut found)?;
+    push_looked(alloc, CautionClass::QuotedHost, &looked, &mut found)?;
+    push_looked(alloc, CautionClass::QuotedEscape, &looked, &mut found)?;
+    push_linked(alloc, links, &looked.deciding, &mut found)?;
     push_defaults(alloc, entries, &mut found)?;
     push_unknown(alloc, entries, &mut found)?;
-    push_looked(alloc, CautionClass::Sudoedit, &all, &deciding, &mut found)?;
-    push_looked(alloc, CautionClass::Network, &all, &deciding, &mut found)?;
-    push_looked(alloc, CautionClass::Bracket, &all, &deciding, &mut found)?;
+    push_looked(alloc, CautionClass::Sudoedit, &looked, &mut found)?;
+    push_looked(alloc, CautionClass::Network, &looked, &mut found)?;
+    push_looked(alloc, CautionClass::Bracket, &looked, &mut found)?;
     push_entries(alloc, CautionClass::Setenv, entries, &mut found)?;
     push_entries(alloc, CautionClass::GroupForm, entries, &mut found)?;
     push_entries(alloc, CautionClass::Reserved, entries, &mut found)?;
-    push_looked(alloc, CautionClass::Arguments, &all, &deciding, &mut found)?;
+    push_looked(alloc, CautionClass::Arguments, &looked, &mut found)?;
     Ok(found)
 }

@@ -116,9 +116,11 @@ fn ends_in_mark(line: &[u8], next: &[u8]) -> bool
 pub(crate) fn tears_word(line: &[u8], next: &[u8]) -> bool
     ensures { result ≡ spec.tears_word line.now next.now }
 {
+    if !ends_in_escape(line) {
+        return false;
+    }
     let command = has_slash(line);
-    ends_in_escape(line)
-        && (ends_in_word(command, without_escape(line)) && begins_in_word(command, next))
+    ends_in_word(command, without_escape(line)) && begins_in_word(command, next)
 }
 
 /// Whether a line is joined to the next one within a mark that sudo wants on one line.

@@ -18,6 +18,7 @@ mod joins;
 mod lines;
 mod link;
 mod lists;
+mod looked;
 mod marks;
 mod passwords;
 mod reserved;

@@ -133,8 +133,14 @@ fn line_holds(class: CautionClass, continuing: bool, line: &[u8], after: &[u8]) 
     match class {
         CautionClass::Return => ends_in_return(continuing, line),
         CautionClass::BlankAfterBackslash => ends_in_escaped_blanks(without_return(line)),
-        CautionClass::Join => tears_word(strip(line), strip(first_of(after))),
-        CautionClass::TornMark => tears_mark(strip(line), strip(first_of(after))),
+        CautionClass::Join => {
+            let line = strip(line);
+            ends_in_escape(line) && tears_word(line, strip(first_of(after)))
+        }
+        CautionClass::TornMark => {
+            let line = strip(line);
+            ends_in_escape(line) && tears_mark(line, strip(first_of(after)))
+        }
         CautionClass::IncludeEscape => is_escaped_include(continuing, strip(line)),
         CautionClass::IncludeIndent => is_indented_include(continuing, line),
         CautionClass::Comment => has_other_comment(strip(line)) && !is_include(strip(line)),

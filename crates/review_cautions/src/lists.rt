@@ -12,7 +12,6 @@ use crate::arguments::atom_has_refused_arguments;
 use crate::brackets::{atom_has_caret, atom_has_other_bracket};
 use crate::bytes::spells;
 use crate::escapes::{has_other_escape, has_quoted_escape, has_quoted_mark};
-use crate::marks::needs_mark;
 use crate::scanned::ScannedList;
 use crate::{Caution, CautionClass, Link};
 use std::alloc::{AllocError, Global};
@@ -151,16 +150,6 @@ fn list_holds(class: CautionClass, list: &MemberList<'_>) -> bool
     concerns(class, list.kind) && members_hold(class, list.members)
 }
 
-// Whether a list has the construct of a class.
-fn scanned_holds(class: CautionClass, list: &ScannedList<'_>) -> bool
-    ensures { result ≡ spec.list_holds class (scanned_view list.now) }
-{
-    if needs_mark(class) && !list.marked {
-        return false;
-    }
-    list_holds(class, &list.list)
-}
-
 /// Whether a construct of a class changes what a list matches, and nothing else.
 pub(crate) fn is_of_matching(class: CautionClass) -> bool
     ensures { result ≡ spec.is_of_matching class }
@@ -235,7 +224,7 @@ pub(crate) fn push_lists(
 {
     let mut before = None;
     for list in lists {
-        if scanned_holds(class, list) {
+        if list_holds(class, &list.list) {
             let place = list.list.place;
             if !is_at(before, place) {
                 push_caution(alloc, class, place, found)?;

@@ -82,7 +82,7 @@ pub(crate) fn scanned_lists<'a>(
     ensures { IfOk result (λ scanned. map scanned_view scanned.items
         ≡ map list_view lists.entry.items) }
 {
-    let mut scanned = Vec::new(alloc);
+    let mut scanned = Vec::with_capacity(alloc, lists.len())?;
     for list in lists {
         let marked = members_are_marked(list.members);
         scanned.push(ScannedList { list, marked })?;

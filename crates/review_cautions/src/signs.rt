@@ -10,21 +10,15 @@ ghost use Rattle.review_cautions.specs.declared.class.CautionClass.{CautionClass
 
 use crate::bytes::cut_first;
 use crate::lines::{PhysicalLine, is_continued};
+use memchr::memchr3;
 use std::alloc::{AllocError, Global};
 use sudo_text::{Place, TEXT_LIMIT};
-
-// Whether a byte is a sign.
-fn is_sign(byte: u8) -> bool
-    ensures { result ≡ spec.is_sign byte }
-{
-    byte == b'\r' || byte == b'\\' || byte == b'#'
-}
 
 // Whether a line has a sign.
 fn has_sign(line: &[u8]) -> bool
     ensures { result ≡ list_any spec.is_sign line.now }
 {
-    line.iter().any(|byte| is_sign(*byte))
+    memchr3(b'\r', b'\\', b'#', line).is_some()
 }
 
 // Appends a physical line, if it has a sign.

@@ -177,7 +177,7 @@ fn left_by<'a>(
     ensures { IfOk result (λ left. map scanned_view left.items
         ≡ body.left_by marks.now (map scanned_view lists.now)) }
 {
-    let mut left = Vec::new(alloc);
+    let mut left = Vec::with_capacity(alloc, lists.len())?;
     let mut ahead = marks;
     for list in lists {
         if !is_left_out(ahead, &list.list) {

@@ -1,0 +1,33 @@
+-- A search for the signs finds one where a line has one.
+use Rattle.std.proofs.Common.{◌≡◌, ◌∙◌, ◌<◌, ℕ, zero, suc, Bool, true, false, List, [], ◌∷◌, Option, None, Some, ap, arith, length}
+use Rattle.std.proofs.Common.{refl, sym}
+use Rattle.std.specs.Prelude.{◌||◌, is_some, slice_index}
+use Rattle.std.specs.List.{list_any}
+use Rattle.memchr.specs.Find.{IsFirstByte, Nowhere, Passes, is_byte3}
+use Rattle.review_cautions.specs.Body.Signs.{is_sign}
+
+none-there : (t : Bool) → (t ≡ true → ⊥) → t ≡ false
+none-there true h = absurd (h refl)
+none-there false h = refl
+
+no-left : (a b : Bool) → a ≡ false → (a || b) ≡ b
+no-left a b e = ap (λ v. v || b) e
+
+nowhere : (line : List ℕ) → Nowhere (Passes is_sign line) 0 (length line) → list_any is_sign line ≡ false
+nowhere [] none = refl
+nowhere (b ∷ bs) none =
+    no-left (is_sign b) (list_any is_sign bs) (none-there (is_sign b) (none 0 (omega arith) (omega arith)))
+    ∙ nowhere bs (λ k low high. none (suc k) (omega arith) (omega (arith, high)))
+
+there : (line : List ℕ) (k : ℕ) → k < length line → is_sign (slice_index line k) ≡ true → list_any is_sign line ≡ true
+there [] k less is = absurd (omega (arith, less))
+there (b ∷ bs) zero less is = ap (λ v. v || list_any is_sign bs) is
+there (b ∷ bs) (suc k) less is = by (is_sign b) (there bs k (omega (arith, less)) is)
+  where
+    by : (a : Bool) → list_any is_sign bs ≡ true → (a || list_any is_sign bs) ≡ true
+    by true e = refl
+    by false e = e
+
+pub found_sign : (line : List ℕ) (r : Option ℕ) → IsFirstByte (is_byte3 13 92 35) line r → is_some r ≡ list_any is_sign line
+found_sign line None none = sym (nowhere line none)
+found_sign line (Some k) is = sym (there line k is.0.high is.1)
