@@ -4,6 +4,7 @@ use Rattle.std.specs.Prelude.{not, ◌&&◌, ◌||◌, ◌==◌, if◌then◌els
 use Rattle.std.specs.List.{list_any}
 use Rattle.memchr.specs.Find.{Nowhere, Passes, is_byte}
 use Rattle.sudo_text.specs.Bytes.{is_blank}
+use Rattle.review_cautions.proofs.SignFinds.{nowhere}
 use Rattle.review_cautions.specs.PhysicalLines.{has_other_comment, admits_id, begins_with_digit, begins_no_comment}
 
 pub no_left : (a b : Bool) → (a || b) ≡ false → a ≡ false
@@ -38,15 +39,5 @@ no_comment escaped quoted admitted (b ∷ bs) h =
     (no_comment false (not quoted) false bs rest)
     (no_comment false quoted (admits_id b || (admitted && is_blank b)) bs rest)
 
-not_there : (t : Bool) → (t ≡ true → ⊥) → t ≡ false
-not_there true h = absurd (h refl)
-not_there false h = refl
-
--- no byte of the line is a `#`, by a search for it
-nowhere : (line : List ℕ) → Nowhere (Passes (is_byte 35) line) 0 (length line) → list_any (λ b. b == 35) line ≡ false
-nowhere [] none = refl
-nowhere (b ∷ bs) none = neither (b == 35) (list_any (λ c. c == 35) bs) (not_there (b == 35) (none 0 (omega arith) (omega arith)))
-    (nowhere bs (λ k low high. none (suc k) (omega arith) (omega (arith, high))))
-
 pub no_sign : (line : List ℕ) → Nowhere (Passes (is_byte 35) line) 0 (length line) → has_other_comment false false true line ≡ false
-no_sign line none = no_comment false false true line (nowhere line none)
+no_sign line none = no_comment false false true line (nowhere (is_byte 35) line none)

@@ -13,11 +13,12 @@ none-there false h = refl
 no-left : (a b : Bool) → a ≡ false → (a || b) ≡ b
 no-left a b e = ap (λ v. v || b) e
 
-nowhere : (line : List ℕ) → Nowhere (Passes is_sign line) 0 (length line) → list_any is_sign line ≡ false
-nowhere [] none = refl
-nowhere (b ∷ bs) none =
-    no-left (is_sign b) (list_any is_sign bs) (none-there (is_sign b) (none 0 (omega arith) (omega arith)))
-    ∙ nowhere bs (λ k low high. none (suc k) (omega arith) (omega (arith, high)))
+-- a test that passes nowhere passes no byte
+pub nowhere : (test : ℕ → Bool) (line : List ℕ) → Nowhere (Passes test line) 0 (length line) → list_any test line ≡ false
+nowhere test [] none = refl
+nowhere test (b ∷ bs) none =
+    no-left (test b) (list_any test bs) (none-there (test b) (none 0 (omega arith) (omega arith)))
+    ∙ nowhere test bs (λ k low high. none (suc k) (omega arith) (omega (arith, high)))
 
 there : (line : List ℕ) (k : ℕ) → k < length line → is_sign (slice_index line k) ≡ true → list_any is_sign line ≡ true
 there [] k less is = absurd (omega (arith, less))
@@ -29,5 +30,5 @@ there (b ∷ bs) (suc k) less is = by (is_sign b) (there bs k (omega (arith, les
     by false e = e
 
 pub found_sign : (line : List ℕ) (r : Option ℕ) → IsFirstByte (is_byte3 13 92 35) line r → is_some r ≡ list_any is_sign line
-found_sign line None none = sym (nowhere line none)
+found_sign line None none = sym (nowhere is_sign line none)
 found_sign line (Some k) is = sym (there line k is.0.high is.1)

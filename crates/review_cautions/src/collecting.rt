@@ -19,7 +19,7 @@ use crate::{Caution, CautionClass, Link};
 use std::alloc::{AllocError, Global};
 use sudo_policy::{Policy, lists};
 
-// Appends the cautions of a class on the lists that are looked at for it.
+// Appends the cautions of a class on the lists to examine for it.
 fn push_looked(
     alloc: Global,
     class: CautionClass,

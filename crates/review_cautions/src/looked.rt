@@ -1,4 +1,4 @@
-//! The lists that are looked at for the classes of lists.
+//! The lists to examine for each class of lists.
 ghost use Rattle.std.specs.Prelude.{◌≡◌, ◌++◌, ◌∷◌, [], filter, if◌then◌else◌, IfOk, map, OnOk};
 ghost use Rattle.review_cautions.specs.Body.Looking.{scanned_view};
 ghost use Rattle.review_cautions.specs.Cautions as spec;
@@ -72,7 +72,7 @@ impl<'a> LookedLists<'a> {
         })
     }
 
-    /// Returns the lists that may have the construct of a class and are looked at for it.
+    /// Returns the lists to examine for a class: no other list has its construct.
     pub(crate) fn lists(&self, class: CautionClass) -> &[ScannedList<'a>]
         ensures { spec.list_cautions class (map scanned_view result.now)
             ≡ spec.class_cautions class (map scanned_view self.now.all.items)

@@ -174,9 +174,9 @@ are-changed old new changed front back within also first last is near_old near_n
 
 pub near-same : (ds es changed near_ds near_es : List Decider) (b : Bool) → AreChanged ds es changed near_ds near_es →
     b ≡ not (rows_agree near_ds near_es) → b ≡ false → (c x : List ℕ) → said (verdict_among ds c x) ≡ said (verdict_among es c x)
-near-same ds es changed near_ds near_es b are is none c x = by (is_fitted changed c x) refl
+near-same ds es changed near_ds near_es b changes tested none c x = by (is_fitted changed c x) refl
   where
     by : (f : Bool) → is_fitted changed c x ≡ f → said (verdict_among ds c x) ≡ said (verdict_among es c x)
-    by false e = are.others c x e
+    by false e = changes.others c x e
     by true e =
-        sym (ap said (are.old c x e)) ∙ same-where-none near_ds near_es b is none c x ∙ ap said (are.new c x e)
+        sym (ap said (changes.old c x e)) ∙ same-where-none near_ds near_es b tested none c x ∙ ap said (changes.new c x e)

@@ -1,4 +1,4 @@
--- What is found on a host is found on each on which the same blocks stand.
+-- The comparison on a host holds on each host on which the same blocks list the user.
 use Rattle.std.proofs.Common.{◌≡◌, ◌∙◌, inl, inr, ℕ, Bool, true, false, cond, ◌&&◌, ◌||◌, List, [], ◌∷◌, ◌++◌, ap, arith, refl, sym}
 use Rattle.std.proofs.Common.{All, Option, Some, subst, suc}
 use Rattle.std.specs.Prelude.{◌==◌}
@@ -76,7 +76,7 @@ same-self n = grind arith
 abbrev at-host : ℕ → Cell → Cell
 at-host host c = record { user = c.user; host = host; ask = c.ask }
 
--- a row for another host has the cells of that host alone, which its own host had
+-- a moved row has cells of the new host alone, and the first host had each of them
 moved-has : (user first host : ℕ) (r s : Row) → IsMoved host r s → IsOfSpot user first r → (c : Cell) → has_cell s c ≡ true →
     (c.user ≡ user) × (c.host ≡ host) × (has_cell r (at-host first c) ≡ true)
 moved-has user first host r s moved own c has =
@@ -100,7 +100,7 @@ moved-has user first host r s moved own c has =
           (and_from (list_any (λ u. u == c.user) r.users) (list_any (λ m. m == first) r.hosts) there first_there) rest,
     )
 
--- and it has each of them
+-- and the moved row has each cell of the first host
 has-moved : (user first host : ℕ) (r s : Row) → IsMoved host r s → (c : Cell) → c.host ≡ host → has_cell r (at-host first c) ≡ true →
     has_cell s c ≡ true
 has-moved user first host r s moved c on has =
@@ -118,7 +118,7 @@ has-moved user first host r s moved c on has =
     (list_any (same_number c.ask.target) s.targets && list_any (same_number c.ask.group) s.groups)
     (and_from (list_any (λ u. u == c.user) s.users) (list_any (λ m. m == c.host) s.hosts) users hosts) rest
 
--- what a row for another host finds was found on the first one
+-- the outcome in a moved row is a copy of one of the first host
 abbrev WasFound : List Row → ℕ → ℕ → ℕ → Cell → Compared → Type 0
 WasFound rows user first host c g =
     (c.user ≡ user) × (c.host ≡ host) × ((f : Compared) × Finds rows (at-host first c) f × IsCopy f g)
@@ -154,12 +154,12 @@ moved-more host (t ∷ rows) (v ∷ moved) r s are is = (are.0, moved-more host 
 
 -- ---- Classes
 
--- both policies have the same near rows for what is asked at two spots
+-- each policy has the same near rows at both spots, for every ask
 abbrev HaveSameRows : Pair → Spot → Spot → Type 0
 HaveSameRows p s k = (a : Ask) →
     (near_old p (question_of p k a) ≡ near_old p (question_of p s a)) × (near_new p (question_of p k a) ≡ near_new p (question_of p s a))
 
--- what is found at one spot is found at the other
+-- the outcome of the comparison at one spot is right at the other
 moved-there : (p : Pair) (s k : Spot) (a : Ask) → HaveSameRows p s k → (f : Compared) →
     IsCompared (deciders p.old.checked.now (question_of p k a)) (deciders p.new.checked.now (question_of p k a)) f →
     IsCompared (deciders p.old.checked.now (question_of p s a)) (deciders p.new.checked.now (question_of p s a)) f
@@ -183,7 +183,7 @@ same-there p s k a rows same =
     λ c x. sym (ap said (rows_decide old (question_of p k a) c x)) ∙ same c x ∙ ap said (rows_decide new (question_of p k a) c x) in
     rows_say_same old new (question_of p s a) (moved-there p s k a rows compared.Same there)
 
--- rows of one spot, for another with the same rows of the policies
+-- the rows of one spot, moved to another with the same near rows
 pub moved-on : (p : Pair) (s k : Spot) (asks : List Ask) (rows moved : List Row) → IsSpot p s → IsSpot p k → s.user ≡ k.user →
     HaveSameRows p s k → Progress p [] rows (IsOn k.user k.host asks) → All (IsOfSpot k.user k.host) rows →
     AreMoved s.host rows moved → Progress p [] moved (IsOn s.user s.host asks)
@@ -223,7 +223,7 @@ moved-on p s k asks rows moved at from own same so_far of_spot are = record {
         (same-there p s k c.ask same there))
     finish c on (inr e) = inr (moved-finds k.user k.host s.host rows moved are c e.0 on.1 e.1)
 
--- the spots of a user on hosts where the same blocks stand
+-- two hosts on which the same blocks list the user have the same near rows
 pub same-rows : (p : Pair) (s k : Spot) (l j : Listed) → s.person.now ≡ k.person.now → AreListedIn p s l → AreListedIn p k j →
     AreSameBlocks j l → HaveSameRows p s k
 same-rows p s k l j own listed its same a =

@@ -1,4 +1,4 @@
--- The blocks near a change decide what a change does: what is found of their rows is found of all.
+-- The comparison of the blocks near a change holds for all blocks.
 use Rattle.std.proofs.Common.{◌≡◌, ◌<◌, ◌≤◌, ◌+◌, ◌-◌, ◌∙◌, ◌⊎◌, inl, inr, ℕ, zero, suc, Bool, true, false, cond, ◌&&◌, ◌||◌}
 use Rattle.std.proofs.Common.{List, [], ◌∷◌, ◌++◌}
 use Rattle.std.proofs.Common.{ap, arith, flat_map, map, refl, subst, sym, length, Option, Some, None}
@@ -36,9 +36,6 @@ use Rattle.review_compare.proofs.ChangedLemmas.{near-fits, or-parts, unfitted}
 use Rattle.review_compare.proofs.ChosenLemmas.{all-stand, blocks-decide}
 use Rattle.review_compare.proofs.UnchangedLemmas.{joined, mapped-flat, pairwise}
 
-abbrev Rulings : Type 0
-Rulings = List (Ruling Atom (Option Tags))
-
 -- ---- Rows of which one is near
 
 -- where none is near, none fits a command that a changed row fits
@@ -63,7 +60,7 @@ last-near changed ds c x e = by (has_near changed ds) refl
     by true is = refl
     by false is = sym (none-fits changed ds c x e is)
 
--- of a command that a changed row fits, the near rows decide
+-- the near rows decide a command that a changed row fits
 near-last : (changed : List Decider) (f : ℕ → List Decider) (is : List ℕ) (c x : List ℕ) → is_fitted changed c x ≡ true →
     last_that (λ d. command_fits d.atom c x) (flat_map (λ i. if_near changed (f i)) is)
     ≡ last_that (λ d. command_fits d.atom c x) (flat_map f is)
@@ -173,7 +170,7 @@ stands-or-not p q (Some b) P none all = by (block_stands p q b)
     by true = all
     by false = none
 
--- of indices that pass a test, what others answer is not missed
+-- indices that fail the test answer nothing
 flat-filter : (f g : ℕ → List Decider) (t : ℕ → Bool) → ((i : ℕ) → cond (t i) (f i) [] ≡ g i) → (is : List ℕ) →
     flat_map f (filter t is) ≡ flat_map g is
 flat-filter f g t same [] = refl
@@ -287,7 +284,7 @@ module _ (p r : Policy) (bs cs : List Block) (k : Common) (common : AreCommon p 
   near-its : near_deciders r cs (near_at rows_changed cs) q ≡ flat_map (λ i. if_near rows_changed (its i)) (range_with_len 0 (length cs))
   near-its = near-standing r cs rows_changed q
 
-  -- the near blocks that stand decide, of all that stand
+  -- the near blocks that stand decide for all that stand
   near-of-all : AreBlocks p bs → AreBlocks r cs → AreChanged (deciders p q) (deciders r q) rows_changed
       (near_deciders p bs (near_at rows_changed bs) q) (near_deciders r cs (near_at rows_changed cs) q)
   near-of-all are also = record {
@@ -306,7 +303,7 @@ module _ (p r : Policy) (bs cs : List Block) (k : Common) (common : AreCommon p 
         ∙ ap (λ (ds : List Decider). verdict_among ds c x) (all-its also);
   }
 
-  -- and of themselves
+  -- and for themselves
   near-of-near : AreChanged (near_deciders p bs (near_at rows_changed bs) q) (near_deciders r cs (near_at rows_changed cs) q) rows_changed
       (near_deciders p bs (near_at rows_changed bs) q) (near_deciders r cs (near_at rows_changed cs) q)
   near-of-near = record {
@@ -353,7 +350,7 @@ pair-near p q =
     (new is)) (sym p.are_near.new)
     (near-of-near p.old.checked.now p.new.checked.now bs cs p.common p.are_common q))
 
--- ---- What is found of some rows, for others with the same near rows
+-- ---- The outcome for some rows, and for others with the same near rows
 
 choice-self : (a : Option Bool) → same_choice a a ≡ true
 choice-self None = refl

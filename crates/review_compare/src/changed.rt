@@ -116,7 +116,7 @@ fn rows_between<'a>(
 }
 
 impl<'r, 'a> Changed<'r, 'a> {
-    /// Returns in which rows two lists differ. Returns `AllocError` if allocation fails.
+    /// Returns the rows in which two lists differ, and those near them. Returns `AllocError` if allocation fails.
     pub(crate) fn between(
         alloc: Global,
         old: &'r [Ruled<'a>],

@@ -11,7 +11,7 @@ use crate::pair::Pair;
 use crate::side::rows_at;
 use std::alloc::{AllocError, Global};
 
-/// Blocks of both policies, by their indices, and what is found of their rows.
+/// The outcome of a comparison of blocks, by their indices in both policies.
 #[derive(Drop)]
 pub(crate) struct Comparison {
     old: Vec<usize>,
@@ -66,7 +66,7 @@ fn compared_blocks(
     compared_rows(alloc, &old_rows, &new_rows)
 }
 
-// Compares the rows of the blocks at these indices, and keeps what is found.
+// Compares the rows of the blocks at these indices, and keeps the outcome.
 fn first_found(
     alloc: Global,
     pair: &Pair<'_>,
@@ -85,8 +85,8 @@ fn first_found(
     Ok(copy)
 }
 
-/// Returns what is found of the rows of the blocks at these indices. They are compared unless that was done before. Returns
-/// `AllocError` if allocation fails.
+/// Returns the outcome of the comparison of the blocks at these indices, and compares them if no earlier comparison is of them.
+/// Returns `AllocError` if allocation fails.
 pub(crate) fn found_of(
     alloc: Global,
     pair: &Pair<'_>,

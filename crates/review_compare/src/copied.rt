@@ -1,4 +1,4 @@
-//! Copies of what is found.
+//! Copies of the outcome of a comparison.
 ghost use Rattle.std.specs.Prelude.{◌≡◌, IfOk, take};
 ghost use Rattle.review_compare.specs.Body.Comparisons as body;
 
@@ -43,7 +43,7 @@ fn copied_decider(decider: &Option<Decider>) -> Result<Option<Decider>, AllocErr
     }
 }
 
-/// Returns a copy of what is found. Returns `AllocError` if allocation fails.
+/// Returns a copy of the outcome of a comparison. Returns `AllocError` if allocation fails.
 pub(crate) fn copied(alloc: Global, found: &Compared) -> Result<Compared, AllocError>
     ensures { IfOk result (body.IsCopy found.now) }
 {

@@ -1,4 +1,4 @@
-//! Hosts on which the same blocks stand for a user: what is found on one of them is found on each.
+//! Hosts on which the same blocks list a user: the comparison on one of them holds on each.
 ghost use Rattle.std.specs.Prelude.{◌≡◌, ◌<◌, [], All, get_or, IfOk, IfSome, length, OnOk, option_copied, true};
 ghost use Rattle.review_compare.specs.declared.host_class.HostClass.{HostClass as TheHostClass};
 ghost use Rattle.review_compare.specs.Body.Classes as of_hosts;
@@ -13,7 +13,7 @@ use crate::spot::{Listed, Spot, rows_on};
 use std::alloc::{AllocError, Global};
 use sudo_text::Seq;
 
-/// The first of some hosts on which the same blocks stand for a user, and what is found on it.
+/// A class of hosts on which the same blocks list a user: its first host, and the rows of the comparison there.
 #[derive(Drop)]
 pub(crate) struct HostClass<'a> {
     spot: Spot<'a>,
@@ -31,7 +31,7 @@ fn are_same_blocks(listed: &Listed, other: &Listed) -> bool
     are_same_indices(&listed.new, &other.new)
 }
 
-// Returns the index of the class of hosts on which these blocks stand, if there is one.
+// Returns the index of the class of these blocks, if there is one.
 fn class_index(classes: &[HostClass<'_>], listed: &Listed) -> Option<usize>
     ensures { IfSome result (λ i. (i < length classes.now) × ((d : TheHostClass)
         → of_hosts.AreSameBlocks (get_or classes.now i d).listed listed.now)) }
@@ -68,7 +68,7 @@ fn moved_rows(alloc: Global, rows: &[Row], host: usize) -> Result<Vec<Row>, Allo
     Ok(moved)
 }
 
-// Adds what is found on the first host of the class to the rows, for the spot.
+// Adds the rows of the class to the others, for the host of the spot.
 fn add_moved(
     alloc: Global,
     pair: &Pair<'_>,
@@ -89,7 +89,7 @@ fn add_moved(
     absorb_all(rows, moved, Dimension::Hosts)
 }
 
-// Adds what is found at the spot to the rows, and the class of its host.
+// Compares the policies at the spot, adds the rows to the others, and makes the host the first of a class.
 fn add_class<'a>(
     alloc: Global,
     pair: &Pair<'_>,
@@ -118,9 +118,8 @@ fn add_class<'a>(
     absorb_all(rows, more, Dimension::Hosts)
 }
 
-/// Adds what is found at the spot to the rows. It is what was found on an earlier host, if the same blocks stand there;
-/// otherwise this host is the first of a class. Rows that differ in the host alone become one. Returns `AllocError` if
-/// allocation fails.
+/// Adds the rows of the comparison at the spot: those of the class of its host, if an earlier host began it; otherwise this
+/// host begins one. Rows that differ in the host alone become one. Returns `AllocError` if allocation fails.
 pub(crate) fn add_spot<'a>(
     alloc: Global,
     pair: &Pair<'_>,

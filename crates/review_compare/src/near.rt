@@ -1,5 +1,5 @@
 //! The blocks near a change: those with a row that may fit a command that a row of a block between the common prefix and suffix
-//! fits. What is found of the rows of these blocks is found of all rows.
+//! fits. The comparison of the rows of these blocks holds for all rows.
 ghost use Rattle.std.specs.Prelude.{◌≡◌, ◌++◌, IfOk, OnOk};
 ghost use Rattle.review_compare.specs.Body.Near as body;
 ghost use Rattle.review_compare.specs.Body.Shown.{all_shown};

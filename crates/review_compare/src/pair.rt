@@ -19,7 +19,7 @@ use sudo_match::{Directory, Group, Machine, Person};
 use sudo_policy::Checked;
 use sudo_verdict::Asker;
 
-/// Two policies, with the known users, hosts and groups, and the blocks near what differs.
+/// Two policies, with the known users, hosts and groups, and the blocks near a change.
 #[derive(Drop)]
 pub(crate) struct Pair<'a> {
     pub(crate) old: Side<'a>,
@@ -34,7 +34,7 @@ pub(crate) struct Pair<'a> {
 }
 
 impl<'a> Pair<'a> {
-    /// Returns two policies with their common prefix and suffix, and the blocks near what differs. Returns `AllocError` if
+    /// Returns two policies with their common prefix and suffix, and the blocks near a change. Returns `AllocError` if
     /// allocation fails.
     pub(crate) fn of(
         alloc: Global,
@@ -97,6 +97,7 @@ impl Pair<'_> {
         self.old.is_for_asker(self.common, self.directory, asker)
             || self.new.is_for_asker(self.common, self.directory, asker)
     }
+
     /// Whether the policies may differ for some user who asks for a target and a group, on some host. The user and the host are
     /// any known ones.
     pub(crate) fn may_differ_asked(&self, person: &Person, machine: &Machine, ask: Ask) -> bool

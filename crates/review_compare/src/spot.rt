@@ -1,4 +1,4 @@
-//! What is found for a known user on a known host.
+//! The comparison for a known user on a known host.
 ghost use Rattle.std.specs.Prelude.{◌≡◌, [], All, IfOk, OnOk};
 ghost use Rattle.review_compare.specs.Cells.{deciders};
 ghost use Rattle.review_compare.specs.Witnesses.{IsCompared};
@@ -32,7 +32,7 @@ pub(crate) struct Spot<'a> {
     pub(crate) machine: &'a Machine,
 }
 
-// Returns what is found where the user on the host asks for a target and a group.
+// Compares the policies where the user on the host asks for a target and a group.
 fn found_asked(
     alloc: Global,
     pair: &Pair<'_>,
@@ -63,7 +63,7 @@ fn found_asked(
     found_of(alloc, pair, comparisons, old, new)
 }
 
-// Adds what is found in a cell.
+// Adds the outcome of the comparison in a cell.
 fn add_found(
     alloc: Global,
     cell: Cell,
@@ -78,7 +78,7 @@ fn add_found(
     absorb(rows, row, Dimension::Targets)
 }
 
-// Adds what is found where this is asked at the spot.
+// Compares the policies for an ask at the spot, and adds the outcome, unless both say the same.
 fn add_ask(
     alloc: Global,
     pair: &Pair<'_>,
@@ -108,7 +108,7 @@ fn add_ask(
     }
 }
 
-/// Returns what is found at the spot. Returns `AllocError` if allocation fails.
+/// Returns the rows of the comparison at the spot. Returns `AllocError` if allocation fails.
 pub(crate) fn rows_on(
     alloc: Global,
     pair: &Pair<'_>,

@@ -28,7 +28,7 @@ AreMoved host [] [] = Unit {0}
 AreMoved host (r ∷ rows) (s ∷ moved) = IsMoved host r s × AreMoved host rows moved
 AreMoved host _ _ = ⊥
 
--- a known host with the blocks that stand there for the user, and what is found for the user there
+-- the first host of a class: the blocks that list the user there, and the rows of the comparison there
 pub record IsClass (p : Pair) (user : ℕ) (u : Person) (asks : List Ask) (k : HostClass) : Type 0 where
   pub spot : IsSpot p k.spot
   pub own : k.spot.user ≡ user

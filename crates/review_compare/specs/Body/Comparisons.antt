@@ -11,10 +11,10 @@ use Rattle.review_compare.specs.Body.Chosen.{chosen}
 abbrev pub IsOf : Comparison → List ℕ → List ℕ → Type 0
 IsOf k old new = (k.old.items ≡ old) × (k.new.items ≡ new)
 
--- what is found is right of the rows of the blocks
+-- the outcome is right for the rows of the blocks
 abbrev pub IsRight : Pair → Comparison → Type 0
 IsRight p k = IsCompared (chosen p.old.blocks.items k.old.items) (chosen p.new.blocks.items k.new.items) k.found
 
--- what is right of some rows is right of them after it was copied
+-- the copy of an outcome is right for the same rows
 abbrev pub IsCopy : Compared → Compared → Type 0
 IsCopy f g = (ds es : List Decider) → IsCompared ds es f → IsCompared ds es g
