@@ -44,7 +44,7 @@ near-fits (k ∷ changed) d c x e fits =
     by rest false is true apart e = ap (λ v. not v || is_near changed d) apart ∙ rest e
 
 -- of items that include all that pass, the last that passes is the same
-last-kept : {X : Type 0} (f g : X → Bool) → ((x : X) → f x ≡ true → g x ≡ true) → (xs : List X) →
+pub last-kept : {X : Type 0} (f g : X → Bool) → ((x : X) → f x ≡ true → g x ≡ true) → (xs : List X) →
     last_that f (filter g xs) ≡ last_that f xs
 last-kept f g keeps [] = refl
 last-kept f g keeps (x ∷ xs) = by (last-kept f g keeps xs) (f x) refl (g x) refl

@@ -67,10 +67,10 @@ or-false : (b : Bool) → (b || false) ≡ b
 or-false true = refl
 or-false false = refl
 
-single : (x y : ℕ) → list_any (λ u. u == y) (x ∷ []) ≡ (x == y)
+pub single : (x y : ℕ) → list_any (λ u. u == y) (x ∷ []) ≡ (x == y)
 single x y = or-false (x == y)
 
-same-self : (n : ℕ) → (n == n) ≡ true
+pub same-self : (n : ℕ) → (n == n) ≡ true
 same-self n = grind arith
 
 abbrev at-host : ℕ → Cell → Cell
@@ -184,10 +184,10 @@ same-there p s k a rows same =
     rows_say_same old new (question_of p s a) (moved-there p s k a rows compared.Same there)
 
 -- the rows of one spot, moved to another with the same near rows
-pub moved-on : (p : Pair) (s k : Spot) (asks : List Ask) (rows moved : List Row) → IsSpot p s → IsSpot p k → s.user ≡ k.user →
-    HaveSameRows p s k → Progress p [] rows (IsOn k.user k.host asks) → All (IsOfSpot k.user k.host) rows →
-    AreMoved s.host rows moved → Progress p [] moved (IsOn s.user s.host asks)
-moved-on p s k asks rows moved at from own same so_far of_spot are = record {
+pub moved-on : (p : Pair) (s k : Spot) (asked : Ask → Type 0) (rows moved : List Row) → IsSpot p s → IsSpot p k → s.user ≡ k.user →
+    HaveSameRows p s k → Progress p [] rows (IsOn k.user k.host asked) → All (IsOfSpot k.user k.host) rows →
+    AreMoved s.host rows moved → Progress p [] moved (IsOn s.user s.host asked)
+moved-on p s k asked rows moved at from own same so_far of_spot are = record {
   kept = λ c f e. absurd e;
   right = λ right c g e. found c g (finds-moved k.user k.host s.host rows moved are of_spot c g e);
   done = λ c on. finish c on (so_far.done (at-host k.host c) (on.0 ∙ own, refl, on.2));
@@ -212,7 +212,7 @@ moved-on p s k asks rows moved at from own same so_far of_spot are = record {
         (sym (asked-at s c at (was.0 ∙ sym own) was.1))
         (was.2.2 (deciders p.old.checked.now (question_of p s c.ask)) (deciders p.new.checked.now (question_of p s c.ask)) here)
 
-    finish : (c : Cell) → IsOn s.user s.host asks c →
+    finish : (c : Cell) → IsOn s.user s.host asked c →
         IsDone p.old.checked.now p.new.checked.now p.directory.now p.groups.now rows (at-host k.host c) →
         IsDone p.old.checked.now p.new.checked.now p.directory.now p.groups.now moved c
     finish c on (inl says) =

@@ -23,8 +23,8 @@ use Rattle.review_compare.proofs.UnchangedLemmas.{less-or}
 use Rattle.review_compare.specs.Cells.{SaySame, deciders}
 use Rattle.review_compare.specs.Witnesses.{IsCompared}
 use Rattle.review_compare.proofs.CellLemmas.{rows_say_same}
-use Rattle.review_compare.specs.Body.Merged.{same_cell, same_numbers, Absorbs, AbsorbsAll}
-use Rattle.review_compare.specs.Body.Progress.{Progress, AddsFound, IsSpot, IsOn, IsOnAsked, IsBefore, IsForAsked, IsForUser}
+use Rattle.review_compare.specs.Body.Merged.{same_numbers, AbsorbsAll}
+use Rattle.review_compare.specs.Body.Progress.{Progress, IsSpot, IsOn, IsOnAsked, IsOnEach, IsBefore, IsForAsked, IsForUser}
 use Rattle.review_compare.specs.Body.Progress.{IsUserBefore}
 use Rattle.review_compare.specs.Body.Progress.{AreLeft, AreLeftForAll, AreLeftUnless, IsAsked, SayAllSame, ask_of, cell_at, question_of}
 
@@ -41,7 +41,7 @@ numbers-more n =
 
 -- ---- Cells that are the same
 
-numbers-same : (a b : Option ℕ) → same_number a b ≡ true → a ≡ b
+pub numbers-same : (a b : Option ℕ) → same_number a b ≡ true → a ≡ b
 numbers-same None None e = refl
 numbers-same None (Some j) e = cc
 numbers-same (Some i) None e = cc
@@ -54,46 +54,6 @@ lists-same (x ∷ xs) [] e = cc
 lists-same (x ∷ xs) (y ∷ ys) e =
     let both = and_parts (same_number x y) (same_numbers xs ys) e in
     ap (λ (v : Option ℕ). v ∷ xs) (numbers-same x y both.0) ∙ ap (λ (vs : List (Option ℕ)). y ∷ vs) (lists-same xs ys both.1)
-
-pub cells-same : (c d : Cell) → same_cell c d ≡ true → d ≡ c
-cells-same c d e =
-    let both = and_parts ((c.user == d.user) && (c.host == d.host))
-    (same_number d.ask.target c.ask.target && same_number d.ask.group c.ask.group) e in
-    let first = and_parts (c.user == d.user) (c.host == d.host) both.0 in
-    let second = and_parts (same_number d.ask.target c.ask.target) (same_number d.ask.group c.ask.group) both.1 in
-    let u : d.user ≡ c.user = sym (eqb-true c.user d.user first.0) in
-    let m : d.host ≡ c.host = sym (eqb-true c.host d.host first.1) in
-    let t = numbers-same d.ask.target c.ask.target second.0 in
-    let g = numbers-same d.ask.group c.ask.group second.1 in
-    rw (u, m, t, g) refl
-
-same-refl : (c : Cell) → same_cell c c ≡ true
-same-refl c = go c.user c.host c.ask.target c.ask.group
-  where
-    number : (n : ℕ) → (n == n) ≡ true
-    number n = grind arith
-
-    option : (o : Option ℕ) → same_number o o ≡ true
-    option None = refl
-    option (Some n) = number n
-
-    go : (u m : ℕ) (t g : Option ℕ) → (((u == u) && (m == m)) && (same_number t t && same_number g g)) ≡ true
-    go u m t g = rw (number u, number m, option t, option g) refl
-
--- one row, of the cell, is absorbed
-pub adds-row : (old new : List Row) (cell : Cell) (row : Row) (found : Compared) → row.found ≡ found → ((c : Cell) →
-    has_cell row c ≡ same_cell cell c) →
-    Absorbs old row new → AddsFound old cell found new
-adds-row old new cell row found is has absorbs = record {
-  kept = absorbs.kept;
-  added = rw (sym is) (absorbs.added cell (has cell ∙ same-refl cell));
-  only = λ c f e. go c f (absorbs.only c f e);
-}
-  where
-    go : (c : Cell) (f : Compared) → Finds old c f ⊎ ((has_cell row c ≡ true) × (row.found ≡ f)) →
-        Finds old c f ⊎ ((same_cell cell c ≡ true) × (found ≡ f))
-    go c f (inl e) = inl e
-    go c f (inr e) = inr (sym (has c) ∙ e.0, sym is ∙ e.1)
 
 -- ---- Progress
 
@@ -131,21 +91,6 @@ nothing-added p rows P same = record {
   done = λ c at. inl (same c at);
 }
 
--- what is right of a cell is added
-pub one-added : (p : Pair) (rows new : List Row) (cell : Cell) (found : Compared) → AddsFound rows cell found new →
-    IsFound p.old.checked.now p.new.checked.now p.directory.now p.groups.now cell found → Progress p rows new (λ c. c ≡ cell)
-one-added p rows new cell found adds is = record {
-  kept = adds.kept;
-  right = λ right c f e. go right c f (adds.only c f e);
-  done = λ c at. rw at (inr (found, adds.added));
-}
-  where
-    go : ((c : Cell) (f : Compared) → Finds rows c f → IsFound p.old.checked.now p.new.checked.now p.directory.now p.groups.now c f) →
-        (c : Cell) (f : Compared) → Finds rows c f ⊎ ((same_cell cell c ≡ true) × (found ≡ f)) →
-        IsFound p.old.checked.now p.new.checked.now p.directory.now p.groups.now c f
-    go right c f (inl e) = right c f e
-    go right c f (inr e) = rw (cells-same cell c e.0, sym e.1) is
-
 -- ---- Spots
 
 pub spot-question : (p : Pair) (s : Spot) (a : Ask) → IsSpot p s →
@@ -153,42 +98,6 @@ pub spot-question : (p : Pair) (s : Spot) (a : Ask) → IsSpot p s →
 spot-question p s a at =
     ap (λ (u : Option Person). question_if p.directory.now p.groups.now a u (slice_get p.directory.now.machines s.host)) at.0
     ∙ ap (λ (m : Option Machine). question_if p.directory.now p.groups.now a (Some s.person.now) m) at.1
-
--- both policies say the same at the spot
-pub spot-same : (p : Pair) (rows : List Row) (s : Spot) (a : Ask) (f : Compared) → IsSpot p s →
-    IsCompared (deciders p.old.checked.now (question_of p s a)) (deciders p.new.checked.now (question_of p s a)) f → f ≡ compared.Same →
-    Progress p rows rows (λ c. c ≡ cell_at s a)
-spot-same p rows s a f at is same =
-    let q = question_of p s a in
-    let nothing : IsCompared (deciders p.old.checked.now q) (deciders p.new.checked.now q) compared.Same = subst (λ g. IsCompared
-    (deciders p.old.checked.now q) (deciders p.new.checked.now q) g) same is in
-    let says : SaySame p.old.checked.now p.new.checked.now q = rows_say_same p.old.checked.now p.new.checked.now q nothing in
-    nothing-added p rows (λ c. c ≡ cell_at s a)
-    (λ c here. rw (here, spot-question p s a at) says)
-
--- what is found at the spot is right there
-pub spot-found : (p : Pair) (rows new : List Row) (s : Spot) (a : Ask) (f : Compared) → IsSpot p s →
-    IsCompared (deciders p.old.checked.now (question_of p s a)) (deciders p.new.checked.now (question_of p s a)) f →
-    AddsFound rows (cell_at s a) f new → Progress p rows new (λ c. c ≡ cell_at s a)
-spot-found p rows new s a f at is adds = one-added p rows new (cell_at s a) f adds (rw (spot-question p s a at) is)
-
--- one ask more
-pub ask-more : (p : Pair) (rows new : List Row) (s : Spot) (asks : List Ask) (k : ℕ) → k < length asks →
-    (a : Ask) → a ≡ get_or asks k a →
-    Progress p [] rows (IsOn s.user s.host (take k asks)) → Progress p rows new (λ c. c ≡ cell_at s a) →
-    Progress p [] new (IsOn s.user s.host (take (k + 1) asks))
-ask-more p rows new s asks k less a is so_far one =
-    went-on p [] rows new (IsOn s.user s.host (take k asks)) (λ c. c ≡ cell_at s a) (IsOn s.user s.host (take
-    (k + 1) asks)) either so_far one
-  where
-    split : (c : Cell) → c.user ≡ s.user → c.host ≡ s.host → Contains (take k asks) c.ask ⊎ (a ≡ c.ask) →
-        IsOn s.user s.host (take k asks) c ⊎ (c ≡ cell_at s a)
-    split c u m (inl there) = inl (u, m, there)
-    split c u m (inr here) = inr (rw (sym u, sym m, here) refl)
-
-    either : (c : Cell) → IsOn s.user s.host (take (k + 1) asks) c → IsOn s.user s.host (take k asks) c ⊎ (c ≡ cell_at s a)
-    either c on = split c on.0 on.1
-        (Contains-push_cases (take k asks) a c.ask (subst (λ (xs : List Ask). Contains xs c.ask) (take-more asks k a less is) on.2))
 
 -- rows of their own are absorbed
 pub all-added : (p : Pair) (rows more new : List Row) (P : Cell → Type 0) → Progress p [] more P → AbsorbsAll rows more new →
@@ -213,11 +122,11 @@ there-of t (x ∷ xs) zero none e = omega arith
 there-of t (x ∷ xs) (suc i) none e = let more = there-of t xs i none e in omega (arith, more)
 
 -- a host that is not asked about has no cells
-pub other-host : (p : Pair) (rows : List Row) (s : Spot) (scope : Option Machine) (asks : List Ask) → IsSpot p s →
+pub other-host : (p : Pair) (rows : List Row) (s : Spot) (scope : Option Machine) (asked : Ask → Type 0) → IsSpot p s →
     is_this_host scope s.machine.now ≡ false →
-    Progress p rows rows (IsOnAsked p scope s.user s.host asks)
-other-host p rows s scope asks at other =
-    started p rows (IsOnAsked p scope s.user s.host asks)
+    Progress p rows rows (IsOnAsked p scope s.user s.host asked)
+other-host p rows s scope asked at other =
+    started p rows (IsOnAsked p scope s.user s.host asked)
     (λ c on. no c on.0.1 on.1)
   where
     no : (c : Cell) → c.host ≡ s.host → is_host_if scope (slice_get p.directory.now.machines c.host) ≡ true → ⊥
@@ -226,38 +135,59 @@ other-host p rows s scope asks at other =
         ap (λ i. is_host_if scope (slice_get p.directory.now.machines i)) is ∙ ap (is_host_if scope) at.1 ∙ other in
         let bad : true ≡ false = sym yes1 ∙ here in cc
 
-pub on-host : (p : Pair) (rows new : List Row) (s : Spot) (scope : Option Machine) (asks : List Ask) →
-    Progress p rows new (IsOn s.user s.host asks) → Progress p rows new (IsOnAsked p scope s.user s.host asks)
-on-host p rows new s scope asks on = record { kept = on.kept; right = on.right; done = λ c at. on.done c at.0 }
+pub on-host : (p : Pair) (rows new : List Row) (s : Spot) (scope : Option Machine) (asked : Ask → Type 0) →
+    Progress p rows new (IsOn s.user s.host asked) → Progress p rows new (IsOnAsked p scope s.user s.host asked)
+on-host p rows new s scope asked on = record { kept = on.kept; right = on.right; done = λ c at. on.done c at.0 }
 
-pub host-more : (p : Pair) (rows new : List Row) (user host : ℕ) (scope : Option Machine) (asks : List Ask) →
-    Progress p [] rows (IsBefore p scope user host asks) → Progress p rows new (IsOnAsked p scope user host asks) →
-    Progress p [] new (IsBefore p scope user (host + 1) asks)
-host-more p rows new user host scope asks so_far one =
-    went-on p [] rows new (IsBefore p scope user host asks) (IsOnAsked p scope user host asks) (IsBefore p scope user (host + 1) asks)
+pub host-more : (p : Pair) (rows new : List Row) (user host : ℕ) (scope : Option Machine) (asked : Ask → Type 0) →
+    Progress p [] rows (IsBefore p scope user host asked) → Progress p rows new (IsOnAsked p scope user host asked) →
+    Progress p [] new (IsBefore p scope user (host + 1) asked)
+host-more p rows new user host scope asked so_far one =
+    went-on p [] rows new (IsBefore p scope user host asked) (IsOnAsked p scope user host asked) (IsBefore p scope user (host + 1) asked)
     (λ c at. go c at (less-or c.host host at.1)) so_far one
   where
-    go : (c : Cell) → IsBefore p scope user (host + 1) asks c → (c.host < host) ⊎ (c.host ≡ host) →
-        IsBefore p scope user host asks c ⊎ IsOnAsked p scope user host asks c
+    go : (c : Cell) → IsBefore p scope user (host + 1) asked c → (c.host < host) ⊎ (c.host ≡ host) →
+        IsBefore p scope user host asked c ⊎ IsOnAsked p scope user host asked c
     go c at (inl less) = inl (at.0, less, at.2, at.3)
     go c at (inr is) = inr ((at.0, is, at.2), at.3)
 
-pub hosts-none : (p : Pair) (scope : Option Machine) (user : ℕ) (asks : List Ask) → Progress p [] [] (IsBefore p scope user 0 asks)
-hosts-none p scope user asks = started p [] (IsBefore p scope user 0 asks) (λ c at. omega (arith, at.1))
+pub hosts-none : (p : Pair) (scope : Option Machine) (user : ℕ) (asked : Ask → Type 0) → Progress p [] [] (IsBefore p scope user 0 asked)
+hosts-none p scope user asked = started p [] (IsBefore p scope user 0 asked) (λ c at. omega (arith, at.1))
 
-pub hosts-all : (p : Pair) (rows : List Row) (scope : Option Machine) (user n : ℕ) (asks : List Ask) → length p.directory.now.machines ≤ n →
-    Progress p [] rows (IsBefore p scope user n asks) → Progress p [] rows (IsForAsked p scope user asks)
-hosts-all p rows scope user n asks all so_far = record {
+pub hosts-all : (p : Pair) (rows : List Row) (scope : Option Machine) (user n : ℕ) (asked : Ask → Type 0) → length p.directory.now.machines ≤ n →
+    Progress p [] rows (IsBefore p scope user n asked) → Progress p [] rows (IsOnEach p scope user asked)
+hosts-all p rows scope user n asked all so_far = record {
   kept = so_far.kept;
   right = so_far.right;
   done = λ c at. so_far.done c (
-    at.own,
-    (let less = there-of (is_host_if scope) p.directory.now.machines c.host refl at.on in omega
+    at.0,
+    (let less = there-of (is_host_if scope) p.directory.now.machines c.host refl at.2 in omega
         (arith, less, all)),
-    at.asked,
-    at.on,
+    at.1,
+    at.2,
   );
 }
+
+-- the asks that are in the classes are all
+pub each-asked : (p : Pair) (rows : List Row) (scope : Option Machine) (user : ℕ) (asked : Ask → Type 0) (asks : List Ask) →
+    ((a : Ask) → Contains asks a → asked a) → Progress p [] rows (IsOnEach p scope user asked) →
+    Progress p [] rows (IsForAsked p scope user asks)
+each-asked p rows scope user asked asks all so_far = record {
+  kept = so_far.kept;
+  right = so_far.right;
+  done = λ c at. so_far.done c (at.own, all c.ask at.asked, at.on);
+}
+
+pub first-none : {X : Type 0} (xs : List X) → slice_get xs 0 ≡ None → length xs ≡ 0
+first-none [] e = refl
+first-none (x ∷ xs) e = cc
+
+-- without known hosts there are no cells
+pub no-hosts : (p : Pair) (scope : Option Machine) (user : ℕ) (asks : List Ask) → length p.directory.now.machines ≡ 0 →
+    Progress p [] [] (IsForAsked p scope user asks)
+no-hosts p scope user asks none =
+    started p [] (IsForAsked p scope user asks)
+    (λ c at. let less = there-of (is_host_if scope) p.directory.now.machines c.host refl at.on in omega (arith, less, none))
 
 -- ---- Users
 
@@ -344,11 +274,11 @@ same-for-user p rows user u about scope asks there same =
         (known_at p.groups.now c.ask.group)) refl)
 
 -- both policies say the same to the user on the host
-pub same-on-host : (p : Pair) (rows : List Row) (s : Spot) (scope : Option Machine) (asks : List Ask) → IsSpot p s →
+pub same-on-host : (p : Pair) (rows : List Row) (s : Spot) (scope : Option Machine) (asked : Ask → Type 0) → IsSpot p s →
     ((q : Question) → q.user ≡ s.person.now → q.host ≡ s.machine.now → SaySame p.old.checked.now p.new.checked.now q) →
-    Progress p rows rows (IsOnAsked p scope s.user s.host asks)
-same-on-host p rows s scope asks at same =
-    nothing-added p rows (IsOnAsked p scope s.user s.host asks) (λ c on. here c on.0.0 on.0.1)
+    Progress p rows rows (IsOnAsked p scope s.user s.host asked)
+same-on-host p rows s scope asked at same =
+    nothing-added p rows (IsOnAsked p scope s.user s.host asked) (λ c on. here c on.0.0 on.0.1)
   where
     here : (c : Cell) → c.user ≡ s.user → c.host ≡ s.host →
         SameIf p.old.checked.now p.new.checked.now (question_at p.directory.now p.groups.now c)

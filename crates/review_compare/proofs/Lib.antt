@@ -15,3 +15,7 @@ pub mod UnchangedLemmas
 pub mod ClassLemmas
 pub mod ChangedLemmas
 pub mod NearLemmas
+pub mod FittingLemmas
+pub mod AskLemmas
+pub mod SpotLemmas
+pub mod SameRunasLemmas

@@ -10,3 +10,6 @@ pub mod Comparisons
 pub mod Classes
 pub mod ChangedRows
 pub mod Near
+pub mod Fitting
+pub mod AskClasses
+pub mod SameRunas

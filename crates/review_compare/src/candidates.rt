@@ -14,8 +14,8 @@ pub(crate) struct Candidate {
     pub(crate) arguments: Vec<u8>,
 }
 
-// The texts that stand in place of a star.
-const FILLS: [&[u8]; 2] = [b"", b"x"];
+/// The texts that stand in place of a star.
+pub(crate) const FILLS: [&[u8]; 2] = [b"", b"x"];
 
 // The most texts of arguments that are tried with the paths of other rows.
 const MOST_ARGUMENTS: usize = 32;
@@ -98,30 +98,53 @@ fn arguments_filled(
     }
 }
 
-// Appends a command with its arguments.
-fn push_candidate(
-    texts: &mut Vec<Candidate>,
-    command: Vec<u8>,
-    arguments: Vec<u8>,
-) -> Result<(), AllocError> {
-    texts.push(Candidate { command, arguments })?;
-    Ok(())
+/// Returns the command with arguments that the command of a policy fits, with this in place of each star. Returns `AllocError` if
+/// allocation fails.
+pub(crate) fn own_candidate(
+    alloc: Global,
+    shape: &Shape,
+    fill: &[u8],
+) -> Result<Candidate, AllocError> {
+    match &shape.atom {
+        Atom::Command { args, .. } => Ok(Candidate {
+            command: filled(alloc, shape.path(), fill)?,
+            arguments: arguments_filled(alloc, args, fill)?,
+        }),
+        _ => Ok(Candidate {
+            command: Vec::from_slice(alloc, b"/bin/sh")?,
+            arguments: Vec::from_slice(alloc, fill)?,
+        }),
+    }
 }
 
-// Appends commands with arguments that the command of a policy fits.
-fn push_own(alloc: Global, shape: &Shape, texts: &mut Vec<Candidate>) -> Result<(), AllocError> {
-    for fill in &FILLS {
-        let (command, arguments) = match &shape.atom {
-            Atom::Command { args, .. } => (
-                filled(alloc, shape.path(), fill)?,
-                arguments_filled(alloc, args, fill)?,
-            ),
-            _ => (
-                Vec::from_slice(alloc, b"/bin/sh")?,
-                Vec::from_slice(alloc, fill)?,
-            ),
-        };
-        push_candidate(texts, command, arguments)?;
+/// Returns a command by a path that the command of a policy fits, with an `x` in place of each star. Returns `AllocError` if
+/// allocation fails.
+pub(crate) fn own_path(alloc: Global, shape: &Shape) -> Result<Vec<u8>, AllocError> {
+    filled(alloc, shape.path(), b"x")
+}
+
+/// Returns a command that few patterns fit. Returns `AllocError` if allocation fails.
+pub(crate) fn rare_candidate(alloc: Global) -> Result<Candidate, AllocError> {
+    Ok(Candidate {
+        command: Vec::from_slice(alloc, b"/x")?,
+        arguments: Vec::new(alloc),
+    })
+}
+
+// Whether the text is among the others.
+fn has_text(texts: &[Vec<u8>], text: &[u8]) -> bool {
+    for other in texts {
+        if other.as_slice() == text {
+            return true;
+        }
+    }
+    false
+}
+
+// Appends the text, if it is none of the others and these are not too many.
+fn push_text(texts: &mut Vec<Vec<u8>>, text: Vec<u8>) -> Result<(), AllocError> {
+    if texts.len() < MOST_ARGUMENTS && !has_text(texts, &text) {
+        texts.push(text)?;
     }
     Ok(())
 }
@@ -134,7 +157,8 @@ fn push_given(alloc: Global, shape: &Shape, given: &mut Vec<Vec<u8>>) -> Result<
             ..
         } => {
             for fill in &FILLS {
-                given.push(filled(alloc, chars.as_slice(), fill)?)?;
+                let text = filled(alloc, chars.as_slice(), fill)?;
+                push_text(given, text)?;
             }
             Ok(())
         }
@@ -142,8 +166,9 @@ fn push_given(alloc: Global, shape: &Shape, given: &mut Vec<Vec<u8>>) -> Result<
     }
 }
 
-// Returns texts of the arguments of the rows.
-fn given_texts(
+/// Returns different texts of the arguments of the rows, those of the new policy first: at most 32. Returns `AllocError` if
+/// allocation fails.
+pub(crate) fn given_texts(
     alloc: Global,
     old: &[Ruled<'_>],
     new: &[Ruled<'_>],
@@ -155,52 +180,5 @@ fn given_texts(
     for row in old {
         push_given(alloc, row.shape, &mut given)?;
     }
-    given.truncate(MOST_ARGUMENTS);
     Ok(given)
-}
-
-// Appends the command with each of these arguments.
-fn push_with_each(
-    alloc: Global,
-    shape: &Shape,
-    given: &[Vec<u8>],
-    texts: &mut Vec<Candidate>,
-) -> Result<(), AllocError> {
-    for arguments in given {
-        let command = filled(alloc, shape.path(), b"x")?;
-        let arguments = Vec::from_slice(alloc, arguments.as_slice())?;
-        push_candidate(texts, command, arguments)?;
-    }
-    Ok(())
-}
-
-// Appends the commands that are tried for some rows.
-fn push_all(
-    alloc: Global,
-    rows: &[Ruled<'_>],
-    given: &[Vec<u8>],
-    texts: &mut Vec<Candidate>,
-) -> Result<(), AllocError> {
-    for row in rows {
-        push_own(alloc, row.shape, texts)?;
-    }
-    for row in rows {
-        push_with_each(alloc, row.shape, given, texts)?;
-    }
-    Ok(())
-}
-
-/// Returns commands that the rows may answer otherwise: those of the new policy first. Of each pattern the stars are left
-/// out, or stand for an `x`; and each path is tried with arguments of other rows. Returns `AllocError` if allocation fails.
-pub(crate) fn candidates(
-    alloc: Global,
-    old: &[Ruled<'_>],
-    new: &[Ruled<'_>],
-) -> Result<Vec<Candidate>, AllocError> {
-    let given = given_texts(alloc, old, new)?;
-    let mut texts = Vec::new(alloc);
-    push_all(alloc, new, &given, &mut texts)?;
-    push_all(alloc, old, &given, &mut texts)?;
-    push_candidate(&mut texts, Vec::from_slice(alloc, b"/x")?, Vec::new(alloc))?;
-    Ok(texts)
 }

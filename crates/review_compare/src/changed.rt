@@ -16,7 +16,7 @@ use sudo_match::command_matches;
 pub(crate) struct Changed<'r, 'a> {
     pub(crate) all_old: &'r [Ruled<'a>],
     pub(crate) all_new: &'r [Ruled<'a>],
-    rows: Vec<Ruled<'a>>,
+    pub(crate) rows: Vec<Ruled<'a>>,
     pub(crate) old: Vec<Ruled<'a>>,
     pub(crate) new: Vec<Ruled<'a>>,
     ghost are_changed: { body.AreChanged (all_shown all_old.now) (all_shown all_new.now)

@@ -133,8 +133,9 @@ fn are_parts_alike(
     are_runas_alike(alloc, old, &runas.groups, new, &other.groups)
 }
 
-// Whether the runas of two blocks allow the same targets and groups, by their lists written out.
-fn allow_alike(
+/// Whether the runas of two blocks allow the same targets and groups, by their lists written out. Returns `AllocError` if
+/// allocation fails.
+pub(crate) fn allow_alike(
     alloc: Global,
     old: &Checked,
     runas: Option<&Runas>,

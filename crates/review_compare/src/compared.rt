@@ -5,10 +5,10 @@ ghost use Rattle.review_compare.specs.Cells.{Decider as TheDecider};
 ghost use Rattle.review_compare.specs.Witnesses as witnesses;
 
 use crate::alike::is_same_atom;
-use crate::answer::{Answer, is_same_answer};
-use crate::candidates::{Candidate, candidates};
+use crate::answer::is_same_answer;
 use crate::changed::Changed;
 use crate::ruling::{Overlap, Ruled, first_overlap};
+use crate::trials::witnesses;
 use crate::witness::Witness;
 use std::alloc::{AllocError, Global};
 use sudo_grammar::Atom;
@@ -66,58 +66,6 @@ fn may(overlap: Overlap<'_>) -> Result<Compared, AllocError>
 
 // The most rows of a policy that are compared pair by pair.
 const MOST_ROWS: usize = 1000;
-
-// Whether one of the witnesses has this answer.
-fn has_answer(found: &[Witness], answer: Answer) -> bool {
-    found.iter().any(|witness| witness.answer == answer)
-}
-
-// Appends the witness, unless one of the same answer is there.
-fn push_witness(
-    changed: &Changed<'_, '_>,
-    witness: Witness,
-    found: &mut Vec<Witness>,
-) -> Result<(), AllocError>
-    requires { body.IsShownWitness changed.now.all_old.now changed.now.all_new.now witness }
-    ensures { OnOk result (All (body.IsShownWitness changed.now.all_old.now
-        changed.now.all_new.now) found.old.items → All (body.IsShownWitness
-        changed.now.all_old.now changed.now.all_new.now) found.new.items) }
-{
-    if !has_answer(found, witness.answer) {
-        found.push(witness)?;
-    }
-    Ok(())
-}
-
-// Appends the command as a witness, if it is one and none of the same answer is there.
-fn push_tried(
-    alloc: Global,
-    changed: &Changed<'_, '_>,
-    text: &Candidate,
-    found: &mut Vec<Witness>,
-) -> Result<(), AllocError>
-    ensures { OnOk result (All (body.IsShownWitness changed.now.all_old.now
-        changed.now.all_new.now) found.old.items → All (body.IsShownWitness
-        changed.now.all_old.now changed.now.all_new.now) found.new.items) }
-{
-    match changed.witness(alloc, text)? {
-        Some(witness) => push_witness(changed, witness, found),
-        None => Ok(()),
-    }
-}
-
-// Returns commands that are answered otherwise: at most one for each answer.
-fn witnesses(alloc: Global, changed: &Changed<'_, '_>) -> Result<Vec<Witness>, AllocError>
-    ensures { IfOk result (λ found. All (body.IsShownWitness changed.now.all_old.now
-        changed.now.all_new.now) found.items) }
-{
-    let texts = candidates(alloc, &changed.old, &changed.new)?;
-    let mut found = Vec::new(alloc);
-    for text in &texts {
-        push_tried(alloc, changed, text, &mut found)?;
-    }
-    Ok(found)
-}
 
 /// Whether two rows answer the same to the same commands.
 pub(crate) fn is_same_ruling(row: &Ruled<'_>, other: &Ruled<'_>) -> bool

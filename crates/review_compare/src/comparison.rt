@@ -43,9 +43,11 @@ fn index_of(comparisons: &[Comparison], old: &[usize], new: &[usize]) -> Option<
     ensures { IfSome result (λ i. (i < length comparisons.now) × ((d : TheComparison)
         → body.IsOf (get_or comparisons.now i d) old.now new.now)) }
 {
-    for index in 0..comparisons.len() {
-        if comparisons[index].is_of(old, new) {
-            return Some(index);
+    let mut end = comparisons.len();
+    while end > 0 {
+        end -= 1;
+        if comparisons[end].is_of(old, new) {
+            return Some(end);
         }
     }
     None

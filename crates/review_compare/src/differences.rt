@@ -1,11 +1,15 @@
 //! The differences of two policies, cell by cell.
 ghost use Rattle.std.specs.Prelude.{◌≡◌, ◌++◌, ◌∷◌, [], All, if◌then◌else◌, IfOk, OnOk, Some, option_copied, slice_get};
 ghost use Rattle.review_compare.specs.Differences as differences;
+ghost use Rattle.review_compare.specs.Body.AskClasses.{HaveAsk, IsAskClass};
 ghost use Rattle.review_compare.specs.Body.Classes.{IsClass};
+ghost use Rattle.review_compare.specs.Body.Comparisons.{IsRight};
 ghost use Rattle.review_compare.specs.Body.Progress as body;
 
+use crate::ask_class::{AskClass, ask_classes};
 use crate::asks::all_asks;
 use crate::cell::Ask;
+use crate::comparison::Comparison;
 use crate::host_class::{HostClass, add_spot};
 use crate::pair::Pair;
 use crate::row::{Dimension, Row, absorb_all};
@@ -70,19 +74,23 @@ fn add_host<'a>(
     spot: Spot<'a>,
     scope: Option<&Machine>,
     listed: &Listed,
-    asks: &[Ask],
+    asked: &[AskClass],
     classes: &mut Vec<HostClass<'a>>,
+    comparisons: &mut Vec<Comparison>,
     rows: &mut Vec<Row>,
 ) -> Result<(), AllocError>
     requires spot { body.IsSpot pair.now spot }
     requires listed { body.AreListedFor pair.now spot.person.now listed.now }
-    requires classes { All (IsClass pair.now spot.user spot.person.now asks.now)
+    requires asked { All (IsAskClass pair.now spot.person.now) asked.now }
+    requires classes { All (IsClass pair.now spot.user spot.person.now (HaveAsk asked.now))
         classes.old.items }
+    requires right { All (IsRight pair.now) comparisons.old.items }
     ensures added { OnOk result (body.Progress pair.entry.now rows.old.items rows.new.items
         (body.IsOnAsked pair.entry.now (option_copied scope.entry) spot.entry.user
-        spot.entry.host asks.entry.now)) }
+        spot.entry.host (HaveAsk asked.entry.now))) }
     ensures classes { OnOk result (All (IsClass pair.entry.now spot.entry.user
-        spot.entry.person.now asks.entry.now) classes.new.items) }
+        spot.entry.person.now (HaveAsk asked.entry.now)) classes.new.items) }
+    ensures right { OnOk result (All (IsRight pair.entry.now) comparisons.new.items) }
 {
     if !is_this_host(scope, spot.machine) {
         return Ok(());
@@ -91,7 +99,7 @@ fn add_host<'a>(
         return Ok(());
     }
     let on = listed_on(alloc, pair, spot, listed)?;
-    add_spot(alloc, pair, spot, on, asks, classes, rows)
+    add_spot(alloc, pair, spot, on, asked, classes, comparisons, rows)
 }
 
 // Appends an ask, if it is kept.
@@ -123,19 +131,25 @@ fn asks_left(
 }
 
 // Returns what is found for the user on the hosts that are asked about, where this is asked.
-fn rows_for_asks(
+fn rows_for_asked(
     alloc: Global,
     pair: &Pair<'_>,
     user: usize,
     person: &Person,
     scope: Option<&Machine>,
-    asks: &[Ask],
+    listed: &Listed,
+    asked: &[AskClass],
+    comparisons: &mut Vec<Comparison>,
 ) -> Result<Vec<Row>, AllocError>
-    requires { slice_get pair.now.directory.now.people user ≡ Some person.now }
-    ensures { IfOk result (λ rows. body.Progress pair.now [] rows.items
-        (body.IsForAsked pair.now (option_copied scope.entry) user asks.now)) }
+    requires user { slice_get pair.now.directory.now.people user ≡ Some person.now }
+    requires listed { body.AreListedFor pair.now person.now listed.now }
+    requires asked { All (IsAskClass pair.now person.now) asked.now }
+    requires right { All (IsRight pair.now) comparisons.old.items }
+    ensures all { IfOk result (λ rows. body.Progress pair.entry.now [] rows.items
+        (body.IsOnEach pair.entry.now (option_copied scope.entry) user
+        (HaveAsk asked.entry.now))) }
+    ensures right { OnOk result (All (IsRight pair.entry.now) comparisons.new.items) }
 {
-    let listed = listed_for(alloc, pair, person)?;
     let mut classes = Vec::new(alloc);
     let mut rows = Vec::new(alloc);
     let machines = pair.directory.machines();
@@ -151,13 +165,46 @@ fn rows_for_asks(
             pair,
             spot,
             scope,
-            &listed,
-            asks,
+            listed,
+            asked,
             &mut classes,
+            comparisons,
             &mut rows,
         )?;
     }
     Ok(rows)
+}
+
+// Returns what is found for the user on the hosts that are asked about. The host is any known one.
+fn rows_beside(
+    alloc: Global,
+    pair: &Pair<'_>,
+    user: usize,
+    person: &Person,
+    machine: &Machine,
+    scope: Option<&Machine>,
+    asks: &[Ask],
+    comparisons: &mut Vec<Comparison>,
+) -> Result<Vec<Row>, AllocError>
+    requires user { slice_get pair.now.directory.now.people user ≡ Some person.now }
+    requires right { All (IsRight pair.now) comparisons.old.items }
+    ensures all { IfOk result (λ rows. body.Progress pair.entry.now [] rows.items
+        (body.IsForAsked pair.entry.now (option_copied scope.entry) user asks.entry.now)) }
+    ensures right { OnOk result (All (IsRight pair.entry.now) comparisons.new.items) }
+{
+    let left = asks_left(alloc, pair, person, machine, asks)?;
+    let listed = listed_for(alloc, pair, person)?;
+    let asked = ask_classes(alloc, pair, person, machine, &listed, &left)?;
+    rows_for_asked(
+        alloc,
+        pair,
+        user,
+        person,
+        scope,
+        &listed,
+        &asked,
+        comparisons,
+    )
 }
 
 // Returns what is found for the user on the hosts that are asked about.
@@ -168,16 +215,18 @@ fn rows_for(
     person: &Person,
     scope: Option<&Machine>,
     asks: &[Ask],
+    comparisons: &mut Vec<Comparison>,
 ) -> Result<Vec<Row>, AllocError>
-    requires { slice_get pair.now.directory.now.people user ≡ Some person.now }
-    ensures { IfOk result (λ rows. body.Progress pair.now [] rows.items
-        (body.IsForAsked pair.now (option_copied scope.entry) user asks.now)) }
+    requires user { slice_get pair.now.directory.now.people user ≡ Some person.now }
+    requires right { All (IsRight pair.now) comparisons.old.items }
+    ensures all { IfOk result (λ rows. body.Progress pair.entry.now [] rows.items
+        (body.IsForAsked pair.entry.now (option_copied scope.entry) user asks.entry.now)) }
+    ensures right { OnOk result (All (IsRight pair.entry.now) comparisons.new.items) }
 {
     match pair.directory.machines().first() {
-        None => rows_for_asks(alloc, pair, user, person, scope, asks),
+        None => Ok(Vec::new(alloc)),
         Some(machine) => {
-            let left = asks_left(alloc, pair, person, machine, asks)?;
-            rows_for_asks(alloc, pair, user, person, scope, &left)
+            rows_beside(alloc, pair, user, person, machine, scope, asks, comparisons)
         }
     }
 }
@@ -190,12 +239,15 @@ fn add_user(
     person: &Person,
     scope: Scope<'_>,
     asks: &[Ask],
+    comparisons: &mut Vec<Comparison>,
     rows: &mut Vec<Row>,
 ) -> Result<(), AllocError>
-    requires { slice_get pair.now.directory.now.people user ≡ Some person.now }
-    ensures { OnOk result (body.Progress pair.entry.now rows.old.items rows.new.items
+    requires user { slice_get pair.now.directory.now.people user ≡ Some person.now }
+    requires right { All (IsRight pair.now) comparisons.old.items }
+    ensures added { OnOk result (body.Progress pair.entry.now rows.old.items rows.new.items
         (body.IsForUser pair.entry.now (option_copied scope.entry.user)
         (option_copied scope.entry.host) user asks.entry.now)) }
+    ensures right { OnOk result (All (IsRight pair.entry.now) comparisons.new.items) }
 {
     if !is_this_user(scope.user, person) {
         return Ok(());
@@ -203,7 +255,7 @@ fn add_user(
     if !pair.may_differ_for(person) {
         return Ok(());
     }
-    let more = rows_for(alloc, pair, user, person, scope.host, asks)?;
+    let more = rows_for(alloc, pair, user, person, scope.host, asks, comparisons)?;
     absorb_all(rows, more, Dimension::Users)
 }
 
@@ -218,10 +270,20 @@ fn all_rows(
         (body.IsAsked pair.now (option_copied scope.entry.user)
         (option_copied scope.entry.host) asks.now)) }
 {
+    let mut comparisons = Vec::new(alloc);
     let mut rows = Vec::new(alloc);
     let people = pair.directory.people();
     for user in 0..people.len() {
-        add_user(alloc, pair, user, &people[user], scope, asks, &mut rows)?;
+        add_user(
+            alloc,
+            pair,
+            user,
+            &people[user],
+            scope,
+            asks,
+            &mut comparisons,
+            &mut rows,
+        )?;
     }
     Ok(rows)
 }

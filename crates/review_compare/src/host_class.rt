@@ -1,11 +1,13 @@
 //! Hosts on which the same blocks list a user: the comparison on one of them holds on each.
 ghost use Rattle.std.specs.Prelude.{◌≡◌, ◌<◌, [], All, get_or, IfOk, IfSome, length, OnOk, option_copied, true};
 ghost use Rattle.review_compare.specs.declared.host_class.HostClass.{HostClass as TheHostClass};
+ghost use Rattle.review_compare.specs.Body.AskClasses.{HaveAsk, IsAskClass};
 ghost use Rattle.review_compare.specs.Body.Classes as of_hosts;
+ghost use Rattle.review_compare.specs.Body.Comparisons.{IsRight};
 ghost use Rattle.review_compare.specs.Body.Progress as body;
 
-use crate::cell::Ask;
-use crate::comparison::are_same_indices;
+use crate::ask_class::AskClass;
+use crate::comparison::{Comparison, are_same_indices};
 use crate::copied::copied;
 use crate::pair::Pair;
 use crate::row::{Dimension, Row, absorb_all};
@@ -21,8 +23,8 @@ pub(crate) struct HostClass<'a> {
     rows: Vec<Row>,
 }
 
-// Whether the blocks are the same.
-fn are_same_blocks(listed: &Listed, other: &Listed) -> bool
+/// Whether the blocks are the same.
+pub(crate) fn are_same_blocks(listed: &Listed, other: &Listed) -> bool
     ensures { result ≡ true → of_hosts.AreSameBlocks listed.now other.now }
 {
     if !are_same_indices(&listed.old, &other.old) {
@@ -74,16 +76,17 @@ fn add_moved(
     pair: &Pair<'_>,
     spot: Spot<'_>,
     listed: &Listed,
-    asks: &[Ask],
+    asked: &[AskClass],
     class: &HostClass<'_>,
     rows: &mut Vec<Row>,
 ) -> Result<(), AllocError>
     requires spot { body.IsSpot pair.now spot }
     requires listed { body.AreListedIn pair.now spot listed.now }
-    requires class { of_hosts.IsClass pair.now spot.user spot.person.now asks.now class.now }
+    requires class { of_hosts.IsClass pair.now spot.user spot.person.now (HaveAsk asked.now)
+        class.now }
     requires same { of_hosts.AreSameBlocks class.now.listed listed.now }
     ensures { OnOk result (body.Progress pair.now rows.old.items rows.new.items
-        (body.IsOn spot.entry.user spot.entry.host asks.now)) }
+        (body.IsOn spot.entry.user spot.entry.host (HaveAsk asked.now))) }
 {
     let moved = moved_rows(alloc, &class.rows, spot.host)?;
     absorb_all(rows, moved, Dimension::Hosts)
@@ -95,20 +98,24 @@ fn add_class<'a>(
     pair: &Pair<'_>,
     spot: Spot<'a>,
     listed: Listed,
-    asks: &[Ask],
+    asked: &[AskClass],
     classes: &mut Vec<HostClass<'a>>,
+    comparisons: &mut Vec<Comparison>,
     rows: &mut Vec<Row>,
 ) -> Result<(), AllocError>
     requires spot { body.IsSpot pair.now spot }
     requires listed { body.AreListedIn pair.now spot listed }
-    requires classes { All (of_hosts.IsClass pair.now spot.user spot.person.now asks.now)
+    requires asked { All (IsAskClass pair.now spot.person.now) asked.now }
+    requires classes { All (of_hosts.IsClass pair.now spot.user spot.person.now (HaveAsk asked.now))
         classes.old.items }
+    requires right { All (IsRight pair.now) comparisons.old.items }
     ensures added { OnOk result (body.Progress pair.entry.now rows.old.items rows.new.items
-        (body.IsOn spot.entry.user spot.entry.host asks.entry.now)) }
+        (body.IsOn spot.entry.user spot.entry.host (HaveAsk asked.entry.now))) }
     ensures classes { OnOk result (All (of_hosts.IsClass pair.entry.now spot.entry.user
-        spot.entry.person.now asks.entry.now) classes.new.items) }
+        spot.entry.person.now (HaveAsk asked.entry.now)) classes.new.items) }
+    ensures right { OnOk result (All (IsRight pair.entry.now) comparisons.new.items) }
 {
-    let found = rows_on(alloc, pair, spot, &listed, asks)?;
+    let found = rows_on(alloc, pair, spot, asked, comparisons)?;
     let more = moved_rows(alloc, &found, spot.host)?;
     classes.push(HostClass {
         spot,
@@ -125,21 +132,25 @@ pub(crate) fn add_spot<'a>(
     pair: &Pair<'_>,
     spot: Spot<'a>,
     listed: Listed,
-    asks: &[Ask],
+    asked: &[AskClass],
     classes: &mut Vec<HostClass<'a>>,
+    comparisons: &mut Vec<Comparison>,
     rows: &mut Vec<Row>,
 ) -> Result<(), AllocError>
     requires spot { body.IsSpot pair.now spot }
     requires listed { body.AreListedIn pair.now spot listed }
-    requires classes { All (of_hosts.IsClass pair.now spot.user spot.person.now asks.now)
+    requires asked { All (IsAskClass pair.now spot.person.now) asked.now }
+    requires classes { All (of_hosts.IsClass pair.now spot.user spot.person.now (HaveAsk asked.now))
         classes.old.items }
+    requires right { All (IsRight pair.now) comparisons.old.items }
     ensures added { OnOk result (body.Progress pair.entry.now rows.old.items rows.new.items
-        (body.IsOn spot.entry.user spot.entry.host asks.entry.now)) }
+        (body.IsOn spot.entry.user spot.entry.host (HaveAsk asked.entry.now))) }
     ensures classes { OnOk result (All (of_hosts.IsClass pair.entry.now spot.entry.user
-        spot.entry.person.now asks.entry.now) classes.new.items) }
+        spot.entry.person.now (HaveAsk asked.entry.now)) classes.new.items) }
+    ensures right { OnOk result (All (IsRight pair.entry.now) comparisons.new.items) }
 {
     match class_index(classes, &listed) {
-        Some(index) => add_moved(alloc, pair, spot, &listed, asks, &classes[index], rows),
-        None => add_class(alloc, pair, spot, listed, asks, classes, rows),
+        Some(index) => add_moved(alloc, pair, spot, &listed, asked, &classes[index], rows),
+        None => add_class(alloc, pair, spot, listed, asked, classes, comparisons, rows),
     }
 }

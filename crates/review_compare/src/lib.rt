@@ -5,6 +5,7 @@
 
 mod alike;
 mod answer;
+mod ask_class;
 mod asks;
 mod block;
 mod candidates;
@@ -16,16 +17,19 @@ mod compared;
 mod comparison;
 mod copied;
 mod differences;
+mod fitting;
 mod host_class;
 mod laws;
 mod near;
 mod pair;
 mod row;
 mod ruling;
+mod same_runas;
 mod shape;
 mod side;
 mod spot;
 mod text;
+mod trials;
 mod witness;
 
 pub use answer::{Answer, answer_between};

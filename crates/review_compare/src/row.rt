@@ -1,14 +1,13 @@
 //! Rows of the table: cells of which one thing is found.
 ghost use Rattle.std.specs.Prelude.{◌≡◌, ◌<◌, ℕ, All, IfOk, IfSome, OnOk, get_or, length, true};
-ghost use Rattle.review_compare.specs.declared.cell.Cell.{Cell as TheCell};
 ghost use Rattle.review_compare.specs.declared.row.Row.{Row as TheRow};
 ghost use Rattle.review_compare.specs.Differences as differences;
-ghost use Rattle.review_compare.specs.Differences.{has_cell};
 ghost use Rattle.review_compare.specs.Body.Merged as body;
 
 use crate::alike::is_same_found;
-use crate::cell::Cell;
+use crate::ask_class::AskedWith;
 use crate::compared::Compared;
+use crate::spot::Spot;
 use std::alloc::{AllocError, Global};
 use sudo_text::Seq;
 
@@ -74,20 +73,23 @@ fn have_same_numbers(numbers: &[Option<usize>], others: &[Option<usize>]) -> boo
 fn are_same_asked(numbers: &Seq<Option<usize>>, others: &Seq<Option<usize>>) -> bool
     ensures { result ≡ true → numbers.now ≡ others.now }
 {
-    have_same_numbers(numbers.as_slice(), others.as_slice())
+    numbers.len() == others.len() && have_same_numbers(numbers.as_slice(), others.as_slice())
 }
 
 impl Row {
-    /// Returns the row of one cell. Returns `AllocError` if allocation fails.
-    pub(crate) fn of(alloc: Global, cell: Cell, found: Compared) -> Result<Row, AllocError>
-        ensures cells { IfOk result (λ row. (row.found ≡ found) × ((c : TheCell)
-            → has_cell row c ≡ body.same_cell cell c)) }
-        ensures of_spot { IfOk result (body.IsOfSpot cell.user cell.host) }
+    /// Returns the row of the targets with a group at a spot. Returns `AllocError` if allocation fails.
+    pub(crate) fn of(
+        alloc: Global,
+        spot: Spot<'_>,
+        asked: &AskedWith,
+        found: Compared,
+    ) -> Result<Row, AllocError>
+        ensures { IfOk result (body.IsRowOf spot.entry.user spot.entry.host asked.now found) }
     {
-        let users = Seq::from_slice(alloc, &[cell.user])?;
-        let hosts = Seq::from_slice(alloc, &[cell.host])?;
-        let targets = Seq::from_slice(alloc, &[cell.ask.target])?;
-        let groups = Seq::from_slice(alloc, &[cell.ask.group])?;
+        let users = Seq::from_slice(alloc, &[spot.user])?;
+        let hosts = Seq::from_slice(alloc, &[spot.host])?;
+        let targets = Seq::from_slice(alloc, &asked.targets)?;
+        let groups = Seq::from_slice(alloc, &[asked.group])?;
         Ok(Row {
             users,
             hosts,
@@ -233,6 +235,39 @@ pub(crate) fn absorb_all(
         absorb(rows, row, dimension)?;
     }
     Ok(())
+}
+
+// Returns the row with its targets in order.
+fn ordered_row(row: Row) -> Row
+    ensures { body.IsOrdered row result }
+{
+    let Row {
+        users,
+        hosts,
+        targets,
+        groups,
+        found,
+    } = row;
+    let mut targets = targets.into_vec();
+    targets.sort_unstable();
+    Row {
+        users,
+        hosts,
+        targets: Seq::from_vec(targets),
+        groups,
+        found,
+    }
+}
+
+/// Returns the rows, the targets of each in order. Returns `AllocError` if allocation fails.
+pub(crate) fn ordered(alloc: Global, rows: Vec<Row>) -> Result<Vec<Row>, AllocError>
+    ensures { IfOk result (λ ordered. body.AreOrdered rows.items ordered.items) }
+{
+    let mut ordered = Vec::new(alloc);
+    for row in rows {
+        ordered.push(ordered_row(row))?;
+    }
+    Ok(ordered)
 }
 
 // Whether the first of them is asked for.

@@ -1,5 +1,5 @@
 //! A policy with its grants in blocks, and which of them stand for a question.
-ghost use Rattle.std.specs.Prelude.{◌≡◌, IfOk, IsTrue, OnOk, option_copied, true};
+ghost use Rattle.std.specs.Prelude.{◌≡◌, filter, IfOk, IsTrue, OnOk, option_copied, true};
 ghost use Rattle.std.specs.List.{list_all};
 ghost use Rattle.sudo_verdict.specs.Questions.{Question, question_as};
 ghost use Rattle.review_compare.specs.Blocks.{AreBlocks, block_resolves};
@@ -9,7 +9,6 @@ ghost use Rattle.review_compare.specs.Body.Unchanged.{IsQuiet};
 ghost use Rattle.std.specs.Prelude.{◌++◌, ◌∷◌, ◌&&◌, [], false, if◌then◌else◌};
 ghost use Rattle.sudo_match.specs.declared.people.Machine.{Machine as TheMachine};
 ghost use Rattle.sudo_match.specs.declared.people.Person.{Person as ThePerson};
-ghost use Rattle.review_compare.specs.Body.Near as near;
 
 use crate::block::{Block, blocks_of};
 use crate::common::Common;
@@ -85,8 +84,8 @@ impl Side<'_> {
         }
     }
 
-    // Whether the runas of the block at an index allows the target and the group.
-    fn allows_at(&self, index: usize, directory: &Directory, asker: Asker<'_>) -> bool
+    /// Whether the runas of the block at an index allows the target and the group.
+    pub(crate) fn allows_at(&self, index: usize, directory: &Directory, asker: Asker<'_>) -> bool
         ensures { result ≡ body.runas_at self.now.checked.now self.now.blocks.items
             (question_as directory.now asker.entry.user.now asker.entry.host.now
             (option_copied asker.entry.target) (option_copied asker.entry.group)) index }
@@ -236,31 +235,21 @@ impl Side<'_> {
         Ok(indices)
     }
 
-    /// Returns those of the indices whose runas allows the target and the group: the blocks that stand for the question.
-    /// Returns `AllocError` if allocation fails.
-    pub(crate) fn standing(
+    /// Returns those of the indices whose host list allows the host. Returns `AllocError` if allocation fails.
+    pub(crate) fn on_host(
         &self,
         alloc: Global,
-        directory: &Directory,
-        asker: Asker<'_>,
-        listed: &[usize],
+        host: &Machine,
+        indices: &[usize],
     ) -> Result<Vec<usize>, AllocError>
-        requires { list_all (body.listed_at self.now.checked.now self.now.blocks.items
-            asker.user.now asker.host.now) listed.now ≡ true }
-        ensures { IfOk result (λ indices. body.chosen self.now.blocks.items indices.items
-            ≡ near.near_deciders self.now.checked.now self.now.blocks.items listed.now
-            (question_as directory.now asker.entry.user.now asker.entry.host.now
-            (option_copied asker.entry.target) (option_copied asker.entry.group))) }
+        ensures { IfOk result (λ on. on.items ≡ filter (body.host_at self.now.checked.now
+            self.now.blocks.items host.now) indices.now) }
     {
-        let mut indices = Vec::new(alloc);
-        for index in listed {
-            push_if(
-                &mut indices,
-                *index,
-                self.allows_at(*index, directory, asker),
-            )?;
+        let mut on = Vec::new(alloc);
+        for index in indices {
+            push_if(&mut on, *index, self.lists_host_at(*index, host))?;
         }
-        Ok(indices)
+        Ok(on)
     }
 }
 

@@ -1,20 +1,19 @@
 //! The comparison for a known user on a known host.
 ghost use Rattle.std.specs.Prelude.{◌≡◌, [], All, IfOk, OnOk};
-ghost use Rattle.review_compare.specs.Cells.{deciders};
+ghost use Rattle.review_compare.specs.Body.AskClasses.{AreAsked, HaveAsk, IsAskClass, IsAskedWith, on_new, on_old};
 ghost use Rattle.review_compare.specs.Witnesses.{IsCompared};
 ghost use Rattle.review_compare.specs.Body.Comparisons.{IsRight};
-ghost use Rattle.review_compare.specs.Body.Merged.{IsOfSpot};
+ghost use Rattle.review_compare.specs.Body.Merged.{AddsFound, IsOfSpot};
 ghost use Rattle.review_compare.specs.Body.Progress as body;
 
-use crate::asks::{group_at, person_at};
-use crate::cell::{Ask, Cell};
+use crate::ask_class::{AskClass, AskedWith};
 use crate::compared::Compared;
 use crate::comparison::{Comparison, found_of};
+use crate::copied::copied;
 use crate::pair::Pair;
-use crate::row::{Dimension, Row, absorb};
+use crate::row::{Dimension, Row, absorb, ordered};
 use std::alloc::{AllocError, Global};
 use sudo_match::{Machine, Person};
-use sudo_verdict::Asker;
 
 /// The indices of blocks of both policies.
 #[derive(Drop)]
@@ -32,79 +31,82 @@ pub(crate) struct Spot<'a> {
     pub(crate) machine: &'a Machine,
 }
 
-// Compares the policies where the user on the host asks for a target and a group.
-fn found_asked(
+// Compares the policies where the user asks on the host for what is in a class.
+fn found_on(
     alloc: Global,
     pair: &Pair<'_>,
-    spot: Spot<'_>,
-    listed: &Listed,
-    ask: Ask,
+    machine: &Machine,
+    class: &AskClass,
     comparisons: &mut Vec<Comparison>,
 ) -> Result<Compared, AllocError>
-    requires listed { body.AreListedIn pair.now spot listed.now }
-    requires right { All (IsRight pair.now) comparisons.old.items }
-    ensures found { IfOk result (IsCompared (deciders pair.entry.now.old.checked.now
-        (body.question_of pair.entry.now spot.entry ask)) (deciders pair.entry.now.new.checked.now
-        (body.question_of pair.entry.now spot.entry ask))) }
+    requires { All (IsRight pair.now) comparisons.old.items }
+    ensures found { IfOk result (IsCompared (on_old pair.entry.now machine.entry.now
+        class.now.allowing) (on_new pair.entry.now machine.entry.now class.now.allowing)) }
     ensures right { OnOk result (All (IsRight pair.entry.now) comparisons.new.items) }
 {
-    let asker = Asker {
-        user: spot.person,
-        host: spot.machine,
-        target: person_at(pair.directory, ask.target),
-        group: group_at(pair.groups, ask.group),
-    };
-    let old = pair
-        .old
-        .standing(alloc, pair.directory, asker, &listed.old)?;
-    let new = pair
-        .new
-        .standing(alloc, pair.directory, asker, &listed.new)?;
+    let old = pair.old.on_host(alloc, machine, &class.allowing.old)?;
+    let new = pair.new.on_host(alloc, machine, &class.allowing.new)?;
     found_of(alloc, pair, comparisons, old, new)
 }
 
-// Adds the outcome of the comparison in a cell.
+// Adds what is found for the targets with a group.
 fn add_found(
     alloc: Global,
-    cell: Cell,
-    found: Compared,
+    spot: Spot<'_>,
+    asked: &AskedWith,
+    found: &Compared,
     rows: &mut Vec<Row>,
 ) -> Result<(), AllocError>
-    ensures added { OnOk result (body.AddsFound rows.old.items cell found rows.new.items) }
-    ensures of_spot { OnOk result (All (IsOfSpot cell.user cell.host) rows.old.items
-        → All (IsOfSpot cell.user cell.host) rows.new.items) }
+    ensures added { OnOk result (AddsFound rows.old.items spot.entry.user spot.entry.host
+        (IsAskedWith asked.now) found.now rows.new.items) }
+    ensures of_spot { OnOk result (All (IsOfSpot spot.entry.user spot.entry.host) rows.old.items
+        → All (IsOfSpot spot.entry.user spot.entry.host) rows.new.items) }
 {
-    let row = Row::of(alloc, cell, found)?;
+    let copy = copied(alloc, found)?;
+    let row = Row::of(alloc, spot, asked, copy)?;
     absorb(rows, row, Dimension::Targets)
 }
 
-// Compares the policies for an ask at the spot, and adds the outcome, unless both say the same.
-fn add_ask(
+// Adds what is found for all asks of a class.
+fn add_each(
+    alloc: Global,
+    spot: Spot<'_>,
+    asked: &[AskedWith],
+    found: &Compared,
+    rows: &mut Vec<Row>,
+) -> Result<(), AllocError>
+    ensures added { OnOk result (AddsFound rows.old.items spot.entry.user spot.entry.host
+        (AreAsked asked.now) found.now rows.new.items) }
+    ensures of_spot { OnOk result (All (IsOfSpot spot.entry.user spot.entry.host) rows.old.items
+        → All (IsOfSpot spot.entry.user spot.entry.host) rows.new.items) }
+{
+    for targets in asked {
+        add_found(alloc, spot, targets, found, rows)?;
+    }
+    Ok(())
+}
+
+// Compares the policies for a class of asks at the spot, and adds the outcome, unless both say the same.
+fn add_class(
     alloc: Global,
     pair: &Pair<'_>,
     spot: Spot<'_>,
-    listed: &Listed,
-    ask: Ask,
+    class: &AskClass,
     comparisons: &mut Vec<Comparison>,
     rows: &mut Vec<Row>,
 ) -> Result<(), AllocError>
     requires spot { body.IsSpot pair.now spot }
-    requires listed { body.AreListedIn pair.now spot listed.now }
+    requires class { IsAskClass pair.now spot.person.now class.now }
     requires right { All (IsRight pair.now) comparisons.old.items }
     ensures added { OnOk result (body.Progress pair.entry.now rows.old.items rows.new.items
-        (λ c. c ≡ body.cell_at spot.entry ask)) }
+        (body.IsOn spot.entry.user spot.entry.host (AreAsked class.entry.now.asked.items))) }
     ensures right { OnOk result (All (IsRight pair.entry.now) comparisons.new.items) }
     ensures of_spot { OnOk result (All (IsOfSpot spot.entry.user spot.entry.host)
         rows.old.items → All (IsOfSpot spot.entry.user spot.entry.host) rows.new.items) }
 {
-    let cell = Cell {
-        user: spot.user,
-        host: spot.host,
-        ask,
-    };
-    match found_asked(alloc, pair, spot, listed, ask, comparisons)? {
+    match found_on(alloc, pair, spot.machine, class, comparisons)? {
         Compared::Same => Ok(()),
-        found => add_found(alloc, cell, found, rows),
+        found => add_each(alloc, spot, &class.asked, &found, rows),
     }
 }
 
@@ -113,20 +115,21 @@ pub(crate) fn rows_on(
     alloc: Global,
     pair: &Pair<'_>,
     spot: Spot<'_>,
-    listed: &Listed,
-    asks: &[Ask],
+    classes: &[AskClass],
+    comparisons: &mut Vec<Comparison>,
 ) -> Result<Vec<Row>, AllocError>
     requires spot { body.IsSpot pair.now spot }
-    requires listed { body.AreListedIn pair.now spot listed.now }
-    ensures all { IfOk result (λ rows. body.Progress pair.now [] rows.items
-        (body.IsOn spot.entry.user spot.entry.host asks.now)) }
+    requires classes { All (IsAskClass pair.now spot.person.now) classes.now }
+    requires right { All (IsRight pair.now) comparisons.old.items }
+    ensures all { IfOk result (λ rows. body.Progress pair.entry.now [] rows.items
+        (body.IsOn spot.entry.user spot.entry.host (HaveAsk classes.entry.now))) }
+    ensures right { OnOk result (All (IsRight pair.entry.now) comparisons.new.items) }
     ensures of_spot { IfOk result (λ rows. All (IsOfSpot spot.entry.user spot.entry.host)
         rows.items) }
 {
-    let mut comparisons = Vec::new(alloc);
     let mut rows = Vec::new(alloc);
-    for ask in asks {
-        add_ask(alloc, pair, spot, listed, *ask, &mut comparisons, &mut rows)?;
+    for class in classes {
+        add_class(alloc, pair, spot, class, comparisons, &mut rows)?;
     }
-    Ok(rows)
+    ordered(alloc, rows)
 }

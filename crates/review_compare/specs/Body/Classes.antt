@@ -29,10 +29,10 @@ AreMoved host (r ∷ rows) (s ∷ moved) = IsMoved host r s × AreMoved host row
 AreMoved host _ _ = ⊥
 
 -- the first host of a class: the blocks that list the user there, and the rows of the comparison there
-pub record IsClass (p : Pair) (user : ℕ) (u : Person) (asks : List Ask) (k : HostClass) : Type 0 where
+pub record IsClass (p : Pair) (user : ℕ) (u : Person) (asked : Ask → Type 0) (k : HostClass) : Type 0 where
   pub spot : IsSpot p k.spot
   pub own : k.spot.user ≡ user
   pub person : k.spot.person.now ≡ u
   pub listed : AreListedIn p k.spot k.listed
-  pub all : Progress p [] k.rows.items (IsOn user k.spot.host asks)
+  pub all : Progress p [] k.rows.items (IsOn user k.spot.host asked)
   pub of_spot : All (IsOfSpot user k.spot.host) k.rows.items

@@ -1,11 +1,14 @@
 -- Rows that become one; only proofs of bodies need these definitions.
-use Rattle.std.specs.Prelude.{◌≡◌, ◌⊎◌, ℕ, Bool, true, false, ◌&&◌, ◌||◌, ◌==◌, List, [], ◌∷◌, Option}
+use Rattle.std.specs.Prelude.{IsPermutation, ◌≡◌, ◌⊎◌, ℕ, Bool, true, false, ◌&&◌, ◌||◌, ◌==◌, List, [], ◌∷◌, Option}
+use Rattle.review_compare.specs.declared.ask_class.AskedWith.{AskedWith}
+use Rattle.review_compare.specs.declared.cell.Ask.{Ask}
 use Rattle.review_compare.specs.declared.cell.Cell.{Cell}
 use Rattle.review_compare.specs.declared.compared.Compared.{Compared}
 use Rattle.review_compare.specs.declared.row.Dimension.{Dimension}
 use Rattle.review_compare.specs.declared.row.Dimension.TheVariants as dimension
 use Rattle.review_compare.specs.declared.row.Row.{Row}
 use Rattle.review_compare.specs.Differences.{Finds, has_cell, same_number}
+use Rattle.review_compare.specs.Body.Comparisons.{IsCopy}
 
 abbrev pub same_cell : Cell → Cell → Bool
 same_cell c d =
@@ -32,6 +35,34 @@ pub record IsJoined (r s t : Row) : Type 0 where
   pub cells : (c : Cell) → has_cell t c ≡ (has_cell r c || has_cell s c)
   pub first : t.found ≡ r.found
   pub second : t.found ≡ s.found
+
+-- the row of the targets with a group, for the user on the host
+pub record IsRowOf (user host : ℕ) (w : AskedWith) (f : Compared) (r : Row) : Type 0 where
+  pub of_spot : IsOfSpot user host r
+  pub targets : r.targets ≡ w.targets.items
+  pub groups : r.groups ≡ w.group ∷ []
+  pub found : r.found ≡ f
+
+-- the rows with what is found for the user on the host, for some asks
+pub record AddsFound (old : List Row) (user host : ℕ) (asked : Ask → Type 0) (found : Compared) (new : List Row) : Type 0 where
+  pub kept : (c : Cell) (f : Compared) → Finds old c f → Finds new c f
+  pub added : (c : Cell) → (c.user ≡ user) × (c.host ≡ host) × asked c.ask → (f : Compared) × Finds new c f
+  pub only : (c : Cell) (f : Compared) → Finds new c f →
+      Finds old c f ⊎ ((c.user ≡ user) × (c.host ≡ host) × asked c.ask × IsCopy found f)
+
+-- the row with its targets in another order
+pub record IsOrdered (r s : Row) : Type 0 where
+  pub users : s.users ≡ r.users
+  pub hosts : s.hosts ≡ r.hosts
+  pub targets : IsPermutation r.targets s.targets
+  pub groups : s.groups ≡ r.groups
+  pub found : s.found ≡ r.found
+
+-- each of the rows with its targets in another order
+abbrev pub AreOrdered : List Row → List Row → Type 0
+AreOrdered [] [] = Unit {0}
+AreOrdered (r ∷ rows) (s ∷ ordered) = IsOrdered r s × AreOrdered rows ordered
+AreOrdered _ _ = ⊥
 
 -- the rows with a further one: what each found, and no more
 pub record Absorbs (old : List Row) (row : Row) (new : List Row) : Type 0 where

@@ -14,7 +14,6 @@ use Rattle.review_compare.specs.declared.row.Row.{Row}
 use Rattle.review_compare.specs.Differences.{Finds, IsFound, IsDone, is_host_if, is_user_if, known_at}
 use Rattle.review_compare.specs.Cells.{SaySame}
 use Rattle.review_compare.specs.Body.Chosen.{AreListed, HaveAllOf, user_at}
-use Rattle.review_compare.specs.Body.Merged.{same_cell}
 
 -- rows that were found before are found after, what is found is right if it was before, and these cells are done
 pub record Progress (p : Pair) (before after : List Row) (done_with : Cell → Type 0) : Type 0 where
@@ -23,12 +22,6 @@ pub record Progress (p : Pair) (before after : List Row) (done_with : Cell → T
       →
       (c : Cell) (f : Compared) → Finds after c f → IsFound p.old.checked.now p.new.checked.now p.directory.now p.groups.now c f
   pub done : (c : Cell) → done_with c → IsDone p.old.checked.now p.new.checked.now p.directory.now p.groups.now after c
-
--- the rows with a further finding of one cell
-pub record AddsFound (old : List Row) (cell : Cell) (found : Compared) (new : List Row) : Type 0 where
-  pub kept : (c : Cell) (f : Compared) → Finds old c f → Finds new c f
-  pub added : Finds new cell found
-  pub only : (c : Cell) (f : Compared) → Finds new c f → Finds old c f ⊎ ((same_cell cell c ≡ true) × (found ≡ f))
 
 -- the blocks of both policies for the user on the host
 pub record AreListedIn (p : Pair) (s : Spot) (l : Listed) : Type 0 where
@@ -71,17 +64,22 @@ abbrev pub IsAt : ℕ → ℕ → Ask → Cell → Type 0
 IsAt user host ask c = (c.user ≡ user) × (c.host ≡ host) × (c.ask ≡ ask)
 
 -- a cell of the user on the host, with one of these asks
-abbrev pub IsOn : ℕ → ℕ → List Ask → Cell → Type 0
-IsOn user host asks c = (c.user ≡ user) × (c.host ≡ host) × Contains asks c.ask
+abbrev pub IsOn : ℕ → ℕ → (Ask → Type 0) → Cell → Type 0
+IsOn user host asked c = (c.user ≡ user) × (c.host ≡ host) × asked c.ask
 
 -- and the host is asked about
-abbrev pub IsOnAsked : Pair → Option Machine → ℕ → ℕ → List Ask → Cell → Type 0
-IsOnAsked p scope user host asks c = IsOn user host asks c × (is_host_if scope (slice_get p.directory.now.machines c.host) ≡ true)
+abbrev pub IsOnAsked : Pair → Option Machine → ℕ → ℕ → (Ask → Type 0) → Cell → Type 0
+IsOnAsked p scope user host asked c = IsOn user host asked c × (is_host_if scope (slice_get p.directory.now.machines c.host) ≡ true)
 
 -- a cell of the user on a host before this one
-abbrev pub IsBefore : Pair → Option Machine → ℕ → ℕ → List Ask → Cell → Type 0
-IsBefore p scope user host asks c =
-    (c.user ≡ user) × (c.host < host) × Contains asks c.ask × (is_host_if scope (slice_get p.directory.now.machines c.host) ≡ true)
+abbrev pub IsBefore : Pair → Option Machine → ℕ → ℕ → (Ask → Type 0) → Cell → Type 0
+IsBefore p scope user host asked c =
+    (c.user ≡ user) × (c.host < host) × asked c.ask × (is_host_if scope (slice_get p.directory.now.machines c.host) ≡ true)
+
+-- a cell of the user on a host that is asked about
+abbrev pub IsOnEach : Pair → Option Machine → ℕ → (Ask → Type 0) → Cell → Type 0
+IsOnEach p scope user asked c =
+    (c.user ≡ user) × asked c.ask × (is_host_if scope (slice_get p.directory.now.machines c.host) ≡ true)
 
 abbrev pub cell_at : Spot → Ask → Cell
 cell_at s a = record { user = s.user; host = s.host; ask = a }

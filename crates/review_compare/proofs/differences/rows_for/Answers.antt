@@ -1,15 +1,18 @@
-use Rattle.std.proofs.Common.{Global, Vec, option_copied, subst, sym}
-use Rattle.std.proofs.lemmas.Result.{IfOk-weaker}
+use Rattle.std.proofs.Common.{◌∙◌, [], List, None, ap, option_copied, subst, sym}
+use Rattle.std.specs.Prelude.{slice_get}
+use Rattle.sudo_match.specs.declared.people.Machine.{Machine}
 use Rattle.review_compare.specs.declared.row.Row.{Row}
-use Rattle.review_compare.specs.Body.Progress.{AreLeft}
-use Rattle.review_compare.proofs.DifferenceLemmas.{asks-left}
+use Rattle.review_compare.specs.Body.Progress.{IsForAsked, Progress}
+use Rattle.review_compare.proofs.DifferenceLemmas.{first-none, no-hosts}
 use Rattle.review_compare.proofs.differences.rows_for.Goals as goal
 
-pub returns-in_ok-left-in-Some : goal.returns-in_ok-left-in-Some
-returns-in_ok-left-in-Some c =
-    IfOk-weaker c.rows_for_asks-in-Some.result _ _
-    (λ (rows : Vec Row Global) made.
-    asks-left c.args.pair.now rows.items c.args.user c.args.person.now (option_copied c.args.scope) c.args.asks.now c.deref.result.now
-    c.requires (subst (AreLeft c.args.pair.now c.args.person.now c.args.asks.now) (sym c.deref.ensures.value) c.in_ok-left-in-Some.ensures)
-    made)
-    c.rows_for_asks-in-Some.ensures
+pub returns-in-None : goal.returns-in-None
+returns-in-None c =
+    let p = c.args.pair.now in
+    let scope = option_copied c.args.scope in
+    record {
+      all = subst (λ (rows : List Row). Progress p [] rows (IsForAsked p scope c.args.user c.args.asks.now)) (sym c.new.ensures.items)
+          (no-hosts p scope c.args.user c.args.asks.now (first-none p.directory.now.machines
+          (ap (λ (ms : List Machine). slice_get ms 0) (sym c.machines.ensures) ∙ sym c.first.ensures.value ∙ ap option_copied c.in-None.is)));
+      right = c.requires.right;
+    }

@@ -1,0 +1,264 @@
+-- Classes of asks: the asks that are in them, and the blocks that decide these.
+use Rattle.std.proofs.Common.{◌≡◌, ◌<◌, ◌+◌, ◌∙◌, ◌⊎◌, inl, inr, ℕ, zero, suc, Bool, true, false, cond, ◌&&◌, List, [], ◌∷◌, ◌++◌, ap}
+use Rattle.std.proofs.Common.{arith, refl, sym, subst, get_or, length, take, Option, None, Some}
+use Rattle.std.specs.Prelude.{filter, slice_set}
+use Rattle.std.specs.List.{Contains, list_all}
+use Rattle.std.proofs.lemmas.Bool.{and_from, and_parts}
+use Rattle.std.proofs.lemmas.List.Elements.{Contains-append_left, Contains-push, Contains-push_cases}
+use Rattle.sudo_grammar.specs.declared.policy.Policy.{Policy}
+use Rattle.sudo_match.specs.declared.people.Group.{Group}
+use Rattle.sudo_match.specs.declared.people.Machine.{Machine}
+use Rattle.sudo_match.specs.declared.people.Person.{Person}
+use Rattle.sudo_match.specs.KnownRows.{KnownRows}
+use Rattle.sudo_verdict.specs.Questions.{Question, question_as}
+use Rattle.review_roots.proofs.ListSteps.{take-more}
+use Rattle.review_compare.specs.declared.ask_class.AskClass.{AskClass}
+use Rattle.review_compare.specs.declared.ask_class.AskedWith.{AskedWith}
+use Rattle.review_compare.specs.declared.block.Block.{Block}
+use Rattle.review_compare.specs.declared.cell.Ask.{Ask}
+use Rattle.review_compare.specs.Cells.{Decider}
+use Rattle.review_compare.specs.declared.pair.Pair.{Pair}
+use Rattle.review_compare.specs.declared.spot.Listed.{Listed}
+use Rattle.review_compare.specs.Body.AskClasses.{AddsAsked, AreAsked, Decide, HaveAsk, IsAskClass, IsAskedWith}
+use Rattle.review_compare.specs.Body.Classes.{AreSameBlocks}
+use Rattle.review_compare.specs.Body.Chosen.{HaveAllOf, chosen, deciders_at, host_at, runas_at, standing_among, standing_at, user_at}
+use Rattle.review_compare.specs.Body.Near.{each_one, near_deciders}
+use Rattle.review_compare.proofs.ChosenLemmas.{no-host, stands-at}
+use Rattle.review_compare.proofs.UnchangedLemmas.{other-host-runas}
+
+-- ---- The blocks that decide
+
+module _ (p : Policy) (bs : List Block) (d : KnownRows) (u : Person) (first m : Machine) (t : Option Person) (g : Option Group) where
+  -- of blocks that list the user, those answer that list the host and whose runas allows the ask
+  stood : (is : List ℕ) → list_all (user_at p bs u) is ≡ true →
+      standing_among p bs (question_as d u m t g) each_one is
+      ≡ chosen bs (filter (host_at p bs m) (filter (runas_at p bs (question_as d u first t g)) is))
+  stood [] all = refl
+  stood (i ∷ is) all =
+      let both = and_parts (user_at p bs u i) (list_all (user_at p bs u) is) all in
+      by both.0 (host_at p bs m i) refl (runas_at p bs (question_as d u first t g) i) refl (stood is both.1)
+    where
+      q : Question
+      q = question_as d u m t g
+
+      r : Question
+      r = question_as d u first t g
+
+      on_host : List ℕ → List ℕ
+      on_host js = filter (host_at p bs m) js
+
+      by : user_at p bs u i ≡ true → (h : Bool) → host_at p bs m i ≡ h → (a : Bool) → runas_at p bs r i ≡ a →
+          standing_among p bs q each_one is ≡ chosen bs (on_host (filter (runas_at p bs r) is)) →
+          standing_among p bs q each_one (i ∷ is) ≡ chosen bs (on_host (filter (runas_at p bs r) (i ∷ is)))
+      by user true host a runas rest =
+          ap (λ (ds : List Decider). ds ++ standing_among p bs q each_one is)
+          (stands-at p bs q i a (and_from (user_at p bs u i) (host_at p bs m i) user host)
+          (other-host-runas p bs d u m first t g i ∙ runas))
+          ∙ ap (λ (ds : List Decider). cond a (deciders_at bs i) [] ++ ds) rest
+          ∙ sym (ap (λ v. chosen bs (on_host (cond v (i ∷ filter (runas_at p bs r) is) (filter (runas_at p bs r) is)))) runas ∙ kept a)
+        where
+          kept : (a : Bool) → chosen bs (on_host (cond a (i ∷ filter (runas_at p bs r) is) (filter (runas_at p bs r) is)))
+              ≡ cond a (deciders_at bs i) [] ++ chosen bs (on_host (filter (runas_at p bs r) is))
+          kept true =
+              ap (λ v. chosen bs (cond v (i ∷ on_host (filter (runas_at p bs r) is)) (on_host (filter (runas_at p bs r) is)))) host
+          kept false = refl
+      by user false host a runas rest =
+          ap (λ (ds : List Decider). ds ++ standing_among p bs q each_one is) (no-host p bs m q each_one i refl host)
+          ∙ rest
+          ∙ sym (ap (λ v. chosen bs (on_host (cond v (i ∷ filter (runas_at p bs r) is) (filter (runas_at p bs r) is)))) runas ∙ left a)
+        where
+          left : (a : Bool) → chosen bs (on_host (cond a (i ∷ filter (runas_at p bs r) is) (filter (runas_at p bs r) is)))
+              ≡ chosen bs (on_host (filter (runas_at p bs r) is))
+          left true =
+              ap (λ v. chosen bs (cond v (i ∷ on_host (filter (runas_at p bs r) is)) (on_host (filter (runas_at p bs r) is)))) host
+          left false = refl
+
+  -- so do those of the near blocks
+  pub near-stood : (near is : List ℕ) → HaveAllOf p bs near u is → list_all (user_at p bs u) is ≡ true →
+      near_deciders p bs near (question_as d u m t g)
+      ≡ chosen bs (filter (host_at p bs m) (filter (runas_at p bs (question_as d u first t g)) is))
+  near-stood near is all each = sym (all (question_as d u m t g) each_one refl) ∙ stood is each
+
+-- ---- The asks that are there
+
+pub alone-only : (group : Option ℕ) (ts : List (Option ℕ)) (w : AskedWith) (ask : Ask) → w.group ≡ ask.group →
+    w.targets.items ≡ ask.target ∷ [] → (a : Ask) → IsAskedWith w a → ask ≡ a
+alone-only group ts w ask own are a is =
+    at (sym own ∙ is.0) (Contains-push_cases [] ask.target a.target (subst (λ (ts : List (Option ℕ)). Contains ts a.target) are is.1))
+  where
+    at : ask.group ≡ a.group → Contains {X = Option ℕ} [] a.target ⊎ (ask.target ≡ a.target) → ask ≡ a
+    at g (inl none) = absurd (omega (arith, none.1))
+    at g (inr t) = rw (g, t) refl
+
+pub alone-has : (w : AskedWith) (ask : Ask) → w.group ≡ ask.group → w.targets.items ≡ ask.target ∷ [] → IsAskedWith w ask
+alone-has w ask own are =
+    (own, subst (λ (ts : List (Option ℕ)). Contains ts ask.target) (sym are) (Contains-push {X = Option ℕ} [] ask.target))
+
+-- the targets at an index with a further one
+module _ (ask : Ask) (v : AskedWith) where
+  abbrev AddsTarget : AskedWith → Type 0
+  AddsTarget w = (w.group ≡ ask.group) × (v.group ≡ w.group) × (v.targets.items ≡ w.targets.items ++ ask.target ∷ [])
+
+  with-kept : (w : AskedWith) → AddsTarget w → (a : Ask) → IsAskedWith w a → IsAskedWith v a
+  with-kept w adds a is = (
+    adds.1 ∙ is.0,
+    subst (λ (ts : List (Option ℕ)). Contains ts a.target) (sym adds.2)
+        (Contains-append_left w.targets.items (ask.target ∷ []) a.target is.1),
+  )
+
+  with-added : (w : AskedWith) → AddsTarget w → IsAskedWith v ask
+  with-added w adds =
+      (adds.1 ∙ adds.0, subst (λ (ts : List (Option ℕ)). Contains ts ask.target) (sym adds.2) (Contains-push w.targets.items ask.target))
+
+  with-only : (w : AskedWith) → AddsTarget w → (a : Ask) → IsAskedWith v a → IsAskedWith w a ⊎ (ask ≡ a)
+  with-only w adds a is =
+      by (sym adds.1 ∙ is.0) (Contains-push_cases w.targets.items ask.target a.target
+      (subst (λ (ts : List (Option ℕ)). Contains ts a.target) adds.2 is.1))
+    where
+      by : w.group ≡ a.group → Contains w.targets.items a.target ⊎ (ask.target ≡ a.target) → IsAskedWith w a ⊎ (ask ≡ a)
+      by g (inl there) = inl (g, there)
+      by g (inr t) = inr (rw (sym adds.0 ∙ g, t) refl)
+
+  set-kept : (ws : List AskedWith) (i : ℕ) (d : AskedWith) → i < length ws → AddsTarget (get_or ws i d) → (a : Ask) → AreAsked ws a →
+      AreAsked (slice_set ws i v) a
+  set-kept [] i d less adds a e = absurd e
+  set-kept (w ∷ ws) zero d less adds a (inl here) = inl (with-kept w adds a here)
+  set-kept (w ∷ ws) zero d less adds a (inr more) = inr more
+  set-kept (w ∷ ws) (suc i) d less adds a (inl here) = inl here
+  set-kept (w ∷ ws) (suc i) d less adds a (inr more) = inr (set-kept ws i d (omega (arith, less)) adds a more)
+
+  set-added : (ws : List AskedWith) (i : ℕ) (d : AskedWith) → i < length ws → AddsTarget (get_or ws i d) → AreAsked (slice_set ws i v) ask
+  set-added [] i d less adds = absurd (omega (arith, less))
+  set-added (w ∷ ws) zero d less adds = inl (with-added w adds)
+  set-added (w ∷ ws) (suc i) d less adds = inr (set-added ws i d (omega (arith, less)) adds)
+
+  set-only : (ws : List AskedWith) (i : ℕ) (d : AskedWith) → i < length ws → AddsTarget (get_or ws i d) → (a : Ask) →
+      AreAsked (slice_set ws i v) a → AreAsked ws a ⊎ (ask ≡ a)
+  set-only [] i d less adds a e = absurd (omega (arith, less))
+  set-only (w ∷ ws) zero d less adds a (inl here) = go (with-only w adds a here)
+    where
+      go : IsAskedWith w a ⊎ (ask ≡ a) → AreAsked (w ∷ ws) a ⊎ (ask ≡ a)
+      go (inl own) = inl (inl own)
+      go (inr is) = inr is
+  set-only (w ∷ ws) zero d less adds a (inr more) = inl (inr more)
+  set-only (w ∷ ws) (suc i) d less adds a (inl here) = inl (inl here)
+  set-only (w ∷ ws) (suc i) d less adds a (inr more) = go (set-only ws i d (omega (arith, less)) adds a more)
+    where
+      go : AreAsked ws a ⊎ (ask ≡ a) → AreAsked (w ∷ ws) a ⊎ (ask ≡ a)
+      go (inl e) = inl (inr e)
+      go (inr is) = inr is
+
+  pub target-added : (ws : List AskedWith) (i : ℕ) (d : AskedWith) → i < length ws → (get_or ws i d).group ≡ ask.group →
+      v.group ≡ (get_or ws i d).group → v.targets.items ≡ (get_or ws i d).targets.items ++ ask.target ∷ [] →
+      AddsAsked ws ask (slice_set ws i v)
+  target-added ws i d less own group targets = record {
+    kept = set-kept ws i d less (own, group, targets);
+    added = set-added ws i d less (own, group, targets);
+    only = set-only ws i d less (own, group, targets);
+  }
+
+pub asked-first : (ws : List AskedWith) (w : AskedWith) (a : Ask) → AreAsked ws a → AreAsked (ws ++ w ∷ []) a
+asked-first [] w a e = absurd e
+asked-first (v ∷ ws) w a (inl here) = inl here
+asked-first (v ∷ ws) w a (inr more) = inr (asked-first ws w a more)
+
+pub asked-last : (ws : List AskedWith) (w : AskedWith) (a : Ask) → IsAskedWith w a → AreAsked (ws ++ w ∷ []) a
+asked-last [] w a is = inl is
+asked-last (v ∷ ws) w a is = inr (asked-last ws w a is)
+
+pub asked-cases : (ws : List AskedWith) (w : AskedWith) (a : Ask) → AreAsked (ws ++ w ∷ []) a → AreAsked ws a ⊎ IsAskedWith w a
+asked-cases [] w a (inl here) = inr here
+asked-cases [] w a (inr none) = absurd none
+asked-cases (v ∷ ws) w a (inl here) = inl (inl here)
+asked-cases (v ∷ ws) w a (inr more) = go (asked-cases ws w a more)
+  where
+    go : AreAsked ws a ⊎ IsAskedWith w a → AreAsked (v ∷ ws) a ⊎ IsAskedWith w a
+    go (inl e) = inl (inr e)
+    go (inr is) = inr is
+
+-- one ask alone behind the others
+pub alone-added : (ws : List AskedWith) (w : AskedWith) (ask : Ask) → ((a : Ask) → IsAskedWith w a → ask ≡ a) → IsAskedWith w ask →
+    AddsAsked ws ask (ws ++ w ∷ [])
+alone-added ws w ask only has = record {
+  kept = λ a e. asked-first ws w a e;
+  added = asked-last ws w ask has;
+  only = λ a e. go a (asked-cases ws w a e);
+}
+  where
+    go : (a : Ask) → AreAsked ws a ⊎ IsAskedWith w a → AreAsked ws a ⊎ (ask ≡ a)
+    go a (inl e) = inl e
+    go a (inr is) = inr (only a is)
+
+-- ---- Classes
+
+decide-same : (p : Pair) (u : Person) (a : Ask) (l j : Listed) → AreSameBlocks j l → Decide p u a l → Decide p u a j
+decide-same p u a l j same decide = record {
+  old = λ m. decide.old m
+      ∙ ap (λ (is : List ℕ). chosen p.old.blocks.items (filter (host_at p.old.checked.now p.old.blocks.items m) is)) (sym same.0);
+  new = λ m. decide.new m
+      ∙ ap (λ (is : List ℕ). chosen p.new.blocks.items (filter (host_at p.new.checked.now p.new.blocks.items m) is)) (sym same.1);
+}
+
+-- a class with a further ask that the same blocks decide
+pub class-added : (p : Pair) (u : Person) (r k : AskClass) (ask : Ask) (l : Listed) → IsAskClass p u r → AreSameBlocks r.allowing l →
+    Decide p u ask l → k.allowing ≡ r.allowing → AddsAsked r.asked.items ask k.asked.items → IsAskClass p u k
+class-added p u r k ask l is same decide allowing adds a e =
+    subst (Decide p u a) (sym allowing) (go (adds.only a e))
+  where
+    go : AreAsked r.asked.items a ⊎ (ask ≡ a) → Decide p u a r.allowing
+    go (inl before) = is a before
+    go (inr here) = decide-same p u a l r.allowing same (subst (λ (b : Ask). Decide p u b l) here decide)
+
+-- a class of one ask
+pub class-of-one : (p : Pair) (u : Person) (k : AskClass) (ask : Ask) (l : Listed) → Decide p u ask l → k.allowing ≡ l →
+    AddsAsked [] ask k.asked.items → IsAskClass p u k
+class-of-one p u k ask l decide allowing adds a e = subst (Decide p u a) (sym allowing) (go (adds.only a e))
+  where
+    go : AreAsked [] a ⊎ (ask ≡ a) → Decide p u a l
+    go (inl none) = absurd none
+    go (inr here) = subst (λ (b : Ask). Decide p u b l) here decide
+
+-- one ask more is in a class
+pub asks-more : (asks : List Ask) (n : ℕ) (ask : Ask) (ks js : List AskClass) → n < length asks → ask ≡ get_or asks n ask →
+    ((a : Ask) → Contains (take n asks) a → HaveAsk ks a) → ((a : Ask) → HaveAsk ks a → HaveAsk js a) → HaveAsk js ask →
+    (a : Ask) → Contains (take (n + 1) asks) a → HaveAsk js a
+asks-more asks n ask ks js less is so_far kept has a there =
+    go (Contains-push_cases (take n asks) ask a (subst (λ (xs : List Ask). Contains xs a) (take-more asks n ask less is) there))
+  where
+    go : Contains (take n asks) a ⊎ (ask ≡ a) → HaveAsk js a
+    go (inl before) = kept a (so_far a before)
+    go (inr here) = subst (HaveAsk js) here has
+
+pub class-kept : (ks : List AskClass) (i : ℕ) (d k : AskClass) → i < length ks →
+    ((a : Ask) → AreAsked (get_or ks i d).asked.items a → AreAsked k.asked.items a) → (a : Ask) → HaveAsk ks a →
+    HaveAsk (slice_set ks i k) a
+class-kept [] i d k less kept a e = absurd e
+class-kept (j ∷ ks) zero d k less kept a (inl here) = inl (kept a here)
+class-kept (j ∷ ks) zero d k less kept a (inr more) = inr more
+class-kept (j ∷ ks) (suc i) d k less kept a (inl here) = inl here
+class-kept (j ∷ ks) (suc i) d k less kept a (inr more) = inr (class-kept ks i d k (omega (arith, less)) kept a more)
+
+pub class-has : (ks : List AskClass) (i : ℕ) (k : AskClass) (a : Ask) → i < length ks → AreAsked k.asked.items a →
+    HaveAsk (slice_set ks i k) a
+class-has [] i k a less is = absurd (omega (arith, less))
+class-has (j ∷ ks) zero k a less is = inl is
+class-has (j ∷ ks) (suc i) k a less is = inr (class-has ks i k a (omega (arith, less)) is)
+
+pub classes-first : (ks : List AskClass) (k : AskClass) (a : Ask) → HaveAsk ks a → HaveAsk (ks ++ k ∷ []) a
+classes-first [] k a e = absurd e
+classes-first (j ∷ ks) k a (inl here) = inl here
+classes-first (j ∷ ks) k a (inr more) = inr (classes-first ks k a more)
+
+pub classes-last : (ks : List AskClass) (k : AskClass) (a : Ask) → AreAsked k.asked.items a → HaveAsk (ks ++ k ∷ []) a
+classes-last [] k a is = inl is
+classes-last (j ∷ ks) k a is = inr (classes-last ks k a is)
+
+pub classes-cases : (ks : List AskClass) (k : AskClass) (a : Ask) → HaveAsk (ks ++ k ∷ []) a → HaveAsk ks a ⊎ AreAsked k.asked.items a
+classes-cases [] k a (inl here) = inr here
+classes-cases [] k a (inr none) = absurd none
+classes-cases (j ∷ ks) k a (inl here) = inl (inl here)
+classes-cases (j ∷ ks) k a (inr more) = go (classes-cases ks k a more)
+  where
+    go : HaveAsk ks a ⊎ AreAsked k.asked.items a → HaveAsk (j ∷ ks) a ⊎ AreAsked k.asked.items a
+    go (inl e) = inl (inr e)
+    go (inr is) = inr is

@@ -1,0 +1,12 @@
+use Rattle.std.proofs.Common.{[], All, option_copied}
+use Rattle.review_compare.specs.Body.AskClasses.{HaveAsk}
+use Rattle.review_compare.specs.Body.Classes.{IsClass}
+use Rattle.review_compare.specs.Body.Comparisons.{IsRight}
+use Rattle.review_compare.specs.Body.Progress.{Progress, IsBefore}
+use Rattle.review_compare.proofs.differences.rows_for_asked.Given as goal
+
+abbrev pub invariant-loop-host : goal.invariant-loop-host
+invariant-loop-host l =
+    Progress l.pair [] l.rows.items (IsBefore l.pair (option_copied l.scope) l.fn.user l.host (HaveAsk l.asked))
+    × All (IsClass l.pair l.fn.user l.person (HaveAsk l.asked)) l.classes.items
+    × All (IsRight l.pair) l.comparisons.items

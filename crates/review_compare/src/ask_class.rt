@@ -1,0 +1,210 @@
+//! Classes of asks: of the blocks near a change that list a user, the runas of the same ones allows each ask of a class. On a host
+//! the same comparison holds for all of them.
+ghost use Rattle.std.specs.Prelude.{◌≡◌, ◌<◌, [], All, get_or, IfOk, IfSome, length, OnOk, true};
+ghost use Rattle.std.specs.List.{Contains};
+ghost use Rattle.review_compare.specs.declared.ask_class.AskClass.{AskClass as TheAskClass};
+ghost use Rattle.review_compare.specs.declared.ask_class.AskedWith.{AskedWith as TheAskedWith};
+ghost use Rattle.review_compare.specs.declared.cell.Ask.{Ask as TheAsk};
+ghost use Rattle.review_compare.specs.Body.AskClasses as body;
+ghost use Rattle.review_compare.specs.Body.Classes.{AreSameBlocks};
+ghost use Rattle.review_compare.specs.Body.Progress.{AreListedFor};
+
+use crate::asks::{group_at, person_at};
+use crate::cell::Ask;
+use crate::host_class::are_same_blocks;
+use crate::pair::Pair;
+use crate::spot::Listed;
+use std::alloc::{AllocError, Global};
+use sudo_match::{Machine, Person};
+use sudo_verdict::Asker;
+
+/// The targets of asks with one group, or with none: either none, or known users.
+#[derive(Drop)]
+pub(crate) struct AskedWith {
+    pub(crate) group: Option<usize>,
+    pub(crate) targets: Vec<Option<usize>>,
+}
+
+/// A class of asks of a user: the blocks that list the user and whose runas allows them, and the asks.
+#[derive(Drop)]
+pub(crate) struct AskClass {
+    pub(crate) allowing: Listed,
+    pub(crate) asked: Vec<AskedWith>,
+}
+
+// Returns those of the blocks for the user whose runas allows the ask.
+fn allowing(
+    alloc: Global,
+    pair: &Pair<'_>,
+    person: &Person,
+    machine: &Machine,
+    listed: &Listed,
+    firsts: &Listed,
+    ask: Ask,
+) -> Result<Listed, AllocError>
+    requires listed { AreListedFor pair.now person.now listed.now }
+    requires firsts { body.AreFirstsOf pair.now listed.now firsts.now }
+    ensures { IfOk result (body.Decide pair.entry.now person.entry.now ask) }
+{
+    let asker = Asker {
+        user: person,
+        host: machine,
+        target: person_at(pair.directory, ask.target),
+        group: group_at(pair.groups, ask.group),
+    };
+    let old = pair
+        .old
+        .allowing(alloc, pair.directory, asker, &listed.old, &firsts.old)?;
+    let new = pair
+        .new
+        .allowing(alloc, pair.directory, asker, &listed.new, &firsts.new)?;
+    Ok(Listed { old, new })
+}
+
+// Returns for each of the blocks the position of the first with the same runas.
+fn firsts_of(alloc: Global, pair: &Pair<'_>, listed: &Listed) -> Result<Listed, AllocError>
+    ensures { IfOk result (body.AreFirstsOf pair.now listed.now) }
+{
+    let old = pair.old.runas_firsts(alloc, &listed.old)?;
+    let new = pair.new.runas_firsts(alloc, &listed.new)?;
+    Ok(Listed { old, new })
+}
+
+// Whether both are something, or both nothing.
+fn are_alike(target: Option<usize>, other: Option<usize>) -> bool {
+    target.is_some() == other.is_some()
+}
+
+fn is_same_group(group: Option<usize>, other: Option<usize>) -> bool
+    ensures { result ≡ true → group ≡ other }
+{
+    group == other
+}
+
+impl AskedWith {
+    // Whether the target of the ask belongs to these: it is asked for with the same group, and is one as they are, or none.
+    fn takes(&self, ask: Ask) -> bool
+        ensures { result ≡ true → self.now.group ≡ ask.group }
+    {
+        match self.targets.first() {
+            None => false,
+            Some(first) => are_alike(*first, ask.target) && is_same_group(self.group, ask.group),
+        }
+    }
+}
+
+// Returns the index of the targets to which that of the ask belongs, if there are any.
+fn taking_index(asked: &[AskedWith], ask: Ask) -> Option<usize>
+    ensures { IfSome result (λ i. (i < length asked.now) × ((d : TheAskedWith)
+        → (get_or asked.now i d).group ≡ ask.group)) }
+{
+    for index in 0..asked.len() {
+        if asked[index].takes(ask) {
+            return Some(index);
+        }
+    }
+    None
+}
+
+// Returns the ask by itself.
+fn asked_alone(alloc: Global, ask: Ask) -> Result<AskedWith, AllocError>
+    ensures only { IfOk result (λ w. (a : TheAsk) → body.IsAskedWith w a → ask ≡ a) }
+    ensures has { IfOk result (λ w. body.IsAskedWith w ask) }
+{
+    let mut targets = Vec::new(alloc);
+    targets.push(ask.target)?;
+    Ok(AskedWith {
+        group: ask.group,
+        targets,
+    })
+}
+
+// Adds the ask to those of a class.
+fn push_asked(alloc: Global, asked: &mut Vec<AskedWith>, ask: Ask) -> Result<(), AllocError>
+    ensures { OnOk result (body.AddsAsked asked.old.items ask asked.new.items) }
+{
+    match taking_index(asked, ask) {
+        Some(index) => {
+            asked[index].targets.push(ask.target)?;
+        }
+        None => {
+            let alone = asked_alone(alloc, ask)?;
+            asked.push(alone)?;
+        }
+    }
+    Ok(())
+}
+
+// Returns the index of the class of these blocks, if there is one.
+fn class_index(classes: &[AskClass], allowing: &Listed) -> Option<usize>
+    ensures { IfSome result (λ i. (i < length classes.now) × ((d : TheAskClass)
+        → AreSameBlocks (get_or classes.now i d).allowing allowing.now)) }
+{
+    for index in 0..classes.len() {
+        if are_same_blocks(&classes[index].allowing, allowing) {
+            return Some(index);
+        }
+    }
+    None
+}
+
+// Returns the class of the ask alone.
+fn class_alone(alloc: Global, allowing: Listed, ask: Ask) -> Result<AskClass, AllocError>
+    ensures { IfOk result (λ k. (k.allowing ≡ allowing)
+        × body.AddsAsked [] ask k.asked.items) }
+{
+    let mut asked = Vec::new(alloc);
+    push_asked(alloc, &mut asked, ask)?;
+    Ok(AskClass { allowing, asked })
+}
+
+// Adds the ask to the class of the blocks that allow it.
+fn add_ask(
+    alloc: Global,
+    pair: &Pair<'_>,
+    person: &Person,
+    allowing: Listed,
+    ask: Ask,
+    classes: &mut Vec<AskClass>,
+) -> Result<(), AllocError>
+    requires decide { body.Decide pair.now person.now ask allowing }
+    requires are { All (body.IsAskClass pair.now person.now) classes.old.items }
+    ensures are { OnOk result (All (body.IsAskClass pair.entry.now person.entry.now)
+        classes.new.items) }
+    ensures has { OnOk result (body.HaveAsk classes.new.items ask) }
+    ensures kept { OnOk result ((a : TheAsk) → body.HaveAsk classes.old.items a
+        → body.HaveAsk classes.new.items a) }
+{
+    match class_index(classes, &allowing) {
+        Some(index) => push_asked(alloc, &mut classes[index].asked, ask),
+        None => {
+            let class = class_alone(alloc, allowing, ask)?;
+            classes.push(class)?;
+            Ok(())
+        }
+    }
+}
+
+/// Returns the classes of the asks of a user. Returns `AllocError` if allocation fails.
+pub(crate) fn ask_classes(
+    alloc: Global,
+    pair: &Pair<'_>,
+    person: &Person,
+    machine: &Machine,
+    listed: &Listed,
+    asks: &[Ask],
+) -> Result<Vec<AskClass>, AllocError>
+    requires { AreListedFor pair.now person.now listed.now }
+    ensures are { IfOk result (λ classes. All (body.IsAskClass pair.entry.now person.entry.now)
+        classes.items) }
+    ensures all { IfOk result (λ classes. (a : TheAsk) → Contains asks.entry.now a
+        → body.HaveAsk classes.items a) }
+{
+    let firsts = firsts_of(alloc, pair, listed)?;
+    let mut classes = Vec::new(alloc);
+    for ask in asks {
+        let allowing = allowing(alloc, pair, person, machine, listed, &firsts, *ask)?;
+        add_ask(alloc, pair, person, allowing, *ask, &mut classes)?;
+    }
+    Ok(classes)
+}
