@@ -38,7 +38,7 @@ rows-behind b (s ∷ signs) a =
     last false true = refl
     last false false = refl
 
-level-by-effect : (tags : Tags) (signs : List Sign) (l : Level) → level_by (effect_of tags signs) l ≡ level_behind l signs
+pub level-by-effect : (tags : Tags) (signs : List Sign) (l : Level) → level_by (effect_of tags signs) l ≡ level_behind l signs
 level-by-effect tags signs level.None = refl
 level-by-effect tags signs level.Listed = refl
 level-by-effect tags signs level.AllBut = refl

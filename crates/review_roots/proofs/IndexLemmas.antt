@@ -27,7 +27,7 @@ answer-at f [] i x at = cc
 answer-at f (y ∷ ys) zero x at = let same : y ≡ x = cc in ap f same
 answer-at f (y ∷ ys) (suc i) x at = answer-at f ys i x at
 
-item-behind : {X : Type 0} (before : List X) (x : X) (rest : List X) → slice_get (before ++ x ∷ rest) (length before) ≡ Some x
+pub item-behind : {X : Type 0} (before : List X) (x : X) (rest : List X) → slice_get (before ++ x ∷ rest) (length before) ≡ Some x
 item-behind [] x rest = refl
 item-behind (y ∷ before) x rest = item-behind before x rest
 

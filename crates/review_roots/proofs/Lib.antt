@@ -26,4 +26,5 @@ pub mod UnnamedLemmas
 pub mod AlikeLemmas
 pub mod UserLemmas
 pub mod KeptLemmas
+pub mod MayLemmas
 pub mod PathLemmas

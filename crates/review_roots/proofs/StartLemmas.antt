@@ -16,12 +16,14 @@ use Rattle.review_roots.specs.declared.state.State.{State}
 use Rattle.review_roots.specs.Blocks.{is_for}
 use Rattle.review_roots.specs.Body.Candidates.{IsSilent, has_state, is_heard, raises_for, states_of}
 use Rattle.review_roots.specs.Body.Found.{found_states, found_there, IsCandidate, IsFound, IsLinked, IsMute, IsSearch, IsStartOf}
-use Rattle.review_roots.specs.Body.Found.{IsStuck, kept_steps}
+use Rattle.review_roots.specs.Body.Found.{IsStuck, is_left, kept_steps}
+use Rattle.review_roots.specs.Body.May.{may_count}
 use Rattle.review_roots.specs.Chains.{Steps, Path, here, more}
 use Rattle.review_roots.specs.Ranks.{rank, is_at_least}
 use Rattle.review_roots.specs.States.{given_between, person_of, group_at, level_for}
 use Rattle.review_roots.proofs.CandidateLemmas.{has-in}
 use Rattle.review_roots.proofs.IndexLemmas.{any-are, answer-at}
+use Rattle.review_roots.proofs.MayLemmas.{uncounted}
 use Rattle.review_roots.proofs.SearchLemmas.{at-least-below, at-contains, both-all, from-map, in-filter, to-map}
 use Rattle.review_roots.proofs.WeakLemmas.{any-weaker, quiet-between, weak-level, weak-nothing}
 
@@ -88,6 +90,17 @@ module _ (h : HostSteps) (q : Sought) where
       (λ i b at. ap (λ xs. slice_index_or xs i false) h.here ∙ answer-at (is_for h.checked.now h.host.now) h.blocks.now i b at))
       ∙ sym (ap (list_any (λ i. slice_index_or h.on.items i false)) is.strong) ∙ none) away
 
+  uncounted-mute :
+      (c : Candidate) → IsCandidate h c → may_count h.on.items h.blocks.now h.least q.counted c.listed.items ≡ false →
+      g.goal c.state ≡ false → IsMute g h.least c.state
+  uncounted-mute c is none away = (
+    away,
+    λ t l above. ap (λ o. is_at_least l (level_for q.counted
+        (given_between h.checked.now h.directory.now h.host.now o (slice_get h.directory.now.people t.user)
+        (group_at h.groups.now t.added)))) is.person
+        ∙ uncounted h c is q.counted l none above (slice_get h.directory.now.people t.user) (group_at h.groups.now t.added),
+  )
+
   mute-stuck : (s : State) → IsMute g h.least s → IsStuck g h.least s
   mute-stuck s mute l above n p = go p mute
     where
@@ -101,9 +114,12 @@ module _ (h : HostSteps) (q : Sought) where
   abbrev at_goal : State → Bool
   at_goal s = s.user == q.target
 
+  abbrev counts : Candidate → Bool
+  counts c = may_count h.on.items h.blocks.now h.least q.counted c.listed.items
+
   pub start-of :
       (found : List Found) (left : List Candidate) → found ≡ map found_there (filter at_goal g.states) →
-      left ≡ filter (is_heard h.on.items q.target) h.candidates.now → IsStartOf h q found left
+      left ≡ filter (is_left h q) h.candidates.now → IsStartOf h q found left
   start-of found left finds leaves = record {
     goals = subst (All Goal) (sym finds)
         (All-map Goal found_there (filter at_goal g.states)
@@ -113,16 +129,17 @@ module _ (h : HostSteps) (q : Sought) where
         (All-map (λ f. Contains g.states f.state) found_there (filter at_goal g.states)
         (All-filter at_goal (Contains g.states) g.states (All-contains_itself g.states)));
     candidates = subst (All (IsCandidate h)) (sym leaves)
-        (All-filter (is_heard h.on.items q.target) (IsCandidate h) h.candidates.now h.covered.known);
+        (All-filter (is_left h q) (IsCandidate h) h.candidates.now h.covered.known);
     inside = subst (All (λ c. Contains g.states c.state)) (sym leaves)
-        (All-filter (is_heard h.on.items q.target) (λ c. Contains g.states c.state) h.candidates.now
+        (All-filter (is_left h q) (λ c. Contains g.states c.state) h.candidates.now
         (All-weaker (λ c. has_state g.states c.state ≡ true) (λ c. Contains g.states c.state) (λ c has. has-in g.states c.state has)
         h.candidates.now h.covered.inside));
     away = subst (All (λ c. g.goal c.state ≡ false)) (sym leaves)
-        (All-weaker (λ c. is_heard h.on.items q.target c ≡ true) (λ c. g.goal c.state ≡ false)
+        (All-weaker (λ c. is_left h q c ≡ true) (λ c. g.goal c.state ≡ false)
         (λ c is. not-true (c.state.user == q.target)
-        (and_parts (not (c.state.user == q.target)) (list_any (λ i. slice_index_or h.on.items i false) c.strong.items) is).0)
-        (filter (is_heard h.on.items q.target) h.candidates.now) (filter_passes (is_heard h.on.items q.target) h.candidates.now));
+        (and_parts (not (c.state.user == q.target)) (list_any (λ i. slice_index_or h.on.items i false) c.strong.items)
+        (and_parts (is_heard h.on.items q.target c) (counts c) is).0).0)
+        (filter (is_left h q) h.candidates.now) (filter_passes (is_left h q) h.candidates.now));
     covered = All-weaker (λ s. Contains g.states s × (has_state (states_of h.candidates.now) s ≡ false → Silent s)) Covered
         (λ s is. go s is.0 is.1 (at_goal s) refl (has_state (states_of h.candidates.now) s) refl) g.states
         (both-all (Contains g.states) (λ s. has_state (states_of h.candidates.now) s ≡ false → Silent s) g.states
@@ -139,15 +156,19 @@ module _ (h : HostSteps) (q : Sought) where
       Covered s = Contains (found_states found) s ⊎ (Contains (states_of left) s ⊎ IsMute g h.least s)
 
       by_candidate : (s : State) (c : Candidate) → Contains h.candidates.now c → c.state ≡ s → at_goal s ≡ false → (b : Bool)
-          → list_any (λ i. slice_index_or h.on.items i false) c.strong.items ≡ b → Covered s
-      by_candidate s c inside at away true is =
+          → list_any (λ i. slice_index_or h.on.items i false) c.strong.items ≡ b → (k : Bool) → counts c ≡ k → Covered s
+      by_candidate s c inside at away true is true may =
           inr (inl (subst (λ cs. Contains (states_of cs) s) (sym leaves)
-          (subst (Contains (states_of (filter (is_heard h.on.items q.target) h.candidates.now))) at
-          (to-map (λ (c : Candidate). c.state) (filter (is_heard h.on.items q.target) h.candidates.now) c
-          (in-filter (is_heard h.on.items q.target) h.candidates.now c inside
-          (ap (λ t. not (t.user == q.target) && list_any (λ i. slice_index_or h.on.items i false) c.strong.items) at
-          ∙ ap (λ a. not a && list_any (λ i. slice_index_or h.on.items i false) c.strong.items) away ∙ is))))))
-      by_candidate s c inside at away false is =
+          (subst (Contains (states_of (filter (is_left h q) h.candidates.now))) at
+          (to-map (λ (c : Candidate). c.state) (filter (is_left h q) h.candidates.now) c
+          (in-filter (is_left h q) h.candidates.now c inside
+          (ap (λ t. (not (t.user == q.target) && list_any (λ i. slice_index_or h.on.items i false) c.strong.items) && counts c) at
+          ∙ ap (λ a. (not a && list_any (λ i. slice_index_or h.on.items i false) c.strong.items) && counts c) away
+          ∙ ap (λ a. a && counts c) is ∙ may))))))
+      by_candidate s c inside at away true is false may =
+          inr (inr (subst (IsMute g h.least) at
+          (uncounted-mute c (All-contains (IsCandidate h) h.candidates.now c h.covered.known inside) may (ap g.goal at ∙ away))))
+      by_candidate s c inside at away false is k may =
           inr (inr (subst (IsMute g h.least) at
           (unheard-mute c (All-contains (IsCandidate h) h.candidates.now c h.covered.known inside) is (ap g.goal at ∙ away))))
 
@@ -159,7 +180,7 @@ module _ (h : HostSteps) (q : Sought) where
           (subst (λ xs. Contains xs s) (sym (there-states (filter at_goal g.states))) (in-filter at_goal g.states s inside at)))
       go s inside silent false away true has =
           let c = from-map (λ (c : Candidate). c.state) h.candidates.now s (has-in (states_of h.candidates.now) s has) in
-          by_candidate s c.0 c.1 c.2 away (list_any (λ i. slice_index_or h.on.items i false) c.0.strong.items) refl
+          by_candidate s c.0 c.1 c.2 away (list_any (λ i. slice_index_or h.on.items i false) c.0.strong.items) refl (counts c.0) refl
       go s inside silent false away false none = inr (inr (silent-mute s (silent none) away))
 
   rank-most : (l : Level) → rank l ≤ 3

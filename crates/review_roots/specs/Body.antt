@@ -9,3 +9,4 @@ pub mod Found
 pub mod Unnamed
 pub mod Kept
 pub mod Passing
+pub mod May

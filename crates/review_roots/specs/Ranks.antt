@@ -17,6 +17,10 @@ is_at_least l m = nat_le (rank l) (rank m)
 abbrev pub least : Level → Level → Level
 least l m = if is_at_least l m then l else m
 
+-- the better of two levels
+abbrev pub best : Level → Level → Level
+best l m = if is_at_least l m then m else l
+
 -- the name of a level
 abbrev pub level_name : Level → List ℕ
 level_name level.None = codes "none"

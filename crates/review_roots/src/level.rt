@@ -1,7 +1,7 @@
 //! How much of what can be asked a list of rows allows.
 ghost use Rattle.std.specs.Prelude.{◌≡◌};
 ghost use Rattle.review_roots.specs.Levels.{lowered, raised, after_signed};
-ghost use Rattle.review_roots.specs.Ranks.{rank, is_at_least, least, level_name};
+ghost use Rattle.review_roots.specs.Ranks.{best, rank, is_at_least, least, level_name};
 
 /// What the rows that let a user run commands as one target allow, whatever the command.
 #[derive(Clone, Copy, Debug, PartialEq, Eq)]
@@ -53,6 +53,13 @@ impl Level {
         ensures { result ≡ least self other }
     {
         if other.is_at_least(self) { self } else { other }
+    }
+
+    /// Returns the better of two levels.
+    pub(crate) fn best(self, other: Level) -> Level
+        ensures { result ≡ best self other }
+    {
+        if other.is_at_least(self) { other } else { self }
     }
 
     // Returns the level after a listed command that is denied.

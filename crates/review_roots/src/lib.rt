@@ -16,6 +16,7 @@ mod host;
 mod kept;
 mod laws;
 mod level;
+mod may;
 mod raising;
 mod roots;
 mod rules;

@@ -1,9 +1,9 @@
 //! The search for the states that lead to a target: back from the target, level by level.
-ghost use Rattle.std.specs.Prelude.{◌≡◌, ◌++◌, ◌==◌, IfOk, OnOk, IsTrue, All, filter, length, map, not};
+ghost use Rattle.std.specs.Prelude.{◌≡◌, ◌<◌, ◌+◌, ◌++◌, ◌==◌, [], IfOk, OnOk, IsTrue, All, filter, length, map, not, true};
 ghost use Rattle.review_roots.specs.Sought.{any_steps, free_steps, steps_of, unasked_steps};
-ghost use Rattle.review_roots.specs.Body.Candidates.{is_heard, states_of};
+ghost use Rattle.review_roots.specs.Body.Candidates.{states_of};
 ghost use Rattle.review_roots.specs.Body.Found.{AreChains, AreFound, HaveNoPath, IsCandidate, IsSearch, IsStartOf};
-ghost use Rattle.review_roots.specs.Body.Found.{found_by, found_there, kept_steps, reaches};
+ghost use Rattle.review_roots.specs.Body.Found.{found_by, found_there, is_left, kept_steps, reaches};
 ghost use Rattle.review_roots.specs.Body.Towards.{IsToward};
 ghost use Rattle.review_roots.specs.Ranks.{is_at_least};
 
@@ -103,6 +103,16 @@ fn draw<'c>(
     Ok(kept)
 }
 
+// Whether no candidate is left.
+fn is_none(left: &[&Candidate]) -> bool
+    ensures { result ≡ true → left.now ≡ [] }
+{
+    match left {
+        [] => true,
+        _ => false,
+    }
+}
+
 // Does the same, with what steps to the aim depend on.
 fn draw_to<'c>(
     alloc: Global,
@@ -118,6 +128,9 @@ fn draw_to<'c>(
     ensures found { OnOk result (found.new.items ≡ found.old.items
         ++ map (found_by aim) (filter (reaches steps.now aim) (map (λ c. c.now) left.now))) }
 {
+    if is_none(left) {
+        return Ok(Vec::new(alloc));
+    }
     match steps.known(aim.state) {
         Some(known) => draw(alloc, steps, aim, &known.toward, left, found),
         None => {
@@ -125,6 +138,69 @@ fn draw_to<'c>(
             draw(alloc, steps, aim, &toward, left, found)
         }
     }
+}
+
+// Moves the candidates with a step of the level to a found state to those that are found, and returns the others, where the state is at the
+// target or has no added group; to another state it moves none.
+fn draw_alone<'c>(
+    alloc: Global,
+    steps: &HostSteps<'_, '_>,
+    sought: Sought,
+    level: Level,
+    index: usize,
+    left: Vec<&'c Candidate>,
+    found: &mut Vec<Found>,
+) -> Result<Vec<&'c Candidate>, AllocError>
+    requires inside { index < length found.now.items }
+    requires candidates { All (IsCandidate steps.now) (map (λ c. c.now) left.items) }
+    requires search { IsSearch (kept_steps steps.now sought) steps.now.least level
+        found.now.items (states_of (map (λ c. c.now) left.items)) }
+    ensures candidates { IfOk result (λ rest. All (IsCandidate steps.now)
+        (map (λ c. c.now) rest.items)) }
+    ensures search { IfOk result (λ rest. IsSearch (kept_steps steps.now sought)
+        steps.now.least level found.new.items (states_of (map (λ c. c.now) rest.items))) }
+    ensures moved { IfOk result (λ rest. length rest.items + length found.new.items
+        ≡ length left.entry.items + length found.old.items) }
+{
+    let state = found[index].state;
+    if state.added.is_some() && found[index].next.is_some() {
+        return Ok(left);
+    }
+    let aim = Aim {
+        index,
+        state,
+        level,
+        counted: sought.counted,
+    };
+    let rest = draw_to(alloc, steps, aim, &left, found)?;
+    Ok(rest)
+}
+
+// Finds candidates from which steps of the level, or a better one, lead to what is found at the target or without an added group, and
+// returns the others: most are found so, by way of few states.
+fn spread_alone<'c>(
+    alloc: Global,
+    steps: &HostSteps<'_, '_>,
+    sought: Sought,
+    level: Level,
+    left: Vec<&'c Candidate>,
+    found: &mut Vec<Found>,
+) -> Result<Vec<&'c Candidate>, AllocError>
+    requires candidates { All (IsCandidate steps.now) (map (λ c. c.now) left.items) }
+    requires search { IsSearch (kept_steps steps.now sought) steps.now.least level
+        found.now.items (states_of (map (λ c. c.now) left.items)) }
+    ensures candidates { IfOk result (λ rest. All (IsCandidate steps.now)
+        (map (λ c. c.now) rest.items)) }
+    ensures search { IfOk result (λ rest. IsSearch (kept_steps steps.now sought)
+        steps.now.least level found.new.items (states_of (map (λ c. c.now) rest.items))) }
+{
+    let mut left = left;
+    let mut index = 0;
+    while index < found.len() {
+        left = draw_alone(alloc, steps, sought, level, index, left, found)?;
+        index += 1;
+    }
+    Ok(left)
 }
 
 // Finds the candidates from which steps of the level, or a better one, lead to what is found, and returns the others.
@@ -146,7 +222,8 @@ fn spread<'c>(
     ensures done { IfOk result (λ rest. HaveNoPath (kept_steps steps.now sought) level
         (states_of (map (λ c. c.now) rest.items))) }
 {
-    let mut left = left;
+    let rest = spread_alone(alloc, steps, sought, level, left, found)?;
+    let mut left = rest;
     let mut index = 0;
     while index < found.len() {
         let aim = Aim {
@@ -183,18 +260,26 @@ fn found_at(
     Ok(found)
 }
 
-// Returns the candidates that a block on the host lists which raises, but for the target.
+// Whether a block on the host that raises lists the candidate, which is not the target, and a step of it that counts may have the least
+// level.
+fn is_left(steps: &HostSteps<'_, '_>, sought: Sought, candidate: &Candidate) -> bool
+    ensures { result ≡ is_left steps.now sought candidate.now }
+{
+    steps.is_heard(sought.target, candidate) && steps.may_count(candidate, sought.counted)
+}
+
+// Returns the candidates of which a step that counts may have the least level, but for the target.
 fn heard<'r>(
     alloc: Global,
     steps: &HostSteps<'r, '_>,
-    target: usize,
+    sought: Sought,
 ) -> Result<Vec<&'r Candidate>, AllocError>
     ensures { IfOk result (λ left. map (λ c. c.now) left.items
-        ≡ filter (is_heard steps.now.on.items target) steps.now.candidates.now) }
+        ≡ filter (is_left steps.now sought) steps.now.candidates.now) }
 {
     let mut left = Vec::new(alloc);
     for candidate in steps.candidates {
-        if steps.is_heard(target, candidate) {
+        if is_left(steps, sought, candidate) {
             left.push(candidate)?;
         }
     }
@@ -239,7 +324,7 @@ fn found_of(
         steps.now.least found.items) }
 {
     let mut found = found_at(alloc, steps, sought.target)?;
-    let left = heard(alloc, steps, sought.target)?;
+    let left = heard(alloc, steps, sought)?;
     search_levels(alloc, steps, sought, left, &mut found)?;
     Ok(found)
 }

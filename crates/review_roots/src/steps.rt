@@ -1,5 +1,5 @@
 //! What the steps of users on one host give.
-ghost use Rattle.std.specs.Prelude.{◌≡◌, ◌&&◌, IfOk, None, Some, false, true, flat_map, option_copied, slice_get};
+ghost use Rattle.std.specs.Prelude.{◌≡◌, ◌&&◌, IfOk, None, Some, false, fold, true, flat_map, option_copied, slice_get};
 ghost use Rattle.std.specs.Borrow.{Bor};
 ghost use Rattle.std.specs.List.{list_any, slice_index_or};
 ghost use Rattle.sudo_verdict.specs.Questions.{question_as};
@@ -8,6 +8,7 @@ ghost use Rattle.review_roots.specs.Asked.{given_alone, given_asked, given_towar
 ghost use Rattle.review_roots.specs.Blocks.{with_rows};
 ghost use Rattle.review_roots.specs.Body.Candidates as spec;
 ghost use Rattle.review_roots.specs.Body.Found.{IsCandidate};
+ghost use Rattle.review_roots.specs.Body.May as most;
 ghost use Rattle.review_roots.specs.Body.Towards.{IsToward};
 ghost use Rattle.review_roots.specs.Ranks.{is_at_least};
 ghost use Rattle.review_roots.specs.States.{level_for, person_of, step_given};
@@ -16,9 +17,10 @@ ghost use Rattle.review_roots.specs.declared.given.Counted.{Counted as TheCounte
 ghost use Rattle.review_roots.specs.declared.level.Level.{Level as TheLevel};
 
 use crate::candidate::{Candidate, candidate_at, is_same_user};
-use crate::given::{Given, NOTHING};
+use crate::given::{Counted, Given, NOTHING};
 use crate::ground::Ground;
 use crate::host::HostSteps;
+use crate::may::{MAY_NOTHING, May};
 use crate::state::{State, group_at};
 use crate::toward::{Toward, toward_at};
 use std::alloc::{AllocError, Global};
@@ -118,6 +120,44 @@ impl<'r, 'a> HostSteps<'r, 'a> {
         } else {
             self.is_raised(candidate)
         }
+    }
+
+    // Returns what may be given with the rows of the block at an index, if it is for the host.
+    fn may_with(&self, may: May, index: usize) -> May
+        ensures { result ≡ most.may_at self.now.on.items self.now.blocks.now may index }
+    {
+        match self.blocks.get(index) {
+            Some(block) => {
+                if is_at(&self.on, index) {
+                    may.with_block(block)
+                } else {
+                    may
+                }
+            }
+            None => may,
+        }
+    }
+
+    // Returns what the candidate may be given on the way to any state.
+    fn may_give(&self, candidate: &Candidate) -> May
+        ensures { result ≡ fold (most.may_at self.now.on.items self.now.blocks.now)
+            most.may_nothing candidate.now.listed.items }
+    {
+        let mut may = MAY_NOTHING;
+        for index in &candidate.listed {
+            may = self.may_with(may, *index);
+        }
+        may
+    }
+
+    /// Whether a step of the candidate that counts may have the least level.
+    pub(crate) fn may_count(&self, candidate: &Candidate, counted: Counted) -> bool
+        ensures { result ≡ most.may_count self.now.on.items self.now.blocks.now self.now.least
+            counted candidate.now.listed.items }
+    {
+        self.may_give(candidate)
+            .level_for(counted)
+            .is_at_least(self.least)
     }
 
     // Returns what is given with the rows of the block at an index, if it is for the host and its runas allows the question.

@@ -11,7 +11,8 @@ use Rattle.review_roots.specs.declared.search.Chains.{Chains}
 use Rattle.review_roots.specs.declared.search.Found.{Found}
 use Rattle.review_roots.specs.declared.search.Sought.{Sought}
 use Rattle.review_roots.specs.declared.state.State.{State}
-use Rattle.review_roots.specs.Body.Candidates.{Qualifies, states_of}
+use Rattle.review_roots.specs.Body.Candidates.{Qualifies, is_heard, states_of}
+use Rattle.review_roots.specs.Body.May.{may_count}
 use Rattle.review_roots.specs.Sought.{any_steps, free_steps, steps_of, unasked_steps}
 use Rattle.review_roots.specs.Chains.{Steps, HasPath, HasNoPath}
 use Rattle.review_roots.specs.Ranks.{rank, is_at_least}
@@ -20,6 +21,11 @@ use Rattle.review_roots.specs.States.{level_for, step_given}
 -- the steps on the host that are sought, between the states that are kept
 abbrev pub kept_steps : HostSteps → Sought → Steps State
 kept_steps h q = record { states = h.states.now; level = (steps_of h q).level; goal = (steps_of h q).goal }
+
+-- a block on the host that raises lists the candidate, which is not the target, and a step of it that counts may have the least level
+abbrev pub is_left : HostSteps → Sought → Candidate → Bool
+is_left h q c =
+    is_heard h.on.items q.target c && may_count h.on.items h.blocks.now h.least q.counted c.listed.items
 
 -- the found state leads to the goal by a chain of its level, and by none of a better level
 pub record IsFound (g : Steps State) (f : Found) : Type 0 where

@@ -1,8 +1,8 @@
 use Rattle.std.proofs.Common.{◌≡◌, map, take}
 use Rattle.std.specs.Prelude.{filter}
-use Rattle.review_roots.specs.Body.Candidates.{is_heard}
+use Rattle.review_roots.specs.Body.Found.{is_left}
 use Rattle.review_roots.proofs.search.heard.Given as goal
 
 abbrev pub invariant-loop-candidate : goal.invariant-loop-candidate
 invariant-loop-candidate l = map (λ c. c.now) l.left.items
-    ≡ filter (is_heard l.steps.on.items l.target) (take l.candidate-index l.candidate-items)
+    ≡ filter (is_left l.steps l.sought) (take l.candidate-index l.candidate-items)
